@@ -1,0 +1,110 @@
+ghost use Rattle.std.specs.Prelude.{◌≡◌, ◌<◌, ◌≤◌, ◌-◌, length, slice_get, Some, true, false, IfSome, IfNone};
+ghost use Rattle.st_model.specs.declared.oop.Oop.{Oop};
+ghost use Rattle.st_model.specs.Values.{value, Ref};
+ghost use Rattle.st_model.specs.Objects.{is_method, is_words, size_of, words_of, first_unit, one};
+ghost use Rattle.st_model.specs.Table.{total_used};
+ghost use Rattle.st_model.specs.Formed.{IsHeader};
+ghost use Rattle.st_model.specs.View.{View, IsKnown, is_live, object_of, IsWhole, IsPlace, held_at, with_held, with_stored, table_of, SettlesTo};
+
+use st_model::{Demand, Kind, Oop, RootPlace};
+
+/// A memory of objects under pointers. Pointers are even and from 2 to 65534; each call on an object asks that it is live.
+pub trait Memory: Drop {
+    /// What it contains: the objects by halved pointers, what is held, and the head.
+    ghost view: { Self → View };
+
+    /// Whether o is the pointer of a kept object.
+    fn live(&self, o: Oop) -> bool
+        ensures { result ≡ is_live (view self.now).objects (value o) };
+
+    /// The class of an object.
+    fn class_of(&self, o: Oop) -> Oop
+        requires { is_live (view self.now).objects (value o) ≡ true }
+        ensures class { value result ≡ Ref (object_of (view self.now).objects (value o)).class }
+        ensures known { IsKnown (view self.now).objects (value result) };
+
+    /// What the body of an object consists of.
+    fn kind(&self, o: Oop) -> Kind
+        requires { is_live (view self.now).objects (value o) ≡ true }
+        ensures kind { result ≡ (object_of (view self.now).objects (value o)).kind }
+        ensures method { is_method result ≡ true → 0 < length (object_of (view self.now).objects (value o)).fields };
+
+    /// How many fields, words or bytes it has; a Method's header and literals count as bytes.
+    fn size(&self, o: Oop) -> u32
+        requires { is_live (view self.now).objects (value o) ≡ true }
+        ensures size { result ≡ size_of (object_of (view self.now).objects (value o)) }
+        ensures small { result ≤ 131066 };
+
+    /// Field `at` of an object; of a Method 0 is the header, and the literals follow.
+    fn pointer(&self, o: Oop, at: u32) -> Oop
+        requires live { is_live (view self.now).objects (value o) ≡ true }
+        requires range { at < length (object_of (view self.now).objects (value o)).fields }
+        ensures field { slice_get (object_of (view self.now).objects (value o)).fields at ≡ Some (value result) }
+        ensures header { IsHeader (object_of (view self.now).objects (value o)) at (value result) }
+        ensures known { IsKnown (view self.now).objects (value result) };
+
+    /// Word `at` of an object of kind Words.
+    fn word(&self, o: Oop, at: u32) -> u16
+        requires live { is_live (view self.now).objects (value o) ≡ true }
+        requires kind { is_words (object_of (view self.now).objects (value o)).kind ≡ true }
+        requires range { at < size_of (object_of (view self.now).objects (value o)) }
+        ensures { slice_get (object_of (view self.now).objects (value o)).units at ≡ Some result };
+
+    /// Byte `at` of an object of kind Bytes or Method; of a Method from the first bytecode on.
+    fn byte(&self, o: Oop, at: u32) -> u8
+        requires live { is_live (view self.now).objects (value o) ≡ true }
+        requires kind { is_words (object_of (view self.now).objects (value o)).kind ≡ false }
+        requires above { first_unit (object_of (view self.now).objects (value o)) ≤ at }
+        requires range { at < size_of (object_of (view self.now).objects (value o)) }
+        ensures { slice_get (object_of (view self.now).objects (value o)).units (at - first_unit (object_of (view self.now).objects (value o))) ≡ Some result };
+
+    /// Stores v in field `at`; in a Method's header only what counts the same literals.
+    fn set_pointer(&mut self, o: Oop, at: u32, v: Oop)
+        requires live { is_live (view self.old).objects (value o) ≡ true }
+        requires range { at < length (object_of (view self.old).objects (value o)).fields }
+        requires known { IsKnown (view self.old).objects (value v) }
+        requires header { IsHeader (object_of (view self.old).objects (value o)) at (value v) }
+        ensures objects { (view self.new).objects ≡ with_stored (view self.old).objects (value o) at (value v) }
+        ensures held { (view self.new).held ≡ (view self.old).held }
+        ensures head { (view self.new).head ≡ (view self.old).head };
+
+    /// What is held at a place; nil where nothing is.
+    fn held(&self, place: RootPlace) -> Oop
+        requires { IsPlace place }
+        ensures held { value result ≡ held_at (view self.now).held place }
+        ensures known { IsKnown (view self.now).objects (value result) };
+
+    /// Holds o at a place; nil clears it.
+    fn hold(&mut self, place: RootPlace, o: Oop)
+        requires place { IsPlace place }
+        requires known { IsKnown (view self.old).objects (value o) }
+        ensures held { (view self.new).held ≡ with_held (view self.old).held place (value o) }
+        ensures objects { (view self.new).objects ≡ (view self.old).objects }
+        ensures head { (view self.new).head ≡ (view self.old).head };
+
+    /// Drops all objects but the largest set of which each is a root or is referred to by a member.
+    fn settle(&mut self)
+        ensures { SettlesTo (view self.old) (view self.new) };
+
+    /// How many objects are kept, and how many words they have.
+    fn used(&self) -> Demand
+        ensures { result ≡ record { entries = total_used one (view self.now).objects; words = total_used words_of (view self.now).objects } };
+
+    /// The least kept pointer above `after`.
+    fn next_live(&self, after: u32) -> Option<Oop>
+        ensures found { IfSome result (λ o. (is_live (view self.now).objects (value o) ≡ true) × (after < o.0)) }
+        ensures least { IfSome result (λ o. (p : Oop) → after < p.0 → p.0 < o.0 → is_live (view self.now).objects (value p) ≡ false) }
+        ensures none { IfNone result ((p : Oop) → after < p.0 → is_live (view self.now).objects (value p) ≡ false) };
+
+    /// The pointer of the global name table, or 0.
+    fn globals(&self) -> Oop
+        ensures { table_of result.0 ≡ (view self.now).head.globals };
+
+    /// The pointer of the symbol table, or 0.
+    fn symbols(&self) -> Oop
+        ensures { table_of result.0 ≡ (view self.now).head.symbols };
+
+    /// What stands in an object or is held is a SmallInteger or live, each object is what its kind says, and all is
+    /// within the capacities.
+    ghost whole: { (m : Self) → IsWhole (view m) };
+}

@@ -1,0 +1,14 @@
+pub mod Words
+pub mod Same
+pub mod StepsSame
+pub mod TableLemmas
+pub mod BirthLemmas
+pub mod HeapsSame
+pub mod Names
+pub mod Started
+pub mod SettledLemmas
+pub mod SettledIs
+pub mod Ended
+pub mod CyclesShown
+pub mod Runs
+pub mod Settling

@@ -1,0 +1,133 @@
+-- What steps over the table come to.
+use Rattle.std.proofs.Common.{◌≡◌, ℕ, suc, zero, ◌<◌, ◌≤◌, List, [], ◌∷◌, length, Bool, true, false, Option, Some, None, refl, ◌∙◌, ap, arith, is_some}
+use Rattle.std.specs.Prelude.{ℤ, slice_get, slice_set, unwrap_or, nat_lt}
+use Rattle.std.proofs.lemmas.Bool.Decides.{nat_tests}
+use Rattle.st_model.specs.declared.dead.Dead.{Dead}
+use Rattle.st_model.specs.declared.dead.Dead.TheVariants as dead
+use Rattle.st_model.specs.Values.{Value, Small, Ref, is_small}
+use Rattle.st_model.specs.Objects.{Object, with_field, is_pointers}
+use Rattle.st_model.specs.Machine.{State, Transition, Died, Went, Step, after, answer, die, ◌>>=◌, ◌>>◌}
+use Rattle.st_model.specs.Steps.{get_active, get_home, get_method, get_receiver, get_ip, get_sp, set_ip, set_sp, found, object_named, object, replace_at, replace, or_die, check, store_field, put}
+use Rattle.st_model.specs.Table.{Table, table, entry}
+use Rattle.st_model.specs.View.{is_live, object_of, with_stored, nothing}
+
+pub run-then : {A B : Type 0} (m : Step Table A) (f : A → Step Table B) (s : State Table) → (m >>= f).run s ≡ after (m.run s) (λ a t. (f a).run t)
+unfolding ◌>>=◌
+run-then m f s = refl
+
+pub run-next : {A B : Type 0} (m : Step Table A) (n : Step Table B) (s : State Table) → (m >> n).run s ≡ after (m.run s) (λ a t. n.run t)
+unfolding ◌>>◌ ◌>>=◌
+run-next m n s = refl
+
+pub after-went : {S A B : Type 0} (a : A) (s : S) (f : A → S → Transition S B) → after (Went a s) f ≡ f a s
+unfolding after
+after-went a s f = refl
+
+pub after-died : {S A B : Type 0} (k : Dead) (f : A → S → Transition S B) → after (Died k) f ≡ Died k
+unfolding after
+after-died k f = refl
+
+pub run-answer : {A : Type 0} (a : A) (s : State Table) → (answer a).run s ≡ Went a s
+unfolding answer
+run-answer a s = refl
+
+pub run-die : {A : Type 0} (k : Dead) (s : State Table) → (die {A = A} k).run s ≡ Died k
+unfolding die
+run-die k s = refl
+
+pub run-active : (s : State Table) → get_active.run s ≡ Went s.registers.active s
+unfolding get_active
+run-active s = refl
+
+pub run-home : (s : State Table) → get_home.run s ≡ Went s.registers.home s
+unfolding get_home
+run-home s = refl
+
+pub run-method : (s : State Table) → get_method.run s ≡ Went s.registers.method s
+unfolding get_method
+run-method s = refl
+
+pub run-receiver : (s : State Table) → get_receiver.run s ≡ Went s.registers.receiver s
+unfolding get_receiver
+run-receiver s = refl
+
+pub run-ip : (s : State Table) → get_ip.run s ≡ Went s.registers.ip s
+unfolding get_ip
+run-ip s = refl
+
+pub run-sp : (s : State Table) → get_sp.run s ≡ Went s.registers.sp s
+unfolding get_sp
+run-sp s = refl
+
+pub run-set_ip : (n : ℤ) (s : State Table) → (set_ip n).run s ≡ Went tt (record s { registers = record s.registers { ip = n } })
+unfolding set_ip
+run-set_ip n s = refl
+
+pub run-set_sp : (n : ℕ) (s : State Table) → (set_sp n).run s ≡ Went tt (record s { registers = record s.registers { sp = n } })
+unfolding set_sp
+run-set_sp n s = refl
+
+pub run-passed : (k : Dead) (b : Bool) (s : State Table) → b ≡ true → (check k b).run s ≡ Went tt s
+unfolding check answer
+run-passed k true s e = refl
+run-passed k false s e = cc
+
+pub run-failed : (k : Dead) (b : Bool) (s : State Table) → b ≡ false → (check k b).run s ≡ Died k
+unfolding check die
+run-failed k true s e = cc
+run-failed k false s e = refl
+
+pub run-some : {A : Type 0} (k : Dead) (x : Option A) (a : A) (s : State Table) → x ≡ Some a → (or_die k x).run s ≡ Went a s
+unfolding or_die answer
+run-some k None a s e = cc
+run-some k (Some b) a s e = let q : b ≡ a = cc in ap (λ x. Went x s) q
+
+pub run-none : {A : Type 0} (k : Dead) (x : Option A) (s : State Table) → x ≡ None → (or_die k x).run s ≡ Died k
+unfolding or_die die
+run-none k None s e = refl
+run-none k (Some b) s e = cc
+
+pub run-small : (v : Value) (s : State Table) → is_small v ≡ true → (object table v).run s ≡ Died dead.Small
+unfolding object die
+run-small (Small n) s e = refl
+run-small (Ref n) s e = cc
+
+read_live : (x : Option Object) (s : State Table) → is_some x ≡ true → (found x).run s ≡ Went (unwrap_or x nothing) s
+unfolding found answer
+read_live None s e = cc
+read_live (Some o) s e = refl
+
+pub run-live : (v : Value) (s : State Table) → is_live s.memory v ≡ true → (object table v).run s ≡ Went (object_of s.memory v) s
+unfolding object object_named is_live object_of
+run-live (Small n) s e = cc
+run-live (Ref n) s e = read_live (entry s.memory n) s e
+
+pub run-replace : (v : Value) (i : ℕ) (x : Value) (s : State Table) → is_live s.memory v ≡ true
+    → (replace table v (with_field (object_of s.memory v) i x)).run s ≡ Went tt (record s { memory = with_stored s.memory v i x })
+unfolding replace replace_at is_live object_of with_stored
+run-replace (Small n) i x s e = cc
+run-replace (Ref n) i x s e = refl
+
+-- a field of a live object of kind Pointers is stored
+pub run-store : (v : Value) (i : ℕ) (x : Value) (s : State Table) → is_live s.memory v ≡ true → is_pointers (object_of s.memory v).kind ≡ true
+    → i < length (object_of s.memory v).fields → (store_field table v i x).run s ≡ Went tt (record s { memory = with_stored s.memory v i x })
+unfolding store_field
+run-store v i x s live kind range =
+    let r : nat_lt i (length (object_of s.memory v).fields) ≡ true = grind (arith, nat_tests) in
+    simp (run-then, run-next, after-went, run-live v s live, run-passed dead.Kind _ s kind, run-passed dead.Field _ s r, run-replace v i x s live) refl
+
+pub run-put : (v : Value) (i : ℕ) (x : Value) (s : State Table) → is_live s.memory v ≡ true → is_pointers (object_of s.memory v).kind ≡ true
+    → i < length (object_of s.memory v).fields → i < 16389 → (put table v i x).run s ≡ Went tt (record s { memory = with_stored s.memory v i x })
+unfolding put
+run-put v i x s live kind range small =
+    let r : nat_lt i (length (object_of s.memory v).fields) ≡ true = grind (arith, nat_tests) in
+    let m : nat_lt i 16389 ≡ true = grind (arith, nat_tests) in
+    simp (run-then, run-next, after-went, run-live v s live, run-passed dead.Kind _ s kind, run-passed dead.Sp _ s r, run-passed dead.Sp _ s m, run-replace v i x s live) refl
+
+pub get-past : {A : Type 0} (xs : List A) (i : ℕ) → length xs ≤ i → slice_get xs i ≡ None
+get-past [] i l = refl
+get-past (x ∷ xs) zero l = absurd (omega arith)
+get-past (x ∷ xs) (suc i) l = get-past xs i (omega arith)
+
+pub ruleset runs = (run-then, run-next, after-went, after-died, run-answer, run-die, run-active, run-home, run-method, run-receiver, run-ip, run-sp, run-set_ip, run-set_sp, run-passed, run-failed, run-some, run-none, run-small, run-live, run-replace, get-past)
+pub ruleset stores = (run-store, run-put)

@@ -1,0 +1,180 @@
+-- The bytecodes, a definition for each row of the book's table (chapter 28), and the step that does one.
+use Rattle.std.specs.Prelude.{ℕ, ◌+◌, Option, Some, None, ℤ, pos, ◌+ℤ◌, ◌-ℤ◌, ◌*ℤ◌}
+use Rattle.st_model.specs.declared.dead.Dead.TheVariants as dead
+use Rattle.st_model.specs.declared.outcome.Outcome.{Outcome}
+use Rattle.st_model.specs.declared.outcome.Outcome.TheVariants as outcome
+use Rattle.st_model.specs.declared.bytecode.Operand.{Operand}
+use Rattle.st_model.specs.declared.bytecode.Operand.TheVariants.{ReceiverVariable, TemporaryVariable, LiteralConstant, LiteralVariable}
+use Rattle.st_model.specs.declared.bytecode.Constant.{Constant}
+use Rattle.st_model.specs.declared.bytecode.Constant.TheVariants as constant
+use Rattle.st_model.specs.declared.bytecode.Bytecode.{Bytecode}
+use Rattle.st_model.specs.declared.bytecode.Bytecode.TheVariants as code
+use Rattle.st_model.specs.Values.{Value, Small}
+use Rattle.st_model.specs.Objects.{NilObject, FalseObject, TrueObject}
+use Rattle.st_model.specs.Decoded.{decoded, operand_of}
+use Rattle.st_model.specs.Machine.{ObjectMemory, Step, answer, die, ◌>>=◌, ◌>>◌}
+use Rattle.st_model.specs.Steps.{get_active, get_home, get_method, get_receiver, fetch_field, store_field, of_page, push, top, pop, literal, next_byte, jump}
+
+-- Receiver variable i is field i of the receiver, temporary variable i is field 6 + i of the home context,
+-- and literal variable i is the value of an association, field 1 of literal i.
+
+unfoldable pub fetch_receiver_variable : {H : Type 0} → ObjectMemory H → ℕ → Step H Value
+fetch_receiver_variable m i = do
+  receiver ← get_receiver
+  fetch_field m receiver i
+
+unfoldable pub fetch_temporary_variable : {H : Type 0} → ObjectMemory H → ℕ → Step H Value
+fetch_temporary_variable m i = do
+  home ← get_home
+  fetch_field m home (6 + i)
+
+unfoldable pub fetch_literal_constant : {H : Type 0} → ObjectMemory H → ℕ → Step H Value
+fetch_literal_constant m i = do
+  method ← get_method
+  literal m method i
+
+unfoldable pub fetch_literal_variable : {H : Type 0} → ObjectMemory H → ℕ → Step H Value
+fetch_literal_variable m i = do
+  association ← fetch_literal_constant m i
+  fetch_field m association 1
+
+unfoldable pub fetch_operand : {H : Type 0} → ObjectMemory H → Operand → Step H Value
+fetch_operand m (ReceiverVariable i) = fetch_receiver_variable m i
+fetch_operand m (TemporaryVariable i) = fetch_temporary_variable m i
+fetch_operand m (LiteralConstant i) = fetch_literal_constant m i
+fetch_operand m (LiteralVariable i) = fetch_literal_variable m i
+
+unfoldable pub store_receiver_variable : {H : Type 0} → ObjectMemory H → ℕ → Value → Step H Unit
+store_receiver_variable m i x = do
+  receiver ← get_receiver
+  store_field m receiver i x
+
+unfoldable pub store_temporary_variable : {H : Type 0} → ObjectMemory H → ℕ → Value → Step H Unit
+store_temporary_variable m i x = do
+  home ← get_home
+  store_field m home (6 + i) x
+
+unfoldable pub store_literal_variable : {H : Type 0} → ObjectMemory H → ℕ → Value → Step H Unit
+store_literal_variable m i x = do
+  association ← fetch_literal_constant m i
+  store_field m association 1 x
+
+-- nothing is stored in a literal constant: its code is never used
+unfoldable pub store_operand : {H : Type 0} → ObjectMemory H → Operand → Value → Step H Unit
+store_operand m (ReceiverVariable i) x = store_receiver_variable m i x
+store_operand m (TemporaryVariable i) x = store_temporary_variable m i x
+store_operand m (LiteralConstant i) x = die dead.Code
+store_operand m (LiteralVariable i) x = store_literal_variable m i x
+
+-- 0 to 95
+unfoldable pub push_operand : {H : Type 0} → ObjectMemory H → Operand → Step H Unit
+push_operand m operand = do
+  x ← fetch_operand m operand
+  push m x
+
+-- 96 to 111
+unfoldable pub store_and_pop : {H : Type 0} → ObjectMemory H → Operand → Step H Unit
+store_and_pop m operand = do
+  x ← pop m
+  store_operand m operand x
+
+-- 112
+unfoldable pub push_receiver : {H : Type 0} → ObjectMemory H → Step H Unit
+push_receiver m = do
+  receiver ← get_receiver
+  push m receiver
+
+-- a SmallInteger stands by its 15 bits, so that -1 is 32767
+unfoldable pub constant_value : {H : Type 0} → ObjectMemory H → Constant → Step H Value
+constant_value m constant.True = of_page m TrueObject
+constant_value m constant.False = of_page m FalseObject
+constant_value m constant.Nil = of_page m NilObject
+constant_value m constant.MinusOne = answer (Small 32767)
+constant_value m constant.Zero = answer (Small 0)
+constant_value m constant.One = answer (Small 1)
+constant_value m constant.Two = answer (Small 2)
+
+-- 113 to 119
+unfoldable pub push_constant : {H : Type 0} → ObjectMemory H → Constant → Step H Unit
+push_constant m c = do
+  x ← constant_value m c
+  push m x
+
+-- 128
+unfoldable pub extended_push : {H : Type 0} → ObjectMemory H → Step H Unit
+extended_push m = do
+  b ← next_byte m
+  push_operand m (operand_of b)
+
+-- 129: the top stays on the stack
+unfoldable pub extended_store : {H : Type 0} → ObjectMemory H → Step H Unit
+extended_store m = do
+  b ← next_byte m
+  x ← top m
+  store_operand m (operand_of b) x
+
+-- 130
+unfoldable pub extended_store_and_pop : {H : Type 0} → ObjectMemory H → Step H Unit
+extended_store_and_pop m = do
+  b ← next_byte m
+  store_and_pop m (operand_of b)
+
+-- 135
+unfoldable pub pop_stack : {H : Type 0} → ObjectMemory H → Step H Unit
+pop_stack m = do
+  x ← pop m
+  answer tt
+
+-- 136
+unfoldable pub duplicate_top : {H : Type 0} → ObjectMemory H → Step H Unit
+duplicate_top m = do
+  x ← top m
+  push m x
+
+-- 137
+unfoldable pub push_active_context : {H : Type 0} → ObjectMemory H → Step H Unit
+push_active_context m = do
+  c ← get_active
+  push m c
+
+-- 144 to 151
+unfoldable pub short_unconditional_jump : {H : Type 0} → ℕ → Step H Unit
+short_unconditional_jump i = jump (pos (i + 1))
+
+abbrev pub long_offset : ℕ → ℕ → ℤ
+long_offset i b = ((pos i -ℤ pos 4) *ℤ pos 256) +ℤ pos b
+
+-- 160 to 167
+unfoldable pub long_unconditional_jump : {H : Type 0} → ObjectMemory H → ℕ → Step H Unit
+long_unconditional_jump m i = do
+  b ← next_byte m
+  jump (long_offset i b)
+
+-- the row of a bytecode
+unfoldable pub bytecode : {H : Type 0} → ObjectMemory H → Bytecode → Step H Unit
+bytecode m (code.Push operand) = push_operand m operand
+bytecode m (code.StoreAndPop operand) = store_and_pop m operand
+bytecode m code.PushReceiver = push_receiver m
+bytecode m (code.PushConstant c) = push_constant m c
+bytecode m code.ExtendedPush = extended_push m
+bytecode m code.ExtendedStore = extended_store m
+bytecode m code.ExtendedStoreAndPop = extended_store_and_pop m
+bytecode m code.PopStack = pop_stack m
+bytecode m code.DuplicateTop = duplicate_top m
+bytecode m code.PushActiveContext = push_active_context m
+bytecode m (code.ShortUnconditionalJump i) = short_unconditional_jump i
+bytecode m (code.LongUnconditionalJump i) = long_unconditional_jump m i
+bytecode m code.Unused = die dead.Code
+
+-- a code whose row isn't built yet does nothing
+unfoldable pub perform : {H : Type 0} → ObjectMemory H → ℕ → Option Bytecode → Step H Outcome
+perform m b None = answer (outcome.Unbuilt b)
+perform m b (Some c) = do
+  bytecode m c
+  answer outcome.Went
+
+-- the next bytecode
+unfoldable pub step : {H : Type 0} → ObjectMemory H → Step H Outcome
+step m = do
+  b ← next_byte m
+  perform m b (decoded b)

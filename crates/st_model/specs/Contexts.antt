@@ -1,0 +1,58 @@
+-- Contexts and the registers that are fetched from them (chapter 27).
+use Rattle.std.specs.Prelude.{ℕ, ◌+◌, ℤ, pos, negsuc, ◌+ℤ◌, ◌-ℤ◌, nat_lt, nat_le, length}
+use Rattle.st_model.specs.declared.dead.Dead.TheVariants as dead
+use Rattle.st_model.specs.declared.kind.Kind.{Kind}
+use Rattle.st_model.specs.Values.{Value, Small, Ref}
+use Rattle.st_model.specs.Objects.{is_pointers, SchedulerAssociation}
+use Rattle.st_model.specs.Machine.{ObjectMemory, Step, answer, die, ◌>>=◌, ◌>>◌}
+use Rattle.st_model.specs.Steps.{object, check, of_page, fetch_field, fetch_integer, set_registers}
+
+-- Field 3 of a method context is its method; that of a block context is an argument count, and its home is field 5.
+unfoldable pub home_by : {H : Type 0} → ObjectMemory H → Value → Value → Step H Value
+home_by m c (Small n) = fetch_field m c 5
+home_by m c (Ref n) = answer c
+
+unfoldable pub home_of : {H : Type 0} → ObjectMemory H → Value → Step H Value
+home_of m c = do
+  method ← fetch_field m c 3
+  home_by m c method
+
+-- a stack pointer from 5, for an empty stack, to the last field, and at most 16388
+unfoldable pub stack_place : {H : Type 0} → ObjectMemory H → Value → ℤ → Step H ℕ
+stack_place m c (pos sp) = do
+  o ← object m c
+  check dead.Kind (is_pointers o.kind)
+  check dead.Sp (nat_le 5 sp)
+  check dead.Sp (nat_le sp 16388)
+  check dead.Sp (nat_lt sp (length o.fields))
+  answer sp
+stack_place m c (negsuc n) = die dead.Sp
+
+-- it is stored less 5
+unfoldable pub fetch_stack_pointer : {H : Type 0} → ObjectMemory H → Value → Step H ℕ
+fetch_stack_pointer m c = do
+  n ← fetch_integer m c 2
+  stack_place m c (n +ℤ pos 5)
+
+-- the registers of a context, which becomes the active one; the instruction pointer is stored plus 1
+unfoldable pub fetch_context_registers : {H : Type 0} → ObjectMemory H → Value → Step H Unit
+fetch_context_registers m c = do
+  home ← home_of m c
+  method ← fetch_field m home 3
+  receiver ← fetch_field m home 5
+  ip ← fetch_integer m c 1
+  sp ← fetch_stack_pointer m c
+  set_registers (record { active = c; home = home; method = method; receiver = receiver; ip = ip -ℤ pos 1; sp = sp })
+
+-- the context of the scheduler's active process
+unfoldable pub scheduled_context : {H : Type 0} → ObjectMemory H → Step H Value
+scheduled_context m = do
+  association ← of_page m SchedulerAssociation
+  scheduler ← fetch_field m association 1
+  process ← fetch_field m scheduler 1
+  fetch_field m process 1
+
+unfoldable pub fetch_scheduled_registers : {H : Type 0} → ObjectMemory H → Step H Unit
+fetch_scheduled_registers m = do
+  c ← scheduled_context m
+  fetch_context_registers m c

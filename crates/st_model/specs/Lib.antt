@@ -1,0 +1,16 @@
+pub mod Values
+pub mod Objects
+pub mod Deaths
+pub mod Decoded
+pub mod Machine
+pub mod Steps
+pub mod Contexts
+pub mod Bytecodes
+pub mod Births
+pub mod Table
+pub mod Settled
+pub mod Cycles
+pub mod Show
+pub mod Formed
+pub mod View
+pub mod Calls

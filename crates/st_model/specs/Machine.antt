@@ -1,0 +1,131 @@
+-- The machine over any object memory, as steps that change a state or die.
+use Rattle.std.specs.Prelude.{ℕ, ℤ, List, [], ◌∷◌, ◌++◌, Option, Some, None, Bool}
+use Rattle.st_model.specs.declared.dead.Dead.{Dead}
+use Rattle.st_model.specs.Values.{Value}
+use Rattle.st_model.specs.Objects.{Object, PageObject}
+
+-- what a machine asks of the memory that keeps its objects under names (chapter 30)
+pub record ObjectMemory (H : Type 0) : Type 0 where
+  -- the object of this name
+  pub read : H → ℕ → Option Object
+  -- this object in its place
+  pub replace : H → ℕ → Object → H
+  -- one object more, under the name next
+  pub append : H → Object → H
+  pub next : H → ℕ
+  -- a number above all names of kept objects
+  pub size : H → ℕ
+  -- is an object of this name kept
+  pub kept : H → ℕ → Bool
+  -- of the kept objects only those of which the test holds
+  pub settled : H → (ℕ → Bool) → H
+  -- the name of an object of the root page
+  pub named : H → PageObject → ℕ
+
+-- The registers of the interpreter (chapter 27). ip is the number, from 0, of the next byte of the
+-- method; sp that of the active context's field that holds the top of the stack.
+pub record Registers : Type 0 where
+  pub active : Value
+  pub home : Value
+  pub method : Value
+  pub receiver : Value
+  pub ip : ℤ
+  pub sp : ℕ
+
+-- the objects that are held besides the registers; nil where there is none
+pub record Devices : Type 0 where
+  pub new_process : Value
+  pub display : Value
+  pub cursor : Value
+  pub input_semaphore : Value
+  pub timer : Value
+  pub low_space : Value
+  -- the semaphores whose signals are pending, oldest first
+  pub pending : List Value
+
+-- what lies round the machine
+pub record World : Type 0 where
+  pub devices : Devices
+  -- the input words that wait, oldest first
+  pub waiting : List ℕ
+  pub mouse_x : ℕ
+  pub mouse_y : ℕ
+  pub second_clock : ℕ
+  pub millisecond_clock : ℕ
+  -- the millisecond at which the timer is due
+  pub timer_due : ℕ
+  -- the free entries and words below which the low-space semaphore is signalled
+  pub low_entries : ℕ
+  pub low_words : ℕ
+
+-- what an image's head says: the capacities, and the global table and the symbol table, where there are any
+pub record Head : Type 0 where
+  pub entries : ℕ
+  pub words : ℕ
+  pub globals : Option Value
+  pub symbols : Option Value
+
+pub record State (H : Type 0) : Type 0 where
+  pub memory : H
+  pub registers : Registers
+  pub world : World
+  pub head : Head
+
+abbrev pub table_root : Option Value → List Value
+table_root None = []
+table_root (Some v) = v ∷ []
+
+abbrev pub device_roots : Devices → List Value
+device_roots d = d.new_process ∷ d.display ∷ d.cursor ∷ d.input_semaphore ∷ d.timer ∷ d.low_space ∷ d.pending
+
+abbrev pub head_roots : Head → List Value
+head_roots a = table_root a.globals ++ table_root a.symbols
+
+-- the roots besides the page
+abbrev pub roots_of : {H : Type 0} → State H → List Value
+roots_of s = s.registers.active ∷ s.registers.home ∷ s.registers.method ∷ s.registers.receiver ∷ (head_roots s.head ++ device_roots s.world.devices)
+
+-- no word waits, no signal is pending, nothing is held, and clocks and mouse are at 0
+abbrev pub empty_world : Value → World
+empty_world nil = record {
+  devices = record { new_process = nil; display = nil; cursor = nil; input_semaphore = nil; timer = nil; low_space = nil; pending = [] };
+  waiting = [];
+  mouse_x = 0;
+  mouse_y = 0;
+  second_clock = 0;
+  millisecond_clock = 0;
+  timer_due = 0;
+  low_entries = 0;
+  low_words = 0;
+}
+
+-- what a step makes of a state: it dies of a cause, or answers and leaves a state
+pub data Transition (S A : Type 0) : Type 0 where
+  Died : Dead → Transition S A
+  Went : A → S → Transition S A
+
+-- a step that answers an A
+pub record Step (H A : Type 0) : Type 0 where
+  pub run : State H → Transition (State H) A
+
+unfoldable pub answer : {H A : Type 0} → A → Step H A
+answer a = record { run = λ s. Went a s }
+
+unfoldable pub die : {H A : Type 0} → Dead → Step H A
+die cause = record { run = λ s. Died cause }
+
+unfoldable pub after : {S A B : Type 0} → Transition S A → (A → S → Transition S B) → Transition S B
+after (Died cause) f = Died cause
+after (Went a s) f = f a s
+
+-- one step, and then the one that its answer gives
+infixl 20 ◌>>=◌
+unfoldable pub ◌>>=◌ : {H A B : Type 0} → Step H A → (A → Step H B) → Step H B
+unfolding after
+m >>= f = record { run = λ s. after (m.run s) (λ a t. (f a).run t) }
+
+-- one step, and then another
+infixl 20 ◌>>◌
+unfoldable pub ◌>>◌ : {H A B : Type 0} → Step H A → Step H B → Step H B
+unfolding ◌>>=◌
+m >> n = m >>= (λ a. n)

@@ -1,0 +1,63 @@
+-- How a table shows births: each kept object under the pointer that it bears, with references written as pointers.
+-- Names of the table are halved pointers.
+use Rattle.std.specs.Prelude.{◌≡◌, ℕ, [], ◌∷◌, zero, suc, Some, None, Option, List}
+use Rattle.st_model.specs.Values.{Value, renamed, renamed_all, IsLive, AllLive}
+use Rattle.st_model.specs.Objects.{Object, PageObject, place_of, renamed_object, IsLiveObject}
+use Rattle.st_model.specs.Machine.{State, Registers, Devices, World, Head, roots_of}
+use Rattle.st_model.specs.Births.{Births, object_born, borne, bearer}
+use Rattle.st_model.specs.Table.{Table, entry}
+
+abbrev pub renamed_registers : (ℕ → ℕ) → Registers → Registers
+renamed_registers f r = record { active = renamed f r.active; home = renamed f r.home; method = renamed f r.method; receiver = renamed f r.receiver; ip = r.ip; sp = r.sp }
+
+abbrev pub renamed_devices : (ℕ → ℕ) → Devices → Devices
+renamed_devices f d = record {
+  new_process = renamed f d.new_process;
+  display = renamed f d.display;
+  cursor = renamed f d.cursor;
+  input_semaphore = renamed f d.input_semaphore;
+  timer = renamed f d.timer;
+  low_space = renamed f d.low_space;
+  pending = renamed_all f d.pending;
+}
+
+abbrev pub renamed_world : (ℕ → ℕ) → World → World
+renamed_world f w = record w { devices = renamed_devices f w.devices }
+
+abbrev pub renamed_option : (ℕ → ℕ) → Option Value → Option Value
+renamed_option f None = None
+renamed_option f (Some v) = Some (renamed f v)
+
+abbrev pub renamed_head : (ℕ → ℕ) → Head → Head
+renamed_head f a = record { entries = a.entries; words = a.words; globals = renamed_option f a.globals; symbols = renamed_option f a.symbols }
+
+-- the pointer of a birth, as far as there is one
+abbrev pub pointer_of : Births → ℕ → ℕ
+pointer_of [] n = 0
+pointer_of (b ∷ h) zero = b.pointer
+pointer_of (b ∷ h) (suc n) = pointer_of h n
+
+abbrev pub IsKept : Births → ℕ → Type 0
+IsKept h n = (p : ℕ) × borne h n ≡ Some p
+
+abbrev pub IsUsed : Table → ℕ → Type 0
+IsUsed c k = (o : Object) × entry c k ≡ Some o
+
+pub record Shows (c : State Table) (s : State Births) : Type 0 where
+  pub objects : (n p : ℕ) (o : Object) → borne s.memory n ≡ Some p → object_born s.memory n ≡ Some o
+      → entry c.memory p ≡ Some (renamed_object (pointer_of s.memory) o)
+  pub only : (p : ℕ) (o : Object) → entry c.memory p ≡ Some o → (n : ℕ) × borne s.memory n ≡ Some p
+  pub distinct : (m n p : ℕ) → borne s.memory m ≡ Some p → borne s.memory n ≡ Some p → m ≡ n
+  -- what is kept refers to what is kept
+  pub closed : (n p : ℕ) (o : Object) → borne s.memory n ≡ Some p → object_born s.memory n ≡ Some o → IsLiveObject (IsKept s.memory) o
+  pub page : (q : PageObject) → borne s.memory (bearer s.memory (place_of q)) ≡ Some (place_of q)
+  pub roots : AllLive (IsKept s.memory) (roots_of s)
+  pub registers : c.registers ≡ renamed_registers (pointer_of s.memory) s.registers
+  pub world : c.world ≡ renamed_world (pointer_of s.memory) s.world
+  pub head : c.head ≡ renamed_head (pointer_of s.memory) s.head
+
+-- what stands in the table or is a root names a place in use
+pub record IsClosed (c : State Table) : Type 0 where
+  pub objects : (k : ℕ) (o : Object) → entry c.memory k ≡ Some o → IsLiveObject (IsUsed c.memory) o
+  pub page : (q : PageObject) → IsUsed c.memory (place_of q)
+  pub roots : AllLive (IsUsed c.memory) (roots_of c)
