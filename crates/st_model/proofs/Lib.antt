@@ -12,3 +12,4 @@ pub mod Ended
 pub mod CyclesShown
 pub mod Runs
 pub mod Settling
+mod Rows

@@ -1,0 +1,73 @@
+-- Worked rows of the machine, computed from the definitions: an image of 24 objects on a table of 33 places. Its one
+-- method pushes 1 and 2, pops into temporary variable 0, and jumps back to its begin.
+use Rattle.std.proofs.Common.{◌≡◌, ℕ, List, [], ◌∷◌, ◌++◌, Some, None, Option, refl}
+use Rattle.std.specs.Prelude.{ℤ, pos}
+use Rattle.st_model.specs.declared.kind.Kind.TheVariants as kind
+use Rattle.st_model.specs.declared.outcome.Outcome.TheVariants as outcome
+use Rattle.st_model.specs.Values.{Value, Small, Ref}
+use Rattle.st_model.specs.Objects.{Object, nil}
+use Rattle.st_model.specs.Machine.{State, Registers, Head, empty_world, Transition, Died, Went, answer, die, after, ◌>>=◌, ◌>>◌}
+use Rattle.st_model.specs.Steps.{get_active, get_home, get_method, get_receiver, get_ip, get_sp, set_ip, set_sp, set_registers, found, object_named, object, replace_at, replace, of_page, or_die, check, fetch_field, store_field, integer_or_die, fetch_integer, put, push, top, pop, literal, byte_at, next_byte, jump}
+use Rattle.st_model.specs.Contexts.{home_by, home_of, stack_place, fetch_stack_pointer, fetch_context_registers, scheduled_context, fetch_scheduled_registers}
+use Rattle.st_model.specs.Bytecodes.{fetch_receiver_variable, fetch_temporary_variable, fetch_literal_constant, fetch_literal_variable, fetch_operand, store_receiver_variable, store_temporary_variable, store_literal_variable, store_operand, push_operand, store_and_pop, push_receiver, constant_value, push_constant, extended_push, extended_store, extended_store_and_pop, pop_stack, duplicate_top, push_active_context, short_unconditional_jump, long_unconditional_jump, bytecode, perform, step}
+use Rattle.st_model.specs.Table.{Table, table}
+use Rattle.st_model.specs.Settled.{is_root, is_supported, next_round, settled_set, reclaim}
+use Rattle.st_model.specs.Cycles.{cycle, run, finished}
+
+-- opens the machine's definitions
+opened : Unit {0}
+unfolding answer die after ◌>>=◌ ◌>>◌ get_active get_home get_method get_receiver get_ip get_sp set_ip set_sp set_registers found object_named object replace_at replace of_page or_die check fetch_field store_field integer_or_die fetch_integer put push top pop literal byte_at next_byte jump home_by home_of stack_place fetch_stack_pointer fetch_context_registers scheduled_context fetch_scheduled_registers fetch_receiver_variable fetch_temporary_variable fetch_literal_constant fetch_literal_variable fetch_operand store_receiver_variable store_temporary_variable store_literal_variable store_operand push_operand store_and_pop push_receiver constant_value push_constant extended_push extended_store extended_store_and_pop pop_stack duplicate_top push_active_context short_unconditional_jump long_unconditional_jump bytecode perform step is_root is_supported next_round settled_set reclaim cycle run finished
+opened = tt
+
+-- an object of class 12 with these fields
+plain : List Value → Option Object
+plain fields = Some (record { class = 6; kind = kind.Pointers; fields = fields; units = [] })
+
+-- a context of class 22 that runs the method 64, with these pointers in stored form and these words on its stack
+context : ℕ → ℕ → List Value → Option Object
+context ip sp stack = Some (record { class = 11; kind = kind.Pointers; fields = nil ∷ Small ip ∷ Small sp ∷ Ref 32 ∷ nil ∷ nil ∷ stack; units = [] })
+
+-- a method of class 34 without literals, with these bytes
+method : List ℕ → Option Object
+method bytes = Some (record { class = 17; kind = kind.Method; fields = Small 128 ∷ []; units = bytes })
+
+-- the image's objects, with those of pointers 62 and 64
+objects : Option Object → Option Object → Table
+unfolding plain
+objects active code =
+    None ∷ plain [] ∷ plain [] ∷ plain [] ∷ plain (nil ∷ Ref 29 ∷ []) ∷ None ∷ plain [] ∷ plain [] ∷ plain [] ∷ None ∷ None
+    ∷ plain [] ∷ plain [] ∷ plain [] ∷ plain [] ∷ None ∷ plain [] ∷ plain [] ∷ None ∷ None ∷ plain [] ∷ plain [] ∷ plain []
+    ∷ None ∷ plain [] ∷ plain [] ∷ plain [] ∷ None ∷ plain [] ∷ plain (nil ∷ Ref 30 ∷ []) ∷ plain (nil ∷ Ref 31 ∷ Small 4 ∷ nil ∷ [])
+    ∷ active ∷ code ∷ []
+
+registers_at : ℤ → ℕ → Registers
+registers_at ip sp = record { active = Ref 31; home = Ref 31; method = Ref 32; receiver = nil; ip = ip; sp = sp }
+
+state : Registers → Table → State Table
+state r t = record { memory = t; registers = r; world = empty_world nil; head = record { entries = 32767; words = 1048576; globals = None; symbols = None } }
+
+nils : List Value
+nils = nil ∷ nil ∷ nil ∷ nil ∷ nil ∷ nil ∷ nil ∷ nil ∷ nil ∷ []
+
+-- the method's bytes: push 1, push 2, pop into temporary variable 0, jump back by 5
+loop : List ℕ
+loop = 118 ∷ 119 ∷ 104 ∷ 163 ∷ 251 ∷ []
+
+at_first : State Table
+unfolding loop nils context method objects registers_at state
+at_first = state (registers_at (pos 2) 6) (objects (context 3 1 (nil ∷ nil ∷ nil ∷ nils)) (method loop))
+
+-- the registers are fetched from the context of the scheduler's active process
+fetched : (fetch_scheduled_registers table).run (state (record { active = nil; home = nil; method = nil; receiver = nil; ip = pos 0; sp = 5 }) at_first.memory) ≡ Went tt at_first
+unfolding opened at_first state registers_at objects context method nils loop plain
+fetched = refl
+
+-- after no cycle all is as it was
+no_cycle : run table 0 at_first ≡ Went outcome.Went at_first
+unfolding opened
+no_cycle = refl
+
+-- after four cycles the instruction pointer stands at the begin again, and the words 2, 1 and 2 on the stack
+four_cycles : run table 4 at_first ≡ Went outcome.Went (state (registers_at (pos 2) 7) (objects (context 3 1 (Small 2 ∷ Small 1 ∷ Small 2 ∷ nils)) (method loop)))
+unfolding opened at_first state registers_at objects context method nils loop plain
+four_cycles = refl
