@@ -1,7 +1,7 @@
 -- Worked rows of the machine, computed from the definitions: an image of 24 objects on a table of 33 places. Its one
 -- method pushes 1 and 2, pops into temporary variable 0, and jumps back to its begin.
 use Rattle.std.proofs.Common.{◌≡◌, ℕ, List, [], ◌∷◌, ◌++◌, Some, None, Option, refl}
-use Rattle.std.specs.Prelude.{ℤ, pos}
+use Rattle.std.specs.Prelude.{ℤ, pos, codes}
 use Rattle.st_model.specs.declared.kind.Kind.TheVariants as kind
 use Rattle.st_model.specs.declared.outcome.Outcome.TheVariants as outcome
 use Rattle.st_model.specs.Values.{Value, Small, Ref}
@@ -13,6 +13,8 @@ use Rattle.st_model.specs.Bytecodes.{fetch_receiver_variable, fetch_temporary_va
 use Rattle.st_model.specs.Table.{Table, table}
 use Rattle.st_model.specs.Settled.{is_root, is_supported, next_round, settled_set, reclaim}
 use Rattle.st_model.specs.Cycles.{cycle, run, finished}
+use Rattle.std.specs.Fmt.{digits}
+use Rattle.st_model.specs.Text.{state_text, report}
 
 -- opens the machine's definitions
 opened : Unit {0}
@@ -71,3 +73,37 @@ no_cycle = refl
 four_cycles : run table 4 at_first ≡ Went outcome.Went (state (registers_at (pos 2) 7) (objects (context 3 1 (Small 2 ∷ Small 1 ∷ Small 2 ∷ nils)) (method loop)))
 unfolding opened at_first state registers_at objects context method nils loop plain
 four_cycles = refl
+
+-- and so it is said
+four_cycles_said : report 4 (Went outcome.Went (state (registers_at (pos 2) 7) (objects (context 3 1 (Small 2 ∷ Small 1 ∷ Small 2 ∷ nils)) (method loop)))) ≡
+    codes "ran 4\n"
+    ++ (codes "registers @62 @62 @64 @2 3 2\n"
+    ++ (codes "input 0 0 0 0 0 0\n"
+    ++ (codes "held @2 @2 @2 @2 @2\n"
+    ++ (codes "used 24 78\n"
+    ++ (codes "object 2 @12 p\n"
+    ++ (codes "object 4 @12 p\n"
+    ++ (codes "object 6 @12 p\n"
+    ++ (codes "object 8 @12 p @2 @58\n"
+    ++ (codes "object 12 @12 p\n"
+    ++ (codes "object 14 @12 p\n"
+    ++ (codes "object 16 @12 p\n"
+    ++ (codes "object 22 @12 p\n"
+    ++ (codes "object 24 @12 p\n"
+    ++ (codes "object 26 @12 p\n"
+    ++ (codes "object 28 @12 p\n"
+    ++ (codes "object 32 @12 p\n"
+    ++ (codes "object 34 @12 p\n"
+    ++ (codes "object 40 @12 p\n"
+    ++ (codes "object 42 @12 p\n"
+    ++ (codes "object 44 @12 p\n"
+    ++ (codes "object 48 @12 p\n"
+    ++ (codes "object 50 @12 p\n"
+    ++ (codes "object 52 @12 p\n"
+    ++ (codes "object 56 @12 p\n"
+    ++ (codes "object 58 @12 p @2 @60\n"
+    ++ (codes "object 60 @12 p @2 @62 4 @2\n"
+    ++ (codes "object 62 @22 p @2 3 1 @64 @2 @2 2 1 2 @2 @2 @2 @2 @2 @2 @2 @2 @2\n"
+    ++ (codes "object 64 @34 m 128 : 118 119 104 163 251\n"))))))))))))))))))))))))))))
+unfolding opened digits state_text at_first state registers_at objects context method nils loop plain
+four_cycles_said = refl

@@ -1,3 +1,4 @@
+pub mod Lists
 pub mod Values
 pub mod Objects
 pub mod Deaths
@@ -14,3 +15,4 @@ pub mod Show
 pub mod Formed
 pub mod View
 pub mod Calls
+pub mod Text
