@@ -1,8 +1,9 @@
-ghost use Rattle.std.specs.Prelude.{◌≡◌, ◌≤◌, IfOk, OnOk};
+ghost use Rattle.std.specs.Prelude.{◌≡◌, ◌≤◌, ◌≤ℤ◌, pos, negsuc, IfOk};
 ghost use Rattle.st_model.specs.Values.{value};
 ghost use Rattle.st_model.specs.View.{IsKnown};
+ghost use Rattle.st_model.specs.Machine.{State};
 ghost use Rattle.st_model.specs.Table.{table};
-ghost use Rattle.st_model.specs.Steps.{fetch_field, store_field, put};
+ghost use Rattle.st_model.specs.Steps.{fetch_field, store_field, count_fields, fetch_integer};
 ghost use Rattle.st_model.specs.Calls.{Does, Reads, itself};
 ghost use Rattle.st_frames.specs.Shown.{shown};
 
@@ -52,27 +53,35 @@ pub fn store_field<M: Memory>(f: &Frame, m: &mut M, o: Oop, i: u32, x: Oop) -> R
     }
 }
 
-/// Puts x in a place of a context's stack. Dead, with nothing stored, where that is none.
-#[tactic(auto, using(st_model::proofs::Runs::runs), unfolding(st_model::specs::Steps::put))]
-pub(crate) fn put<M: Memory>(f: &Frame, m: &mut M, context: Oop, at: u32, x: Oop) -> Result<(), Dead>
-    requires object { IsKnown (M.view m.old).objects (value context) }
-    requires known { IsKnown (M.view m.old).objects (value x) }
-    ensures puts { Does (put table (value context) at (value x)) itself (shown (M.view m.old) f.now) result (shown (M.view m.new) f.now) }
-    ensures held { (M.view m.new).held ≡ (M.view m.old).held }
-    ensures small { OnOk result (at ≤ 16388) }
+/// How many fields o has. Dead where it is no object of kind Pointers.
+#[tactic(auto, using(st_model::proofs::Runs::runs), unfolding(st_model::specs::Steps::count_fields))]
+pub fn count_fields<M: Memory>(m: &M, o: Oop) -> Result<u32, Dead>
+    requires { IsKnown (M.view m.now).objects (value o) }
+    ensures count { Reads (count_fields table (value o)) itself (M.view m.now).objects result }
+    ensures small { IfOk result (λ n. n ≤ 131066) }
 {
-    if context.is_small() {
+    if o.is_small() {
         return Err(Dead::Small);
     }
-    if !m.kind(context).is_pointers() {
-        return Err(Dead::Kind);
+    if m.kind(o).is_pointers() {
+        Ok(m.size(o))
+    } else {
+        Err(Dead::Kind)
     }
-    if at >= m.size(context) {
-        return Err(Dead::Sp);
+}
+
+/// The integer that field i of o must hold. Dead where there is none.
+#[tactic(auto, using(st_model::proofs::Runs::runs), unfolding(st_model::specs::Steps::fetch_integer))]
+pub fn fetch_integer<M: Memory>(m: &M, o: Oop, i: u32) -> Result<i32, Dead>
+    requires { IsKnown (M.view m.now).objects (value o) }
+    ensures integer { Reads (fetch_integer table (value o) i) itself (M.view m.now).objects result }
+    ensures low { IfOk result (λ n. negsuc 16383 ≤ℤ n) }
+    ensures high { IfOk result (λ n. n ≤ℤ pos 16383) }
+{
+    let x = fetch_field(m, o, i)?;
+    if x.is_small() {
+        Ok(x.integer())
+    } else {
+        Err(Dead::NotSmall)
     }
-    if at > 16388 {
-        return Err(Dead::Sp);
-    }
-    m.set_pointer(context, at, x);
-    Ok(())
 }

@@ -2,14 +2,33 @@ ghost use Rattle.std.specs.Prelude.{◌≡◌, ◌≤◌, ◌≤ℤ◌, pos, neg
 ghost use Rattle.st_model.specs.Values.{value};
 ghost use Rattle.st_model.specs.View.{IsKnown};
 ghost use Rattle.st_model.specs.Table.{table};
-ghost use Rattle.st_model.specs.Steps.{push, pop, top, jump};
+ghost use Rattle.st_model.specs.Steps.{put, push, pop, top, jump};
 ghost use Rattle.st_model.specs.Calls.{Does, itself};
 ghost use Rattle.st_frames.specs.Shown.{IsFrame, StaysFrame, shown};
 
-use crate::fields::{fetch_field, put};
+use crate::fields::{count_fields, fetch_field, store_field};
 use crate::frame::Frame;
 use st_memory::Memory;
 use st_model::{Dead, Oop};
+
+/// Puts x in a place of a context's stack. Dead, with nothing stored, where that is none.
+#[tactic(auto, using(st_model::proofs::Runs::runs), unfolding(st_model::specs::Steps::put))]
+fn put<M: Memory>(f: &Frame, m: &mut M, context: Oop, at: u32, x: Oop) -> Result<(), Dead>
+    requires object { IsKnown (M.view m.old).objects (value context) }
+    requires known { IsKnown (M.view m.old).objects (value x) }
+    ensures puts { Does (put table (value context) at (value x)) itself (shown (M.view m.old) f.now) result (shown (M.view m.new) f.now) }
+    ensures held { (M.view m.new).held ≡ (M.view m.old).held }
+    ensures small { OnOk result (at ≤ 16388) }
+{
+    let fields = count_fields(m, context)?;
+    if at >= fields {
+        return Err(Dead::Sp);
+    }
+    if at > 16388 {
+        return Err(Dead::Sp);
+    }
+    store_field(f, m, context, at, x)
+}
 
 /// Pushes x on the active context's stack. Dead, with nothing stored, where the context has no place for it.
 #[tactic(auto, using(crate::proofs::Shown::shows, crate::proofs::Registers::registers), unfolding(st_model::specs::Steps::push))]

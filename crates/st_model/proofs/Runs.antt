@@ -5,9 +5,9 @@ use Rattle.std.proofs.lemmas.Bool.Decides.{nat_tests}
 use Rattle.st_model.specs.declared.dead.Dead.{Dead}
 use Rattle.st_model.specs.declared.dead.Dead.TheVariants as dead
 use Rattle.st_model.specs.Values.{Value, Small, Ref, is_small}
-use Rattle.st_model.specs.Objects.{Object, with_field, is_pointers}
-use Rattle.st_model.specs.Machine.{State, Transition, Died, Went, Step, after, answer, die, ◌>>=◌, ◌>>◌}
-use Rattle.st_model.specs.Steps.{get_active, get_home, get_method, get_receiver, get_ip, get_sp, set_ip, set_sp, found, object_named, object, replace_at, replace, or_die, check, fetch_field, store_field, integer_or_die}
+use Rattle.st_model.specs.Objects.{PageObject, place_of, Object, with_field, is_pointers}
+use Rattle.st_model.specs.Machine.{Registers, State, Transition, Died, Went, Step, after, answer, die, ◌>>=◌, ◌>>◌}
+use Rattle.st_model.specs.Steps.{get_active, get_home, get_method, get_receiver, get_ip, get_sp, set_ip, set_sp, set_registers, of_page, found, object_named, object, replace_at, replace, or_die, check, fetch_field, store_field, integer_or_die}
 use Rattle.st_model.specs.Table.{Table, table, entry}
 use Rattle.st_model.specs.Values.{integer_of}
 use Rattle.st_model.specs.Contexts.{home_by}
@@ -68,6 +68,14 @@ run-set_ip n s = refl
 pub run-set_sp : (n : ℕ) (s : State Table) → (set_sp n).run s ≡ Went tt (record s { registers = record s.registers { sp = n } })
 unfolding set_sp
 run-set_sp n s = refl
+
+pub run-set_registers : (r : Registers) (s : State Table) → (set_registers r).run s ≡ Went tt (record s { registers = r })
+unfolding set_registers
+run-set_registers r s = refl
+
+pub run-of_page : (q : PageObject) (s : State Table) → (of_page table q).run s ≡ Went (Ref (place_of q)) s
+unfolding of_page
+run-of_page q s = refl
 
 pub run-passed : (k : Dead) (b : Bool) (s : State Table) → b ≡ true → (check k b).run s ≡ Went tt s
 unfolding check answer
@@ -143,5 +151,5 @@ get-past [] i l = refl
 get-past (x ∷ xs) zero l = absurd (omega arith)
 get-past (x ∷ xs) (suc i) l = get-past xs i (omega arith)
 
-pub ruleset runs = (run-then, run-next, after-went, after-died, run-answer, run-die, run-active, run-home, run-method, run-receiver, run-ip, run-sp, run-set_ip, run-set_sp, run-passed, run-failed, run-some, run-none, run-small, run-live, run-replace, run-integer, run-no_integer, run-block_home, run-method_home, get-past)
+pub ruleset runs = (run-then, run-next, after-went, after-died, run-answer, run-die, run-active, run-home, run-method, run-receiver, run-ip, run-sp, run-set_ip, run-set_sp, run-set_registers, run-of_page, run-passed, run-failed, run-some, run-none, run-small, run-live, run-replace, run-integer, run-no_integer, run-block_home, run-method_home, get-past)
 pub ruleset stores = (run-store)
