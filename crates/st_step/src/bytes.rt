@@ -15,6 +15,7 @@ pub fn next_byte<M: Memory>(f: &mut Frame, m: &M) -> Result<u8, Dead>
     requires frame { IsFrame (M.view m.now) f.old }
     ensures byte { Does (next_byte table) itself (shown (M.view m.now) f.old) result (shown (M.view m.now) f.new) }
     ensures frame { OnOk result (IsFrame (M.view m.now) f.new) }
+    ensures moves { OnOk result (f.new ≡ record f.old { ip = f.new.ip }) }
 {
     let byte = byte_at(m, f.method, f.ip)?;
     f.ip += 1;
