@@ -14,3 +14,5 @@ pub mod Runs
 pub mod Settling
 mod Rows
 pub mod Roots
+pub mod Raised
+pub mod Showing
