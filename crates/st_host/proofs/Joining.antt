@@ -1,9 +1,9 @@
 -- Runs of calls that follow each other are one run.
-use Rattle.std.proofs.Common.{◌≡◌, ◌≢◌, ◌⊎◌, ◌≤◌, inl, inr, ⊎_elim, ℕ, ◌+◌, List, [], ◌++◌, length, take, Bool, true, false, bytes_eq, Option, IsTrue, refl, sym, subst, ap, ◌∙◌, arith, append_assoc, true≢false}
-use Rattle.std.proofs.lemmas.List.{append-nil, take-append-le, take_all}
-use Rattle.std.proofs.lemmas.Bool.{cases_lt}
+use Rattle.std.proofs.Common.{◌≡◌, ◌≢◌, ◌⊎◌, ◌≤◌, inl, inr, ⊎_elim, ℕ, List, [], ◌++◌, length, take, Bool, true, false, bytes_eq, Option, IsTrue, refl, sym, subst, ap, ◌∙◌, arith, append_assoc, length-append, length-take, true≢false}
+use Rattle.std.proofs.lemmas.List.{append-nil, take-append-le}
 use Rattle.std.proofs.lemmas.Slice.Eq.{bytes_eq-Decides}
-use Rattle.std.proofs.Math.Seq.{take-append-add}
+use Rattle.std.proofs.Math.Seq.{take-append_seam}
+use Rattle.std.specs.Io.{StartsWith}
 use Rattle.st_host.specs.Counts.{Rose}
 use Rattle.st_host.specs.Files.{Files}
 use Rattle.st_host.specs.Stops.{SameStops, Here, SaidPart, WhileSaying}
@@ -19,30 +19,39 @@ same_or_other a b = by_test (bytes_eq a b) refl
     by_test true e = inl ((bytes_eq-Decides a b).0 e)
     by_test false e = inr (λ same. true≢false (sym ((bytes_eq-Decides a b).1 same) ∙ e))
 
+begins_more : (text more now : List ℕ) → StartsWith text now → StartsWith (text ++ more) now
+begins_more text more now begins =
+    let short : length now ≤ length text = omega (arith, length-take (length now) text, ap length begins) in
+    take-append-le (length now) text more short ∙ begins
+
 stops_join : (a b c : List ℕ → Option (List ℕ) → Type 0) → SameStops a b → SameStops b c → SameStops a c
 stops_join a b c first second = record {
   fewer = λ n x can. first.fewer n x (second.fewer n x can);
   more = λ n x could. second.more n x (first.more n x could);
 }
 
--- some first bytes of a text are some first ones of a longer text
+-- the beginning of a text is one of a longer text
 part_more : (before a b now : List ℕ) → SaidPart before a now → SaidPart before (a ++ b) now
-part_more before a b now (k, is) = ⊎_elim
-    (λ less. (k, is ∙ ap (λ x. before ++ x) (sym (take-append-le k a b (omega arith)))))
-    (λ past.
-    (length a, is ∙ ap (λ x. before ++ x) (take_all k a (omega arith) ∙ sym (take-append-le (length a) a b (omega arith) ∙ take_all (length a) a (omega arith)))))
-    (cases_lt k (length a))
+part_more before a b now part = record {
+  least = part.least;
+  begins = ap (take (length now)) (sym (append_assoc before a b)) ∙ begins_more (before ++ a) b now part.begins;
+}
 
--- a text and some first bytes of another are some first ones of both
+-- what follows a text that was said whole follows in the joined text
 part_after : (before mid a b now : List ℕ) → mid ≡ before ++ a → SaidPart mid b now → SaidPart before (a ++ b) now
-part_after before mid a b now all (k, is) =
-    (length a + k, is ∙ ap (λ x. x ++ take k b) all ∙ append_assoc before a (take k b) ∙ ap (λ x. before ++ x) (sym (take-append-add a b k)))
+part_after before mid a b now all part = record {
+  least = omega (arith, part.least, ap length all, length-append before a);
+  begins = ap (take (length now)) (sym (append_assoc before a b) ∙ ap (λ x. x ++ b) (sym all)) ∙ part.begins;
+}
 
 part_none : (before bytes now : List ℕ) → now ≡ before → SaidPart before bytes now
-part_none before bytes now is = (0, is ∙ sym (append-nil before))
+part_none before bytes now same = record {
+  least = omega (arith, ap length same);
+  begins = ap (λ n. take n (before ++ bytes)) (ap length same) ∙ take-append_seam before bytes ∙ sym same;
+}
 
 part_of : (before bytes mid now : List ℕ) → now ≡ mid → SaidPart before bytes mid → SaidPart before bytes now
-part_of before bytes mid now same (k, is) = (k, same ∙ is)
+part_of before bytes mid now same part = subst (SaidPart before bytes) (sym same) part
 
 module _ {D : Type 0} (host : Ghosts D) where
   weaker : (old new : D) (P Q : Files → List ℕ → Type 0) → LeavesOnly host old new Q → ((f : Files) (s : List ℕ) → Q f s → P f s) → LeavesOnly host old new P

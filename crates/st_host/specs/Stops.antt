@@ -1,5 +1,6 @@
 -- What a stop may leave of the files, and how that goes on with time.
-use Rattle.std.specs.Prelude.{◌≡◌, ◌⊎◌, ℕ, ◌≤◌, List, ◌++◌, take, Option}
+use Rattle.std.specs.Prelude.{◌≡◌, ◌⊎◌, ℕ, ◌≤◌, List, ◌++◌, length, Option}
+use Rattle.std.specs.Io.{StartsWith}
 use Rattle.st_host.specs.Files.{Files}
 
 -- Of each file a stop may leave just what it could leave before.
@@ -11,9 +12,10 @@ pub record SameStops (could can : List ℕ → Option (List ℕ) → Type 0) : T
 abbrev pub Here : (List ℕ → Option (List ℕ) → Type 0) → List ℕ → Files → List ℕ → Type 0
 Here can said f s = ((n : List ℕ) → can n (f n)) × (s ≡ said)
 
--- of these bytes some first ones, or none or all, were said
-abbrev pub SaidPart : List ℕ → List ℕ → List ℕ → Type 0
-SaidPart before bytes now = (k : ℕ) × (now ≡ before ++ take k bytes)
+-- Of these bytes some first ones, or none or all, were said: all that was said by now begins `before ++ bytes`.
+pub record SaidPart (before bytes now : List ℕ) : Type 0 where
+  pub least : length before ≤ length now
+  pub begins : StartsWith (before ++ bytes) now
 
 -- a stop while these bytes are being said may leave these files, with these bytes said
 abbrev pub WhileSaying : (List ℕ → Option (List ℕ) → Type 0) → List ℕ → List ℕ → Files → List ℕ → Type 0

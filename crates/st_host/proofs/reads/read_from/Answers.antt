@@ -32,7 +32,7 @@ loop-done-preserved g c =
     let known_room = simp (length-take, length-drop) at w.within in
     let room : k ≤ length into - done = omega (arith, known_room) in
     let reads : IsTrue g.H.Host.is_told → Reads file (c.args.at + done) k part = λ told.
-      subst (λ x. Reads (bytes_of x) (c.args.at + done) k part) (inv.alike.same told c.args.name.now) (w.some told) in
+    subst (λ x. Reads (bytes_of x) (c.args.at + done) k part) (inv.alike.same told c.args.name.now) (w.some told) in
     record {
       bound = omega (arith, room, long, inv.bound, length-append (take done into) (part ++ tail), length-append part tail, length-take done into);
       within = λ told. omega (arith, (reads told).within, inv.within told);
