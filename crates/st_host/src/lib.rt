@@ -2,9 +2,12 @@
 #![tactic(auto)]
 
 mod host;
+mod log;
+mod memory;
 mod reads;
 mod says;
 
 pub use host::{Host, HostFault, SayFault};
+pub use memory::MemHost;
 pub use reads::{file_length, read_from};
 pub use says::say_all;
