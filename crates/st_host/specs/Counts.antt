@@ -1,5 +1,9 @@
 -- The counts of faults: numbers of 64 bits that never fall.
-use Rattle.std.specs.Prelude.{◌≡◌, ◌⊎◌, ℕ, ◌^◌, ◌-◌, ◌<◌, ◌≤◌, Result, IsErr}
+use Rattle.std.specs.Prelude.{◌≡◌, ◌⊎◌, ℕ, ◌+◌, ◌^◌, ◌-◌, ◌<◌, ◌≤◌, min, Result, IsErr}
+
+-- a count after one more, which stays at its last value
+abbrev pub one_more : ℕ → ℕ
+one_more n = min (n + 1) (2 ^ 64 - 1)
 
 -- the count rose, or stands at the last value that it has
 abbrev pub Rose : ℕ → ℕ → Type 0

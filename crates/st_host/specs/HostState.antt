@@ -1,5 +1,6 @@
 -- A host in memory as contracts see it, and when its calls fail.
-use Rattle.std.specs.Prelude.{◌≡◌, ◌⊎◌, ◌↔◌, ℕ, ◌+◌, ◌-◌, ◌^◌, ◌<◌, min, List, [], ◌∷◌, length, Contains, Result, IsErr, OnOk, OnErr}
+use Rattle.std.specs.Prelude.{◌≡◌, ◌⊎◌, ◌↔◌, ℕ, ◌-◌, ◌<◌, List, [], ◌∷◌, length, Contains, Result, IsErr, OnOk, OnErr}
+use Rattle.st_host.specs.Counts.{one_more}
 use Rattle.st_host.specs.Deeds.{Deed, Put, Said}
 
 pub record HostState : Type 0 where
@@ -18,10 +19,6 @@ pub record HostState : Type 0 where
 -- a new host: no files, nothing said, no call made
 abbrev pub fresh : HostState
 fresh = record { deeds = []; calls = 0; failing = []; bytes_left = 0; calls_left = 0; disk_faults = 0; say_faults = 0 }
-
--- a count after one more, which stays at its last value
-abbrev pub one_more : ℕ → ℕ
-one_more n = min (n + 1) (2 ^ 64 - 1)
 
 -- after a call that fails or only reads, but for the faults
 abbrev pub counted : HostState → HostState

@@ -95,6 +95,7 @@ impl MemHost {
     }
 
     /// Puts a file there, in the place of one of the same name. It counts as synced, and takes no room.
+    #[tactic(auto, using(crate::proofs::Appending::put_newest))]
     pub fn put(&mut self, _alloc: Global, name: &str, bytes: &[u8]) -> Result<(), AllocError>
         ensures ok { OnOk result (self.new ≡ with_file name.now bytes.now self.old) }
         ensures err { OnErr result (self.new ≡ self.old) }
@@ -155,6 +156,7 @@ impl MemHost {
     }
 
     // Says bytes for which there is room.
+    #[tactic(auto, using(crate::proofs::Appending::said_newest))]
     fn add_said(&mut self, bytes: &[u8])
         requires calls { 0 < self.old.calls_left }
         requires bytes { length bytes.now ≤ self.old.bytes_left }
