@@ -19,3 +19,6 @@ pub use reads::{file_length, read_from};
 pub use says::say_all;
 pub use source::{ReadFault, Source};
 pub use stdin::StdinSource;
+
+#[cfg(test)]
+mod tests;
