@@ -1,0 +1,174 @@
+-- Runs of calls that follow each other are one run.
+use Rattle.std.proofs.Common.{◌≡◌, ◌≢◌, ◌⊎◌, ◌≤◌, inl, inr, ⊎_elim, ℕ, List, [], ◌++◌, length, take, Bool, true, false, bytes_eq, Option, IsTrue, refl, sym, subst, ap, ◌∙◌, arith, append_assoc, length-append, length-take, true≢false}
+use Rattle.std.proofs.lemmas.List.{append-nil, take-append-le}
+use Rattle.std.proofs.lemmas.Slice.Eq.{bytes_eq-Decides}
+use Rattle.std.proofs.Math.Seq.{take-append_seam}
+use Rattle.std.specs.Io.{StartsWith}
+use Rattle.st_host.specs.Counts.{Rose}
+use Rattle.st_host.specs.Files.{Files}
+use Rattle.st_host.specs.Stops.{SameStops, Here, SaidPart, WhileSaying}
+use Rattle.st_host.specs.Runs.{LeavesOnly, ReadsAlike, OnlyReads, SaysAll, ReadsAndSays}
+use Rattle.st_host.specs.declared.host.Host.{Ghosts}
+use Rattle.st_host.proofs.Rising.{rose_first, rose_second}
+
+-- two names are one or they aren't
+same_or_other : (a b : List ℕ) → (a ≡ b) ⊎ (a ≢ b)
+same_or_other a b = by_test (bytes_eq a b) refl
+  where
+    by_test : (t : Bool) → bytes_eq a b ≡ t → (a ≡ b) ⊎ (a ≢ b)
+    by_test true e = inl ((bytes_eq-Decides a b).0 e)
+    by_test false e = inr (λ same. true≢false (sym ((bytes_eq-Decides a b).1 same) ∙ e))
+
+begins_more : (text more now : List ℕ) → StartsWith text now → StartsWith (text ++ more) now
+begins_more text more now begins =
+    let short : length now ≤ length text = omega (arith, length-take (length now) text, ap length begins) in
+    take-append-le (length now) text more short ∙ begins
+
+stops_join : (a b c : List ℕ → Option (List ℕ) → Type 0) → SameStops a b → SameStops b c → SameStops a c
+stops_join a b c first second = record {
+  fewer = λ n x can. first.fewer n x (second.fewer n x can);
+  more = λ n x could. second.more n x (first.more n x could);
+}
+
+-- the beginning of a text is one of a longer text
+part_more : (before a b now : List ℕ) → SaidPart before a now → SaidPart before (a ++ b) now
+part_more before a b now part = record {
+  least = part.least;
+  begins = ap (take (length now)) (sym (append_assoc before a b)) ∙ begins_more (before ++ a) b now part.begins;
+}
+
+-- what follows a text that was said whole follows in the joined text
+part_after : (before mid a b now : List ℕ) → mid ≡ before ++ a → SaidPart mid b now → SaidPart before (a ++ b) now
+part_after before mid a b now all part = record {
+  least = omega (arith, part.least, ap length all, length-append before a);
+  begins = ap (take (length now)) (sym (append_assoc before a b) ∙ ap (λ x. x ++ b) (sym all)) ∙ part.begins;
+}
+
+part_none : (before bytes now : List ℕ) → now ≡ before → SaidPart before bytes now
+part_none before bytes now same = record {
+  least = omega (arith, ap length same);
+  begins = ap (λ n. take n (before ++ bytes)) (ap length same) ∙ take-append_seam before bytes ∙ sym same;
+}
+
+part_of : (before bytes mid now : List ℕ) → now ≡ mid → SaidPart before bytes mid → SaidPart before bytes now
+part_of before bytes mid now same part = subst (SaidPart before bytes) (sym same) part
+
+module _ {D : Type 0} (host : Ghosts D) where
+  weaker : (old new : D) (P Q : Files → List ℕ → Type 0) → LeavesOnly host old new Q → ((f : Files) (s : List ℕ) → Q f s → P f s) → LeavesOnly host old new P
+  weaker old new P Q run holds = record {
+    later = run.later;
+    each = λ f s left. holds f s (run.each f s left);
+    before = λ t f s le left. ⊎_elim (λ was. inl was) (λ now. inr (holds f s now)) (run.before t f s le left);
+  }
+
+  -- one run more
+  moments_join : (old mid new : D) (P Q : Files → List ℕ → Type 0) → LeavesOnly host old mid P → LeavesOnly host mid new Q
+      → ((f : Files) (s : List ℕ) → Q f s → P f s) → LeavesOnly host old new P
+  moments_join old mid new P Q first second holds = record {
+    later = omega (arith, first.later, second.later);
+    each = λ f s left. ⊎_elim (first.each f s) (holds f s) (second.before (host.moment old) f s first.later left);
+    before = λ t f s le left. ⊎_elim (first.before t f s le) (λ now. inr (holds f s now)) (second.before t f s (omega (arith, le, first.later)) left);
+  }
+
+  -- one run more that says, after all of its bytes were said
+  while_join : (a b : List ℕ) (old mid new : D) → SameStops (host.may_leave old) (host.may_leave mid) → host.said mid ≡ host.said old ++ a
+      → LeavesOnly host old mid (WhileSaying (host.may_leave old) (host.said old) a) → LeavesOnly host mid new (WhileSaying (host.may_leave mid) (host.said mid) b)
+      → LeavesOnly host old new (WhileSaying (host.may_leave old) (host.said old) (a ++ b))
+  while_join a b old mid new stops all first second =
+      moments_join old mid new (WhileSaying (host.may_leave old) (host.said old) (a ++ b)) (WhileSaying (host.may_leave mid) (host.said mid) b)
+      (weaker old mid (WhileSaying (host.may_leave old) (host.said old) (a ++ b)) (WhileSaying (host.may_leave old) (host.said old) a)
+      first (λ f s now. (now.0, part_more (host.said old) a b s now.1)))
+      second
+      (λ f s now. (λ n. stops.fewer n (f n) (now.0 n), part_after (host.said old) (host.said mid) a b s all now.1))
+
+  pub alike_join : (old mid new : D) → ReadsAlike host old mid → ReadsAlike host mid new → ReadsAlike host old new
+  alike_join old mid new first second = record { same = λ told n. second.same told n ∙ first.same told n }
+
+  alike_unless : (old mid new : D) → host.disk_faults old ≤ host.disk_faults mid → host.disk_faults mid ≤ host.disk_faults new
+      → ((Rose (host.disk_faults old) (host.disk_faults mid) → ⊥) → ReadsAlike host old mid)
+      → ((Rose (host.disk_faults mid) (host.disk_faults new) → ⊥) → ReadsAlike host mid new)
+      → (Rose (host.disk_faults old) (host.disk_faults new) → ⊥) → ReadsAlike host old new
+  alike_unless old mid new low high first second calm = alike_join old mid new
+      (first (λ rose. calm (rose_first (host.disk_faults old) (host.disk_faults mid) (host.disk_faults new) low high rose)))
+      (second (λ rose. calm (rose_second (host.disk_faults old) (host.disk_faults mid) (host.disk_faults new) low rose)))
+
+  -- every file reads alike where that of the call does
+  pub alike_once : (name : List ℕ) (old new : D) → (IsTrue host.is_told → host.files new name ≡ host.files old name)
+      → (IsTrue host.is_told → (n : List ℕ) → n ≢ name → host.files new n ≡ host.files old n) → ReadsAlike host old new
+  alike_once name old new own others = record {
+    same = λ told n. ⊎_elim (λ same. subst (λ x. host.files new x ≡ host.files old x) (sym same) (own told)) (λ other. others told n other) (same_or_other n name);
+  }
+
+  -- one run more
+  pub reads_join : (old mid new : D) → OnlyReads host old mid → OnlyReads host mid new → OnlyReads host old new
+  reads_join old mid new first second = record {
+    disk = omega (arith, first.disk, second.disk);
+    say = second.say ∙ first.say;
+    alike = alike_unless old mid new first.disk second.disk first.alike second.alike;
+    quiet = λ told. second.quiet told ∙ first.quiet told;
+    stops = λ told. stops_join (host.may_leave old) (host.may_leave mid) (host.may_leave new) (first.stops told) (second.stops told);
+    moments = λ told. moments_join old mid new (Here (host.may_leave old) (host.said old)) (Here (host.may_leave mid) (host.said mid))
+        (first.moments told) (second.moments told) (λ f s here. (λ n. (first.stops told).fewer n (f n) (here.0 n), here.1 ∙ first.quiet told));
+  }
+
+  -- two texts, each said whole, are one
+  pub all_join : (a b : List ℕ) (old mid new : D) → SaysAll host a old mid → SaysAll host b mid new → SaysAll host (a ++ b) old new
+  all_join a b old mid new first second = record {
+    is = λ told. second.is told ∙ ap (λ x. x ++ b) (first.is told) ∙ append_assoc (host.said old) a b;
+  }
+
+  -- A run that only reads has begun to say any text.
+  pub reads_begin : (bytes : List ℕ) (old new : D) → OnlyReads host old new → ReadsAndSays host bytes old new
+  reads_begin bytes old new run = record {
+    disk = run.disk;
+    say = omega (arith, run.say);
+    alike = run.alike;
+    part = λ told. part_none (host.said old) bytes (host.said new) (run.quiet told);
+    stops = run.stops;
+    moments = λ told. weaker old new (WhileSaying (host.may_leave old) (host.said old) bytes) (Here (host.may_leave old) (host.said old))
+        (run.moments told) (λ f s here. (here.0, part_none (host.said old) bytes s here.1));
+  }
+
+  -- Nothing was said by a run that only reads.
+  pub reads_all : (old new : D) → OnlyReads host old new → SaysAll host [] old new
+  reads_all old new run = record { is = λ told. run.quiet told ∙ sym (append-nil (host.said old)) }
+
+  -- Where some of a text was said, a longer text was begun.
+  pub says_more : (a b : List ℕ) (old new : D) → ReadsAndSays host a old new → ReadsAndSays host (a ++ b) old new
+  says_more a b old new run = record {
+    disk = run.disk;
+    say = run.say;
+    alike = run.alike;
+    part = λ told. part_more (host.said old) a b (host.said new) (run.part told);
+    stops = run.stops;
+    moments = λ told. weaker old new (WhileSaying (host.may_leave old) (host.said old) (a ++ b)) (WhileSaying (host.may_leave old) (host.said old) a)
+        (run.moments told) (λ f s now. (now.0, part_more (host.said old) a b s now.1));
+  }
+
+  -- one run more, after one that said all of its bytes
+  pub says_join : (a b : List ℕ) (old mid new : D) → ReadsAndSays host a old mid → SaysAll host a old mid → ReadsAndSays host b mid new → ReadsAndSays host (a ++ b) old new
+  says_join a b old mid new first all second = record {
+    disk = omega (arith, first.disk, second.disk);
+    say = omega (arith, first.say, second.say);
+    alike = alike_unless old mid new first.disk second.disk first.alike second.alike;
+    part = λ told. part_after (host.said old) (host.said mid) a b (host.said new) (all.is told) (second.part told);
+    stops = λ told. stops_join (host.may_leave old) (host.may_leave mid) (host.may_leave new) (first.stops told) (second.stops told);
+    moments = λ told. while_join a b old mid new (first.stops told) (all.is told) (first.moments told) (second.moments told);
+  }
+
+  -- a run that only reads, and then one that says
+  pub reads_first : (bytes : List ℕ) (old mid new : D) → OnlyReads host old mid → ReadsAndSays host bytes mid new → ReadsAndSays host bytes old new
+  reads_first bytes old mid new first second = says_join [] bytes old mid new (reads_begin [] old mid first) (reads_all old mid first) second
+
+  -- a run that says, and then one that only reads
+  pub reads_last : (bytes : List ℕ) (old mid new : D) → ReadsAndSays host bytes old mid → OnlyReads host mid new → ReadsAndSays host bytes old new
+  reads_last bytes old mid new first second = record {
+    disk = omega (arith, first.disk, second.disk);
+    say = omega (arith, first.say, second.say);
+    alike = alike_unless old mid new first.disk second.disk first.alike second.alike;
+    part = λ told. part_of (host.said old) bytes (host.said mid) (host.said new) (second.quiet told) (first.part told);
+    stops = λ told. stops_join (host.may_leave old) (host.may_leave mid) (host.may_leave new) (first.stops told) (second.stops told);
+    moments = λ told. moments_join old mid new (WhileSaying (host.may_leave old) (host.said old) bytes) (Here (host.may_leave mid) (host.said mid))
+        (first.moments told) (second.moments told)
+        (λ f s here. (λ n. (first.stops told).fewer n (f n) (here.0 n), part_of (host.said old) bytes (host.said mid) s here.1 (first.part told)));
+  }

@@ -1,0 +1,65 @@
+-- A host in memory as contracts see it, and when its calls fail.
+use Rattle.std.specs.Prelude.{◌≡◌, ◌⊎◌, ◌↔◌, ℕ, ◌-◌, ◌<◌, List, [], ◌∷◌, length, Contains, Result, IsErr, OnOk, OnErr}
+use Rattle.st_host.specs.Counts.{one_more}
+use Rattle.st_host.specs.Deeds.{Deed, Put, Said}
+
+pub record HostState : Type 0 where
+  -- what was done, the newest first
+  pub deeds : List Deed
+  -- how many calls of a host's methods were made
+  pub calls : ℕ
+  -- the numbers of the calls that fail
+  pub failing : List ℕ
+  -- the room that is left: for so many bytes, in so many calls
+  pub bytes_left : ℕ
+  pub calls_left : ℕ
+  pub disk_faults : ℕ
+  pub say_faults : ℕ
+
+-- a new host: no files, nothing said, no call made
+abbrev pub fresh : HostState
+fresh = record { deeds = []; calls = 0; failing = []; bytes_left = 0; calls_left = 0; disk_faults = 0; say_faults = 0 }
+
+-- after a call that fails or only reads, but for the faults
+abbrev pub counted : HostState → HostState
+counted host = record host { calls = one_more host.calls }
+
+-- The next call fails by its number. Calls are counted from 1.
+abbrev pub IsNextFailing : HostState → Type 0
+IsNextFailing host = Contains host.failing (one_more host.calls)
+
+-- a call that takes so many bytes passes the room
+abbrev pub PassesRoom : HostState → ℕ → Type 0
+PassesRoom host bytes = (host.calls_left ≡ 0) ⊎ (host.bytes_left < bytes)
+
+-- after a call on a file that failed
+abbrev pub disk_failed : HostState → HostState
+disk_failed host = record (counted host) { disk_faults = one_more host.disk_faults }
+
+-- after a `say` that failed
+abbrev pub say_failed : HostState → HostState
+say_failed host = record (counted host) { say_faults = one_more host.say_faults }
+
+-- with a file of this name put there, in the place of one of the same name
+abbrev pub with_file : List ℕ → List ℕ → HostState → HostState
+with_file name bytes host = record host { deeds = Put name bytes ∷ host.deeds }
+
+-- with these bytes said, which take room
+abbrev pub with_said : List ℕ → HostState → HostState
+with_said bytes host = record host {
+  deeds = Said bytes ∷ host.deeds;
+  bytes_left = host.bytes_left - length bytes;
+  calls_left = host.calls_left - 1;
+}
+
+-- A call that only reads takes no room, and fails just where its number is one of those that fail.
+pub record ReadsOrFails {T E : Type 0} (old new : HostState) (result : Result T E) : Type 0 where
+  pub fails : IsErr result ↔ IsNextFailing old
+  pub ok : OnOk result (new ≡ counted old)
+  pub err : OnErr result (new ≡ disk_failed old)
+
+-- A `say` fails just where its number is one of those that fail, or it passes the room. Then it says nothing.
+pub record SaysOrFails {T E : Type 0} (bytes : List ℕ) (old new : HostState) (result : Result T E) : Type 0 where
+  pub fails : IsErr result ↔ (IsNextFailing old ⊎ PassesRoom old (length bytes))
+  pub ok : OnOk result (new ≡ with_said bytes (counted old))
+  pub err : OnErr result (new ≡ say_failed old)

@@ -1,0 +1,117 @@
+// The host of the real program. It tells nothing of what files and output hold.
+ghost use Rattle.std.specs.Prelude.{false, None, [], ◌≤◌, length, IfOk};
+ghost use Rattle.st_host.specs.Untold.{untold};
+
+use crate::{Host, HostFault, SayFault};
+use std::fs::{OpenFile, OpenOptions};
+use std::io::{self, ErrorKind, Read, Seek, SeekFrom};
+use std::rt::Files;
+
+/// Files of the current folder by their names, and standard output.
+///
+/// Each count stays at its last value.
+#[derive(Drop)]
+pub struct DirHost<R: Files + Print + Drop> {
+    rt: R,
+    disk_faults: u64,
+    say_faults: u64,
+}
+
+impl<R: Files + Print + Drop> DirHost<R> {
+    /// A host over this runtime, of which no call has failed.
+    pub fn new(rt: R) -> DirHost<R> {
+        DirHost {
+            rt,
+            disk_faults: 0,
+            say_faults: 0,
+        }
+    }
+
+    // None where there is no such file.
+    fn open(&self, name: &str) -> io::Result<Option<R::File>> {
+        match OpenOptions::new().read(true).open(&self.rt, name) {
+            Ok(file) => Ok(Some(file)),
+            Err(error) => {
+                if error.kind() == ErrorKind::NotFound {
+                    Ok(None)
+                } else {
+                    Err(error)
+                }
+            }
+        }
+    }
+
+    fn file_length(&self, name: &str) -> io::Result<Option<u64>> {
+        match self.open(name)? {
+            Some(file) => Ok(Some(file.metadata()?.len())),
+            None => Ok(None),
+        }
+    }
+
+    fn read(&self, name: &str, at: u64, into: &mut [u8]) -> io::Result<usize>
+        ensures { IfOk result (λ k. k ≤ length into.old) }
+    {
+        match self.open(name)? {
+            Some(mut file) => {
+                file.seek(SeekFrom::Start(at))?;
+                let count = file.read(into)?;
+                Ok(count)
+            }
+            None => Ok(0),
+        }
+    }
+}
+
+impl<R: Files + Print + Drop> Host for DirHost<R> {
+    ghost is_told = { false };
+
+    ghost files = { λ _ _. None };
+
+    ghost may_leave = { λ _ _ _. ⊥ };
+
+    ghost said = { λ _. [] };
+
+    ghost moment = { λ _. 0 };
+
+    ghost left_since = { λ _ _ _ _. ⊥ };
+
+    ghost disk_faults = { λ h. h.disk_faults };
+
+    ghost say_faults = { λ h. h.say_faults };
+
+    ghost read_counts = { λ _ _ told. untold told };
+
+    ghost counts_now = { λ _ _ _ _ told _ _. untold told };
+
+    ghost only_now = { λ _ _ _ told _. untold told };
+
+    fn length(&mut self, name: &str) -> Result<Option<u64>, HostFault> {
+        match self.file_length(name) {
+            Ok(length) => Ok(length),
+            Err(_) => {
+                self.disk_faults = self.disk_faults.saturating_add(1);
+                Err(HostFault)
+            }
+        }
+    }
+
+    fn read_at(&mut self, name: &str, at: u64, into: &mut [u8]) -> Result<usize, HostFault> {
+        match self.read(name, at, into) {
+            Ok(count) => Ok(count),
+            Err(_) => {
+                self.disk_faults = self.disk_faults.saturating_add(1);
+                Err(HostFault)
+            }
+        }
+    }
+
+    fn say(&mut self, bytes: &[u8]) -> Result<(), SayFault> {
+        match self.rt.write_all(bytes) {
+            Ok(()) => Ok(()),
+            Err(_) => {
+                self.say_faults = self.say_faults.saturating_add(1);
+                Err(SayFault)
+            }
+        }
+    }
+}

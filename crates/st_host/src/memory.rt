@@ -1,0 +1,232 @@
+// A host in memory. It keeps each deed, so that a stop may leave all that the contract of a host allows.
+ghost use Rattle.std.specs.Prelude.{◌≡◌, ◌⊎◌, ◌↔◌, ◌++◌, ◌∷◌, [], ◌+◌, ◌-◌, ◌<◌, ◌≤◌, ℕ, List, length, reverse, IsTrue, true, IfOk, OnOk, OnErr, IsErr, Option, Some, vec_len, vec_capacity};
+ghost use Rattle.st_host.specs.Counts.{HasCause};
+ghost use Rattle.st_host.specs.Files.{length_of, bytes_of, IsRead};
+
+use crate::log::{Entry, append_file, content, copy};
+use crate::{Host, HostFault, SayFault};
+use std::alloc::{AllocError, Global};
+use std::marker::Model;
+
+/// A host in memory, whose calls fail where it is told to.
+///
+/// Calls of a host's methods are counted from 1 over all methods. A call fails exactly where [`MemHost::fail`]
+/// names its number, or where it passes the room that [`MemHost::room_for`] made. A call that fails changes
+/// nothing but the counts. No call of a host's methods takes memory.
+#[derive(Drop)]
+pub struct MemHost {
+    log: Vec<Entry>,
+    arena: Vec<u8>,
+    said: Vec<u8>,
+    failing: Vec<u64>,
+    calls: u64,
+    bytes_left: u64,
+    calls_left: u64,
+    disk_faults: u64,
+    say_faults: u64,
+}
+
+impl Model for MemHost {
+    ghost use Rattle.std.specs.Prelude.{reverse};
+    ghost use Rattle.st_host.specs.HostState.{HostState};
+    ghost use Rattle.st_host.specs.Log.{deeds_of, IsWhole};
+
+    ghost Value = { HostState };
+
+    ghost view = { λ m. record {
+      deeds = reverse (deeds_of m.log.items m.arena.items m.said.items);
+      calls = m.calls;
+      failing = m.failing.items;
+      bytes_left = m.bytes_left;
+      calls_left = m.calls_left;
+      disk_faults = m.disk_faults;
+      say_faults = m.say_faults;
+    } };
+
+    ghost invariant = { λ m. IsWhole m.log m.arena m.said m.bytes_left m.calls_left };
+}
+
+impl MemHost {
+    ghost use Rattle.st_host.specs.HostState.{fresh, counted, with_file, with_said, IsNextFailing, PassesRoom, ReadsOrFails};
+    ghost use Rattle.st_host.specs.Deeds.{said_after, files_after};
+    ghost use Rattle.std.specs.Option.{option_copied};
+
+    /// A host without files, of which no call was made. It has room for nothing.
+    pub fn new(alloc: Global) -> Result<MemHost, AllocError>
+        ensures { IfOk result (λ host. host ≡ fresh) }
+    {
+        Ok(MemHost {
+            log: Vec::new(alloc),
+            arena: Vec::new(alloc),
+            said: Vec::new(alloc),
+            failing: Vec::new(alloc),
+            calls: 0,
+            bytes_left: 0,
+            calls_left: 0,
+            disk_faults: 0,
+            say_faults: 0,
+        })
+    }
+
+    /// Makes the calls of these numbers fail, besides those that were named before.
+    pub fn fail(&mut self, _alloc: Global, calls: &[u64]) -> Result<(), AllocError>
+        ensures ok { OnOk result (self.new ≡ record self.old { failing = self.old.failing ++ calls.now }) }
+        ensures err { OnErr result (self.new ≡ self.old) }
+    {
+        self.failing.extend_from_slice(calls)
+    }
+
+    /// Makes room for so many more bytes, and for so many more calls that change something. Only such a call takes
+    /// room: a `say` one call and its bytes.
+    pub fn room_for(&mut self, _alloc: Global, bytes: u64, calls: u64) -> Result<(), AllocError>
+        ensures ok { OnOk result (self.new ≡ record self.old {
+          bytes_left = self.old.bytes_left + bytes;
+          calls_left = self.old.calls_left + calls;
+        }) }
+        ensures err { OnErr result (self.new ≡ self.old) }
+    {
+        let bytes_left = self.bytes_left.checked_add(bytes).ok_or(AllocError)?;
+        let calls_left = self.calls_left.checked_add(calls).ok_or(AllocError)?;
+        self.said.reserve(bytes_left as usize)?;
+        self.log.reserve(calls_left as usize)?;
+        self.bytes_left = bytes_left;
+        self.calls_left = calls_left;
+        Ok(())
+    }
+
+    /// Puts a file there, in the place of one of the same name. It counts as synced, and takes no room.
+    #[tactic(auto, using(crate::proofs::Appending::put_newest))]
+    pub fn put(&mut self, _alloc: Global, name: &str, bytes: &[u8]) -> Result<(), AllocError>
+        ensures ok { OnOk result (self.new ≡ with_file name.now bytes.now self.old) }
+        ensures err { OnErr result (self.new ≡ self.old) }
+    {
+        append_file(
+            &mut self.log,
+            &mut self.arena,
+            self.calls_left,
+            name.as_bytes(),
+            bytes,
+        )?;
+        Ok(())
+    }
+
+    /// The bytes said.
+    pub fn said(&self) -> &[u8]
+        ensures { result.now ≡ said_after self.now.deeds }
+    {
+        &self.said
+    }
+
+    // What a file reads as.
+    #[tactic(auto, using(crate::proofs::Walking::files_after_walk))]
+    fn content(&self, name: &str) -> Option<&[u8]>
+        ensures { option_copied result ≡ files_after self.now.deeds name.now }
+    {
+        content(&self.log, &self.arena, name.as_bytes())
+    }
+
+    // Counts a call, and says whether it is one of those that fail.
+    fn count_call(&mut self) -> bool
+        ensures failing { IsTrue result ↔ IsNextFailing self.old }
+        ensures counted { self.new ≡ counted self.old }
+    {
+        self.calls = self.calls.saturating_add(1);
+        self.failing.contains(&self.calls)
+    }
+
+    // Begins a call that only reads.
+    fn begin_read(&mut self) -> Result<(), HostFault>
+        ensures exactly { ReadsOrFails self.old self.new result }
+        ensures cause { HasCause self.old.disk_faults self.new.disk_faults result }
+    {
+        if self.count_call() {
+            self.disk_faults = self.disk_faults.saturating_add(1);
+            return Err(HostFault);
+        }
+        Ok(())
+    }
+
+    // Begins a call that takes so many bytes of the room, and says whether it fails.
+    fn begin_deed(&mut self, bytes: usize) -> bool
+        ensures fails { IsTrue result ↔ (IsNextFailing self.old ⊎ PassesRoom self.old bytes) }
+        ensures counted { self.new ≡ counted self.old }
+    {
+        let failing = self.count_call();
+        failing || self.calls_left == 0 || self.bytes_left < bytes as u64
+    }
+
+    // Says bytes for which there is room.
+    #[tactic(auto, using(crate::proofs::Appending::said_newest))]
+    fn add_said(&mut self, bytes: &[u8])
+        requires calls { 0 < self.old.calls_left }
+        requires bytes { length bytes.now ≤ self.old.bytes_left }
+        ensures { self.new ≡ with_said bytes.now self.old }
+    {
+        self.said.extend_from_slice(bytes).unwrap();
+        self.log.push_reserved(Entry::Said { bytes: bytes.len() });
+        self.bytes_left -= bytes.len() as u64;
+        self.calls_left -= 1;
+    }
+}
+
+impl Host for MemHost {
+    ghost use Rattle.st_host.specs.HostState.{ReadsOrFails, SaysOrFails};
+    ghost use Rattle.st_host.specs.Deeds.{files_after, MayLeave, said_after, LeftSince};
+    ghost use Rattle.st_host.specs.MemHost.{reads_now, now_counts, now_only};
+
+    ghost is_told = { true };
+
+    ghost files = { λ h. files_after h.deeds };
+
+    ghost may_leave = { λ h. MayLeave h.deeds };
+
+    ghost said = { λ h. said_after h.deeds };
+
+    ghost moment = { λ h. length h.deeds };
+
+    ghost left_since = { λ h t. LeftSince t h.deeds };
+
+    ghost disk_faults = { λ h. h.disk_faults };
+
+    ghost say_faults = { λ h. h.say_faults };
+
+    ghost read_counts = { λ h n told. reads_now h.deeds n };
+
+    ghost counts_now = { λ h t f s told le here. now_counts h.deeds t f s here };
+
+    ghost only_now = { λ h f s told left. now_only h.deeds f s left };
+
+    fn length(&mut self, name: &str) -> Result<Option<u64>, HostFault>
+        ensures length { IfOk result (λ l. l ≡ length_of (files_after self.old.deeds name.now)) }
+        ensures exactly { ReadsOrFails self.old self.new result }
+        ensures cause { HasCause self.old.disk_faults self.new.disk_faults result }
+    {
+        self.begin_read()?;
+        Ok(self.content(name).map(|bytes| bytes.len() as u64))
+    }
+
+    fn read_at(&mut self, name: &str, at: u64, into: &mut [u8]) -> Result<usize, HostFault>
+        ensures read { IfOk result (λ k. IsRead (bytes_of (files_after self.old.deeds name.now)) at k into.new) }
+        ensures within { IfOk result (λ k. k ≤ length into.old) }
+        ensures exactly { ReadsOrFails self.old self.new result }
+        ensures cause { HasCause self.old.disk_faults self.new.disk_faults result }
+    {
+        self.begin_read()?;
+        match self.content(name) {
+            Some(bytes) => Ok(copy(bytes, at, into)),
+            None => Ok(0),
+        }
+    }
+
+    fn say(&mut self, bytes: &[u8]) -> Result<(), SayFault>
+        ensures exactly { SaysOrFails bytes.now self.old self.new result }
+        ensures cause { HasCause self.old.say_faults self.new.say_faults result }
+    {
+        if self.begin_deed(bytes.len()) {
+            self.say_faults = self.say_faults.saturating_add(1);
+            return Err(SayFault);
+        }
+        self.add_said(bytes);
+        Ok(())
+    }
+}
