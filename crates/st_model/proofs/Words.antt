@@ -1,7 +1,9 @@
 -- Words and their values.
-use Rattle.std.proofs.Common.{◌≡◌, ◌<◌, ◌≤◌, ℕ, Bool, true, false, refl, ◌%◌, arith}
+use Rattle.std.proofs.Common.{◌≡◌, ◌<◌, ◌≤◌, ℕ, Bool, true, false, refl, sym, ap, ◌∙◌, ◌*◌, ◌++◌, ◌%◌, arith}
 use Rattle.std.proofs.lemmas.Bool.Decides.{nat_tests}
-use Rattle.std.specs.Prelude.{if◌then◌else◌, ◌==◌, ◌/◌, ◌-◌, nat_lt, pos, negsuc}
+use Rattle.std.specs.Prelude.{if◌then◌else◌, ◌==◌, ◌/◌, ◌-◌, nat_lt, pos, negsuc, codes}
+use Rattle.std.specs.Fmt.{decimal, signed_decimal}
+use Rattle.st_model.specs.Text.{value_text}
 use Rattle.st_model.specs.Values.{Value, Small, Ref, value_of, is_small, integer, integer_of}
 use Rattle.st_model.specs.Objects.{place_of, NilObject, FalseObject, TrueObject, SchedulerAssociation}
 use Rattle.st_model.specs.Formed.{literals_of}
@@ -58,3 +60,27 @@ unfolding value_of
 value_of-scheduler = refl
 
 pub ruleset pages = (value_of-nil, value_of-false, value_of-true, value_of-scheduler)
+
+text_if : (b : Bool) (n m : ℕ) → b ≡ false → value_text (if b then Small n else Ref m) ≡ codes "@" ++ decimal (2 * m)
+text_if true n m e = cc
+text_if false n m e = refl
+
+small_of : (b : Bool) (n m : ℕ) → is_small (if b then Small n else Ref m) ≡ b
+small_of true n m = refl
+small_of false n m = refl
+
+pub value_text-pointer : (w : ℕ) → is_small (value_of w) ≡ false → value_text (value_of w) ≡ codes "@" ++ decimal w
+unfolding value_of
+value_text-pointer w e =
+    let b : (w % 2 == 1) ≡ false = sym (small_of (w % 2 == 1) (w / 2) (w / 2)) ∙ e in
+    let even : 2 * (w / 2) ≡ w = grind (arith, nat_tests) in
+    text_if (w % 2 == 1) (w / 2) (w / 2) b ∙ ap (λ n. codes "@" ++ decimal n) even
+
+text_small : (v : Value) → is_small v ≡ true → value_text v ≡ signed_decimal (integer_of v)
+text_small (Small n) e = refl
+text_small (Ref n) e = cc
+
+pub value_text-small : (w : ℕ) → is_small (value_of w) ≡ true → value_text (value_of w) ≡ signed_decimal (integer_of (value_of w))
+value_text-small w e = text_small (value_of w) e
+
+pub ruleset texts = (value_text-pointer, value_text-small)

@@ -1,7 +1,8 @@
 -- The text of a report: a run's end, the registers, the input state, what is held, what is used, and every object.
 -- Each line ends with LF. Pointers are written as @60, SmallIntegers as numbers.
-use Rattle.std.specs.Prelude.{codes, ℕ, ◌+◌, ◌-◌, ◌*◌, suc, List, [], ◌∷◌, ◌++◌, length, Some, None, pos, ◌+ℤ◌}
+use Rattle.std.specs.Prelude.{codes, ℕ, ◌+◌, ◌-◌, ◌*◌, suc, List, [], ◌∷◌, ◌++◌, length, Some, None, ℤ, pos, ◌+ℤ◌}
 use Rattle.std.specs.Fmt.{decimal, signed_decimal}
+use Rattle.std.specs.List.{flat_map}
 use Rattle.st_model.specs.declared.dead.Dead.{Dead}
 use Rattle.st_model.specs.declared.kind.Kind.{Kind}
 use Rattle.st_model.specs.declared.kind.Kind.TheVariants.{Pointers, Words, Bytes, Method}
@@ -22,17 +23,18 @@ value_text (Ref n) = codes "@" ++ decimal (2 * n)
 
 -- each of the values, and of the numbers, after a space
 abbrev pub values_text : List Value → List ℕ
-values_text [] = []
-values_text (v ∷ vs) = codes " " ++ (value_text v ++ values_text vs)
+values_text vs = flat_map (λ v. codes " " ++ value_text v) vs
 
 abbrev pub numbers_text : List ℕ → List ℕ
-numbers_text [] = []
-numbers_text (n ∷ ns) = codes " " ++ (decimal n ++ numbers_text ns)
+numbers_text ns = flat_map (λ n. codes " " ++ decimal n) ns
+
+-- the instruction pointer and the stack pointer of a context, and the line's end
+abbrev pub pointers_text : ℤ → ℕ → List ℕ
+pointers_text ip sp = (codes " " ++ signed_decimal ip) ++ ((codes " " ++ decimal sp) ++ codes "\n")
 
 -- the instruction and stack pointers stand as they are stored in a context
 abbrev pub registers_text : Registers → List ℕ
-registers_text r = codes "registers" ++ (values_text (r.active ∷ r.home ∷ r.method ∷ r.receiver ∷ [])
-    ++ (codes " " ++ (signed_decimal (r.ip +ℤ pos 1) ++ (codes " " ++ (decimal (r.sp - 5) ++ codes "\n")))))
+registers_text r = codes "registers" ++ (values_text (r.active ∷ r.home ∷ r.method ∷ r.receiver ∷ []) ++ pointers_text (r.ip +ℤ pos 1) (r.sp - 5))
 
 -- the words that wait, the signals that are pending, the mouse, and the two clocks
 abbrev pub input_text : World → List ℕ
@@ -59,10 +61,20 @@ colon_text Words = []
 colon_text Bytes = []
 colon_text Method = codes " :"
 
--- the object of a halved pointer: the pointer, the class, the kind, and the fields, words or bytes
+-- the pointer of an object, its class and the letter of its kind
+abbrev pub heading_text : ℕ → Value → List ℕ → List ℕ
+heading_text pointer class letter = codes "object" ++ ((codes " " ++ decimal pointer) ++ ((codes " " ++ value_text class) ++ letter))
+
+abbrev pub object_head : ℕ → Object → List ℕ
+object_head k o = heading_text (2 * k) (Ref o.class) (kind_text o.kind)
+
+-- its fields, words or bytes
+abbrev pub object_body : Object → List ℕ
+object_body o = values_text o.fields ++ (colon_text o.kind ++ (numbers_text o.units ++ codes "\n"))
+
+-- the line of the object of a halved pointer
 abbrev pub object_text : ℕ → Object → List ℕ
-object_text k o = codes "object " ++ (decimal (2 * k) ++ (values_text (Ref o.class ∷ []) ++ (kind_text o.kind
-    ++ (values_text o.fields ++ (colon_text o.kind ++ (numbers_text o.units ++ codes "\n"))))))
+object_text k o = object_head k o ++ object_body o
 
 -- the objects from a place on, by rising pointer
 abbrev pub objects_text : ℕ → Table → List ℕ

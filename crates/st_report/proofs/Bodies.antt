@@ -1,0 +1,56 @@
+-- How long the two parts of an object's body are, by its kind.
+use Rattle.std.proofs.Common.{◌≡◌, ℕ, ◌+◌, ◌*◌, ◌/◌, ◌≤◌, true, false, length, refl, sym, ap, ◌∙◌, arith, Bool}
+use Rattle.std.specs.Prelude.{Option, Some, None, is_some, unwrap_or, if◌then◌else◌, ◌%◌, ◌==◌}
+use Rattle.st_model.specs.declared.kind.Kind.{Kind}
+use Rattle.st_model.specs.declared.kind.Kind.TheVariants as kind
+use Rattle.st_model.specs.Values.{Value, Small, Ref, value_of, is_small}
+use Rattle.st_model.proofs.Words.{is_small-value_of}
+use Rattle.std.proofs.lemmas.Bool.Decides.{nat_tests}
+use Rattle.st_model.specs.Objects.{Object, holds_fields, is_pointers, is_words}
+use Rattle.st_model.specs.Table.{Table, entry}
+use Rattle.st_model.specs.Formed.{IsFormed}
+use Rattle.st_model.specs.View.{View, IsWhole, is_live, object_of, nothing}
+
+formed_entry : (e : Option Object) → ((o : Object) → e ≡ Some o → IsFormed o) → is_some e ≡ true → IsFormed (unwrap_or e nothing)
+formed_entry None all live = cc
+formed_entry (Some o) all live = all o refl
+
+formed_object : (v : View) (x : Value) → IsWhole v → is_live v.objects x ≡ true → IsFormed (object_of v.objects x)
+unfolding is_live object_of
+formed_object v (Small n) whole live = cc
+formed_object v (Ref n) whole live = formed_entry (entry v.objects n) (whole.formed n) live
+
+pub no_fields : {v : View} (x : Value) → IsWhole v → is_live v.objects x ≡ true → holds_fields (object_of v.objects x).kind ≡ false → length (object_of v.objects x).fields ≡ 0
+no_fields {v} x whole live kind = ap length ((formed_object v x whole live).fieldless kind)
+
+pub no_units : {v : View} (x : Value) → IsWhole v → is_live v.objects x ≡ true → is_pointers (object_of v.objects x).kind ≡ true → length (object_of v.objects x).units ≡ 0
+no_units {v} x whole live kind = ap length ((formed_object v x whole live).unitless kind)
+
+most_words : (b : Bool) (f u : ℕ) → (b ≡ true → f ≡ 0) → (if b then 2 + u else 2 + f + (u + 1) / 2) ≤ 65535 → 2 * f + u ≤ 131066
+most_words true f u none l = let z = none refl in omega (arith, z, l)
+most_words false f u none l = omega (arith, l)
+
+words_hold : (k : Kind) → is_words k ≡ true → holds_fields k ≡ false
+words_hold kind.Pointers e = cc
+words_hold kind.Words e = refl
+words_hold kind.Bytes e = cc
+words_hold kind.Method e = cc
+
+pub most_units : {v : View} (x : Value) → IsWhole v → is_live v.objects x ≡ true → 2 * length (object_of v.objects x).fields + length (object_of v.objects x).units ≤ 131066
+most_units {v} x whole live =
+    let o = object_of v.objects x in
+    let formed = formed_object v x whole live in
+    most_words (is_words o.kind) (length o.fields) (length o.units) (λ words. ap length (formed.fieldless (words_hold o.kind words))) formed.size
+
+live_small : (t : Table) (v : Value) → is_live t v ≡ true → is_small v ≡ false
+unfolding is_live
+live_small t (Small n) live = cc
+live_small t (Ref n) live = refl
+
+-- the pointer of an object is even
+pub even_pointer : (t : Table) (w : ℕ) → is_live t (value_of w) ≡ true → 2 * (w / 2) ≡ w
+even_pointer t w live =
+    let b : (w % 2 == 1) ≡ false = sym (is_small-value_of w) ∙ live_small t (value_of w) live in
+    grind (arith, nat_tests)
+
+pub ruleset bodies = (no_fields, no_units, most_units)

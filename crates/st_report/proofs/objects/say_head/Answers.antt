@@ -1,0 +1,24 @@
+use Rattle.std.proofs.Common.{◌≡◌, OnOk, ◌*◌, ◌/◌, ◌∙◌, sym, ap, subst, ℕ, List}
+use Rattle.st_model.specs.Values.{Value, Ref, value}
+use Rattle.st_model.specs.Text.{heading_text, object_head, kind_text}
+use Rattle.st_model.specs.View.{object_of}
+use Rattle.st_model.specs.Objects.{Object}
+use Rattle.st_host.specs.Runs.{SaysAll}
+use Rattle.st_report.specs.Saying.{Says}
+use Rattle.st_report.proofs.Bodies.{even_pointer}
+use Rattle.st_report.proofs.objects.say_head.Goals as goal
+
+heading : (w p : ℕ) (class : Value) (letter : List ℕ) (o : Object) → w ≡ p → 2 * (p / 2) ≡ p → class ≡ Ref o.class → letter ≡ kind_text o.kind → heading_text w class letter ≡ object_head (p / 2) o
+heading w p class letter o same even is_class is_letter = λ k. heading_text ((same ∙ sym even) k) (is_class k) (is_letter k)
+
+pub returns-clause-all : goal.returns-clause-all
+returns-clause-all g c =
+    let o = object_of (g.M.Memory.view c.args.m.now).objects (value c.args.o) in
+    let text = heading c.from.result c.args.o.0 (value c.class_of.result) c.kind_letter.result.now o c.from.ensures (even_pointer _ c.args.o.0 c.requires) c.class_of.ensures.class (c.kind_letter.ensures ∙ ap kind_text c.kind.ensures.kind) in
+    subst (λ (t : List ℕ). OnOk c.say_heading.result (SaysAll g.H.Host t c.args.host.now c.say_heading.new.host)) text c.say_heading.ensures.all
+
+pub returns-clause-says : goal.returns-clause-says
+returns-clause-says g c =
+    let o = object_of (g.M.Memory.view c.args.m.now).objects (value c.args.o) in
+    let text = heading c.from.result c.args.o.0 (value c.class_of.result) c.kind_letter.result.now o c.from.ensures (even_pointer _ c.args.o.0 c.requires) c.class_of.ensures.class (c.kind_letter.ensures ∙ ap kind_text c.kind.ensures.kind) in
+    subst (λ (t : List ℕ). Says g.H.Host t c.args.host.now c.say_heading.new.host) text c.say_heading.ensures.says

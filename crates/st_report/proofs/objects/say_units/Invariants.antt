@@ -1,0 +1,15 @@
+use Rattle.std.proofs.Common.{◌≤◌, take}
+use Rattle.st_host.specs.Runs.{SaysAll}
+use Rattle.st_model.specs.Values.{value}
+use Rattle.st_model.specs.View.{object_of}
+use Rattle.st_model.specs.Text.{numbers_text}
+use Rattle.st_report.specs.Saying.{Says}
+use Rattle.st_report.proofs.objects.say_units.Given as goal
+
+-- the words or bytes so far were said
+abbrev pub invariant-loop-i : goal.invariant-loop-i
+invariant-loop-i g l = record {
+  all : SaysAll g.H.Host (numbers_text (take l.i (object_of (g.M.Memory.view l.m).objects (value l.o)).units)) l.initial.host l.host;
+  says : Says g.H.Host (numbers_text (take l.i (object_of (g.M.Memory.view l.m).objects (value l.o)).units)) l.initial.host l.host;
+  count : g.H.Host.say_faults l.initial.host ≤ g.H.Host.say_faults l.host;
+}

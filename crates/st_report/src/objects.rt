@@ -1,0 +1,174 @@
+ghost use Rattle.std.specs.Prelude.{◌≡◌, ◌+◌, ◌*◌, ◌/◌, ◌≤◌, ◌++◌, codes, length, slice_get, Some, OnOk, true, false};
+ghost use Rattle.st_host.specs.Counts.{HasCause};
+ghost use Rattle.st_host.specs.Runs.{SaysAll};
+ghost use Rattle.st_model.specs.Values.{value};
+ghost use Rattle.st_model.specs.Objects.{is_pointers};
+ghost use Rattle.st_model.specs.View.{is_live, object_of};
+ghost use Rattle.st_model.specs.Text.{values_text, numbers_text, kind_text, colon_text, heading_text, object_head, object_body, object_text, objects_text};
+ghost use Rattle.st_report.specs.Saying.{Says};
+
+use crate::pieces::{say, say_number, say_value};
+use st_host::{Host, SayFault};
+use st_memory::Memory;
+use st_method::literals;
+use st_model::{Kind, Oop};
+
+#[tactic(auto, using(crate::proofs::Bodies::bodies))]
+/// How many fields an object has; of a Method header and literals.
+fn count_fields<M: Memory>(m: &M, o: Oop) -> u32
+    requires { is_live (M.view m.now).objects (value o) ≡ true }
+    ensures { result ≡ length (object_of (M.view m.now).objects (value o)).fields }
+{
+    match m.kind(o) {
+        Kind::Pointers => m.size(o),
+        Kind::Words | Kind::Bytes => 0,
+        Kind::Method => literals(m.pointer(o, 0)) + 1,
+    }
+}
+
+#[tactic(auto, using(crate::proofs::Bodies::bodies))]
+/// How many words or bytes an object has besides its fields.
+fn count_units<M: Memory>(m: &M, o: Oop, fields: u32) -> u32
+    requires live { is_live (M.view m.now).objects (value o) ≡ true }
+    requires fields { fields ≡ length (object_of (M.view m.now).objects (value o)).fields }
+    ensures { result ≡ length (object_of (M.view m.now).objects (value o)).units }
+{
+    match m.kind(o) {
+        Kind::Pointers => 0,
+        Kind::Words | Kind::Bytes | Kind::Method => m.size(o) - 2 * fields,
+    }
+}
+
+#[tactic(auto, using(crate::proofs::Bodies::bodies))]
+/// Word or byte i of an object, counted from behind its fields.
+fn unit_at<M: Memory>(m: &M, o: Oop, fields: u32, i: u32) -> u32
+    requires live { is_live (M.view m.now).objects (value o) ≡ true }
+    requires fields { fields ≡ length (object_of (M.view m.now).objects (value o)).fields }
+    requires kind { is_pointers (object_of (M.view m.now).objects (value o)).kind ≡ false }
+    requires range { i + 1 ≤ length (object_of (M.view m.now).objects (value o)).units }
+    ensures { slice_get (object_of (M.view m.now).objects (value o)).units i ≡ Some result }
+{
+    if m.kind(o).is_words() {
+        u32::from(m.word(o, i))
+    } else {
+        u32::from(m.byte(o, 2 * fields + i))
+    }
+}
+
+/// Says the fields of an object.
+fn say_fields<H: Host, M: Memory>(host: &mut H, m: &M, o: Oop, fields: u32) -> Result<(), SayFault>
+    requires live { is_live (M.view m.now).objects (value o) ≡ true }
+    requires fields { fields ≡ length (object_of (M.view m.now).objects (value o)).fields }
+    ensures all { OnOk result (SaysAll H.Host.own (values_text (object_of (M.view m.now).objects (value o)).fields) host.old host.new) }
+    ensures says { Says H.Host.own (values_text (object_of (M.view m.now).objects (value o)).fields) host.old host.new }
+    ensures cause { HasCause (H.say_faults host.old) (H.say_faults host.new) result }
+{
+    for i in 0..fields {
+        say_value(host, m.pointer(o, i))?;
+    }
+    Ok(())
+}
+
+#[tactic(auto, using(crate::proofs::Bodies::bodies))]
+/// Says the words or bytes of an object.
+fn say_units<H: Host, M: Memory>(host: &mut H, m: &M, o: Oop, fields: u32) -> Result<(), SayFault>
+    requires live { is_live (M.view m.now).objects (value o) ≡ true }
+    requires fields { fields ≡ length (object_of (M.view m.now).objects (value o)).fields }
+    ensures all { OnOk result (SaysAll H.Host.own (numbers_text (object_of (M.view m.now).objects (value o)).units) host.old host.new) }
+    ensures says { Says H.Host.own (numbers_text (object_of (M.view m.now).objects (value o)).units) host.old host.new }
+    ensures cause { HasCause (H.say_faults host.old) (H.say_faults host.new) result }
+{
+    let count = count_units(m, o, fields);
+    for i in 0..count {
+        say_number(host, unit_at(m, o, fields, i))?;
+    }
+    Ok(())
+}
+
+/// The letter of a kind, after a space.
+fn kind_letter(kind: Kind) -> &'static [u8]
+    ensures { result.now ≡ kind_text kind }
+{
+    match kind {
+        Kind::Pointers => b" p",
+        Kind::Words => b" w",
+        Kind::Bytes => b" b",
+        Kind::Method => b" m",
+    }
+}
+
+/// The colon between a Method's literals and its bytes.
+fn colon(kind: Kind) -> &'static [u8]
+    ensures { result.now ≡ colon_text kind }
+{
+    match kind {
+        Kind::Pointers | Kind::Words | Kind::Bytes => b"",
+        Kind::Method => b" :",
+    }
+}
+
+/// Says a pointer, a class and the letter of a kind.
+fn say_heading<H: Host>(
+    host: &mut H,
+    pointer: u32,
+    class: Oop,
+    letter: &[u8],
+) -> Result<(), SayFault>
+    ensures all { OnOk result (SaysAll H.Host.own (heading_text pointer (value class) letter.now) host.old host.new) }
+    ensures says { Says H.Host.own (heading_text pointer (value class) letter.now) host.old host.new }
+    ensures cause { HasCause (H.say_faults host.old) (H.say_faults host.new) result }
+{
+    say(host, b"object")?;
+    say_number(host, pointer)?;
+    say_value(host, class)?;
+    say(host, letter)
+}
+
+/// Says the pointer of an object, its class and its kind.
+fn say_head<H: Host, M: Memory>(host: &mut H, m: &M, o: Oop) -> Result<(), SayFault>
+    requires { is_live (M.view m.now).objects (value o) ≡ true }
+    ensures all { OnOk result (SaysAll H.Host.own (object_head (o.0 / 2) (object_of (M.view m.now).objects (value o))) host.old host.new) }
+    ensures says { Says H.Host.own (object_head (o.0 / 2) (object_of (M.view m.now).objects (value o))) host.old host.new }
+    ensures cause { HasCause (H.say_faults host.old) (H.say_faults host.new) result }
+{
+    say_heading(host, u32::from(o.0), m.class_of(o), kind_letter(m.kind(o)))
+}
+
+/// Says the fields of an object, its words or bytes, and the line's end.
+fn say_body<H: Host, M: Memory>(host: &mut H, m: &M, o: Oop) -> Result<(), SayFault>
+    requires { is_live (M.view m.now).objects (value o) ≡ true }
+    ensures all { OnOk result (SaysAll H.Host.own (object_body (object_of (M.view m.now).objects (value o))) host.old host.new) }
+    ensures says { Says H.Host.own (object_body (object_of (M.view m.now).objects (value o))) host.old host.new }
+    ensures cause { HasCause (H.say_faults host.old) (H.say_faults host.new) result }
+{
+    let fields = count_fields(m, o);
+    say_fields(host, m, o, fields)?;
+    say(host, colon(m.kind(o)))?;
+    say_units(host, m, o, fields)?;
+    say(host, b"\n")
+}
+
+/// Says the line of an object.
+pub fn say_object<H: Host, M: Memory>(host: &mut H, m: &M, o: Oop) -> Result<(), SayFault>
+    requires { is_live (M.view m.now).objects (value o) ≡ true }
+    ensures all { OnOk result (SaysAll H.Host.own (object_text (o.0 / 2) (object_of (M.view m.now).objects (value o))) host.old host.new) }
+    ensures says { Says H.Host.own (object_text (o.0 / 2) (object_of (M.view m.now).objects (value o))) host.old host.new }
+    ensures cause { HasCause (H.say_faults host.old) (H.say_faults host.new) result }
+{
+    say_head(host, m, o)?;
+    say_body(host, m, o)
+}
+
+/// Says the lines of all kept objects by rising pointer.
+pub fn say_objects<H: Host, M: Memory>(host: &mut H, m: &M) -> Result<(), SayFault>
+    ensures all { OnOk result (SaysAll H.Host.own (objects_text 0 (M.view m.now).objects) host.old host.new) }
+    ensures says { Says H.Host.own (objects_text 0 (M.view m.now).objects) host.old host.new }
+    ensures cause { HasCause (H.say_faults host.old) (H.say_faults host.new) result }
+{
+    let mut after = 0;
+    while let Some(o) = m.next_live(after) {
+        say_object(host, m, o)?;
+        after = u32::from(o.0);
+    }
+    Ok(())
+}
