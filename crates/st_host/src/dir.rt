@@ -1,5 +1,5 @@
 // The host of the real program. It tells nothing of what files and output hold.
-ghost use Rattle.std.specs.Prelude.{false, None, [], ◌≤◌, length, IfOk};
+ghost use Rattle.std.specs.Prelude.{◌≡◌, ◌≤◌, false, None, [], length, IfOk};
 ghost use Rattle.st_host.specs.Untold.{untold};
 
 use crate::{Host, HostFault, SayFault};
@@ -19,7 +19,10 @@ pub struct DirHost<R: Files + Print + Drop> {
 
 impl<R: Files + Print + Drop> DirHost<R> {
     /// A host over this runtime, of which no call has failed.
-    pub fn new(rt: R) -> DirHost<R> {
+    pub fn new(rt: R) -> DirHost<R>
+        ensures disk { ⟦<DirHost<R> as Host>⟧.disk_faults result ≡ 0 }
+        ensures say { ⟦<DirHost<R> as Host>⟧.say_faults result ≡ 0 }
+    {
         DirHost {
             rt,
             disk_faults: 0,

@@ -1,5 +1,5 @@
 // The source of the real program. It tells nothing of what it reads.
-ghost use Rattle.std.specs.Prelude.{false, []};
+ghost use Rattle.std.specs.Prelude.{◌≡◌, false, []};
 
 use crate::{ReadFault, Source};
 use std::io::Read;
@@ -15,7 +15,9 @@ pub struct StdinSource<R: Input> {
 
 impl<R: Input> StdinSource<R> {
     /// A source over the input of this runtime, of which no call has failed.
-    pub fn new(rt: &R) -> StdinSource<R> {
+    pub fn new(rt: &R) -> StdinSource<R>
+        ensures { ⟦<StdinSource<R> as Source>⟧.read_faults result ≡ 0 }
+    {
         StdinSource {
             reader: rt.reader(),
             read_faults: 0,
