@@ -14,3 +14,6 @@ pub mod Show
 pub mod Formed
 pub mod View
 pub mod Calls
+pub mod Image
+pub mod Start
+pub mod Faults
