@@ -1,8 +1,12 @@
 //! Reads an image file: its fault, or its objects.
 #![tactic(auto)]
 
+mod checks;
+mod error;
 mod image;
 mod lengths;
 mod numbers;
 mod objects;
 mod roots;
+
+pub use error::ReadImage;
