@@ -1,3 +1,3 @@
-pub mod Laws
+pub mod FaultOrder
 pub mod FaultRows
 pub mod Overlaps

@@ -13,7 +13,7 @@ use st_spans::first_shared;
 use std::alloc::Global;
 
 /// A file with the lengths that its head gives, or the fault of its lengths.
-#[tactic(auto, using(crate::proofs::FaultRows::fault_rows, crate::proofs::Laws::clean_rows))]
+#[tactic(auto, using(crate::proofs::FaultRows::fault_rows, crate::proofs::FaultOrder::clean_rows))]
 fn check_lengths<'a>(head: ImageHead, bytes: &'a [u8]) -> Result<Image<'a>, ImageFault>
     ensures image { IfOk result (λ image. (image.head ≡ head) × (image.bytes.now ≡ bytes.now)) }
     ensures clean { OnOk result (IsCleanBelow head bytes.now 3) }

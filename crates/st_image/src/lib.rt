@@ -3,10 +3,14 @@
 
 mod checks;
 mod error;
+mod head;
 mod image;
+mod laws;
 mod lengths;
 mod numbers;
 mod objects;
 mod roots;
 
 pub use error::ReadImage;
+pub use head::has_letters;
+pub use laws::{fault_is_determined, no_fault_is_well_formed};
