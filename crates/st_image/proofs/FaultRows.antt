@@ -1,13 +1,13 @@
 -- What the searches answer, as rows of the table of faults.
 use Rattle.std.proofs.Common.{◌≡◌, ℕ, ◌*◌, ◌/◌, ◌%◌, ◌<◌, ◌≤◌, ◌⊎◌, Bool, true, false, ◌&&◌, ◌==◌, nat_lt, List, length, get_or, arith, refl, sym, subst, ◌∙◌, inl, inr, Some, None}
 use Rattle.std.specs.Prelude.{Contains}
-use Rattle.std.proofs.lemmas.Bool.{cases_lt, both_ways, and_left, and_right, le-ltb, lt-ltb, or_left, or_parts, ltb-false}
+use Rattle.std.proofs.lemmas.Bool.{cases_lt, both_ways, and_left, and_right, le-ltb, lt-ltb, or_left, or_parts, and_parts, ltb-false, ltb-true}
 use Rattle.std.proofs.lemmas.Bool.Decides.{nat_tests}
 use Rattle.std.proofs.lemmas.List.{get_or_default}
 use Rattle.st_model.specs.declared.head.ImageHead.{ImageHead}
 use Rattle.st_model.specs.declared.fault.ImageFault.{ImageFault}
 use Rattle.st_model.specs.declared.fault.ImageFault.TheVariants.{Short, Lengths, Capacity, Size, Class, Field, Method, Root}
-use Rattle.st_model.specs.Image.{table_end, entries_of, is_used}
+use Rattle.st_model.specs.Image.{table_end, entries_of, is_used, names}
 use Rattle.st_model.specs.Faults.{Fails, At, row, Sooner, short_fails, lengths_fail, capacity_fails, size_fails, class_fails, field_fails, method_fails, root_fails, roots}
 use Rattle.st_image.specs.Sizes.{IsSized, AreInside}
 use Rattle.st_image.specs.Passes.{IsFirst, IsFirstPair, IsLeastAmong}
@@ -17,6 +17,11 @@ use Rattle.st_image.specs.Rows.{IsClean, IsFirstOf}
 pub beyond : (h : ImageHead) (bytes : List ℕ) (k : ℕ) → entries_of h ≤ k → is_used h bytes k ≡ false
 unfolding is_used
 beyond h bytes k above = and_right (nat_lt 0 k) _ (and_left (nat_lt k (entries_of h)) _ (le-ltb k (entries_of h) above))
+
+-- what a pointer names is in the table
+pub named : (h : ImageHead) (bytes : List ℕ) (p : ℕ) → names h bytes p ≡ true → p / 2 < entries_of h
+unfolding names is_used
+named h bytes p e = ltb-true _ _ (and_parts _ _ (and_parts _ _ (and_parts _ _ e).1).1).0
 
 -- tests of the entries of even pointers
 

@@ -1,3 +1,4 @@
 pub mod FaultOrder
 pub mod FaultRows
 pub mod Overlaps
+pub mod Shapes

@@ -1,3 +1,4 @@
 pub mod Sizes
 pub mod Passes
 pub mod Rows
+pub mod Loads

@@ -7,6 +7,7 @@ mod head;
 mod image;
 mod laws;
 mod lengths;
+mod loading;
 mod numbers;
 mod objects;
 mod roots;
