@@ -1,7 +1,7 @@
 -- What the searches answer, as rows of the table of faults.
 use Rattle.std.proofs.Common.{◌≡◌, ℕ, ◌*◌, ◌/◌, ◌%◌, ◌<◌, ◌≤◌, ◌⊎◌, Bool, true, false, ◌&&◌, ◌==◌, nat_lt, List, length, get_or, arith, refl, sym, subst, ◌∙◌, inl, inr, Some, None}
 use Rattle.std.specs.Prelude.{Contains}
-use Rattle.std.proofs.lemmas.Bool.{cases_lt, both_ways, and_left, and_right, le-ltb, lt-ltb, or_left, or_parts, and_parts, ltb-false, ltb-true}
+use Rattle.std.proofs.lemmas.Bool.{cases_lt, both_ways, and_left, and_right, le-ltb, lt-ltb, or_left, or_parts, and_parts, ltb-false, ltb-true, eqb-true}
 use Rattle.std.proofs.lemmas.Bool.Decides.{nat_tests}
 use Rattle.std.proofs.lemmas.List.{get_or_default}
 use Rattle.st_model.specs.declared.head.ImageHead.{ImageHead}
@@ -22,6 +22,22 @@ beyond h bytes k above = and_right (nat_lt 0 k) _ (and_left (nat_lt k (entries_o
 pub named : (h : ImageHead) (bytes : List ℕ) (p : ℕ) → names h bytes p ≡ true → p / 2 < entries_of h
 unfolding names is_used
 named h bytes p e = ltb-true _ _ (and_parts _ _ (and_parts _ _ (and_parts _ _ e).1).1).0
+
+pub named_even : (h : ImageHead) (bytes : List ℕ) (p : ℕ) → names h bytes p ≡ true → p % 2 ≡ 0
+unfolding names
+named_even h bytes p e = eqb-true _ _ (and_parts _ _ e).0
+
+pub named_used : (h : ImageHead) (bytes : List ℕ) (p : ℕ) → names h bytes p ≡ true → is_used h bytes (p / 2) ≡ true
+unfolding names
+named_used h bytes p e = (and_parts _ _ e).1
+
+pub used_above : (h : ImageHead) (bytes : List ℕ) (k : ℕ) → is_used h bytes k ≡ true → 0 < k
+unfolding is_used
+used_above h bytes k e = ltb-true _ _ (and_parts _ _ e).0
+
+pub used_below_end : (h : ImageHead) (bytes : List ℕ) (k : ℕ) → is_used h bytes k ≡ true → k < entries_of h
+unfolding is_used
+used_below_end h bytes k e = ltb-true _ _ (and_parts _ _ (and_parts _ _ e).1).0
 
 -- tests of the entries of even pointers
 

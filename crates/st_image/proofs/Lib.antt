@@ -2,3 +2,4 @@ pub mod FaultOrder
 pub mod FaultRows
 pub mod Overlaps
 pub mod Shapes
+pub mod Tables

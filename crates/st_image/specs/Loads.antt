@@ -1,16 +1,14 @@
 -- The loading of an image's objects, one after another and part by part.
 use Rattle.std.specs.Prelude.{◌≡◌, ◌≢◌, ℕ, zero, suc, ◌+◌, ◌-◌, ◌*◌, ◌/◌, ◌%◌, ◌<◌, ◌≤◌, true, List, length, Option, Some, None}
-use Rattle.st_model.specs.declared.kind.Kind.{Kind}
-use Rattle.st_model.specs.declared.kind.Kind.TheVariants as kind
 use Rattle.st_model.specs.declared.head.ImageHead.{ImageHead}
 use Rattle.st_model.specs.Values.{Value, Ref}
-use Rattle.st_model.specs.Objects.{Object, is_method, with_field, object_with_unit}
-use Rattle.st_model.specs.Table.{Table, entry}
+use Rattle.st_model.specs.Objects.{Object, is_method, one, words_of, with_field, object_with_unit}
+use Rattle.st_model.specs.Table.{Table, entry, total_used}
 use Rattle.st_model.specs.Formed.{fresh}
 use Rattle.st_model.specs.View.{View, with_object}
 use Rattle.st_model.specs.Image.{entries_of, has_pointers, is_used, size, class, body, names, literal_count}
 use Rattle.st_model.specs.Start.{kind_in, fields_in, units_in, field_in, unit_in, object_in, entry_in}
-use Rattle.st_image.specs.Sizes.{IsInside}
+use Rattle.st_image.specs.Sizes.{IsInside, size_as, literals_as}
 use Rattle.st_image.specs.declared.loading.Shape.{Shape}
 
 -- What the rows of faults leave to be known of the object of an entry in use: it lies in the object space, its class is an
@@ -28,20 +26,10 @@ pub record IsShape (h : ImageHead) (bytes : List ℕ) (k : ℕ) (shape : Shape) 
   pub kind : shape.kind ≡ kind_in h bytes k
   pub fields : shape.fields ≡ fields_in h bytes k
   pub units : shape.units ≡ units_in h bytes k
-
--- the size by which an object is placed: fields, words, or all bytes
-abbrev pub size_as : Kind → ℕ → ℕ → ℕ
-size_as kind.Pointers fields units = fields
-size_as kind.Words fields units = units
-size_as kind.Bytes fields units = units
-size_as kind.Method fields units = 2 * fields + units
-
--- the literals by which it is placed: the fields of a method but for its header
-abbrev pub literals_as : Kind → ℕ → ℕ
-literals_as kind.Pointers fields = 0
-literals_as kind.Words fields = 0
-literals_as kind.Bytes fields = 0
-literals_as kind.Method fields = fields - 1
+  pub few_words : size h bytes k < 65536
+  pub few_fields : shape.fields < 65536
+  pub few_units : shape.units < 131072
+  pub header : is_method shape.kind ≡ true → 0 < shape.fields
 
 -- the object of entry k as it is placed, before its fields and units are stored
 unfoldable pub fresh_in : ImageHead → List ℕ → ℕ → Object
@@ -86,3 +74,10 @@ with_entry t k (Some o) = with_object t (Ref k) o
 abbrev pub loaded_below : ImageHead → List ℕ → Table → ℕ → Table
 loaded_below h bytes t zero = t
 loaded_below h bytes t (suc k) = with_entry (loaded_below h bytes t k) k (entry_in h bytes k)
+
+-- there is room for the object of entry k in its place
+pub record HasRoom (h : ImageHead) (bytes : List ℕ) (v : View) (k : ℕ) : Type 0 where
+  pub places : length v.objects ≡ 32768
+  pub free : entry v.objects k ≡ None
+  pub entries : total_used one v.objects + 1 ≤ v.head.entries
+  pub words : total_used words_of v.objects + size h bytes k ≤ v.head.words

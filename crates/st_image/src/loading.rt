@@ -1,11 +1,11 @@
 ghost use Rattle.std.specs.Prelude.{◌≡◌, ℕ, ◌+◌, ◌*◌, ◌<◌, ◌≤◌, true, false, length, None};
 ghost use Rattle.st_model.specs.Values.{value, Ref};
-ghost use Rattle.st_model.specs.Objects.{is_words, words_of, one};
+ghost use Rattle.st_model.specs.Objects.{is_words, is_method, words_of, one};
 ghost use Rattle.st_model.specs.Table.{total_used, entry};
-ghost use Rattle.st_model.specs.Image.{entries_of, size};
+ghost use Rattle.st_model.specs.Image.{entries_of, is_used, size};
 ghost use Rattle.st_model.specs.Start.{is_word_class, has_words, kind_in, fields_in, units_in, units_start, object_in, entry_in, made};
 ghost use Rattle.st_image.specs.Sizes.{IsInside};
-ghost use Rattle.st_image.specs.Loads.{IsSound, IsShape, fresh_in, filled_in, IsAt, Puts};
+ghost use Rattle.st_image.specs.Loads.{IsSound, IsShape, HasRoom, fresh_in, filled_in, IsAt, Puts};
 
 use crate::head::has_letters;
 use crate::image::Image;
@@ -22,6 +22,38 @@ pub struct Shape {
     pub fields: usize,
     /// How many words or bytes it has after its fields.
     pub units: usize,
+}
+
+impl Shape {
+    ghost use Rattle.std.specs.Prelude.{◌≡◌, ◌<◌, true};
+    ghost use Rattle.st_model.specs.Objects.{is_method};
+    ghost use Rattle.st_image.specs.Sizes.{size_as, literals_as};
+
+    /// The size in fields, words or bytes; all bytes of a method.
+    fn size(&self) -> u32
+        requires fields { self.now.fields < 65536 }
+        requires units { self.now.units < 131072 }
+        ensures { result ≡ size_as self.now.kind self.now.fields self.now.units }
+    {
+        let size = match self.kind {
+            Kind::Pointers => self.fields,
+            Kind::Words | Kind::Bytes => self.units,
+            Kind::Method => 2 * self.fields + self.units,
+        };
+        size as u32
+    }
+
+    /// The number of a method's literals.
+    fn literals(&self) -> u32
+        requires fields { self.now.fields < 65536 }
+        requires header { is_method self.now.kind ≡ true → 0 < self.now.fields }
+        ensures { result ≡ literals_as self.now.kind self.now.fields }
+    {
+        match self.kind {
+            Kind::Method => self.fields as u32 - 1,
+            Kind::Pointers | Kind::Words | Kind::Bytes => 0,
+        }
+    }
 }
 
 /// The pointer of an entry.
@@ -80,32 +112,33 @@ fn kind_of(image: &Image<'_>, k: usize) -> Kind
     }
 }
 
-/// How many words of an object's body are fields.
+/// How many of the words of an object's body are fields.
 #[tactic(auto, unfolding(st_model::specs::Start::fields_in))]
-fn fields_of(image: &Image<'_>, k: usize, kind: Kind) -> usize
+fn fields_of(image: &Image<'_>, k: usize, kind: Kind, words: usize) -> usize
     requires entry { k < entries_of image.now.head }
     requires sound { IsSound image.now.head image.now.bytes.now k }
     requires kind { kind ≡ kind_in image.now.head image.now.bytes.now k }
-    ensures { result ≡ fields_in image.now.head image.now.bytes.now k }
+    requires words { words + 2 ≡ size image.now.head image.now.bytes.now k }
+    ensures fields { result ≡ fields_in image.now.head image.now.bytes.now k }
+    ensures header { is_method kind ≡ true → 0 < result }
 {
     match kind {
-        Kind::Pointers => image.size(k) - 2,
+        Kind::Pointers => words,
         Kind::Words | Kind::Bytes => 0,
         Kind::Method => usize::from(literal_count(image.body(k, 0))) + 1,
     }
 }
 
-/// How many words or bytes an object has after its fields.
+/// How many words or bytes an object has, where so many words stand after its fields.
 #[tactic(auto, unfolding(st_model::specs::Start::units_in))]
-fn units_of(image: &Image<'_>, k: usize, kind: Kind, fields: usize) -> usize
+fn units_of(image: &Image<'_>, k: usize, kind: Kind, words: usize) -> usize
     requires entry { k < entries_of image.now.head }
-    requires sound { IsSound image.now.head image.now.bytes.now k }
     requires kind { kind ≡ kind_in image.now.head image.now.bytes.now k }
-    requires fields { fields ≡ fields_in image.now.head image.now.bytes.now k }
-    requires range { fields + 2 ≤ size image.now.head image.now.bytes.now k }
-    ensures { result ≡ units_in image.now.head image.now.bytes.now k }
+    requires words { words + 2 + fields_in image.now.head image.now.bytes.now k ≡ size image.now.head image.now.bytes.now k }
+    requires few { words < 65536 }
+    ensures units { result ≡ units_in image.now.head image.now.bytes.now k }
+    ensures few { result < 131072 }
 {
-    let words = image.size(k) - 2 - fields;
     match kind {
         Kind::Pointers => 0,
         Kind::Words => words,
@@ -122,12 +155,92 @@ fn shape_of(image: &Image<'_>, k: usize) -> Shape
     requires sound { IsSound image.now.head image.now.bytes.now k }
     ensures { IsShape image.now.head image.now.bytes.now k result }
 {
+    let words = image.size(k) - 2;
     let kind = kind_of(image, k);
-    let fields = fields_of(image, k, kind);
-    let units = units_of(image, k, kind, fields);
+    let fields = fields_of(image, k, kind, words);
+    let units = units_of(image, k, kind, words - fields);
     Shape {
         kind,
         fields,
         units,
+    }
+}
+
+/// Places the object of an entry in use, with nil in its fields and 0 in its units.
+fn place_object<L: Loader>(loader: &mut L, image: &Image<'_>, k: usize, shape: Shape)
+    requires entry { k < entries_of image.now.head }
+    requires used { is_used image.now.head image.now.bytes.now k ≡ true }
+    requires sound { IsSound image.now.head image.now.bytes.now k }
+    requires shape { IsShape image.now.head image.now.bytes.now k shape }
+    requires room { HasRoom image.now.head image.now.bytes.now (L.loaded loader.old) k }
+    ensures { Puts (L.loaded loader.old) (L.loaded loader.new) k (fresh_in image.now.head image.now.bytes.now k) }
+{
+    loader.place(
+        pointer_of(k),
+        Oop(image.class(k)),
+        shape.kind,
+        shape.size(),
+        shape.literals(),
+    );
+}
+
+/// Stores the fields of an object that was placed.
+fn load_fields<L: Loader>(loader: &mut L, image: &Image<'_>, k: usize, shape: Shape)
+    requires entry { k < entries_of image.now.head }
+    requires sound { IsSound image.now.head image.now.bytes.now k }
+    requires shape { IsShape image.now.head image.now.bytes.now k shape }
+    requires at { IsAt (L.loaded loader.old) k (fresh_in image.now.head image.now.bytes.now k) }
+    ensures { Puts (L.loaded loader.old) (L.loaded loader.new) k (filled_in image.now.head image.now.bytes.now k) }
+{
+    for i in 0..shape.fields {
+        loader.set_pointer(pointer_of(k), i as u32, Oop(image.body(k, i)));
+    }
+}
+
+/// Stores the words of an object of words that was placed.
+fn load_words<L: Loader>(loader: &mut L, image: &Image<'_>, k: usize, shape: Shape)
+    requires entry { k < entries_of image.now.head }
+    requires sound { IsSound image.now.head image.now.bytes.now k }
+    requires kind { is_words (kind_in image.now.head image.now.bytes.now k) ≡ true }
+    requires shape { IsShape image.now.head image.now.bytes.now k shape }
+    requires at { IsAt (L.loaded loader.old) k (filled_in image.now.head image.now.bytes.now k) }
+    ensures { Puts (L.loaded loader.old) (L.loaded loader.new) k (object_in image.now.head image.now.bytes.now k) }
+{
+    for i in 0..shape.units {
+        loader.set_word(pointer_of(k), i as u32, image.body(k, i));
+    }
+}
+
+/// Stores the bytes of an object that has its fields.
+fn load_bytes<L: Loader>(loader: &mut L, image: &Image<'_>, k: usize, shape: Shape)
+    requires entry { k < entries_of image.now.head }
+    requires sound { IsSound image.now.head image.now.bytes.now k }
+    requires kind { is_words (kind_in image.now.head image.now.bytes.now k) ≡ false }
+    requires shape { IsShape image.now.head image.now.bytes.now k shape }
+    requires at { IsAt (L.loaded loader.old) k (filled_in image.now.head image.now.bytes.now k) }
+    ensures { Puts (L.loaded loader.old) (L.loaded loader.new) k (object_in image.now.head image.now.bytes.now k) }
+{
+    let start = 512 + 2 * (image.place(k) + 2 + shape.fields);
+    for i in 0..shape.units {
+        let at = (2 * shape.fields + i) as u32;
+        loader.set_byte(pointer_of(k), at, image.bytes[start + i]);
+    }
+}
+
+/// Loads the object of an entry in use.
+fn load_object<L: Loader>(loader: &mut L, image: &Image<'_>, k: usize)
+    requires entry { k < entries_of image.now.head }
+    requires used { is_used image.now.head image.now.bytes.now k ≡ true }
+    requires sound { IsSound image.now.head image.now.bytes.now k }
+    requires room { HasRoom image.now.head image.now.bytes.now (L.loaded loader.old) k }
+    ensures { Puts (L.loaded loader.old) (L.loaded loader.new) k (object_in image.now.head image.now.bytes.now k) }
+{
+    let shape = shape_of(image, k);
+    place_object(loader, image, k, shape);
+    load_fields(loader, image, k, shape);
+    if shape.kind.is_words() {
+        load_words(loader, image, k, shape);
+    } else {
+        load_bytes(loader, image, k, shape);
     }
 }
