@@ -3,3 +3,4 @@ pub mod FaultRows
 pub mod Overlaps
 pub mod Shapes
 pub mod Tables
+pub mod Parts

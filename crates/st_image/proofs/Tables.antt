@@ -106,3 +106,8 @@ puts_unit v w x k o i u e at objects held head = record {
   held = held;
   head = head;
 }
+
+pub puts_unit_at : (v w : View) (x : Value) (k : ℕ) (o : Object) (i u j y : ℕ) → x ≡ Ref k → IsAt v k o
+    → w.objects ≡ with_unit v.objects x j y → j ≡ i → y ≡ u → w.held ≡ v.held → w.head ≡ v.head → Puts v w k (object_with_unit o i u)
+puts_unit_at v w x k o i u j y e at objects place byte held head =
+    puts_unit v w x k o i u e at (objects ∙ (ap (λ (n : ℕ). with_unit v.objects x n y) place ∙ ap (λ (n : ℕ). with_unit v.objects x i n) byte)) held head
