@@ -4,3 +4,4 @@ pub mod Overlaps
 pub mod Shapes
 pub mod Tables
 pub mod Parts
+pub mod Clean

@@ -14,7 +14,7 @@ use Rattle.st_image.specs.Sizes.{IsInside, size_as, literals_as}
 use Rattle.st_image.specs.Loads.{IsSound, fresh_in}
 
 -- the kind of an object by its marks and its class
-kind_method : (h : ImageHead) (bytes : List ℕ) (k : ℕ) → is_method (kind_in h bytes k) ≡ true → (class h bytes k == 34) ≡ true
+pub kind_method : (h : ImageHead) (bytes : List ℕ) (k : ℕ) → is_method (kind_in h bytes k) ≡ true → (class h bytes k == 34) ≡ true
 unfolding kind_in
 kind_method h bytes k e = last (has_pointers h bytes k) (class h bytes k == 34) (has_words h bytes k) e
   where
