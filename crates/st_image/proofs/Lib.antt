@@ -5,3 +5,4 @@ pub mod Shapes
 pub mod Tables
 pub mod Parts
 pub mod Clean
+pub mod Loaded

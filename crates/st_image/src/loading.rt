@@ -3,9 +3,10 @@ ghost use Rattle.st_model.specs.Values.{value, Ref};
 ghost use Rattle.st_model.specs.Objects.{is_words, is_method, words_of, one};
 ghost use Rattle.st_model.specs.Table.{total_used, entry};
 ghost use Rattle.st_model.specs.Image.{entries_of, is_used, size};
-ghost use Rattle.st_model.specs.Start.{is_word_class, has_words, kind_in, fields_in, units_in, units_start, object_in, entry_in, made};
+ghost use Rattle.st_model.specs.Start.{is_word_class, has_words, kind_in, fields_in, units_in, units_start, object_in, entry_in, made, machine_head};
+ghost use Rattle.st_image.specs.Rows.{IsCleanBelow};
 ghost use Rattle.st_image.specs.Sizes.{IsInside};
-ghost use Rattle.st_image.specs.Loads.{IsSound, IsShape, HasRoom, fresh_in, filled_in, IsAt, Puts};
+ghost use Rattle.st_image.specs.Loads.{IsSound, IsShape, HasRoom, fresh_in, filled_in, IsAt, IsEmpty, Puts};
 
 use crate::head::has_letters;
 use crate::image::Image;
@@ -242,5 +243,21 @@ fn load_object<L: Loader>(loader: &mut L, image: &Image<'_>, k: usize)
         load_words(loader, image, k, shape);
     } else {
         load_bytes(loader, image, k, shape);
+    }
+}
+
+/// Loads the objects of an image that has no fault but perhaps that of its scheduler.
+pub fn load_all<L: Loader>(loader: &mut L, image: &Image<'_>)
+    requires clean { IsCleanBelow image.now.head image.now.bytes.now 10 }
+    requires empty { IsEmpty (L.loaded loader.old).objects }
+    requires head { (L.loaded loader.old).head ≡ machine_head image.now.head }
+    ensures objects { (L.loaded loader.new).objects ≡ made (entry_in image.now.head image.now.bytes.now) 32768 }
+    ensures held { (L.loaded loader.new).held ≡ (L.loaded loader.old).held }
+    ensures head { (L.loaded loader.new).head ≡ (L.loaded loader.old).head }
+{
+    for k in 0..image.entries() {
+        if image.is_used(k) {
+            load_object(loader, image, k);
+        }
     }
 }
