@@ -6,3 +6,4 @@ pub mod Tables
 pub mod Parts
 pub mod Clean
 pub mod Loaded
+pub mod Complete

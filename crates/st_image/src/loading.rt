@@ -1,9 +1,9 @@
-ghost use Rattle.std.specs.Prelude.{◌≡◌, ℕ, ◌+◌, ◌*◌, ◌<◌, ◌≤◌, true, false, length, None};
+ghost use Rattle.std.specs.Prelude.{◌≡◌, ℕ, ◌+◌, ◌*◌, ◌<◌, ◌≤◌, true, false, length, None, IfOk};
 ghost use Rattle.st_model.specs.Values.{value, Ref};
 ghost use Rattle.st_model.specs.Objects.{is_words, is_method, words_of, one};
 ghost use Rattle.st_model.specs.Table.{total_used, entry};
 ghost use Rattle.st_model.specs.Image.{entries_of, is_used, size};
-ghost use Rattle.st_model.specs.Start.{is_word_class, has_words, kind_in, fields_in, units_in, units_start, object_in, entry_in, made, machine_head};
+ghost use Rattle.st_model.specs.Start.{is_word_class, has_words, kind_in, fields_in, units_in, units_start, object_in, entry_in, made, machine_head, start_view};
 ghost use Rattle.st_image.specs.Rows.{IsCleanBelow};
 ghost use Rattle.st_image.specs.Sizes.{IsInside};
 ghost use Rattle.st_image.specs.Loads.{IsSound, IsShape, HasRoom, fresh_in, filled_in, IsAt, IsEmpty, Puts};
@@ -12,7 +12,8 @@ use crate::head::has_letters;
 use crate::image::Image;
 use crate::numbers::literal_count;
 use st_memory::Loader;
-use st_model::{Kind, Oop};
+use st_model::{Demand, Kind, Oop};
+use std::alloc::{AllocError, Global};
 
 /// What an object consists of.
 #[derive(Clone, Copy)]
@@ -260,4 +261,21 @@ pub fn load_all<L: Loader>(loader: &mut L, image: &Image<'_>)
             load_object(loader, image, k);
         }
     }
+}
+
+/// The memory of the objects of an image that has no fault but perhaps that of its scheduler.
+pub fn load<L: Loader>(alloc: Global, image: &Image<'_>) -> Result<L::Done, AllocError>
+    requires { IsCleanBelow image.now.head image.now.bytes.now 10 }
+    ensures { IfOk result (λ done. L.Done.view done ≡ start_view image.now.head image.now.bytes.now) }
+{
+    let head = image.head;
+    let capacity = Demand {
+        entries: head.entries,
+        words: head.words,
+    };
+    let globals = Oop(head.globals as u16);
+    let symbols = Oop(head.symbols as u16);
+    let mut loader = L::begin(alloc, capacity, globals, symbols)?;
+    load_all(&mut loader, image);
+    Ok(loader.finish())
 }
