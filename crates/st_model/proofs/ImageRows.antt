@@ -8,8 +8,8 @@ use Rattle.st_model.specs.Faults.{short_fails, lengths_fail, capacity_fails, siz
 use Rattle.st_model.specs.Values.{Small, Ref, value_of}
 use Rattle.st_model.specs.Objects.{Object, nil}
 use Rattle.st_model.specs.Machine.{State, Registers, Went, answer, die, after, ◌>>=◌, ◌>>◌}
-use Rattle.st_model.specs.Steps.{set_registers, found, object_named, object, of_page, or_die, check, fetch_field, integer_or_die, fetch_integer}
-use Rattle.st_model.specs.Contexts.{home_by, home_of, stack_place, fetch_stack_pointer, fetch_context_registers, scheduled_context, fetch_scheduled_registers}
+use Rattle.st_model.specs.Steps.{set_registers, found, object_named, object, of_page, or_die, check, fetch_field, count_fields, integer_or_die, fetch_integer}
+use Rattle.st_model.specs.Contexts.{home_by, home_of, stack_place, fetch_stack_pointer, context_registers, fetch_context_registers, scheduled_context, fetch_scheduled_registers}
 use Rattle.st_model.specs.View.{empty_view, nothing_held}
 use Rattle.st_model.specs.Start.{is_word_class, has_words, kind_in, fields_in, units_in, field_in, unit_in, object_in, entry_in, start_view, idle_state, start}
 
@@ -88,7 +88,7 @@ unfolding opened file head none
 field_wrong = refl
 
 opened_start : Unit {0}
-unfolding opened is_word_class has_words kind_in fields_in units_in field_in unit_in object_in entry_in start_view start empty_view nothing_held value_of answer die after ◌>>=◌ ◌>>◌ set_registers found object_named object of_page or_die check fetch_field integer_or_die fetch_integer home_by home_of stack_place fetch_stack_pointer fetch_context_registers scheduled_context fetch_scheduled_registers
+unfolding opened is_word_class has_words kind_in fields_in units_in field_in unit_in object_in entry_in start_view start empty_view nothing_held value_of answer die after ◌>>=◌ ◌>>◌ set_registers found object_named object of_page or_die check fetch_field integer_or_die fetch_integer home_by home_of stack_place fetch_stack_pointer count_fields context_registers fetch_context_registers scheduled_context fetch_scheduled_registers
 opened_start = tt
 
 context_read : object_in head (file 2) 31 ≡ record { class = 11; kind = kind.Pointers; fields = nil ∷ Small 3 ∷ Small 1 ∷ Ref 32 ∷ replicate 14 nil; units = [] }

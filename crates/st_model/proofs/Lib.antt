@@ -13,4 +13,7 @@ pub mod CyclesShown
 pub mod Runs
 pub mod Settling
 mod Rows
+pub mod Roots
+pub mod Raised
+pub mod Showing
 mod ImageRows

@@ -1,3 +1,4 @@
+pub mod Lists
 pub mod Values
 pub mod Objects
 pub mod Deaths
@@ -14,6 +15,7 @@ pub mod Show
 pub mod Formed
 pub mod View
 pub mod Calls
+pub mod Text
 pub mod Image
 pub mod Start
 pub mod Faults

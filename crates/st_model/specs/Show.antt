@@ -1,10 +1,12 @@
 -- How a table shows births: each kept object under the pointer that it bears, with references written as pointers.
 -- Names of the table are halved pointers.
-use Rattle.std.specs.Prelude.{◌≡◌, ℕ, [], ◌∷◌, zero, suc, Some, None, Option, List}
+use Rattle.std.specs.Prelude.{◌≡◌, ℕ, [], ◌∷◌, zero, suc, Some, None, Option, List, true, if◌then◌else◌}
+use Rattle.std.specs.Option.{option_map}
+use Rattle.st_model.specs.Lists.{made}
 use Rattle.st_model.specs.Values.{Value, renamed, renamed_all, IsLive, AllLive}
 use Rattle.st_model.specs.Objects.{Object, PageObject, place_of, renamed_object, IsLiveObject}
 use Rattle.st_model.specs.Machine.{State, Registers, Devices, World, Head, roots_of}
-use Rattle.st_model.specs.Births.{Births, object_born, borne, bearer}
+use Rattle.st_model.specs.Births.{Births, object_born, borne, bears, bearer}
 use Rattle.st_model.specs.Table.{Table, entry}
 
 abbrev pub renamed_registers : (ℕ → ℕ) → Registers → Registers
@@ -61,3 +63,43 @@ pub record IsClosed (c : State Table) : Type 0 where
   pub objects : (k : ℕ) (o : Object) → entry c.memory k ≡ Some o → IsLiveObject (IsUsed c.memory) o
   pub page : (q : PageObject) → IsUsed c.memory (place_of q)
   pub roots : AllLive (IsUsed c.memory) (roots_of c)
+
+-- the object of the kept birth that bears this pointer
+abbrev pub object_borne : Births → ℕ → Option Object
+object_borne [] p = None
+object_borne (b ∷ h) p = if bears b p then Some b.object else object_borne h p
+
+-- a table of 32768 places: at each the object that bears its pointer, with its references written as pointers
+unfoldable pub shown_table : Births → Table
+shown_table h = made (λ p. option_map (renamed_object (pointer_of h)) (object_borne h p)) 32768
+
+-- what births show
+unfoldable pub show : State Births → State Table
+show s = record {
+  memory = shown_table s.memory;
+  registers = renamed_registers (pointer_of s.memory) s.registers;
+  world = renamed_world (pointer_of s.memory) s.world;
+  head = renamed_head (pointer_of s.memory) s.head;
+}
+
+-- the number of objects before a place
+abbrev pub rank : Table → ℕ → ℕ
+rank [] p = 0
+rank (e ∷ t) zero = 0
+rank (None ∷ t) (suc p) = rank t p
+rank (Some o ∷ t) (suc p) = suc (rank t p)
+
+-- the objects of a table from a place on, as births in rising order of pointers, all of them kept
+abbrev pub births_from : (ℕ → ℕ) → ℕ → Table → Births
+births_from birth p [] = []
+births_from birth p (None ∷ t) = births_from birth (suc p) t
+births_from birth p (Some o ∷ t) = record { object = renamed_object birth o; pointer = p; kept = true } ∷ births_from birth (suc p) t
+
+-- the births that a state over a table begins with, where each object's birth number is its rank
+unfoldable pub raised : State Table → State Births
+raised c = record {
+  memory = births_from (rank c.memory) 0 c.memory;
+  registers = renamed_registers (rank c.memory) c.registers;
+  world = renamed_world (rank c.memory) c.world;
+  head = renamed_head (rank c.memory) c.head;
+}
