@@ -1,10 +1,10 @@
 -- The objects of an image refer to nothing but what is there.
-use Rattle.std.proofs.Common.{◌≡◌, ◌≢◌, ℕ, zero, suc, ◌+◌, ◌-◌, ◌*◌, ◌/◌, ◌%◌, ◌<◌, ◌≤◌, ◌⊎◌, Bool, true, false, cond, not, ◌&&◌, ◌||◌, ◌==◌, nat_lt, List, [], ◌∷◌, length, map, replicate, get_or, arith, refl, sym, subst, ap, ◌∙◌, inl, inr, Option, Some, None, is_some}
+use Rattle.std.proofs.Common.{◌≡◌, ◌≢◌, ℕ, zero, suc, ◌+◌, ◌-◌, ◌*◌, ◌/◌, ◌%◌, ◌<◌, ◌≤◌, ◌⊎◌, Bool, true, false, cond, not, ◌&&◌, ◌||◌, ◌==◌, nat_lt, List, [], ◌∷◌, length, replicate, get_or, arith, refl, sym, subst, ap, ◌∙◌, inl, inr, Option, Some, None, is_some}
 use Rattle.std.specs.Prelude.{nat_le}
-use Rattle.std.specs.List.{range_with_len}
 use Rattle.std.proofs.lemmas.Bool.{cases_lt, cases_eq, both_ways, cases_Bool, and_from, or_left, or_right, lt-ltb, le-leb, eq-eqb, ne_eqb, eqb-false, not-false, true_from_ne_false}
 use Rattle.std.proofs.lemmas.List.{length-replicate}
-use Rattle.std.proofs.lemmas.List.FromFn.{get_or-map-range_with_len, length-map-range_with_len}
+use Rattle.st_model.proofs.Made.{length-made, get_or-made}
+use Rattle.st_model.specs.Lists.{made}
 use Rattle.std.proofs.lemmas.List.{get_or_past}
 use Rattle.st_model.specs.declared.kind.Kind.{Kind}
 use Rattle.st_model.specs.declared.kind.Kind.TheVariants as kind
@@ -16,7 +16,7 @@ use Rattle.st_model.specs.Table.{Table, entry}
 use Rattle.st_model.specs.Show.{IsUsed}
 use Rattle.st_model.specs.View.{View, Held, IsComplete, is_live, empty_view, nothing_held, table_of}
 use Rattle.st_model.specs.Image.{entries_of, has_pointers, is_used, size, class, body, names, literal_count}
-use Rattle.st_model.specs.Start.{made, kind_in, has_words, fields_in, field_in, field_count, object_in, entry_in, machine_head, start_view}
+use Rattle.st_model.specs.Start.{kind_in, has_words, fields_in, field_in, field_count, object_in, entry_in, machine_head, start_view}
 use Rattle.st_model.specs.Faults.{field_fails, is_field}
 use Rattle.st_image.specs.Rows.{IsCleanBelow}
 use Rattle.st_image.specs.Loads.{IsSound, IsEmpty}
@@ -45,8 +45,8 @@ made_at : (f : ℕ → Option Object) (n k : ℕ) → ((n ≤ k) → f k ≡ Non
 made_at f n k past = entry-get (made f n) k ∙ last (cases_lt k n)
   where
     last : ((k < n) ⊎ (n ≤ k)) → get_or (made f n) k None ≡ f k
-    last (inl e) = get_or-map-range_with_len f 0 n k k None e (omega arith)
-    last (inr e) = get_or_past (made f n) k None (let a = length-map-range_with_len f 0 n in omega arith) ∙ sym (past e)
+    last (inl e) = get_or-made f n k None e
+    last (inr e) = get_or_past (made f n) k None (let a = length-made f n in omega arith) ∙ sym (past e)
 
 -- each place of the table has what the image's entry gives
 pub entries_at : (h : ImageHead) (bytes : List ℕ) (t : Table) → entries_of h ≤ 32768 → t ≡ made (entry_in h bytes) 32768 → (k : ℕ) → entry t k ≡ entry_in h bytes k
@@ -65,9 +65,9 @@ live_is : (h : ImageHead) (bytes : List ℕ) (t : Table) → AreEntries h bytes 
 unfolding is_live
 live_is h bytes t are k used = ap is_some (are k ∙ entry_used h bytes k used)
 
-all_made : (live : ℕ → Type 0) (f : ℕ → Value) (a n : ℕ) → ((i : ℕ) → a ≤ i → i < a + n → IsLive live (f i)) → AllLive live (map f (range_with_len a n))
-all_made live f a zero each = tt
-all_made live f a (suc n) each = (each a (omega arith) (omega arith), all_made live f (a + 1) n (λ i above below. each i (omega arith) (omega arith)))
+all_made : (live : ℕ → Type 0) (f : ℕ → Value) (n : ℕ) → ((i : ℕ) → i < n → IsLive live (f i)) → AllLive live (made f n)
+all_made live f zero each = tt
+all_made live f (suc n) each = (each 0 (omega arith), all_made live (λ k. f (suc k)) n (λ i below. each (suc i) (omega arith)))
 
 even_from : (n : ℕ) → (n % 2 == 1) ≡ false → n % 2 ≡ 0
 even_from n e = last (cases_eq (n % 2) 1) (eqb-false _ _ e)
@@ -130,7 +130,7 @@ object_live h bytes t clean are k used =
     let sound = clean_sound h bytes clean k (used_below_end h bytes k used) used in
     record {
       class = used_is h bytes t are (class h bytes k / 2) (named_used h bytes _ sound.class_used);
-      fields = all_made (IsUsed t) (λ i. value_of (body h bytes k i)) 0 (fields_in h bytes k) (λ i above below.
+      fields = all_made (IsUsed t) (λ i. value_of (body h bytes k i)) (fields_in h bytes k) (λ i below.
           value_live (IsUsed t) (body h bytes k i) (λ even. field_live i (field_or_header h bytes k i sound (omega arith)) even));
     }
   where

@@ -1,6 +1,7 @@
 -- The table once the first entries are loaded, and once all are.
 use Rattle.std.proofs.Common.{◌≡◌, ◌≢◌, ℕ, zero, suc, ◌+◌, ◌-◌, ◌*◌, ◌/◌, ◌<◌, ◌≤◌, ◌⊎◌, true, false, List, length, arith, refl, sym, subst, ap, ◌∙◌, inl, inr, Option, Some, None}
-use Rattle.std.proofs.lemmas.List.FromFn.{fill_by_all, length-map-range_with_len, get_or-map-range_with_len}
+use Rattle.st_model.proofs.Made.{made_from, length-made, get_or-made}
+use Rattle.st_model.specs.Lists.{made}
 use Rattle.std.proofs.lemmas.Bool.{cases_lt, cases_Bool}
 use Rattle.std.proofs.Math.ListN.{length-set}
 use Rattle.st_spans.specs.declared.Span.{Span}
@@ -12,7 +13,7 @@ use Rattle.st_model.specs.Objects.{Object, one, words_of}
 use Rattle.st_model.specs.Table.{Table, entry, total_used}
 use Rattle.st_model.specs.View.{View, with_object}
 use Rattle.st_model.specs.Image.{entries_of, is_used, size}
-use Rattle.st_model.specs.Start.{made, object_in, entry_in, kind_in, fields_in, units_in, field_in, unit_in}
+use Rattle.st_model.specs.Start.{object_in, entry_in, kind_in, fields_in, units_in, field_in, unit_in}
 use Rattle.st_model.specs.Faults.{used_below}
 use Rattle.st_image.specs.Sizes.{AreInside, span_of}
 use Rattle.st_image.specs.Rows.{IsCleanBelow}
@@ -29,8 +30,8 @@ all_spans h bytes = made (span_of h bytes) (entries_of h)
 
 are_spans : (h : ImageHead) (bytes : List ℕ) → AreSpans h bytes (all_spans h bytes)
 are_spans h bytes = record {
-  length = length-map-range_with_len (span_of h bytes) 0 (entries_of h);
-  each = λ k k_in. get_or-map-range_with_len (span_of h bytes) 0 (entries_of h) k k _ k_in (omega arith);
+  length = length-made (span_of h bytes) (entries_of h);
+  each = λ k k_in. get_or-made (span_of h bytes) (entries_of h) k _ k_in;
 }
 
 spans_apart : (h : ImageHead) (bytes : List ℕ) → IsCleanBelow h bytes 10 → IsFirstShared (all_spans h bytes) None
@@ -72,8 +73,8 @@ used_one_more h bytes k (suc n) k_in used = last (cases_lt k n) (λ e. used_one_
 object_words : (h : ImageHead) (bytes : List ℕ) (k : ℕ) → IsSound h bytes k → words_of (object_in h bytes k) ≤ size h bytes k
 unfolding object_in
 object_words h bytes k sound =
-    let f = length-map-range_with_len (field_in h bytes k) 0 (fields_in h bytes k) in
-    let u = length-map-range_with_len (unit_in h bytes k) 0 (units_in h bytes k) in
+    let f = length-made (field_in h bytes k) (fields_in h bytes k) in
+    let u = length-made (unit_in h bytes k) (units_in h bytes k) in
     let a = words_of_parts (object_in h bytes k) (kind_in h bytes k) (fields_in h bytes k) (units_in h bytes k) refl f u in
     let b = words_fit_size h bytes k sound in
     omega arith
@@ -187,7 +188,7 @@ pub all_loaded : (h : ImageHead) (bytes : List ℕ) (t : Table) → entries_of h
     → loaded_below h bytes t (entries_of h) ≡ made (entry_in h bytes) 32768
 all_loaded h bytes t few clean empty =
     let u = loaded h bytes t (entries_of h) (omega arith) few clean empty in
-    fill_by_all (entry_in h bytes) (loaded_below h bytes t (entries_of h)) 32768 None u.places
+    made_from (entry_in h bytes) (loaded_below h bytes t (entries_of h)) 32768 None u.places
     (λ k k_in. sym (entry-get (loaded_below h bytes t (entries_of h)) k) ∙ each u k (cases_lt k (entries_of h)))
   where
     each : IsLoaded h bytes t (entries_of h) → (k : ℕ) → ((k < entries_of h) ⊎ (entries_of h ≤ k)) → entry (loaded_below h bytes t (entries_of h)) k ≡ entry_in h bytes k

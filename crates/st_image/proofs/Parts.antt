@@ -1,18 +1,19 @@
 -- What an object becomes as its fields and units are stored one after another.
 use Rattle.std.proofs.Common.{◌≡◌, ℕ, zero, suc, ◌+◌, ◌-◌, ◌*◌, ◌%◌, ◌==◌, ◌<◌, ◌≤◌, ◌⊎◌, true, false, List, length, slice_set, get_or, arith, refl, sym, ap, ◌∙◌, inl, inr}
 use Rattle.std.proofs.lemmas.List.{get_or-set_same, get_or-set_other}
-use Rattle.std.proofs.lemmas.List.FromFn.{fill_by_all}
+use Rattle.st_model.proofs.Made.{made_from}
 use Rattle.std.proofs.lemmas.Bool.{cases_lt, both_ways}
 use Rattle.std.proofs.Math.ListN.{length-set}
 use Rattle.st_model.specs.declared.kind.Kind.{Kind}
 use Rattle.st_model.specs.declared.kind.Kind.TheVariants as kind
 use Rattle.st_model.specs.declared.head.ImageHead.{ImageHead}
+use Rattle.st_model.specs.Lists.{made}
 use Rattle.st_model.specs.Values.{Value, value_of, is_small}
 use Rattle.st_model.specs.Objects.{Object, nil, is_words, is_method, first_unit}
 use Rattle.st_model.specs.Formed.{IsHeader, literals_of}
 use Rattle.st_model.specs.View.{View, object_of}
 use Rattle.st_model.specs.Image.{class, body, place, literal_count, size}
-use Rattle.st_model.specs.Start.{made, kind_in, field_count, fields_in, units_in, field_in, unit_in, units_start, object_in}
+use Rattle.st_model.specs.Start.{kind_in, field_count, fields_in, units_in, field_in, unit_in, units_start, object_in}
 use Rattle.st_model.proofs.Words.{is_small-value_of, literals_of-value_of}
 use Rattle.st_image.specs.Loads.{IsSound, fresh_in, filled_in, with_fields, with_units}
 use Rattle.st_image.proofs.Shapes.{fresh_in-class, fresh_in-fields, fresh_in-units}
@@ -71,8 +72,8 @@ stored o f u n m few fewer =
     let d = with_fields-rest o f n in
     same_object (with_units (with_fields o f n) u m) (record { class = o.class; kind = o.kind; fields = made f n; units = made u m })
     (a.0 ∙ d.0) (a.1 ∙ d.1)
-    (a.2 ∙ fill_by_all f (with_fields o f n).fields n nil (with_fields-length o f n ∙ few) (λ k k_in. with_fields-at o f n (omega arith) nil k k_in))
-    (fill_by_all u (with_units (with_fields o f n) u m).units m 0 (with_units-length (with_fields o f n) u m ∙ (ap length d.2 ∙ fewer))
+    (a.2 ∙ made_from f (with_fields o f n).fields n nil (with_fields-length o f n ∙ few) (λ k k_in. with_fields-at o f n (omega arith) nil k k_in))
+    (made_from u (with_units (with_fields o f n) u m).units m 0 (with_units-length (with_fields o f n) u m ∙ (ap length d.2 ∙ fewer))
     (λ k k_in. with_units-at (with_fields o f n) u m (let e : length (with_fields o f n).units ≡ length o.units = ap length d.2 in omega arith) 0 k k_in))
 
 -- THE OBJECT OF AN ENTRY

@@ -5,11 +5,12 @@ use Rattle.st_model.specs.declared.kind.Kind.TheVariants as kind
 use Rattle.st_model.specs.declared.head.ImageHead.{ImageHead}
 use Rattle.st_model.specs.Image.{number16, number32, has_letters, image_head, flags, location, is_used, place, size, class, body, names}
 use Rattle.st_model.specs.Faults.{short_fails, lengths_fail, capacity_fails, size_fails, class_fails, is_field, field_fails, method_fails, root_fails, roots}
-use Rattle.st_model.specs.Values.{Small, Ref, value_of}
+use Rattle.st_model.specs.Values.{Value, Small, Ref, value_of}
 use Rattle.st_model.specs.Objects.{Object, nil}
 use Rattle.st_model.specs.Machine.{State, Registers, Went, answer, die, after, ◌>>=◌, ◌>>◌}
 use Rattle.st_model.specs.Steps.{set_registers, found, object_named, object, of_page, or_die, check, fetch_field, count_fields, integer_or_die, fetch_integer}
 use Rattle.st_model.specs.Contexts.{home_by, home_of, stack_place, fetch_stack_pointer, context_registers, fetch_context_registers, scheduled_context, fetch_scheduled_registers}
+use Rattle.st_model.specs.Table.{Table, table, entry}
 use Rattle.st_model.specs.View.{empty_view, nothing_held}
 use Rattle.st_model.specs.Start.{is_word_class, has_words, kind_in, fields_in, units_in, field_in, unit_in, object_in, entry_in, start_view, idle_state, start}
 
@@ -99,6 +100,14 @@ method_read : object_in head (file 2) 32 ≡ record { class = 17; kind = kind.Me
 unfolding opened_start file head
 method_read = refl
 
-started : start head (file 2) ≡ Went tt (record (idle_state (start_view head (file 2))) { registers = record { active = Ref 31; home = Ref 31; method = Ref 32; receiver = nil; ip = pos 2; sp = 6 } })
-unfolding opened_start file head
-started = refl
+-- an object of class 12 with these fields
+plain : List Value → Object
+plain fields = record { class = 6; kind = kind.Pointers; fields = fields; units = [] }
+
+-- the registers that the context of the scheduler's active process gives
+fetched : (s : State Table) → entry s.memory 4 ≡ Some (plain (nil ∷ Ref 29 ∷ [])) → entry s.memory 29 ≡ Some (plain (nil ∷ Ref 30 ∷ []))
+    → entry s.memory 30 ≡ Some (plain (nil ∷ Ref 31 ∷ Small 4 ∷ nil ∷ []))
+    → entry s.memory 31 ≡ Some (record { class = 11; kind = kind.Pointers; fields = nil ∷ Small 3 ∷ Small 1 ∷ Ref 32 ∷ replicate 14 nil; units = [] })
+    → (fetch_scheduled_registers table).run s ≡ Went tt (record s { registers = record { active = Ref 31; home = Ref 31; method = Ref 32; receiver = nil; ip = pos 2; sp = 6 } })
+unfolding opened_start plain
+fetched s a b c d = simp (a, b, c, d)

@@ -1,10 +1,10 @@
 -- The objects that an image has, and the state in which its machine begins. All is read totally; it is meant of an image
 -- that has none of the faults that concern the file, its objects and its roots.
-use Rattle.std.specs.Prelude.{ℕ, ◌+◌, ◌-◌, ◌*◌, ◌/◌, ◌%◌, ◌==◌, List, map, slice_index, Bool, ◌&&◌, nat_lt, pos, if◌then◌else◌, Option, Some, None}
-use Rattle.std.specs.List.{range_with_len}
+use Rattle.std.specs.Prelude.{ℕ, ◌+◌, ◌-◌, ◌*◌, ◌/◌, ◌%◌, ◌==◌, List, slice_index, Bool, ◌&&◌, nat_lt, pos, if◌then◌else◌, Option, Some, None}
 use Rattle.st_model.specs.declared.kind.Kind.{Kind}
 use Rattle.st_model.specs.declared.kind.Kind.TheVariants as kind
 use Rattle.st_model.specs.declared.head.ImageHead.{ImageHead}
+use Rattle.st_model.specs.Lists.{made}
 use Rattle.st_model.specs.Values.{Value, value_of}
 use Rattle.st_model.specs.Objects.{Object, nil, is_words}
 use Rattle.st_model.specs.Machine.{Head, State, Registers, Step, Transition, empty_world}
@@ -12,10 +12,6 @@ use Rattle.st_model.specs.Table.{Table, table}
 use Rattle.st_model.specs.View.{View, empty_view, table_of}
 use Rattle.st_model.specs.Contexts.{fetch_scheduled_registers}
 use Rattle.st_model.specs.Image.{bit, has_letters, flags, has_odd_length, has_pointers, is_used, place, size, class, body, literal_count}
-
--- the list of the n values that a function gives from 0 on
-abbrev pub made : {X : Type 0} → (ℕ → X) → ℕ → List X
-made f n = map f (range_with_len 0 n)
 
 -- the class of entry k has instances of words: it is a Pointers object whose field 2, the instance specification, is a
 -- SmallInteger with bit 1 set
