@@ -24,7 +24,7 @@ use Rattle.st_image.proofs.FaultRows.{beyond, named, named_even, named_used, use
 use Rattle.st_image.proofs.Shapes.{kind_method}
 use Rattle.st_image.proofs.Clean.{clean_sound, clean_class, clean_field, clean_page, clean_globals, clean_symbols}
 use Rattle.st_image.proofs.Tables.{entry-get}
-use Rattle.st_image.proofs.Loaded.{entry_used, entry_free}
+use Rattle.st_image.proofs.Entries.{entry_used, entry_free}
 
 -- TABLES
 

@@ -5,5 +5,6 @@ pub mod Shapes
 pub mod Tables
 pub mod Parts
 pub mod Clean
-pub mod Loaded
+pub mod Entries
 pub mod Complete
+pub mod Starts

@@ -2,3 +2,5 @@ pub mod Sizes
 pub mod Passes
 pub mod Rows
 pub mod Loads
+pub mod Reading
+pub mod HeadValues

@@ -10,8 +10,10 @@ mod lengths;
 mod loading;
 mod numbers;
 mod objects;
+mod reading;
 mod roots;
 
 pub use error::ReadImage;
-pub use head::has_letters;
+pub use head::{HeadValues, has_letters};
 pub use laws::{fault_is_determined, no_fault_is_well_formed};
+pub use reading::{Loaded, read};

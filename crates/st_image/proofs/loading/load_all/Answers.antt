@@ -7,7 +7,7 @@ use Rattle.st_model.specs.Image.{entries_of}
 use Rattle.st_model.specs.Machine.{Head}
 use Rattle.st_image.specs.Loads.{loaded_below}
 use Rattle.st_image.proofs.Clean.{clean_sound}
-use Rattle.st_image.proofs.Loaded.{room, all_loaded, entry_used, entry_free}
+use Rattle.st_image.proofs.Entries.{room, all_loaded, entry_used, entry_free}
 use Rattle.st_image.proofs.loading.load_all.Goals as goal
 use Rattle.st_image.proofs.loading.load_all.Goals.{then-is_used, else-is_used}
 
