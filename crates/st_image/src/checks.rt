@@ -1,24 +1,31 @@
 ghost use Rattle.std.specs.Prelude.{◌≡◌, ◌*◌, ◌<◌, IfOk, IfErr, OnOk};
 ghost use Rattle.st_model.specs.Image.{entries_of};
 ghost use Rattle.st_image.specs.Sizes.{AreInside};
+ghost use Rattle.st_model.specs.Faults.{IsImageFault};
+ghost use Rattle.st_image.specs.HeadValues.{head_over};
 ghost use Rattle.st_image.specs.Rows.{IsRow, IsMemoryRow, IsReadFault, IsCleanBelow};
 
 use crate::error::ReadImage;
+use crate::head::{HeadValues, read_head_over};
 use crate::image::Image;
 use crate::lengths::{has_bad_capacity, has_bad_lengths, is_short};
 use crate::objects::{first_bad_class, first_bad_field, first_bad_method, first_bad_size, spans_of};
 use crate::roots::least_bad_root;
-use st_model::{ImageFault, ImageHead};
+use st_model::ImageFault;
 use st_spans::first_shared;
 use std::alloc::Global;
 
 /// A file with the lengths that its head gives, or the fault of its lengths.
-#[tactic(auto, using(crate::proofs::FaultRows::fault_rows, crate::proofs::FaultOrder::clean_rows))]
-fn check_lengths<'a>(head: ImageHead, bytes: &'a [u8]) -> Result<Image<'a>, ImageFault>
-    ensures image { IfOk result (λ image. (image.head ≡ head) × (image.bytes.now ≡ bytes.now)) }
-    ensures clean { OnOk result (IsCleanBelow head bytes.now 3) }
-    ensures fault { IfErr result (λ f. IsReadFault head bytes.now (ReadImage.Fault f)) }
+#[tactic(auto, using(crate::proofs::FaultRows::fault_rows, crate::proofs::FaultOrder::clean_rows, crate::proofs::Starts::headless))]
+fn check_lengths<'a>(bytes: &'a [u8], over: &HeadValues) -> Result<Image<'a>, ImageFault>
+    ensures image { IfOk result (λ image. (image.head ≡ head_over over.now bytes.now) × (image.bytes.now ≡ bytes.now)) }
+    ensures clean { OnOk result (IsCleanBelow (head_over over.now bytes.now) bytes.now 3) }
+    ensures fault { IfErr result (λ f. IsImageFault (head_over over.now bytes.now) bytes.now f) }
 {
+    if bytes.len() < 512 {
+        return Err(ImageFault::Short);
+    }
+    let head = read_head_over(bytes, over);
     if is_short(head, bytes) {
         return Err(ImageFault::Short);
     }
@@ -110,13 +117,17 @@ fn check_roots(image: &Image<'_>) -> Result<(), ImageFault>
     }
 }
 
-/// The image of a file, where it has none of the faults but that of its scheduler; else its fault.
-pub fn check<'a>(alloc: Global, head: ImageHead, bytes: &'a [u8]) -> Result<Image<'a>, ReadImage>
-    ensures image { IfOk result (λ image. (image.head ≡ head) × (image.bytes.now ≡ bytes.now)) }
-    ensures clean { OnOk result (IsCleanBelow head bytes.now 10) }
-    ensures fault { IfErr result (λ e. IsReadFault head bytes.now e) }
+/// The image of a file, where it has none of the faults but perhaps that of its scheduler; else its fault.
+pub fn check<'a>(
+    alloc: Global,
+    bytes: &'a [u8],
+    over: &HeadValues,
+) -> Result<Image<'a>, ReadImage>
+    ensures image { IfOk result (λ image. (image.head ≡ head_over over.now bytes.now) × (image.bytes.now ≡ bytes.now)) }
+    ensures clean { OnOk result (IsCleanBelow (head_over over.now bytes.now) bytes.now 10) }
+    ensures fault { IfErr result (λ e. IsReadFault (head_over over.now bytes.now) bytes.now e) }
 {
-    let image = check_lengths(head, bytes)?;
+    let image = check_lengths(bytes, over)?;
     check_capacity(&image)?;
     check_sizes(&image)?;
     check_overlaps(alloc, &image)?;

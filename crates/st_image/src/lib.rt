@@ -17,3 +17,6 @@ pub use error::ReadImage;
 pub use head::{HeadValues, has_letters};
 pub use laws::{fault_is_determined, no_fault_is_well_formed};
 pub use reading::{Loaded, read};
+
+#[cfg(test)]
+mod tests;

@@ -6,7 +6,7 @@ ghost use Rattle.st_image.specs.Reading.{IsStart};
 
 use crate::checks::check;
 use crate::error::ReadImage;
-use crate::head::{HeadValues, read_head_over};
+use crate::head::HeadValues;
 use crate::loading::load;
 use st_frames::{Frame, fetch_scheduled};
 use st_memory::Loader;
@@ -33,11 +33,7 @@ pub fn read<L: Loader>(
     ensures start { IfOk result (λ loaded. IsStart (head_over over.now bytes.now) bytes.now (L.Done.view loaded.memory) loaded.frame) }
     ensures fault { IfErr result (λ e. IsReadFault (head_over over.now bytes.now) bytes.now e) }
 {
-    if bytes.len() < 512 {
-        return Err(ReadImage::Fault(ImageFault::Short));
-    }
-    let head = read_head_over(bytes, over);
-    let image = check(alloc, head, bytes)?;
+    let image = check(alloc, bytes, over)?;
     let mut memory = load::<L>(alloc, &image)?;
     match fetch_scheduled(&mut memory) {
         Ok(frame) => Ok(Loaded { memory, frame }),
