@@ -9,7 +9,9 @@ use crate::error::ReadImage;
 use crate::head::{HeadValues, read_head_over};
 use crate::image::Image;
 use crate::lengths::{has_bad_capacity, has_bad_lengths, is_short};
-use crate::objects::{first_bad_class, first_bad_field, first_bad_method, first_bad_size, spans_of};
+use crate::objects::{
+    first_bad_class, first_bad_field, first_bad_method, first_bad_size, spans_of,
+};
 use crate::roots::least_bad_root;
 use st_model::ImageFault;
 use st_spans::first_shared;
@@ -118,11 +120,7 @@ fn check_roots(image: &Image<'_>) -> Result<(), ImageFault>
 }
 
 /// The image of a file, where it has none of the faults but perhaps that of its scheduler; else its fault.
-pub fn check<'a>(
-    alloc: Global,
-    bytes: &'a [u8],
-    over: &HeadValues,
-) -> Result<Image<'a>, ReadImage>
+pub fn check<'a>(alloc: Global, bytes: &'a [u8], over: &HeadValues) -> Result<Image<'a>, ReadImage>
     ensures image { IfOk result (λ image. (image.head ≡ head_over over.now bytes.now) × (image.bytes.now ≡ bytes.now)) }
     ensures clean { OnOk result (IsCleanBelow (head_over over.now bytes.now) bytes.now 10) }
     ensures fault { IfErr result (λ e. IsReadFault (head_over over.now bytes.now) bytes.now e) }

@@ -178,13 +178,9 @@ fn place_object<L: Loader>(loader: &mut L, image: &Image<'_>, k: usize, shape: S
     requires room { HasRoom image.now.head image.now.bytes.now (L.loaded loader.old) k }
     ensures { Puts (L.loaded loader.old) (L.loaded loader.new) k (fresh_in image.now.head image.now.bytes.now k) }
 {
-    loader.place(
-        pointer_of(k),
-        Oop(image.class(k)),
-        shape.kind,
-        shape.size(),
-        shape.literals(),
-    );
+    let at = pointer_of(k);
+    let class = Oop(image.class(k));
+    loader.place(at, class, shape.kind, shape.size(), shape.literals());
 }
 
 /// Stores the fields of an object that was placed.

@@ -11,7 +11,8 @@ fn roots(head: ImageHead) -> [u32; 22]
 {
     let [globals, symbols] = [head.globals, head.symbols];
     [
-        2, 4, 6, 8, 12, 14, 16, 22, 24, 26, 28, 32, 34, 40, 42, 44, 48, 50, 52, 56, globals, symbols,
+        2, 4, 6, 8, 12, 14, 16, 22, 24, 26, 28, 32, 34, 40, 42, 44, 48, 50, 52, 56, globals,
+        symbols,
     ]
 }
 

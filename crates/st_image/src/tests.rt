@@ -8,15 +8,16 @@ use std::test::Fail;
 /// The objects of a small image, word by word: 20 of the root page, an association, a scheduler with one process, its
 /// context at word 52, and a method at word 72.
 const OBJECTS: [u16; 78] = [
-    2, 12, 2, 12, 2, 12, 4, 12, 2, 58, 2, 12, 2, 12, 2, 12, 2, 12, 2, 12, 2, 12, 2, 12, 2, 12, 2, 12, 2, 12, 2, 12, 2, 12, 2, 12, 2,
-    12, 2, 12, 2, 12, 4, 12, 2, 60, 6, 12, 2, 62, 9, 2, 20, 22, 2, 7, 3, 64, 2, 2, 2, 2, 2, 2, 2, 2, 2, 2, 2, 2, 2, 2, 6, 34, 257,
-    30327, 26787, 64256,
+    2, 12, 2, 12, 2, 12, 4, 12, 2, 58, 2, 12, 2, 12, 2, 12, 2, 12, 2, 12, 2, 12, 2, 12, 2, 12, 2,
+    12, 2, 12, 2, 12, 2, 12, 2, 12, 2, 12, 2, 12, 2, 12, 4, 12, 2, 60, 6, 12, 2, 62, 9, 2, 20, 22,
+    2, 7, 3, 64, 2, 2, 2, 2, 2, 2, 2, 2, 2, 2, 2, 2, 2, 2, 6, 34, 257, 30327, 26787, 64256,
 ];
 
 /// Its table, two words an entry.
 const TABLE: [u16; 66] = [
-    32, 0, 64, 0, 64, 2, 64, 4, 64, 6, 32, 0, 64, 10, 64, 12, 64, 14, 32, 0, 32, 0, 64, 16, 64, 18, 64, 20, 64, 22, 32, 0, 64, 24,
-    64, 26, 32, 0, 32, 0, 64, 28, 64, 30, 64, 32, 32, 0, 64, 34, 64, 36, 64, 38, 32, 0, 64, 40, 64, 42, 64, 46, 64, 52, 128, 72,
+    32, 0, 64, 0, 64, 2, 64, 4, 64, 6, 32, 0, 64, 10, 64, 12, 64, 14, 32, 0, 32, 0, 64, 16, 64, 18,
+    64, 20, 64, 22, 32, 0, 64, 24, 64, 26, 32, 0, 32, 0, 64, 28, 64, 30, 64, 32, 32, 0, 64, 34, 64,
+    36, 64, 38, 32, 0, 64, 40, 64, 42, 64, 46, 64, 52, 128, 72,
 ];
 
 fn push_words(bytes: &mut Vec<u8>, words: &[u16]) -> Result<(), AllocError> {
@@ -120,11 +121,7 @@ fn finds_faults_of_sizes(rt: HostRuntime) -> Result<(), Fail> {
     finds(&rt, &[(1030, 78)], ImageFault::Size(2))?;
     finds(&rt, &[(1030, 2)], ImageFault::Overlap(2, 4))?;
     finds(&rt, &[(512, 3)], ImageFault::Overlap(2, 4))?;
-    finds(
-        &rt,
-        &[(1130, 32), (1138, 32)],
-        ImageFault::Overlap(44, 52),
-    )
+    finds(&rt, &[(1130, 32), (1138, 32)], ImageFault::Overlap(44, 52))
 }
 
 #[test]
@@ -132,11 +129,7 @@ fn finds_faults_of_objects(rt: HostRuntime) -> Result<(), Fail> {
     finds(&rt, &[(514, 13)], ImageFault::Class(2))?;
     finds(&rt, &[(514, 0)], ImageFault::Class(2))?;
     finds(&rt, &[(632, 9998)], ImageFault::Field(62, 6))?;
-    finds(
-        &rt,
-        &[(660, 2), (662, 30328)],
-        ImageFault::Field(64, 1),
-    )?;
+    finds(&rt, &[(660, 2), (662, 30328)], ImageFault::Field(64, 1))?;
     finds(&rt, &[(660, 0)], ImageFault::Method(64))?;
     finds(&rt, &[(1112, 32), (1114, 0)], ImageFault::Root(44))
 }

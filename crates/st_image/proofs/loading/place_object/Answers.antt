@@ -9,10 +9,10 @@ use Rattle.st_image.proofs.Tables.{free_at, puts_object}
 use Rattle.st_image.proofs.loading.place_object.Goals as goal
 
 pub place-requires-clause-borne : goal.place-requires-clause-borne
-place-requires-clause-borne g c = λ e. let a = used_above c.args.image.now.head c.args.image.now.bytes.now c.args.k c.requires.used in let b = c.pointer_of.ensures.pointer in omega arith
+place-requires-clause-borne g c = λ e. let a = used_above c.args.image.now.head c.args.image.now.bytes.now c.args.k c.requires.used in let b = c.pointer_of-at.ensures.pointer in omega arith
 
 pub place-requires-clause-free : goal.place-requires-clause-free
-place-requires-clause-free g c = free_at (g.L.Loader.loaded c.args.loader.now) _ c.args.k c.pointer_of.ensures.value c.requires.room.free
+place-requires-clause-free g c = free_at (g.L.Loader.loaded c.args.loader.now) _ c.args.k c.pointer_of-at.ensures.value c.requires.room.free
 
 pub place-requires-clause-class : goal.place-requires-clause-class
 place-requires-clause-class g c =
@@ -36,5 +36,5 @@ pub returns : goal.returns
 unfolding fresh_in
 returns g c =
     let s = c.requires.shape in
-    puts_object (g.L.Loader.loaded c.args.loader.now) (g.L.Loader.loaded c.place.new.self) _ c.args.k _ c.pointer_of.ensures.value
+    puts_object (g.L.Loader.loaded c.args.loader.now) (g.L.Loader.loaded c.place.new.self) _ c.args.k _ c.pointer_of-at.ensures.value
     (c.place.ensures.objects ∙ rw (c.class.ensures, c.size.ensures, c.literals.ensures, s.kind, s.fields, s.units) refl) c.place.ensures.held c.place.ensures.head
