@@ -16,3 +16,5 @@ mod Rows
 pub mod Roots
 pub mod Raised
 pub mod Showing
+pub mod Made
+mod ImageRows

@@ -16,3 +16,6 @@ pub mod Formed
 pub mod View
 pub mod Calls
 pub mod Text
+pub mod Image
+pub mod Start
+pub mod Faults

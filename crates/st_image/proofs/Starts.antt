@@ -1,0 +1,70 @@
+-- The tenth row, and the state in which the machine begins.
+use Rattle.std.proofs.Common.{◌≡◌, ℕ, ◌<◌, ◌≤◌, ◌⊎◌, List, length, refl, sym, ap, ◌∙◌, arith, inl, inr, Result, Ok, Err}
+use Rattle.std.proofs.lemmas.Bool.{cases_lt}
+use Rattle.st_model.specs.declared.dead.Dead.{Dead}
+use Rattle.st_model.specs.declared.fault.ImageFault.{ImageFault}
+use Rattle.st_model.specs.declared.fault.ImageFault.TheVariants.{Short, Scheduler}
+use Rattle.st_model.specs.declared.head.ImageHead.{ImageHead}
+use Rattle.st_model.specs.Machine.{State, Registers, Head, Died, Went}
+use Rattle.st_model.specs.Table.{Table, table}
+use Rattle.st_model.specs.View.{View, Held, no_devices, empty_view, nothing_held}
+use Rattle.st_model.specs.Contexts.{fetch_scheduled_registers}
+use Rattle.st_model.specs.Start.{start_view, start, idle_state, idle_registers, machine_head}
+use Rattle.st_model.specs.Faults.{Fails, row, Sooner, short_fails, IsImageFault, IsWellFormed}
+use Rattle.st_frames.specs.declared.frame.Frame.{Frame}
+use Rattle.st_frames.specs.Shown.{StaysFrame, with_registers, shown}
+use Rattle.st_image.specs.Rows.{IsFirstOf, IsCleanBelow}
+use Rattle.st_image.specs.Reading.{IsStart}
+use Rattle.st_image.proofs.FaultRows.{short_first}
+use Rattle.st_image.proofs.FaultOrder.{found_fault, clean_none}
+use Rattle.std.proofs.lemmas.Bool.{or_left, lt-ltb}
+
+-- a file without a whole head is too short, whatever a head would say
+pub headless : (h : ImageHead) (bytes : List ℕ) → length bytes < 512 → IsImageFault h bytes Short
+unfolding short_fails
+headless h bytes few = found_fault h bytes 1 Short (clean_none h bytes) (short_first h bytes (or_left _ _ (lt-ltb _ _ few)))
+
+-- where all other rows are clean, and the registers cannot be fetched
+pub scheduler_fault : (h : ImageHead) (bytes : List ℕ) (cause : Dead) → IsCleanBelow h bytes 10 → start h bytes ≡ Died cause → IsImageFault h bytes Scheduler
+unfolding Fails
+scheduler_fault h bytes cause clean died = found_fault h bytes 10 Scheduler clean (record { at = refl; fails = (cause, died); least = least })
+  where
+    least : (g : ImageFault) → row g ≡ 10 → Sooner g Scheduler → ¬ Fails h bytes g
+    least Scheduler e (inl s) fails = omega (arith, s)
+    least Scheduler e (inr s) fails = omega (arith, s.1)
+    least g e s fails = absurd (omega arith)
+
+-- where all other rows are clean, and the registers are fetched
+pub is_well_formed : (h : ImageHead) (bytes : List ℕ) (s : State Table) → IsCleanBelow h bytes 10 → start h bytes ≡ Went tt s → IsWellFormed h bytes
+unfolding Fails
+is_well_formed h bytes s clean went Scheduler fails = let a = sym went ∙ fails.1 in cc
+is_well_formed h bytes s clean went g fails = clean g (omega arith) fails
+
+-- the registers that are fetched from a memory of the image's objects are those of the start
+pub start_went : (h : ImageHead) (bytes : List ℕ) (v w : View) (f : Frame) → v ≡ start_view h bytes
+    → ((r : Registers) → (fetch_scheduled_registers table).run (with_registers v r) ≡ Went tt (shown w f)) → start h bytes ≡ Went tt (shown w f)
+unfolding start
+start_went h bytes v w f e fetched = ap (λ (u : View). (fetch_scheduled_registers table).run (idle_state u)) (sym e) ∙ fetched idle_registers
+
+pub start_died : (h : ImageHead) (bytes : List ℕ) (v : View) (cause : Dead) → v ≡ start_view h bytes
+    → ((r : Registers) → (fetch_scheduled_registers table).run (with_registers v r) ≡ Died cause) → start h bytes ≡ Died cause
+unfolding start
+start_died h bytes v cause e fetched = ap (λ (u : View). (fetch_scheduled_registers table).run (idle_state u)) (sym e) ∙ fetched idle_registers
+
+start_devices : (h : ImageHead) (bytes : List ℕ) → (start_view h bytes).held.devices ≡ no_devices
+unfolding start_view empty_view nothing_held
+start_devices h bytes = refl
+
+pub is_start : (h : ImageHead) (bytes : List ℕ) (v w : View) (f : Frame) → v ≡ start_view h bytes → w.objects ≡ v.objects → w.head ≡ v.head → StaysFrame v w f
+    → ((r : Registers) → (fetch_scheduled_registers table).run (with_registers v r) ≡ Went tt (shown w f)) → IsStart h bytes w f
+is_start h bytes v w f e objects head stays fetched = record {
+  objects = objects ∙ ap (λ (u : View). u.objects) e;
+  head = head ∙ ap (λ (u : View). u.head) e;
+  devices = stays.devices ∙ (ap (λ (u : View). u.held.devices) e ∙ start_devices h bytes);
+  frame = stays.frame;
+  state = start_went h bytes v w f e fetched;
+}
+
+-- the view of an image under another name of its head and its bytes
+pub same_start : (h i : ImageHead) (bytes others : List ℕ) (v : View) → i ≡ h → others ≡ bytes → v ≡ start_view i others → v ≡ start_view h bytes
+same_start h i bytes others v head same e = e ∙ (ap (λ (x : ImageHead). start_view x others) head ∙ ap (start_view h) same)

@@ -1,0 +1,6 @@
+use Rattle.std.proofs.Common.{◌≡◌, ℕ, ◌<◌, false}
+use Rattle.st_model.specs.Faults.{size_fails}
+use Rattle.st_image.proofs.objects.first_bad_size.Given as goal
+
+abbrev pub invariant-loop-k : goal.invariant-loop-k
+invariant-loop-k l = (j : ℕ) → j < l.k → size_fails l.image.head l.image.bytes.now j ≡ false

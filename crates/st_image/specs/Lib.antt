@@ -1,0 +1,6 @@
+pub mod Sizes
+pub mod Passes
+pub mod Rows
+pub mod Loads
+pub mod Reading
+pub mod HeadValues

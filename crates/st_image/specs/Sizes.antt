@@ -1,0 +1,43 @@
+-- What the rows of faults that concern a file's sizes leave to be known of it.
+use Rattle.std.specs.Prelude.{◌≡◌, ℕ, ◌+◌, ◌-◌, ◌*◌, ◌%◌, ◌<◌, ◌≤◌, true, List, length, if◌then◌else◌}
+use Rattle.st_spans.specs.declared.Span.{Span}
+use Rattle.st_model.specs.declared.kind.Kind.{Kind}
+use Rattle.st_model.specs.declared.kind.Kind.TheVariants as kind
+use Rattle.st_model.specs.declared.head.ImageHead.{ImageHead}
+use Rattle.st_model.specs.Image.{table_end, entries_of, is_used, place, size}
+
+-- the file holds its table, and the lengths in its head are within their limits
+pub record IsSized (h : ImageHead) (bytes : List ℕ) : Type 0 where
+  pub table : h.table ≤ 65536
+  pub even : h.table % 2 ≡ 0
+  pub space : h.space ≤ 1048576
+  pub file : table_end h ≤ length bytes
+
+-- the object of entry k has a size word and a class word, and lies in the object space
+pub record IsInside (h : ImageHead) (bytes : List ℕ) (k : ℕ) : Type 0 where
+  pub least : 2 ≤ size h bytes k
+  pub space : place h bytes k + size h bytes k ≤ h.space
+
+-- so does each object of an entry in use
+abbrev pub AreInside : ImageHead → List ℕ → Type 0
+AreInside h bytes = (k : ℕ) → k < entries_of h → is_used h bytes k ≡ true → IsInside h bytes k
+
+-- the words of the object of entry k; a free entry has none
+unfoldable pub span_of : ImageHead → List ℕ → ℕ → Span
+span_of h bytes k = if is_used h bytes k
+    then record { from = place h bytes k; to = place h bytes k + size h bytes k }
+    else record { from = 0; to = 0 }
+
+-- the size by which an object is placed: fields, words, or all bytes
+abbrev pub size_as : Kind → ℕ → ℕ → ℕ
+size_as kind.Pointers fields units = fields
+size_as kind.Words fields units = units
+size_as kind.Bytes fields units = units
+size_as kind.Method fields units = 2 * fields + units
+
+-- the literals by which it is placed: the fields of a method but for its header
+abbrev pub literals_as : Kind → ℕ → ℕ
+literals_as kind.Pointers fields = 0
+literals_as kind.Words fields = 0
+literals_as kind.Bytes fields = 0
+literals_as kind.Method fields = fields - 1
