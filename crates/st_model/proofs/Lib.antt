@@ -13,3 +13,4 @@ pub mod CyclesShown
 pub mod Runs
 pub mod Settling
 mod Rows
+pub mod Pointers

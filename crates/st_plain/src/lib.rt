@@ -1,0 +1,11 @@
+//! An object memory that keeps its objects in plain lists.
+#![tactic(auto)]
+
+mod contents;
+mod entry;
+mod marks;
+mod memory;
+mod objects;
+mod roots;
+
+pub use memory::PlainMemory;
