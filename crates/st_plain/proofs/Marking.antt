@@ -24,7 +24,7 @@ or_turn true false c = refl
 or_turn false true c = refl
 or_turn false false c = refl
 
-or_step : (a b c : Bool) → or a (or b c) ≡ or (or a b) c
+pub or_step : (a b c : Bool) → or a (or b c) ≡ or (or a b) c
 or_step true b c = refl
 or_step false b c = refl
 

@@ -1,13 +1,12 @@
 -- What the parts of a memory contain.
 use Rattle.std.specs.Prelude.{◌≡◌, ℕ, ◌+◌, Bool, List, length, map}
-use Rattle.st_model.specs.Values.{Value, value}
-use Rattle.st_model.specs.Machine.{Devices}
+use Rattle.st_model.specs.Values.{Value}
 use Rattle.st_model.specs.Table.{Table, table, entry}
 use Rattle.st_model.specs.Settled.{or, any_below, object_names, is_root}
-use Rattle.st_model.specs.View.{Held, View, view_roots, head_of}
+use Rattle.st_model.specs.View.{View, view_roots, head_of}
 use Rattle.st_plain.specs.declared.contents.Contents.{Contents}
 use Rattle.st_plain.specs.declared.objects.Objects.{Objects}
-use Rattle.st_plain.specs.declared.roots.Roots.{Roots}
+use Rattle.st_plain.specs.Held.{held_of}
 use Rattle.st_plain.specs.Lists.{listed_table}
 
 -- the table of the objects
@@ -23,23 +22,6 @@ pub record Extent : Type 0 where
 
 abbrev pub extent_of : Objects → Extent
 extent_of o = record { next_field = o.next_field; next_unit = o.next_unit; fields = length o.pointers.items; units = length o.units.items }
-
-abbrev pub held_of : Roots → Held
-held_of r = record {
-  active = value r.places.active;
-  home = value r.places.home;
-  method = value r.places.method;
-  receiver = value r.places.receiver;
-  devices = record {
-    new_process = value r.places.new_process;
-    display = value r.places.display;
-    cursor = value r.places.cursor;
-    input_semaphore = value r.places.input_semaphore;
-    timer = value r.places.timer;
-    low_space = value r.places.low_space;
-    pending = map value r.pending.items;
-  };
-}
 
 -- what a memory of these parts contains
 abbrev pub plain_view : Contents → View

@@ -1,4 +1,4 @@
-ghost use Rattle.std.specs.Prelude.{◌≡◌, ◌<◌, ◌≤◌, ◌+◌, ◌/◌, ◌≢◌, ◌*◌, ℕ, length, true, false, Some, None, is_some, IfSome, IfNone, IfOk, replicate, slice_index_or};
+ghost use Rattle.std.specs.Prelude.{◌≡◌, ◌<◌, ◌≤◌, ◌+◌, ◌/◌, ◌≢◌, ◌*◌, ℕ, length, true, false, Some, None, is_some, IfSome, IfNone, IfOk, replicate, slice_index_or, nat_le};
 ghost use Rattle.st_model.specs.declared.oop.Oop.{Oop};
 ghost use Rattle.st_model.specs.Values.{value, is_small};
 ghost use Rattle.st_model.specs.Objects.{one, words_of};
@@ -93,4 +93,129 @@ impl Objects {
         let entry = self.live_entry(o);
         self.units[(entry.units_at + at) as usize] = v;
     }
+
+    /// A new object of nil and 0 at a pointer.
+    pub fn place(&mut self, at: Oop, class: Oop, kind: Kind, fields: u32, units: u32)
+        requires even { is_small (value at) ≡ false }
+        requires class { is_small (value class) ≡ false }
+        requires small { 2 * fields + units ≤ 131066 }
+        requires fields_end { self.old.next_field + fields ≤ length self.old.pointers.items }
+        requires units_end { self.old.next_unit + units ≤ length self.old.units.items }
+        ensures objects { objects_of self.new ≡ with_object (objects_of self.old) (value at) (cleared (class.0 / 2) kind fields units) }
+        ensures extent { extent_of self.new ≡ record (extent_of self.old) { next_field = self.old.next_field + fields; next_unit = self.old.next_unit + units } }
+    {
+        let place = at.0 >> 1;
+        let entry = Entry {
+            class,
+            kind,
+            fields_at: self.next_field,
+            fields,
+            units_at: self.next_unit,
+            units,
+        };
+        self.entries[usize::from(place)] = Some(entry);
+        self.table_end = self.table_end.max(u32::from(place) + 1);
+        self.next_field += fields;
+        self.next_unit += units;
+    }
+
+    /// 1 where there is an entry.
+    fn entries_at(&self, k: usize) -> u32
+        ensures entries { result ≡ slot_number one_entry (slot self.now.entries.items k) }
+        ensures few { result ≤ 1 }
+    {
+        match self.slot(k) {
+            Some(_) => 1,
+            None => 0,
+        }
+    }
+
+    /// The words of the object at a place.
+    fn words_at(&self, k: usize) -> u32
+        ensures words { result ≡ slot_number entry_words (slot self.now.entries.items k) }
+        ensures small { result ≤ 131068 }
+    {
+        match self.slot(k) {
+            Some(e) => {
+                if e.kind.is_words() {
+                    2 + e.units
+                } else {
+                    2 + e.fields + e.units.div_ceil(2)
+                }
+            }
+            None => 0,
+        }
+    }
+
+    /// How many objects there are, and how many words they have.
+    pub fn used(&self) -> Demand
+        ensures { result ≡ record { entries = total_used one (objects_of self.now); words = total_used words_of (objects_of self.now) } }
+    {
+        let mut entries = 0;
+        let mut words = 0;
+        for k in 0..self.table_end as usize {
+            entries += self.entries_at(k);
+            words += self.words_at(k);
+        }
+        Demand { entries, words }
+    }
+
+    /// The least pointer of an object above `after`.
+    pub fn next_live(&self, after: u32) -> Option<Oop>
+        ensures found { IfSome result (λ o. (is_live (objects_of self.now) (value o) ≡ true) × (after < o.0)) }
+        ensures least { IfSome result (λ o. (p : Oop) → after < p.0 → p.0 < o.0 → is_live (objects_of self.now) (value p) ≡ false) }
+        ensures none { IfNone result ((p : Oop) → after < p.0 → is_live (objects_of self.now) (value p) ≡ false) }
+    {
+        for k in after as usize / 2 + 1..self.table_end as usize {
+            if self.slot(k).is_some() {
+                return Some(Oop((2 * k) as u16));
+            }
+        }
+        None
+    }
+
+    /// Marks what the object at a place refers to.
+    fn mark_from(&self, k: usize, marks: &mut Marks)
+        ensures { (n : ℕ) → is_marked marks.new.names.items n ≡ or (object_names (entry (objects_of self.now) k) n) (is_marked marks.old.names.items n) }
+    {
+        if let Some(e) = self.slot(k) {
+            let first = e.fields_at as usize;
+            marks.mark_all(&self.pointers[first..first + e.fields as usize]);
+            marks.mark(e.class);
+        }
+    }
+
+    /// Marks what the objects refer to.
+    pub fn mark_references(&self, marks: &mut Marks)
+        ensures { (n : ℕ) → is_marked marks.new.names.items n ≡ or (is_referred (objects_of self.now) n) (is_marked marks.old.names.items n) }
+    {
+        for k in 0..self.table_end as usize {
+            self.mark_from(k, marks);
+        }
+    }
+
+    /// Takes away each object whose name is not marked, and answers how many there were.
+    pub fn keep_marked(&mut self, marks: &Marks) -> u32
+        ensures objects { objects_of self.new ≡ settled_table (objects_of self.old) (is_marked marks.now.names.items) }
+        ensures gone { total_used one (objects_of self.new) + result ≡ total_used one (objects_of self.old) }
+    {
+        drop_unmarked(self.entries.as_mut_slice(), marks, self.table_end as usize)
+    }
+}
+
+/// Empties each of the first places that is not marked, and answers how many had an entry.
+fn drop_unmarked(entries: &mut [Option<Entry>], marks: &Marks, end: usize) -> u32
+    requires within { end ≤ length entries.old }
+    requires few { end ≤ 32768 }
+    ensures entries { entries.new ≡ kept_entries entries.old (λ k. or (is_marked marks.now.names.items k) (nat_le end k)) }
+    ensures gone { entry_total one_entry entries.new + result ≡ entry_total one_entry entries.old }
+{
+    let mut gone = 0;
+    for k in 0..end {
+        if entries[k].is_some() && !marks.has(k) {
+            entries[k] = None;
+            gone += 1;
+        }
+    }
+    gone
 }
