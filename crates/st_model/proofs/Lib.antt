@@ -14,3 +14,6 @@ pub mod Runs
 pub mod Settling
 mod Rows
 pub mod Pointers
+pub mod Forms
+pub mod Wholes
+pub mod Sweeps
