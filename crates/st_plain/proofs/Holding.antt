@@ -24,7 +24,7 @@ nil_from xs old new k x within none here after j l = elim (cases_eq j k) [
   | inr d ↦ get_or-set_other xs k j x nil_word d ∙ none j (after j l d)
 ]
 
-twice : (a b : Bool) → or a (or a b) ≡ or a b
+pub twice : (a b : Bool) → or a (or a b) ≡ or a b
 twice true b = refl
 twice false b = refl
 

@@ -1,6 +1,7 @@
 pub mod Holding
 pub mod Looking
 pub mod Marking
+pub mod Needing
 pub mod Placing
 pub mod Referring
 pub mod Slots

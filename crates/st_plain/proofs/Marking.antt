@@ -32,7 +32,7 @@ pub any_names-append : (xs ys : List Value) (n : ℕ) → any_names (xs ++ ys) n
 any_names-append [] ys n = refl
 any_names-append (x ∷ xs) ys n = ap (or (names x n)) (any_names-append xs ys n) ∙ or_step (names x n) (any_names xs n) (any_names ys n)
 
-or_false : (b : Bool) → or b false ≡ b
+pub or_false : (b : Bool) → or b false ≡ b
 or_false true = refl
 or_false false = refl
 

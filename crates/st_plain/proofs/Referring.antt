@@ -5,6 +5,8 @@ use Rattle.std.specs.Option.{option_map}
 use Rattle.std.proofs.lemmas.List.{length-map}
 use Rattle.st_model.specs.declared.oop.Oop.{Oop}
 use Rattle.st_model.specs.Values.{value, is_small}
+use Rattle.std.proofs.lemmas.Bool.{cases_lt}
+use Rattle.st_model.specs.Objects.{Object}
 use Rattle.st_model.specs.Table.{Table, entry}
 use Rattle.st_model.specs.Settled.{or, names, any_names, object_names, any_below}
 use Rattle.st_model.proofs.Pointers.{names-even}
@@ -42,3 +44,10 @@ is_referred-end p u es end n within empty =
 
 pub any_below-more : (k : ℕ) (f : ℕ → Bool) (b : Bool) → or (f k) (or (any_below k f) b) ≡ or (any_below (k + 1) f) b
 any_below-more k f b = or_step (f k) (any_below k f) b ∙ ap (λ m. or (any_below m f) b) (sym (add-one k))
+
+-- each object has its place before the end of the table
+pub entry_within : (p : List Oop) (u : List ℕ) (es : List (Option Entry)) (end k : ℕ) (o : Object) → ((j : ℕ) → end ≤ j → slot es j ≡ None) → entry (listed_table p u es) k ≡ Some o → k < end
+entry_within p u es end k o empty h = elim (cases_lt k end) [
+  | inl l ↦ l
+  | inr l ↦ let e = entry-listed p u es k ∙ ap (option_map (entry_object p u)) (empty k l) in absurd (cc)
+]

@@ -1,3 +1,8 @@
+ghost use Rattle.std.specs.Prelude.{◌≡◌, ◌<◌, ◌+◌, ℕ};
+ghost use Rattle.st_model.specs.Objects.{one};
+ghost use Rattle.st_model.specs.Table.{total_used, settled_table};
+ghost use Rattle.st_model.specs.Settled.{is_marked};
+
 use crate::marks::Marks;
 use crate::objects::Objects;
 use crate::roots::Roots;
@@ -20,4 +25,32 @@ pub struct Contents {
     pub roots: Roots,
     pub head: Head,
     pub marks: Marks,
+}
+
+impl Contents {
+    ghost use Rattle.st_plain.specs.Plain.{plain_view, is_needed};
+
+    /// Marks the roots and what the objects refer to, and no other name of an object.
+    fn mark_needed(&mut self)
+        ensures marked { (n : ℕ) → n < self.old.objects.table_end → is_marked self.new.marks.names.items n ≡ is_needed (plain_view self.old) n }
+        ensures rest { self.new ≡ record self.old { marks = self.new.marks } }
+    {
+        self.marks.clear(self.objects.table_end as usize);
+        self.marks.mark_page();
+        self.marks.mark_table(self.head.globals);
+        self.marks.mark_table(self.head.symbols);
+        self.roots.mark(&mut self.marks);
+        self.objects.mark_references(&mut self.marks);
+    }
+
+    /// Takes away each object that is no root and that no object refers to, and answers how many there were.
+    pub fn drop_unneeded(&mut self) -> u32
+        ensures objects { (plain_view self.new).objects ≡ settled_table (plain_view self.old).objects (is_needed (plain_view self.old)) }
+        ensures held { (plain_view self.new).held ≡ (plain_view self.old).held }
+        ensures head { (plain_view self.new).head ≡ (plain_view self.old).head }
+        ensures gone { total_used one (plain_view self.new).objects + result ≡ total_used one (plain_view self.old).objects }
+    {
+        self.mark_needed();
+        self.objects.keep_marked(&self.marks)
+    }
 }
