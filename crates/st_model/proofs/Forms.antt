@@ -5,7 +5,7 @@ use Rattle.std.proofs.lemmas.List.{length-replicate}
 use Rattle.st_model.specs.declared.kind.Kind.{Kind}
 use Rattle.st_model.specs.declared.kind.Kind.TheVariants as kind
 use Rattle.st_model.specs.Values.{Value, Small, Ref, is_small}
-use Rattle.st_model.specs.Objects.{Object, nil, is_words, is_method, is_pointers, holds_fields, words_of, with_field, object_with_unit}
+use Rattle.st_model.specs.Objects.{Object, nil, is_words, is_method, is_pointers, holds_fields, size_of, words_of, with_field, object_with_unit}
 use Rattle.st_model.specs.Formed.{IsFormed, IsHeader, IsMakeable, IsWord, literals_of, unit_limit, fresh}
 
 -- what stands in a list after a store stood there before or is what was stored
@@ -106,3 +106,34 @@ formed_fresh class kind.Method size literals m = record {
     value : (j : ℕ) (y : Value) → slice_get (Small literals ∷ replicate literals nil) j ≡ Some y → IsWord y
     value zero y e = let few = m.few in let q : Small literals ≡ y = cc in subst IsWord q (omega (arith, few))
     value (suc j) y e = in_replicate IsWord literals nil tt j y e
+
+pub unit_limit-byte : (k : Kind) → is_words k ≡ false → unit_limit k ≡ 256
+unit_limit-byte kind.Pointers h = refl
+unit_limit-byte kind.Words h = cc
+unit_limit-byte kind.Bytes h = refl
+unit_limit-byte kind.Method h = refl
+
+fieldless_words : (k : Kind) → is_words k ≡ true → holds_fields k ≡ false
+fieldless_words kind.Pointers h = cc
+fieldless_words kind.Words h = refl
+fieldless_words kind.Bytes h = cc
+fieldless_words kind.Method h = cc
+
+-- an object of kind Words has its words alone
+pub words_alone : (o : Object) → IsFormed o → is_words o.kind ≡ true → o.fields ≡ []
+words_alone o f h = f.fieldless (fieldless_words o.kind h)
+
+words_size : (o : Object) → IsFormed o → is_words o.kind ≡ true → size_of o ≡ length o.units
+words_size o f h =
+    let none : length o.fields ≡ 0 = ap length (words_alone o f h) in
+    let words : is_pointers o.kind ≡ false = words_are o.kind h in
+    rw words (omega (arith, none))
+  where
+    words_are : (k : Kind) → is_words k ≡ true → is_pointers k ≡ false
+    words_are kind.Pointers q = cc
+    words_are kind.Words q = refl
+    words_are kind.Bytes q = cc
+    words_are kind.Method q = cc
+
+pub words_range : (o : Object) (i : ℕ) → IsFormed o → is_words o.kind ≡ true → i < size_of o → i < length o.units
+words_range o i f h l = let e = words_size o f h in omega (arith, e, l)

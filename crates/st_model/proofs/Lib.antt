@@ -17,3 +17,4 @@ pub mod Pointers
 pub mod Forms
 pub mod Wholes
 pub mod Sweeps
+pub mod Loads

@@ -181,3 +181,7 @@ module _ (v : View) where
 
 pub whole_settled : (v w : View) (keep : ℕ → Bool) → IsWhole v → KeepsNeeded v.objects (view_roots v) keep → w.objects ≡ settled_table v.objects keep → w.held ≡ v.held → w.head ≡ v.head → IsWhole w
 whole_settled v w keep whole k objects held head = whole_as (record { objects = settled_table v.objects keep; held = v.held; head = v.head }) w objects held head (whole_kept v whole keep k)
+
+-- views with the same head that hold the same have the same roots
+pub moved_roots : (v w : View) → w.held ≡ v.held → w.head ≡ v.head → view_roots w ≡ view_roots v
+moved_roots v w held head = λ i. view_roots (record v { held = held i; head = head i })

@@ -64,32 +64,28 @@ whole_as v w objects held head whole = subst IsWhole (λ i. record { objects = s
 
 -- storing a field
 
+live_set : (P : ℕ → Type 0) (xs : List Value) (i : ℕ) (x : Value) → IsLive P x → AllLive P xs → AllLive P (set xs i x)
+live_set P [] i x k h = tt
+live_set P (y ∷ ys) zero x k h = (k, h.1)
+live_set P (y ∷ ys) (suc i) x k h = (h.0, live_set P ys i x k h.1)
+
 module _ (P Q : ℕ → Type 0) (f : (n : ℕ) → P n → Q n) where
   live_more : (x : Value) → IsLive P x → IsLive Q x
   live_more (Small n) h = h
   live_more (Ref n) h = f n h
 
-  live_set : (xs : List Value) (i : ℕ) (x : Value) → IsLive Q x → AllLive P xs → AllLive Q (set xs i x)
-  live_set [] i x k h = tt
-  live_set (y ∷ ys) zero x k h = (k, rest ys h.1)
-    where
-      rest : (zs : List Value) → AllLive P zs → AllLive Q zs
-      rest [] a = tt
-      rest (z ∷ zs) a = (live_more z a.0, rest zs a.1)
-  live_set (y ∷ ys) (suc i) x k h = (live_more y h.0, live_set ys i x k h.1)
-
   live_all : (xs : List Value) → AllLive P xs → AllLive Q xs
   live_all [] h = tt
   live_all (y ∷ ys) h = (live_more y h.0, live_all ys h.1)
 
-length-changed : (t : Table) (n : ℕ) (o : Object) → length (changed t n o) ≡ length t
+pub length-changed : (t : Table) (n : ℕ) (o : Object) → length (changed t n o) ≡ length t
 length-changed [] n o = refl
 length-changed (None ∷ t) zero o = refl
 length-changed (Some a ∷ t) zero o = refl
 length-changed (None ∷ t) (suc n) o = ap (λ k. suc k) (length-changed t n o)
 length-changed (Some a ∷ t) (suc n) o = ap (λ k. suc k) (length-changed t n o)
 
-total_used-changed : (weight : Object → ℕ) (t : Table) (n : ℕ) (a o : Object) → entry t n ≡ Some a → weight o ≡ weight a → total_used weight (changed t n o) ≡ total_used weight t
+pub total_used-changed : (weight : Object → ℕ) (t : Table) (n : ℕ) (a o : Object) → entry t n ≡ Some a → weight o ≡ weight a → total_used weight (changed t n o) ≡ total_used weight t
 total_used-changed weight [] n a o e q = refl
 total_used-changed weight (None ∷ t) zero a o e q = refl
 total_used-changed weight (Some b ∷ t) zero a o e q = let r : weight o ≡ weight b = cc in omega (arith, r)
@@ -112,57 +108,45 @@ module _ (t : Table) (n : ℕ) (a o : Object) (at : entry t n ≡ Some a) where
   pub known_changed : (x : Value) → IsKnown t x → IsKnown (changed t n o) x
   known_changed x h = λ big. live_changed x (h big)
 
+  pub none_changed : (k : ℕ) → entry t k ≡ None → entry (changed t n o) k ≡ None
+  none_changed k e = elim (cases_eq k n) [
+    | inl q ↦ let z : entry t n ≡ None = subst (λ j. entry t j ≡ None) q e in absurd (cc)
+    | inr d ↦ changed-other t n k o d ∙ e
+  ]
+
   -- an object after the change is o, or stood there before
-  changed_is : (P : Object → Type 0) → P o → ((k : ℕ) (b : Object) → entry t k ≡ Some b → P b) → (k : ℕ) (b : Object) → entry (changed t n o) k ≡ Some b → P b
+  pub changed_is : (P : Object → Type 0) → P o → ((k : ℕ) (b : Object) → entry t k ≡ Some b → P b) → (k : ℕ) (b : Object) → entry (changed t n o) k ≡ Some b → P b
   changed_is P new old k b h = elim (cases_eq k n) [
     | inl e ↦ let z = changed-some t n o a at in let y : entry (changed t n o) n ≡ Some b = subst (λ j. entry (changed t n o) j ≡ Some b) e h in let q : o ≡ b = cc in subst P q new
     | inr d ↦ old k b (sym (changed-other t n k o d) ∙ h)
   ]
 
-module _ (v : View) (whole : IsWhole v) (n i : ℕ) (x : Value) (a : Object) (at : entry v.objects n ≡ Some a) (known : IsKnown v.objects x) (header : IsHeader a i x) (word : IsWord x) where
-  abbrev b : Object
-  b = with_field a i x
-
+-- a changed object that is what its kind says, refers to what is there and is as large as the old one
+module _ (v : View) (whole : IsWhole v) (n : ℕ) (a b : Object) (at : entry v.objects n ≡ Some a) (formed : IsFormed b) (live : IsLiveObject (IsUsed v.objects) b) (words : words_of b ≡ words_of a) where
   abbrev t : Table
   t = changed v.objects n b
 
   more : (k : ℕ) → IsUsed v.objects k → IsUsed t k
   more = used_changed v.objects n a b at
 
-  stored_live : IsLiveObject (IsUsed t) b
-  stored_live =
-      let was = whole.complete.objects n a at in
-      record {
-        class = more a.class was.class;
-        fields = live_set (IsUsed v.objects) (IsUsed t) more a.fields i x (live_more (IsUsed v.objects) (IsUsed t) more x (known_live v.objects x known)) was.fields;
-      }
-
-  other_live : (k : ℕ) (o : Object) → entry v.objects k ≡ Some o → IsLiveObject (IsUsed t) o
-  other_live k o e =
-      let was = whole.complete.objects k o e in
-      record { class = more o.class was.class; fields = live_all (IsUsed v.objects) (IsUsed t) more o.fields was.fields }
-
-  unused_changed : (k : ℕ) → entry v.objects k ≡ None → entry t k ≡ None
-  unused_changed k e = elim (cases_eq k n) [
-    | inl q ↦ let z : entry v.objects n ≡ None = subst (λ j. entry v.objects j ≡ None) q e in absurd (cc)
-    | inr d ↦ changed-other v.objects n k b d ∙ e
-  ]
+  still_live : (o : Object) → IsLiveObject (IsUsed v.objects) o → IsLiveObject (IsUsed t) o
+  still_live o was = record { class = more o.class was.class; fields = live_all (IsUsed v.objects) (IsUsed t) more o.fields was.fields }
 
   pub whole_changed : IsWhole (record { objects = t; held = v.held; head = v.head })
   whole_changed = record {
     places = length-changed v.objects n b ∙ whole.places;
-    unused = unused_changed 0 whole.unused;
+    unused = none_changed v.objects n a b at 0 whole.unused;
     complete = record {
-      objects = changed_is v.objects n a b at (IsLiveObject (IsUsed t)) stored_live other_live;
+      objects = changed_is v.objects n a b at (IsLiveObject (IsUsed t)) (still_live b live) (λ k o e. still_live o (whole.complete.objects k o e));
       page = λ q. live_changed v.objects n a b at (Ref (place_of q)) (whole.complete.page q);
       globals = λ y e. live_changed v.objects n a b at y (whole.complete.globals y e);
       symbols = λ y e. live_changed v.objects n a b at y (whole.complete.symbols y e);
     };
-    formed = changed_is v.objects n a b at IsFormed (formed_field a i x (whole.formed n a at) header word) whole.formed;
+    formed = changed_is v.objects n a b at IsFormed formed whole.formed;
     held = λ p. known_changed v.objects n a b at (held_at v.held p) (whole.held p);
     pending = whole.pending;
     entries = subst (λ m. m ≤ v.head.entries) (sym (total_used-changed one v.objects n a b at refl)) whole.entries;
-    words = subst (λ m. m ≤ v.head.words) (sym (total_used-changed words_of v.objects n a b at (words_of-with_field a i x))) whole.words;
+    words = subst (λ m. m ≤ v.head.words) (sym (total_used-changed words_of v.objects n a b at words)) whole.words;
     most_entries = whole.most_entries;
     most_words = whole.most_words;
   }
@@ -177,7 +161,10 @@ whole_stored v w o i x whole live known header word objects held head =
     let t : with_stored v.objects o i x ≡ changed v.objects r.0 (with_field a i x) =
         ap (λ y. with_stored v.objects y i x) r.2 ∙ ap (λ b. changed v.objects r.0 (with_field b i x)) is in
     whole_as (record { objects = changed v.objects r.0 (with_field a i x); held = v.held; head = v.head }) w (objects ∙ t) held head
-        (whole_changed v whole r.0 i x a r.3 known (subst (λ b. IsHeader b i x) r.4 header) word)
+        (whole_changed v whole r.0 a (with_field a i x) r.3
+          (formed_field a i x (whole.formed r.0 a r.3) (subst (λ b. IsHeader b i x) r.4 header) word)
+          (let was = whole.complete.objects r.0 a r.3 in record { class = was.class; fields = live_set (IsUsed v.objects) a.fields i x (known_live v.objects x known) was.fields })
+          (words_of-with_field a i x))
 
 -- holding a value
 

@@ -1,15 +1,16 @@
 -- What is marked where the roots and what the objects refer to are marked.
 use Rattle.std.proofs.Common.{◌≡◌, ℕ, ◌<◌, zero, suc, Bool, true, false, List, [], ◌∷◌, ◌++◌, length, refl, sym, ap, ◌∙◌, subst, arith, inl, inr, ◌⊎◌}
 use Rattle.std.specs.Prelude.{Some, IsTrue, ◌==◌}
-use Rattle.st_model.specs.Objects.{Object, page, place_of}
+use Rattle.st_model.specs.Objects.{Object, one, page, place_of}
 use Rattle.st_model.specs.Machine.{table_root, head_roots, device_roots}
-use Rattle.st_model.specs.Table.{Table, table, entry}
-use Rattle.st_model.specs.Settled.{Refers, IsRoot, or, any_names, object_names, any_below, any_of_page, is_root}
-use Rattle.st_model.specs.View.{View, view_roots}
+use Rattle.st_model.specs.Table.{Table, table, entry, settled_table, total_used}
+use Rattle.st_model.specs.Settled.{Refers, AnyRefTo, IsRoot, held_root, page_root, or, any_names, object_names, any_below, any_of_page, is_root}
+use Rattle.st_model.specs.View.{View, SettlesTo, view_roots}
 use Rattle.st_model.proofs.SettledIs.{or_cases, below_true, object_is, is_object, root_is, is_root-of}
-use Rattle.st_model.proofs.SettledLemmas.{is_some-of}
+use Rattle.st_model.proofs.SettledLemmas.{is_some-of, some_is}
 use Rattle.st_model.proofs.CyclesShown.{table_finite_in}
-use Rattle.st_model.proofs.Sweeps.{KeepsNeeded}
+use Rattle.st_model.proofs.Settling.{DropsTo, left, left_is, settled}
+use Rattle.st_model.proofs.Sweeps.{KeepsNeeded, all_kept, settled_all, moved_roots}
 use Rattle.st_plain.specs.Held.{register_roots}
 use Rattle.st_plain.specs.Plain.{is_referred, is_needed}
 use Rattle.st_plain.proofs.Marking.{any_names-append, or_step}
@@ -73,8 +74,8 @@ module _ (v : View) (n : ℕ) where
   abbrev on_page : Bool
   on_page = any_of_page page (λ q. n == place_of q)
 
-  abbrev first : Bool
-  first = n == 1
+  abbrev of_nil : Bool
+  of_nil = n == 1
 
   abbrev globals : Bool
   globals = any_names (table_root v.head.globals) n
@@ -95,9 +96,32 @@ module _ (v : View) (n : ℕ) where
       ∙ ap (λ b. or registers (or b devices)) (any_names-append (table_root v.head.globals) (table_root v.head.symbols) n)
 
   -- marks of all these are marks of what is needed
-  pub needed_parts : or (is_referred v.objects n) (or registers (or devices (or first (or symbols (or globals on_page))))) ≡ is_needed v n
+  pub needed_parts : or (is_referred v.objects n) (or registers (or devices (or of_nil (or symbols (or globals on_page))))) ≡ is_needed v n
   unfolding is_needed is_root
   needed_parts =
-      turned or (λ a b c. sym (or_step a b c)) or_comm or_swap (is_referred v.objects n) registers devices first symbols globals on_page
-      ∙ ap (λ b. or (or (or registers (or (or globals symbols) devices)) b) (is_referred v.objects n)) (twice first _)
+      turned or (λ a b c. sym (or_step a b c)) or_comm or_swap (is_referred v.objects n) registers devices of_nil symbols globals on_page
+      ∙ ap (λ b. or (or (or registers (or (or globals symbols) devices)) b) (is_referred v.objects n)) (twice of_nil _)
       ∙ ap (λ b. or (or b on_page) (is_referred v.objects n)) (sym named_roots)
+
+moved_root : (first v : View) (n : ℕ) → v.held ≡ first.held → v.head ≡ first.head → IsRoot table v.objects (view_roots v) n → IsRoot table first.objects (view_roots first) n
+moved_root first v n held head (held_root r) = held_root (subst (λ xs. AnyRefTo n xs) (moved_roots first v held head) r)
+moved_root first v n held head (page_root q e) = page_root q e
+
+-- where a round takes nothing away, what is left is the largest set that supports itself
+pub settles_to : (first v w : View) → DropsTo first.objects v.objects (view_roots first) → v.held ≡ first.held → v.head ≡ first.head
+    → w.objects ≡ settled_table v.objects (is_needed v) → w.held ≡ v.held → w.head ≡ v.head → total_used one w.objects ≡ total_used one v.objects → SettlesTo first w
+settles_to first v w drops held head objects same_held same_head total = record {
+  set = left v.objects;
+  is_settled = settled first.objects v.objects (view_roots first) drops (λ n h.
+      let o = some_is (entry v.objects n) h in
+      elim (needed_is v n (kept n o.0 o.1)) [
+      | inl r ↦ inl (moved_root first v n held head r)
+      | inr r ↦ inr r
+      ]);
+  objects = objects ∙ settled_all v.objects (is_needed v) kept ∙ left_is first.objects v.objects drops.as_long drops.same;
+  held = same_held ∙ held;
+  head = same_head ∙ head;
+}
+  where
+    kept : (n : ℕ) (o : Object) → entry v.objects n ≡ Some o → IsTrue (is_needed v n)
+    kept = all_kept v.objects (is_needed v) (sym (ap (total_used one) objects) ∙ total)

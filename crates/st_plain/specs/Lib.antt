@@ -1,4 +1,3 @@
 pub mod Held
 pub mod Lists
 pub mod Plain
-pub mod Props

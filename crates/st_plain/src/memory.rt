@@ -1,6 +1,6 @@
 ghost use Rattle.st_model.specs.View.{IsWhole};
 ghost use Rattle.st_plain.specs.Plain.{plain_view};
-ghost use Rattle.st_plain.specs.Props.{IsWhole-prop};
+ghost use Rattle.st_model.specs.Props.{IsWhole-prop};
 
 use crate::contents::Contents;
 use st_memory::Memory;
@@ -38,18 +38,16 @@ impl Memory for PlainMemory {
     }
 
     fn pointer(&self, o: Oop, at: u32) -> Oop {
-        let entry = self.contents.objects.live_entry(o);
-        self.contents.objects.pointers[(entry.fields_at + at) as usize]
+        self.contents.objects.field(o, at)
     }
 
     fn word(&self, o: Oop, at: u32) -> u16 {
-        let entry = self.contents.objects.live_entry(o);
-        self.contents.objects.units[(entry.units_at + at) as usize]
+        self.contents.objects.unit(o, at)
     }
 
     fn byte(&self, o: Oop, at: u32) -> u8 {
-        let entry = self.contents.objects.live_entry(o);
-        self.contents.objects.units[(entry.units_at + (at - 2 * entry.fields)) as usize] as u8
+        let first = 2 * self.contents.objects.live_entry(o).fields;
+        self.contents.objects.unit(o, at - first) as u8
     }
 
     fn set_pointer(&mut self, o: Oop, at: u32, v: Oop) {

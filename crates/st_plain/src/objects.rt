@@ -1,4 +1,4 @@
-ghost use Rattle.std.specs.Prelude.{◌≡◌, ◌<◌, ◌≤◌, ◌+◌, ◌/◌, ◌≢◌, ◌*◌, ℕ, length, true, false, Some, None, is_some, IfSome, IfNone, IfOk, replicate, slice_index_or, nat_le};
+ghost use Rattle.std.specs.Prelude.{◌≡◌, ◌<◌, ◌≤◌, ◌+◌, ◌/◌, ◌≢◌, ◌*◌, ℕ, length, true, false, Some, None, is_some, IfSome, IfNone, IfOk, slice_get, replicate, slice_index_or, nat_le};
 ghost use Rattle.st_model.specs.declared.oop.Oop.{Oop};
 ghost use Rattle.st_model.specs.Values.{value, is_small};
 ghost use Rattle.st_model.specs.Objects.{one, words_of};
@@ -70,6 +70,26 @@ impl Objects {
         ensures placed { IsPlaced self.now.next_field self.now.next_unit result }
     {
         self.entry(o).unwrap()
+    }
+
+    /// Field `at` of an object.
+    pub fn field(&self, o: Oop, at: u32) -> Oop
+        requires live { is_live (objects_of self.now) (value o) ≡ true }
+        requires range { at < length (object_of (objects_of self.now) (value o)).fields }
+        ensures { slice_get (object_of (objects_of self.now) (value o)).fields at ≡ Some (value result) }
+    {
+        let entry = self.live_entry(o);
+        self.pointers[(entry.fields_at + at) as usize]
+    }
+
+    /// Unit `at` of an object.
+    pub fn unit(&self, o: Oop, at: u32) -> u16
+        requires live { is_live (objects_of self.now) (value o) ≡ true }
+        requires range { at < length (object_of (objects_of self.now) (value o)).units }
+        ensures { slice_get (object_of (objects_of self.now) (value o)).units at ≡ Some result }
+    {
+        let entry = self.live_entry(o);
+        self.units[(entry.units_at + at) as usize]
     }
 
     /// Stores v in field `at`.

@@ -1,15 +1,16 @@
--- What a memory says of itself can hold in one way only, so a struct can keep it.
-use Rattle.std.specs.Prelude.{◌≡◌, ℕ, List, [], ◌∷◌, Option, Some, None, unwrap_or}
-use Rattle.std.proofs.Common.{ap, refl}
+-- What a memory or a loader says of itself can hold in one way only, so that a struct can keep it.
+use Rattle.std.specs.Prelude.{◌≡◌, ℕ, List, [], ◌∷◌, Option, Some, unwrap_or}
+use Rattle.std.proofs.Common.{ap}
 use Rattle.std.proofs.Props.{props}
 use mathlib.Core.HLevel.{Σ_prop_path, Unit-prop, ×_prop}
 use native.Mathlib.Bridge.{le_prop}
-use Rattle.st_model.specs.Values.{Value, Small, Ref, IsLive, AllLive}
+use Rattle.st_model.specs.Values.{Value, Small, Ref, AllLive}
 use Rattle.st_model.specs.Objects.{Object}
 use Rattle.st_model.specs.Formed.{IsWord, IsFormed}
 use Rattle.st_model.specs.Table.{Table, entry}
 use Rattle.st_model.specs.Show.{IsUsed}
 use Rattle.st_model.specs.View.{View, IsComplete, IsWhole}
+use Rattle.st_model.specs.Loading.{IsLoading}
 
 IsWord-prop : (v : Value) → IsProp (IsWord v)
 IsWord-prop (Small n) = le_prop
@@ -19,10 +20,10 @@ IsFormed-prop : (o : Object) → IsProp (IsFormed o)
 IsFormed-prop o = Prim.hlevel (props, IsWord-prop)
 
 IsUsed-prop : (t : Table) (k : ℕ) → IsProp (IsUsed t k)
-IsUsed-prop t k a b = Σ_prop_path (λ o. Prim.hlevel props) (ap (λ (x : Option Object). unwrap_or x a.0) (λ i. e i))
+IsUsed-prop t k a b = Σ_prop_path (λ o. Prim.hlevel props) (ap (λ (x : Option Object). unwrap_or x a.0) same)
   where
-    e : Some a.0 ≡ Some b.0
-    e = cc
+    same : Some a.0 ≡ Some b.0
+    same = cc
 
 AllLive-prop : (t : Table) (vs : List Value) → IsProp (AllLive (IsUsed t) vs)
 AllLive-prop t [] = Unit-prop
@@ -34,3 +35,6 @@ IsComplete-prop v = Prim.hlevel (props, IsUsed-prop, AllLive-prop)
 
 pub IsWhole-prop : (v : View) → IsProp (IsWhole v)
 IsWhole-prop v = Prim.hlevel (props, IsComplete-prop, IsFormed-prop)
+
+pub IsLoading-prop : (v : View) → IsProp (IsLoading v)
+IsLoading-prop v = Prim.hlevel (props, IsFormed-prop)
