@@ -113,6 +113,12 @@ unit_limit-byte kind.Words h = cc
 unit_limit-byte kind.Bytes h = refl
 unit_limit-byte kind.Method h = refl
 
+pub unit_limit-word : (k : Kind) → is_words k ≡ true → unit_limit k ≡ 65536
+unit_limit-word kind.Pointers h = cc
+unit_limit-word kind.Words h = refl
+unit_limit-word kind.Bytes h = cc
+unit_limit-word kind.Method h = cc
+
 fieldless_words : (k : Kind) → is_words k ≡ true → holds_fields k ≡ false
 fieldless_words kind.Pointers h = cc
 fieldless_words kind.Words h = refl
@@ -137,3 +143,10 @@ words_size o f h =
 
 pub words_range : (o : Object) (i : ℕ) → IsFormed o → is_words o.kind ≡ true → i < size_of o → i < length o.units
 words_range o i f h l = let e = words_size o f h in omega (arith, e, l)
+
+-- a new object has at most two units to a word, or a field
+pub fresh_parts : (class : ℕ) (k : Kind) (size literals : ℕ) → 2 * length (fresh class k size literals).fields + length (fresh class k size literals).units ≤ 2 * words_of (fresh class k size literals)
+fresh_parts class kind.Pointers size literals = omega arith
+fresh_parts class kind.Words size literals = omega arith
+fresh_parts class kind.Bytes size literals = omega arith
+fresh_parts class kind.Method size literals = omega arith

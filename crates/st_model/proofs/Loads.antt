@@ -111,6 +111,30 @@ module _ (v w : View) (x : Value) (i : ℕ) (loading : IsLoading v) (live : is_l
           (objects ∙ ap (λ z. with_unit v.objects z i u) r.2 ∙ ap (λ o. changed v.objects r.0 (object_with_unit o i u)) is) held head
           (loading_changed v r.0 r.1 b loading r.3 (formed_unit (object_of v.objects x) i u object small) (words_of-object_with_unit (object_of v.objects x) i u ∙ ap words_of r.4))
 
+-- how many words the objects have then
+
+pub total_used-with_stored : (t : Table) (x : Value) (i : ℕ) (y : Value) → is_live t x ≡ true → total_used words_of (with_stored t x i y) ≡ total_used words_of t
+unfolding with_stored
+total_used-with_stored t x i y live =
+    let r = named t x live in
+    let is : object_of t (Ref r.0) ≡ r.1 = ap (object_of t) (sym r.2) ∙ r.4 in
+    ap (λ z. total_used words_of (with_stored t z i y)) r.2
+    ∙ total_used-changed words_of t r.0 r.1 (with_field (object_of t (Ref r.0)) i y) r.3 (words_of-with_field (object_of t (Ref r.0)) i y ∙ ap words_of is)
+
+pub total_used-with_unit : (t : Table) (x : Value) (i u : ℕ) → is_live t x ≡ true → total_used words_of (with_unit t x i u) ≡ total_used words_of t
+unfolding with_unit
+total_used-with_unit t x i u live =
+    let r = named t x live in
+    let is : object_of t (Ref r.0) ≡ r.1 = ap (object_of t) (sym r.2) ∙ r.4 in
+    ap (λ z. total_used words_of (with_unit t z i u)) r.2
+    ∙ total_used-changed words_of t r.0 r.1 (object_with_unit (object_of t (Ref r.0)) i u) r.3 (words_of-object_with_unit (object_of t (Ref r.0)) i u ∙ ap words_of is)
+
+pub total_used-with_object : (t : Table) (x : Value) (n : ℕ) (o : Object) → x ≡ Ref n → n < length t → is_live t x ≡ false → total_used words_of (with_object t x o) ≡ total_used words_of t + words_of o
+unfolding with_object is_live
+total_used-with_object t x n o named within free =
+    ap (λ z. total_used words_of (with_object t z o)) named
+    ∙ total_used-set words_of t n o within (none_of (entry t n) (subst (λ y. is_live t y ≡ false) named free))
+
 -- what is complete is whole
 pub whole_loaded : (v : View) → IsLoading v → IsComplete v → IsWhole v
 whole_loaded v loading complete = record {

@@ -1,6 +1,5 @@
 -- What the parts of a memory contain.
-use Rattle.std.specs.Prelude.{◌≡◌, ℕ, ◌+◌, Bool, List, length, map}
-use Rattle.st_model.specs.Values.{Value}
+use Rattle.std.specs.Prelude.{◌≡◌, ◌≤◌, ℕ, ◌+◌, ◌*◌, Bool, length}
 use Rattle.st_model.specs.Table.{Table, table, entry}
 use Rattle.st_model.specs.Settled.{or, any_below, object_names, is_root}
 use Rattle.st_model.specs.View.{View, view_roots, head_of}
@@ -22,6 +21,12 @@ pub record Extent : Type 0 where
 
 abbrev pub extent_of : Objects → Extent
 extent_of o = record { next_field = o.next_field; next_unit = o.next_unit; fields = length o.pointers.items; units = length o.units.items }
+
+-- The lists are as long as a number of words may need, and no more of them is in use than the objects take.
+pub record HasRoom (e : Extent) (used words : ℕ) : Type 0 where
+  pub fields : e.fields ≡ words
+  pub units : e.units ≡ 2 * words
+  pub taken : 2 * e.next_field + e.next_unit ≤ 2 * used
 
 -- what a memory of these parts contains
 abbrev pub plain_view : Contents → View

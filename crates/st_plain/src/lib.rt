@@ -3,9 +3,12 @@
 
 mod contents;
 mod entry;
+mod lists;
+mod loader;
 mod marks;
 mod memory;
 mod objects;
 mod roots;
 
+pub use loader::PlainLoader;
 pub use memory::PlainMemory;

@@ -6,6 +6,7 @@ ghost use Rattle.st_model.specs.Machine.{table_root};
 ghost use Rattle.st_model.specs.Settled.{or, names, any_names, any_of_page, is_marked};
 ghost use Rattle.st_model.specs.View.{table_of};
 
+use crate::lists::no_marks;
 use st_model::Oop;
 use std::alloc::{AllocError, Global};
 
@@ -38,13 +39,6 @@ const PAGE: [Oop; 20] = [
 pub struct Marks {
     pub names: Vec<bool>,
     ghost long: { length names.items ≡ 32768 },
-}
-
-/// A list of marks that are false.
-fn no_marks(alloc: Global, len: usize) -> Result<Vec<bool>, AllocError>
-    ensures { IfOk result (λ v. length v.items ≡ len) }
-{
-    vec![in alloc; false; len]
 }
 
 impl Marks {

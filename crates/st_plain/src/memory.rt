@@ -1,3 +1,4 @@
+ghost use Rattle.std.specs.Prelude.{◌≡◌};
 ghost use Rattle.st_model.specs.View.{IsWhole};
 ghost use Rattle.st_plain.specs.Plain.{plain_view};
 ghost use Rattle.st_model.specs.Props.{IsWhole-prop};
@@ -11,6 +12,16 @@ use st_model::{Demand, Kind, Oop, RootPlace};
 pub struct PlainMemory {
     contents: Contents,
     ghost whole: { IsWhole (plain_view contents) } by { IsWhole-prop (plain_view contents) },
+}
+
+impl PlainMemory {
+    /// A memory of these parts.
+    pub(crate) fn new(contents: Contents) -> PlainMemory
+        requires { IsWhole (plain_view contents) }
+        ensures { result.contents ≡ contents }
+    {
+        PlainMemory { contents }
+    }
 }
 
 impl Memory for PlainMemory {

@@ -2,12 +2,14 @@ ghost use Rattle.std.specs.Prelude.{◌≡◌, ◌<◌, ◌≤◌, ◌+◌, ◌/
 ghost use Rattle.st_model.specs.declared.oop.Oop.{Oop};
 ghost use Rattle.st_model.specs.Values.{value, is_small};
 ghost use Rattle.st_model.specs.Objects.{one, words_of};
+ghost use Rattle.st_model.specs.Formed.{IsMakeable, fresh};
 ghost use Rattle.st_model.specs.Table.{entry, total_used, settled_table};
 ghost use Rattle.st_model.specs.Settled.{or, object_names, is_marked};
 ghost use Rattle.st_model.specs.View.{is_live, object_of, with_object, with_stored, with_unit};
 ghost use Rattle.st_plain.specs.Lists.{IsLaidOut, IsPlaced, slot, entry_of, entry_object, slot_number, one_entry, entry_words, kept_entries, entry_total, cleared};
 
 use crate::entry::Entry;
+use crate::lists::{empty_places, nil_words, zero_units};
 use crate::marks::Marks;
 use st_model::{Demand, Kind, Oop};
 use std::alloc::{AllocError, Global};
@@ -30,6 +32,26 @@ pub struct Objects {
 
 impl Objects {
     ghost use Rattle.st_plain.specs.Plain.{objects_of, is_referred, extent_of};
+
+    /// No objects, and room for the fields and units of so many words.
+    pub fn new(alloc: Global, words: u32) -> Result<Objects, AllocError>
+        requires { words ≤ 1048576 }
+        ensures places { IfOk result (λ o. length (objects_of o) ≡ 32768) }
+        ensures empty { IfOk result (λ o. (k : ℕ) → entry (objects_of o) k ≡ None) }
+        ensures extent { IfOk result (λ o. extent_of o ≡ record { next_field = 0; next_unit = 0; fields = words; units = 2 * words }) }
+    {
+        let entries = empty_places(alloc, 32768)?;
+        let pointers = nil_words(alloc, words as usize)?;
+        let units = zero_units(alloc, 2 * words as usize)?;
+        Ok(Objects {
+            entries,
+            pointers,
+            units,
+            table_end: 0,
+            next_field: 0,
+            next_unit: 0,
+        })
+    }
 
     /// The entry at a place.
     fn slot(&self, k: usize) -> Option<Entry>
@@ -139,6 +161,24 @@ impl Objects {
         self.next_unit += units;
     }
 
+    /// A new object at a pointer, with fields of nil, units of 0 and, in a Method, its literal count.
+    pub fn place_fresh(&mut self, at: Oop, class: Oop, kind: Kind, size: u32, literals: u32)
+        requires even { is_small (value at) ≡ false }
+        requires class { is_small (value class) ≡ false }
+        requires makeable { IsMakeable (class.0 / 2) kind size literals }
+        requires fields_end { self.old.next_field + length (fresh (class.0 / 2) kind size literals).fields ≤ length self.old.pointers.items }
+        requires units_end { self.old.next_unit + length (fresh (class.0 / 2) kind size literals).units ≤ length self.old.units.items }
+        ensures objects { objects_of self.new ≡ with_object (objects_of self.old) (value at) (fresh (class.0 / 2) kind size literals) }
+        ensures extent { extent_of self.new ≡ record (extent_of self.old) { next_field = self.old.next_field + length (fresh (class.0 / 2) kind size literals).fields; next_unit = self.old.next_unit + length (fresh (class.0 / 2) kind size literals).units } }
+    {
+        let fields = fields_of(class, kind, size, literals);
+        let units = units_of(class, kind, size, literals);
+        self.place(at, class, kind, fields, units);
+        if kind.is_method() {
+            self.set_field(at, 0, Oop(2 * literals as u16 + 1));
+        }
+    }
+
     /// 1 where there is an entry.
     fn entries_at(&self, k: usize) -> u32
         ensures entries { result ≡ slot_number one_entry (slot self.now.entries.items k) }
@@ -238,4 +278,28 @@ fn drop_unmarked(entries: &mut [Option<Entry>], marks: &Marks, end: usize) -> u3
         }
     }
     gone
+}
+
+/// How many fields a new object has.
+fn fields_of(class: Oop, kind: Kind, size: u32, literals: u32) -> u32
+    requires { IsMakeable (class.0 / 2) kind size literals }
+    ensures { result ≡ length (fresh (class.0 / 2) kind size literals).fields }
+{
+    match kind {
+        Kind::Pointers => size,
+        Kind::Words | Kind::Bytes => 0,
+        Kind::Method => literals + 1,
+    }
+}
+
+/// How many units a new object has.
+fn units_of(class: Oop, kind: Kind, size: u32, literals: u32) -> u32
+    requires { IsMakeable (class.0 / 2) kind size literals }
+    ensures { result ≡ length (fresh (class.0 / 2) kind size literals).units }
+{
+    match kind {
+        Kind::Pointers => 0,
+        Kind::Words | Kind::Bytes => size,
+        Kind::Method => size - 2 * (literals + 1),
+    }
 }

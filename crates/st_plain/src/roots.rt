@@ -7,6 +7,7 @@ ghost use Rattle.st_model.specs.Settled.{or, any_names, is_marked};
 ghost use Rattle.st_model.specs.View.{held_at, with_held, IsPlace, nothing_held};
 ghost use Rattle.st_plain.specs.Lists.{nil_word};
 
+use crate::lists::nil_words;
 use crate::marks::Marks;
 use st_model::{Oop, RootPlace};
 use std::alloc::{AllocError, Global};
@@ -109,6 +110,18 @@ fn end_with(end: u32, k: u16, o: Oop) -> u32
 
 impl Roots {
     ghost use Rattle.st_plain.specs.Held.{held_words, held_of, register_roots};
+
+    /// Nothing held.
+    pub fn new(alloc: Global) -> Result<Roots, AllocError>
+        ensures { IfOk result (λ r. held_of r ≡ nothing_held) }
+    {
+        let pending = nil_words(alloc, 4096)?;
+        Ok(Roots {
+            places: Places::NOTHING,
+            pending,
+            pending_end: 0,
+        })
+    }
 
     /// What is held at a place.
     pub fn held(&self, place: RootPlace) -> Oop
