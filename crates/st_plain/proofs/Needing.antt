@@ -34,14 +34,17 @@ below_some (suc n) k f l h = elim (last_case k n l) [
     last_case : (k n : ℕ) → k < suc n → (k ≡ n) ⊎ (k < n)
     last_case k n l = grind arith
 
+pub is_referred-of : (t : Table) (m : ℕ) (o : Object) (n : ℕ) → entry t m ≡ Some o → Refers o n → IsTrue (is_referred t n)
+unfolding is_referred
+is_referred-of t m o n e r = below_some (length t) m (λ j. object_names (entry t j) n) (table_finite_in t m (is_some-of (entry t m) o e)) (is_object (entry t m) o n e r)
+
 module _ (v : View) where
   -- the roots and what the objects refer to are needed
   pub keeps_needed : KeepsNeeded v.objects (view_roots v) (is_needed v)
-  unfolding is_needed is_referred
+  unfolding is_needed
   keeps_needed = record {
     root = λ n r. or_left (is_root table v.objects (view_roots v) n) (is_referred v.objects n) (is_root-of table v.objects (view_roots v) n r);
-    referred = λ m o n e r. or_right (is_root table v.objects (view_roots v) n) (is_referred v.objects n)
-        (below_some (length v.objects) m (λ j. object_names (entry v.objects j) n) (table_finite_in v.objects m (is_some-of (entry v.objects m) o e)) (is_object (entry v.objects m) o n e r));
+    referred = λ m o n e r. or_right (is_root table v.objects (view_roots v) n) (is_referred v.objects n) (is_referred-of v.objects m o n e r);
   }
 
   -- and nothing else is

@@ -62,3 +62,6 @@ impl Loader for PlainLoader {
         PlainMemory::new(self.contents)
     }
 }
+
+#[cfg(test)]
+mod tests;
