@@ -18,3 +18,6 @@ pub mod Forms
 pub mod Wholes
 pub mod Sweeps
 pub mod Loads
+pub mod Roots
+pub mod Raised
+pub mod Showing

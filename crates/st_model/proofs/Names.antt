@@ -84,7 +84,7 @@ module _ (P : ℕ → Type 0) (f : ℕ → ℕ) (k : ℕ) where
   refers_back o h (inl r) = (o.class, h.class, inl refl, r)
   refers_back o h (inr r) = let b = any_back o.fields h.fields r in (b.0, b.1, inr b.2, b.3)
 
-all_append : (P : ℕ → Type 0) (xs ys : List Value) → AllLive P (xs ++ ys) → AllLive P xs × AllLive P ys
+pub all_append : (P : ℕ → Type 0) (xs ys : List Value) → AllLive P (xs ++ ys) → AllLive P xs × AllLive P ys
 all_append P [] ys h = (tt, h)
 all_append P (x ∷ xs) ys h = let r = all_append P xs ys h.1 in ((h.0, r.0), r.1)
 

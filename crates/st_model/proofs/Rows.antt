@@ -7,8 +7,8 @@ use Rattle.st_model.specs.declared.outcome.Outcome.TheVariants as outcome
 use Rattle.st_model.specs.Values.{Value, Small, Ref}
 use Rattle.st_model.specs.Objects.{Object, nil}
 use Rattle.st_model.specs.Machine.{State, Registers, Head, empty_world, Transition, Died, Went, answer, die, after, ◌>>=◌, ◌>>◌}
-use Rattle.st_model.specs.Steps.{get_active, get_home, get_method, get_receiver, get_ip, get_sp, set_ip, set_sp, set_registers, found, object_named, object, replace_at, replace, of_page, or_die, check, fetch_field, store_field, integer_or_die, fetch_integer, put, push, top, pop, literal, byte_at, next_byte, jump}
-use Rattle.st_model.specs.Contexts.{home_by, home_of, stack_place, fetch_stack_pointer, fetch_context_registers, scheduled_context, fetch_scheduled_registers}
+use Rattle.st_model.specs.Steps.{get_active, get_home, get_method, get_receiver, get_ip, get_sp, set_ip, set_sp, set_registers, found, object_named, object, replace_at, replace, of_page, or_die, check, fetch_field, store_field, integer_or_die, fetch_integer, count_fields, put, push, top, pop, literal, byte_at, next_byte, jump}
+use Rattle.st_model.specs.Contexts.{home_by, home_of, stack_place, fetch_stack_pointer, context_registers, fetch_context_registers, scheduled_context, fetch_scheduled_registers}
 use Rattle.st_model.specs.Bytecodes.{fetch_receiver_variable, fetch_temporary_variable, fetch_literal_constant, fetch_literal_variable, fetch_operand, store_receiver_variable, store_temporary_variable, store_literal_variable, store_operand, push_operand, store_and_pop, push_receiver, constant_value, push_constant, extended_push, extended_store, extended_store_and_pop, pop_stack, duplicate_top, push_active_context, short_unconditional_jump, long_unconditional_jump, bytecode, perform, step}
 use Rattle.st_model.specs.Table.{Table, table}
 use Rattle.st_model.specs.Settled.{is_root, is_supported, next_round, settled_set, reclaim}
@@ -18,7 +18,7 @@ use Rattle.st_model.specs.Text.{state_text, report}
 
 -- opens the machine's definitions
 opened : Unit {0}
-unfolding answer die after ◌>>=◌ ◌>>◌ get_active get_home get_method get_receiver get_ip get_sp set_ip set_sp set_registers found object_named object replace_at replace of_page or_die check fetch_field store_field integer_or_die fetch_integer put push top pop literal byte_at next_byte jump home_by home_of stack_place fetch_stack_pointer fetch_context_registers scheduled_context fetch_scheduled_registers fetch_receiver_variable fetch_temporary_variable fetch_literal_constant fetch_literal_variable fetch_operand store_receiver_variable store_temporary_variable store_literal_variable store_operand push_operand store_and_pop push_receiver constant_value push_constant extended_push extended_store extended_store_and_pop pop_stack duplicate_top push_active_context short_unconditional_jump long_unconditional_jump bytecode perform step is_root is_supported next_round settled_set reclaim cycle run finished
+unfolding answer die after ◌>>=◌ ◌>>◌ get_active get_home get_method get_receiver get_ip get_sp set_ip set_sp set_registers found object_named object replace_at replace of_page or_die check fetch_field store_field integer_or_die fetch_integer count_fields put push top pop literal byte_at next_byte jump home_by home_of stack_place fetch_stack_pointer context_registers fetch_context_registers scheduled_context fetch_scheduled_registers fetch_receiver_variable fetch_temporary_variable fetch_literal_constant fetch_literal_variable fetch_operand store_receiver_variable store_temporary_variable store_literal_variable store_operand push_operand store_and_pop push_receiver constant_value push_constant extended_push extended_store extended_store_and_pop pop_stack duplicate_top push_active_context short_unconditional_jump long_unconditional_jump bytecode perform step is_root is_supported next_round settled_set reclaim cycle run finished
 opened = tt
 
 -- an object of class 12 with these fields

@@ -5,10 +5,12 @@ use Rattle.std.proofs.lemmas.Bool.Decides.{nat_tests}
 use Rattle.st_model.specs.declared.dead.Dead.{Dead}
 use Rattle.st_model.specs.declared.dead.Dead.TheVariants as dead
 use Rattle.st_model.specs.Values.{Value, Small, Ref, is_small}
-use Rattle.st_model.specs.Objects.{Object, with_field, is_pointers}
-use Rattle.st_model.specs.Machine.{State, Transition, Died, Went, Step, after, answer, die, ◌>>=◌, ◌>>◌}
-use Rattle.st_model.specs.Steps.{get_active, get_home, get_method, get_receiver, get_ip, get_sp, set_ip, set_sp, found, object_named, object, replace_at, replace, or_die, check, store_field, put}
+use Rattle.st_model.specs.Objects.{PageObject, place_of, Object, with_field, is_pointers}
+use Rattle.st_model.specs.Machine.{Registers, State, Transition, Died, Went, Step, after, answer, die, ◌>>=◌, ◌>>◌}
+use Rattle.st_model.specs.Steps.{get_active, get_home, get_method, get_receiver, get_ip, get_sp, set_ip, set_sp, set_registers, of_page, found, object_named, object, replace_at, replace, or_die, check, fetch_field, store_field, integer_or_die}
 use Rattle.st_model.specs.Table.{Table, table, entry}
+use Rattle.st_model.specs.Values.{integer_of}
+use Rattle.st_model.specs.Contexts.{home_by}
 use Rattle.st_model.specs.View.{is_live, object_of, with_stored, nothing}
 
 pub run-then : {A B : Type 0} (m : Step Table A) (f : A → Step Table B) (s : State Table) → (m >>= f).run s ≡ after (m.run s) (λ a t. (f a).run t)
@@ -67,6 +69,14 @@ pub run-set_sp : (n : ℕ) (s : State Table) → (set_sp n).run s ≡ Went tt (r
 unfolding set_sp
 run-set_sp n s = refl
 
+pub run-set_registers : (r : Registers) (s : State Table) → (set_registers r).run s ≡ Went tt (record s { registers = r })
+unfolding set_registers
+run-set_registers r s = refl
+
+pub run-of_page : (q : PageObject) (s : State Table) → (of_page table q).run s ≡ Went (Ref (place_of q)) s
+unfolding of_page
+run-of_page q s = refl
+
 pub run-passed : (k : Dead) (b : Bool) (s : State Table) → b ≡ true → (check k b).run s ≡ Went tt s
 unfolding check answer
 run-passed k true s e = refl
@@ -116,18 +126,30 @@ run-store v i x s live kind range =
     let r : nat_lt i (length (object_of s.memory v).fields) ≡ true = grind (arith, nat_tests) in
     simp (run-then, run-next, after-went, run-live v s live, run-passed dead.Kind _ s kind, run-passed dead.Field _ s r, run-replace v i x s live) refl
 
-pub run-put : (v : Value) (i : ℕ) (x : Value) (s : State Table) → is_live s.memory v ≡ true → is_pointers (object_of s.memory v).kind ≡ true
-    → i < length (object_of s.memory v).fields → i < 16389 → (put table v i x).run s ≡ Went tt (record s { memory = with_stored s.memory v i x })
-unfolding put
-run-put v i x s live kind range small =
-    let r : nat_lt i (length (object_of s.memory v).fields) ≡ true = grind (arith, nat_tests) in
-    let m : nat_lt i 16389 ≡ true = grind (arith, nat_tests) in
-    simp (run-then, run-next, after-went, run-live v s live, run-passed dead.Kind _ s kind, run-passed dead.Sp _ s r, run-passed dead.Sp _ s m, run-replace v i x s live) refl
+pub run-integer : (v : Value) (s : State Table) → is_small v ≡ true → (integer_or_die v).run s ≡ Went (integer_of v) s
+unfolding integer_or_die answer
+run-integer (Small n) s e = refl
+run-integer (Ref n) s e = cc
+
+pub run-no_integer : (v : Value) (s : State Table) → is_small v ≡ false → (integer_or_die v).run s ≡ Died dead.NotSmall
+unfolding integer_or_die die
+run-no_integer (Small n) s e = cc
+run-no_integer (Ref n) s e = refl
+
+pub run-block_home : (c v : Value) (s : State Table) → is_small v ≡ true → (home_by table c v).run s ≡ (fetch_field table c 5).run s
+unfolding home_by
+run-block_home c (Small n) s e = refl
+run-block_home c (Ref n) s e = cc
+
+pub run-method_home : (c v : Value) (s : State Table) → is_small v ≡ false → (home_by table c v).run s ≡ Went c s
+unfolding home_by answer
+run-method_home c (Small n) s e = cc
+run-method_home c (Ref n) s e = refl
 
 pub get-past : {A : Type 0} (xs : List A) (i : ℕ) → length xs ≤ i → slice_get xs i ≡ None
 get-past [] i l = refl
 get-past (x ∷ xs) zero l = absurd (omega arith)
 get-past (x ∷ xs) (suc i) l = get-past xs i (omega arith)
 
-pub ruleset runs = (run-then, run-next, after-went, after-died, run-answer, run-die, run-active, run-home, run-method, run-receiver, run-ip, run-sp, run-set_ip, run-set_sp, run-passed, run-failed, run-some, run-none, run-small, run-live, run-replace, get-past)
-pub ruleset stores = (run-store, run-put)
+pub ruleset runs = (run-then, run-next, after-went, after-died, run-answer, run-die, run-active, run-home, run-method, run-receiver, run-ip, run-sp, run-set_ip, run-set_sp, run-set_registers, run-of_page, run-passed, run-failed, run-some, run-none, run-small, run-live, run-replace, run-integer, run-no_integer, run-block_home, run-method_home, get-past)
+pub ruleset stores = (run-store)

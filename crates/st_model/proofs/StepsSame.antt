@@ -6,7 +6,7 @@ use Rattle.st_model.specs.declared.kind.Kind.{Kind}
 use Rattle.st_model.specs.Values.{Value, Small, Ref, renamed, renamed_all, IsLive, AllLive}
 use Rattle.st_model.specs.Objects.{Object, PageObject, renamed_object, IsLiveObject}
 use Rattle.st_model.specs.Machine.{ObjectMemory, Registers}
-use Rattle.st_model.specs.Steps.{get_active, get_home, get_method, get_receiver, get_ip, get_sp, set_ip, set_sp, found, object_named, object, replace_at, replace, make, of_page, or_die, check, fetch_field, store_field, append, put, push, top, pop, literal, byte_at, next_byte, jump}
+use Rattle.st_model.specs.Steps.{get_active, get_home, get_method, get_receiver, get_ip, get_sp, set_ip, set_sp, found, object_named, object, replace_at, replace, make, of_page, or_die, check, fetch_field, store_field, append, count_fields, put, push, top, pop, literal, byte_at, next_byte, jump}
 use Rattle.st_model.specs.declared.bytecode.Operand.{Operand}
 use Rattle.st_model.specs.declared.bytecode.Operand.TheVariants.{ReceiverVariable, TemporaryVariable, LiteralConstant, LiteralVariable}
 use Rattle.st_model.specs.declared.bytecode.Constant.{Constant}
@@ -153,10 +153,17 @@ module _ {H K : Type 0} {M : ObjectMemory H} {N : ObjectMemory K} (sim : Simulat
       → Same sim Anything itself (store_field M v i x) (store_field N w i y)
   store_field-same v w i x y h k e f = rw (e, f) (store_field_one-same v i x h k)
 
+  count_fields_one-same : (v : Value) → IsLive sim.live v → Same sim Anything itself (count_fields M v) (count_fields N (renamed sim.name v))
+  unfolding count_fields
+  count_fields_one-same v h = search memory_same depth 20 fits 4000
+
+  pub count_fields-same : (v w : Value) → IsLive sim.live v → w ≡ renamed sim.name v → Same sim Anything itself (count_fields M v) (count_fields N w)
+  count_fields-same v w h e = rw e (count_fields_one-same v h)
+
   put_one-same : (c : Value) (at : ℕ) (x : Value) → IsLive sim.live c → IsLive sim.live x
       → Same sim Anything itself (put M c at x) (put N (renamed sim.name c) at (renamed sim.name x))
   unfolding put
-  put_one-same c at x h k = search memory_same depth 20 fits 4000
+  put_one-same c at x h k = search (memory_same, count_fields-same, store_field-same) depth 20 fits 4000
 
   pub put-same : (c d : Value) (at : ℕ) (x y : Value) → IsLive sim.live c → IsLive sim.live x → d ≡ renamed sim.name c → y ≡ renamed sim.name x
       → Same sim Anything itself (put M c at x) (put N d at y)

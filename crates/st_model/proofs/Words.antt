@@ -1,7 +1,9 @@
 -- Words and their values.
-use Rattle.std.proofs.Common.{◌≡◌, ℕ, Bool, true, false, refl, ◌%◌}
-use Rattle.std.specs.Prelude.{if◌then◌else◌, ◌==◌, ◌/◌}
-use Rattle.st_model.specs.Values.{Value, Small, Ref, value_of, is_small}
+use Rattle.std.proofs.Common.{◌≡◌, ◌<◌, ◌≤◌, ℕ, Bool, true, false, refl, ◌%◌, arith}
+use Rattle.std.proofs.lemmas.Bool.Decides.{nat_tests}
+use Rattle.std.specs.Prelude.{if◌then◌else◌, ◌==◌, ◌/◌, ◌-◌, nat_lt, pos, negsuc}
+use Rattle.st_model.specs.Values.{Value, Small, Ref, value_of, is_small, integer, integer_of}
+use Rattle.st_model.specs.Objects.{place_of, NilObject, FalseObject, TrueObject, SchedulerAssociation}
 use Rattle.st_model.specs.Formed.{literals_of}
 
 is_small_if : (b : Bool) (n : ℕ) → is_small (if b then Small n else Ref n) ≡ b
@@ -21,3 +23,38 @@ unfolding value_of
 literals_of-value_of w = literals_if (w % 2 == 1) (w / 2)
 
 pub ruleset words = (is_small-value_of, literals_of-value_of)
+
+small_integer : (b : Bool) (n : ℕ) → is_small (if b then Small n else Ref n) ≡ true → integer_of (if b then Small n else Ref n) ≡ integer n
+small_integer true n e = refl
+small_integer false n e = cc
+
+pub integer_of-value_of : (w : ℕ) → is_small (value_of w) ≡ true → integer_of (value_of w) ≡ integer (w / 2)
+unfolding value_of
+integer_of-value_of w e = small_integer (w % 2 == 1) (w / 2) e
+
+pub integer-low : (n : ℕ) → n < 16384 → integer n ≡ pos n
+integer-low n l = let b : nat_lt n 16384 ≡ true = grind (arith, nat_tests) in rw b refl
+
+pub integer-high : (n : ℕ) → 16384 ≤ n → integer n ≡ negsuc (32767 - n)
+integer-high n l = let b : nat_lt n 16384 ≡ false = grind (arith, nat_tests) in rw b refl
+
+pub ruleset integers = (integer_of-value_of, integer-low, integer-high)
+
+-- the words of the page's pointers
+pub value_of-nil : value_of 2 ≡ Ref (place_of NilObject)
+unfolding value_of
+value_of-nil = refl
+
+pub value_of-false : value_of 4 ≡ Ref (place_of FalseObject)
+unfolding value_of
+value_of-false = refl
+
+pub value_of-true : value_of 6 ≡ Ref (place_of TrueObject)
+unfolding value_of
+value_of-true = refl
+
+pub value_of-scheduler : value_of 8 ≡ Ref (place_of SchedulerAssociation)
+unfolding value_of
+value_of-scheduler = refl
+
+pub ruleset pages = (value_of-nil, value_of-false, value_of-true, value_of-scheduler)

@@ -1,11 +1,10 @@
 -- Contexts and the registers that are fetched from them (chapter 27).
-use Rattle.std.specs.Prelude.{ℕ, ◌+◌, ℤ, pos, negsuc, ◌+ℤ◌, ◌-ℤ◌, nat_lt, nat_le, length}
+use Rattle.std.specs.Prelude.{ℕ, ◌+◌, ℤ, pos, negsuc, ◌+ℤ◌, ◌-ℤ◌, nat_lt, nat_le}
 use Rattle.st_model.specs.declared.dead.Dead.TheVariants as dead
-use Rattle.st_model.specs.declared.kind.Kind.{Kind}
 use Rattle.st_model.specs.Values.{Value, Small, Ref}
-use Rattle.st_model.specs.Objects.{is_pointers, SchedulerAssociation}
-use Rattle.st_model.specs.Machine.{ObjectMemory, Step, answer, die, ◌>>=◌, ◌>>◌}
-use Rattle.st_model.specs.Steps.{object, check, of_page, fetch_field, fetch_integer, set_registers}
+use Rattle.st_model.specs.Objects.{SchedulerAssociation}
+use Rattle.st_model.specs.Machine.{ObjectMemory, Registers, Step, answer, die, ◌>>=◌, ◌>>◌}
+use Rattle.st_model.specs.Steps.{check, of_page, count_fields, fetch_field, fetch_integer, set_registers}
 
 -- Field 3 of a method context is its method; that of a block context is an argument count, and its home is field 5.
 unfoldable pub home_by : {H : Type 0} → ObjectMemory H → Value → Value → Step H Value
@@ -20,11 +19,10 @@ home_of m c = do
 -- a stack pointer from 5, for an empty stack, to the last field, and at most 16388
 unfoldable pub stack_place : {H : Type 0} → ObjectMemory H → Value → ℤ → Step H ℕ
 stack_place m c (pos sp) = do
-  o ← object m c
-  check dead.Kind (is_pointers o.kind)
+  n ← count_fields m c
   check dead.Sp (nat_le 5 sp)
   check dead.Sp (nat_le sp 16388)
-  check dead.Sp (nat_lt sp (length o.fields))
+  check dead.Sp (nat_lt sp n)
   answer sp
 stack_place m c (negsuc n) = die dead.Sp
 
@@ -34,15 +32,21 @@ fetch_stack_pointer m c = do
   n ← fetch_integer m c 2
   stack_place m c (n +ℤ pos 5)
 
--- the registers of a context, which becomes the active one; the instruction pointer is stored plus 1
-unfoldable pub fetch_context_registers : {H : Type 0} → ObjectMemory H → Value → Step H Unit
-fetch_context_registers m c = do
+-- the registers that a context gives; the instruction pointer is stored plus 1
+unfoldable pub context_registers : {H : Type 0} → ObjectMemory H → Value → Step H Registers
+context_registers m c = do
   home ← home_of m c
   method ← fetch_field m home 3
   receiver ← fetch_field m home 5
   ip ← fetch_integer m c 1
   sp ← fetch_stack_pointer m c
-  set_registers (record { active = c; home = home; method = method; receiver = receiver; ip = ip -ℤ pos 1; sp = sp })
+  answer (record { active = c; home = home; method = method; receiver = receiver; ip = ip -ℤ pos 1; sp = sp })
+
+-- the context becomes the active one
+unfoldable pub fetch_context_registers : {H : Type 0} → ObjectMemory H → Value → Step H Unit
+fetch_context_registers m c = do
+  r ← context_registers m c
+  set_registers r
 
 -- the context of the scheduler's active process
 unfoldable pub scheduled_context : {H : Type 0} → ObjectMemory H → Step H Value

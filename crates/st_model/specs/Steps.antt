@@ -1,6 +1,6 @@
 -- Registers, fields, the stack and the bytes of methods, over any memory (chapters 27 and 28). The checks of a
 -- step stand in the order in which it makes them: the first that fails gives the cause of death.
-use Rattle.std.specs.Prelude.{ℕ, ◌+◌, ◌-◌, List, [], ◌∷◌, Option, Some, None, Bool, true, false, slice_get, nat_lt, length, if◌then◌else◌, ℤ, pos, negsuc, ◌+ℤ◌, int_le}
+use Rattle.std.specs.Prelude.{ℕ, ◌+◌, ◌-◌, List, [], ◌∷◌, Option, Some, None, Bool, true, false, slice_get, nat_lt, nat_le, length, if◌then◌else◌, ℤ, pos, negsuc, ◌+ℤ◌, int_le}
 use Rattle.st_model.specs.declared.dead.Dead.{Dead}
 use Rattle.st_model.specs.declared.dead.Dead.TheVariants as dead
 use Rattle.st_model.specs.declared.kind.Kind.{Kind}
@@ -106,16 +106,22 @@ fetch_integer m v i = do
   x ← fetch_field m v i
   integer_or_die x
 
+-- how many fields an object of kind Pointers has
+unfoldable pub count_fields : {H : Type 0} → ObjectMemory H → Value → Step H ℕ
+count_fields m v = do
+  o ← object m v
+  check dead.Kind (is_pointers o.kind)
+  answer (length o.fields)
+
 -- the stack
 
 -- x into the field of a context, where that is a place of its stack: within its fields, and at most 16388
 unfoldable pub put : {H : Type 0} → ObjectMemory H → Value → ℕ → Value → Step H Unit
 put m c at x = do
-  o ← object m c
-  check dead.Kind (is_pointers o.kind)
-  check dead.Sp (nat_lt at (length o.fields))
-  check dead.Sp (nat_lt at 16389)
-  replace m c (with_field o at x)
+  n ← count_fields m c
+  check dead.Sp (nat_lt at n)
+  check dead.Sp (nat_le at 16388)
+  store_field m c at x
 
 -- x above the top of the active context's stack
 unfoldable pub push : {H : Type 0} → ObjectMemory H → Value → Step H Unit

@@ -23,6 +23,11 @@ abbrev pub is_small : Value → Bool
 is_small (Small n) = true
 is_small (Ref n) = false
 
+-- the integer of a SmallInteger
+abbrev pub integer_of : Value → ℤ
+integer_of (Small n) = integer n
+integer_of (Ref n) = pos 0
+
 -- a value with its name changed
 abbrev pub renamed : (ℕ → ℕ) → Value → Value
 renamed f (Small n) = Small n

@@ -54,15 +54,16 @@ unfoldable pub with_stored : Table → Value → ℕ → Value → Table
 with_stored t (Small n) i x = t
 with_stored t (Ref n) i x = changed t n (with_field (object_of t (Ref n)) i x)
 
+-- nil at every place of the devices, of which so many are for pending signals
+abbrev pub idle_devices : ℕ → Devices
+idle_devices n = record { new_process = nil; display = nil; cursor = nil; input_semaphore = nil; timer = nil; low_space = nil; pending = replicate n nil }
+
+unfoldable pub no_devices : Devices
+no_devices = idle_devices 4096
+
 -- nil at every place
 unfoldable pub nothing_held : Held
-nothing_held = record {
-  active = nil;
-  home = nil;
-  method = nil;
-  receiver = nil;
-  devices = record { new_process = nil; display = nil; cursor = nil; input_semaphore = nil; timer = nil; low_space = nil; pending = replicate 4096 nil };
-}
+nothing_held = record { active = nil; home = nil; method = nil; receiver = nil; devices = no_devices }
 
 -- no objects, under a head
 unfoldable pub empty_view : Head → View

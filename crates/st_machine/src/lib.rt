@@ -1,0 +1,8 @@
+//! The cycle, one bytecode with what goes before and after it, and runs of cycles (chapter 28).
+#![tactic(auto)]
+
+mod ending;
+mod running;
+
+pub use ending::RunEnd;
+pub use running::run;
