@@ -13,6 +13,11 @@ pub mod CyclesShown
 pub mod Runs
 pub mod Settling
 mod Rows
+pub mod Pointers
+pub mod Forms
+pub mod Wholes
+pub mod Sweeps
+pub mod Loads
 pub mod Roots
 pub mod Raised
 pub mod Showing

@@ -14,6 +14,8 @@ pub mod Cycles
 pub mod Show
 pub mod Formed
 pub mod View
+pub mod Loading
+pub mod Props
 pub mod Calls
 pub mod Text
 pub mod Image

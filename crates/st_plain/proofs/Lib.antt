@@ -1,0 +1,12 @@
+pub mod Beginning
+pub mod Fresh
+pub mod Holding
+pub mod Looking
+pub mod Marking
+pub mod Needing
+pub mod Placing
+pub mod Referring
+pub mod Room
+pub mod Slots
+pub mod Stores
+pub mod Sweeping

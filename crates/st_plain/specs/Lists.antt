@@ -1,0 +1,90 @@
+-- Objects whose fields and units are runs of two lists.
+use Rattle.std.specs.Prelude.{◌≡◌, ◌≢◌, ℕ, suc, ◌+◌, ◌*◌, ◌/◌, ◌<◌, ◌≤◌, Bool, false, List, [], ◌∷◌, if◌then◌else◌, map, take, drop, length, replicate, is_some, slice_get, slice_index, slice_index_or, unwrap_or, Option, Some, None}
+use Rattle.std.specs.Option.{option_map}
+use Rattle.st_model.specs.declared.oop.Oop.{Oop}
+use Rattle.st_model.specs.declared.kind.Kind.{Kind}
+use Rattle.st_model.specs.Values.{Value, Small, Ref, value, is_small}
+use Rattle.st_model.specs.Objects.{Object, is_words, nil}
+use Rattle.st_model.specs.Table.{Table}
+use Rattle.st_plain.specs.declared.entry.Entry.{Entry}
+
+abbrev pub nil_word : Oop
+nil_word = record { 0 = 2 }
+
+-- the object of an entry
+abbrev pub entry_object : List Oop → List ℕ → Entry → Object
+entry_object pointers units e = record {
+  class = e.class.0 / 2;
+  kind = e.kind;
+  fields = map value (take e.fields (drop e.fields_at pointers));
+  units = take e.units (drop e.units_at units);
+}
+
+abbrev pub listed_table : List Oop → List ℕ → List (Option Entry) → Table
+listed_table pointers units entries = map (option_map (entry_object pointers units)) entries
+
+abbrev pub slot : List (Option Entry) → ℕ → Option Entry
+slot entries n = unwrap_or (slice_get entries n) None
+
+-- the entry of a value
+unfoldable pub entry_of : List (Option Entry) → Value → Option Entry
+entry_of entries (Small n) = None
+entry_of entries (Ref n) = slot entries n
+
+-- an entry's runs end before the first free places, its class is no SmallInteger, and its size is one that an object can have
+pub record IsPlaced (next_field next_unit : ℕ) (e : Entry) : Type 0 where
+  pub fields_end : e.fields_at + e.fields ≤ next_field
+  pub units_end : e.units_at + e.units ≤ next_unit
+  pub class : is_small (value e.class) ≡ false
+  pub small : 2 * e.fields + e.units ≤ 131066
+
+-- no place of the two lists lies in runs of both entries
+pub record IsApart (d e : Entry) : Type 0 where
+  pub fields : (k : ℕ) → d.fields_at ≤ k → k < d.fields_at + d.fields → e.fields_at ≤ k → k < e.fields_at + e.fields → ⊥
+  pub units : (k : ℕ) → d.units_at ≤ k → k < d.units_at + d.units → e.units_at ≤ k → k < e.units_at + e.units → ⊥
+
+abbrev pub AllPlaced : ℕ → ℕ → List (Option Entry) → Type 0
+AllPlaced next_field next_unit entries = (i : ℕ) (e : Entry) → slice_get entries i ≡ Some (Some e) → IsPlaced next_field next_unit e
+
+abbrev pub AllApart : List (Option Entry) → Type 0
+AllApart entries = (i j : ℕ) (d e : Entry) → i ≢ j → slice_get entries i ≡ Some (Some d) → slice_get entries j ≡ Some (Some e) → IsApart d e
+
+-- The table has 32,768 places, of which those from table_end on are empty. The runs lie apart, and before the first
+-- free places, from which on all is nil and 0.
+pub record IsLaidOut (entries : List (Option Entry)) (pointers : List Oop) (units : List ℕ) (table_end next_field next_unit : ℕ) : Type 0 where
+  pub places : length entries ≡ 32768
+  pub within : table_end ≤ 32768
+  pub empty : (k : ℕ) → table_end ≤ k → slot entries k ≡ None
+  pub placed : AllPlaced next_field next_unit entries
+  pub apart : AllApart entries
+  pub fields_end : next_field ≤ length pointers
+  pub units_end : next_unit ≤ length units
+  pub fields_free : (k : ℕ) → next_field ≤ k → slice_index_or pointers k nil_word ≡ nil_word
+  pub units_free : (k : ℕ) → next_unit ≤ k → slice_index units k ≡ 0
+  pub few_fields : length pointers ≤ 1048576
+  pub few_units : length units ≤ 2097152
+
+-- the sum of a number over all entries
+abbrev pub entry_total : (Entry → ℕ) → List (Option Entry) → ℕ
+entry_total weight [] = 0
+entry_total weight (None ∷ es) = entry_total weight es
+entry_total weight (Some e ∷ es) = weight e + entry_total weight es
+
+abbrev pub slot_number : (Entry → ℕ) → Option Entry → ℕ
+slot_number weight None = 0
+slot_number weight (Some e) = weight e
+
+abbrev pub one_entry : Entry → ℕ
+one_entry e = 1
+
+abbrev pub entry_words : Entry → ℕ
+entry_words e = if is_words e.kind then 2 + e.units else 2 + e.fields + (e.units + 1) / 2
+
+-- of the entries only those of which the test holds
+abbrev pub kept_entries : List (Option Entry) → (ℕ → Bool) → List (Option Entry)
+kept_entries [] keep = []
+kept_entries (e ∷ es) keep = (if keep 0 then e else None) ∷ kept_entries es (λ k. keep (suc k))
+
+-- an object of nil and 0
+abbrev pub cleared : ℕ → Kind → ℕ → ℕ → Object
+cleared class kind fields units = record { class = class; kind = kind; fields = replicate fields nil; units = replicate units 0 }

@@ -1,0 +1,67 @@
+ghost use Rattle.std.specs.Prelude.{◌≡◌};
+ghost use Rattle.st_model.specs.Objects.{words_of};
+ghost use Rattle.st_model.specs.Table.{total_used};
+ghost use Rattle.st_model.specs.Loading.{IsLoading};
+ghost use Rattle.st_model.specs.Props.{IsLoading-prop};
+ghost use Rattle.st_plain.specs.Plain.{plain_view, extent_of, HasRoom};
+
+use crate::contents::{Contents, Head};
+use crate::memory::PlainMemory;
+use st_memory::Loader;
+use st_model::{Demand, Kind, Oop};
+use std::alloc::{AllocError, Global};
+
+/// Makes a `PlainMemory`. Only `begin` takes memory.
+#[derive(Drop)]
+pub struct PlainLoader {
+    contents: Contents,
+    ghost loading: { IsLoading (plain_view contents) } by { IsLoading-prop (plain_view contents) },
+    ghost room: { HasRoom (extent_of contents.objects) (total_used words_of (plain_view contents).objects) contents.head.capacity.words },
+}
+
+impl Loader for PlainLoader {
+    type Done = PlainMemory;
+
+    ghost loaded = { λ l. plain_view l.contents };
+
+    fn begin(
+        alloc: Global,
+        capacity: Demand,
+        globals: Oop,
+        symbols: Oop,
+    ) -> Result<Self, AllocError> {
+        let head = Head {
+            capacity,
+            globals,
+            symbols,
+        };
+        let contents = Contents::new(alloc, head)?;
+        Ok(PlainLoader { contents })
+    }
+
+    fn place(&mut self, at: Oop, class: Oop, kind: Kind, size: u32, literals: u32) {
+        self.contents
+            .objects
+            .place_fresh(at, class, kind, size, literals);
+    }
+
+    fn set_pointer(&mut self, o: Oop, at: u32, v: Oop) {
+        self.contents.objects.set_field(o, at, v);
+    }
+
+    fn set_word(&mut self, o: Oop, at: u32, v: u16) {
+        self.contents.objects.set_unit(o, at, v);
+    }
+
+    fn set_byte(&mut self, o: Oop, at: u32, v: u8) {
+        let first = 2 * self.contents.objects.live_entry(o).fields;
+        self.contents.objects.set_unit(o, at - first, u16::from(v));
+    }
+
+    fn finish(self) -> PlainMemory {
+        PlainMemory::new(self.contents)
+    }
+}
+
+#[cfg(test)]
+mod tests;

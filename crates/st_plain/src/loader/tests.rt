@@ -1,0 +1,236 @@
+ghost use Rattle.std.specs.Prelude.{◌≡◌, ◌/◌, ◌≤◌, true, IfOk};
+ghost use Rattle.st_model.specs.Formed.{IsMakeable, fresh};
+ghost use Rattle.st_model.specs.Objects.{words_of};
+ghost use Rattle.st_model.specs.View.{IsComplete};
+ghost use Rattle.st_plain.specs.Plain.{plain_view};
+
+use crate::contents::Contents;
+use crate::loader::PlainLoader;
+use crate::marks::Marks;
+use crate::memory::PlainMemory;
+use st_memory::{Loader, Memory};
+use st_model::{Demand, Kind, Oop, RootPlace};
+use std::alloc::{AllocError, Global};
+use std::process::Abort;
+use std::test::Fail;
+
+/// The root page, but for the scheduler's association.
+const PAGE: [u16; 19] = [
+    2, 4, 6, 12, 14, 16, 22, 24, 26, 28, 32, 34, 40, 42, 44, 48, 50, 52, 56,
+];
+
+/// Stores into a field: the object, the field's number, the word.
+const STORES: [(u16, u32, u16); 9] = [
+    (8, 1, 58),
+    (58, 1, 60),
+    (60, 1, 62),
+    (60, 2, 9),
+    (62, 1, 7),
+    (62, 2, 3),
+    (62, 3, 64),
+    (68, 0, 70),
+    (70, 0, 68),
+];
+
+/// Whether what the objects refer to and the root page are there; it asks that there are no tables of names.
+fn is_complete(alloc: Global, c: &Contents) -> Result<bool, AllocError>
+    ensures { IfOk result (λ complete. complete ≡ true → IsComplete (plain_view c.now)) }
+{
+    if c.head.globals.0 != 0 || c.head.symbols.0 != 0 {
+        return Ok(false);
+    }
+    let mut marks = Marks::new(alloc)?;
+    marks.clear(32768);
+    marks.mark_page();
+    c.objects.mark_references(&mut marks);
+    for k in 0..32768 {
+        if marks.has(k) && !c.objects.live(Oop(2 * k as u16)) {
+            return Ok(false);
+        }
+    }
+    Ok(true)
+}
+
+/// Whether there can be such an object; it asks for a small one.
+fn is_makeable(class: Oop, kind: Kind, size: u32, literals: u32) -> bool
+    ensures makeable { result ≡ true → IsMakeable (class.0 / 2) kind size literals }
+    ensures small { result ≡ true → words_of (fresh (class.0 / 2) kind size literals) ≤ 200 }
+{
+    match kind {
+        Kind::Pointers => class.0 / 2 != 17 && literals == 0 && size <= 100,
+        Kind::Words => class.0 / 2 != 17 && literals == 0 && size <= 100,
+        Kind::Bytes => class.0 / 2 != 17 && literals == 0 && size <= 100,
+        Kind::Method => class.0 / 2 == 17 && literals <= 9 && 2 * literals + 2 <= size && size <= 100,
+    }
+}
+
+fn place(rt: &impl Abort, l: &mut PlainLoader, at: u16, class: u16, kind: Kind, size: u32) {
+    let at = Oop(at);
+    let class = Oop(class);
+    let used = l.contents.objects.used();
+    let capacity = l.contents.head.capacity;
+    assert!(rt; !at.is_small());
+    assert!(rt; at.0 != 0);
+    assert!(rt; !class.is_small());
+    assert!(rt; !l.contents.objects.live(at));
+    assert!(rt; is_makeable(class, kind, size, 0));
+    assert!(rt; used.entries < capacity.entries);
+    assert!(rt; used.words <= capacity.words);
+    assert!(rt; capacity.words - used.words >= 200);
+    l.place(at, class, kind, size, 0);
+}
+
+fn store(rt: &impl Abort, l: &mut PlainLoader, o: u16, at: u32, v: u16) {
+    let o = Oop(o);
+    assert!(rt; l.contents.objects.live(o));
+    let entry = l.contents.objects.live_entry(o);
+    assert!(rt; !entry.kind.is_method());
+    assert!(rt; at < entry.fields);
+    l.set_pointer(o, at, Oop(v));
+}
+
+#[tactic(auto, using(st_model::proofs::Words::words))]
+fn store_header(rt: &impl Abort, l: &mut PlainLoader, o: u16, header: u16) {
+    let o = Oop(o);
+    assert!(rt; l.contents.objects.live(o));
+    let entry = l.contents.objects.live_entry(o);
+    assert!(rt; header % 2 == 1);
+    assert!(rt; u32::from(header / 2 % 64) + 1 == entry.fields);
+    l.set_pointer(o, 0, Oop(header));
+}
+
+/// The worked image of 24 objects and 78 words, an unnamed object of 3 words, and two that name each other alone.
+fn image(rt: &impl Abort, alloc: Global) -> Result<PlainMemory, Fail> {
+    let capacity = Demand {
+        entries: 32767,
+        words: 1048576,
+    };
+    let mut l = PlainLoader::begin(alloc, capacity, Oop(0), Oop(0))?;
+    for at in PAGE {
+        place(rt, &mut l, at, 12, Kind::Pointers, 0);
+    }
+    place(rt, &mut l, 8, 12, Kind::Pointers, 2);
+    place(rt, &mut l, 58, 12, Kind::Pointers, 2);
+    place(rt, &mut l, 60, 12, Kind::Pointers, 4);
+    place(rt, &mut l, 62, 22, Kind::Pointers, 18);
+    place(rt, &mut l, 64, 34, Kind::Method, 7);
+    place(rt, &mut l, 66, 16, Kind::Words, 3);
+    place(rt, &mut l, 68, 16, Kind::Pointers, 1);
+    place(rt, &mut l, 70, 16, Kind::Pointers, 1);
+    for (o, at, v) in STORES {
+        store(rt, &mut l, o, at, v);
+    }
+    store_header(rt, &mut l, 64, 257);
+    for (at, v) in [(2, 118), (3, 119), (4, 104), (5, 163), (6, 251)] {
+        store_byte(rt, &mut l, 64, at, v);
+    }
+    store_word(rt, &mut l, 66, 2, 65535);
+    assert!(rt; is_complete(alloc, &l.contents)?, "the image is complete");
+    Ok(l.finish())
+}
+
+fn store_byte(rt: &impl Abort, l: &mut PlainLoader, o: u16, at: u32, v: u8) {
+    let o = Oop(o);
+    assert!(rt; l.contents.objects.live(o));
+    let entry = l.contents.objects.live_entry(o);
+    assert!(rt; !entry.kind.is_words() && 2 * entry.fields <= at && at - 2 * entry.fields < entry.units);
+    l.set_byte(o, at, v);
+}
+
+fn store_word(rt: &impl Abort, l: &mut PlainLoader, o: u16, at: u32, v: u16) {
+    let o = Oop(o);
+    assert!(rt; l.contents.objects.live(o));
+    let entry = l.contents.objects.live_entry(o);
+    assert!(rt; entry.kind.is_words() && at < entry.units);
+    l.set_word(o, at, v);
+}
+
+/// The words of an object of kind Pointers.
+fn fields<M: Memory>(rt: &impl Abort, m: &M, alloc: Global, o: u16) -> Result<Vec<u16>, Fail> {
+    let o = Oop(o);
+    let mut words = Vec::new(alloc);
+    assert!(rt; m.live(o));
+    assert!(rt; m.kind(o).is_pointers());
+    for at in 0..m.size(o) {
+        words.push(m.pointer(o, at).0)?;
+    }
+    Ok(words)
+}
+
+fn used<M: Memory>(rt: &impl Abort, m: &M, entries: u32, words: u32) {
+    assert_eq!(rt; m.used(), Demand { entries, words });
+}
+
+/// The first bytecode of a Method, which follows its literals.
+#[tactic(auto, using(st_model::proofs::Words::words))]
+fn first_byte<M: Memory>(rt: &impl Abort, m: &M, o: Oop) -> u8 {
+    assert!(rt; m.live(o));
+    assert!(rt; m.kind(o).is_method());
+    let first = 2 * u32::from(m.pointer(o, 0).0 / 2 % 64) + 2;
+    assert!(rt; first < m.size(o));
+    m.byte(o, first)
+}
+
+/// What stands in the image.
+fn reads<M: Memory>(rt: &impl Abort, m: &M, alloc: Global) -> Result<(), Fail> {
+    let method = Oop(64);
+    let unnamed = Oop(66);
+    assert!(rt; m.live(method) && m.live(unnamed) && !m.live(Oop(72)) && !m.live(Oop(3)));
+    assert_eq!(rt; m.class_of(method), Oop(34));
+    assert_eq!(rt; m.kind(method), Kind::Method);
+    assert_eq!(rt; m.size(method), 7);
+    assert!(rt; m.kind(method).is_method());
+    assert_eq!(rt; m.pointer(method, 0), Oop(257));
+    assert_eq!(rt; first_byte(rt, m, method), 118);
+    assert!(rt; m.kind(unnamed).is_words());
+    assert_eq!(rt; m.size(unnamed), 3);
+    assert_eq!(rt; m.word(unnamed, 2), 65535);
+    assert_eq!(rt; fields(rt, m, alloc, 60)?.as_slice(), [2, 62, 9, 2].as_slice());
+    assert_eq!(rt; fields(rt, m, alloc, 70)?.as_slice(), [68].as_slice());
+    assert_eq!(rt; m.next_live(56), Some(Oop(58)));
+    assert_eq!(rt; m.next_live(70), None);
+    assert_eq!(rt; (m.globals(), m.symbols()), (Oop(0), Oop(0)));
+    Ok(())
+}
+
+/// Stores into a field of an object of kind Pointers.
+fn write<M: Memory>(rt: &impl Abort, m: &mut M, o: Oop, at: u32, v: Oop) {
+    assert!(rt; m.live(o) && m.live(v));
+    assert!(rt; m.kind(o).is_pointers());
+    assert!(rt; at < m.size(o));
+    m.set_pointer(o, at, v);
+}
+
+/// An object that nothing names goes once it is no longer held; two that name each other stay.
+fn settles<M: Memory>(rt: &impl Abort, m: &mut M) {
+    let unnamed = Oop(66);
+    assert!(rt; m.live(unnamed) && m.live(Oop::NIL));
+    m.hold(RootPlace::Display, unnamed);
+    used(rt, m, 27, 89);
+    m.settle();
+    used(rt, m, 27, 89);
+    assert_eq!(rt; m.held(RootPlace::Display), unnamed);
+    assert!(rt; m.live(unnamed) && m.live(Oop::NIL));
+    m.hold(RootPlace::Pending(4095), unnamed);
+    m.hold(RootPlace::Display, Oop::NIL);
+    m.settle();
+    used(rt, m, 27, 89);
+    write(rt, m, Oop(8), 0, unnamed);
+    assert!(rt; m.live(Oop::NIL));
+    m.hold(RootPlace::Pending(4095), Oop::NIL);
+    m.settle();
+    used(rt, m, 27, 89);
+    write(rt, m, Oop(8), 0, Oop::NIL);
+    m.settle();
+    used(rt, m, 26, 84);
+    assert!(rt; !m.live(unnamed) && m.live(Oop(68)) && m.live(Oop(70)));
+}
+
+#[test]
+fn an_unnamed_object_goes_and_a_cycle_stays(rt: HostRuntime) -> Result<(), Fail> {
+    let mut m = image(&rt, rt.alloc())?;
+    used(&rt, &m, 27, 89);
+    reads(&rt, &m, rt.alloc())?;
+    settles(&rt, &mut m);
+    Ok(())
+}

@@ -1,0 +1,101 @@
+ghost use Rattle.std.specs.Prelude.{◌≡◌};
+ghost use Rattle.st_model.specs.View.{IsWhole};
+ghost use Rattle.st_plain.specs.Plain.{plain_view};
+ghost use Rattle.st_model.specs.Props.{IsWhole-prop};
+
+use crate::contents::Contents;
+use st_memory::Memory;
+use st_model::{Demand, Kind, Oop, RootPlace};
+
+/// A memory that keeps its objects in plain lists. `settle` looks at all of them.
+#[derive(Drop)]
+pub struct PlainMemory {
+    contents: Contents,
+    ghost whole: { IsWhole (plain_view contents) } by { IsWhole-prop (plain_view contents) },
+}
+
+impl PlainMemory {
+    /// A memory of these parts.
+    pub(crate) fn new(contents: Contents) -> PlainMemory
+        requires { IsWhole (plain_view contents) }
+        ensures { result.contents ≡ contents }
+    {
+        PlainMemory { contents }
+    }
+}
+
+impl Memory for PlainMemory {
+    ghost view = { λ m. plain_view m.contents };
+
+    fn live(&self, o: Oop) -> bool {
+        self.contents.objects.live(o)
+    }
+
+    fn class_of(&self, o: Oop) -> Oop {
+        self.contents.objects.live_entry(o).class
+    }
+
+    fn kind(&self, o: Oop) -> Kind {
+        self.contents.objects.live_entry(o).kind
+    }
+
+    fn size(&self, o: Oop) -> u32 {
+        let entry = self.contents.objects.live_entry(o);
+        if entry.kind.is_pointers() {
+            entry.fields
+        } else {
+            2 * entry.fields + entry.units
+        }
+    }
+
+    fn pointer(&self, o: Oop, at: u32) -> Oop {
+        self.contents.objects.field(o, at)
+    }
+
+    fn word(&self, o: Oop, at: u32) -> u16 {
+        self.contents.objects.unit(o, at)
+    }
+
+    fn byte(&self, o: Oop, at: u32) -> u8 {
+        let first = 2 * self.contents.objects.live_entry(o).fields;
+        self.contents.objects.unit(o, at - first) as u8
+    }
+
+    fn set_pointer(&mut self, o: Oop, at: u32, v: Oop) {
+        self.contents.objects.set_field(o, at, v);
+    }
+
+    fn held(&self, place: RootPlace) -> Oop {
+        self.contents.roots.held(place)
+    }
+
+    fn hold(&mut self, place: RootPlace, o: Oop) {
+        self.contents.roots.hold(place, o);
+    }
+
+    fn settle(&mut self) {
+        loop {
+            if self.contents.drop_unneeded() == 0 {
+                return;
+            }
+        }
+    }
+
+    fn used(&self) -> Demand {
+        self.contents.objects.used()
+    }
+
+    fn next_live(&self, after: u32) -> Option<Oop> {
+        self.contents.objects.next_live(after)
+    }
+
+    fn globals(&self) -> Oop {
+        self.contents.head.globals
+    }
+
+    fn symbols(&self) -> Oop {
+        self.contents.head.symbols
+    }
+
+    ghost whole = { λ m. m.whole };
+}
