@@ -10,7 +10,7 @@ use Rattle.st_model.specs.Objects.{Object, NilObject, nil, one, words_of, with_f
 use Rattle.st_model.specs.Formed.{IsFormed, IsHeader, IsWord, unit_limit}
 use Rattle.st_model.specs.Machine.{Head}
 use Rattle.st_model.specs.Table.{Table, entry, changed, total_used}
-use Rattle.st_model.specs.View.{View, IsComplete, IsWhole, is_live, object_of, held_at, with_object, with_stored, with_unit, nothing_held, empty_view}
+use Rattle.st_model.specs.View.{View, IsComplete, IsWhole, is_live, object_of, held_at, with_object, with_stored, with_unit, nothing_held, no_devices, empty_view}
 use Rattle.st_model.specs.Loading.{IsLoading}
 use Rattle.st_model.proofs.Forms.{formed_field, formed_unit, words_of-with_field, words_of-object_with_unit}
 use Rattle.st_model.proofs.Wholes.{named, length-changed, total_used-changed, none_changed, changed_is}
@@ -170,12 +170,12 @@ nil_at (suc n) zero = refl
 nil_at (suc n) (suc j) = nil_at n j
 
 held_nothing : (p : RootPlace) → held_at nothing_held p ≡ nil
-unfolding nothing_held
+unfolding nothing_held no_devices
 held_nothing (place.Pending k) = nil_at 4096 k
 held_nothing p = refl
 
 pub loading_empty : (head : Head) → head.entries ≤ 32767 → head.words ≤ 1048576 → IsLoading (empty_view head)
-unfolding empty_view nothing_held
+unfolding empty_view nothing_held no_devices
 loading_empty head entries words = record {
   places = length-none 32768;
   unused = entry-none 32768 0;

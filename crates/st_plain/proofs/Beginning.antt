@@ -6,7 +6,7 @@ use Rattle.st_model.specs.Values.{value, value_of}
 use Rattle.st_model.specs.Objects.{nil}
 use Rattle.st_model.specs.Table.{Table, entry}
 use Rattle.st_model.specs.Machine.{Head}
-use Rattle.st_model.specs.View.{View, Held, nothing_held, empty_view}
+use Rattle.st_model.specs.View.{View, Held, nothing_held, no_devices, empty_view}
 use Rattle.st_plain.specs.Held.{held_words}
 use Rattle.st_plain.specs.Lists.{nil_word}
 
@@ -25,7 +25,7 @@ all_nil (x ∷ xs) (suc n) l f = λ i. value (f 0 i) ∷ all_nil xs n (omega (ar
 
 pub nothing_words : (xs : List Oop) → length xs ≡ 4096 → ((k : ℕ) → slice_index_or xs k nil_word ≡ nil_word)
     → held_words (record { active = nil_word; home = nil_word; method = nil_word; receiver = nil_word; new_process = nil_word; display = nil_word; cursor = nil_word; input_semaphore = nil_word; timer = nil_word; low_space = nil_word }) xs ≡ nothing_held
-unfolding value_of nothing_held
+unfolding value_of nothing_held no_devices
 nothing_words xs long nils =
     let pending = all_nil xs 4096 long nils in
     λ i. record { active = nil; home = nil; method = nil; receiver = nil; devices = record { new_process = nil; display = nil; cursor = nil; input_semaphore = nil; timer = nil; low_space = nil; pending = pending i } }
