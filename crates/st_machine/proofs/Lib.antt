@@ -1,3 +1,3 @@
-mod Closed
+pub mod Closed
 mod Settled
 mod Runs

@@ -1,0 +1,4 @@
+pub mod Digits
+pub mod Ended
+pub mod Reported
+pub mod Started

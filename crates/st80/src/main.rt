@@ -1,0 +1,27 @@
+//! The program: `st80 once IMAGE N` reads an image file, runs N cycles of its machine, and says what it shows then.
+#![tactic(auto)]
+
+mod image;
+mod once;
+mod refusal;
+mod report;
+mod status;
+mod tool;
+mod words;
+
+use crate::tool::tool;
+use st_host::{DirHost, StdinSource};
+use std::io;
+use std::process::ExitCode;
+
+fn main(rt: HostRuntime) -> io::Result<ExitCode> {
+    let alloc = rt.alloc();
+    let mut words = Vec::new(alloc);
+    for word in std::env::args(&rt)?.skip(1) {
+        words.push(word)?;
+    }
+    let mut script = StdinSource::new(&rt);
+    let mut host = DirHost::new(rt);
+    let status = tool(alloc, words.as_slice(), &mut host, &mut script);
+    Ok(ExitCode::from(status.number()))
+}

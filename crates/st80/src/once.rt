@@ -1,0 +1,69 @@
+ghost use Rattle.std.specs.Prelude.{◌≡◌, ℕ, List, OnOk};
+ghost use Rattle.st_host.specs.Counts.{HasCause};
+ghost use Rattle.st_host.specs.Runs.{ReadsAndSays, SaysAll};
+ghost use Rattle.st_model.specs.View.{no_devices};
+ghost use Rattle.st_model.specs.Show.{raised};
+ghost use Rattle.st_model.specs.Text.{run_text};
+ghost use Rattle.st_frames.specs.Shown.{IsFrame, shown};
+ghost use Rattle.st_report.specs.Saying.{Says};
+ghost use Rattle.st80.specs.Ends.{last_line, OnceEnds, SaysLastLine, StatusHasCause};
+
+use crate::image::start;
+use crate::report::say_run;
+use crate::status::Status;
+use st_frames::Frame;
+use st_host::{Host, SayFault, say_all};
+use st_machine::run;
+use st_memory::{Loader, Memory};
+use std::alloc::Global;
+
+/// Says the last line of a status, which stays where that fails.
+pub fn refuse<H: Host>(host: &mut H, status: Status)
+    ensures line { SaysLastLine H.Host.own status host.old host.new }
+    ensures reads { ReadsAndSays H.Host.own (last_line status) host.old host.new }
+    ensures disk { H.disk_faults host.new ≡ H.disk_faults host.old }
+{
+    match say_all(host, status.last_line()) {
+        Ok(()) | Err(SayFault) => {}
+    }
+}
+
+/// Runs cycles of a machine at its start, and says how they end.
+fn run_and_report<H: Host, M: Memory>(
+    host: &mut H,
+    memory: &mut M,
+    frame: &mut Frame,
+    cycles: u32,
+) -> Result<(), SayFault>
+    requires frame { IsFrame (M.view memory.old) frame.old }
+    requires quiet { (M.view memory.old).held.devices ≡ no_devices }
+    ensures all { OnOk result (SaysAll H.Host.own (run_text cycles (raised (shown (M.view memory.old) frame.old))) host.old host.new) }
+    ensures says { Says H.Host.own (run_text cycles (raised (shown (M.view memory.old) frame.old))) host.old host.new }
+    ensures cause { HasCause (H.say_faults host.old) (H.say_faults host.new) result }
+{
+    let end = run(frame, memory, cycles);
+    say_run(host, memory, frame, cycles, end)
+}
+
+/// The command `once`: runs cycles of the machine of an image, and says what it shows then.
+pub fn once<H: Host, L: Loader>(alloc: Global, host: &mut H, image: &str, cycles: u32) -> Status
+    ensures ends { OnceEnds H.Host.own (H.files host.old image.now) cycles host.old host.new result }
+    ensures cause { StatusHasCause H.Host.own host.old host.new result }
+    ensures reads { (text : List ℕ) × ReadsAndSays H.Host.own text host.old host.new }
+{
+    match start::<H, L>(alloc, host, image) {
+        Ok(loaded) => {
+            let mut memory = loaded.memory;
+            let mut frame = loaded.frame;
+            match run_and_report(host, &mut memory, &mut frame, cycles) {
+                Ok(()) => Status::Done,
+                Err(SayFault) => Status::SayFault,
+            }
+        }
+        Err(refusal) => {
+            let status = refusal.status();
+            refuse(host, status);
+            status
+        }
+    }
+}

@@ -1,0 +1,36 @@
+ghost use Rattle.std.specs.Prelude.{◌≡◌, ℕ, List, map, Some, None};
+ghost use Rattle.std.specs.String.{string_bytes};
+ghost use Rattle.st_host.specs.Runs.{ReadsAndSays};
+ghost use Rattle.st80.specs.Ends.{OnceEnds, SaysLastLine, StatusHasCause};
+ghost use Rattle.st80.specs.Words.{once_of, word};
+ghost use Rattle.st80.specs.declared.status.Status.TheVariants.{Usage};
+
+use crate::once::{once, refuse};
+use crate::status::Status;
+use crate::words::{image_name, read_once};
+use st_host::{Host, Source};
+use st_plain::PlainLoader;
+use std::alloc::Global;
+
+/// Does the command that the words say, without the program's name. The one command so far is `once IMAGE N`: it reads
+/// the image file IMAGE, runs N cycles of its machine, and says the run's end and what the machine shows then. Nothing is
+/// written to a file, and nothing is taken from the script.
+pub fn tool<H: Host, S: Source>(
+    alloc: Global,
+    words: &[String],
+    host: &mut H,
+    _script: &mut S,
+) -> Status
+    ensures usage { once_of (map string_bytes words.now) ≡ None → (result ≡ Usage) × SaysLastLine H.Host.own Usage host.old host.new }
+    ensures once { (n : ℕ) → once_of (map string_bytes words.now) ≡ Some n → OnceEnds H.Host.own (H.files host.old (word (map string_bytes words.now) 1)) n host.old host.new result }
+    ensures cause { StatusHasCause H.Host.own host.old host.new result }
+    ensures reads { (text : List ℕ) × ReadsAndSays H.Host.own text host.old host.new }
+{
+    match read_once(words) {
+        Some(cycles) => once::<H, PlainLoader>(alloc, host, image_name(words), cycles),
+        None => {
+            refuse(host, Status::Usage);
+            Status::Usage
+        }
+    }
+}
