@@ -6,3 +6,6 @@ mod parts;
 
 pub use header::literals;
 pub use parts::{byte_at, literal};
+
+#[cfg(test)]
+mod tests;

@@ -98,8 +98,8 @@ module _ (v w : View) (x : Value) (i : ℕ) (loading : IsLoading v) (live : is_l
       let b = with_field (object_of v.objects x) i y in
       let is : object_of v.objects (Ref r.0) ≡ object_of v.objects x = ap (object_of v.objects) (sym r.2) in
       loading_as (record { objects = changed v.objects r.0 b; held = v.held; head = v.head }) w
-          (objects ∙ ap (λ z. with_stored v.objects z i y) r.2 ∙ ap (λ o. changed v.objects r.0 (with_field o i y)) is) held head
-          (loading_changed v r.0 r.1 b loading r.3 (formed_field (object_of v.objects x) i y object header word) (words_of-with_field (object_of v.objects x) i y ∙ ap words_of r.4))
+      (objects ∙ ap (λ z. with_stored v.objects z i y) r.2 ∙ ap (λ o. changed v.objects r.0 (with_field o i y)) is) held head
+      (loading_changed v r.0 r.1 b loading r.3 (formed_field (object_of v.objects x) i y object header word) (words_of-with_field (object_of v.objects x) i y ∙ ap words_of r.4))
 
   pub loading_unit : (u : ℕ) → u < unit_limit (object_of v.objects x).kind → w.objects ≡ with_unit v.objects x i u → IsLoading w
   unfolding with_unit
@@ -108,8 +108,8 @@ module _ (v w : View) (x : Value) (i : ℕ) (loading : IsLoading v) (live : is_l
       let b = object_with_unit (object_of v.objects x) i u in
       let is : object_of v.objects (Ref r.0) ≡ object_of v.objects x = ap (object_of v.objects) (sym r.2) in
       loading_as (record { objects = changed v.objects r.0 b; held = v.held; head = v.head }) w
-          (objects ∙ ap (λ z. with_unit v.objects z i u) r.2 ∙ ap (λ o. changed v.objects r.0 (object_with_unit o i u)) is) held head
-          (loading_changed v r.0 r.1 b loading r.3 (formed_unit (object_of v.objects x) i u object small) (words_of-object_with_unit (object_of v.objects x) i u ∙ ap words_of r.4))
+      (objects ∙ ap (λ z. with_unit v.objects z i u) r.2 ∙ ap (λ o. changed v.objects r.0 (object_with_unit o i u)) is) held head
+      (loading_changed v r.0 r.1 b loading r.3 (formed_unit (object_of v.objects x) i u object small) (words_of-object_with_unit (object_of v.objects x) i u ∙ ap words_of r.4))
 
 -- how many words the objects have then
 

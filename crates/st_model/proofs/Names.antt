@@ -142,5 +142,5 @@ module _ (P : ℕ → Type 0) (f g : ℕ → ℕ) (e : (n : ℕ) → P n → f n
       let v = same_value P f g e d.low_space k.1.1.1.1.1.0 in
       let x = same_all P f g e d.pending k.1.1.1.1.1.1 in
       λ i. record w {
-        devices = record { new_process = p i; display = q i; cursor = s i; input_semaphore = t i; timer = u i; low_space = v i; pending = x i }
+        devices = record { new_process = p i; display = q i; cursor = s i; input_semaphore = t i; timer = u i; low_space = v i; pending = x i };
       }

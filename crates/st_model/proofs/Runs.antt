@@ -152,4 +152,5 @@ get-past (x ∷ xs) zero l = absurd (omega arith)
 get-past (x ∷ xs) (suc i) l = get-past xs i (omega arith)
 
 pub ruleset runs = (run-then, run-next, after-went, after-died, run-answer, run-die, run-active, run-home, run-method, run-receiver, run-ip, run-sp, run-set_ip, run-set_sp, run-set_registers, run-of_page, run-passed, run-failed, run-some, run-none, run-small, run-live, run-replace, run-integer, run-no_integer, run-block_home, run-method_home, get-past)
+
 pub ruleset stores = (run-store)

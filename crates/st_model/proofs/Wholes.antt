@@ -159,12 +159,12 @@ whole_stored v w o i x whole live known header word objects held head =
     let a = r.1 in
     let is : object_of v.objects (Ref r.0) ≡ a = subst (λ y. object_of v.objects y ≡ a) r.2 r.4 in
     let t : with_stored v.objects o i x ≡ changed v.objects r.0 (with_field a i x) =
-        ap (λ y. with_stored v.objects y i x) r.2 ∙ ap (λ b. changed v.objects r.0 (with_field b i x)) is in
+    ap (λ y. with_stored v.objects y i x) r.2 ∙ ap (λ b. changed v.objects r.0 (with_field b i x)) is in
     whole_as (record { objects = changed v.objects r.0 (with_field a i x); held = v.held; head = v.head }) w (objects ∙ t) held head
-        (whole_changed v whole r.0 a (with_field a i x) r.3
-          (formed_field a i x (whole.formed r.0 a r.3) (subst (λ b. IsHeader b i x) r.4 header) word)
-          (let was = whole.complete.objects r.0 a r.3 in record { class = was.class; fields = live_set (IsUsed v.objects) a.fields i x (known_live v.objects x known) was.fields })
-          (words_of-with_field a i x))
+    (whole_changed v whole r.0 a (with_field a i x) r.3
+    (formed_field a i x (whole.formed r.0 a r.3) (subst (λ b. IsHeader b i x) r.4 header) word)
+    (let was = whole.complete.objects r.0 a r.3 in record { class = was.class; fields = live_set (IsUsed v.objects) a.fields i x (known_live v.objects x known) was.fields })
+    (words_of-with_field a i x))
 
 -- holding a value
 

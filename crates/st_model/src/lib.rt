@@ -36,3 +36,6 @@ pub use place::RootPlace;
 pub fn table_shows_births()
     ensures { (n : ℕ) (c : State Table) (s : State Births) → Shows c s → StaysClosed c → EndsShown (run table n c) (run births n s) }
 {}
+
+#[cfg(test)]
+mod tests;

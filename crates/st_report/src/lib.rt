@@ -9,3 +9,6 @@ mod state;
 pub use numbers::say_line;
 pub use objects::{say_object, say_objects};
 pub use state::say_state;
+
+#[cfg(test)]
+mod tests;
