@@ -1,11 +1,11 @@
 -- What a loader says of what it has placed stays so as it goes on, and makes a whole memory in the end.
-use Rattle.std.proofs.Common.{◌≡◌, ◌≢◌, ℕ, ◌+◌, ◌<◌, ◌≤◌, zero, suc, true, false, List, [], ◌∷◌, length, set, replicate, refl, sym, ap, ◌∙◌, subst, arith, length-set, inl, inr, is_some}
-use Rattle.std.specs.Prelude.{slice_index_or, Option, Some, None, IsTrue}
+use Rattle.std.proofs.Common.{◌≡◌, ◌≢◌, ℕ, ◌+◌, ◌<◌, ◌≤◌, zero, suc, true, false, [], ◌∷◌, length, set, replicate, refl, sym, ap, ◌∙◌, subst, arith, length-set, inl, inr, is_some}
+use Rattle.std.specs.Prelude.{slice_index_or, Option, Some, None}
 use Rattle.std.proofs.lemmas.Bool.{cases_eq}
 use Rattle.std.proofs.lemmas.List.{length-replicate}
 use Rattle.st_model.specs.declared.place.RootPlace.{RootPlace}
 use Rattle.st_model.specs.declared.place.RootPlace.TheVariants as place
-use Rattle.st_model.specs.Values.{Value, Small, Ref}
+use Rattle.st_model.specs.Values.{Value, Ref}
 use Rattle.st_model.specs.Objects.{Object, NilObject, nil, one, words_of, with_field, object_with_unit}
 use Rattle.st_model.specs.Formed.{IsFormed, IsHeader, IsWord, unit_limit}
 use Rattle.st_model.specs.Machine.{Head}
@@ -98,8 +98,8 @@ module _ (v w : View) (x : Value) (i : ℕ) (loading : IsLoading v) (live : is_l
       let b = with_field (object_of v.objects x) i y in
       let is : object_of v.objects (Ref r.0) ≡ object_of v.objects x = ap (object_of v.objects) (sym r.2) in
       loading_as (record { objects = changed v.objects r.0 b; held = v.held; head = v.head }) w
-          (objects ∙ ap (λ z. with_stored v.objects z i y) r.2 ∙ ap (λ o. changed v.objects r.0 (with_field o i y)) is) held head
-          (loading_changed v r.0 r.1 b loading r.3 (formed_field (object_of v.objects x) i y object header word) (words_of-with_field (object_of v.objects x) i y ∙ ap words_of r.4))
+      (objects ∙ ap (λ z. with_stored v.objects z i y) r.2 ∙ ap (λ o. changed v.objects r.0 (with_field o i y)) is) held head
+      (loading_changed v r.0 r.1 b loading r.3 (formed_field (object_of v.objects x) i y object header word) (words_of-with_field (object_of v.objects x) i y ∙ ap words_of r.4))
 
   pub loading_unit : (u : ℕ) → u < unit_limit (object_of v.objects x).kind → w.objects ≡ with_unit v.objects x i u → IsLoading w
   unfolding with_unit
@@ -108,8 +108,8 @@ module _ (v w : View) (x : Value) (i : ℕ) (loading : IsLoading v) (live : is_l
       let b = object_with_unit (object_of v.objects x) i u in
       let is : object_of v.objects (Ref r.0) ≡ object_of v.objects x = ap (object_of v.objects) (sym r.2) in
       loading_as (record { objects = changed v.objects r.0 b; held = v.held; head = v.head }) w
-          (objects ∙ ap (λ z. with_unit v.objects z i u) r.2 ∙ ap (λ o. changed v.objects r.0 (object_with_unit o i u)) is) held head
-          (loading_changed v r.0 r.1 b loading r.3 (formed_unit (object_of v.objects x) i u object small) (words_of-object_with_unit (object_of v.objects x) i u ∙ ap words_of r.4))
+      (objects ∙ ap (λ z. with_unit v.objects z i u) r.2 ∙ ap (λ o. changed v.objects r.0 (object_with_unit o i u)) is) held head
+      (loading_changed v r.0 r.1 b loading r.3 (formed_unit (object_of v.objects x) i u object small) (words_of-object_with_unit (object_of v.objects x) i u ∙ ap words_of r.4))
 
 -- how many words the objects have then
 

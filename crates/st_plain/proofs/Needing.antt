@@ -1,5 +1,5 @@
 -- What is marked where the roots and what the objects refer to are marked.
-use Rattle.std.proofs.Common.{◌≡◌, ℕ, ◌<◌, zero, suc, Bool, true, false, List, [], ◌∷◌, ◌++◌, length, refl, sym, ap, ◌∙◌, subst, arith, inl, inr, ◌⊎◌}
+use Rattle.std.proofs.Common.{◌≡◌, ℕ, ◌<◌, zero, suc, Bool, true, false, ◌++◌, length, refl, sym, ap, ◌∙◌, subst, arith, inl, inr, ◌⊎◌}
 use Rattle.std.specs.Prelude.{Some, IsTrue, ◌==◌}
 use Rattle.st_model.specs.Objects.{Object, one, page, place_of}
 use Rattle.st_model.specs.Machine.{table_root, head_roots, device_roots}
@@ -118,8 +118,8 @@ settles_to first v w drops held head objects same_held same_head total = record 
   is_settled = settled first.objects v.objects (view_roots first) drops (λ n h.
       let o = some_is (entry v.objects n) h in
       elim (needed_is v n (kept n o.0 o.1)) [
-      | inl r ↦ inl (moved_root first v n held head r)
-      | inr r ↦ inr r
+        | inl r ↦ inl (moved_root first v n held head r)
+        | inr r ↦ inr r
       ]);
   objects = objects ∙ settled_all v.objects (is_needed v) kept ∙ left_is first.objects v.objects drops.as_long drops.same;
   held = same_held ∙ held;

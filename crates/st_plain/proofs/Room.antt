@@ -1,5 +1,5 @@
 -- The lists keep room for what the objects may take.
-use Rattle.std.proofs.Common.{◌≡◌, ℕ, ◌+◌, ◌*◌, ◌≤◌, ap, ◌∙◌, subst, sym, arith}
+use Rattle.std.proofs.Common.{◌≡◌, ℕ, ◌+◌, ◌*◌, ◌≤◌, ap, subst, sym, arith}
 use Rattle.st_plain.specs.Plain.{Extent, HasRoom}
 
 pub room_same : (e f : Extent) (used now words : ℕ) → HasRoom e used words → f ≡ e → now ≡ used → HasRoom f now words

@@ -1,8 +1,8 @@
-use Rattle.std.proofs.Common.{◌≡◌, ℕ, ◌<◌, false, ap, ◌∙◌, refl}
+use Rattle.std.proofs.Common.{ap, ◌∙◌}
 use Rattle.std.specs.Prelude.{◌==◌}
 use Rattle.st_model.specs.Objects.{page, place_of}
 use Rattle.st_model.specs.Machine.{table_root, device_roots}
-use Rattle.st_model.specs.Settled.{or, any_names, any_of_page, is_marked}
+use Rattle.st_model.specs.Settled.{or, any_names, any_of_page}
 use Rattle.st_plain.specs.Held.{register_roots}
 use Rattle.st_plain.specs.Plain.{plain_view, is_referred}
 use Rattle.st_plain.proofs.Marking.{or_false}
@@ -19,7 +19,7 @@ returns-clause-marked c = λ n below.
     let devices = any_names (device_roots v.held.devices) n in
     c.mark_references.ensures n
     ∙ ap (or (is_referred v.objects n)) (c.mark.ensures n
-      ∙ ap (λ b. or registers (or devices (or (n == 1) b))) (c.mark_table-2.ensures n
-        ∙ ap (or symbols) (c.mark_table.ensures n
-          ∙ ap (or globals) (c.mark_page.ensures n ∙ ap (or on_page) (c.clear.ensures n below) ∙ or_false on_page))))
+    ∙ ap (λ b. or registers (or devices (or (n == 1) b))) (c.mark_table-2.ensures n
+    ∙ ap (or symbols) (c.mark_table.ensures n
+    ∙ ap (or globals) (c.mark_page.ensures n ∙ ap (or on_page) (c.clear.ensures n below) ∙ or_false on_page))))
     ∙ needed_parts v n

@@ -1,5 +1,4 @@
-use Rattle.std.proofs.Common.{◌≡◌, ◌≢◌, ◌/◌, ◌%◌, ◌<◌, false, length, refl, ap, ◌∙◌, arith}
-use Rattle.std.proofs.lemmas.Grind.{common_steps}
+use Rattle.std.proofs.Common.{◌≢◌, ◌/◌, ◌<◌, length, refl, ap, ◌∙◌, arith}
 use Rattle.st_model.specs.Objects.{words_of}
 use Rattle.st_model.specs.Formed.{fresh}
 use Rattle.st_model.specs.Table.{total_used}

@@ -1,4 +1,4 @@
-use Rattle.std.proofs.Common.{◌≡◌, refl}
+use Rattle.std.proofs.Common.{refl}
 use Rattle.st_model.specs.Values.{value}
 use Rattle.st_model.proofs.Wholes.{whole_held}
 use Rattle.st_plain.specs.Plain.{plain_view}

@@ -1,4 +1,4 @@
-use Rattle.std.proofs.Common.{◌≡◌, ◌<◌, true, length, sym, ap, ◌∙◌}
+use Rattle.std.proofs.Common.{ap, ◌∙◌}
 use Rattle.st_model.specs.Objects.{Object, is_method}
 use Rattle.st_model.specs.Values.{value}
 use Rattle.st_model.proofs.Wholes.{formed_live}

@@ -20,7 +20,7 @@ returns c = λ n.
     let signals = first ∙ ap (or (any_names (map value (take r.pending_end r.pending.items)) n)) (c.mark.ensures n) ∙ any_names-end r.pending.items r.pending_end n (is_marked c.args.marks.now.names.items n) r.none in
     c.mark_all-3.ensures n
     ∙ ap (or (any_names (register_roots (held_of r)) n)) (
-        c.mark_all-2.ensures n
-        ∙ ap (or (any_names devices n)) signals
-        ∙ or_step (any_names devices n) (any_names pending n) old
-        ∙ ap (λ b. or b old) (sym (any_names-append devices pending n)))
+    c.mark_all-2.ensures n
+    ∙ ap (or (any_names devices n)) signals
+    ∙ or_step (any_names devices n) (any_names pending n) old
+    ∙ ap (λ b. or b old) (sym (any_names-append devices pending n)))
