@@ -1,7 +1,7 @@
 use Rattle.std.proofs.Common.{ap, ◌∙◌}
 use Rattle.st_model.specs.Table.{settled_table}
 use Rattle.st_model.specs.Settled.{is_marked}
-use Rattle.st_model.proofs.Sweeps.{settled_same}
+use Rattle.st_model.proofs.Rounds.{settled_same}
 use Rattle.st_plain.specs.declared.contents.Contents.{Contents}
 use Rattle.st_plain.specs.Plain.{objects_of, plain_view, is_needed}
 use Rattle.st_plain.proofs.Referring.{entry_within}

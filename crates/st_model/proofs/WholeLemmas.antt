@@ -12,7 +12,7 @@ use Rattle.st_model.specs.Show.{IsUsed}
 use Rattle.st_model.specs.View.{View, Held, IsKnown, IsWhole, is_live, object_of, nothing, held_at, with_held, with_stored}
 use Rattle.st_model.proofs.TableLemmas.{changed-some, changed-other}
 use Rattle.st_model.proofs.SettledLemmas.{some_is, is_some-of}
-use Rattle.st_model.proofs.Forms.{formed_field, words_of-with_field}
+use Rattle.st_model.proofs.FormedLemmas.{formed_field, words_of-with_field}
 
 -- what a live value names
 

@@ -12,7 +12,7 @@ use Rattle.st_model.specs.Show.{IsUsed}
 use Rattle.st_model.specs.View.{View, IsWhole, is_live, held_at, view_roots}
 use Rattle.st_model.proofs.SettledLemmas.{some_is, is_some-of, settled-entry, entry-settled}
 use Rattle.st_model.proofs.Settling.{DropsTo}
-use Rattle.st_model.proofs.Wholes.{whole_as}
+use Rattle.st_model.proofs.WholeLemmas.{whole_as}
 
 length-settled : (t : Table) (keep : ℕ → Bool) → length (settled_table t keep) ≡ length t
 length-settled [] keep = refl
