@@ -42,7 +42,7 @@ pub struct Marks {
 }
 
 impl Marks {
-    /// Marks that are all false.
+    /// Marks for all names.
     pub fn new(alloc: Global) -> Result<Marks, AllocError> {
         Ok(Marks {
             names: no_marks(alloc, 32768)?,
