@@ -14,10 +14,10 @@ pub mod Runs
 pub mod Settling
 mod Rows
 pub mod Pointers
-pub mod Forms
-pub mod Wholes
-pub mod Sweeps
-pub mod Loads
+pub mod FormedLemmas
+pub mod WholeLemmas
+pub mod Rounds
+pub mod LoadingLemmas
 pub mod Roots
 pub mod Raised
 pub mod Showing

@@ -7,7 +7,7 @@ use native.Mathlib.Bridge.{le_prop}
 use Rattle.st_model.specs.Values.{Value, Small, Ref, AllLive}
 use Rattle.st_model.specs.Objects.{Object}
 use Rattle.st_model.specs.Formed.{IsWord, IsFormed}
-use Rattle.st_model.specs.Table.{Table, entry}
+use Rattle.st_model.specs.Table.{Table}
 use Rattle.st_model.specs.Show.{IsUsed}
 use Rattle.st_model.specs.View.{View, IsComplete, IsWhole}
 use Rattle.st_model.specs.Loading.{IsLoading}

@@ -1,5 +1,5 @@
 -- Lists of full length in which nothing stands yet.
-use Rattle.std.proofs.Common.{◌≡◌, ℕ, ◌≤◌, zero, suc, List, [], ◌∷◌, length, map, replicate, refl, ap, ◌∙◌, arith}
+use Rattle.std.proofs.Common.{◌≡◌, ℕ, zero, suc, List, [], ◌∷◌, length, map, replicate, refl, arith}
 use Rattle.std.specs.Prelude.{slice_index_or, None}
 use Rattle.st_model.specs.declared.oop.Oop.{Oop}
 use Rattle.st_model.specs.Values.{value, value_of}

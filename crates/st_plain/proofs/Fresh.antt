@@ -1,11 +1,11 @@
 -- A new method gets its header after its place.
-use Rattle.std.proofs.Common.{◌≡◌, ℕ, ◌+◌, ◌*◌, ◌-◌, ◌/◌, ◌<◌, zero, suc, true, false, List, [], ◌∷◌, length, set, replicate, refl, sym, ap, ◌∙◌, subst, arith, add-one, is_some}
+use Rattle.std.proofs.Common.{◌≡◌, ℕ, ◌+◌, ◌*◌, ◌-◌, ◌/◌, ◌<◌, zero, suc, true, false, [], ◌∷◌, length, set, replicate, refl, sym, ap, ◌∙◌, subst, arith, is_some}
 use Rattle.std.specs.Prelude.{unwrap_or, Some, None}
 use Rattle.std.specs.Option.{option_map}
 use Rattle.std.proofs.lemmas.List.{length-replicate, length-map}
 use Rattle.st_model.specs.declared.kind.Kind.{Kind}
 use Rattle.st_model.specs.declared.kind.Kind.TheVariants.{Pointers, Words, Bytes, Method}
-use Rattle.st_model.specs.Values.{Value, Small, Ref, value_of, is_small}
+use Rattle.st_model.specs.Values.{Value, Small, value_of, is_small}
 use Rattle.st_model.specs.Objects.{Object, nil, is_method, with_field}
 use Rattle.st_model.specs.Formed.{fresh}
 use Rattle.st_model.specs.Table.{Table, entry, changed}
@@ -48,7 +48,7 @@ module _ (t : Table) (w : ℕ) (o : Object) (even : is_small (value_of w) ≡ fa
       let n = w / 2 in
       let there : unwrap_or (entry (set t n (Some o)) n) nothing ≡ o = ap (λ e. unwrap_or e nothing) (entry-set t n o within) in
       subst (λ v. with_stored (with_object t v o) v i x ≡ with_object t v (with_field o i x)) (sym (value_of-even w even))
-          (ap (λ b. changed (set t n (Some o)) n (with_field b i x)) there ∙ changed-set t n o (with_field o i x) within)
+      (ap (λ b. changed (set t n (Some o)) n (with_field b i x)) there ∙ changed-set t n o (with_field o i x) within)
 
 pub method_is : (k : Kind) → is_method k ≡ true → k ≡ Method
 method_is Pointers h = cc

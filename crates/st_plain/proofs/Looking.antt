@@ -1,10 +1,10 @@
 -- Looking at all places of the table.
-use Rattle.std.proofs.Common.{◌≡◌, ℕ, ◌+◌, ◌*◌, ◌/◌, ◌%◌, ◌<◌, ◌≤◌, List, [], ◌∷◌, zero, suc, length, take, drop, Bool, true, false, refl, sym, ap, ◌∙◌, is_some, arith, add-one, inl, inr, ◌⊎◌, map}
+use Rattle.std.proofs.Common.{◌≡◌, ℕ, ◌+◌, ◌*◌, ◌/◌, ◌%◌, ◌<◌, ◌≤◌, List, [], ◌∷◌, zero, suc, length, take, drop, Bool, true, false, refl, ap, ◌∙◌, is_some, arith, add-one, inl, inr, ◌⊎◌, map}
 use Rattle.std.specs.Prelude.{slice_get, Option, Some, None, ◌==◌, if◌then◌else◌}
 use Rattle.std.proofs.lemmas.Bool.Decides.{nat_tests}
 use Rattle.std.proofs.lemmas.List.{length-take, length-drop, length-map}
 use Rattle.st_model.specs.declared.oop.Oop.{Oop}
-use Rattle.st_model.specs.Values.{Value, Small, Ref, value, value_of}
+use Rattle.st_model.specs.Values.{Small, Ref, value, value_of}
 use Rattle.st_model.specs.Objects.{Object, words_of, is_words}
 use Rattle.st_model.specs.Table.{total_used}
 use Rattle.st_model.specs.View.{is_live}

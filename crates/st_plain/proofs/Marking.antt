@@ -1,10 +1,10 @@
 -- What is marked after a name, or a list of them, was marked.
-use Rattle.std.proofs.Common.{◌≡◌, ◌≢◌, ℕ, ◌+◌, ◌<◌, ◌/◌, List, [], ◌∷◌, ◌++◌, Bool, true, false, length, map, take, set, refl, sym, ap, ◌∙◌, subst, ◌⊎◌, inl, inr, arith, get_or-set_same, get_or-set_other}
+use Rattle.std.proofs.Common.{◌≡◌, ◌≢◌, ℕ, ◌+◌, ◌<◌, ◌/◌, List, [], ◌∷◌, ◌++◌, Bool, true, false, length, map, take, set, refl, sym, ap, ◌∙◌, subst, ◌⊎◌, inl, inr, get_or-set_same, get_or-set_other}
 use Rattle.std.specs.Prelude.{◌==◌, slice_index_or}
 use Rattle.std.proofs.lemmas.Bool.Decides.{eqb_tells}
 use Rattle.std.proofs.lemmas.List.{map_more}
 use Rattle.st_model.specs.declared.oop.Oop.{Oop}
-use Rattle.st_model.specs.Values.{Value, Small, Ref, value, value_of, is_small}
+use Rattle.st_model.specs.Values.{Value, value, value_of, is_small}
 use Rattle.st_model.specs.Settled.{or, names, any_names, is_marked}
 use Rattle.st_model.proofs.Pointers.{names-small, names-even}
 

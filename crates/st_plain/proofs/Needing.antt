@@ -1,5 +1,5 @@
 -- What is marked where the roots and what the objects refer to are marked.
-use Rattle.std.proofs.Common.{◌≡◌, ℕ, ◌<◌, zero, suc, Bool, true, false, List, [], ◌∷◌, ◌++◌, length, refl, sym, ap, ◌∙◌, subst, arith, inl, inr, ◌⊎◌}
+use Rattle.std.proofs.Common.{◌≡◌, ℕ, ◌<◌, zero, suc, Bool, true, false, ◌++◌, length, refl, sym, ap, ◌∙◌, subst, arith, inl, inr, ◌⊎◌}
 use Rattle.std.specs.Prelude.{Some, IsTrue, ◌==◌}
 use Rattle.st_model.specs.Objects.{Object, one, page, place_of}
 use Rattle.st_model.specs.Machine.{table_root, head_roots, device_roots}
@@ -10,8 +10,9 @@ use Rattle.st_model.proofs.SettledIs.{or_cases, below_true, object_is, is_object
 use Rattle.st_model.proofs.SettledLemmas.{is_some-of, some_is}
 use Rattle.st_model.proofs.CyclesShown.{table_finite_in}
 use Rattle.st_model.proofs.Settling.{DropsTo, left, left_is, settled}
-use Rattle.st_model.proofs.Sweeps.{KeepsNeeded, all_kept, settled_all, moved_roots}
-use Rattle.st_plain.specs.Held.{register_roots}
+use Rattle.st_model.proofs.Rounds.{KeepsNeeded, all_kept, settled_all, moved_roots}
+use Rattle.st_plain.specs.Held.{register_roots, names_held}
+use Rattle.st_plain.specs.Marked.{is_of_page}
 use Rattle.st_plain.specs.Plain.{is_referred, is_needed}
 use Rattle.st_plain.proofs.Marking.{any_names-append, or_step}
 use Rattle.st_plain.proofs.Holding.{twice}
@@ -70,16 +71,10 @@ or_swap true false c = refl
 or_swap false b c = refl
 
 module _ (op : Bool → Bool → Bool) (assoc : (a b c : Bool) → op (op a b) c ≡ op a (op b c)) (comm : (a b : Bool) → op a b ≡ op b a) (swap : (a b c : Bool) → op a (op b c) ≡ op b (op a c)) where
-  turned : (objects registers devices first symbols globals root_page : Bool) → op objects (op registers (op devices (op first (op symbols (op globals root_page))))) ≡ op (op (op registers (op (op globals symbols) devices)) (op first root_page)) objects
-  turned objects registers devices first symbols globals root_page = simp (assoc, comm, swap)
+  turned : (objects registers devices nil symbols globals root_page : Bool) → op objects (op (op registers (op devices nil)) (op symbols (op globals root_page))) ≡ op (op (op registers (op (op globals symbols) devices)) (op nil root_page)) objects
+  turned objects registers devices nil symbols globals root_page = simp (assoc, comm, swap)
 
 module _ (v : View) (n : ℕ) where
-  abbrev on_page : Bool
-  on_page = any_of_page page (λ q. n == place_of q)
-
-  abbrev of_nil : Bool
-  of_nil = n == 1
-
   abbrev globals : Bool
   globals = any_names (table_root v.head.globals) n
 
@@ -99,12 +94,12 @@ module _ (v : View) (n : ℕ) where
       ∙ ap (λ b. or registers (or b devices)) (any_names-append (table_root v.head.globals) (table_root v.head.symbols) n)
 
   -- marks of all these are marks of what is needed
-  pub needed_parts : or (is_referred v.objects n) (or registers (or devices (or of_nil (or symbols (or globals on_page))))) ≡ is_needed v n
+  pub needed_parts : or (is_referred v.objects n) (or (names_held v.held n) (or symbols (or globals (is_of_page n)))) ≡ is_needed v n
   unfolding is_needed is_root
   needed_parts =
-      turned or (λ a b c. sym (or_step a b c)) or_comm or_swap (is_referred v.objects n) registers devices of_nil symbols globals on_page
-      ∙ ap (λ b. or (or (or registers (or (or globals symbols) devices)) b) (is_referred v.objects n)) (twice of_nil _)
-      ∙ ap (λ b. or (or b on_page) (is_referred v.objects n)) (sym named_roots)
+      turned or (λ a b c. sym (or_step a b c)) or_comm or_swap (is_referred v.objects n) registers devices (n == 1) symbols globals (is_of_page n)
+      ∙ ap (λ b. or (or (or registers (or (or globals symbols) devices)) b) (is_referred v.objects n)) (twice (n == 1) _)
+      ∙ ap (λ b. or (or b (is_of_page n)) (is_referred v.objects n)) (sym named_roots)
 
 moved_root : (first v : View) (n : ℕ) → v.held ≡ first.held → v.head ≡ first.head → IsRoot table v.objects (view_roots v) n → IsRoot table first.objects (view_roots first) n
 moved_root first v n held head (held_root r) = held_root (subst (λ xs. AnyRefTo n xs) (moved_roots first v held head) r)
@@ -118,8 +113,8 @@ settles_to first v w drops held head objects same_held same_head total = record 
   is_settled = settled first.objects v.objects (view_roots first) drops (λ n h.
       let o = some_is (entry v.objects n) h in
       elim (needed_is v n (kept n o.0 o.1)) [
-      | inl r ↦ inl (moved_root first v n held head r)
-      | inr r ↦ inr r
+        | inl r ↦ inl (moved_root first v n held head r)
+        | inr r ↦ inr r
       ]);
   objects = objects ∙ settled_all v.objects (is_needed v) kept ∙ left_is first.objects v.objects drops.as_long drops.same;
   held = same_held ∙ held;

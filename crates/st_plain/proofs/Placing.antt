@@ -1,18 +1,18 @@
 -- A new entry whose runs begin at the first free places.
 use Rattle.std.proofs.Common.{◌≡◌, ◌≢◌, ℕ, zero, suc, ◌+◌, ◌*◌, ◌/◌, ◌<◌, ◌≤◌, ◌⊎◌, inl, inr, false, List, [], ◌∷◌, length, take, drop, map, set, replicate, refl, sym, ap, ◌∙◌, subst, arith, length-set}
-use Rattle.std.specs.Prelude.{slice_get, slice_index, slice_index_or, unwrap_or, Option, Some, None}
+use Rattle.std.specs.Prelude.{slice_get, slice_index_or, unwrap_or, Option, Some, None}
 use Rattle.std.specs.Option.{option_map}
 use Rattle.std.proofs.lemmas.Bool.{cases_eq}
 use Rattle.std.proofs.lemmas.List.{map-set}
 use Rattle.std.proofs.Math.Seq.{drop-cons}
 use Rattle.st_model.specs.declared.oop.Oop.{Oop}
 use Rattle.st_model.specs.declared.kind.Kind.{Kind}
-use Rattle.st_model.specs.Values.{Value, Ref, value, value_of, is_small}
-use Rattle.st_model.specs.Objects.{Object, nil}
+use Rattle.st_model.specs.Values.{value, value_of, is_small}
+use Rattle.st_model.specs.Objects.{nil}
 use Rattle.st_model.specs.View.{with_object}
 use Rattle.st_model.proofs.Pointers.{value_of-even}
 use Rattle.st_plain.specs.declared.entry.Entry.{Entry}
-use Rattle.st_plain.specs.Lists.{nil_word, entry_object, listed_table, slot, entry_of, IsApart, IsPlaced, AllPlaced, AllApart, IsLaidOut, cleared}
+use Rattle.st_plain.specs.Lists.{nil_word, entry_object, listed_table, slot, IsApart, IsPlaced, AllPlaced, AllApart, IsLaidOut, cleared}
 
 -- a run of places that are all d
 clear_run : {A : Type 0} (xs : List A) (a n : ℕ) (d : A) → ((k : ℕ) → a ≤ k → slice_index_or xs k d ≡ d) → a + n ≤ length xs → take n (drop a xs) ≡ replicate n d
@@ -85,9 +85,10 @@ module _ (es : List (Option Entry)) (p : List Oop) (u : List ℕ) (end nf nu : �
 
     before : (d : Entry) → IsPlaced nf nu d → IsApart d e × IsApart e d
     before d was =
-        let a = was.fields_end in let b = was.units_end in
-        (record { fields = λ n p q r s. omega (arith, p, q, r, s, a); units = λ n p q r s. omega (arith, p, q, r, s, b) }
-        , record { fields = λ n p q r s. omega (arith, p, q, r, s, a); units = λ n p q r s. omega (arith, p, q, r, s, b) })
+        let a = was.fields_end in let b = was.units_end in (
+          record { fields = λ n p q r s. omega (arith, p, q, r, s, a); units = λ n p q r s. omega (arith, p, q, r, s, b) },
+          record { fields = λ n p q r s. omega (arith, p, q, r, s, a); units = λ n p q r s. omega (arith, p, q, r, s, b) },
+        )
 
     all_apart : AllApart (set es k (Some e))
     all_apart i j d b ne hi hj = elim (there_is i d hi) [

@@ -1,13 +1,13 @@
 -- What the objects of the lists refer to.
-use Rattle.std.proofs.Common.{◌≡◌, ℕ, ◌+◌, ◌/◌, ◌<◌, ◌≤◌, ◌-◌, zero, suc, Bool, false, List, length, take, drop, map, refl, ap, ◌∙◌, sym, arith, inl, inr, add-one}
-use Rattle.std.specs.Prelude.{◌==◌, Option, Some, None}
+use Rattle.std.proofs.Common.{◌≡◌, ℕ, ◌+◌, ◌<◌, ◌≤◌, ◌-◌, zero, suc, Bool, false, List, length, take, drop, map, ap, ◌∙◌, sym, arith, inl, inr, add-one}
+use Rattle.std.specs.Prelude.{Option, Some, None}
 use Rattle.std.specs.Option.{option_map}
 use Rattle.std.proofs.lemmas.List.{length-map}
 use Rattle.st_model.specs.declared.oop.Oop.{Oop}
 use Rattle.st_model.specs.Values.{value, is_small}
 use Rattle.std.proofs.lemmas.Bool.{cases_lt}
 use Rattle.st_model.specs.Objects.{Object}
-use Rattle.st_model.specs.Table.{Table, entry}
+use Rattle.st_model.specs.Table.{entry}
 use Rattle.st_model.specs.Settled.{or, names, any_names, object_names, any_below}
 use Rattle.st_model.proofs.Pointers.{names-even}
 use Rattle.st_plain.specs.declared.entry.Entry.{Entry}

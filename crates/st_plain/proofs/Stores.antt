@@ -1,5 +1,5 @@
 -- What a store into a run of the lists leaves.
-use Rattle.std.proofs.Common.{◌≡◌, ◌≢◌, ℕ, zero, suc, ◌+◌, ◌-◌, ◌/◌, ◌<◌, ◌≤◌, inl, inr, List, [], ◌∷◌, length, take, drop, map, set, sym, ap, ◌∙◌, refl, arith}
+use Rattle.std.proofs.Common.{◌≡◌, ◌≢◌, ℕ, zero, suc, ◌+◌, ◌-◌, ◌/◌, ◌<◌, ◌≤◌, inl, inr, List, [], ◌∷◌, take, drop, map, set, sym, ap, ◌∙◌, refl, arith}
 use Rattle.std.specs.Prelude.{slice_get, Option, Some, None}
 use Rattle.std.specs.Option.{option_map}
 use Rattle.std.proofs.lemmas.Bool.{cases_lt}
@@ -9,9 +9,9 @@ use Rattle.st_model.specs.declared.oop.Oop.{Oop}
 use Rattle.st_model.specs.Values.{Value, Ref, value}
 use Rattle.st_model.specs.Objects.{Object, with_field, object_with_unit}
 use Rattle.st_model.specs.Table.{Table, entry, changed}
-use Rattle.st_model.specs.View.{object_of, with_stored, with_unit}
+use Rattle.st_model.specs.View.{with_stored, with_unit}
 use Rattle.st_plain.specs.declared.entry.Entry.{Entry}
-use Rattle.st_plain.specs.Lists.{entry_object, listed_table, slot, entry_of, AllApart}
+use Rattle.st_plain.specs.Lists.{entry_object, listed_table, entry_of, AllApart}
 use Rattle.st_plain.proofs.Slots.{slice_get-slot, slot-entry_of, entry-slot, object_of-listed}
 
 -- a store inside a run is a store into what is taken of it

@@ -1,14 +1,14 @@
 -- Entries that are left where those of unmarked names leave.
-use Rattle.std.proofs.Common.{◌≡◌, ◌≢◌, ℕ, ◌+◌, ◌<◌, ◌≤◌, zero, suc, Bool, true, false, List, [], ◌∷◌, length, set, refl, sym, ap, ◌∙◌, subst, arith, inl, inr, ◌⊎◌, is_some, take, drop}
-use Rattle.std.specs.Prelude.{slice_get, slice_index_or, unwrap_or, nat_le, Option, Some, None, if◌then◌else◌}
+use Rattle.std.proofs.Common.{◌≡◌, ◌≢◌, ℕ, ◌+◌, ◌≤◌, zero, suc, Bool, true, false, List, [], ◌∷◌, length, set, refl, sym, ap, ◌∙◌, subst, arith, inl, inr, is_some}
+use Rattle.std.specs.Prelude.{slice_get, nat_le, Option, Some, None, if◌then◌else◌}
 use Rattle.std.specs.Option.{option_map}
 use Rattle.std.proofs.lemmas.Bool.{cases_eq, cases_lt}
 use Rattle.std.proofs.lemmas.Bool.Decides.{nat_tests}
 use Rattle.st_model.specs.declared.oop.Oop.{Oop}
-use Rattle.st_model.specs.Table.{Table, settled_table}
+use Rattle.st_model.specs.Table.{settled_table}
 use Rattle.st_model.specs.Settled.{or}
 use Rattle.st_plain.specs.declared.entry.Entry.{Entry}
-use Rattle.st_plain.specs.Lists.{listed_table, entry_object, slot, kept_entries, entry_total, one_entry, IsLaidOut, AllPlaced, AllApart}
+use Rattle.st_plain.specs.Lists.{listed_table, entry_object, slot, kept_entries, entry_total, one_entry, IsLaidOut}
 
 -- the names that are marked, or not reached yet
 abbrev pub kept_from : (ℕ → Bool) → ℕ → ℕ → Bool

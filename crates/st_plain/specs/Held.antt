@@ -1,9 +1,11 @@
 -- What is held, by the words.
-use Rattle.std.specs.Prelude.{List, [], ◌∷◌, map, ⊤}
+use Rattle.std.specs.Prelude.{ℕ, ◌==◌, Bool, List, [], ◌∷◌, map, ⊤}
 use Rattle.st_model.specs.declared.oop.Oop.{Oop}
 use Rattle.st_model.specs.declared.place.RootPlace.{RootPlace}
 use Rattle.st_model.specs.declared.place.RootPlace.TheVariants as place
 use Rattle.st_model.specs.Values.{Value, value}
+use Rattle.st_model.specs.Machine.{device_roots}
+use Rattle.st_model.specs.Settled.{or, any_names}
 use Rattle.st_model.specs.View.{Held}
 use Rattle.st_plain.specs.declared.roots.Places.{Places}
 use Rattle.st_plain.specs.declared.roots.Roots.{Roots}
@@ -30,6 +32,10 @@ held_of r = held_words r.places r.pending.items
 
 abbrev pub register_roots : Held → List Value
 register_roots h = h.active ∷ h.home ∷ h.method ∷ h.receiver ∷ []
+
+-- the name is nil's, or that of what is held
+abbrev pub names_held : Held → ℕ → Bool
+names_held h n = or (any_names (register_roots h) n) (or (any_names (device_roots h.devices) n) (n == 1))
 
 -- not one of the pending signals
 abbrev pub IsSinglePlace : RootPlace → Type 0

@@ -1,3 +1,4 @@
 pub mod Held
 pub mod Lists
+pub mod Marked
 pub mod Plain

@@ -1,6 +1,7 @@
 -- What the parts of a memory contain.
 use Rattle.std.specs.Prelude.{◌≡◌, ◌≤◌, ℕ, ◌+◌, ◌*◌, Bool, length}
-use Rattle.st_model.specs.Table.{Table, table, entry}
+use Rattle.st_model.specs.Objects.{words_of}
+use Rattle.st_model.specs.Table.{Table, table, entry, total_used}
 use Rattle.st_model.specs.Settled.{or, any_below, object_names, is_root}
 use Rattle.st_model.specs.View.{View, view_roots, head_of}
 use Rattle.st_plain.specs.declared.contents.Contents.{Contents}
@@ -22,8 +23,16 @@ pub record Extent : Type 0 where
 abbrev pub extent_of : Objects → Extent
 extent_of o = record { next_field = o.next_field; next_unit = o.next_unit; fields = length o.pointers.items; units = length o.units.items }
 
+-- lists for so many words, none of which is in use
+abbrev pub unused : ℕ → Extent
+unused words = record { next_field = 0; next_unit = 0; fields = words; units = 2 * words }
+
+-- the same lists with so much more in use
+abbrev pub with_taken : Extent → ℕ → ℕ → Extent
+with_taken e fields units = record e { next_field = e.next_field + fields; next_unit = e.next_unit + units }
+
 -- The lists are as long as a number of words may need, and no more of them is in use than the objects take.
-pub record HasRoom (e : Extent) (used words : ℕ) : Type 0 where
+pub record IsEnough (e : Extent) (used words : ℕ) : Type 0 where
   pub fields : e.fields ≡ words
   pub units : e.units ≡ 2 * words
   pub taken : 2 * e.next_field + e.next_unit ≤ 2 * used
@@ -39,3 +48,7 @@ is_referred t n = any_below (length t) (λ k. object_names (entry t k) n)
 -- the name is a root, or some object refers to it
 unfoldable pub is_needed : View → ℕ → Bool
 is_needed v n = or (is_root table v.objects (view_roots v) n) (is_referred v.objects n)
+
+-- there is room for what may be placed yet
+abbrev pub HasRoom : Contents → Type 0
+HasRoom c = IsEnough (extent_of c.objects) (total_used words_of (objects_of c.objects)) c.head.capacity.words

@@ -1,4 +1,4 @@
-ghost use Rattle.std.specs.Prelude.{◌≡◌, ◌<◌, ◌≤◌, ◌+◌, ◌*◌, ℕ, IfOk};
+ghost use Rattle.std.specs.Prelude.{◌≡◌, ◌<◌, ◌≤◌, ◌+◌, ℕ, IfOk};
 ghost use Rattle.st_model.specs.Objects.{one};
 ghost use Rattle.st_model.specs.Table.{total_used, settled_table};
 ghost use Rattle.st_model.specs.Settled.{is_marked};
@@ -30,13 +30,13 @@ pub struct Contents {
 }
 
 impl Contents {
-    ghost use Rattle.st_plain.specs.Plain.{plain_view, extent_of, is_needed};
+    ghost use Rattle.st_plain.specs.Plain.{plain_view, extent_of, unused, is_needed};
 
     /// No objects under a head, and nothing held.
     pub fn new(alloc: Global, head: Head) -> Result<Contents, AllocError>
         requires { head.capacity.words ≤ 1048576 }
         ensures empty { IfOk result (λ c. plain_view c ≡ empty_view (head_of head.capacity head.globals head.symbols)) }
-        ensures extent { IfOk result (λ c. extent_of c.objects ≡ record { next_field = 0; next_unit = 0; fields = head.capacity.words; units = 2 * head.capacity.words }) }
+        ensures extent { IfOk result (λ c. extent_of c.objects ≡ unused head.capacity.words) }
         ensures head { IfOk result (λ c. c.head ≡ head) }
     {
         let objects = Objects::new(alloc, head.capacity.words)?;

@@ -1,9 +1,7 @@
 ghost use Rattle.std.specs.Prelude.{◌≡◌};
-ghost use Rattle.st_model.specs.Objects.{words_of};
-ghost use Rattle.st_model.specs.Table.{total_used};
 ghost use Rattle.st_model.specs.Loading.{IsLoading};
 ghost use Rattle.st_model.specs.Props.{IsLoading-prop};
-ghost use Rattle.st_plain.specs.Plain.{plain_view, extent_of, HasRoom};
+ghost use Rattle.st_plain.specs.Plain.{plain_view, HasRoom};
 
 use crate::contents::{Contents, Head};
 use crate::memory::PlainMemory;
@@ -16,7 +14,7 @@ use std::alloc::{AllocError, Global};
 pub struct PlainLoader {
     contents: Contents,
     ghost loading: { IsLoading (plain_view contents) } by { IsLoading-prop (plain_view contents) },
-    ghost room: { HasRoom (extent_of contents.objects) (total_used words_of (plain_view contents).objects) contents.head.capacity.words },
+    ghost room: { HasRoom contents },
 }
 
 impl Loader for PlainLoader {
@@ -42,7 +40,7 @@ impl Loader for PlainLoader {
     fn place(&mut self, at: Oop, class: Oop, kind: Kind, size: u32, literals: u32) {
         self.contents
             .objects
-            .place_fresh(at, class, kind, size, literals);
+            .place(at, class, kind, size, literals);
     }
 
     fn set_pointer(&mut self, o: Oop, at: u32, v: Oop) {

@@ -1,10 +1,10 @@
-ghost use Rattle.std.specs.Prelude.{◌≡◌, ◌<◌, ◌≤◌, ℕ, ◌==◌, length, map, false, IfOk};
+ghost use Rattle.std.specs.Prelude.{◌≡◌, ◌<◌, ◌≤◌, ℕ, length, map, false};
 ghost use Rattle.st_model.specs.declared.oop.Oop.{Oop};
 ghost use Rattle.st_model.specs.Values.{value};
-ghost use Rattle.st_model.specs.Objects.{page, place_of};
 ghost use Rattle.st_model.specs.Machine.{table_root};
-ghost use Rattle.st_model.specs.Settled.{or, names, any_names, any_of_page, is_marked};
+ghost use Rattle.st_model.specs.Settled.{names, any_names, is_marked};
 ghost use Rattle.st_model.specs.View.{table_of};
+ghost use Rattle.st_plain.specs.Marked.{AddsMarks, is_of_page};
 
 use crate::lists::no_marks;
 use st_model::Oop;
@@ -42,7 +42,7 @@ pub struct Marks {
 }
 
 impl Marks {
-    /// Marks that are all false.
+    /// Marks for all names.
     pub fn new(alloc: Global) -> Result<Marks, AllocError> {
         Ok(Marks {
             names: no_marks(alloc, 32768)?,
@@ -69,7 +69,7 @@ impl Marks {
 
     /// Marks what a word names; a SmallInteger names nothing.
     pub fn mark(&mut self, o: Oop)
-        ensures { (n : ℕ) → is_marked self.new.names.items n ≡ or (names (value o) n) (is_marked self.old.names.items n) }
+        ensures { AddsMarks self.old.names.items self.new.names.items (names (value o)) }
     {
         if !o.is_small() {
             self.names[usize::from(o.0 >> 1)] = true;
@@ -78,7 +78,7 @@ impl Marks {
 
     /// Marks what the words name.
     pub fn mark_all(&mut self, words: &[Oop])
-        ensures { (n : ℕ) → is_marked self.new.names.items n ≡ or (any_names (map value words.now) n) (is_marked self.old.names.items n) }
+        ensures { AddsMarks self.old.names.items self.new.names.items (any_names (map value words.now)) }
     {
         for o in words {
             self.mark(*o);
@@ -87,14 +87,14 @@ impl Marks {
 
     /// Marks the root page.
     pub fn mark_page(&mut self)
-        ensures { (n : ℕ) → is_marked self.new.names.items n ≡ or (any_of_page page (λ q. n == place_of q)) (is_marked self.old.names.items n) }
+        ensures { AddsMarks self.old.names.items self.new.names.items is_of_page }
     {
         self.mark_all(&PAGE);
     }
 
     /// Marks the table of a pointer of the head; 0 is none.
     pub fn mark_table(&mut self, o: Oop)
-        ensures { (n : ℕ) → is_marked self.new.names.items n ≡ or (any_names (table_root (table_of o.0)) n) (is_marked self.old.names.items n) }
+        ensures { AddsMarks self.old.names.items self.new.names.items (any_names (table_root (table_of o.0))) }
     {
         if o.0 != 0 {
             self.mark(o);

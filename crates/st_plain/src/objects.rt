@@ -6,6 +6,7 @@ ghost use Rattle.st_model.specs.Formed.{IsMakeable, fresh};
 ghost use Rattle.st_model.specs.Table.{entry, total_used, settled_table};
 ghost use Rattle.st_model.specs.Settled.{or, object_names, is_marked};
 ghost use Rattle.st_model.specs.View.{is_live, object_of, with_object, with_stored, with_unit};
+ghost use Rattle.st_plain.specs.Marked.{AddsMarks};
 ghost use Rattle.st_plain.specs.Lists.{IsLaidOut, IsPlaced, slot, entry_of, entry_object, slot_number, one_entry, entry_words, kept_entries, entry_total, cleared};
 
 use crate::entry::Entry;
@@ -31,14 +32,14 @@ pub struct Objects {
 }
 
 impl Objects {
-    ghost use Rattle.st_plain.specs.Plain.{objects_of, is_referred, extent_of};
+    ghost use Rattle.st_plain.specs.Plain.{objects_of, is_referred, extent_of, unused, with_taken};
 
     /// No objects, and room for the fields and units of so many words.
     pub fn new(alloc: Global, words: u32) -> Result<Objects, AllocError>
         requires { words ≤ 1048576 }
         ensures places { IfOk result (λ o. length (objects_of o) ≡ 32768) }
         ensures empty { IfOk result (λ o. (k : ℕ) → entry (objects_of o) k ≡ None) }
-        ensures extent { IfOk result (λ o. extent_of o ≡ record { next_field = 0; next_unit = 0; fields = words; units = 2 * words }) }
+        ensures extent { IfOk result (λ o. extent_of o ≡ unused words) }
     {
         let entries = empty_places(alloc, 32768)?;
         let pointers = nil_words(alloc, words as usize)?;
@@ -137,14 +138,14 @@ impl Objects {
     }
 
     /// A new object of nil and 0 at a pointer.
-    pub fn place(&mut self, at: Oop, class: Oop, kind: Kind, fields: u32, units: u32)
+    fn place_cleared(&mut self, at: Oop, class: Oop, kind: Kind, fields: u32, units: u32)
         requires even { is_small (value at) ≡ false }
         requires class { is_small (value class) ≡ false }
         requires small { 2 * fields + units ≤ 131066 }
         requires fields_end { self.old.next_field + fields ≤ length self.old.pointers.items }
         requires units_end { self.old.next_unit + units ≤ length self.old.units.items }
         ensures objects { objects_of self.new ≡ with_object (objects_of self.old) (value at) (cleared (class.0 / 2) kind fields units) }
-        ensures extent { extent_of self.new ≡ record (extent_of self.old) { next_field = self.old.next_field + fields; next_unit = self.old.next_unit + units } }
+        ensures extent { extent_of self.new ≡ with_taken (extent_of self.old) fields units }
     {
         let place = at.0 >> 1;
         let entry = Entry {
@@ -162,18 +163,19 @@ impl Objects {
     }
 
     /// A new object at a pointer, with fields of nil, units of 0 and, in a Method, its literal count.
-    pub fn place_fresh(&mut self, at: Oop, class: Oop, kind: Kind, size: u32, literals: u32)
+    pub fn place(&mut self, at: Oop, class: Oop, kind: Kind, size: u32, literals: u32)
         requires even { is_small (value at) ≡ false }
         requires class { is_small (value class) ≡ false }
         requires makeable { IsMakeable (class.0 / 2) kind size literals }
         requires fields_end { self.old.next_field + length (fresh (class.0 / 2) kind size literals).fields ≤ length self.old.pointers.items }
         requires units_end { self.old.next_unit + length (fresh (class.0 / 2) kind size literals).units ≤ length self.old.units.items }
         ensures objects { objects_of self.new ≡ with_object (objects_of self.old) (value at) (fresh (class.0 / 2) kind size literals) }
-        ensures extent { extent_of self.new ≡ record (extent_of self.old) { next_field = self.old.next_field + length (fresh (class.0 / 2) kind size literals).fields; next_unit = self.old.next_unit + length (fresh (class.0 / 2) kind size literals).units } }
+        ensures extent { let o = fresh (class.0 / 2) kind size literals in
+            extent_of self.new ≡ with_taken (extent_of self.old) (length o.fields) (length o.units) }
     {
         let fields = fields_of(class, kind, size, literals);
         let units = units_of(class, kind, size, literals);
-        self.place(at, class, kind, fields, units);
+        self.place_cleared(at, class, kind, fields, units);
         if kind.is_method() {
             self.set_field(at, 0, Oop(2 * literals as u16 + 1));
         }
@@ -236,7 +238,7 @@ impl Objects {
 
     /// Marks what the object at a place refers to.
     fn mark_from(&self, k: usize, marks: &mut Marks)
-        ensures { (n : ℕ) → is_marked marks.new.names.items n ≡ or (object_names (entry (objects_of self.now) k) n) (is_marked marks.old.names.items n) }
+        ensures { AddsMarks marks.old.names.items marks.new.names.items (object_names (entry (objects_of self.now) k)) }
     {
         if let Some(e) = self.slot(k) {
             let first = e.fields_at as usize;
@@ -247,7 +249,7 @@ impl Objects {
 
     /// Marks what the objects refer to.
     pub fn mark_references(&self, marks: &mut Marks)
-        ensures { (n : ℕ) → is_marked marks.new.names.items n ≡ or (is_referred (objects_of self.now) n) (is_marked marks.old.names.items n) }
+        ensures { AddsMarks marks.old.names.items marks.new.names.items (is_referred (objects_of self.now)) }
     {
         for k in 0..self.table_end as usize {
             self.mark_from(k, marks);

@@ -2,10 +2,9 @@ ghost use Rattle.std.specs.Prelude.{◌≡◌, ◌≢◌, ◌<◌, ◌≤◌, �
 ghost use Rattle.st_model.specs.declared.oop.Oop.{Oop};
 ghost use Rattle.st_model.specs.declared.place.RootPlace.TheVariants.{Pending};
 ghost use Rattle.st_model.specs.Values.{value};
-ghost use Rattle.st_model.specs.Machine.{device_roots};
-ghost use Rattle.st_model.specs.Settled.{or, any_names, is_marked};
 ghost use Rattle.st_model.specs.View.{held_at, with_held, IsPlace, nothing_held};
 ghost use Rattle.st_plain.specs.Lists.{nil_word};
+ghost use Rattle.st_plain.specs.Marked.{AddsMarks};
 
 use crate::lists::nil_words;
 use crate::marks::Marks;
@@ -109,7 +108,7 @@ fn end_with(end: u32, k: u16, o: Oop) -> u32
 }
 
 impl Roots {
-    ghost use Rattle.st_plain.specs.Held.{held_words, held_of, register_roots};
+    ghost use Rattle.st_plain.specs.Held.{held_words, held_of, names_held};
 
     /// Nothing held.
     pub fn new(alloc: Global) -> Result<Roots, AllocError>
@@ -164,7 +163,7 @@ impl Roots {
 
     /// Marks nil, the devices and the pending signals, and then the registers.
     pub fn mark(&self, marks: &mut Marks)
-        ensures { (n : ℕ) → is_marked marks.new.names.items n ≡ or (any_names (register_roots (held_of self.now)) n) (or (any_names (device_roots (held_of self.now).devices) n) (or (n == 1) (is_marked marks.old.names.items n))) }
+        ensures { AddsMarks marks.old.names.items marks.new.names.items (names_held (held_of self.now)) }
     {
         let p = &self.places;
         marks.mark(Oop::NIL);

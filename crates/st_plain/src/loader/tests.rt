@@ -60,7 +60,10 @@ fn is_makeable(class: Oop, kind: Kind, size: u32, literals: u32) -> bool
         Kind::Pointers => class.0 / 2 != 17 && literals == 0 && size <= 100,
         Kind::Words => class.0 / 2 != 17 && literals == 0 && size <= 100,
         Kind::Bytes => class.0 / 2 != 17 && literals == 0 && size <= 100,
-        Kind::Method => class.0 / 2 == 17 && literals <= 9 && 2 * literals + 2 <= size && size <= 100,
+        Kind::Method => class.0 / 2 == 17
+            && literals <= 9
+            && 2 * literals + 2 <= size
+            && size <= 100,
     }
 }
 
@@ -133,7 +136,9 @@ fn store_byte(rt: &impl Abort, l: &mut PlainLoader, o: u16, at: u32, v: u8) {
     let o = Oop(o);
     assert!(rt; l.contents.objects.live(o));
     let entry = l.contents.objects.live_entry(o);
-    assert!(rt; !entry.kind.is_words() && 2 * entry.fields <= at && at - 2 * entry.fields < entry.units);
+    assert!(rt;
+        !entry.kind.is_words() && 2 * entry.fields <= at && at - 2 * entry.fields < entry.units
+    );
     l.set_byte(o, at, v);
 }
 
@@ -185,7 +190,10 @@ fn reads<M: Memory>(rt: &impl Abort, m: &M, alloc: Global) -> Result<(), Fail> {
     assert!(rt; m.kind(unnamed).is_words());
     assert_eq!(rt; m.size(unnamed), 3);
     assert_eq!(rt; m.word(unnamed, 2), 65535);
-    assert_eq!(rt; fields(rt, m, alloc, 60)?.as_slice(), [2, 62, 9, 2].as_slice());
+    assert_eq!(rt;
+        fields(rt, m, alloc, 60)?.as_slice(),
+        [2, 62, 9, 2].as_slice()
+    );
     assert_eq!(rt; fields(rt, m, alloc, 70)?.as_slice(), [68].as_slice());
     assert_eq!(rt; m.next_live(56), Some(Oop(58)));
     assert_eq!(rt; m.next_live(70), None);

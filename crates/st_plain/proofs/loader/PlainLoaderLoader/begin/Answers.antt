@@ -1,7 +1,7 @@
-use Rattle.std.proofs.Common.{◌≡◌, ◌≤◌, refl, ap, sym, subst, ◌∙◌, arith}
-use Rattle.st_model.specs.View.{View, head_of}
+use Rattle.std.proofs.Common.{◌≡◌, ap, sym, subst}
+use Rattle.st_model.specs.View.{head_of}
 use Rattle.st_model.specs.Loading.{IsLoading}
-use Rattle.st_model.proofs.Loads.{loading_empty}
+use Rattle.st_model.proofs.LoadingLemmas.{loading_empty}
 use Rattle.st_plain.specs.declared.contents.Head.{Head}
 use Rattle.st_model.specs.Objects.{words_of}
 use Rattle.st_model.specs.Table.{total_used}

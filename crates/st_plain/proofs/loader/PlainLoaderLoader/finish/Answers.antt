@@ -1,4 +1,4 @@
-use Rattle.st_model.proofs.Loads.{whole_loaded}
+use Rattle.st_model.proofs.LoadingLemmas.{whole_loaded}
 use Rattle.st_plain.specs.Plain.{plain_view}
 use Rattle.st_plain.proofs.loader.PlainLoaderLoader.finish.Goals as goal
 

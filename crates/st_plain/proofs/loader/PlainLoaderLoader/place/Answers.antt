@@ -1,12 +1,11 @@
-use Rattle.std.proofs.Common.{◌≡◌, ◌≢◌, ◌/◌, ◌%◌, ◌<◌, false, length, refl, ap, ◌∙◌, arith}
-use Rattle.std.proofs.lemmas.Grind.{common_steps}
+use Rattle.std.proofs.Common.{◌≢◌, ◌/◌, ◌<◌, length, refl, ap, ◌∙◌, arith}
 use Rattle.st_model.specs.Objects.{words_of}
 use Rattle.st_model.specs.Formed.{fresh}
 use Rattle.st_model.specs.Table.{total_used}
 use Rattle.st_model.specs.Values.{value}
-use Rattle.st_model.proofs.Forms.{formed_fresh, fresh_parts}
+use Rattle.st_model.proofs.FormedLemmas.{formed_fresh, fresh_parts}
 use Rattle.st_model.proofs.Pointers.{value_of-even, even_word}
-use Rattle.st_model.proofs.Loads.{loading_placed, total_used-with_object}
+use Rattle.st_model.proofs.LoadingLemmas.{loading_placed, total_used-with_object}
 use Rattle.st_plain.specs.Plain.{plain_view, objects_of, extent_of}
 use Rattle.st_plain.proofs.Fresh.{pointer_within}
 use Rattle.st_plain.proofs.Room.{room_less}
@@ -15,10 +14,10 @@ use Rattle.st_plain.proofs.loader.PlainLoaderLoader.place.Goals as goal
 pub invariant_of-self : goal.invariant_of-self
 invariant_of-self c =
     let l = c.args.self.now in
-    let now = c.place_fresh.new.self in
+    let now = c.place.new.self in
     let v = plain_view l.contents in
     let w = plain_view (record l.contents { objects = now }) in
-    let e = c.place_fresh.ensures in
+    let e = c.place.ensures in
     let r = c.requires in
     let class = c.args.class.0 / 2 in
     let o = fresh class c.args.kind c.args.size c.args.literals in

@@ -1,11 +1,11 @@
-use Rattle.std.proofs.Common.{◌≡◌, ◌<◌, refl, ap, sym, subst, ◌∙◌, arith}
+use Rattle.std.proofs.Common.{◌<◌, refl, ap, sym, subst, ◌∙◌, arith}
 use Rattle.std.proofs.lemmas.Grind.{common_steps}
 use Rattle.st_model.specs.Objects.{words_of}
 use Rattle.st_model.specs.Table.{total_used}
 use Rattle.st_model.specs.Values.{value}
 use Rattle.st_model.specs.View.{object_of}
-use Rattle.st_model.proofs.Forms.{unit_limit-byte}
-use Rattle.st_model.proofs.Loads.{loading_unit, total_used-with_unit}
+use Rattle.st_model.proofs.FormedLemmas.{unit_limit-byte}
+use Rattle.st_model.proofs.LoadingLemmas.{loading_unit, total_used-with_unit}
 use Rattle.st_plain.specs.Plain.{plain_view, objects_of, extent_of}
 use Rattle.st_plain.proofs.Room.{room_same}
 use Rattle.st_plain.proofs.loader.PlainLoaderLoader.set_byte.Goals as goal

@@ -1,5 +1,5 @@
-use Rattle.std.proofs.Common.{◌≡◌, ◌≢◌, ℕ, ◌*◌, ◌<◌, zero, suc, Bool, true, false, List, [], ◌∷◌, length, refl, sym, ap, ◌∙◌, subst, arith, inl, inr, below_more}
-use Rattle.std.specs.Prelude.{Some, None, IsTrue, ◌==◌}
+use Rattle.std.proofs.Common.{◌≡◌, ℕ, ◌<◌, zero, suc, Bool, true, false, List, [], ◌∷◌, length, refl, sym, ap, ◌∙◌, arith, inl, inr, below_more}
+use Rattle.std.specs.Prelude.{Some, None, ◌==◌}
 use Rattle.std.proofs.lemmas.Bool.Decides.{nat_tests}
 use Rattle.std.proofs.lemmas.Grind.{common_steps}
 use Rattle.st_model.specs.Values.{Value, Small, Ref, AllLive}
@@ -10,7 +10,7 @@ use Rattle.st_model.specs.Show.{IsUsed}
 use Rattle.st_model.specs.View.{View, IsComplete, is_live}
 use Rattle.st_model.proofs.Pointers.{value_of-pointer}
 use Rattle.st_model.proofs.SettledIs.{is_root-of}
-use Rattle.st_model.proofs.Wholes.{live_used}
+use Rattle.st_model.proofs.WholeLemmas.{live_used}
 use Rattle.st_plain.specs.Plain.{plain_view, objects_of, is_referred}
 use Rattle.st_plain.proofs.Needing.{is_referred-of}
 use Rattle.st_plain.proofs.loader.tests.is_complete.Goals as goal
@@ -70,15 +70,15 @@ returns c = λ _.
     let v = plain_view c.args.c.now in
     let marks = c.mark_references.new.marks.names.items in
     let live : (n : ℕ) → is_marked marks n ≡ true → is_live v.objects (Ref n) ≡ true = λ n marked.
-        let within = marked_within marks n marked in
-        let long = c.mark_references.new.marks.long in
-        c.loop-k.invariant n (omega (arith, within, long)) marked
+    let within = marked_within marks n marked in
+    let long = c.mark_references.new.marks.long in
+    c.loop-k.invariant n (omega (arith, within, long)) marked
     in
     let page_marked : (q : PageObject) → is_marked marks (place_of q) ≡ true = λ q.
-        let n = place_of q in
-        c.mark_references.ensures n ∙ or_true (is_referred v.objects n) (is_marked c.mark_page.new.self.names.items n) (c.mark_page.ensures n ∙ or_first _ (is_marked c.clear.new.self.names.items n) (on_page q))
+    let n = place_of q in
+    c.mark_references.ensures n ∙ or_true (is_referred v.objects n) (is_marked c.mark_page.new.self.names.items n) (c.mark_page.ensures n ∙ or_first _ (is_marked c.clear.new.self.names.items n) (on_page q))
     in
     let no_globals : v.head.globals ≡ None = grind (arith, common_steps, nat_tests) in
     let no_symbols : v.head.symbols ≡ None = grind (arith, common_steps, nat_tests) in
     complete v no_globals no_symbols (λ q. live (place_of q) (page_marked q)) (λ m o n e r.
-        live n (c.mark_references.ensures n ∙ or_first (is_referred v.objects n) (is_marked c.mark_page.new.self.names.items n) (is_referred-of v.objects m o n e r)))
+    live n (c.mark_references.ensures n ∙ or_first (is_referred v.objects n) (is_marked c.mark_page.new.self.names.items n) (is_referred-of v.objects m o n e r)))

@@ -1,4 +1,4 @@
-use Rattle.std.proofs.Common.{◌≡◌, ◌/◌, ◌<◌, false, length, ap, ◌∙◌, sym, arith, set, true}
+use Rattle.std.proofs.Common.{◌≡◌, ◌/◌, false, ap, ◌∙◌, arith, set, true}
 use Rattle.std.proofs.lemmas.Grind.{common_steps}
 use Rattle.st_model.specs.Values.{value, is_small}
 use Rattle.st_model.specs.Settled.{is_marked}

@@ -1,11 +1,8 @@
-use Rattle.std.proofs.Common.{◌≡◌, ◌<◌, ◌-◌, subst, ap, sym, ◌∙◌, arith}
-use Rattle.std.specs.Prelude.{slice_get, Some}
-use Rattle.std.proofs.lemmas.Grind.{common_steps}
-use Rattle.st_model.specs.Objects.{first_unit}
+use Rattle.std.proofs.Common.{◌<◌, subst, arith}
 use Rattle.st_model.specs.Values.{value}
 use Rattle.st_model.specs.View.{object_of}
-use Rattle.st_model.proofs.Forms.{unit_limit-byte}
-use Rattle.st_model.proofs.Wholes.{formed_live}
+use Rattle.st_model.proofs.FormedLemmas.{unit_limit-byte}
+use Rattle.st_model.proofs.WholeLemmas.{formed_live}
 use Rattle.st_plain.specs.Plain.{plain_view}
 use Rattle.st_plain.proofs.memory.PlainMemoryMemory.byte.Goals as goal
 

@@ -1,6 +1,6 @@
-use Rattle.std.proofs.Common.{◌≡◌, refl}
+use Rattle.std.proofs.Common.{refl}
 use Rattle.st_model.specs.Values.{value}
-use Rattle.st_model.proofs.Wholes.{whole_held}
+use Rattle.st_model.proofs.WholeLemmas.{whole_held}
 use Rattle.st_plain.specs.Plain.{plain_view}
 use Rattle.st_plain.proofs.memory.PlainMemoryMemory.hold.Goals as goal
 

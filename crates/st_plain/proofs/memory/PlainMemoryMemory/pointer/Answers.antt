@@ -2,7 +2,7 @@ use Rattle.std.proofs.Common.{◌≡◌, subst}
 use Rattle.std.specs.Prelude.{slice_get, Some}
 use Rattle.st_model.specs.Values.{value}
 use Rattle.st_model.specs.View.{object_of}
-use Rattle.st_model.proofs.Wholes.{formed_live, field_known}
+use Rattle.st_model.proofs.WholeLemmas.{formed_live, field_known}
 use Rattle.st_plain.specs.Plain.{plain_view}
 use Rattle.st_plain.proofs.memory.PlainMemoryMemory.pointer.Goals as goal
 

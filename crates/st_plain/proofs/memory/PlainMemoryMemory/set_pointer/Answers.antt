@@ -1,7 +1,7 @@
-use Rattle.std.proofs.Common.{◌≡◌, ◌<◌, refl, arith}
+use Rattle.std.proofs.Common.{◌<◌, refl, arith}
 use Rattle.st_model.specs.Values.{value}
 use Rattle.st_model.proofs.Pointers.{IsWord-value_of}
-use Rattle.st_model.proofs.Wholes.{whole_stored}
+use Rattle.st_model.proofs.WholeLemmas.{whole_stored}
 use Rattle.st_plain.specs.Plain.{plain_view}
 use Rattle.st_plain.proofs.memory.PlainMemoryMemory.set_pointer.Goals as goal
 

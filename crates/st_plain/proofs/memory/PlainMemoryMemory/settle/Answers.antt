@@ -1,12 +1,8 @@
-use Rattle.std.proofs.Common.{◌≡◌, ℕ, ◌+◌, inl, inr, refl, sym, ap, ◌∙◌, subst, arith}
-use Rattle.std.specs.Prelude.{Some, IsTrue}
-use Rattle.std.proofs.lemmas.Grind.{common_steps}
-use Rattle.st_model.specs.Objects.{Object, one}
-use Rattle.st_model.specs.Values.{Value}
-use Rattle.st_model.specs.Table.{Table, table, entry, total_used}
-use Rattle.st_model.specs.View.{View, view_roots}
-use Rattle.st_model.proofs.Settling.{DropsTo, left, left_is, settled}
-use Rattle.st_model.proofs.Sweeps.{KeepsNeeded, all_kept, settled_all, drops_all, whole_settled, moved_roots}
+use Rattle.std.proofs.Common.{sym, ◌∙◌, subst, arith}
+use Rattle.st_model.specs.Table.{Table}
+use Rattle.st_model.specs.View.{view_roots}
+use Rattle.st_model.proofs.Settling.{DropsTo}
+use Rattle.st_model.proofs.Rounds.{KeepsNeeded, drops_all, whole_settled, moved_roots}
 use Rattle.st_plain.specs.Plain.{plain_view, is_needed}
 use Rattle.st_plain.proofs.Needing.{keeps_needed, settles_to}
 use Rattle.st_plain.proofs.memory.PlainMemoryMemory.settle.Goals as goal
@@ -29,7 +25,7 @@ loop-preserved c =
     record {
       drops = subst (λ (t : Table). DropsTo first.objects t (view_roots first)) (sym e.objects)
           (drops_all first.objects v.objects (view_roots first) (is_needed v) i.drops
-            (subst (λ (xs : _). KeepsNeeded v.objects xs (is_needed v)) (moved_roots first v i.held i.head) (keeps_needed v)));
+          (subst (λ (xs : _). KeepsNeeded v.objects xs (is_needed v)) (moved_roots first v i.held i.head) (keeps_needed v)));
       held = e.held ∙ i.held;
       head = e.head ∙ i.head;
     }

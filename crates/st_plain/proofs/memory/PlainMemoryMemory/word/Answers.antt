@@ -1,9 +1,7 @@
-use Rattle.std.proofs.Common.{◌≡◌, ◌<◌, length, ap, arith}
-use Rattle.std.proofs.lemmas.Grind.{common_steps}
 use Rattle.st_model.specs.Values.{value}
 use Rattle.st_model.specs.View.{object_of}
-use Rattle.st_model.proofs.Forms.{words_range}
-use Rattle.st_model.proofs.Wholes.{formed_live}
+use Rattle.st_model.proofs.FormedLemmas.{words_range}
+use Rattle.st_model.proofs.WholeLemmas.{formed_live}
 use Rattle.st_plain.specs.Plain.{plain_view}
 use Rattle.st_plain.proofs.memory.PlainMemoryMemory.word.Goals as goal
 

@@ -1,11 +1,10 @@
-use Rattle.std.proofs.Common.{◌≡◌, ◌+◌, length, List, ap, sym, ◌∙◌, subst, refl, arith}
+use Rattle.std.proofs.Common.{◌≡◌, ◌+◌, List, ap, sym, ◌∙◌, subst, refl, arith}
 use Rattle.std.specs.Prelude.{Option}
 use Rattle.std.specs.Vec.{with_items}
 use Rattle.std.proofs.lemmas.Grind.{common_steps}
-use Rattle.std.proofs.lemmas.List.{with_items_is}
 use Rattle.st_model.specs.Objects.{one}
 use Rattle.st_model.specs.Settled.{is_marked}
-use Rattle.st_model.specs.Table.{Table, total_used}
+use Rattle.st_model.specs.Table.{total_used}
 use Rattle.st_plain.specs.declared.entry.Entry.{Entry}
 use Rattle.st_plain.specs.Lists.{IsLaidOut, listed_table, kept_entries, one_entry, entry_total}
 use Rattle.st_plain.proofs.Looking.{total_used-listed}

@@ -1,5 +1,4 @@
-use Rattle.std.proofs.Common.{arith, ap, sym, ◌∙◌, is_some}
-use Rattle.std.proofs.lemmas.Grind.{common_steps}
+use Rattle.std.proofs.Common.{ap, sym, ◌∙◌, is_some}
 use Rattle.st_model.specs.Values.{value}
 use Rattle.st_plain.proofs.Slots.{is_live-listed}
 use Rattle.st_plain.proofs.objects.Objects.live.Goals as goal

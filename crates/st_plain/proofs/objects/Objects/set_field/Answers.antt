@@ -1,4 +1,4 @@
-use Rattle.std.proofs.Common.{◌≡◌, ◌<◌, arith}
+use Rattle.std.proofs.Common.{◌<◌, arith}
 use Rattle.std.proofs.lemmas.Grind.{common_steps}
 use Rattle.st_model.specs.Values.{value}
 use Rattle.st_plain.proofs.Stores.{store_field}

@@ -26,10 +26,10 @@ returns c =
     let end : o.table_end ≤ c.loop-k.k = omega arith in
     let rest : (i : ℕ) → c.loop-k.k ≤ i → slot es i ≡ None = λ i l. o.laid_out.empty i (omega arith) in
     let sized : (i : ℕ) (e : Entry) → slice_get es i ≡ Some (Some e) → words_of (entry_object p u e) ≡ entry_words e = λ i e h.
-        let at = o.laid_out.placed i e h in
-        let f = o.laid_out.fields_end in
-        let g = o.laid_out.units_end in
-        words_of-entry p u e (omega arith) (omega arith)
+    let at = o.laid_out.placed i e h in
+    let f = o.laid_out.fields_end in
+    let g = o.laid_out.units_end in
+    words_of-entry p u e (omega arith) (omega arith)
     in
     let entries = c.loop-k.invariant.entries ∙ total_rest one_entry es c.loop-k.k rest ∙ sym (total_used-listed one one_entry p u es (λ i e h. refl)) in
     let words = c.loop-k.invariant.words ∙ total_rest entry_words es c.loop-k.k rest ∙ sym (total_used-listed words_of entry_words p u es sized) in

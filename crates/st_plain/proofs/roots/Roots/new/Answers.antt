@@ -1,5 +1,3 @@
-use Rattle.st_model.specs.Values.{value_of}
-use Rattle.st_model.specs.View.{nothing_held}
 use Rattle.st_plain.proofs.Beginning.{nothing_words}
 use Rattle.st_plain.proofs.roots.Roots.new.Goals as goal
 

@@ -1,19 +1,19 @@
 -- What a loader says of what it has placed stays so as it goes on, and makes a whole memory in the end.
-use Rattle.std.proofs.Common.{◌≡◌, ◌≢◌, ℕ, ◌+◌, ◌<◌, ◌≤◌, zero, suc, true, false, List, [], ◌∷◌, length, set, replicate, refl, sym, ap, ◌∙◌, subst, arith, length-set, inl, inr, is_some}
-use Rattle.std.specs.Prelude.{slice_index_or, Option, Some, None, IsTrue}
+use Rattle.std.proofs.Common.{◌≡◌, ◌≢◌, ℕ, ◌+◌, ◌<◌, ◌≤◌, zero, suc, true, false, [], ◌∷◌, length, set, replicate, refl, sym, ap, ◌∙◌, subst, arith, length-set, inl, inr, is_some}
+use Rattle.std.specs.Prelude.{slice_index_or, Option, Some, None}
 use Rattle.std.proofs.lemmas.Bool.{cases_eq}
 use Rattle.std.proofs.lemmas.List.{length-replicate}
 use Rattle.st_model.specs.declared.place.RootPlace.{RootPlace}
 use Rattle.st_model.specs.declared.place.RootPlace.TheVariants as place
-use Rattle.st_model.specs.Values.{Value, Small, Ref}
+use Rattle.st_model.specs.Values.{Value, Ref}
 use Rattle.st_model.specs.Objects.{Object, NilObject, nil, one, words_of, with_field, object_with_unit}
 use Rattle.st_model.specs.Formed.{IsFormed, IsHeader, IsWord, unit_limit}
 use Rattle.st_model.specs.Machine.{Head}
 use Rattle.st_model.specs.Table.{Table, entry, changed, total_used}
 use Rattle.st_model.specs.View.{View, IsComplete, IsWhole, is_live, object_of, held_at, with_object, with_stored, with_unit, nothing_held, no_devices, empty_view}
 use Rattle.st_model.specs.Loading.{IsLoading}
-use Rattle.st_model.proofs.Forms.{formed_field, formed_unit, words_of-with_field, words_of-object_with_unit}
-use Rattle.st_model.proofs.Wholes.{named, length-changed, total_used-changed, none_changed, changed_is}
+use Rattle.st_model.proofs.FormedLemmas.{formed_field, formed_unit, words_of-with_field, words_of-object_with_unit}
+use Rattle.st_model.proofs.WholeLemmas.{named, length-changed, total_used-changed, none_changed, changed_is}
 
 entry-set_same : (t : Table) (n : ℕ) (o : Object) → n < length t → entry (set t n (Some o)) n ≡ Some o
 entry-set_same [] n o l = absurd (omega (arith, l))

@@ -1,11 +1,11 @@
 -- Objects stay what their kind says where a field or a unit is stored, and new ones are.
 use Rattle.std.proofs.Common.{◌≡◌, ℕ, ◌+◌, ◌-◌, ◌*◌, ◌/◌, ◌<◌, ◌≤◌, zero, suc, true, false, List, [], ◌∷◌, length, set, replicate, refl, sym, ap, ◌∙◌, subst, arith, length-set, lit<}
-use Rattle.std.specs.Prelude.{slice_get, slice_set, Some, None, ◌%◌, ◌==◌, if◌then◌else◌}
+use Rattle.std.specs.Prelude.{slice_get, Some, ◌%◌, if◌then◌else◌}
 use Rattle.std.proofs.lemmas.List.{length-replicate}
 use Rattle.st_model.specs.declared.kind.Kind.{Kind}
 use Rattle.st_model.specs.declared.kind.Kind.TheVariants as kind
-use Rattle.st_model.specs.Values.{Value, Small, Ref, is_small}
-use Rattle.st_model.specs.Objects.{Object, nil, is_words, is_method, is_pointers, holds_fields, size_of, words_of, with_field, object_with_unit}
+use Rattle.st_model.specs.Values.{Value, Small, is_small}
+use Rattle.st_model.specs.Objects.{Object, nil, is_words, is_pointers, holds_fields, size_of, words_of, with_field, object_with_unit}
 use Rattle.st_model.specs.Formed.{IsFormed, IsHeader, IsMakeable, IsWord, literals_of, unit_limit, fresh}
 
 -- what stands in a list after a store stood there before or is what was stored

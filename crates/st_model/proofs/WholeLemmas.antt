@@ -1,21 +1,18 @@
 -- A memory stays whole where a field is stored, a value is held, or objects leave that nothing needs.
-use Rattle.std.proofs.Common.{◌≡◌, ◌≢◌, ℕ, ◌+◌, ◌<◌, ◌≤◌, zero, suc, Bool, true, false, List, [], ◌∷◌, ◌++◌, length, set, replicate, refl, sym, ap, ◌∙◌, subst, arith, length-set, inl, inr, ◌⊎◌, is_some}
-use Rattle.std.specs.Prelude.{slice_get, slice_index_or, slice_set, unwrap_or, Option, Some, None, IsTrue, if◌then◌else◌}
+use Rattle.std.proofs.Common.{◌≡◌, ℕ, ◌≤◌, zero, suc, true, List, [], ◌∷◌, length, set, refl, sym, ap, ◌∙◌, subst, arith, length-set, inl, inr}
+use Rattle.std.specs.Prelude.{slice_get, slice_index_or, slice_set, unwrap_or, Some, None}
 use Rattle.std.proofs.lemmas.Bool.{cases_eq}
-use Rattle.std.proofs.lemmas.List.{length-replicate}
 use Rattle.st_model.specs.declared.place.RootPlace.{RootPlace}
 use Rattle.st_model.specs.declared.place.RootPlace.TheVariants as place
-use Rattle.st_model.specs.Values.{Value, Small, Ref, is_small, IsLive, AllLive}
-use Rattle.st_model.specs.Objects.{Object, PageObject, NilObject, nil, one, place_of, with_field, words_of, IsLiveObject}
+use Rattle.st_model.specs.Values.{Value, Small, Ref, IsLive, AllLive}
+use Rattle.st_model.specs.Objects.{Object, nil, one, place_of, with_field, words_of, IsLiveObject}
 use Rattle.st_model.specs.Formed.{IsFormed, IsHeader, IsWord}
-use Rattle.st_model.specs.Machine.{Head, Devices, table_root, head_roots, device_roots}
-use Rattle.st_model.specs.Table.{Table, table, entry, changed, settled_table, total_used}
-use Rattle.st_model.specs.Settled.{IsRefTo, AnyRefTo, Refers, IsRoot, held_root, page_root}
+use Rattle.st_model.specs.Table.{Table, entry, changed, total_used}
 use Rattle.st_model.specs.Show.{IsUsed}
-use Rattle.st_model.specs.View.{View, Held, IsKnown, IsComplete, IsWhole, is_live, object_of, nothing, held_at, with_held, with_stored, view_roots}
+use Rattle.st_model.specs.View.{View, Held, IsKnown, IsWhole, is_live, object_of, nothing, held_at, with_held, with_stored}
 use Rattle.st_model.proofs.TableLemmas.{changed-some, changed-other}
-use Rattle.st_model.proofs.SettledLemmas.{some_is, is_some-of, settled-entry, entry-settled}
-use Rattle.st_model.proofs.Forms.{in_set, formed_field, words_of-with_field}
+use Rattle.st_model.proofs.SettledLemmas.{some_is, is_some-of}
+use Rattle.st_model.proofs.FormedLemmas.{formed_field, words_of-with_field}
 
 -- what a live value names
 

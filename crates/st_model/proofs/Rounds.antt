@@ -1,18 +1,18 @@
 -- Objects that leave at once because nothing needs them: no root, and no object that is there refers to them.
-use Rattle.std.proofs.Common.{◌≡◌, ℕ, ◌+◌, ◌≤◌, zero, suc, Bool, true, false, List, [], ◌∷◌, ◌++◌, length, refl, sym, ap, ◌∙◌, subst, arith, inl, inr, ◌⊎◌, is_some}
+use Rattle.std.proofs.Common.{◌≡◌, ℕ, ◌+◌, ◌≤◌, zero, suc, Bool, true, false, List, [], ◌∷◌, ◌++◌, length, refl, sym, ap, ◌∙◌, subst, arith, inl, inr, ◌⊎◌}
 use Rattle.std.specs.Prelude.{slice_index_or, Option, Some, None, IsTrue, if◌then◌else◌}
 use Rattle.st_model.specs.declared.place.RootPlace.{RootPlace}
 use Rattle.st_model.specs.declared.place.RootPlace.TheVariants as place
-use Rattle.st_model.specs.Values.{Value, Small, Ref, is_small, IsLive, AllLive}
-use Rattle.st_model.specs.Objects.{Object, PageObject, NilObject, nil, one, place_of, words_of, IsLiveObject}
-use Rattle.st_model.specs.Machine.{Head, Devices, table_root, head_roots, device_roots}
+use Rattle.st_model.specs.Values.{Value, Small, Ref, AllLive}
+use Rattle.st_model.specs.Objects.{Object, NilObject, nil, one, place_of, words_of, IsLiveObject}
+use Rattle.st_model.specs.Machine.{table_root, head_roots, device_roots}
 use Rattle.st_model.specs.Table.{Table, table, entry, settled_table, total_used}
-use Rattle.st_model.specs.Settled.{IsRefTo, AnyRefTo, Refers, IsRoot, held_root, page_root, SupportsItself}
+use Rattle.st_model.specs.Settled.{IsRefTo, AnyRefTo, Refers, IsRoot, held_root, page_root}
 use Rattle.st_model.specs.Show.{IsUsed}
-use Rattle.st_model.specs.View.{View, Held, IsKnown, IsWhole, is_live, held_at, view_roots}
+use Rattle.st_model.specs.View.{View, IsWhole, is_live, held_at, view_roots}
 use Rattle.st_model.proofs.SettledLemmas.{some_is, is_some-of, settled-entry, entry-settled}
-use Rattle.st_model.proofs.Settling.{DropsTo, left}
-use Rattle.st_model.proofs.Wholes.{whole_as, used_live, live_used}
+use Rattle.st_model.proofs.Settling.{DropsTo}
+use Rattle.st_model.proofs.WholeLemmas.{whole_as}
 
 length-settled : (t : Table) (keep : ℕ → Bool) → length (settled_table t keep) ≡ length t
 length-settled [] keep = refl
