@@ -7,7 +7,7 @@ use Rattle.st_model.specs.declared.head.ImageHead.{ImageHead}
 use Rattle.st_model.specs.Lists.{made}
 use Rattle.st_model.specs.Values.{Value, value_of}
 use Rattle.st_model.specs.Objects.{Object, nil, is_words}
-use Rattle.st_model.specs.Machine.{Head, State, Registers, Step, Transition, empty_world}
+use Rattle.st_model.specs.Machine.{Head, State, Registers, Transition, empty_world}
 use Rattle.st_model.specs.Table.{Table, table}
 use Rattle.st_model.specs.View.{View, empty_view, table_of}
 use Rattle.st_model.specs.Contexts.{fetch_scheduled_registers}
