@@ -1,19 +1,18 @@
 -- The tenth row, and the state in which the machine begins.
-use Rattle.std.proofs.Common.{◌≡◌, ℕ, ◌<◌, ◌≤◌, ◌⊎◌, List, length, refl, sym, ap, ◌∙◌, arith, inl, inr, Result, Ok, Err}
-use Rattle.std.proofs.lemmas.Bool.{cases_lt}
+use Rattle.std.proofs.Common.{◌≡◌, ℕ, ◌<◌, List, length, refl, sym, ap, ◌∙◌, arith, inl, inr}
 use Rattle.st_model.specs.declared.dead.Dead.{Dead}
 use Rattle.st_model.specs.declared.fault.ImageFault.{ImageFault}
 use Rattle.st_model.specs.declared.fault.ImageFault.TheVariants.{Short, Scheduler}
 use Rattle.st_model.specs.declared.head.ImageHead.{ImageHead}
-use Rattle.st_model.specs.Machine.{State, Registers, Head, Died, Went}
+use Rattle.st_model.specs.Machine.{State, Registers, Died, Went}
 use Rattle.st_model.specs.Table.{Table, table}
-use Rattle.st_model.specs.View.{View, Held, no_devices, empty_view, nothing_held}
+use Rattle.st_model.specs.View.{View, no_devices, empty_view, nothing_held}
 use Rattle.st_model.specs.Contexts.{fetch_scheduled_registers}
-use Rattle.st_model.specs.Start.{start_view, start, idle_state, idle_registers, machine_head}
+use Rattle.st_model.specs.Start.{start_view, start, idle_state, idle_registers}
 use Rattle.st_model.specs.Faults.{Fails, row, Sooner, short_fails, IsImageFault, IsWellFormed}
 use Rattle.st_frames.specs.declared.frame.Frame.{Frame}
 use Rattle.st_frames.specs.Shown.{StaysFrame, with_registers, shown}
-use Rattle.st_image.specs.Rows.{IsFirstOf, IsCleanBelow}
+use Rattle.st_image.specs.Rows.{IsCleanBelow}
 use Rattle.st_image.specs.Reading.{IsStart}
 use Rattle.st_image.proofs.FaultRows.{short_first}
 use Rattle.st_image.proofs.FaultOrder.{found_fault, clean_none}
