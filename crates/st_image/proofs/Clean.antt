@@ -68,6 +68,7 @@ clean_sound h bytes clean k k_in used =
     let i = clean_inside h bytes clean in
     let s = i k k_in used in
     record {
+      in_table = k_in;
       inside = s;
       class_used = c;
       class_inside = i (class h bytes k / 2) (named h bytes (class h bytes k) c) (named_used h bytes (class h bytes k) c);

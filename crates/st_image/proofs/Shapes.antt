@@ -9,7 +9,7 @@ use Rattle.st_model.specs.Objects.{Object, nil, is_words, is_method, words_of}
 use Rattle.st_model.specs.Formed.{fresh, IsMakeable}
 use Rattle.st_model.specs.Image.{has_odd_length, has_pointers, size, class, body, literal_count}
 use Rattle.st_model.specs.Start.{kind_in, has_words, fields_in, units_in, field_count, unit_count}
-use Rattle.st_image.specs.Sizes.{size_as, literals_as}
+use Rattle.st_image.specs.Shape.{size_as, literals_as}
 use Rattle.st_image.specs.Loads.{IsSound, fresh_in}
 
 -- the kind of an object by its marks and its class
