@@ -1,14 +1,13 @@
 -- What is known of an image none of whose first nine rows fails.
-use Rattle.std.proofs.Common.{◌≡◌, ◌≢◌, ℕ, ◌+◌, ◌-◌, ◌*◌, ◌/◌, ◌%◌, ◌<◌, ◌≤◌, ◌⊎◌, Bool, true, false, not, ◌&&◌, ◌||◌, ◌==◌, nat_lt, List, arith, refl, subst, ◌∙◌, inl, inr, lit<}
+use Rattle.std.proofs.Common.{◌≡◌, ◌≢◌, ℕ, ◌+◌, ◌-◌, ◌*◌, ◌/◌, ◌%◌, ◌<◌, ◌≤◌, ◌⊎◌, Bool, true, false, ◌||◌, ◌==◌, nat_lt, List, arith, refl, subst, inl, inr, lit<}
 use Rattle.std.specs.Prelude.{Contains}
-use Rattle.std.proofs.lemmas.Bool.{cases_lt, cases_eq, both_ways, cases_Bool, false_from_ne_true, true_from_ne_false, or_parts, and_cases, ltb-false, eqb-false, eq-eqb, ne_eqb, not-false}
+use Rattle.std.proofs.lemmas.Bool.{cases_eq, both_ways, false_from_ne_true, true_from_ne_false, or_parts, ltb-false, eqb-false, eq-eqb, ne_eqb, not-false}
 use Rattle.st_model.specs.declared.head.ImageHead.{ImageHead}
-use Rattle.st_model.specs.declared.fault.ImageFault.TheVariants.{Short, Lengths, Capacity, Size, Overlap, Class, Field, Method, Root}
-use Rattle.st_model.specs.Objects.{PageObject, NilObject, FalseObject, TrueObject, SchedulerAssociation, SmallIntegerClass, StringClass, ArrayClass, MethodContextClass, BlockContextClass, PointClass, LargeClass, MessageClass, MethodClass, CharacterClass, NotUnderstood, CannotReturn, Selectors, Characters, MustBeBoolean, SymbolClass, place_of, is_method}
+use Rattle.st_model.specs.declared.fault.ImageFault.TheVariants.{Capacity, Size, Overlap, Class, Field, Method, Root}
+use Rattle.st_model.specs.Objects.{PageObject, NilObject, FalseObject, TrueObject, SchedulerAssociation, SmallIntegerClass, StringClass, ArrayClass, MethodContextClass, BlockContextClass, PointClass, LargeClass, MessageClass, MethodClass, CharacterClass, NotUnderstood, CannotReturn, Selectors, Characters, MustBeBoolean, SymbolClass, place_of}
 use Rattle.st_model.specs.Image.{entries_of, has_pointers, is_used, size, class, body, names, literal_count}
-use Rattle.st_model.specs.Start.{kind_in}
 use Rattle.st_model.specs.Faults.{Fails, At, ShareWord, used_below, capacity_fails, size_fails, class_fails, field_fails, method_fails, root_fails, roots}
-use Rattle.st_image.specs.Sizes.{IsInside, AreInside}
+use Rattle.st_image.specs.Sizes.{AreInside}
 use Rattle.st_image.specs.Rows.{IsCleanBelow}
 use Rattle.st_image.specs.Loads.{IsSound}
 use Rattle.st_image.proofs.FaultRows.{inside, named, named_used}
@@ -69,6 +68,7 @@ clean_sound h bytes clean k k_in used =
     let i = clean_inside h bytes clean in
     let s = i k k_in used in
     record {
+      in_table = k_in;
       inside = s;
       class_used = c;
       class_inside = i (class h bytes k / 2) (named h bytes (class h bytes k) c) (named_used h bytes (class h bytes k) c);

@@ -1,7 +1,7 @@
 -- The objects of an image refer to nothing but what is there.
-use Rattle.std.proofs.Common.{◌≡◌, ◌≢◌, ℕ, zero, suc, ◌+◌, ◌-◌, ◌*◌, ◌/◌, ◌%◌, ◌<◌, ◌≤◌, ◌⊎◌, Bool, true, false, cond, not, ◌&&◌, ◌||◌, ◌==◌, nat_lt, List, [], ◌∷◌, length, replicate, get_or, arith, refl, sym, subst, ap, ◌∙◌, inl, inr, Option, Some, None, is_some}
+use Rattle.std.proofs.Common.{◌≡◌, ◌≢◌, ℕ, zero, suc, ◌+◌, ◌-◌, ◌*◌, ◌/◌, ◌%◌, ◌<◌, ◌≤◌, ◌⊎◌, Bool, true, false, cond, ◌&&◌, ◌||◌, ◌==◌, nat_lt, List, replicate, get_or, arith, refl, sym, subst, ap, ◌∙◌, inl, inr, Option, Some, None, is_some}
 use Rattle.std.specs.Prelude.{nat_le}
-use Rattle.std.proofs.lemmas.Bool.{cases_lt, cases_eq, both_ways, cases_Bool, and_from, or_left, or_right, lt-ltb, le-leb, eq-eqb, ne_eqb, eqb-false, not-false, true_from_ne_false}
+use Rattle.std.proofs.lemmas.Bool.{cases_lt, cases_eq, both_ways, cases_Bool, and_from, or_left, or_right, lt-ltb, le-leb, eq-eqb, ne_eqb, eqb-false, not-false}
 use Rattle.std.proofs.lemmas.List.{length-replicate}
 use Rattle.st_model.proofs.Made.{length-made, get_or-made}
 use Rattle.st_model.specs.Lists.{made}
@@ -10,11 +10,11 @@ use Rattle.st_model.specs.declared.kind.Kind.{Kind}
 use Rattle.st_model.specs.declared.kind.Kind.TheVariants as kind
 use Rattle.st_model.specs.declared.head.ImageHead.{ImageHead}
 use Rattle.st_model.specs.Values.{Value, Small, Ref, value_of, IsLive, AllLive}
-use Rattle.st_model.specs.Objects.{Object, PageObject, place_of, is_pointers, is_method, IsLiveObject}
+use Rattle.st_model.specs.Objects.{Object, place_of, is_pointers, is_method, IsLiveObject}
 use Rattle.st_model.specs.Machine.{Head}
 use Rattle.st_model.specs.Table.{Table, entry}
 use Rattle.st_model.specs.Show.{IsUsed}
-use Rattle.st_model.specs.View.{View, Held, IsComplete, is_live, empty_view, nothing_held, table_of}
+use Rattle.st_model.specs.View.{View, Held, IsComplete, is_live, empty_view, table_of}
 use Rattle.st_model.specs.Image.{entries_of, has_pointers, is_used, size, class, body, names, literal_count}
 use Rattle.st_model.specs.Start.{kind_in, has_words, fields_in, field_in, field_count, object_in, entry_in, machine_head, start_view}
 use Rattle.st_model.specs.Faults.{field_fails, is_field}
@@ -22,7 +22,7 @@ use Rattle.st_image.specs.Rows.{IsCleanBelow}
 use Rattle.st_image.specs.Loads.{IsSound, IsEmpty}
 use Rattle.st_image.proofs.FaultRows.{beyond, named, named_even, named_used, used_below_end}
 use Rattle.st_image.proofs.Shapes.{kind_method}
-use Rattle.st_image.proofs.Clean.{clean_sound, clean_class, clean_field, clean_page, clean_globals, clean_symbols}
+use Rattle.st_image.proofs.Clean.{clean_sound, clean_field, clean_page, clean_globals, clean_symbols}
 use Rattle.st_image.proofs.Tables.{entry-get}
 use Rattle.st_image.proofs.Entries.{entry_used, entry_free}
 

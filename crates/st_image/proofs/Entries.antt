@@ -1,5 +1,5 @@
 -- The table once the first entries are loaded, and once all are.
-use Rattle.std.proofs.Common.{◌≡◌, ◌≢◌, ℕ, zero, suc, ◌+◌, ◌-◌, ◌*◌, ◌/◌, ◌<◌, ◌≤◌, ◌⊎◌, true, false, List, length, arith, refl, sym, subst, ap, ◌∙◌, inl, inr, Option, Some, None}
+use Rattle.std.proofs.Common.{◌≡◌, ℕ, zero, suc, ◌+◌, ◌-◌, ◌<◌, ◌≤◌, ◌⊎◌, true, false, List, length, arith, refl, sym, subst, ap, ◌∙◌, inl, inr, Option, Some, None}
 use Rattle.st_model.proofs.Made.{made_from, length-made, get_or-made}
 use Rattle.st_model.specs.Lists.{made}
 use Rattle.std.proofs.lemmas.Bool.{cases_lt, cases_Bool}
@@ -15,13 +15,13 @@ use Rattle.st_model.specs.View.{View, with_object}
 use Rattle.st_model.specs.Image.{entries_of, is_used, size}
 use Rattle.st_model.specs.Start.{object_in, entry_in, kind_in, fields_in, units_in, field_in, unit_in}
 use Rattle.st_model.specs.Faults.{used_below}
-use Rattle.st_image.specs.Sizes.{AreInside, span_of}
+use Rattle.st_image.specs.Sizes.{span_of}
 use Rattle.st_image.specs.Rows.{IsCleanBelow}
 use Rattle.st_image.specs.Loads.{IsSound, IsEmpty, HasRoom, with_entry, loaded_below}
 use Rattle.st_image.proofs.FaultRows.{beyond}
 use Rattle.st_image.proofs.Overlaps.{AreSpans, span_used, spans_within, share_from}
 use Rattle.st_image.proofs.Shapes.{words_of_parts, words_fit_size}
-use Rattle.st_image.proofs.Clean.{clean_inside, clean_apart, clean_sound, HasCapacity, clean_capacity}
+use Rattle.st_image.proofs.Clean.{clean_inside, clean_apart, clean_sound, clean_capacity}
 use Rattle.st_image.proofs.Tables.{entry-get, entry-set_same, entry-set_other, total_used-set, total_used-none}
 
 -- the spans of the entries, as a list

@@ -1,10 +1,10 @@
 -- There is at most one fault, and none exactly where the image is well-formed.
-use Rattle.std.proofs.Common.{◌≡◌, ℕ, zero, suc, ◌<◌, ◌≤◌, ◌⊎◌, List, arith, refl, sym, ap, ◌∙◌, inl, inr, Option, Some, None}
+use Rattle.std.proofs.Common.{◌≡◌, ℕ, zero, suc, ◌<◌, ◌≤◌, ◌⊎◌, List, arith, refl, sym, ap, ◌∙◌, inl, inr}
 use Rattle.std.proofs.lemmas.Bool.{cases_lt, cases_order}
 use Rattle.st_model.specs.declared.head.ImageHead.{ImageHead}
 use Rattle.st_model.specs.declared.fault.ImageFault.{ImageFault}
 use Rattle.st_model.specs.declared.fault.ImageFault.TheVariants.{Short, Lengths, Capacity, Size, Overlap, Class, Field, Method, Root, Scheduler}
-use Rattle.st_model.specs.Faults.{Fails, row, first_number, second_number, Sooner, Before, IsImageFault, IsWellFormed}
+use Rattle.st_model.specs.Faults.{Fails, row, first_number, second_number, Before, IsImageFault, IsWellFormed}
 use Rattle.st_image.specs.Rows.{IsClean, IsFirstOf, IsCleanBelow}
 
 -- a fault is determined by its row and its numbers

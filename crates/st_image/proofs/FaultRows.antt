@@ -1,7 +1,7 @@
 -- What the searches answer, as rows of the table of faults.
-use Rattle.std.proofs.Common.{◌≡◌, ℕ, ◌*◌, ◌/◌, ◌%◌, ◌<◌, ◌≤◌, ◌⊎◌, Bool, true, false, ◌&&◌, ◌==◌, nat_lt, List, length, get_or, arith, refl, sym, subst, ◌∙◌, inl, inr, Some, None}
+use Rattle.std.proofs.Common.{◌≡◌, ℕ, ◌*◌, ◌/◌, ◌%◌, ◌<◌, ◌≤◌, ◌⊎◌, Bool, true, false, ◌==◌, nat_lt, List, length, get_or, arith, refl, sym, subst, ◌∙◌, inl, inr, Some, None}
 use Rattle.std.specs.Prelude.{Contains}
-use Rattle.std.proofs.lemmas.Bool.{cases_lt, both_ways, and_left, and_right, le-ltb, lt-ltb, or_left, or_parts, and_parts, ltb-false, ltb-true, eqb-true}
+use Rattle.std.proofs.lemmas.Bool.{cases_lt, both_ways, and_left, and_right, le-ltb, or_parts, and_parts, ltb-false, ltb-true, eqb-true}
 use Rattle.std.proofs.lemmas.Bool.Decides.{nat_tests}
 use Rattle.std.proofs.lemmas.List.{get_or_default}
 use Rattle.st_model.specs.declared.head.ImageHead.{ImageHead}

@@ -1,5 +1,5 @@
 -- What an object becomes as its fields and units are stored one after another.
-use Rattle.std.proofs.Common.{◌≡◌, ℕ, zero, suc, ◌+◌, ◌-◌, ◌*◌, ◌%◌, ◌==◌, ◌<◌, ◌≤◌, ◌⊎◌, true, false, List, length, slice_set, get_or, arith, refl, sym, ap, ◌∙◌, inl, inr}
+use Rattle.std.proofs.Common.{◌≡◌, ℕ, zero, suc, ◌+◌, ◌-◌, ◌<◌, ◌≤◌, ◌⊎◌, true, false, List, length, slice_set, get_or, arith, refl, ap, ◌∙◌, inl, inr}
 use Rattle.std.proofs.lemmas.List.{get_or-set_same, get_or-set_other}
 use Rattle.st_model.proofs.Made.{made_from}
 use Rattle.std.proofs.lemmas.Bool.{cases_lt, both_ways}
@@ -8,11 +8,10 @@ use Rattle.st_model.specs.declared.kind.Kind.{Kind}
 use Rattle.st_model.specs.declared.kind.Kind.TheVariants as kind
 use Rattle.st_model.specs.declared.head.ImageHead.{ImageHead}
 use Rattle.st_model.specs.Lists.{made}
-use Rattle.st_model.specs.Values.{Value, value_of, is_small}
-use Rattle.st_model.specs.Objects.{Object, nil, is_words, is_method, first_unit}
-use Rattle.st_model.specs.Formed.{IsHeader, literals_of}
-use Rattle.st_model.specs.View.{View, object_of}
-use Rattle.st_model.specs.Image.{class, body, place, literal_count, size}
+use Rattle.st_model.specs.Values.{Value, value_of}
+use Rattle.st_model.specs.Objects.{Object, nil, is_words, is_method}
+use Rattle.st_model.specs.Formed.{IsHeader}
+use Rattle.st_model.specs.Image.{body, literal_count, size}
 use Rattle.st_model.specs.Start.{kind_in, field_count, fields_in, units_in, field_in, unit_in, units_start, object_in}
 use Rattle.st_model.proofs.Words.{is_small-value_of, literals_of-value_of}
 use Rattle.st_image.specs.Loads.{IsSound, fresh_in, filled_in, with_fields, with_units}

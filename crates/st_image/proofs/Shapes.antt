@@ -1,16 +1,15 @@
 -- The fields and units of the object of an entry, and the object as it is placed.
-use Rattle.std.proofs.Common.{◌≡◌, ℕ, suc, ◌+◌, ◌-◌, ◌*◌, ◌/◌, ◌%◌, ◌<◌, ◌≤◌, ◌⊎◌, Bool, true, false, cond, ◌==◌, List, length, replicate, arith, refl, sym, ap, subst, ◌∙◌, inl, inr}
+use Rattle.std.proofs.Common.{◌≡◌, ℕ, ◌+◌, ◌-◌, ◌*◌, ◌/◌, ◌%◌, ◌<◌, ◌≤◌, ◌⊎◌, Bool, true, false, cond, ◌==◌, List, length, arith, refl, sym, ◌∙◌, inl, inr}
 use Rattle.std.proofs.lemmas.Bool.{both_ways, cases_Bool, eq-eqb, ne_eqb, eqb-true}
 use Rattle.std.proofs.lemmas.List.{length-replicate}
 use Rattle.st_model.specs.declared.kind.Kind.{Kind}
 use Rattle.st_model.specs.declared.kind.Kind.TheVariants as kind
 use Rattle.st_model.specs.declared.head.ImageHead.{ImageHead}
-use Rattle.st_model.specs.Values.{Value}
-use Rattle.st_model.specs.Objects.{Object, nil, is_words, is_pointers, is_method, words_of}
+use Rattle.st_model.specs.Objects.{Object, nil, is_words, is_method, words_of}
 use Rattle.st_model.specs.Formed.{fresh, IsMakeable}
-use Rattle.st_model.specs.Image.{has_odd_length, has_pointers, size, class, body, literal_count, names}
-use Rattle.st_model.specs.Start.{kind_in, has_words, fields_in, units_in, field_count, unit_count, byte_count}
-use Rattle.st_image.specs.Sizes.{IsInside, size_as, literals_as}
+use Rattle.st_model.specs.Image.{has_odd_length, has_pointers, size, class, body, literal_count}
+use Rattle.st_model.specs.Start.{kind_in, has_words, fields_in, units_in, field_count, unit_count}
+use Rattle.st_image.specs.Shape.{size_as, literals_as}
 use Rattle.st_image.specs.Loads.{IsSound, fresh_in}
 
 -- the kind of an object by its marks and its class

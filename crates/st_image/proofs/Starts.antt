@@ -1,22 +1,23 @@
 -- The tenth row, and the state in which the machine begins.
-use Rattle.std.proofs.Common.{◌≡◌, ℕ, ◌<◌, ◌≤◌, ◌⊎◌, List, length, refl, sym, ap, ◌∙◌, arith, inl, inr, Result, Ok, Err}
-use Rattle.std.proofs.lemmas.Bool.{cases_lt}
+use Rattle.std.proofs.Common.{◌≡◌, ℕ, ◌<◌, List, length, refl, sym, ap, ◌∙◌, arith, inl, inr}
 use Rattle.st_model.specs.declared.dead.Dead.{Dead}
 use Rattle.st_model.specs.declared.fault.ImageFault.{ImageFault}
 use Rattle.st_model.specs.declared.fault.ImageFault.TheVariants.{Short, Scheduler}
 use Rattle.st_model.specs.declared.head.ImageHead.{ImageHead}
-use Rattle.st_model.specs.Machine.{State, Registers, Head, Died, Went}
+use Rattle.st_model.specs.Machine.{State, Registers, Died, Went}
 use Rattle.st_model.specs.Table.{Table, table}
-use Rattle.st_model.specs.View.{View, Held, no_devices, empty_view, nothing_held}
+use Rattle.st_model.specs.View.{View, no_devices, empty_view, nothing_held}
 use Rattle.st_model.specs.Contexts.{fetch_scheduled_registers}
-use Rattle.st_model.specs.Start.{start_view, start, idle_state, idle_registers, machine_head}
+use Rattle.st_model.specs.Start.{start_view, start, idle_state, idle_registers}
 use Rattle.st_model.specs.Faults.{Fails, row, Sooner, short_fails, IsImageFault, IsWellFormed}
 use Rattle.st_frames.specs.declared.frame.Frame.{Frame}
 use Rattle.st_frames.specs.Shown.{StaysFrame, with_registers, shown}
-use Rattle.st_image.specs.Rows.{IsFirstOf, IsCleanBelow}
+use Rattle.st_image.specs.declared.error.ReadImage.{ReadImage}
+use Rattle.st_image.specs.declared.error.ReadImage.TheVariants.{Fault, OutOfMemory}
+use Rattle.st_image.specs.Rows.{IsReadFault, IsCleanBelow}
 use Rattle.st_image.specs.Reading.{IsStart}
 use Rattle.st_image.proofs.FaultRows.{short_first}
-use Rattle.st_image.proofs.FaultOrder.{found_fault, clean_none}
+use Rattle.st_image.proofs.FaultOrder.{found_fault, clean_none, no_fault}
 use Rattle.std.proofs.lemmas.Bool.{or_left, lt-ltb}
 
 -- a file without a whole head is too short, whatever a head would say
@@ -68,3 +69,8 @@ is_start h bytes v w f e objects head stays fetched = record {
 -- the view of an image under another name of its head and its bytes
 pub same_start : (h i : ImageHead) (bytes others : List ℕ) (v : View) → i ≡ h → others ≡ bytes → v ≡ start_view i others → v ≡ start_view h bytes
 same_start h i bytes others v head same e = e ∙ (ap (λ (x : ImageHead). start_view x others) head ∙ ap (start_view h) same)
+
+-- a well-formed image is refused for want of memory alone
+pub accepted : (h : ImageHead) (bytes : List ℕ) (e : ReadImage) → IsReadFault h bytes e → IsWellFormed h bytes → e ≡ OutOfMemory
+accepted h bytes (Fault f) is well = absurd (no_fault h bytes well f is)
+accepted h bytes OutOfMemory is well = refl

@@ -1,4 +1,5 @@
 pub mod Sizes
+pub mod Shape
 pub mod Passes
 pub mod Rows
 pub mod Loads

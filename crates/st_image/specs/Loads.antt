@@ -1,19 +1,21 @@
 -- The loading of an image's objects, one after another and part by part.
-use Rattle.std.specs.Prelude.{◌≡◌, ◌≢◌, ℕ, zero, suc, ◌+◌, ◌-◌, ◌*◌, ◌/◌, ◌%◌, ◌<◌, ◌≤◌, true, List, length, Option, Some, None}
+use Rattle.std.specs.Prelude.{◌≡◌, ◌≢◌, ℕ, zero, suc, ◌+◌, ◌/◌, ◌%◌, ◌<◌, ◌≤◌, true, List, length, Option, Some, None}
 use Rattle.st_model.specs.declared.head.ImageHead.{ImageHead}
 use Rattle.st_model.specs.Values.{Value, Ref}
 use Rattle.st_model.specs.Objects.{Object, is_method, one, words_of, with_field, object_with_unit}
 use Rattle.st_model.specs.Table.{Table, entry, total_used}
 use Rattle.st_model.specs.Formed.{fresh}
 use Rattle.st_model.specs.View.{View, with_object}
-use Rattle.st_model.specs.Image.{entries_of, has_pointers, is_used, size, class, body, names, literal_count}
-use Rattle.st_model.specs.Start.{kind_in, fields_in, units_in, field_in, unit_in, object_in, entry_in}
-use Rattle.st_image.specs.Sizes.{IsInside, size_as, literals_as}
-use Rattle.st_image.specs.declared.loading.Shape.{Shape}
+use Rattle.st_model.specs.Image.{entries_of, has_pointers, size, class, body, names, literal_count}
+use Rattle.st_model.specs.Start.{kind_in, fields_in, units_in, field_in, entry_in}
+use Rattle.st_image.specs.Sizes.{IsInside}
+use Rattle.st_image.specs.Shape.{size_as, literals_as}
+use Rattle.st_image.specs.declared.shape.Shape.{Shape}
 
 -- What the rows of faults leave to be known of the object of an entry in use: it lies in the object space, its class is an
 -- object that does so too, it is of class 34 exactly where it is a method, and a method has an odd header and its literals.
 pub record IsSound (h : ImageHead) (bytes : List ℕ) (k : ℕ) : Type 0 where
+  pub in_table : k < entries_of h
   pub inside : IsInside h bytes k
   pub class_used : names h bytes (class h bytes k) ≡ true
   pub class_inside : IsInside h bytes (class h bytes k / 2)

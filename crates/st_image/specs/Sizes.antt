@@ -1,8 +1,6 @@
 -- What the rows of faults that concern a file's sizes leave to be known of it.
-use Rattle.std.specs.Prelude.{◌≡◌, ℕ, ◌+◌, ◌-◌, ◌*◌, ◌%◌, ◌<◌, ◌≤◌, true, List, length, if◌then◌else◌}
+use Rattle.std.specs.Prelude.{◌≡◌, ℕ, ◌+◌, ◌%◌, ◌<◌, ◌≤◌, true, List, length, if◌then◌else◌}
 use Rattle.st_spans.specs.declared.Span.{Span}
-use Rattle.st_model.specs.declared.kind.Kind.{Kind}
-use Rattle.st_model.specs.declared.kind.Kind.TheVariants as kind
 use Rattle.st_model.specs.declared.head.ImageHead.{ImageHead}
 use Rattle.st_model.specs.Image.{table_end, entries_of, is_used, place, size}
 
@@ -27,17 +25,3 @@ unfoldable pub span_of : ImageHead → List ℕ → ℕ → Span
 span_of h bytes k = if is_used h bytes k
     then record { from = place h bytes k; to = place h bytes k + size h bytes k }
     else record { from = 0; to = 0 }
-
--- the size by which an object is placed: fields, words, or all bytes
-abbrev pub size_as : Kind → ℕ → ℕ → ℕ
-size_as kind.Pointers fields units = fields
-size_as kind.Words fields units = units
-size_as kind.Bytes fields units = units
-size_as kind.Method fields units = 2 * fields + units
-
--- the literals by which it is placed: the fields of a method but for its header
-abbrev pub literals_as : Kind → ℕ → ℕ
-literals_as kind.Pointers fields = 0
-literals_as kind.Words fields = 0
-literals_as kind.Bytes fields = 0
-literals_as kind.Method fields = fields - 1

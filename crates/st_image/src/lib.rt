@@ -12,6 +12,7 @@ mod numbers;
 mod objects;
 mod reading;
 mod roots;
+mod shape;
 
 pub use error::ReadImage;
 pub use head::{HeadValues, has_letters};

@@ -1,4 +1,4 @@
-ghost use Rattle.std.specs.Prelude.{OnOk, IfOk, IfErr};
+ghost use Rattle.std.specs.Prelude.{OnOk, IfOk, IfErr, IsOkUnless};
 ghost use Rattle.st_model.specs.Faults.{IsWellFormed};
 ghost use Rattle.st_image.specs.HeadValues.{head_over};
 ghost use Rattle.st_image.specs.Rows.{IsReadFault};
@@ -31,6 +31,7 @@ pub fn read<L: Loader>(
 ) -> Result<Loaded<L::Done>, ReadImage>
     ensures well_formed { OnOk result (IsWellFormed (head_over over.now bytes.now) bytes.now) }
     ensures start { IfOk result (λ loaded. IsStart (head_over over.now bytes.now) bytes.now (L.Done.view loaded.memory) loaded.frame) }
+    ensures accepts { IsWellFormed (head_over over.now bytes.now) bytes.now → IsOkUnless result ReadImage.OutOfMemory }
     ensures fault { IfErr result (λ e. IsReadFault (head_over over.now bytes.now) bytes.now e) }
 {
     let image = check(alloc, bytes, over)?;

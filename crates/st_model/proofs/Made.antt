@@ -1,5 +1,5 @@
 -- Lists that a function gives.
-use Rattle.std.proofs.Common.{◌≡◌, ℕ, zero, suc, ◌+◌, ◌<◌, List, [], ◌∷◌, length, get_or, refl, ap, subst, ◌∙◌, arith}
+use Rattle.std.proofs.Common.{◌≡◌, ℕ, zero, suc, ◌<◌, List, [], ◌∷◌, length, get_or, refl, ap, ◌∙◌, arith}
 use Rattle.st_model.specs.Lists.{made}
 
 pub length-made : {X : Type 0} (f : ℕ → X) (n : ℕ) → length (made f n) ≡ n

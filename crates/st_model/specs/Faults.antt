@@ -94,6 +94,7 @@ Fails h bytes Scheduler = Dies (start h bytes)
 
 -- the order of faults: by row, then pointer, then second pointer or index
 
+-- the row of a fault
 abbrev pub row : ImageFault → ℕ
 row Short = 1
 row Lengths = 2
@@ -106,6 +107,7 @@ row (Method p) = 8
 row (Root p) = 9
 row Scheduler = 10
 
+-- its pointer; 0 where it has none
 abbrev pub first_number : ImageFault → ℕ
 first_number Short = 0
 first_number Lengths = 0
@@ -118,6 +120,7 @@ first_number (Method p) = p
 first_number (Root p) = p
 first_number Scheduler = 0
 
+-- its second pointer or its index; 0 where it has none
 abbrev pub second_number : ImageFault → ℕ
 second_number Short = 0
 second_number Lengths = 0
@@ -130,10 +133,11 @@ second_number (Method p) = 0
 second_number (Root p) = 0
 second_number Scheduler = 0
 
--- of two faults of a row
+-- of two faults of a row the one with the lesser pointer, or with the same one and the lesser second pointer or index
 abbrev pub Sooner : ImageFault → ImageFault → Type 0
 Sooner f g = (first_number f < first_number g) ⊎ ((first_number f ≡ first_number g) × (second_number f < second_number g))
 
+-- the one of the earlier row, or of the same row the sooner one
 abbrev pub Before : ImageFault → ImageFault → Type 0
 Before f g = (row f < row g) ⊎ ((row f ≡ row g) × Sooner f g)
 

@@ -56,12 +56,15 @@ flags h bytes k = number16 bytes (table_start h + 4 * k)
 unfoldable pub location : ImageHead → List ℕ → ℕ → ℕ
 location h bytes k = number16 bytes (table_start h + 4 * k + 2)
 
+-- the last byte of the body is no part of the object
 abbrev pub has_odd_length : ImageHead → List ℕ → ℕ → Bool
 has_odd_length h bytes k = bit 8 (flags h bytes k)
 
+-- the body consists of fields
 abbrev pub has_pointers : ImageHead → List ℕ → ℕ → Bool
 has_pointers h bytes k = bit 9 (flags h bytes k)
 
+-- entry k has no object
 abbrev pub is_free : ImageHead → List ℕ → ℕ → Bool
 is_free h bytes k = bit 10 (flags h bytes k)
 
@@ -77,10 +80,11 @@ place h bytes k = flags h bytes k % 16 * 65536 + location h bytes k
 abbrev pub word : List ℕ → ℕ → ℕ
 word bytes at = number16 bytes (512 + 2 * at)
 
--- An object is a size word, which counts all its words, a class word, and its body.
+-- the size word of the object of entry k, which counts all words of the object: itself, the class word and the body
 unfoldable pub size : ImageHead → List ℕ → ℕ → ℕ
 size h bytes k = word bytes (place h bytes k)
 
+-- the class word of the object of entry k
 unfoldable pub class : ImageHead → List ℕ → ℕ → ℕ
 class h bytes k = word bytes (place h bytes k + 1)
 

@@ -7,13 +7,13 @@ use Rattle.st_model.specs.declared.head.ImageHead.{ImageHead}
 use Rattle.st_model.specs.Lists.{made}
 use Rattle.st_model.specs.Values.{Value, value_of}
 use Rattle.st_model.specs.Objects.{Object, nil, is_words}
-use Rattle.st_model.specs.Machine.{Head, State, Registers, Step, Transition, empty_world}
+use Rattle.st_model.specs.Machine.{Head, State, Registers, Transition, empty_world}
 use Rattle.st_model.specs.Table.{Table, table}
 use Rattle.st_model.specs.View.{View, empty_view, table_of}
 use Rattle.st_model.specs.Contexts.{fetch_scheduled_registers}
 use Rattle.st_model.specs.Image.{bit, has_letters, flags, has_odd_length, has_pointers, is_used, place, size, class, body, literal_count}
 
--- the class of entry k has instances of words: it is a Pointers object whose field 2, the instance specification, is a
+-- the object of entry k is a class whose instances have words: it is a Pointers object whose field 2, the instance specification, is a
 -- SmallInteger with bit 1 set
 unfoldable pub is_word_class : ImageHead → List ℕ → ℕ → Bool
 is_word_class h bytes k = has_pointers h bytes k && (nat_lt 4 (size h bytes k) && ((body h bytes k 2 % 2 == 1) && bit 1 (body h bytes k 2)))
@@ -30,7 +30,7 @@ kind_in h bytes k =
     if class h bytes k == 34 then kind.Method else
     if has_words h bytes k then kind.Words else kind.Bytes
 
--- The fields of an object whose body has so many words: all of it, or a method's header and literals.
+-- how many fields an object has whose body has so many words: each word is one, or a method's header and literals are
 abbrev pub field_count : Kind → ℕ → ℕ → ℕ
 field_count kind.Pointers words literals = words
 field_count kind.Words words literals = 0
@@ -41,19 +41,22 @@ field_count kind.Method words literals = literals + 1
 abbrev pub byte_count : ℕ → Bool → ℕ
 byte_count words odd = 2 * words - (if odd then 1 else 0)
 
--- The units of an object whose body has so many words after its fields: words, or bytes.
+-- how many units an object has whose body has so many words after its fields: they are words, or hold bytes
 abbrev pub unit_count : Kind → ℕ → Bool → ℕ
 unit_count kind.Pointers words odd = 0
 unit_count kind.Words words odd = words
 unit_count kind.Bytes words odd = byte_count words odd
 unit_count kind.Method words odd = byte_count words odd
 
+-- how many fields the object of entry k has
 unfoldable pub fields_in : ImageHead → List ℕ → ℕ → ℕ
 fields_in h bytes k = field_count (kind_in h bytes k) (size h bytes k - 2) (literal_count (body h bytes k 0))
 
+-- how many units it has
 unfoldable pub units_in : ImageHead → List ℕ → ℕ → ℕ
 units_in h bytes k = unit_count (kind_in h bytes k) (size h bytes k - 2 - fields_in h bytes k) (has_odd_length h bytes k)
 
+-- field i of the object of entry k
 unfoldable pub field_in : ImageHead → List ℕ → ℕ → ℕ → Value
 field_in h bytes k i = value_of (body h bytes k i)
 
@@ -61,7 +64,7 @@ field_in h bytes k i = value_of (body h bytes k i)
 abbrev pub units_start : ImageHead → List ℕ → ℕ → ℕ
 units_start h bytes k = 512 + 2 * (place h bytes k + 2 + fields_in h bytes k)
 
--- word or byte i after the fields
+-- unit i of the object of entry k: the word or byte i after its fields
 unfoldable pub unit_in : ImageHead → List ℕ → ℕ → ℕ → ℕ
 unit_in h bytes k i = if is_words (kind_in h bytes k) then body h bytes k i else slice_index bytes (units_start h bytes k + i)
 

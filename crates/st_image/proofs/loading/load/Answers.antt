@@ -1,8 +1,7 @@
-use Rattle.std.proofs.Common.{◌≡◌, ◌≤◌, ap, sym, subst, ◌∙◌, arith}
-use Rattle.st_model.specs.Machine.{Head}
+use Rattle.std.proofs.Common.{◌≤◌, ap, sym, subst, ◌∙◌, arith}
 use Rattle.st_model.specs.Image.{entries_of}
 use Rattle.st_model.specs.Start.{machine_head}
-use Rattle.st_model.specs.View.{View, empty_view}
+use Rattle.st_model.specs.View.{View}
 use Rattle.st_image.specs.Loads.{IsEmpty}
 use Rattle.st_image.proofs.Clean.{clean_globals, clean_symbols, clean_capacity}
 use Rattle.st_image.proofs.Complete.{pointer_small, empty_is_empty, empty-head, entries_at, complete, is_start}

@@ -1,6 +1,4 @@
-use Rattle.std.proofs.Common.{◌≡◌, ◌+◌, ◌≤◌, ◌/◌, arith, refl, subst, ap, ◌∙◌}
-use Rattle.st_model.specs.Formed.{IsMakeable, fresh}
-use Rattle.st_model.specs.Objects.{words_of}
+use Rattle.std.proofs.Common.{arith, refl, ◌∙◌}
 use Rattle.st_model.proofs.Words.{is_small-value_of}
 use Rattle.st_image.specs.Loads.{fresh_in}
 use Rattle.st_image.proofs.FaultRows.{used_above, named_even}
