@@ -64,7 +64,8 @@ end_text n (end.Dead done cause) = dead_text done cause
 end_text n (end.Unbuilt done code) = unbuilt_text done code
 
 module _ {D : Type 0} (host : Ghosts D) where
-  -- nothing but the last line was said; only where the count of say faults rose it may be cut or missing
+  -- Nothing but the last line was said. It may be cut or missing only where the count of say faults rose, or stands at
+  -- the last value that it has. Of a host that doesn't tell what was said nothing is claimed.
   pub record SaysLastLine (status : Status) (old new : D) : Type 0 where
     pub part : IsTrue host.is_told → SaidPart (host.said old) (last_line status) (host.said new)
     pub whole : (Rose (host.say_faults old) (host.say_faults new) → ⊥) → IsTrue host.is_told → host.said new ≡ host.said old ++ last_line status
@@ -80,7 +81,7 @@ module _ {D : Type 0} (host : Ghosts D) where
   OnceEnds file n old new DiskFault = SaysLastLine DiskFault old new
   OnceEnds file n old new OutOfMemory = SaysLastLine OutOfMemory old new
 
-  -- a fault's status comes only where its count rose in the call
+  -- a fault's status comes only where its count rose in the call, or stands at the last value that it has
   abbrev pub StatusHasCause : D → D → Status → Type 0
   StatusHasCause old new Done = Unit {0}
   StatusHasCause old new Usage = Unit {0}

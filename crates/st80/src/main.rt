@@ -9,6 +9,9 @@ mod status;
 mod tool;
 mod words;
 
+#[cfg(test)]
+mod tests;
+
 use crate::tool::tool;
 use st_host::{DirHost, StdinSource};
 use std::io;

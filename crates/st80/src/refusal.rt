@@ -8,7 +8,7 @@ use std::alloc::AllocError;
 /// Why a machine wasn't started.
 #[derive(Clone, Copy, Debug, PartialEq, Eq)]
 pub enum Refusal {
-    /// There is no file of that name that is an image.
+    /// The image is absent, is above 2^23 bytes, has no letters `ST80` or isn't well-formed.
     Unread,
     /// The host failed at a file.
     DiskFault,

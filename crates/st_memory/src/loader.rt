@@ -69,7 +69,8 @@ pub trait Loader: Sized + Drop {
         ensures held { (loaded self.new).held ≡ (loaded self.old).held }
         ensures head { (loaded self.new).head ≡ (loaded self.old).head };
 
-    /// The memory of just the placed objects, all kept, with nil held at every place. They refer to nothing but each other.
+    /// The memory of just the placed objects, all kept, with nil held at every place. They refer to nothing but each other,
+    /// and the root page and the tables of names are among them.
     fn finish(self) -> Self::Done
         requires { IsComplete (loaded self) }
         ensures { Self.Done.view result ≡ loaded self };

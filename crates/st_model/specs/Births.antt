@@ -44,7 +44,7 @@ abbrev pub first_from : (ℕ → Bool) → ℕ → ℕ → ℕ
 first_from taken zero k = k
 first_from taken (suc fuel) k = if taken k then first_from taken fuel (suc k) else k
 
--- the least pointer from 1 up that no kept object bears
+-- the least pointer from 2 up that no kept object bears; pointers are halved here, as in the table
 unfoldable pub least_free : Births → ℕ
 least_free h = first_from (is_borne h) (above h) 1
 

@@ -1,4 +1,4 @@
--- The bytecodes, a definition for each row of the book's table (chapter 28), and the step that does one.
+-- The bytecodes, a definition for each group of rows of the book's table (chapter 28), and the step that does one.
 use Rattle.std.specs.Prelude.{ℕ, ◌+◌, Option, Some, None, ℤ, pos, ◌+ℤ◌, ◌-ℤ◌, ◌*ℤ◌}
 use Rattle.st_model.specs.declared.dead.Dead.TheVariants as dead
 use Rattle.st_model.specs.declared.outcome.Outcome.{Outcome}

@@ -18,7 +18,7 @@ AnyRefTo n (v ∷ vs) = IsRefTo n v ⊎ AnyRefTo n vs
 abbrev pub Refers : Object → ℕ → Type 0
 Refers o n = (n ≡ o.class) ⊎ AnyRefTo n o.fields
 
--- what is held, or on the root page
+-- what is held, one of the two tables of names, or on the root page; roots lists the first two
 pub data IsRoot {H : Type 0} (m : ObjectMemory H) (h : H) (roots : List Value) (n : ℕ) : Type 0 where
   held_root : AnyRefTo n roots → IsRoot m h roots n
   page_root : (q : PageObject) → n ≡ m.named h q → IsRoot m h roots n

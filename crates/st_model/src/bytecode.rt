@@ -26,7 +26,7 @@ pub enum Constant {
     Two,
 }
 
-/// A bytecode, by its first byte: one variant for a row of the book's table (chapter 28).
+/// A bytecode, by its first byte: one variant for each group of rows of the book's table (chapter 28).
 #[derive(Clone, Copy, Debug, PartialEq, Eq)]
 pub enum Bytecode {
     /// Pushes what the operand names (0 to 95).

@@ -3,7 +3,7 @@
 pub enum ImageFault {
     /// The file has no whole head, or ends before its table does.
     Short,
-    /// The head's lengths are too great or odd, or its version is unknown.
+    /// The table's length is odd or too great, the object space is too long, or the version is unknown.
     Lengths,
     /// The head's capacities are too great, or too small for what the file holds.
     Capacity,
@@ -15,7 +15,7 @@ pub enum ImageFault {
     Class(u32),
     /// The field, or literal, of this pointer's object with this index is no object.
     Field(u32, u32),
-    /// The method of this pointer has no right header.
+    /// The method of this pointer has pointers for its body, no SmallInteger as header, or more literals than words.
     Method(u32),
     /// This pointer of the root page or of the head is no object.
     Root(u32),

@@ -31,8 +31,8 @@ pub use oop::Oop;
 pub use outcome::Outcome;
 pub use place::RootPlace;
 
-/// The law that joins the book's machine to the code's: a table that shows births goes on to show
-/// them after any number of cycles, and dies of the cause of which they die.
+/// The law that joins the book's machine to the code's: a table that shows births, and in which no run of cycles leaves
+/// a dangling pointer, goes on to show them after any number of cycles, and dies of the cause of which they die.
 pub fn table_shows_births()
     ensures { (n : ℕ) (c : State Table) (s : State Births) → Shows c s → StaysClosed c → EndsShown (run table n c) (run births n s) }
 {}

@@ -1,0 +1,232 @@
+//! Worked runs of the program over a host in memory.
+use crate::status::Status;
+use crate::tool::tool;
+use st_host::{MemHost, MemSource};
+use std::alloc::{AllocError, Global};
+use std::process::Abort;
+use std::test::Fail;
+
+/// The objects of image B, word by word: 20 of the root page, an association, a scheduler with one process, its context,
+/// and a method without literals and with five bytes.
+const OBJECTS: [u16; 78] = [
+    2, 12, 2, 12, 2, 12, 4, 12, 2, 58, 2, 12, 2, 12, 2, 12, 2, 12, 2, 12, 2, 12, 2, 12, 2, 12, 2,
+    12, 2, 12, 2, 12, 2, 12, 2, 12, 2, 12, 2, 12, 2, 12, 4, 12, 2, 60, 6, 12, 2, 62, 9, 2, 20, 22,
+    2, 7, 3, 64, 2, 2, 2, 2, 2, 2, 2, 2, 2, 2, 2, 2, 2, 2, 6, 34, 257, 30327, 26787, 64256,
+];
+
+/// Its table, two words an entry.
+const TABLE: [u16; 66] = [
+    32, 0, 64, 0, 64, 2, 64, 4, 64, 6, 32, 0, 64, 10, 64, 12, 64, 14, 32, 0, 32, 0, 64, 16, 64, 18,
+    64, 20, 64, 22, 32, 0, 64, 24, 64, 26, 32, 0, 32, 0, 64, 28, 64, 30, 64, 32, 32, 0, 64, 34, 64,
+    36, 64, 38, 32, 0, 64, 40, 64, 42, 64, 46, 64, 52, 128, 72,
+];
+
+/// The byte of the file at which the method's bytecodes begin.
+const BYTECODES: usize = 662;
+
+/// The lines from the input state to the last process, which no run of these tests changes.
+const UNCHANGED: &str = "input 0 0 0 0 0 0
+held @2 @2 @2 @2 @2
+used 24 78
+object 2 @12 p
+object 4 @12 p
+object 6 @12 p
+object 8 @12 p @2 @58
+object 12 @12 p
+object 14 @12 p
+object 16 @12 p
+object 22 @12 p
+object 24 @12 p
+object 26 @12 p
+object 28 @12 p
+object 32 @12 p
+object 34 @12 p
+object 40 @12 p
+object 42 @12 p
+object 44 @12 p
+object 48 @12 p
+object 50 @12 p
+object 52 @12 p
+object 56 @12 p
+object 58 @12 p @2 @60
+object 60 @12 p @2 @62 4 @2
+";
+
+fn push_words(bytes: &mut Vec<u8>, words: &[u16]) -> Result<(), AllocError> {
+    for word in words {
+        bytes.push((*word >> 8) as u8)?;
+        bytes.push((*word & 255) as u8)?;
+    }
+    Ok(())
+}
+
+fn pad(bytes: &mut Vec<u8>, length: usize) -> Result<(), AllocError> {
+    for _ in bytes.len()..length {
+        bytes.push(0)?;
+    }
+    Ok(())
+}
+
+/// Image B with these bytecodes in front of those of its method.
+fn image(alloc: Global, bytecodes: &[u8]) -> Result<Vec<u8>, AllocError> {
+    let mut bytes = Vec::new(alloc);
+    push_words(&mut bytes, &[0, 78, 0, 66, 0x5354, 0x3830, 0, 1])?;
+    push_words(&mut bytes, &[0, 32767, 16, 0, 0, 0, 0, 0])?;
+    pad(&mut bytes, 512)?;
+    push_words(&mut bytes, &OBJECTS)?;
+    pad(&mut bytes, 1024)?;
+    push_words(&mut bytes, &TABLE)?;
+    for (i, code) in bytecodes.iter().enumerate() {
+        if let Some(byte) = bytes.get_mut(BYTECODES + i) {
+            *byte = *code;
+        }
+    }
+    Ok(bytes)
+}
+
+/// A host with a file named B, and with room for a report.
+fn host_with(alloc: Global, bytes: &[u8]) -> Result<MemHost, AllocError> {
+    let mut host = MemHost::new(alloc)?;
+    host.put(alloc, "B", bytes)?;
+    host.room_for(alloc, 4000, 1000)?;
+    Ok(host)
+}
+
+/// Calls the program with these words, and checks its status and what it says.
+fn check(
+    rt: &(impl Abort + AllocGlobal),
+    host: &mut MemHost,
+    words: &[&str],
+    status: Status,
+    wanted: &[&str],
+) -> Result<(), Fail> {
+    let alloc = rt.alloc();
+    let mut given = Vec::new(alloc);
+    for word in words {
+        given.push(String::from_str(alloc, *word)?)?;
+    }
+    let mut text = Vec::new(alloc);
+    for part in wanted {
+        text.extend_from_slice(part.as_bytes())?;
+    }
+    let mut script = MemSource::new(alloc, b"", 1, &[])?;
+    let ended = tool(alloc, given.as_slice(), host, &mut script);
+    assert_eq!(rt; ended, status);
+    assert_eq!(rt; host.said(), text.as_slice());
+    Ok(())
+}
+
+#[test]
+fn four_cycles_push_and_jump_back(rt: HostRuntime) -> Result<(), Fail> {
+    let mut host = host_with(rt.alloc(), &image(rt.alloc(), &[])?)?;
+    let wanted = [
+        "ran 4\nregisters @62 @62 @64 @2 3 2\n",
+        UNCHANGED,
+        "object 62 @22 p @2 3 1 @64 @2 @2 2 1 2 @2 @2 @2 @2 @2 @2 @2 @2 @2\n",
+        "object 64 @34 m 128 : 118 119 104 163 251\n",
+    ];
+    check(&rt, &mut host, &["once", "B", "4"], Status::Done, &wanted)
+}
+
+#[test]
+fn no_cycle_leaves_the_image(rt: HostRuntime) -> Result<(), Fail> {
+    let mut host = host_with(rt.alloc(), &image(rt.alloc(), &[])?)?;
+    let wanted = [
+        "ran 0\nregisters @62 @62 @64 @2 3 1\n",
+        UNCHANGED,
+        "object 62 @22 p @2 3 1 @64 @2 @2 @2 @2 @2 @2 @2 @2 @2 @2 @2 @2 @2 @2\n",
+        "object 64 @34 m 128 : 118 119 104 163 251\n",
+    ];
+    let words = ["once", "B", "0000000000"];
+    check(&rt, &mut host, &words, Status::Done, &wanted)
+}
+
+#[test]
+fn a_return_is_not_built(rt: HostRuntime) -> Result<(), Fail> {
+    let mut host = host_with(rt.alloc(), &image(rt.alloc(), &[120])?)?;
+    let wanted = [
+        "unbuilt 0 120\nregisters @62 @62 @64 @2 3 1\n",
+        UNCHANGED,
+        "object 62 @22 p @2 3 1 @64 @2 @2 @2 @2 @2 @2 @2 @2 @2 @2 @2 @2 @2 @2\n",
+        "object 64 @34 m 128 : 120 119 104 163 251\n",
+    ];
+    check(&rt, &mut host, &["once", "B", "4"], Status::Done, &wanted)
+}
+
+#[test]
+fn a_death_is_the_only_line(rt: HostRuntime) -> Result<(), Fail> {
+    let mut host = host_with(rt.alloc(), &image(rt.alloc(), &[126])?)?;
+    check(&rt, &mut host, &["once", "B", "3"], Status::Done, &["dead 0 7\n"])?;
+    let mut other = host_with(rt.alloc(), &image(rt.alloc(), &[135, 135])?)?;
+    check(&rt, &mut other, &["once", "B", "2"], Status::Done, &["dead 1 6\n"])
+}
+
+#[test]
+fn other_words_are_refused(rt: HostRuntime) -> Result<(), Fail> {
+    let lists: [&[&str]; 12] = [
+        &[],
+        &["once"],
+        &["once", "B"],
+        &["once", "", "4"],
+        &["once", "-B", "4"],
+        &["once", "B", ""],
+        &["once", "B", "-4"],
+        &["once", "B", "1000000001"],
+        &["once", "B", "00000000004"],
+        &["once", "B", "4", "4"],
+        &["once", "--", "B", "4"],
+        &["Once", "B", "4"],
+    ];
+    for words in lists {
+        let mut host = host_with(rt.alloc(), &image(rt.alloc(), &[])?)?;
+        check(&rt, &mut host, words, Status::Usage, &["usage\n"])?;
+    }
+    Ok(())
+}
+
+#[test]
+fn what_is_no_image_is_refused(rt: HostRuntime) -> Result<(), Fail> {
+    let alloc = rt.alloc();
+    let whole = image(alloc, &[])?;
+    let words = ["once", "B", "4"];
+    let mut absent = host_with(alloc, &whole)?;
+    check(&rt, &mut absent, &["once", "-", "4"], Status::Unread, &["image\n"])?;
+    let mut cut = host_with(alloc, whole.as_slice().get(..511).unwrap_or(&[]))?;
+    check(&rt, &mut cut, &words, Status::Unread, &["image\n"])?;
+    let mut empty = host_with(alloc, &[])?;
+    check(&rt, &mut empty, &words, Status::Unread, &["image\n"])?;
+    let mut long = whole;
+    long.resize(8_388_609, 0)?;
+    let mut too_long = host_with(alloc, &long)?;
+    check(&rt, &mut too_long, &words, Status::Unread, &["image\n"])
+}
+
+#[test]
+fn an_image_of_the_greatest_length_is_read(rt: HostRuntime) -> Result<(), Fail> {
+    let mut longest = image(rt.alloc(), &[126])?;
+    longest.resize(8_388_608, 0)?;
+    let mut host = host_with(rt.alloc(), &longest)?;
+    check(&rt, &mut host, &["once", "B", "1"], Status::Done, &["dead 0 7\n"])
+}
+
+#[test]
+fn faults_of_the_host_are_told(rt: HostRuntime) -> Result<(), Fail> {
+    let alloc = rt.alloc();
+    let words = ["once", "B", "4"];
+    let bytes = image(alloc, &[126])?;
+    let mut at_length = host_with(alloc, &bytes)?;
+    at_length.fail(alloc, &[1])?;
+    check(&rt, &mut at_length, &words, Status::DiskFault, &["disk fault\n"])?;
+    let mut at_read = host_with(alloc, &bytes)?;
+    at_read.fail(alloc, &[2])?;
+    check(&rt, &mut at_read, &words, Status::DiskFault, &["disk fault\n"])?;
+    let mut at_word = host_with(alloc, &bytes)?;
+    at_word.fail(alloc, &[3])?;
+    check(&rt, &mut at_word, &words, Status::SayFault, &[])?;
+    let mut at_number = host_with(alloc, &bytes)?;
+    at_number.fail(alloc, &[5])?;
+    check(&rt, &mut at_number, &words, Status::SayFault, &["dead "])?;
+    let mut at_last_line = host_with(alloc, &bytes)?;
+    at_last_line.fail(alloc, &[1])?;
+    check(&rt, &mut at_last_line, &["once"], Status::Usage, &[])
+}
