@@ -1,4 +1,4 @@
-ghost use Rattle.std.specs.Prelude.{◌≡◌, ◌<◌, IfOk};
+ghost use Rattle.std.specs.Prelude.{◌≡◌, ◌<◌, IfOk, OnErr};
 ghost use Rattle.st_model.specs.Values.{value};
 ghost use Rattle.st_model.specs.Decoded.{IsNumberedOperand};
 ghost use Rattle.st_model.specs.Table.{table};
@@ -81,6 +81,7 @@ fn store_receiver_variable<M: Memory>(f: &Frame, m: &mut M, i: u32, x: Oop) -> R
     requires small { i < 64 }
     ensures stores { Does (store_receiver_variable table i (value x)) itself (shown (M.view m.old) f.now) result (shown (M.view m.new) f.now) }
     ensures held { (M.view m.new).held ≡ (M.view m.old).held }
+    ensures dies { OnErr result (M.view m.new ≡ M.view m.old) }
 {
     store_field(f, m, f.receiver, i, x)
 }
@@ -93,6 +94,7 @@ fn store_temporary_variable<M: Memory>(f: &Frame, m: &mut M, i: u32, x: Oop) -> 
     requires small { i < 64 }
     ensures stores { Does (store_temporary_variable table i (value x)) itself (shown (M.view m.old) f.now) result (shown (M.view m.new) f.now) }
     ensures held { (M.view m.new).held ≡ (M.view m.old).held }
+    ensures dies { OnErr result (M.view m.new ≡ M.view m.old) }
 {
     store_field(f, m, f.home, 6 + i, x)
 }
@@ -105,6 +107,7 @@ fn store_literal_variable<M: Memory>(f: &Frame, m: &mut M, i: u32, x: Oop) -> Re
     requires small { i < 64 }
     ensures stores { Does (store_literal_variable table i (value x)) itself (shown (M.view m.old) f.now) result (shown (M.view m.new) f.now) }
     ensures held { (M.view m.new).held ≡ (M.view m.old).held }
+    ensures dies { OnErr result (M.view m.new ≡ M.view m.old) }
 {
     let association = fetch_literal_constant(f, m, i)?;
     store_field(f, m, association, 1, x)
@@ -118,6 +121,7 @@ pub fn store_operand<M: Memory>(f: &Frame, m: &mut M, operand: Operand, x: Oop) 
     requires numbered { IsNumberedOperand operand }
     ensures stores { Does (store_operand table operand (value x)) itself (shown (M.view m.old) f.now) result (shown (M.view m.new) f.now) }
     ensures held { (M.view m.new).held ≡ (M.view m.old).held }
+    ensures dies { OnErr result (M.view m.new ≡ M.view m.old) }
 {
     match operand {
         Operand::ReceiverVariable(i) => store_receiver_variable(f, m, u32::from(i), x),

@@ -1,4 +1,4 @@
-ghost use Rattle.std.specs.Prelude.{◌≡◌, ◌<◌, ◌≤ℤ◌, pos, negsuc, OnOk};
+ghost use Rattle.std.specs.Prelude.{◌≡◌, ◌<◌, ◌≤ℤ◌, pos, negsuc, OnOk, OnErr};
 ghost use Rattle.st_model.specs.Decoded.{IsNumbered, IsNumberedOperand};
 ghost use Rattle.st_model.specs.Table.{table};
 ghost use Rattle.st_model.specs.Bytecodes.{push_operand, store_and_pop, push_receiver, push_constant, extended_push, extended_store, extended_store_and_pop, pop_stack, duplicate_top, push_active_context, short_unconditional_jump, long_offset, long_unconditional_jump, bytecode};
@@ -18,6 +18,7 @@ fn push_operand<M: Memory>(f: &mut Frame, m: &mut M, operand: Operand) -> Result
     requires numbered { IsNumberedOperand operand }
     ensures row { Does (push_operand table operand) itself (shown (M.view m.old) f.old) result (shown (M.view m.new) f.new) }
     ensures frame { OnOk result (StaysFrame (M.view m.old) (M.view m.new) f.new) }
+    ensures dies { OnErr result (M.view m.new ≡ M.view m.old) }
 {
     let x = fetch_operand(f, m, operand)?;
     push(f, m, x)
@@ -30,6 +31,7 @@ fn store_and_pop<M: Memory>(f: &mut Frame, m: &mut M, operand: Operand) -> Resul
     requires numbered { IsNumberedOperand operand }
     ensures row { Does (store_and_pop table operand) itself (shown (M.view m.old) f.old) result (shown (M.view m.new) f.new) }
     ensures frame { OnOk result (StaysFrame (M.view m.old) (M.view m.new) f.new) }
+    ensures dies { OnErr result (M.view m.new ≡ M.view m.old) }
 {
     let x = pop(f, m)?;
     store_operand(f, m, operand, x)
@@ -41,6 +43,7 @@ fn push_receiver<M: Memory>(f: &mut Frame, m: &mut M) -> Result<(), Dead>
     requires frame { IsFrame (M.view m.old) f.old }
     ensures row { Does (push_receiver table) itself (shown (M.view m.old) f.old) result (shown (M.view m.new) f.new) }
     ensures frame { OnOk result (StaysFrame (M.view m.old) (M.view m.new) f.new) }
+    ensures dies { OnErr result (M.view m.new ≡ M.view m.old) }
 {
     push(f, m, f.receiver)
 }
@@ -51,6 +54,7 @@ fn push_constant<M: Memory>(f: &mut Frame, m: &mut M, constant: Constant) -> Res
     requires frame { IsFrame (M.view m.old) f.old }
     ensures row { Does (push_constant table constant) itself (shown (M.view m.old) f.old) result (shown (M.view m.new) f.new) }
     ensures frame { OnOk result (StaysFrame (M.view m.old) (M.view m.new) f.new) }
+    ensures dies { OnErr result (M.view m.new ≡ M.view m.old) }
 {
     let x = constant_value(f, m, constant);
     push(f, m, x)
@@ -62,6 +66,7 @@ fn extended_push<M: Memory>(f: &mut Frame, m: &mut M) -> Result<(), Dead>
     requires frame { IsFrame (M.view m.old) f.old }
     ensures row { Does (extended_push table) itself (shown (M.view m.old) f.old) result (shown (M.view m.new) f.new) }
     ensures frame { OnOk result (StaysFrame (M.view m.old) (M.view m.new) f.new) }
+    ensures dies { OnErr result (M.view m.new ≡ M.view m.old) }
 {
     let byte = next_byte(f, m)?;
     push_operand(f, m, extended_operand(byte))
@@ -73,6 +78,7 @@ fn extended_store<M: Memory>(f: &mut Frame, m: &mut M) -> Result<(), Dead>
     requires frame { IsFrame (M.view m.old) f.old }
     ensures row { Does (extended_store table) itself (shown (M.view m.old) f.old) result (shown (M.view m.new) f.new) }
     ensures frame { OnOk result (StaysFrame (M.view m.old) (M.view m.new) f.new) }
+    ensures dies { OnErr result (M.view m.new ≡ M.view m.old) }
 {
     let byte = next_byte(f, m)?;
     let x = top(f, m)?;
@@ -85,6 +91,7 @@ fn extended_store_and_pop<M: Memory>(f: &mut Frame, m: &mut M) -> Result<(), Dea
     requires frame { IsFrame (M.view m.old) f.old }
     ensures row { Does (extended_store_and_pop table) itself (shown (M.view m.old) f.old) result (shown (M.view m.new) f.new) }
     ensures frame { OnOk result (StaysFrame (M.view m.old) (M.view m.new) f.new) }
+    ensures dies { OnErr result (M.view m.new ≡ M.view m.old) }
 {
     let byte = next_byte(f, m)?;
     store_and_pop(f, m, extended_operand(byte))
@@ -107,6 +114,7 @@ fn duplicate_top<M: Memory>(f: &mut Frame, m: &mut M) -> Result<(), Dead>
     requires frame { IsFrame (M.view m.old) f.old }
     ensures row { Does (duplicate_top table) itself (shown (M.view m.old) f.old) result (shown (M.view m.new) f.new) }
     ensures frame { OnOk result (StaysFrame (M.view m.old) (M.view m.new) f.new) }
+    ensures dies { OnErr result (M.view m.new ≡ M.view m.old) }
 {
     let x = top(f, m)?;
     push(f, m, x)
@@ -118,6 +126,7 @@ fn push_active_context<M: Memory>(f: &mut Frame, m: &mut M) -> Result<(), Dead>
     requires frame { IsFrame (M.view m.old) f.old }
     ensures row { Does (push_active_context table) itself (shown (M.view m.old) f.old) result (shown (M.view m.new) f.new) }
     ensures frame { OnOk result (StaysFrame (M.view m.old) (M.view m.new) f.new) }
+    ensures dies { OnErr result (M.view m.new ≡ M.view m.old) }
 {
     push(f, m, f.active)
 }
@@ -162,6 +171,7 @@ pub fn perform<M: Memory>(f: &mut Frame, m: &mut M, code: Bytecode) -> Result<()
     requires numbered { IsNumbered code }
     ensures row { Does (bytecode table code) itself (shown (M.view m.old) f.old) result (shown (M.view m.new) f.new) }
     ensures frame { OnOk result (StaysFrame (M.view m.old) (M.view m.new) f.new) }
+    ensures dies { OnErr result (M.view m.new ≡ M.view m.old) }
 {
     match code {
         Bytecode::Push(operand) => push_operand(f, m, operand),

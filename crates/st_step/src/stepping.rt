@@ -1,4 +1,4 @@
-ghost use Rattle.std.specs.Prelude.{◌≡◌, IfOk, OnOk};
+ghost use Rattle.std.specs.Prelude.{◌≡◌, IfOk, OnOk, OnErr};
 ghost use Rattle.st_model.specs.Table.{table};
 ghost use Rattle.st_model.specs.Bytecodes.{step};
 ghost use Rattle.st_model.specs.Calls.{Does, itself};
@@ -18,6 +18,7 @@ pub fn step<M: Memory>(f: &mut Frame, m: &mut M) -> Result<Outcome, Dead>
     requires frame { IsFrame (M.view m.old) f.old }
     ensures step { Does (step table) itself (shown (M.view m.old) f.old) result (shown (M.view m.new) f.new) }
     ensures frame { OnOk result (StaysFrame (M.view m.old) (M.view m.new) f.new) }
+    ensures dies { OnErr result (M.view m.new ≡ M.view m.old) }
     ensures unbuilt { IfOk result (λ o. MovesAlone o (M.view m.old) (M.view m.new) f.old f.new) }
 {
     let byte = next_byte(f, m)?;
