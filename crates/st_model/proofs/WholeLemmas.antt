@@ -1,4 +1,4 @@
--- A memory stays whole where a field is stored, a value is held, or objects leave that nothing needs.
+-- What a whole memory knows of a live value, and that it stays whole where a field is stored or a value is held.
 use Rattle.std.proofs.Common.{◌≡◌, ℕ, ◌≤◌, zero, suc, true, List, [], ◌∷◌, length, set, refl, sym, ap, ◌∙◌, subst, arith, length-set, inl, inr}
 use Rattle.std.specs.Prelude.{slice_get, slice_index_or, slice_set, unwrap_or, Some, None}
 use Rattle.std.proofs.lemmas.Bool.{cases_eq}

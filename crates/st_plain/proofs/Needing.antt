@@ -1,10 +1,10 @@
 -- What is marked where the roots and what the objects refer to are marked.
 use Rattle.std.proofs.Common.{◌≡◌, ℕ, ◌<◌, zero, suc, Bool, true, false, ◌++◌, length, refl, sym, ap, ◌∙◌, subst, arith, inl, inr, ◌⊎◌}
 use Rattle.std.specs.Prelude.{Some, IsTrue, ◌==◌}
-use Rattle.st_model.specs.Objects.{Object, one, page, place_of}
+use Rattle.st_model.specs.Objects.{Object, one}
 use Rattle.st_model.specs.Machine.{table_root, head_roots, device_roots}
 use Rattle.st_model.specs.Table.{Table, table, entry, settled_table, total_used}
-use Rattle.st_model.specs.Settled.{Refers, AnyRefTo, IsRoot, held_root, page_root, or, any_names, object_names, any_below, any_of_page, is_root}
+use Rattle.st_model.specs.Settled.{Refers, AnyRefTo, IsRoot, held_root, page_root, or, any_names, object_names, any_below, is_root}
 use Rattle.st_model.specs.View.{View, SettlesTo, view_roots}
 use Rattle.st_model.proofs.SettledIs.{or_cases, below_true, object_is, is_object, root_is, is_root-of}
 use Rattle.st_model.proofs.SettledLemmas.{is_some-of, some_is}

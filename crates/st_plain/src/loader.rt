@@ -38,9 +38,7 @@ impl Loader for PlainLoader {
     }
 
     fn place(&mut self, at: Oop, class: Oop, kind: Kind, size: u32, literals: u32) {
-        self.contents
-            .objects
-            .place(at, class, kind, size, literals);
+        self.contents.objects.place(at, class, kind, size, literals);
     }
 
     fn set_pointer(&mut self, o: Oop, at: u32, v: Oop) {

@@ -102,13 +102,23 @@ fn store_header(rt: &impl Abort, l: &mut PlainLoader, o: u16, header: u16) {
     l.set_pointer(o, 0, Oop(header));
 }
 
-/// The worked image of 24 objects and 78 words, an unnamed object of 3 words, and two that name each other alone.
-fn image(rt: &impl Abort, alloc: Global) -> Result<PlainMemory, Fail> {
+fn begun<L: Loader>(alloc: Global) -> Result<L, AllocError> {
     let capacity = Demand {
         entries: 32767,
         words: 1048576,
     };
-    let mut l = PlainLoader::begin(alloc, capacity, Oop(0), Oop(0))?;
+    L::begin(alloc, capacity, Oop(0), Oop(0))
+}
+
+fn finished<L: Loader>(l: L) -> L::Done
+    requires { IsComplete (L.loaded l) }
+{
+    l.finish()
+}
+
+/// The worked image of 24 objects and 78 words, an unnamed object of 3 words, and two that name each other alone.
+fn image(rt: &impl Abort, alloc: Global) -> Result<PlainMemory, Fail> {
+    let mut l: PlainLoader = begun(alloc)?;
     for at in PAGE {
         place(rt, &mut l, at, 12, Kind::Pointers, 0);
     }
@@ -129,7 +139,7 @@ fn image(rt: &impl Abort, alloc: Global) -> Result<PlainMemory, Fail> {
     }
     store_word(rt, &mut l, 66, 2, 65535);
     assert!(rt; is_complete(alloc, &l.contents)?, "the image is complete");
-    Ok(l.finish())
+    Ok(finished(l))
 }
 
 fn store_byte(rt: &impl Abort, l: &mut PlainLoader, o: u16, at: u32, v: u8) {

@@ -23,8 +23,8 @@ returns c = λ n.
     let all_devices = any_names (device_roots (held_of r).devices) n in
     c.mark_all-3.ensures n
     ∙ ap (or registers) (c.mark_all-2.ensures n
-      ∙ ap (or (any_names devices n)) signals
-      ∙ or_step (any_names devices n) (any_names pending n) old
-      ∙ ap (λ b. or b old) (sym (any_names-append devices pending n))
-      ∙ or_step all_devices (n == 1) (is_marked c.args.marks.now.names.items n))
+    ∙ ap (or (any_names devices n)) signals
+    ∙ or_step (any_names devices n) (any_names pending n) old
+    ∙ ap (λ b. or b old) (sym (any_names-append devices pending n))
+    ∙ or_step all_devices (n == 1) (is_marked c.args.marks.now.names.items n))
     ∙ or_step registers (or all_devices (n == 1)) (is_marked c.args.marks.now.names.items n)
