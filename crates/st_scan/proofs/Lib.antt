@@ -1,0 +1,4 @@
+pub mod Classes
+pub mod Keywords
+pub mod Numerals
+pub mod Strings

@@ -1,0 +1,24 @@
+-- The digits that a number's text has in memory, and the size that is read from them.
+use Rattle.std.specs.Prelude.{ℕ, ◌+◌, ◌*◌, ◌&&◌, nat_lt, nat_le, List, Option, Some, None, if◌then◌else◌}
+use Rattle.std.specs.Char.{digit_value}
+use Rattle.std.specs.Str.Parse.{digits_value}
+use Rattle.st_scan.specs.declared.number.TheConstants.{LIMIT}
+use Rattle.st_scan.specs.declared.number.Numeral.{Numeral}
+use Rattle.st_scan.specs.declared.number.Numeral.TheVariants.{Decimal, Radix}
+use Rattle.st_scan.specs.Pieces.{Digits, decimal, radix, size, fits, is_good}
+
+abbrev pub digits_of : Numeral → Digits
+digits_of (Decimal ds) = decimal ds.now
+digits_of (Radix rs ds) = radix rs.now ds.now
+
+-- the size of a good number
+abbrev pub good_size : Digits → Option ℕ
+good_size ds = if is_good ds then Some (size ds) else None
+
+-- a size with one more digit behind it, if the digit is below the base and the size at most LIMIT
+abbrev pub with_digit : ℕ → ℕ → ℕ → Option ℕ
+with_digit n base d = if nat_lt (digit_value d) base && nat_le (n * base + digit_value d) LIMIT then Some (n * base + digit_value d) else None
+
+-- the size of digits, if they fit
+abbrev pub size_in : ℕ → List ℕ → Option ℕ
+size_in base ds = if fits base ds then Some (digits_value base ds) else None

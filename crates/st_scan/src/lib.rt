@@ -1,0 +1,10 @@
+//! The scanner.
+#![tactic(auto)]
+
+mod bytes;
+mod front;
+mod number;
+mod string;
+mod word;
+
+pub use number::LIMIT;
