@@ -1,4 +1,7 @@
+pub mod Choices
 pub mod Classes
 pub mod Keywords
 pub mod Numerals
+pub mod Prefixes
+pub mod Sound
 pub mod Strings

@@ -1,5 +1,5 @@
 -- The bytes of a method's text, by what they begin or belong to.
-use Rattle.std.specs.Prelude.{ℕ, Bool, not, ◌&&◌, ◌||◌, ◌==◌, List, codes}
+use Rattle.std.specs.Prelude.{ℕ, Bool, not, ◌&&◌, ◌||◌, ◌==◌, List, ◌∷◌, codes}
 use Rattle.std.specs.List.{list_any}
 use Rattle.std.specs.Str.{byte}
 use Rattle.std.specs.Char.{is_ascii_digit, is_ascii_uppercase, is_ascii_alphabetic}
@@ -17,17 +17,23 @@ abbrev pub is_radix_digit : ℕ → Bool
 is_radix_digit b = is_ascii_digit b || is_ascii_uppercase b
 
 -- what an operator of one or two bytes is made of
-abbrev pub is_operator_byte : ℕ → Bool
-is_operator_byte b = is_among (codes "+-/\\*~<>=@%&?,") b
+abbrev pub operator_bytes : List ℕ
+operator_bytes = codes "+-/\\*~<>=@%&?,"
 
--- the first byte of an operator, or | alone
+abbrev pub is_operator_byte : ℕ → Bool
+is_operator_byte b = is_among operator_bytes b
+
+-- an operator begins with one of these, or is | alone
 abbrev pub begins_operator : ℕ → Bool
-begins_operator b = is_operator_byte b || b == byte "|"
+begins_operator b = is_among (byte "|" ∷ operator_bytes) b
 
 -- the second byte of an operator, which is no -
 abbrev pub is_second_operator_byte : ℕ → Bool
 is_second_operator_byte b = is_operator_byte b && not (b == byte "-")
 
 -- what is a token alone, and no operator
+abbrev pub mark_bytes : List ℕ
+mark_bytes = codes "^.;:_()[]"
+
 abbrev pub is_mark : ℕ → Bool
-is_mark b = is_among (codes "^.;:_()[]") b
+is_mark b = is_among mark_bytes b

@@ -103,7 +103,7 @@ front_of signs (b ∷ bs) =
     else (if b == byte "\"" then comment_to (position (λ c. c == byte "\"") bs) bs
     else (if is_ascii_alphabetic b then word_at (b ∷ bs)
     else (if is_ascii_digit b then number_at false (b ∷ bs)
-    else (if signs && (b == byte "-" && begins is_ascii_digit bs) then number_at true bs
+    else (if b == byte "-" && begins is_ascii_digit bs && signs then number_at true bs
     else (if begins_operator b then piece (operator (operator_of (b ∷ bs)))
     else (if is_mark b then mark_at b bs
     else (if b == byte "$" then character_at bs

@@ -71,10 +71,14 @@ spelling (mark m) = m
 
 -- FORMS
 
+-- the first byte, if there is one, passes
+abbrev pub begins : (ℕ → Bool) → List ℕ → Bool
+begins p [] = false
+begins p (b ∷ bs) = p b
+
 -- letters and digits, a letter first
 abbrev pub is_name : List ℕ → Bool
-is_name [] = false
-is_name (b ∷ bs) = is_ascii_alphabetic b && list_all is_ascii_alphanumeric bs
+is_name bs = begins is_ascii_alphabetic bs && list_all is_ascii_alphanumeric bs
 
 -- one or two operator bytes, the second no -, or | alone
 abbrev pub is_operator : List ℕ → Bool
@@ -111,11 +115,6 @@ is_good (radix rs ds) = fits 10 rs && nat_le 2 (digits_value 10 rs) && nat_le (d
 
 -- ENDS
 
--- the first byte behind, if there is one, passes
-abbrev pub begins : (ℕ → Bool) → List ℕ → Bool
-begins p [] = false
-begins p (b ∷ bs) = p b
-
 -- a name with a colon directly behind it, and no = next, is a keyword
 abbrev pub makes_keyword : List ℕ → Bool
 makes_keyword [] = false
@@ -146,7 +145,7 @@ operator_ends _ rest = true
 
 -- where a sign may stand, a - directly before a digit is one
 abbrev pub is_sign : Bool → List ℕ → List ℕ → Bool
-is_sign signs (b ∷ []) rest = signs && b == byte "-" && begins is_ascii_digit rest
+is_sign signs (b ∷ []) rest = b == byte "-" && begins is_ascii_digit rest && signs
 is_sign signs _ rest = false
 
 -- a colon goes on with =

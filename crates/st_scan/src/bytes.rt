@@ -27,7 +27,7 @@ pub fn is_operator_byte(b: u8) -> bool
 pub fn begins_operator(b: u8) -> bool
     ensures { result ≡ begins_operator b }
 {
-    is_operator_byte(b) || b == b'|'
+    b == b'|' || is_operator_byte(b)
 }
 
 pub fn is_second_operator_byte(b: u8) -> bool

@@ -37,7 +37,7 @@ pub fn front_of(signs: bool, text: &[u8]) -> Front
         word(text)
     } else if first.is_ascii_digit() {
         number(false, text)
-    } else if signs && is_sign(first, rest) {
+    } else if is_sign(first, rest) && signs {
         number(true, rest)
     } else if begins_operator(first) {
         Front::Token(operator(text), Sort::Operator)
