@@ -23,6 +23,9 @@ letter-high b e = elim (or_cases (is_in_range 65 90 b) (is_in_range 97 122 b) e)
   | inr l ↦ let r = in_range 97 122 b l in omega arith
 ]
 
+pub letter-no_equals : (b : ℕ) → is_ascii_alphabetic b ≡ true → eqb b (byte "=") ≡ false
+letter-no_equals b e = let high = letter-high b e in ne_eqb b 61 (λ s. omega arith)
+
 or_first : (x y : Bool) → x ≡ true → (x || y) ≡ true
 or_first x y e = rw e refl
 
@@ -95,7 +98,7 @@ pub record Nothing (b : ℕ) : Type 0 where
   pub string : eqb b (byte "'") ≡ false
   pub hash : eqb b (byte "#") ≡ false
 
-neither : (x y : Bool) → (x || y) ≡ false → (x ≡ false) × (y ≡ false)
+pub neither : (x y : Bool) → (x || y) ≡ false → (x ≡ false) × (y ≡ false)
 neither true y e = absurd cc
 neither false y e = (refl, e)
 

@@ -16,11 +16,11 @@ pub record Kept (text : List ℕ) (i : ℕ) : Type 0 where
 pub kept_first : (text : List ℕ) → Kept text 0
 kept_first text = record { bound = length text; enough = omega arith; within = omega arith; so_far = omega arith }
 
-keywords-more : (n : ℕ) (bs : List ℕ) → begins_keyword bs ≡ true → keywords_of (suc n) bs ≡ take (prefix_len is_ascii_alphanumeric bs) bs ∷ keywords_of n (drop (prefix_len is_ascii_alphanumeric bs + 1) bs)
+pub keywords-more : (n : ℕ) (bs : List ℕ) → begins_keyword bs ≡ true → keywords_of (suc n) bs ≡ take (prefix_len is_ascii_alphanumeric bs) bs ∷ keywords_of n (drop (prefix_len is_ascii_alphanumeric bs + 1) bs)
 unfolding keywords_of
 keywords-more n bs e = rw e refl
 
-keywords-none : (n : ℕ) (bs : List ℕ) → begins_keyword bs ≡ false → keywords_of n bs ≡ []
+pub keywords-none : (n : ℕ) (bs : List ℕ) → begins_keyword bs ≡ false → keywords_of n bs ≡ []
 unfolding keywords_of
 keywords-none zero bs e = refl
 keywords-none (suc n) bs e = rw e refl

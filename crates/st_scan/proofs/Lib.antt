@@ -1,5 +1,6 @@
 pub mod Choices
 pub mod Classes
+pub mod Complete
 pub mod Keywords
 pub mod Numerals
 pub mod Prefixes

@@ -34,11 +34,11 @@ module _ (p : ℕ → Bool) where
   some-prefix [] e = absurd cc
   some-prefix (b ∷ bs) e = rw e (omega arith)
 
-  -- a first byte that passes is the first of a front
-  pub begins-take : (q : ℕ → Bool) (n : ℕ) (bs : List ℕ) → 0 < n → begins q bs ≡ true → begins q (take n bs) ≡ true
-  begins-take q n [] pos e = absurd cc
-  begins-take q n (b ∷ bs) pos e = let one : n ≡ suc (n - 1) = omega arith in rw one e
+-- a first byte that passes is the first of a front
+pub begins-take : (p : ℕ → Bool) (n : ℕ) (bs : List ℕ) → 0 < n → begins p bs ≡ true → begins p (take n bs) ≡ true
+begins-take p n [] pos e = absurd cc
+begins-take p n (b ∷ bs) pos e = let one : n ≡ suc (n - 1) = omega arith in rw one e
 
-  pub begins-append : (q : ℕ → Bool) (bs rest : List ℕ) → begins q bs ≡ true → begins q (bs ++ rest) ≡ true
-  begins-append q [] rest e = absurd cc
-  begins-append q (b ∷ bs) rest e = e
+pub begins-append : (p : ℕ → Bool) (bs rest : List ℕ) → begins p bs ≡ true → begins p (bs ++ rest) ≡ true
+begins-append p [] rest e = absurd cc
+begins-append p (b ∷ bs) rest e = e

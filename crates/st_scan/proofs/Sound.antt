@@ -65,7 +65,7 @@ module _ (text : List ℕ) (letter : begins is_ascii_alphabetic text ≡ true) w
   word-name =
       let n = prefix_len is_ascii_alphanumeric text in
       let some = some-prefix is_ascii_alphanumeric text (first-alphanumeric text letter) in
-      and_from (begins is_ascii_alphabetic (take n text)) _ (begins-take is_ascii_alphanumeric is_ascii_alphabetic n text some letter) (all-prefix is_ascii_alphanumeric text)
+      and_from (begins is_ascii_alphabetic (take n text)) _ (begins-take is_ascii_alphabetic n text some letter) (all-prefix is_ascii_alphanumeric text)
 
   -- a keyword with its colon, and what stands behind it
   pub keyword-parts : makes_keyword (drop (prefix_len is_ascii_alphanumeric text) text) ≡ true → (take (prefix_len is_ascii_alphanumeric text) text ++ byte ":" ∷ []) ++ drop (prefix_len is_ascii_alphanumeric text + 1) text ≡ text
