@@ -4,5 +4,6 @@ pub mod Complete
 pub mod Keywords
 pub mod Numerals
 pub mod Prefixes
+pub mod Scanning
 pub mod Sound
 pub mod Strings

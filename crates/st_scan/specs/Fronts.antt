@@ -1,5 +1,5 @@
 -- What a scanner finds at the front of a text: the piece that stands there, or the cause why none does.
-use Rattle.std.specs.Prelude.{ℕ, zero, suc, ◌+◌, Bool, true, false, not, ◌&&◌, ◌||◌, ◌==◌, if◌then◌else◌, List, [], ◌∷◌, length, take, drop, position, Option, Some, None}
+use Rattle.std.specs.Prelude.{ℕ, zero, suc, ◌+◌, ◌<◌, ◌≤◌, Bool, true, false, not, ◌&&◌, ◌||◌, ◌==◌, if◌then◌else◌, List, [], ◌∷◌, length, take, drop, position, Option, Some, None}
 use Rattle.std.specs.List.{prefix_len}
 use Rattle.std.specs.Option.{option_map}
 use Rattle.std.specs.Str.{byte}
@@ -25,6 +25,12 @@ shown_piece (Some sort) n = fronts.Token n sort
 abbrev pub shown : Found → Front
 shown (piece p) = shown_piece (sort_of p) (length (spelling p))
 shown (fault cause) = fronts.Fault cause
+
+-- a front has a byte or more, and no more than there are
+abbrev pub IsWithin : ℕ → Front → Type 0
+IsWithin most (fronts.Gap n) = (0 < n) × (n ≤ most)
+IsWithin most (fronts.Token n sort) = (0 < n) × (n ≤ most)
+IsWithin most (fronts.Fault cause) = Unit {0}
 
 -- the comment whose second quote, if it has one, stands at this place behind the first
 abbrev pub comment_to : Option ℕ → List ℕ → Found

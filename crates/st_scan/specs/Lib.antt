@@ -1,4 +1,5 @@
 pub mod Bytes
+pub mod Contexts
 pub mod Faults
 pub mod Fronts
 pub mod Numerals

@@ -5,6 +5,8 @@ use Rattle.st_tree.specs.declared.token.Token.{Token}
 use Rattle.st_tree.specs.declared.token.Sort.{Sort}
 use Rattle.st_tree.specs.declared.token.Sort.TheVariants as sorts
 use Rattle.st_tree.specs.declared.fault.Fault.{Fault}
+use Rattle.st_tree.specs.declared.fault.SyntaxFault.{SyntaxFault}
+use Rattle.st_tree.specs.declared.fault.SyntaxFault.TheVariants.{At, OutOfMemory}
 use Rattle.st_tree.specs.Causes.{cause_number}
 use Rattle.st_scan.specs.Pieces.{Piece, blank, comment, name, keyword, operator, number, character, string, symbol, opening, mark, spelling, size, begins, Stands}
 use Rattle.st_scan.specs.Faults.{IsFaulty}
@@ -107,3 +109,7 @@ HasTokens text tokens = ScansTo text tokens None
 -- the scanner's first fault in the text, by place and number
 abbrev pub HasFault : List ℕ → ℕ → ℕ → Type 0
 HasFault text place cause = (tokens : List Token) × (fault : Fault) × ScansTo text tokens (Some fault) × (fault.place ≡ place) × (cause_number fault.cause ≡ cause)
+
+abbrev pub IsFaultOf : List ℕ → SyntaxFault → Type 0
+IsFaultOf text (At place cause) = HasFault text place cause
+IsFaultOf text OutOfMemory = Unit {0}
