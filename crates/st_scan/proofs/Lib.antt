@@ -3,7 +3,9 @@ pub mod Classes
 pub mod Complete
 pub mod Keywords
 pub mod Numerals
+pub mod One
 pub mod Prefixes
 pub mod Scanning
 pub mod Sound
+pub mod Spans
 pub mod Strings

@@ -20,7 +20,7 @@ use Rattle.st_scan.proofs.Sound.{StandsFirst, IsFront, sound}
 
 -- PIECES HAVE BYTES
 
-digits_some : (ds : Digits) → are_digits ds ≡ true → 0 < length (digits_text ds)
+pub digits_some : (ds : Digits) → are_digits ds ≡ true → 0 < length (digits_text ds)
 digits_some (decimal ds) e = ltb-true 0 (length ds) (and_parts (ltb 0 (length ds)) _ e).0
 digits_some (radix rs ds) e = omega (arith, length-append rs (114 ∷ ds))
 

@@ -1,5 +1,5 @@
 -- A text as blanks, comments and tokens one after the other, up to its end or its first fault.
-use Rattle.std.specs.Prelude.{◌≡◌, ℕ, ◌+◌, ◌-◌, Bool, true, false, not, ◌&&◌, ◌||◌, ◌==◌, nat_lt, if◌then◌else◌, List, [], ◌∷◌, ◌++◌, length, Option, Some, None}
+use Rattle.std.specs.Prelude.{◌≡◌, ℕ, ◌+◌, ◌-◌, ◌<◌, ◌≤◌, Bool, true, false, not, ◌&&◌, ◌||◌, ◌==◌, nat_lt, if◌then◌else◌, List, [], ◌∷◌, ◌++◌, length, drop, slice_range, Option, Some, None}
 use Rattle.std.specs.Str.{byte}
 use Rattle.st_tree.specs.declared.token.Token.{Token}
 use Rattle.st_tree.specs.declared.token.Sort.{Sort}
@@ -86,6 +86,23 @@ abbrev pub tokens_from : ℕ → List Piece → List Token
 tokens_from at [] = []
 tokens_from at (p ∷ ps) = with_token at (length (spelling p)) (sort_of p) (tokens_from (at + length (spelling p)) ps)
 
+-- The tokens lie one behind the other, from a place on and up to another, and each has a byte or more.
+abbrev pub AreSpans : ℕ → List Token → ℕ → Type 0
+AreSpans from [] to = from ≤ to
+AreSpans from (t ∷ ts) to = (from ≤ t.start) × (t.start < t.end) × AreSpans t.end ts to
+
+-- the bytes of a token, by its span
+abbrev pub token_text : List ℕ → Token → List ℕ
+token_text text t = slice_range text t.start t.end
+
+-- the bytes at a token's span are a piece of its sort, before the rest of the text
+pub record IsToken (text : List ℕ) (t : Token) : Type 0 where
+  pub which : Piece
+  pub sign : Bool
+  pub stands : Stands sign which (drop t.end text)
+  pub is_sort : sort_of which ≡ Some t.sort
+  pub is_text : spelling which ≡ token_text text t
+
 -- SCANS
 
 -- behind pieces of so many bytes the text ends, or it has its first fault
@@ -101,6 +118,12 @@ pub record ScansTo (text : List ℕ) (tokens : List Token) (fault : Option Fault
   pub stand : AllStand start pieces rest
   pub are_tokens : tokens_from 0 pieces ≡ tokens
   pub ends : EndsBy (after_all start pieces) (length (joined pieces)) rest fault
+
+-- some tokens, up to the end or a fault
+pub record HasScan (text : List ℕ) : Type 0 where
+  pub tokens : List Token
+  pub fault : Option Fault
+  pub scan : ScansTo text tokens fault
 
 -- the text has no fault, and these tokens
 abbrev pub HasTokens : List ℕ → List Token → Type 0

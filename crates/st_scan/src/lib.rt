@@ -3,10 +3,12 @@
 
 mod bytes;
 mod front;
+mod laws;
 mod number;
 mod scanner;
 mod string;
 mod word;
 
+pub use laws::{one_scan, token_spans};
 pub use number::LIMIT;
 pub use scanner::{Scanned, scan, tokens};

@@ -2,7 +2,7 @@
 
 ghost use Rattle.std.specs.Prelude.{◌≡◌, ◌<◌, ◌≤◌, ◌-◌, ◌^◌, IfOk, IfErr, length};
 ghost use Rattle.st_scan.specs.Fronts.{shown, front_of, IsWithin};
-ghost use Rattle.st_scan.specs.Scans.{ScansTo, HasTokens, IsFaultOf, signs};
+ghost use Rattle.st_scan.specs.Scans.{ScansTo, HasTokens, AreSpans, IsFaultOf, signs};
 ghost use Rattle.st_scan.specs.Contexts.{context_of, is_operand_token, depth_behind};
 
 use crate::front::{Front, front_of};
@@ -69,7 +69,8 @@ fn next(context: Context, rest: &[u8]) -> Front
 /// The tokens of a text up to its first fault, with that fault.
 pub fn scan(alloc: Global, text: &[u8]) -> Result<Scanned, AllocError>
     requires { length text.now ≤ 2 ^ 32 - 2 }
-    ensures { IfOk result (λ s. ScansTo text.now s.tokens.items s.fault) }
+    ensures exact { IfOk result (λ s. ScansTo text.now s.tokens.items s.fault) }
+    ensures spans { IfOk result (λ s. AreSpans 0 s.tokens.items (length text.now)) }
 {
     let mut tokens = Vec::new(alloc);
     let mut context = Context {
@@ -111,6 +112,7 @@ pub fn scan(alloc: Global, text: &[u8]) -> Result<Scanned, AllocError>
 pub fn tokens(alloc: Global, text: &[u8]) -> Result<TokenList, SyntaxFault>
     requires { length text.now ≤ 2 ^ 32 - 2 }
     ensures tokens { IfOk result (λ tokens. HasTokens text.now tokens.items) }
+    ensures spans { IfOk result (λ tokens. AreSpans 0 tokens.items (length text.now)) }
     ensures fault { IfErr result (IsFaultOf text.now) }
 {
     let scanned = scan(alloc, text)?;

@@ -1,7 +1,8 @@
 use Rattle.std.proofs.Common.{refl}
 use Rattle.std.proofs.lemmas.List.{take_rest}
 use Rattle.st_scan.specs.Contexts.{context_of}
-use Rattle.st_scan.proofs.Scanning.{kept_gap, kept_token, kept_fault}
+use Rattle.st_scan.proofs.Scanning.{kept_gap, kept_token, kept_fault, kept_end}
+use Rattle.st_scan.proofs.Spans.{spans}
 use Rattle.st_scan.proofs.scanner.scan.Goals as goal
 
 pub loop-at-preserved-in-Gap : goal.loop-at-preserved-in-Gap
@@ -19,4 +20,9 @@ loop-at-preserved c =
 pub returns-in-Fault : goal.returns-in-Fault
 returns-in-Fault c =
     let front = rw take_rest at c.in-Fault.ensures.exact in
-    kept_fault c.args.text.now c.loop-at.tokens.items (context_of c.loop-at.context) c.loop-at.at c.loop-at.invariant c.in-Fault.cause _ c.loop-at-test.true refl front
+    let exact = kept_fault c.args.text.now c.loop-at.tokens.items (context_of c.loop-at.context) c.loop-at.at c.loop-at.invariant c.in-Fault.cause _ c.loop-at-test.true refl front in
+    record { exact = exact; spans = spans c.args.text.now c.loop-at.tokens.items _ exact }
+
+pub returns-clause-spans : goal.returns-clause-spans
+returns-clause-spans c =
+    spans c.args.text.now c.loop-at.tokens.items _ (kept_end c.args.text.now c.loop-at.tokens.items (context_of c.loop-at.context) c.loop-at.at c.loop-at.invariant c.loop-at-test.false)
