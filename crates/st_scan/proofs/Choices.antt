@@ -1,16 +1,14 @@
 -- Where the front of a text is looked for, by its first byte.
-use Rattle.std.proofs.Common.{◌≡◌, ℕ, Bool, true, false, cond, eqb, ◌||◌, ◌&&◌, not, List, [], ◌∷◌, refl, ap, ◌∙◌}
-use Rattle.std.specs.List.{list_any}
+use Rattle.std.proofs.Common.{◌≡◌, ℕ, Bool, true, false, eqb, ◌&&◌, List, ◌∷◌, refl}
 use Rattle.std.specs.Prelude.{position}
 use Rattle.std.specs.Str.{byte}
 use Rattle.std.specs.Char.{is_ascii_digit, is_ascii_alphabetic}
-use Rattle.std.proofs.lemmas.Bool.{not-true, eqb-true}
 use Rattle.st_tree.specs.declared.fault.Cause.TheVariants as causes
 use Rattle.st_scan.specs.Bytes.{is_blank, begins_operator, is_mark}
 use Rattle.st_scan.specs.Pieces.{blank, operator, begins}
 use Rattle.st_scan.specs.Faults.{begins_piece}
-use Rattle.st_scan.specs.Fronts.{Found, piece, fault, front_of, comment_to, word_at, number_at, operator_of, mark_at, character_at, string_of, inside_of, hash_at}
-use Rattle.st_scan.proofs.Classes.{Inked, Sign, letter-inked, digit-inked, operator-sign, mark-sign, nothing_of}
+use Rattle.st_scan.specs.Fronts.{piece, fault, front_of, comment_to, word_at, number_at, operator_of, mark_at, character_at, string_of, inside_of, hash_at}
+use Rattle.st_scan.proofs.Classes.{letter-inked, digit-inked, operator-sign, mark-sign, nothing_of}
 
 module _ (signs : Bool) (bs : List ℕ) where
   pub front-blank : (b : ℕ) → is_blank b ≡ true → front_of signs (b ∷ bs) ≡ piece (blank b)

@@ -1,23 +1,23 @@
 -- What stands at the front of a text is found there.
-use Rattle.std.proofs.Common.{◌≡◌, ℕ, zero, suc, ◌+◌, ◌-◌, ◌<◌, ◌≤◌, Bool, true, false, cond, eqb, ltb, ◌||◌, ◌&&◌, not, List, [], ◌∷◌, ◌++◌, length, get_or, take, drop, Option, Some, None, refl, sym, ap, ◌∙◌, subst, arith, inl, inr, append_assoc, length-append, length-drop, add-one}
-use Rattle.std.specs.Prelude.{position, IsTrue, IsFalse}
+use Rattle.std.proofs.Common.{◌≡◌, ℕ, zero, suc, ◌+◌, ◌≤◌, Bool, true, false, eqb, ltb, ◌||◌, ◌&&◌, not, List, [], ◌∷◌, ◌++◌, length, drop, Some, None, refl, sym, ap, ◌∙◌, arith, inl, inr, append_assoc, length-append}
+use Rattle.std.specs.Prelude.{position}
 use Rattle.std.specs.List.{list_all, prefix_len}
 use Rattle.std.specs.Option.{option_map}
 use Rattle.std.specs.Str.{byte}
 use Rattle.std.specs.Char.{is_ascii_digit, is_ascii_alphabetic, is_ascii_alphanumeric}
-use Rattle.std.proofs.lemmas.Bool.{false≢true, cases_Bool, and_parts, and_cases, and_from, and_left, and_right, or_cases, not-true, not-false, eqb-true, eq-eqb, lt-ltb, le-ltb, both_ways}
+use Rattle.std.proofs.lemmas.Bool.{cases_Bool, and_parts, and_from, and_left, and_right, or_cases, not-true, eqb-true, lt-ltb, le-ltb}
 use Rattle.std.proofs.lemmas.List.{append-nil, drop-drop}
 use Rattle.std.proofs.Math.Seq.{take-append_seam, drop-append_seam}
 use Rattle.st_tree.specs.declared.fault.Cause.{Cause}
 use Rattle.st_tree.specs.declared.fault.Cause.TheVariants as causes
-use Rattle.st_scan.specs.Bytes.{is_blank, is_radix_digit, is_operator_byte, is_second_operator_byte, begins_operator, is_mark}
-use Rattle.st_scan.specs.Pieces.{Digits, decimal, radix, Symbol, unary, keywords, binary, Piece, blank, comment, name, keyword, operator, number, character, string, symbol, opening, mark, digits_text, sign_text, keywords_text, symbol_text, doubled, spelling, is_name, is_operator, operator_ends, is_sign, is_mark_text, mark_ends, begins, begins_keyword, makes_keyword, makes_radix, makes_float, is_good, some_pass, are_digits, digits_end, IsNumber, SymbolStands, Stands}
-use Rattle.st_scan.specs.Faults.{IsFaulty, IsUnclosed, StartsWithNumber, begins_nothing, begins_piece, goes_with_hash}
-use Rattle.st_scan.specs.Fronts.{Found, piece, fault, front_of, comment_to, word_at, number_before, number_at, operator_of, inside_of, string_of, keywords_of, selector_at, hash_at, character_at, mark_at}
+use Rattle.st_scan.specs.Bytes.{is_radix_digit, is_operator_byte, is_second_operator_byte, begins_operator}
+use Rattle.st_scan.specs.Pieces.{Digits, decimal, radix, Symbol, unary, keywords, binary, Piece, blank, comment, name, keyword, operator, number, character, string, symbol, opening, mark, digits_text, keywords_text, symbol_text, doubled, spelling, is_name, is_operator, operator_ends, is_sign, is_mark_text, mark_ends, begins, begins_keyword, makes_keyword, makes_radix, some_pass, are_digits, digits_end, IsNumber, SymbolStands, Stands}
+use Rattle.st_scan.specs.Faults.{IsFaulty, begins_nothing, begins_piece, goes_with_hash}
+use Rattle.st_scan.specs.Fronts.{piece, fault, front_of, comment_to, word_at, number_before, number_at, operator_of, inside_of, string_of, keywords_of, selector_at, hash_at, character_at, mark_at}
 use Rattle.st_scan.proofs.Prefixes.{prefix-all, begins-append}
 use Rattle.st_scan.proofs.Keywords.{keywords-more, keywords-none}
 use Rattle.st_scan.proofs.Strings.{inside-other, inside-pair, inside-end}
-use Rattle.st_scan.proofs.Classes.{letter-alphanumeric, letter-no_equals, or_second, neither, operator-sign}
+use Rattle.st_scan.proofs.Classes.{letter-no_equals, or_second, neither, operator-sign}
 use Rattle.st_scan.proofs.Choices.{front-blank, front-comment, front-word, front-number, front-minus, front-operator, front-mark, front-character, front-string, front-hash, front-nothing}
 
 -- COMMENTS
@@ -73,7 +73,7 @@ number-found minus (radix rs ds) rest form ends =
     let n : prefix_len is_ascii_digit (rs ++ (byte "r" ∷ more)) ≡ length rs = prefix-all is_ascii_digit rs (byte "r" ∷ more) (and_parts (ltb 0 (length rs)) _ forms.0).1 refl in
     let m : prefix_len is_radix_digit more ≡ length ds = prefix-all is_radix_digit ds rest (and_parts (ltb 0 (length ds)) _ forms.1).1 (not-true _ ends) in
     rw append_assoc (
-      rw (n, drop-append_seam rs (byte "r" ∷ more), take-append_seam rs (byte "r" ∷ more), begins-some is_radix_digit ds rest forms.1, m, drop-append_seam ds rest, take-append_seam ds rest) refl
+    rw (n, drop-append_seam rs (byte "r" ∷ more), take-append_seam rs (byte "r" ∷ more), begins-some is_radix_digit ds rest forms.1, m, drop-append_seam ds rest, take-append_seam ds rest) refl
     )
 
 digits-begin : (ds : Digits) (rest : List ℕ) → are_digits ds ≡ true → begins is_ascii_digit (digits_text ds ++ rest) ≡ true
@@ -186,8 +186,8 @@ keywords-found (suc n) (k ∷ ns) rest le names ends last =
     let no_equals = keywords-no_equals ns rest parts.1 ends in
     let shorter : length more ≤ n = omega (arith, ap length (append_assoc k (byte ":" ∷ keywords_text ns) rest), length-append k (byte ":" ∷ more)) in
     rw append_assoc (
-      keywords-more n (k ++ (byte ":" ∷ more)) (keyword-begins k more parts.0 no_equals)
-      ∙ rw (name-letters k (byte ":" ∷ more) parts.0 refl, take-append_seam k (byte ":" ∷ more), behind-keyword k more) (ap (λ ks. k ∷ ks) (keywords-found n ns rest shorter parts.1 ends last))
+    keywords-more n (k ++ (byte ":" ∷ more)) (keyword-begins k more parts.0 no_equals)
+    ∙ rw (name-letters k (byte ":" ∷ more) parts.0 refl, take-append_seam k (byte ":" ∷ more), behind-keyword k more) (ap (λ ks. k ∷ ks) (keywords-found n ns rest shorter parts.1 ends last))
     )
 
 keywords-selector : (n rest : List ℕ) (ns : List (List ℕ)) → list_all is_name (n ∷ ns) ≡ true → begins (λ c. eqb c (byte "=")) rest ≡ false → begins_keyword rest ≡ false → selector_at (keywords_text (n ∷ ns) ++ rest) ≡ keywords n ns
@@ -197,8 +197,8 @@ keywords-selector n rest ns names ends last =
     let more = keywords_text ns ++ rest in
     let no_equals = keywords-no_equals ns rest parts.1 ends in
     rw append_assoc (
-      rw (keyword-begins n more parts.0 no_equals, name-letters n (byte ":" ∷ more) parts.0 refl, take-append_seam n (byte ":" ∷ more), behind-keyword n more)
-      (ap (λ ks. keywords n ks) (keywords-found (length more) ns rest (omega arith) parts.1 ends last))
+    rw (keyword-begins n more parts.0 no_equals, name-letters n (byte ":" ∷ more) parts.0 refl, take-append_seam n (byte ":" ∷ more), behind-keyword n more)
+    (ap (λ ks. keywords n ks) (keywords-found (length more) ns rest (omega arith) parts.1 ends last))
     )
 
 hash-letter : (bs : List ℕ) → begins is_ascii_alphabetic bs ≡ true → hash_at bs ≡ piece (symbol (selector_at bs))

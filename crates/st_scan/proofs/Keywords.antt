@@ -1,5 +1,5 @@
 -- Keywords directly behind one another.
-use Rattle.std.proofs.Common.{◌≡◌, ℕ, zero, suc, ◌+◌, ◌-◌, ◌<◌, ◌≤◌, Bool, true, false, List, [], ◌∷◌, ◌++◌, length, take, drop, refl, sym, ap, ◌∙◌, arith, length-append, length-drop}
+use Rattle.std.proofs.Common.{◌≡◌, ℕ, zero, suc, ◌+◌, ◌-◌, ◌≤◌, true, false, List, [], ◌∷◌, length, take, drop, refl, ap, ◌∙◌, arith, length-append, length-drop}
 use Rattle.std.specs.List.{prefix_len}
 use Rattle.std.specs.Char.{is_ascii_alphanumeric}
 use Rattle.std.proofs.lemmas.List.{drop-drop}
@@ -59,12 +59,12 @@ selector-keywords text rest n m e is behind count =
     let others = drop (k + 1) text in
     let same : rest ≡ others = behind ∙ ap (λ (j : ℕ). drop j text) is in
     rw e (
-      omega (
-        arith,
-        is,
-        count,
-        ap (λ (l : List ℕ). length (keywords_text (keywords_of (length l) l))) same,
-        length-prefix_len is_ascii_alphanumeric text,
-        length-append (take k text) (58 ∷ keywords_text (keywords_of (length others) others)),
-      )
+    omega (
+      arith,
+      is,
+      count,
+      ap (λ (l : List ℕ). length (keywords_text (keywords_of (length l) l))) same,
+      length-prefix_len is_ascii_alphanumeric text,
+      length-append (take k text) (58 ∷ keywords_text (keywords_of (length others) others)),
+    )
     )

@@ -1,12 +1,10 @@
 -- A text has one scan.
-use Rattle.std.proofs.Common.{◌≡◌, ℕ, zero, suc, ◌+◌, ◌-◌, ◌<◌, ◌≤◌, Bool, true, false, List, [], ◌∷◌, ◌++◌, length, drop, Option, Some, None, refl, sym, ap, ◌∙◌, subst, arith, inl, inr, append_assoc, length-append}
-use Rattle.std.proofs.lemmas.List.{append-nil}
-use Rattle.std.proofs.Math.Seq.{drop-append_seam}
+use Rattle.std.proofs.Common.{◌≡◌, ℕ, zero, suc, ◌+◌, ◌<◌, ◌≤◌, Bool, true, List, [], ◌∷◌, ◌++◌, length, drop, Option, Some, None, refl, sym, ap, ◌∙◌, subst, arith, inl, inr, append_assoc, length-append}
 use Rattle.st_tree.specs.declared.token.Token.{Token}
 use Rattle.st_tree.specs.declared.fault.Fault.{Fault}
 use Rattle.st_tree.specs.declared.fault.Cause.{Cause}
 use Rattle.st_tree.specs.declared.fault.Cause.TheVariants as causes
-use Rattle.st_scan.specs.Pieces.{Digits, decimal, radix, Piece, spelling, number, doubled, sign_text, digits_text, are_digits, Stands}
+use Rattle.st_scan.specs.Pieces.{Digits, Piece, spelling, number, sign_text, digits_text, are_digits, Stands}
 use Rattle.st_scan.specs.Faults.{IsFaulty}
 use Rattle.st_scan.specs.Scans.{Context, start, signs, after, after_all, joined, AllStand, tokens_from, EndsBy, ScansTo, HasScan}
 use Rattle.st_scan.specs.Fronts.{Found, piece, fault, front_of}
@@ -75,8 +73,7 @@ same_end c at r (Some e) (Some f) one two =
 pub one : (text : List ℕ) (ts us : List Token) (e f : Option Fault) → ScansTo text ts e → ScansTo text us f → (ts ≡ us) × (e ≡ f)
 one text ts us e f x y =
     let s = same start _ _ x.pieces y.pieces x.rest y.rest e f (x.parts ∙ sym y.parts) x.stand y.stand x.ends y.ends in
-    let ends = subst (λ ps. EndsBy (after_all start ps) (length (joined ps)) y.rest f) (sym s.pieces) (y.ends) in
-    (
+    let ends = subst (λ ps. EndsBy (after_all start ps) (length (joined ps)) y.rest f) (sym s.pieces) (y.ends) in (
       sym x.are_tokens ∙ ap (tokens_from 0) s.pieces ∙ y.are_tokens,
       same_end (after_all start x.pieces) (length (joined x.pieces)) y.rest e f (subst (λ (l : List ℕ). EndsBy (after_all start x.pieces) (length (joined x.pieces)) l e) s.rest x.ends) ends,
     )

@@ -1,8 +1,8 @@
 -- The bytes that pass a test from the front on.
-use Rattle.std.proofs.Common.{◌≡◌, ℕ, suc, ◌+◌, ◌-◌, ◌<◌, Bool, true, false, cond, ◌&&◌, List, [], ◌∷◌, ◌++◌, length, take, drop, refl, sym, ap, ◌∙◌, arith, inl, inr}
+use Rattle.std.proofs.Common.{◌≡◌, ℕ, suc, ◌+◌, ◌-◌, ◌<◌, Bool, true, false, List, [], ◌∷◌, ◌++◌, length, take, drop, refl, arith, inl, inr}
 use Rattle.std.specs.List.{list_all, prefix_len}
 use Rattle.std.proofs.lemmas.Bool.{cases_Bool, and_parts}
-use Rattle.st_scan.specs.Pieces.{begins, some_pass}
+use Rattle.st_scan.specs.Pieces.{begins}
 
 module _ (p : ℕ → Bool) where
   pub all-prefix : (bs : List ℕ) → list_all p (take (prefix_len p bs) bs) ≡ true

@@ -1,5 +1,5 @@
 -- What the loop over a text keeps.
-use Rattle.std.proofs.Common.{◌≡◌, ℕ, zero, suc, ◌+◌, ◌-◌, ◌<◌, ◌≤◌, Bool, true, false, cond, eqb, ltb, ◌&&◌, List, [], ◌∷◌, ◌++◌, length, get_or, take, drop, slice_index, Option, Some, None, refl, sym, ap, ◌∙◌, subst, arith, append_assoc, length-append, length-drop}
+use Rattle.std.proofs.Common.{◌≡◌, ℕ, ◌+◌, ◌-◌, ◌<◌, ◌≤◌, Bool, true, false, cond, eqb, ltb, ◌&&◌, List, [], ◌∷◌, ◌++◌, length, get_or, drop, Option, Some, None, refl, sym, ap, ◌∙◌, subst, arith, append_assoc, length-append, length-drop}
 use Rattle.std.specs.Str.{byte}
 use Rattle.std.proofs.lemmas.Bool.{ltb-true, and_parts}
 use Rattle.std.proofs.lemmas.List.{append-nil, drop-drop, nil_from_length}
@@ -7,14 +7,13 @@ use Rattle.std.proofs.Math.Seq.{drop-append_seam}
 use Rattle.st_tree.specs.declared.token.Token.{Token}
 use Rattle.st_tree.specs.declared.token.Sort.{Sort}
 use Rattle.st_tree.specs.declared.token.Sort.TheVariants as sorts
-use Rattle.st_tree.specs.declared.fault.Fault.{Fault}
 use Rattle.st_tree.specs.declared.fault.Cause.{Cause}
 use Rattle.st_scan.specs.declared.front.Front.{Front}
 use Rattle.st_scan.specs.declared.front.Front.TheVariants as fronts
-use Rattle.st_scan.specs.Pieces.{Digits, decimal, radix, Symbol, unary, keywords, binary, Piece, blank, comment, name, keyword, operator, number, character, string, symbol, opening, mark, digits_text, sign_text, spelling, size, is_name, some_pass, are_digits, begins, Stands}
-use Rattle.st_scan.specs.Scans.{Context, start, signs, after, after_all, depth_after, joined, AllStand, sort_of, with_token, tokens_from, EndsBy, ScansTo}
+use Rattle.st_scan.specs.Pieces.{Digits, decimal, radix, Piece, blank, comment, name, keyword, operator, number, character, string, symbol, opening, mark, digits_text, sign_text, spelling, size, are_digits, begins, Stands}
+use Rattle.st_scan.specs.Scans.{Context, start, signs, after, after_all, depth_after, joined, AllStand, sort_of, with_token, tokens_from, ScansTo}
 use Rattle.st_scan.specs.Faults.{IsFaulty}
-use Rattle.st_scan.specs.Contexts.{context_of, is_operand_token, depth_behind}
+use Rattle.st_scan.specs.Contexts.{is_operand_token, depth_behind}
 use Rattle.st_scan.specs.Fronts.{Found, piece, fault, shown, shown_piece, front_of, IsWithin}
 use Rattle.st_scan.proofs.Sound.{StandsFirst, IsFront, sound}
 

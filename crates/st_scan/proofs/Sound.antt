@@ -1,21 +1,21 @@
 -- What is found at the front of a text stands there.
-use Rattle.std.proofs.Common.{◌≡◌, ℕ, zero, suc, ◌+◌, ◌-◌, ◌<◌, ◌≤◌, Bool, true, false, cond, eqb, ltb, ◌||◌, ◌&&◌, not, List, [], ◌∷◌, ◌++◌, length, get_or, take, drop, Option, Some, None, refl, sym, ap, ◌∙◌, subst, arith, inl, inr, append_assoc, length-append, length-drop, add-one}
-use Rattle.std.specs.Prelude.{position, IsTrue, IsFalse}
+use Rattle.std.proofs.Common.{◌≡◌, ℕ, zero, suc, ◌+◌, ◌<◌, ◌≤◌, Bool, true, false, cond, eqb, ltb, ◌||◌, ◌&&◌, not, List, [], ◌∷◌, ◌++◌, length, take, drop, Option, Some, None, refl, sym, ap, ◌∙◌, subst, arith, inl, inr, append_assoc, length-append}
+use Rattle.std.specs.Prelude.{position}
 use Rattle.std.specs.List.{list_all, prefix_len}
 use Rattle.std.specs.Option.{option_map}
 use Rattle.std.specs.Str.{byte}
 use Rattle.std.specs.Char.{is_ascii_digit, is_ascii_alphabetic, is_ascii_alphanumeric}
-use Rattle.std.proofs.lemmas.Bool.{false≢true, cases_Bool, and_parts, and_cases, and_from, or_cases, not-true, not-false, eqb-true, eq-eqb, ltb-true, ltb-false, lt-ltb, both_ways}
-use Rattle.std.proofs.lemmas.List.{take-append-drop, drop-drop, append-nil, length-take-le}
+use Rattle.std.proofs.lemmas.Bool.{false≢true, cases_Bool, and_parts, and_cases, and_from, or_cases, not-true, eqb-true, ltb-true, ltb-false, lt-ltb, both_ways}
+use Rattle.std.proofs.lemmas.List.{take-append-drop, drop-drop, length-take-le}
 use Rattle.std.proofs.lemmas.List.Sums.{split_at_first, passes_at_first, prefix_len-le-length}
 use Rattle.std.proofs.Math.Seq.{take-length}
 use Rattle.st_tree.specs.declared.fault.Cause.{Cause}
 use Rattle.st_tree.specs.declared.fault.Cause.TheVariants as causes
 use Rattle.st_scan.specs.Bytes.{is_blank, is_radix_digit, is_operator_byte, is_second_operator_byte, begins_operator, is_mark}
-use Rattle.st_scan.specs.Pieces.{Digits, decimal, radix, Symbol, unary, keywords, binary, Piece, blank, comment, name, keyword, operator, number, character, string, symbol, opening, mark, digits_text, sign_text, keywords_text, symbol_text, doubled, spelling, is_name, is_operator, operator_ends, is_sign, begins, begins_keyword, makes_keyword, makes_radix, makes_float, is_good, some_pass, are_digits, digits_end, IsNumber, SymbolStands, Stands}
-use Rattle.st_scan.specs.Faults.{IsFaulty, IsUnclosed, StartsWithNumber, begins_nothing, begins_piece}
+use Rattle.st_scan.specs.Pieces.{Digits, decimal, radix, unary, keywords, binary, Piece, blank, comment, name, keyword, operator, number, character, string, symbol, opening, mark, digits_text, sign_text, keywords_text, doubled, spelling, is_name, is_operator, operator_ends, is_sign, begins, begins_keyword, makes_keyword, makes_radix, makes_float, is_allowed, some_pass, are_digits, digits_end, IsNumber, Stands}
+use Rattle.st_scan.specs.Faults.{IsFaulty, StartsWithNumber, begins_nothing, begins_piece}
 use Rattle.st_scan.specs.Fronts.{Found, piece, fault, front_of, comment_to, word_at, number_before, number_at, operator_of, inside_of, string_of, keywords_of, selector_at, hash_at, character_at, mark_at}
-use Rattle.st_scan.proofs.Prefixes.{all-prefix, stops-prefix, prefix-all, some-prefix, begins-take}
+use Rattle.st_scan.proofs.Prefixes.{all-prefix, stops-prefix, some-prefix, begins-take}
 use Rattle.st_scan.proofs.Classes.{letter-alphanumeric, or_second, no_piece}
 
 -- a piece stands at the front of a text
@@ -112,7 +112,7 @@ comment-sound signs bs =
 before-sound : (signs minus : Bool) (ds : Digits) (rest : List ℕ) → IsNumber signs minus ds rest → Sound signs (spelling (number minus ds) ++ rest) (number_before minus ds rest)
 before-sound signs minus ds rest n =
     let starts : StartsWithNumber signs (spelling (number minus ds) ++ rest) ds rest = record { minus = minus; parts = refl; stands = n } in
-    chosen (is_good ds) _ _
+    chosen (is_allowed ds) _ _
     (λ good. chosen (makes_float rest) _ _ (λ float. faulty causes.Float (ds, rest, starts, good, float)) (λ plain. found (number minus ds) rest refl (n, good, plain)))
     (λ bad. faulty causes.Number (ds, rest, starts, bad))
 
@@ -144,15 +144,15 @@ module _ (signs minus : Bool) (text : List ℕ) (digit : begins is_ascii_digit t
       let first = some-digits is_ascii_digit text digit in
       chosen (makes_radix rest) _ _
       (λ t.
-          let r = begins_r rest t in
-          let parts : (take n text ++ byte "r" ∷ take m more) ++ drop m more ≡ text =
-          append_assoc (take n text) (byte "r" ∷ take m more) (drop m more)
-          ∙ ap (λ (l : List ℕ). take n text ++ (byte "r" ∷ l)) (take-append-drop m more)
-          ∙ ap (λ (l : List ℕ). take n text ++ l) (sym r.0)
-          ∙ take-append-drop n text in
-          behind (radix (take n text) (take m more)) (drop m more) (and_from _ _ first (some-digits is_radix_digit more r.1)) (ap not (stops-prefix is_radix_digit more)) parts)
+      let r = begins_r rest t in
+      let parts : (take n text ++ byte "r" ∷ take m more) ++ drop m more ≡ text =
+      append_assoc (take n text) (byte "r" ∷ take m more) (drop m more)
+      ∙ ap (λ (l : List ℕ). take n text ++ (byte "r" ∷ l)) (take-append-drop m more)
+      ∙ ap (λ (l : List ℕ). take n text ++ l) (sym r.0)
+      ∙ take-append-drop n text in
+      behind (radix (take n text) (take m more)) (drop m more) (and_from _ _ first (some-digits is_radix_digit more r.1)) (ap not (stops-prefix is_radix_digit more)) parts)
       (λ f.
-          behind (decimal (take n text)) rest first (and_from _ _ (ap not (stops-prefix is_ascii_digit text)) (ap not f)) (take-append-drop n text))
+      behind (decimal (take n text)) rest first (and_from _ _ (ap not (stops-prefix is_ascii_digit text)) (ap not f)) (take-append-drop n text))
 
 -- OPERATORS
 
@@ -213,8 +213,8 @@ unfolding mark_at
 mark-sound signs b bs m =
     chosen (eqb b (byte ":") && begins (λ c. eqb c (byte "=")) bs) _ _
     (λ t.
-        let parts = and_parts (eqb b (byte ":")) _ t in
-        found (mark (b ∷ byte "=" ∷ [])) (drop 1 bs) (ap (λ (l : List ℕ). b ∷ l) (sym (begins-byte (byte "=") bs parts.1))) (rw parts.0 refl, refl))
+    let parts = and_parts (eqb b (byte ":")) _ t in
+    found (mark (b ∷ byte "=" ∷ [])) (drop 1 bs) (ap (λ (l : List ℕ). b ∷ l) (sym (begins-byte (byte "=") bs parts.1))) (rw parts.0 refl, refl))
     (λ f. found (mark (b ∷ [])) bs refl (m, ap not f))
 
 character-sound : (signs : Bool) (bs : List ℕ) → Sound signs (byte "$" ∷ bs) (character_at bs)
@@ -281,8 +281,8 @@ string-sound signs bs (Some inside) h =
 -- a keyword's name, and what stands behind its colon
 keyword-first : (bs : List ℕ) → begins_keyword bs ≡ true
     → (is_name (take (prefix_len is_ascii_alphanumeric bs) bs) ≡ true)
-        × ((take (prefix_len is_ascii_alphanumeric bs) bs ++ byte ":" ∷ []) ++ drop (prefix_len is_ascii_alphanumeric bs + 1) bs ≡ bs)
-        × (begins (λ c. eqb c (byte "=")) (drop (prefix_len is_ascii_alphanumeric bs + 1) bs) ≡ false)
+    × ((take (prefix_len is_ascii_alphanumeric bs) bs ++ byte ":" ∷ []) ++ drop (prefix_len is_ascii_alphanumeric bs + 1) bs ≡ bs)
+    × (begins (λ c. eqb c (byte "=")) (drop (prefix_len is_ascii_alphanumeric bs + 1) bs) ≡ false)
 keyword-first bs e =
     let n = prefix_len is_ascii_alphanumeric bs in
     let parts = and_parts (begins is_ascii_alphabetic bs) (makes_keyword (drop n bs)) e in (
@@ -311,13 +311,13 @@ keywords-parts (suc n) bs le e = elim (cases_Bool (begins_keyword bs)) [
       let shorter : length behind ≤ n = omega (arith, ap length first.1, length-append (take k bs ++ byte ":" ∷ []) behind, length-append (take k bs) (byte ":" ∷ [])) in
       let more = keywords-parts n behind shorter first.2 in
       rw t (
-        record {
-          rest = more.rest;
-          parts = append_assoc (take k bs) (byte ":" ∷ keywords_text (keywords_of n behind)) more.rest ∙ ap (λ (l : List ℕ). take k bs ++ (byte ":" ∷ l)) more.parts ∙ sym (append_assoc (take k bs) (byte ":" ∷ []) behind) ∙ first.1;
-          names = and_from _ _ first.0 more.names;
-          ends = more.ends;
-          last = more.last;
-        }
+      record {
+        rest = more.rest;
+        parts = append_assoc (take k bs) (byte ":" ∷ keywords_text (keywords_of n behind)) more.rest ∙ ap (λ (l : List ℕ). take k bs ++ (byte ":" ∷ l)) more.parts ∙ sym (append_assoc (take k bs) (byte ":" ∷ []) behind) ∙ first.1;
+        names = and_from _ _ first.0 more.names;
+        ends = more.ends;
+        last = more.last;
+      }
       )
   | inr f ↦ rw f (record { rest = bs; parts = refl; names = refl; ends = e; last = f })
 ]
@@ -347,12 +347,12 @@ hash-sound signs (b ∷ bs) =
     chosen (is_ascii_alphabetic b) _ _
     (λ letter. selector-sound signs (b ∷ bs) letter)
     (λ no_letter.
-        chosen (begins_operator b) _ _
-        (λ o. let p = operator-parts b bs o in found (symbol (binary (operator_of (b ∷ bs)))) p.rest (ap (λ (l : List ℕ). byte "#" ∷ l) p.parts) (p.form, p.ends))
-        (λ no_operator.
-            chosen (eqb b (byte "(")) _ _
-            (λ bracket. found opening bs (ap (λ (c : ℕ). byte "#" ∷ c ∷ bs) (sym (eqb-true b _ bracket))) tt)
-            (λ no_bracket. faulty causes.Character (rw (no_letter, no_operator, no_bracket) refl))))
+    chosen (begins_operator b) _ _
+    (λ o. let p = operator-parts b bs o in found (symbol (binary (operator_of (b ∷ bs)))) p.rest (ap (λ (l : List ℕ). byte "#" ∷ l) p.parts) (p.form, p.ends))
+    (λ no_operator.
+    chosen (eqb b (byte "(")) _ _
+    (λ bracket. found opening bs (ap (λ (c : ℕ). byte "#" ∷ c ∷ bs) (sym (eqb-true b _ bracket))) tt)
+    (λ no_bracket. faulty causes.Character (rw (no_letter, no_operator, no_bracket) refl))))
 
 -- THE FRONT
 
@@ -370,28 +370,28 @@ unfolding front_of
 sound-first signs b bs =
     chosen (is_blank b) _ _ (λ blank_byte. found (blank b) bs refl blank_byte)
     (λ one.
-        chosen (eqb b (byte "\"")) _ _ (λ quote_byte. at_byte b (byte "\"") bs quote_byte (comment-sound signs bs))
-        (λ two.
-            chosen (is_ascii_alphabetic b) _ _ (λ letter. word-sound (b ∷ bs) letter signs)
-            (λ three.
-                chosen (is_ascii_digit b) _ _ (λ digit. number-sound signs false (b ∷ bs) digit (λ minus. absurd (false≢true minus)))
-                (λ four.
-                    chosen (eqb b (byte "-") && begins is_ascii_digit bs && signs) _ _
-                    (λ sign.
-                        let parts = and_parts (eqb b (byte "-") && begins is_ascii_digit bs) signs sign in
-                        let digits = and_parts (eqb b (byte "-")) (begins is_ascii_digit bs) parts.0 in
-                        at_byte b (byte "-") bs digits.0 (number-sound signs true bs digits.1 (λ _. parts.1)))
-                    (λ no_sign.
-                        chosen (begins_operator b) _ _ (λ o. operator-sound signs b bs o no_sign)
-                        (λ five.
-                            chosen (is_mark b) _ _ (λ m. mark-sound signs b bs m)
-                            (λ six.
-                                chosen (eqb b (byte "$")) _ _ (λ dollar. at_byte b (byte "$") bs dollar (character-sound signs bs))
-                                (λ seven.
-                                    chosen (eqb b (byte "'")) _ _ (λ quote_byte. at_byte b (byte "'") bs quote_byte (string-sound signs bs (inside_of bs) (is-inside bs)))
-                                    (λ eight.
-                                        chosen (eqb b (byte "#")) _ _ (λ hash. at_byte b (byte "#") bs hash (hash-sound signs bs))
-                                        (λ nine. faulty causes.Character (nothing-begins b bs (no_piece b one two three four five six seven eight nine))))))))))))
+    chosen (eqb b (byte "\"")) _ _ (λ quote_byte. at_byte b (byte "\"") bs quote_byte (comment-sound signs bs))
+    (λ two.
+    chosen (is_ascii_alphabetic b) _ _ (λ letter. word-sound (b ∷ bs) letter signs)
+    (λ three.
+    chosen (is_ascii_digit b) _ _ (λ digit. number-sound signs false (b ∷ bs) digit (λ minus. absurd (false≢true minus)))
+    (λ four.
+    chosen (eqb b (byte "-") && begins is_ascii_digit bs && signs) _ _
+    (λ sign.
+    let parts = and_parts (eqb b (byte "-") && begins is_ascii_digit bs) signs sign in
+    let digits = and_parts (eqb b (byte "-")) (begins is_ascii_digit bs) parts.0 in
+    at_byte b (byte "-") bs digits.0 (number-sound signs true bs digits.1 (λ _. parts.1)))
+    (λ no_sign.
+    chosen (begins_operator b) _ _ (λ o. operator-sound signs b bs o no_sign)
+    (λ five.
+    chosen (is_mark b) _ _ (λ m. mark-sound signs b bs m)
+    (λ six.
+    chosen (eqb b (byte "$")) _ _ (λ dollar. at_byte b (byte "$") bs dollar (character-sound signs bs))
+    (λ seven.
+    chosen (eqb b (byte "'")) _ _ (λ quote_byte. at_byte b (byte "'") bs quote_byte (string-sound signs bs (inside_of bs) (is-inside bs)))
+    (λ eight.
+    chosen (eqb b (byte "#")) _ _ (λ hash. at_byte b (byte "#") bs hash (hash-sound signs bs))
+    (λ nine. faulty causes.Character (nothing-begins b bs (no_piece b one two three four five six seven eight nine))))))))))))
 
 pub sound : (signs : Bool) (text : List ℕ) → 0 < length text → IsFront signs text (front_of signs text)
 sound signs [] some = absurd (omega arith)

@@ -2,13 +2,13 @@
 use Rattle.std.proofs.Common.{◌≡◌, ℕ, ◌+◌, ◌-◌, ◌<◌, ◌≤◌, Bool, List, [], ◌∷◌, ◌++◌, length, take, drop, Option, Some, None, refl, sym, ap, ◌∙◌, subst, arith, append_assoc, length-append}
 use Rattle.std.specs.Prelude.{All}
 use Rattle.std.proofs.Math.Seq.{take-append_seam, drop-append_seam}
-use Rattle.std.proofs.lemmas.List.{drop-drop}
+use Rattle.std.proofs.lemmas.List.{append-nil, drop-drop}
 use Rattle.std.proofs.lemmas.List.Elements.{All-nil, All-cons}
 use Rattle.st_tree.specs.declared.token.Token.{Token}
 use Rattle.st_tree.specs.declared.token.Sort.{Sort}
 use Rattle.st_tree.specs.declared.fault.Fault.{Fault}
 use Rattle.st_scan.specs.Pieces.{Piece, spelling, Stands}
-use Rattle.st_scan.specs.Scans.{Context, start, signs, after, joined, AllStand, sort_of, with_token, tokens_from, AreSpans, IsToken, ScansTo}
+use Rattle.st_scan.specs.Scans.{Context, start, signs, after, joined, AllStand, sort_of, with_token, tokens_from, AreSpans, IsToken, IsJoined, ScansTo, HasTokens}
 use Rattle.st_scan.proofs.Scanning.{has_bytes}
 
 -- what lies behind a place lies behind an earlier one
@@ -53,3 +53,11 @@ tokens_at text c at (p ∷ ps) rest parts all =
 
 pub are_tokens : (text : List ℕ) (ts : List Token) (e : Option Fault) → ScansTo text ts e → All (IsToken text) ts
 are_tokens text ts e s = subst (All (IsToken text)) s.are_tokens (tokens_at text start 0 s.pieces s.rest s.parts s.stand)
+
+-- nothing is left behind the last piece
+pub whole : (text : List ℕ) (ts : List Token) → HasTokens text ts → IsJoined text ts
+whole text ts s = record {
+  pieces = s.pieces;
+  whole = sym (append-nil (joined s.pieces)) ∙ ap (λ (l : List ℕ). joined s.pieces ++ l) (sym s.ends) ∙ s.parts;
+  are_tokens = s.are_tokens;
+}

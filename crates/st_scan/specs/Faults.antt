@@ -1,12 +1,12 @@
 -- What is wrong at a place of a text where no blank, comment or token stands.
-use Rattle.std.specs.Prelude.{◌≡◌, ℕ, Bool, true, false, not, ◌&&◌, ◌||◌, ◌==◌, IsTrue, IsFalse, ◌⊎◌, List, [], ◌∷◌, ◌++◌, codes}
+use Rattle.std.specs.Prelude.{◌≡◌, ℕ, Bool, false, not, ◌&&◌, ◌||◌, ◌==◌, IsTrue, IsFalse, ◌⊎◌, List, [], ◌∷◌, ◌++◌, codes}
 use Rattle.std.specs.List.{list_all}
 use Rattle.std.specs.Str.{byte}
 use Rattle.std.specs.Char.{is_ascii_alphabetic, is_ascii_alphanumeric}
 use Rattle.st_tree.specs.declared.fault.Cause.{Cause}
 use Rattle.st_tree.specs.declared.fault.Cause.TheVariants as causes
 use Rattle.st_scan.specs.Bytes.{is_among, is_blank, begins_operator, is_mark}
-use Rattle.st_scan.specs.Pieces.{Digits, number, doubled, spelling, is_good, begins, makes_float, IsNumber}
+use Rattle.st_scan.specs.Pieces.{Digits, number, doubled, spelling, is_allowed, makes_float, IsNumber}
 
 -- a blank, a comment or a token may begin with this byte
 abbrev pub begins_piece : ℕ → Bool
@@ -37,6 +37,6 @@ pub record StartsWithNumber (signs : Bool) (text : List ℕ) (ds : Digits) (rest
 abbrev pub IsFaulty : (signs : Bool) → Cause → List ℕ → Type 0
 IsFaulty signs causes.Character text = IsTrue (begins_nothing text)
 IsFaulty signs causes.Unclosed text = IsUnclosed text
-IsFaulty signs causes.Number text = (ds : Digits) × (rest : List ℕ) × StartsWithNumber signs text ds rest × IsFalse (is_good ds)
-IsFaulty signs causes.Float text = (ds : Digits) × (rest : List ℕ) × StartsWithNumber signs text ds rest × IsTrue (is_good ds) × IsTrue (makes_float rest)
+IsFaulty signs causes.Number text = (ds : Digits) × (rest : List ℕ) × StartsWithNumber signs text ds rest × IsFalse (is_allowed ds)
+IsFaulty signs causes.Float text = (ds : Digits) × (rest : List ℕ) × StartsWithNumber signs text ds rest × IsTrue (is_allowed ds) × IsTrue (makes_float rest)
 IsFaulty signs _ text = ⊥

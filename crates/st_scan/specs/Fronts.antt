@@ -1,5 +1,5 @@
 -- What a scanner finds at the front of a text: the piece that stands there, or the cause why none does.
-use Rattle.std.specs.Prelude.{ℕ, zero, suc, ◌+◌, ◌<◌, ◌≤◌, Bool, true, false, not, ◌&&◌, ◌||◌, ◌==◌, if◌then◌else◌, List, [], ◌∷◌, length, take, drop, position, Option, Some, None}
+use Rattle.std.specs.Prelude.{ℕ, zero, suc, ◌+◌, ◌<◌, ◌≤◌, Bool, true, false, ◌&&◌, ◌==◌, if◌then◌else◌, List, [], ◌∷◌, length, take, drop, position, Option, Some, None}
 use Rattle.std.specs.List.{prefix_len}
 use Rattle.std.specs.Option.{option_map}
 use Rattle.std.specs.Str.{byte}
@@ -10,7 +10,7 @@ use Rattle.st_tree.specs.declared.fault.Cause.TheVariants as causes
 use Rattle.st_scan.specs.declared.front.Front.{Front}
 use Rattle.st_scan.specs.declared.front.Front.TheVariants as fronts
 use Rattle.st_scan.specs.Bytes.{is_blank, is_radix_digit, is_operator_byte, begins_operator, is_second_operator_byte, is_mark}
-use Rattle.st_scan.specs.Pieces.{Digits, decimal, radix, Symbol, unary, keywords, binary, Piece, blank, comment, name, keyword, operator, number, character, string, symbol, opening, mark, spelling, digits_text, begins, begins_keyword, is_good, makes_keyword, makes_radix, makes_float}
+use Rattle.st_scan.specs.Pieces.{Digits, decimal, radix, Symbol, unary, keywords, binary, Piece, blank, comment, name, keyword, operator, number, character, string, symbol, opening, mark, spelling, begins, begins_keyword, is_allowed, makes_keyword, makes_radix, makes_float}
 use Rattle.st_scan.specs.Scans.{sort_of}
 
 pub data Found : Type 0 where
@@ -45,7 +45,7 @@ word_at bs =
 
 -- digits before the rest of a text
 abbrev pub number_before : Bool → Digits → List ℕ → Found
-number_before minus ds rest = if is_good ds then (if makes_float rest then fault causes.Float else piece (number minus ds)) else fault causes.Number
+number_before minus ds rest = if is_allowed ds then (if makes_float rest then fault causes.Float else piece (number minus ds)) else fault causes.Number
 
 -- from a digit on
 unfoldable pub number_at : Bool → List ℕ → Found

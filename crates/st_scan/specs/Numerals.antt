@@ -5,15 +5,15 @@ use Rattle.std.specs.Str.Parse.{digits_value}
 use Rattle.st_scan.specs.declared.number.TheConstants.{LIMIT}
 use Rattle.st_scan.specs.declared.number.Numeral.{Numeral}
 use Rattle.st_scan.specs.declared.number.Numeral.TheVariants.{Decimal, Radix}
-use Rattle.st_scan.specs.Pieces.{Digits, decimal, radix, size, fits, is_good}
+use Rattle.st_scan.specs.Pieces.{Digits, decimal, radix, size, fits, is_allowed}
 
 abbrev pub digits_of : Numeral → Digits
 digits_of (Decimal ds) = decimal ds.now
 digits_of (Radix rs ds) = radix rs.now ds.now
 
--- the size of a good number
-abbrev pub good_size : Digits → Option ℕ
-good_size ds = if is_good ds then Some (size ds) else None
+-- the size of a number that is allowed
+abbrev pub allowed_size : Digits → Option ℕ
+allowed_size ds = if is_allowed ds then Some (size ds) else None
 
 -- a size with one more digit behind it, if the digit is below the base and the size at most LIMIT
 abbrev pub with_digit : ℕ → ℕ → ℕ → Option ℕ

@@ -1,5 +1,5 @@
 -- What a method's text is made of: blanks, comments and tokens. Row by row, how each is spelled and where it ends.
-use Rattle.std.specs.Prelude.{ℕ, ◌+◌, ◌-◌, ◌≤◌, Bool, true, false, not, ◌&&◌, ◌||◌, ◌==◌, nat_lt, nat_le, if◌then◌else◌, IsTrue, IsFalse, ⊤, List, [], ◌∷◌, ◌++◌, length, take, drop, codes}
+use Rattle.std.specs.Prelude.{ℕ, Bool, true, false, not, ◌&&◌, ◌||◌, ◌==◌, nat_lt, nat_le, if◌then◌else◌, IsTrue, IsFalse, ⊤, List, [], ◌∷◌, ◌++◌, length, drop, codes}
 use Rattle.std.specs.List.{list_all, prefix_len}
 use Rattle.std.specs.Str.{byte}
 use Rattle.std.specs.Str.Parse.{digits_value}
@@ -92,14 +92,16 @@ is_mark_text (b ∷ []) = is_mark b
 is_mark_text (b ∷ c ∷ []) = b == byte ":" && c == byte "="
 is_mark_text _ = false
 
+-- a byte or more, and each passes
 abbrev pub some_pass : (ℕ → Bool) → List ℕ → Bool
 some_pass p bs = nat_lt 0 (length bs) && list_all p bs
 
--- digits; or digits, and behind the r digits and capitals
+-- digits; or a radix of digits, and digits and capitals
 abbrev pub are_digits : Digits → Bool
 are_digits (decimal ds) = some_pass is_ascii_digit ds
 are_digits (radix rs ds) = some_pass is_ascii_digit rs && some_pass is_radix_digit ds
 
+-- the number that the digits write
 abbrev pub size : Digits → ℕ
 size (decimal ds) = digits_value 10 ds
 size (radix rs ds) = digits_value (digits_value 10 rs) ds
@@ -108,10 +110,10 @@ size (radix rs ds) = digits_value (digits_value 10 rs) ds
 abbrev pub fits : ℕ → List ℕ → Bool
 fits base ds = list_all (λ d. nat_lt (digit_value d) base) ds && nat_le (digits_value base ds) LIMIT
 
--- a number that is allowed; its radix is one too, from 2 to 36
-abbrev pub is_good : Digits → Bool
-is_good (decimal ds) = fits 10 ds
-is_good (radix rs ds) = fits 10 rs && nat_le 2 (digits_value 10 rs) && nat_le (digits_value 10 rs) 36 && fits (digits_value 10 rs) ds
+-- a number that is allowed; so is its radix, from 2 to 36
+abbrev pub is_allowed : Digits → Bool
+is_allowed (decimal ds) = fits 10 ds
+is_allowed (radix rs ds) = fits 10 rs && nat_le 2 (digits_value 10 rs) && nat_le (digits_value 10 rs) 36 && fits (digits_value 10 rs) ds
 
 -- ENDS
 
@@ -120,7 +122,7 @@ abbrev pub makes_keyword : List ℕ → Bool
 makes_keyword [] = false
 makes_keyword (b ∷ bs) = b == byte ":" && not (begins (λ c. c == byte "=") bs)
 
--- a keyword stands first
+-- letters and digits stand first, the first a letter, and what is behind them makes them a keyword
 abbrev pub begins_keyword : List ℕ → Bool
 begins_keyword bs = begins is_ascii_alphabetic bs && makes_keyword (drop (prefix_len is_ascii_alphanumeric bs) bs)
 
@@ -134,6 +136,7 @@ abbrev pub makes_float : List ℕ → Bool
 makes_float (b ∷ c ∷ bs) = ((b == byte "." || b == byte "e") && is_ascii_digit c) || (b == byte "e" && c == byte "-" && begins is_ascii_digit bs)
 makes_float _ = false
 
+-- All digits that follow belong to the number, behind a radix all capitals too.
 abbrev pub digits_end : Digits → List ℕ → Bool
 digits_end (decimal ds) rest = not (begins is_ascii_digit rest) && not (makes_radix rest)
 digits_end (radix rs ds) rest = not (begins is_radix_digit rest)
@@ -171,7 +174,7 @@ Stands signs (comment inside) rest = IsTrue (list_all (λ b. not (b == byte "\""
 Stands signs (name n) rest = IsTrue (is_name n) × IsFalse (begins is_ascii_alphanumeric rest) × IsFalse (makes_keyword rest)
 Stands signs (keyword n) rest = IsTrue (is_name n) × IsFalse (begins (λ c. c == byte "=") rest)
 Stands signs (operator o) rest = IsTrue (is_operator o) × IsTrue (operator_ends o rest) × IsFalse (is_sign signs o rest)
-Stands signs (number minus ds) rest = IsNumber signs minus ds rest × IsTrue (is_good ds) × IsFalse (makes_float rest)
+Stands signs (number minus ds) rest = IsNumber signs minus ds rest × IsTrue (is_allowed ds) × IsFalse (makes_float rest)
 Stands signs (character b) rest = ⊤
 Stands signs (string inside) rest = IsFalse (begins (λ b. b == byte "'") rest)
 Stands signs (symbol s) rest = SymbolStands s rest

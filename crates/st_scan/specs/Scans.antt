@@ -129,6 +129,12 @@ pub record HasScan (text : List ℕ) : Type 0 where
 abbrev pub HasTokens : List ℕ → List Token → Type 0
 HasTokens text tokens = ScansTo text tokens None
 
+-- pieces with these tokens whose bytes, joined, are the text
+pub record IsJoined (text : List ℕ) (tokens : List Token) : Type 0 where
+  pub pieces : List Piece
+  pub whole : joined pieces ≡ text
+  pub are_tokens : tokens_from 0 pieces ≡ tokens
+
 -- the scanner's first fault in the text, by place and number
 abbrev pub HasFault : List ℕ → ℕ → ℕ → Type 0
 HasFault text place cause = (tokens : List Token) × (fault : Fault) × ScansTo text tokens (Some fault) × (fault.place ≡ place) × (cause_number fault.cause ≡ cause)

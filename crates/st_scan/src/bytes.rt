@@ -20,7 +20,19 @@ pub fn is_operator_byte(b: u8) -> bool
 {
     matches!(
         b,
-        b'+' | b'-' | b'/' | b'\\' | b'*' | b'~' | b'<' | b'>' | b'=' | b'@' | b'%' | b'&' | b'?' | b','
+        b'+' | b'-'
+            | b'/'
+            | b'\\'
+            | b'*'
+            | b'~'
+            | b'<'
+            | b'>'
+            | b'='
+            | b'@'
+            | b'%'
+            | b'&'
+            | b'?'
+            | b','
     )
 }
 
@@ -39,5 +51,8 @@ pub fn is_second_operator_byte(b: u8) -> bool
 pub fn is_mark(b: u8) -> bool
     ensures { result ≡ is_mark b }
 {
-    matches!(b, b'^' | b'.' | b';' | b':' | b'_' | b'(' | b')' | b'[' | b']')
+    matches!(
+        b,
+        b'^' | b'.' | b';' | b':' | b'_' | b'(' | b')' | b'[' | b']'
+    )
 }

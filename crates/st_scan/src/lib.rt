@@ -9,6 +9,9 @@ mod scanner;
 mod string;
 mod word;
 
-pub use laws::{one_scan, token_spans};
+pub use laws::{joined_pieces, one_scan, token_spans};
 pub use number::LIMIT;
 pub use scanner::{Scanned, scan, tokens};
+
+#[cfg(test)]
+mod tests;

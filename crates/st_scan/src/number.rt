@@ -7,7 +7,7 @@ ghost use Rattle.std.specs.Char.{is_ascii_digit};
 ghost use Rattle.st_scan.specs.Bytes.{is_radix_digit};
 ghost use Rattle.st_scan.specs.Pieces.{digits_text, makes_radix, makes_float};
 ghost use Rattle.st_scan.specs.Fronts.{shown, number_at, number_before};
-ghost use Rattle.st_scan.specs.Numerals.{digits_of, good_size, size_in, with_digit};
+ghost use Rattle.st_scan.specs.Numerals.{digits_of, allowed_size, size_in, with_digit};
 
 use crate::bytes::is_radix_digit;
 use crate::front::Front;
@@ -37,7 +37,7 @@ impl Numeral<'_> {
 
     /// The size, where the radix is 2 to 36, the digits are below it, and the size is at most `LIMIT`.
     fn size(self) -> Option<u128>
-        ensures { result ≡ good_size (digits_of self.entry) }
+        ensures { result ≡ allowed_size (digits_of self.entry) }
     {
         match self {
             Numeral::Decimal(digits) => size_in(10, digits),

@@ -1,4 +1,4 @@
-use Rattle.std.proofs.Common.{None, sym, ◌∙◌}
+use Rattle.std.proofs.Common.{sym, ◌∙◌}
 use Rattle.st_scan.proofs.Numerals.{with_digits-0, with_digits-turn, with_digits-end}
 use Rattle.st_scan.proofs.number.size_in.Goals as goal
 
