@@ -7,7 +7,7 @@ use Rattle.std.specs.Str.Parse.{digits_value_after}
 use Rattle.std.proofs.lemmas.Bool.{leb-true, leb-false, le-leb, lt-leb, cases_Bool, and_right}
 use Rattle.std.proofs.lemmas.List.{nil_from_length}
 use Rattle.std.proofs.Math.Nat.{mul-le-mul_left}
-use Rattle.st_scan.specs.declared.number.TheConstants.{LIMIT}
+use Rattle.st_scan.specs.Pieces.{greatest}
 use Rattle.st_scan.specs.Numerals.{with_digit, size_in}
 
 -- more digits make no size less
@@ -24,20 +24,20 @@ with_digits n base [] = Some n
 with_digits n base (d ∷ ds) = option_and_then (λ m. with_digits m base ds) (with_digit n base d)
 
 abbrev size_behind : ℕ → ℕ → List ℕ → Option ℕ
-size_behind n base ds = if list_all (λ d. ltb (digit_value d) base) ds && leb (digits_value_after base n ds) LIMIT then Some (digits_value_after base n ds) else None
+size_behind n base ds = if list_all (λ d. ltb (digit_value d) base) ds && leb (digits_value_after base n ds) greatest then Some (digits_value_after base n ds) else None
 
 -- that is the same as all at once
-size-at_once : (base n : ℕ) (ds : List ℕ) → 1 ≤ base → n ≤ LIMIT → with_digits n base ds ≡ size_behind n base ds
+size-at_once : (base n : ℕ) (ds : List ℕ) → 1 ≤ base → n ≤ greatest → with_digits n base ds ≡ size_behind n base ds
 unfolding with_digits
-size-at_once base n [] one small = rw (le-leb n LIMIT small) refl
+size-at_once base n [] one small = rw (le-leb n greatest small) refl
 size-at_once base n (d ∷ ds) one small =
     let m = n * base + digit_value d in
     elim (cases_Bool (ltb (digit_value d) base)) [
       | inr high ↦ rw high refl
-      | inl low ↦ elim (cases_Bool (leb m LIMIT)) [
-        | inl fits ↦ rw (low, fits) (size-at_once base m ds one (leb-true m LIMIT fits))
+      | inl low ↦ elim (cases_Bool (leb m greatest)) [
+        | inl fits ↦ rw (low, fits) (size-at_once base m ds one (leb-true m greatest fits))
         | inr large ↦
-            let more : leb (digits_value_after base m ds) LIMIT ≡ false = lt-leb _ _ (omega (arith, leb-false m LIMIT large, digits_grow base m ds one)) in
+            let more : leb (digits_value_after base m ds) greatest ≡ false = lt-leb _ _ (omega (arith, leb-false m greatest large, digits_grow base m ds one)) in
             rw (low, large, more, and_right (list_all (λ c. ltb (digit_value c) base) ds) false refl) refl
       ]
     ]

@@ -4,7 +4,6 @@ use Rattle.std.specs.List.{list_all, prefix_len}
 use Rattle.std.specs.Str.{byte}
 use Rattle.std.specs.Str.Parse.{digits_value}
 use Rattle.std.specs.Char.{is_ascii_digit, is_ascii_alphabetic, is_ascii_alphanumeric, digit_value}
-use Rattle.st_scan.specs.declared.number.TheConstants.{LIMIT}
 use Rattle.st_scan.specs.Bytes.{is_blank, is_radix_digit, is_operator_byte, begins_operator, is_second_operator_byte, is_mark}
 
 -- the digits of a number: decimal ones, or those behind a radix and an r
@@ -106,9 +105,13 @@ abbrev pub size : Digits → ℕ
 size (decimal ds) = digits_value 10 ds
 size (radix rs ds) = digits_value (digits_value 10 rs) ds
 
--- digits below a base, and at most LIMIT in size
+-- the greatest size of a number
+abbrev pub greatest : ℕ
+greatest = 4294967295
+
+-- digits below a base, and at most the greatest size
 abbrev pub fits : ℕ → List ℕ → Bool
-fits base ds = list_all (λ d. nat_lt (digit_value d) base) ds && nat_le (digits_value base ds) LIMIT
+fits base ds = list_all (λ d. nat_lt (digit_value d) base) ds && nat_le (digits_value base ds) greatest
 
 -- a number that is allowed; so is its radix, from 2 to 36
 abbrev pub is_allowed : Digits → Bool

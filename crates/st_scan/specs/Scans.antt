@@ -7,7 +7,7 @@ use Rattle.st_tree.specs.declared.token.Sort.TheVariants as sorts
 use Rattle.st_tree.specs.declared.fault.Fault.{Fault}
 use Rattle.st_tree.specs.declared.fault.SyntaxFault.{SyntaxFault}
 use Rattle.st_tree.specs.declared.fault.SyntaxFault.TheVariants.{At, OutOfMemory}
-use Rattle.st_tree.specs.Causes.{cause_number}
+use Rattle.st_tree.specs.Faults.{cause_number}
 use Rattle.st_scan.specs.Pieces.{Piece, blank, comment, name, keyword, operator, number, character, string, symbol, opening, mark, spelling, size, begins, Stands}
 use Rattle.st_scan.specs.Faults.{IsFaulty}
 

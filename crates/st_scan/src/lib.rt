@@ -10,7 +10,6 @@ mod string;
 mod word;
 
 pub use laws::{joined_pieces, one_scan, token_spans};
-pub use number::LIMIT;
 pub use scanner::{Scanned, scan, tokens};
 
 #[cfg(test)]

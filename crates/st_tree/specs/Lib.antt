@@ -1,3 +1,3 @@
-pub mod Causes
 pub mod Chains
+pub mod Faults
 pub mod Views

@@ -1,8 +1,8 @@
 //! Why a text means no method.
 
-ghost use Rattle.std.specs.Prelude.{◌≡◌};
+ghost use Rattle.std.specs.Prelude.{◌≡◌, Some};
 ghost use Rattle.st_tree.specs.declared.fault.SyntaxFault.TheVariants.{At, OutOfMemory};
-ghost use Rattle.st_tree.specs.Causes.{cause_number};
+ghost use Rattle.st_tree.specs.Faults.{cause_number, fault_text};
 
 use std::alloc::{AllocError, AllocFailed};
 use std::error::Error;
@@ -63,6 +63,8 @@ impl From<Fault> for SyntaxFault {
 }
 
 impl fmt::Display for SyntaxFault {
+    ghost output = { λ fault. Some (fault_text fault) };
+
     fn fmt<W: fmt::Write>(&self, f: &mut fmt::Formatter<W>) -> fmt::Result {
         match self {
             SyntaxFault::At { place, cause } => write!(f, "syntax {place} {cause}"),
