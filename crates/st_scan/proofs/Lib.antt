@@ -5,6 +5,7 @@ pub mod Keywords
 pub mod Numerals
 pub mod One
 pub mod Prefixes
+pub mod Rows
 pub mod Scanning
 pub mod Sound
 pub mod Spans

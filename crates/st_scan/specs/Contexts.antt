@@ -1,4 +1,4 @@
--- What the scanner keeps of the tokens so far, and how it goes on by a token's sort and first byte.
+-- What the code keeps of the tokens so far, and what a token adds by its sort and its first byte.
 use Rattle.std.specs.Prelude.{ℕ, ◌+◌, ◌-◌, Bool, true, false, ◌&&◌, ◌||◌, ◌==◌, nat_lt, if◌then◌else◌}
 use Rattle.std.specs.Str.{byte}
 use Rattle.st_tree.specs.declared.token.Sort.{Sort}
@@ -9,6 +9,7 @@ use Rattle.st_scan.specs.Scans.{Context}
 abbrev pub context_of : Kept → Context
 context_of c = record { operand = c.operand; depth = c.depth }
 
+-- the token is a name, a literal, ) or ]
 abbrev pub is_operand_token : Sort → ℕ → Bool
 is_operand_token Keyword b = false
 is_operand_token Operator b = false
@@ -16,6 +17,7 @@ is_operand_token Opening b = false
 is_operand_token Mark b = b == byte ")" || b == byte "]"
 is_operand_token _ b = true
 
+-- how many parentheses of a literal array are open behind the token
 abbrev pub depth_behind : ℕ → Sort → ℕ → ℕ
 depth_behind n Opening b = n + 1
 depth_behind n Mark b = if b == byte "(" && nat_lt 0 n then n + 1 else (if b == byte ")" then n - 1 else n)

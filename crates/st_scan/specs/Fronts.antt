@@ -1,4 +1,5 @@
--- What a scanner finds at the front of a text: the piece that stands there, or the cause why none does.
+-- What the code finds at the front of a text: the piece that stands there, or the cause why none does. The rules are in
+-- Pieces and Faults; a piece or a cause is found here exactly where it stands by them.
 use Rattle.std.specs.Prelude.{ℕ, zero, suc, ◌+◌, ◌<◌, ◌≤◌, Bool, true, false, ◌&&◌, ◌==◌, if◌then◌else◌, List, [], ◌∷◌, length, take, drop, position, Option, Some, None}
 use Rattle.std.specs.List.{prefix_len}
 use Rattle.std.specs.Option.{option_map}
@@ -13,6 +14,7 @@ use Rattle.st_scan.specs.Bytes.{is_blank, is_radix_digit, is_operator_byte, begi
 use Rattle.st_scan.specs.Pieces.{Digits, decimal, radix, Symbol, unary, keywords, binary, Piece, blank, comment, name, keyword, operator, number, character, string, symbol, opening, mark, spelling, begins, begins_keyword, is_allowed, makes_keyword, makes_radix, makes_float}
 use Rattle.st_scan.specs.Scans.{sort_of}
 
+-- a piece, or why there is none
 pub data Found : Type 0 where
   piece : Piece → Found
   fault : Cause → Found
@@ -56,18 +58,19 @@ number_at minus bs =
     let m = prefix_len is_radix_digit behind in
     if makes_radix rest then number_before minus (radix (take n bs) (take m behind)) (drop m behind) else number_before minus (decimal (take n bs)) rest
 
--- from an operator's first byte on
+-- the bytes of an operator, from its first one on
 abbrev pub operator_of : List ℕ → List ℕ
 operator_of (b ∷ c ∷ bs) = if is_operator_byte b && is_second_operator_byte c then b ∷ c ∷ [] else b ∷ []
 operator_of bs = take 1 bs
 
--- the bytes of a string whose first quote was read
+-- the bytes of a string, behind its first quote, up to the quote that closes it
 unfoldable pub inside_of : List ℕ → Option (List ℕ)
 inside_of [] = None
 inside_of (b ∷ []) = if b == byte "'" then Some [] else None
 inside_of (b ∷ c ∷ bs) =
     if b == byte "'" then (if c == byte "'" then option_map (λ cs. b ∷ cs) (inside_of bs) else Some []) else option_map (λ cs. b ∷ cs) (inside_of (c ∷ bs))
 
+-- the string with these bytes, if it is closed
 abbrev pub string_of : Option (List ℕ) → Found
 string_of None = fault causes.Unclosed
 string_of (Some inside) = piece (string inside)
@@ -94,10 +97,12 @@ hash_at (b ∷ bs) =
     else (if begins_operator b then piece (symbol (binary (operator_of (b ∷ bs))))
     else (if b == byte "(" then piece opening else fault causes.Character))
 
+-- behind $
 unfoldable pub character_at : List ℕ → Found
 character_at [] = fault causes.Character
 character_at (b ∷ bs) = piece (character b)
 
+-- from a mark's first byte on
 unfoldable pub mark_at : ℕ → List ℕ → Found
 mark_at b bs = if b == byte ":" && begins (λ c. c == byte "=") bs then piece (mark (b ∷ byte "=" ∷ [])) else piece (mark (b ∷ []))
 

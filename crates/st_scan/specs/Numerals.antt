@@ -1,4 +1,4 @@
--- The digits that a number's text has in memory, and the size that is read from them.
+-- What the code reads from the digits of a number.
 use Rattle.std.specs.Prelude.{ℕ, ◌+◌, ◌*◌, ◌&&◌, nat_lt, nat_le, List, Option, Some, None, if◌then◌else◌}
 use Rattle.std.specs.Char.{digit_value}
 use Rattle.std.specs.Str.Parse.{digits_value}
@@ -6,6 +6,7 @@ use Rattle.st_scan.specs.declared.number.Numeral.{Numeral}
 use Rattle.st_scan.specs.declared.number.Numeral.TheVariants.{Decimal, Radix}
 use Rattle.st_scan.specs.Pieces.{Digits, decimal, radix, size, greatest, fits, is_allowed}
 
+-- the digits, without where they lie
 abbrev pub digits_of : Numeral → Digits
 digits_of (Decimal ds) = decimal ds.now
 digits_of (Radix rs ds) = radix rs.now ds.now

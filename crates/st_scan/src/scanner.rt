@@ -66,7 +66,7 @@ fn next(context: Context, rest: &[u8]) -> Front
     front_of(context.signs(), rest)
 }
 
-/// The tokens of a text up to its first fault, with that fault.
+/// The tokens of a text up to its first fault, with that fault. A text has at most 2^32 - 2 bytes.
 pub fn scan(alloc: Global, text: &[u8]) -> Result<Scanned, AllocError>
     requires { length text.now ≤ 2 ^ 32 - 2 }
     ensures exact { IfOk result (λ s. ScansTo text.now s.tokens.items s.fault) }
