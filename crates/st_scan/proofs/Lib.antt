@@ -1,0 +1,12 @@
+pub mod Choices
+pub mod Classes
+pub mod Complete
+pub mod Keywords
+pub mod Numerals
+pub mod One
+pub mod Prefixes
+pub mod Rows
+pub mod Scanning
+pub mod Sound
+pub mod Spans
+pub mod Strings

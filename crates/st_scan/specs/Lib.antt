@@ -1,0 +1,7 @@
+pub mod Bytes
+pub mod Contexts
+pub mod Faults
+pub mod Fronts
+pub mod Numerals
+pub mod Pieces
+pub mod Scans
