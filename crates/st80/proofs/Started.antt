@@ -21,9 +21,11 @@ own_head bytes = refl
 pub started : (file : Option (List ℕ)) (bytes : List ℕ) (v : View) (f : Frame) → IsShortFile file bytes → has_letters bytes ≡ true
     → IsWellFormed (head_over no_values bytes) bytes → IsStart (head_over no_values bytes) bytes v f
     → (b : List ℕ) × IsReadable file b × IsStart (image_head b) b v f
-started file bytes v f found letters formed start =
-    (bytes, record { found = found; letters = letters; formed = subst (λ h. IsWellFormed h bytes) (own_head bytes) formed },
-     subst (λ h. IsStart h bytes v f) (own_head bytes) start)
+started file bytes v f found letters formed start = (
+  bytes,
+  record { found = found; letters = letters; formed = subst (λ h. IsWellFormed h bytes) (own_head bytes) formed },
+  subst (λ h. IsStart h bytes v f) (own_head bytes) start,
+)
 
 -- a file has no other bytes than its own
 same_bytes : (file : Option (List ℕ)) (a b : List ℕ) → file ≡ Some a → file ≡ Some b → a ≡ b

@@ -6,11 +6,10 @@ mod once;
 mod refusal;
 mod report;
 mod status;
-mod tool;
-mod words;
-
 #[cfg(test)]
 mod tests;
+mod tool;
+mod words;
 
 use crate::tool::tool;
 use st_host::{DirHost, StdinSource};

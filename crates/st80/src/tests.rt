@@ -156,9 +156,21 @@ fn a_return_is_not_built(rt: HostRuntime) -> Result<(), Fail> {
 #[test]
 fn a_death_is_the_only_line(rt: HostRuntime) -> Result<(), Fail> {
     let mut host = host_with(rt.alloc(), &image(rt.alloc(), &[126])?)?;
-    check(&rt, &mut host, &["once", "B", "3"], Status::Done, &["dead 0 7\n"])?;
+    check(
+        &rt,
+        &mut host,
+        &["once", "B", "3"],
+        Status::Done,
+        &["dead 0 7\n"],
+    )?;
     let mut other = host_with(rt.alloc(), &image(rt.alloc(), &[135, 135])?)?;
-    check(&rt, &mut other, &["once", "B", "2"], Status::Done, &["dead 1 6\n"])
+    check(
+        &rt,
+        &mut other,
+        &["once", "B", "2"],
+        Status::Done,
+        &["dead 1 6\n"],
+    )
 }
 
 #[test]
@@ -190,7 +202,13 @@ fn what_is_no_image_is_refused(rt: HostRuntime) -> Result<(), Fail> {
     let whole = image(alloc, &[])?;
     let words = ["once", "B", "4"];
     let mut absent = host_with(alloc, &whole)?;
-    check(&rt, &mut absent, &["once", "-", "4"], Status::Unread, &["image\n"])?;
+    check(
+        &rt,
+        &mut absent,
+        &["once", "-", "4"],
+        Status::Unread,
+        &["image\n"],
+    )?;
     let mut cut = host_with(alloc, whole.as_slice().get(..511).unwrap_or(&[]))?;
     check(&rt, &mut cut, &words, Status::Unread, &["image\n"])?;
     let mut empty = host_with(alloc, &[])?;
@@ -206,7 +224,13 @@ fn an_image_of_the_greatest_length_is_read(rt: HostRuntime) -> Result<(), Fail> 
     let mut longest = image(rt.alloc(), &[126])?;
     longest.resize(8_388_608, 0)?;
     let mut host = host_with(rt.alloc(), &longest)?;
-    check(&rt, &mut host, &["once", "B", "1"], Status::Done, &["dead 0 7\n"])
+    check(
+        &rt,
+        &mut host,
+        &["once", "B", "1"],
+        Status::Done,
+        &["dead 0 7\n"],
+    )
 }
 
 #[test]
@@ -216,10 +240,22 @@ fn faults_of_the_host_are_told(rt: HostRuntime) -> Result<(), Fail> {
     let bytes = image(alloc, &[126])?;
     let mut at_length = host_with(alloc, &bytes)?;
     at_length.fail(alloc, &[1])?;
-    check(&rt, &mut at_length, &words, Status::DiskFault, &["disk fault\n"])?;
+    check(
+        &rt,
+        &mut at_length,
+        &words,
+        Status::DiskFault,
+        &["disk fault\n"],
+    )?;
     let mut at_read = host_with(alloc, &bytes)?;
     at_read.fail(alloc, &[2])?;
-    check(&rt, &mut at_read, &words, Status::DiskFault, &["disk fault\n"])?;
+    check(
+        &rt,
+        &mut at_read,
+        &words,
+        Status::DiskFault,
+        &["disk fault\n"],
+    )?;
     let mut at_word = host_with(alloc, &bytes)?;
     at_word.fail(alloc, &[3])?;
     check(&rt, &mut at_word, &words, Status::SayFault, &[])?;

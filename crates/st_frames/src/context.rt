@@ -48,11 +48,7 @@ fn fetch_stack_pointer<M: Memory>(m: &M, context: Oop) -> Result<u32, Dead>
     if sp > 16388 {
         return Err(Dead::Sp);
     }
-    if sp < fields {
-        Ok(sp)
-    } else {
-        Err(Dead::Sp)
-    }
+    if sp < fields { Ok(sp) } else { Err(Dead::Sp) }
 }
 
 /// The registers that a context gives.

@@ -46,8 +46,12 @@ is_closed v f w frame =
       page = λ q. used t (place_of q) (w.complete.page q);
       roots = (
         known_live t (value f.active) (known_active w frame),
-        (known_live t (value f.home) (known_home w frame),
-        (known_live t (value f.method) (known_method w frame),
-        (known_live t (value f.receiver) (known_receiver w frame), both_live (IsUsed t) (head_roots v.head) (device_roots (empty_world nil).devices) tables devices)))
+        (
+          known_live t (value f.home) (known_home w frame),
+          (
+            known_live t (value f.method) (known_method w frame),
+            (known_live t (value f.receiver) (known_receiver w frame), both_live (IsUsed t) (head_roots v.head) (device_roots (empty_world nil).devices) tables devices),
+          ),
+        ),
       );
     }

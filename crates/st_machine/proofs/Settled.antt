@@ -59,6 +59,6 @@ settled_same u w f frame quiet r =
     let roots = roots_of (shown u f) in
     let mine = settled_shown u f r.set frame quiet r.is_settled in
     let set : settled_set table u.objects roots ≡ r.set =
-        fun_ext (settled_once table u.objects roots (settled_set table u.objects roots) r.set (settled_is table u.objects roots (table_finite_in u.objects)) mine) in
+    fun_ext (settled_once table u.objects roots (settled_set table u.objects roots) r.set (settled_is table u.objects roots (table_finite_in u.objects)) mine) in
     let objects : settled_table u.objects (settled_set table u.objects roots) ≡ w.objects = ap (settled_table u.objects) set ∙ sym r.objects in
     λ i. record { memory = objects i; registers = registers_of f; world = empty_world nil; head = sym r.head i }
