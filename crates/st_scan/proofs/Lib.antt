@@ -1,6 +1,7 @@
 pub mod Choices
 pub mod Classes
 pub mod Complete
+pub mod Formed
 pub mod Keywords
 pub mod Numerals
 pub mod One

@@ -183,3 +183,19 @@ Stands signs (string inside) rest = IsFalse (begins (λ b. b == byte "'") rest)
 Stands signs (symbol s) rest = SymbolStands s rest
 Stands signs opening rest = ⊤
 Stands signs (mark m) rest = IsTrue (is_mark_text m) × IsTrue (mark_ends m rest)
+
+-- the bytes of a piece have the form of its row
+abbrev pub IsFormed : (signs : Bool) → Piece → Type 0
+IsFormed signs (blank b) = IsTrue (is_blank b)
+IsFormed signs (comment inside) = IsTrue (list_all (λ b. not (b == byte "\"")) inside)
+IsFormed signs (name n) = IsTrue (is_name n)
+IsFormed signs (keyword n) = IsTrue (is_name n)
+IsFormed signs (operator o) = IsTrue (is_operator o)
+IsFormed signs (number minus ds) = IsTrue (are_digits ds) × (IsTrue minus → IsTrue signs) × IsTrue (is_allowed ds)
+IsFormed signs (character b) = ⊤
+IsFormed signs (string inside) = ⊤
+IsFormed signs (symbol (unary n)) = IsTrue (is_name n)
+IsFormed signs (symbol (keywords n ns)) = IsTrue (list_all is_name (n ∷ ns))
+IsFormed signs (symbol (binary o)) = IsTrue (is_operator o)
+IsFormed signs opening = ⊤
+IsFormed signs (mark m) = IsTrue (is_mark_text m)

@@ -1,8 +1,10 @@
 //! Laws of the definition.
 
-ghost use Rattle.std.specs.Prelude.{◌≡◌, ℕ, List, Option, All, length};
+ghost use Rattle.std.specs.Prelude.{◌≡◌, ◌∷◌, [], ℕ, Bool, List, Option, All, length};
 ghost use Rattle.st_tree.specs.declared.token.Token.{Token};
 ghost use Rattle.st_tree.specs.declared.fault.Fault.{Fault};
+ghost use Rattle.std.specs.Str.{byte};
+ghost use Rattle.st_scan.specs.Pieces.{Piece, IsFormed, Stands};
 ghost use Rattle.st_scan.specs.Scans.{ScansTo, HasScan, HasTokens, AreSpans, IsToken, IsJoined};
 
 /// A text has one list of tokens, up to its end or up to its one first fault.
@@ -20,4 +22,10 @@ pub fn token_spans()
 /// A text without a fault is the bytes of its blanks, comments and tokens joined.
 pub fn joined_pieces()
     ensures { (text : List ℕ) (ts : List Token) → HasTokens text ts → IsJoined text ts }
+{}
+
+/// A piece in its form stands before a blank, and at the end of a text: so tokens can be written with spaces between them.
+pub fn spaced_pieces()
+    ensures blank { (signs : Bool) (p : Piece) (rest : List ℕ) → IsFormed signs p → Stands signs p (byte " " ∷ rest) }
+    ensures end { (signs : Bool) (p : Piece) → IsFormed signs p → Stands signs p [] }
 {}

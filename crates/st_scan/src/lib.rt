@@ -9,7 +9,7 @@ mod scanner;
 mod string;
 mod word;
 
-pub use laws::{joined_pieces, one_scan, token_spans};
+pub use laws::{joined_pieces, one_scan, spaced_pieces, token_spans};
 pub use scanner::{Scanned, scan, tokens};
 
 #[cfg(test)]
