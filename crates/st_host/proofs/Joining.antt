@@ -1,23 +1,15 @@
 -- Runs of calls that follow each other are one run.
-use Rattle.std.proofs.Common.{◌≡◌, ◌≢◌, ◌⊎◌, ◌≤◌, inl, inr, ⊎_elim, ℕ, List, [], ◌++◌, length, take, Bool, true, false, bytes_eq, Option, IsTrue, refl, sym, subst, ap, ◌∙◌, arith, append_assoc, length-append, length-take, true≢false}
+use Rattle.std.proofs.Common.{◌≡◌, ◌≢◌, ◌≤◌, inl, inr, ⊎_elim, ℕ, List, [], ◌++◌, length, take, Option, IsTrue, sym, subst, ap, ◌∙◌, arith, append_assoc, length-append, length-take}
 use Rattle.std.proofs.lemmas.List.{append-nil, take-append-le}
-use Rattle.std.proofs.lemmas.Slice.Eq.{bytes_eq-Decides}
 use Rattle.std.proofs.Math.Seq.{take-append_seam}
 use Rattle.std.specs.Io.{StartsWith}
 use Rattle.st_host.specs.Counts.{Rose}
 use Rattle.st_host.specs.Files.{Files}
 use Rattle.st_host.specs.Stops.{SameStops, Here, SaidPart, WhileSaying}
+use Rattle.st_host.specs.Names.{same_or_other}
 use Rattle.st_host.specs.Runs.{LeavesOnly, ReadsAlike, OnlyReads, SaysAll, ReadsAndSays}
 use Rattle.st_host.specs.declared.host.Host.{Ghosts}
 use Rattle.st_host.proofs.Rising.{rose_first, rose_second}
-
--- two names are one or they aren't
-same_or_other : (a b : List ℕ) → (a ≡ b) ⊎ (a ≢ b)
-same_or_other a b = by_test (bytes_eq a b) refl
-  where
-    by_test : (t : Bool) → bytes_eq a b ≡ t → (a ≡ b) ⊎ (a ≢ b)
-    by_test true e = inl ((bytes_eq-Decides a b).0 e)
-    by_test false e = inr (λ same. true≢false (sym ((bytes_eq-Decides a b).1 same) ∙ e))
 
 begins_more : (text more now : List ℕ) → StartsWith text now → StartsWith (text ++ more) now
 begins_more text more now begins =

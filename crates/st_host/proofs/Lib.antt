@@ -2,3 +2,5 @@ pub mod Rising
 pub mod Joining
 pub mod Appending
 pub mod Walking
+pub mod Windows
+pub mod Doing
