@@ -4,3 +4,4 @@ pub mod Appending
 pub mod Walking
 pub mod Windows
 pub mod Doing
+pub mod Touching

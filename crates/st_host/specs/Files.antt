@@ -39,3 +39,8 @@ pub record IsCut (len : ℕ) (old new : Option (List ℕ)) : Type 0 where
   pub there : IsSome new
   pub long : length (bytes_of new) ≡ len
   pub same : (i : ℕ) → i < len → slice_index (bytes_of new) i ≡ slice_index (bytes_of old) i
+
+-- a file keeps its first bytes, where it has as many
+pub record KeepsBelow (floor : ℕ) (old new : Option (List ℕ)) : Type 0 where
+  pub long : floor ≤ length (bytes_of old) → floor ≤ length (bytes_of new)
+  pub same : (i : ℕ) → i < floor → floor ≤ length (bytes_of old) → slice_index (bytes_of new) i ≡ slice_index (bytes_of old) i
