@@ -154,8 +154,11 @@ module _ {D : Type 0} (host : Ghosts D) (name : List ℕ) where
             (λ other. (run.others told).fewer n c other can)
             (same_or_other n name);
         moments = λ told. weaker host old new (Here (host.may_leave old) (host.said old)) (Touched host (λ x y. x ≡ y) name old) (run.moments told)
-            (λ f s so. (λ n. ⊎_elim
-              (λ same. subst (λ (x : List ℕ). host.may_leave old x (f x)) (sym same) (back (f name) so.own))
-              (λ other. so.others n other)
-              (same_or_other n name), so.quiet));
+            (λ f s so. (
+              λ n. ⊎_elim
+                  (λ same. subst (λ (x : List ℕ). host.may_leave old x (f x)) (sym same) (back (f name) so.own))
+                  (λ other. so.others n other)
+                  (same_or_other n name),
+              so.quiet,
+            ));
       }

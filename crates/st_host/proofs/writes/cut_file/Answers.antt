@@ -25,4 +25,3 @@ returns-clause-cuts g c =
       run = touches_once host name (TornByCut (host.files old name) c.args.len) old c.cut.new.self c.cut.result (torn_same (length (bytes_of (host.files old name))) 0 0 c.args.len)
           (λ told f s left. g.met.H.Host.only_now old f s told left) w.others w.quiet w.stops w.time w.cause w.say_count;
     }
-

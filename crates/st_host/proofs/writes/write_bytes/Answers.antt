@@ -29,4 +29,3 @@ returns-clause-writes g c =
       run = touches_once host name (TornByWrite (host.files old name) c.args.at n) old c.write_at.new.self c.write_at.result (torn_same end c.args.at n (max end (c.args.at + n)))
           (λ told f s left. g.met.H.Host.only_now old f s told left) w.others w.quiet w.stops w.time w.cause w.say_count;
     }
-
