@@ -2,11 +2,12 @@
 use Rattle.std.proofs.Common.{◌≡◌, inl, inr, ⊎_elim, ℕ, ◌+◌, max, Bool, if◌then◌else◌, bytes_eq, List, ◌∷◌, length, Option, Some, Result, Ok, Err, OnOk, refl, sym, subst, ap, arith}
 use Rattle.std.proofs.lemmas.Slice.Eq.{bytes_eq-Decides}
 use Rattle.st_host.specs.Files.{Files, bytes_of, IsWritten, IsCut}
-use Rattle.st_host.specs.Stops.{comes, Follows, Torn, TornByWrite, TornByCut, Here, Elapses}
+use Rattle.st_host.specs.Stops.{comes, Follows, TornByWrite, TornByCut, Here, Elapses}
 use Rattle.st_host.specs.Written.{written, resized, written_is, resized_is}
 use Rattle.st_host.specs.Deeds.{Deed, Wrote, Cut, Synced, files_after, ForName, MayLeave, MayLeaveDuring, said_after, LeftSince}
 use Rattle.st_host.specs.HostState.{HostState, ChangesOrFails}
 use Rattle.st_host.specs.MemHost.{reads_now}
+use Rattle.st_host.proofs.Touching.{torn_same}
 
 chosen : (n : List ℕ) (one other : Option (List ℕ)) → (if bytes_eq n n then one else other) ≡ one
 chosen n one other = ap (λ (t : Bool). if t then one else other) ((bytes_eq-Decides n n).1 refl)
@@ -14,9 +15,6 @@ chosen n one other = ap (λ (t : Bool). if t then one else other) ((bytes_eq-Dec
 own : {own other : Type 0} (n : List ℕ) → ForName n n own other → own
 own n (inl same) = same.1
 own n (inr not) = absurd (not.0 refl)
-
-torn_same : (end at n len : ℕ) (file : Option (List ℕ)) → Torn end at n len file file
-torn_same end at n len file = record { absent = λ is. is; shortest = omega arith; longest = omega arith; same = λ i new was read out. refl }
 
 module _ (earlier : List Deed) (deed : Deed) where
   -- a deed that isn't said is done at once

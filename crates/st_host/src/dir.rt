@@ -9,7 +9,7 @@ use std::rt::Files;
 
 /// Files of the current folder by their names, and standard output.
 ///
-/// Each count stays at its last value.
+/// Each error raises its count, up to the last value of 64 bits.
 #[derive(Drop)]
 pub struct DirHost<R: Files + Print + Drop> {
     rt: R,
