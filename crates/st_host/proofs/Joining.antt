@@ -1,23 +1,15 @@
 -- Runs of calls that follow each other are one run.
-use Rattle.std.proofs.Common.{◌≡◌, ◌≢◌, ◌⊎◌, ◌≤◌, inl, inr, ⊎_elim, ℕ, List, [], ◌++◌, length, take, Bool, true, false, bytes_eq, Option, IsTrue, refl, sym, subst, ap, ◌∙◌, arith, append_assoc, length-append, length-take, true≢false}
+use Rattle.std.proofs.Common.{◌≡◌, ◌≢◌, ◌≤◌, inl, inr, ⊎_elim, ℕ, List, [], ◌++◌, length, take, Option, IsTrue, sym, subst, ap, ◌∙◌, arith, append_assoc, length-append, length-take}
 use Rattle.std.proofs.lemmas.List.{append-nil, take-append-le}
-use Rattle.std.proofs.lemmas.Slice.Eq.{bytes_eq-Decides}
 use Rattle.std.proofs.Math.Seq.{take-append_seam}
 use Rattle.std.specs.Io.{StartsWith}
 use Rattle.st_host.specs.Counts.{Rose}
 use Rattle.st_host.specs.Files.{Files}
-use Rattle.st_host.specs.Stops.{SameStops, Here, SaidPart, WhileSaying}
-use Rattle.st_host.specs.Runs.{LeavesOnly, ReadsAlike, OnlyReads, SaysAll, ReadsAndSays}
+use Rattle.st_host.specs.Stops.{SameStops, Here, SaidPart, WhileSaying, Elapses}
+use Rattle.st_host.specs.Names.{same_or_other}
+use Rattle.st_host.specs.Runs.{LeavesOnly, ReadsAlike, OnlyReads, Narrows, SaysAll, ReadsAndSays}
 use Rattle.st_host.specs.declared.host.Host.{Ghosts}
 use Rattle.st_host.proofs.Rising.{rose_first, rose_second}
-
--- two names are one or they aren't
-same_or_other : (a b : List ℕ) → (a ≡ b) ⊎ (a ≢ b)
-same_or_other a b = by_test (bytes_eq a b) refl
-  where
-    by_test : (t : Bool) → bytes_eq a b ≡ t → (a ≡ b) ⊎ (a ≢ b)
-    by_test true e = inl ((bytes_eq-Decides a b).0 e)
-    by_test false e = inr (λ same. true≢false (sym ((bytes_eq-Decides a b).1 same) ∙ e))
 
 begins_more : (text more now : List ℕ) → StartsWith text now → StartsWith (text ++ more) now
 begins_more text more now begins =
@@ -54,7 +46,17 @@ part_of : (before bytes mid now : List ℕ) → now ≡ mid → SaidPart before 
 part_of before bytes mid now same part = subst (SaidPart before bytes) (sym same) part
 
 module _ {D : Type 0} (host : Ghosts D) where
-  weaker : (old new : D) (P Q : Files → List ℕ → Type 0) → LeavesOnly host old new Q → ((f : Files) (s : List ℕ) → Q f s → P f s) → LeavesOnly host old new P
+  -- one call: what could be left before it, or at a moment of it
+  pub moments_once : (old new : D) (here during P : Files → List ℕ → Type 0) → ((f : Files) (s : List ℕ) → host.left_since old (host.moment old) f s → here f s)
+      → Elapses (host.moment old) (host.moment new) (host.left_since old) (host.left_since new) during
+      → ((f : Files) (s : List ℕ) → here f s → P f s) → ((f : Files) (s : List ℕ) → during f s → P f s) → LeavesOnly host old new P
+  moments_once old new here during P only_now time before in_call = record {
+    later = time.later;
+    each = λ f s left. ⊎_elim (λ was. before f s (only_now f s was)) (in_call f s) (time.nothing_else (host.moment old) f s (omega arith) left);
+    before = λ t f s le left. ⊎_elim (λ was. inl was) (λ now. inr (in_call f s now)) (time.nothing_else t f s le left);
+  }
+
+  pub weaker : (old new : D) (P Q : Files → List ℕ → Type 0) → LeavesOnly host old new Q → ((f : Files) (s : List ℕ) → Q f s → P f s) → LeavesOnly host old new P
   weaker old new P Q run holds = record {
     later = run.later;
     each = λ f s left. holds f s (run.each f s left);
@@ -62,7 +64,7 @@ module _ {D : Type 0} (host : Ghosts D) where
   }
 
   -- one run more
-  moments_join : (old mid new : D) (P Q : Files → List ℕ → Type 0) → LeavesOnly host old mid P → LeavesOnly host mid new Q
+  pub moments_join : (old mid new : D) (P Q : Files → List ℕ → Type 0) → LeavesOnly host old mid P → LeavesOnly host mid new Q
       → ((f : Files) (s : List ℕ) → Q f s → P f s) → LeavesOnly host old new P
   moments_join old mid new P Q first second holds = record {
     later = omega (arith, first.later, second.later);
@@ -109,6 +111,28 @@ module _ {D : Type 0} (host : Ghosts D) where
     stops = λ told. stops_join (host.may_leave old) (host.may_leave mid) (host.may_leave new) (first.stops told) (second.stops told);
     moments = λ told. moments_join old mid new (Here (host.may_leave old) (host.said old)) (Here (host.may_leave mid) (host.said mid))
         (first.moments told) (second.moments told) (λ f s here. (λ n. (first.stops told).fewer n (f n) (here.0 n), here.1 ∙ first.quiet told));
+  }
+
+  -- A run that only reads leaves a stop no more.
+  pub reads_narrow : (old new : D) → OnlyReads host old new → Narrows host old new
+  reads_narrow old new run = record {
+    disk = run.disk;
+    say = run.say;
+    alike = run.alike;
+    quiet = run.quiet;
+    fewer = λ told. (run.stops told).fewer;
+    moments = run.moments;
+  }
+
+  pub narrows_join : (old mid new : D) → Narrows host old mid → Narrows host mid new → Narrows host old new
+  narrows_join old mid new first second = record {
+    disk = omega (arith, first.disk, second.disk);
+    say = second.say ∙ first.say;
+    alike = alike_unless old mid new first.disk second.disk first.alike second.alike;
+    quiet = λ told. second.quiet told ∙ first.quiet told;
+    fewer = λ told n c can. first.fewer told n c (second.fewer told n c can);
+    moments = λ told. moments_join old mid new (Here (host.may_leave old) (host.said old)) (Here (host.may_leave mid) (host.said mid))
+        (first.moments told) (second.moments told) (λ f s here. (λ n. first.fewer told n (f n) (here.0 n), here.1 ∙ first.quiet told));
   }
 
   -- two texts, each said whole, are one

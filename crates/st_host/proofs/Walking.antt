@@ -1,41 +1,53 @@
 -- A walk through the log, the oldest entry first, gives what the deeds give, the newest first.
-use Rattle.std.proofs.Common.{◌≡◌, ℕ, if◌then◌else◌, bytes_eq, List, [], ◌∷◌, ◌++◌, take, drop, reverse, Option, Some, None, refl, sym, ap, ◌∙◌}
+use Rattle.std.proofs.Common.{◌≡◌, ℕ, Bool, true, false, if◌then◌else◌, bytes_eq, List, [], ◌∷◌, ◌++◌, reverse, Option, None, refl, sym, ap, ◌∙◌}
 use Rattle.std.proofs.lemmas.List.{reverse-append}
-use Rattle.st_host.specs.Deeds.{Deed, Put, Said, files_after}
-use Rattle.st_host.specs.Log.{deeds_of, content_of}
+use Rattle.st_host.specs.Deeds.{Deed, after_deed, files_after}
+use Rattle.st_host.specs.Log.{deed_of, name_of, content_of, rest_of, deeds_of, changed, file_of}
 use Rattle.st_host.specs.declared.log.Entry.{Entry}
-use Rattle.st_host.specs.declared.log.Entry.TheVariants.{Put as PutEntry, Said as SaidEntry}
+use Rattle.st_host.specs.declared.log.Kind.{Kind}
+use Rattle.st_host.specs.declared.log.Kind.TheVariants.{Put as PutKind, Wrote as WroteKind, Cut as CutKind, Synced as SyncedKind, Said as SaidKind}
 
--- a file after these deeds, the newest first, of which it was `was` before
+-- a file after these deeds, the newest first, which was `file` before
 after : Option (List ℕ) → List Deed → List ℕ → Option (List ℕ)
-after was [] n = was
-after was (Put name bytes ∷ earlier) n = if bytes_eq n name then Some bytes else after was earlier n
-after was (Said bytes ∷ earlier) n = after was earlier n
+after file [] n = file
+after file (deed ∷ earlier) n = after_deed deed n (after file earlier n)
 
 after-none : (deeds : List Deed) (n : List ℕ) → after None deeds n ≡ files_after deeds n
 unfolding after
 after-none [] n = refl
-after-none (Put name bytes ∷ earlier) n = ap (λ x. if bytes_eq n name then Some bytes else x) (after-none earlier n)
-after-none (Said bytes ∷ earlier) n = after-none earlier n
+after-none (deed ∷ earlier) n = ap (after_deed deed n) (after-none earlier n)
 
-after-append : (was : Option (List ℕ)) (deeds earlier : List Deed) (n : List ℕ) → after was (deeds ++ earlier) n ≡ after (after was earlier n) deeds n
+after-append : (file : Option (List ℕ)) (deeds earlier : List Deed) (n : List ℕ) → after file (deeds ++ earlier) n ≡ after (after file earlier n) deeds n
 unfolding after
-after-append was [] earlier n = refl
-after-append was (Put name bytes ∷ deeds) earlier n = ap (λ x. if bytes_eq n name then Some bytes else x) (after-append was deeds earlier n)
-after-append was (Said bytes ∷ deeds) earlier n = after-append was deeds earlier n
+after-append file [] earlier n = refl
+after-append file (deed ∷ deeds) earlier n = ap (after_deed deed n) (after-append file deeds earlier n)
 
-after-reverse : (was : Option (List ℕ)) (deed : Deed) (later : List Deed) (n : List ℕ) → after was (reverse (deed ∷ later)) n ≡ after (after was (deed ∷ []) n) (reverse later) n
-after-reverse was deed later n = ap (λ x. after was x n) (reverse-append (deed ∷ []) later) ∙ after-append was (reverse later) (deed ∷ []) n
-
-walks : (was : Option (List ℕ)) (log : List Entry) (arena said n : List ℕ) → after was (reverse (deeds_of log arena said)) n ≡ content_of was log arena n
+after-reverse : (file : Option (List ℕ)) (deed : Deed) (later : List Deed) (n : List ℕ) → after file (reverse (deed ∷ later)) n ≡ after (after_deed deed n file) (reverse later) n
 unfolding after
-walks was [] arena said n = refl
-walks was (PutEntry name bytes ∷ later) arena said n =
-    let rest = drop bytes (drop name arena) in
-    after-reverse was (Put (take name arena) (take bytes (drop name arena))) (deeds_of later rest said) n
-    ∙ walks (if bytes_eq n (take name arena) then Some (take bytes (drop name arena)) else was) later rest said n
-walks was (SaidEntry bytes ∷ later) arena said n =
-    after-reverse was (Said (take bytes said)) (deeds_of later arena (drop bytes said)) n ∙ walks was later arena (drop bytes said) n
+after-reverse file deed later n = ap (λ x. after file x n) (reverse-append (deed ∷ []) later) ∙ after-append file (reverse later) (deed ∷ []) n
 
-pub files_after_walk : (log : List Entry) (arena said n : List ℕ) → files_after (reverse (deeds_of log arena said)) n ≡ content_of None log arena n
-files_after_walk log arena said n = sym (after-none (reverse (deeds_of log arena said)) n) ∙ walks None log arena said n
+either : (t : Bool) (file : Option (List ℕ)) → file ≡ (if t then file else file)
+either true file = refl
+either false file = refl
+
+-- a deed changes the file of its name alone
+after_deed-of : (kind : Kind) (name bytes n : List ℕ) (file : Option (List ℕ))
+    → after_deed (deed_of kind name bytes) n file ≡ (if bytes_eq n name then changed kind bytes file else file)
+after_deed-of PutKind name bytes n file = refl
+after_deed-of (WroteKind end) name bytes n file = refl
+after_deed-of (CutKind len) name bytes n file = refl
+after_deed-of SyncedKind name bytes n file = either (bytes_eq n name) file
+after_deed-of SaidKind name bytes n file = either (bytes_eq n name) file
+
+walks : (file : Option (List ℕ)) (log : List Entry) (arena n : List ℕ) → after file (reverse (deeds_of log arena)) n ≡ file_of file log arena n
+unfolding after
+walks file [] arena n = refl
+walks file (entry ∷ later) arena n =
+    let deed = deed_of entry.kind (name_of entry arena) (content_of entry arena) in
+    let rest = rest_of entry arena in
+    after-reverse file deed (deeds_of later rest) n
+    ∙ ap (λ x. after x (reverse (deeds_of later rest)) n) (after_deed-of entry.kind (name_of entry arena) (content_of entry arena) n file)
+    ∙ walks (if bytes_eq n (name_of entry arena) then changed entry.kind (content_of entry arena) file else file) later rest n
+
+pub files_after_walk : (log : List Entry) (arena n : List ℕ) → files_after (reverse (deeds_of log arena)) n ≡ file_of None log arena n
+files_after_walk log arena n = sym (after-none (reverse (deeds_of log arena)) n) ∙ walks None log arena n

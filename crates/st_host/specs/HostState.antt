@@ -1,5 +1,5 @@
 -- A host in memory as contracts see it, and when its calls fail.
-use Rattle.std.specs.Prelude.{◌≡◌, ◌⊎◌, ◌↔◌, ℕ, ◌-◌, ◌<◌, List, [], ◌∷◌, length, Contains, Result, IsErr, OnOk, OnErr}
+use Rattle.std.specs.Prelude.{◌≡◌, ◌⊎◌, ◌↔◌, ℕ, ◌-◌, ◌^◌, ◌<◌, ◌≤◌, List, [], ◌∷◌, length, Contains, Result, IsErr, OnOk, OnErr}
 use Rattle.st_host.specs.Counts.{one_more}
 use Rattle.st_host.specs.Deeds.{Deed, Put, Said}
 
@@ -28,7 +28,7 @@ counted host = record host { calls = one_more host.calls }
 abbrev pub IsNextFailing : HostState → Type 0
 IsNextFailing host = Contains host.failing (one_more host.calls)
 
--- a call that takes so many bytes passes the room
+-- A call that takes so many bytes passes the room that is left.
 abbrev pub PassesRoom : HostState → ℕ → Type 0
 PassesRoom host bytes = (host.calls_left ≡ 0) ⊎ (host.bytes_left < bytes)
 
@@ -40,15 +40,15 @@ disk_failed host = record (counted host) { disk_faults = one_more host.disk_faul
 abbrev pub say_failed : HostState → HostState
 say_failed host = record (counted host) { say_faults = one_more host.say_faults }
 
--- with a file of this name put there, in the place of one of the same name
+-- with a file of this name put there, besides the room
 abbrev pub with_file : List ℕ → List ℕ → HostState → HostState
 with_file name bytes host = record host { deeds = Put name bytes ∷ host.deeds }
 
--- with these bytes said, which take room
-abbrev pub with_said : List ℕ → HostState → HostState
-with_said bytes host = record host {
-  deeds = Said bytes ∷ host.deeds;
-  bytes_left = host.bytes_left - length bytes;
+-- after a deed that takes so many bytes of the room
+abbrev pub with_deed : Deed → ℕ → HostState → HostState
+with_deed deed bytes host = record host {
+  deeds = deed ∷ host.deeds;
+  bytes_left = host.bytes_left - bytes;
   calls_left = host.calls_left - 1;
 }
 
@@ -58,8 +58,15 @@ pub record ReadsOrFails {T E : Type 0} (old new : HostState) (result : Result T 
   pub ok : OnOk result (new ≡ counted old)
   pub err : OnErr result (new ≡ disk_failed old)
 
--- A `say` fails just where its number is one of those that fail, or it passes the room. Then it says nothing.
+-- A call that does a deed to a file, and gives it this end, fails just where its number is one of those that fail, it
+-- passes the room, or no file could be so long. Then it changes nothing.
+pub record ChangesOrFails {T E : Type 0} (deed : Deed) (bytes end : ℕ) (old new : HostState) (result : Result T E) : Type 0 where
+  pub fails : IsErr result ↔ (IsNextFailing old ⊎ PassesRoom old bytes ⊎ (2 ^ 64 ≤ end))
+  pub ok : OnOk result (new ≡ with_deed deed bytes (counted old))
+  pub err : OnErr result (new ≡ disk_failed old)
+
+-- A `say` fails just in the first two of these cases. Then it says nothing.
 pub record SaysOrFails {T E : Type 0} (bytes : List ℕ) (old new : HostState) (result : Result T E) : Type 0 where
   pub fails : IsErr result ↔ (IsNextFailing old ⊎ PassesRoom old (length bytes))
-  pub ok : OnOk result (new ≡ with_said bytes (counted old))
+  pub ok : OnOk result (new ≡ with_deed (Said bytes) (length bytes) (counted old))
   pub err : OnErr result (new ≡ say_failed old)

@@ -1,8 +1,8 @@
 -- What holds at each moment of a run of calls.
-use Rattle.std.specs.Prelude.{◌≡◌, ◌⊎◌, ℕ, ◌≤◌, List, ◌++◌, IsTrue}
+use Rattle.std.specs.Prelude.{◌≡◌, ◌≢◌, ◌⊎◌, ℕ, ◌≤◌, List, ◌++◌, Option, IsTrue}
 use Rattle.st_host.specs.Counts.{Rose}
-use Rattle.st_host.specs.Files.{Files}
-use Rattle.st_host.specs.Stops.{SameStops, Here, SaidPart, WhileSaying}
+use Rattle.st_host.specs.Files.{Files, KeepsBelow}
+use Rattle.st_host.specs.Stops.{SameStops, Apart, Comes, Follows, TornByWrite, TornByCut, Here, SaidPart, WhileSaying}
 use Rattle.st_host.specs.declared.host.Host.{Ghosts}
 
 -- A stop at any moment of the run leaves files, with the bytes said by then, that have P.
@@ -38,3 +38,50 @@ pub record ReadsAndSays {D : Type 0} (host : Ghosts D) (bytes : List ℕ) (old n
   pub part : IsTrue host.is_told → SaidPart (host.said old) bytes (host.said new)
   pub stops : IsTrue host.is_told → SameStops (host.may_leave old) (host.may_leave new)
   pub moments : IsTrue host.is_told → LeavesOnly host old new (WhileSaying (host.may_leave old) (host.said old) bytes)
+
+-- A run of calls that only reads and syncs: a stop leaves at each of its moments what it could leave at first. Where no
+-- disk fault was counted in it, every file reads as before.
+pub record Narrows {D : Type 0} (host : Ghosts D) (old new : D) : Type 0 where
+  pub disk : host.disk_faults old ≤ host.disk_faults new
+  pub say : host.say_faults new ≡ host.say_faults old
+  pub alike : (Rose (host.disk_faults old) (host.disk_faults new) → ⊥) → ReadsAlike host old new
+  pub quiet : IsTrue host.is_told → host.said new ≡ host.said old
+  pub fewer : IsTrue host.is_told → (n : List ℕ) (c : Option (List ℕ)) → host.may_leave new n c → host.may_leave old n c
+  pub moments : IsTrue host.is_told → LeavesOnly host old new (Here (host.may_leave old) (host.said old))
+
+-- A stop leaves no other file than some that it could leave before, but that of this name, which has gone on by a step,
+-- and nothing was said.
+pub record Touched {D : Type 0} (host : Ghosts D) (step : Option (List ℕ) → Option (List ℕ) → Type 0) (name : List ℕ) (old : D) (f : Files) (s : List ℕ) : Type 0 where
+  pub others : (n : List ℕ) → n ≢ name → host.may_leave old n (f n)
+  pub own : Comes step (host.may_leave old name) (f name)
+  pub quiet : s ≡ host.said old
+
+-- A run of calls that changes one file: at each of its moments this file has gone on by a step, and all else is as
+-- before.
+pub record Touches {D : Type 0} (host : Ghosts D) (step : Option (List ℕ) → Option (List ℕ) → Type 0) (name : List ℕ) (old new : D) : Type 0 where
+  pub disk : host.disk_faults old ≤ host.disk_faults new
+  pub say : host.say_faults new ≡ host.say_faults old
+  pub others : IsTrue host.is_told → Apart name (host.files old) (host.files new) (host.may_leave old) (host.may_leave new)
+  pub quiet : IsTrue host.is_told → host.said new ≡ host.said old
+  pub own : IsTrue host.is_told → Follows step (host.may_leave old name) (host.may_leave new name)
+  pub moments : IsTrue host.is_told → LeavesOnly host old new (Touched host step name old)
+
+-- The run wrote n bytes at a place of the file, of which a stop may leave any.
+pub record Writes {D : Type 0} (host : Ghosts D) (name : List ℕ) (at n : ℕ) (old new : D) : Type 0 where
+  pub run : Touches host (TornByWrite (host.files old name) at n) name old new
+
+-- The run gave the file a length, and a stop may leave one between.
+pub record Cuts {D : Type 0} (host : Ghosts D) (name : List ℕ) (len : ℕ) (old new : D) : Type 0 where
+  pub run : Touches host (TornByCut (host.files old name) len) name old new
+
+-- The run synced the file: a stop leaves of it no more than it could leave.
+pub record Syncs {D : Type 0} (host : Ghosts D) (name : List ℕ) (old new : D) : Type 0 where
+  pub run : Touches host (λ was is. was ≡ is) name old new
+
+-- The run changed the file, and left so many first bytes as they were.
+pub record WritesAbove {D : Type 0} (host : Ghosts D) (floor : ℕ) (name : List ℕ) (old new : D) : Type 0 where
+  pub run : Touches host (KeepsBelow floor) name old new
+
+-- a stop leaves of this file just what it reads as
+pub record IsSynced {D : Type 0} (host : Ghosts D) (name : List ℕ) (new : D) : Type 0 where
+  pub is : IsTrue host.is_told → (c : Option (List ℕ)) → host.may_leave new name c → c ≡ host.files new name

@@ -4,12 +4,12 @@ ghost use Rattle.st_host.specs.Untold.{untold};
 
 use crate::{Host, HostFault, SayFault};
 use std::fs::{OpenFile, OpenOptions};
-use std::io::{self, ErrorKind, Read, Seek, SeekFrom};
+use std::io::{self, ErrorKind, Read, Seek, SeekFrom, Write};
 use std::rt::Files;
 
 /// Files of the current folder by their names, and standard output.
 ///
-/// Each count stays at its last value.
+/// Each error raises its count, up to the last value of 64 bits.
 #[derive(Drop)]
 pub struct DirHost<R: Files + Print + Drop> {
     rt: R,
@@ -63,6 +63,27 @@ impl<R: Files + Print + Drop> DirHost<R> {
             None => Ok(0),
         }
     }
+
+    fn write(&self, name: &str, at: u64, bytes: &[u8]) -> io::Result<()> {
+        let mut file = self.open_to_write(name)?;
+        file.seek(SeekFrom::Start(at))?;
+        file.write_all(bytes)
+    }
+
+    // The file is made where there is none.
+    fn open_to_write(&self, name: &str) -> io::Result<R::File> {
+        OpenOptions::new()
+            .write(true)
+            .create(true)
+            .open(&self.rt, name)
+    }
+
+    fn sync_file(&self, name: &str) -> io::Result<()> {
+        match self.open(name)? {
+            Some(file) => file.sync_all(),
+            None => Ok(()),
+        }
+    }
 }
 
 impl<R: Files + Print + Drop> Host for DirHost<R> {
@@ -101,6 +122,36 @@ impl<R: Files + Print + Drop> Host for DirHost<R> {
     fn read_at(&mut self, name: &str, at: u64, into: &mut [u8]) -> Result<usize, HostFault> {
         match self.read(name, at, into) {
             Ok(count) => Ok(count),
+            Err(_) => {
+                self.disk_faults = self.disk_faults.saturating_add(1);
+                Err(HostFault)
+            }
+        }
+    }
+
+    fn write_at(&mut self, name: &str, at: u64, bytes: &[u8]) -> Result<(), HostFault> {
+        match self.write(name, at, bytes) {
+            Ok(()) => Ok(()),
+            Err(_) => {
+                self.disk_faults = self.disk_faults.saturating_add(1);
+                Err(HostFault)
+            }
+        }
+    }
+
+    fn cut(&mut self, name: &str, len: u64) -> Result<(), HostFault> {
+        match self.open_to_write(name).and_then(|file| file.set_len(len)) {
+            Ok(()) => Ok(()),
+            Err(_) => {
+                self.disk_faults = self.disk_faults.saturating_add(1);
+                Err(HostFault)
+            }
+        }
+    }
+
+    fn sync(&mut self, name: &str) -> Result<(), HostFault> {
+        match self.sync_file(name) {
+            Ok(()) => Ok(()),
             Err(_) => {
                 self.disk_faults = self.disk_faults.saturating_add(1);
                 Err(HostFault)

@@ -1,8 +1,8 @@
 // The host: files by name, and a place where bytes are said.
 ghost use Rattle.std.specs.Prelude.{◌≡◌, ◌≢◌, ◌≤◌, ◌++◌, ℕ, Bool, IsTrue, List, length, Option, IfOk, OnOk};
 ghost use Rattle.st_host.specs.Counts.{HasCause};
-ghost use Rattle.st_host.specs.Files.{Files, bytes_of, length_of, Reads};
-ghost use Rattle.st_host.specs.Stops.{SameStops, Here, SaidPart, WhileSaying, Elapses};
+ghost use Rattle.st_host.specs.Files.{Files, bytes_of, length_of, Reads, IsWritten, IsCut};
+ghost use Rattle.st_host.specs.Stops.{SameStops, Apart, Follows, TornByWrite, TornByCut, Here, SaidPart, WhileSaying, Elapses};
 
 /// A call on a file failed.
 #[derive(Clone, Copy, Debug, PartialEq, Eq)]
@@ -51,8 +51,8 @@ pub trait Host {
         ensures quiet { IsTrue is_told → said self.new ≡ said self.old }
 
         ensures stops { IsTrue is_told → SameStops (may_leave self.old) (may_leave self.new) }
-        ensures time { IsTrue is_told → Elapses (moment self.old) (moment self.new) (left_since self.old) (left_since self.new)
-            (Here (may_leave self.new) (said self.new)) }
+        ensures time { IsTrue is_told →
+            Elapses (moment self.old) (moment self.new) (left_since self.old) (left_since self.new) (Here (may_leave self.new) (said self.new)) }
 
         ensures cause { HasCause (disk_faults self.old) (disk_faults self.new) result }
         ensures say_count { say_faults self.new ≡ say_faults self.old };
@@ -70,8 +70,65 @@ pub trait Host {
         ensures quiet { IsTrue is_told → said self.new ≡ said self.old }
 
         ensures stops { IsTrue is_told → SameStops (may_leave self.old) (may_leave self.new) }
-        ensures time { IsTrue is_told → Elapses (moment self.old) (moment self.new) (left_since self.old) (left_since self.new)
-            (Here (may_leave self.new) (said self.new)) }
+        ensures time { IsTrue is_told →
+            Elapses (moment self.old) (moment self.new) (left_since self.old) (left_since self.new) (Here (may_leave self.new) (said self.new)) }
+
+        ensures cause { HasCause (disk_faults self.old) (disk_faults self.new) result }
+        ensures say_count { say_faults self.new ≡ say_faults self.old };
+
+    /// Writes bytes from the place `at` on over what is there, and past the end. An absent file is made.
+    fn write_at(&mut self, name: &str, at: u64, bytes: &[u8]) -> Result<(), HostFault>
+        ensures written { OnOk result (IsTrue is_told →
+            IsWritten at bytes.now (files self.old name.now) (files self.new name.now)) }
+
+        // Every other file is as before, also after an error. Nothing is said.
+        ensures others { IsTrue is_told →
+            Apart name.now (files self.old) (files self.new) (may_leave self.old) (may_leave self.new) }
+        ensures quiet { IsTrue is_told → said self.new ≡ said self.old }
+
+        ensures stops { IsTrue is_told →
+            Follows (TornByWrite (files self.old name.now) at (length bytes.now))
+            (may_leave self.old name.now) (may_leave self.new name.now) }
+        ensures time { IsTrue is_told →
+            Elapses (moment self.old) (moment self.new) (left_since self.old) (left_since self.new) (Here (may_leave self.new) (said self.new)) }
+
+        ensures cause { HasCause (disk_faults self.old) (disk_faults self.new) result }
+        ensures say_count { say_faults self.new ≡ say_faults self.old };
+
+    /// Gives a file the length `len`. An absent file is made.
+    fn cut(&mut self, name: &str, len: u64) -> Result<(), HostFault>
+        ensures cut { OnOk result (IsTrue is_told →
+            IsCut len (files self.old name.now) (files self.new name.now)) }
+
+        // As in `write_at`.
+        ensures others { IsTrue is_told →
+            Apart name.now (files self.old) (files self.new) (may_leave self.old) (may_leave self.new) }
+        ensures quiet { IsTrue is_told → said self.new ≡ said self.old }
+
+        ensures stops { IsTrue is_told →
+            Follows (TornByCut (files self.old name.now) len)
+            (may_leave self.old name.now) (may_leave self.new name.now) }
+        ensures time { IsTrue is_told →
+            Elapses (moment self.old) (moment self.new) (left_since self.old) (left_since self.new) (Here (may_leave self.new) (said self.new)) }
+
+        ensures cause { HasCause (disk_faults self.old) (disk_faults self.new) result }
+        ensures say_count { say_faults self.new ≡ say_faults self.old };
+
+    /// Makes a file stay as it reads: after it a stop leaves just that. Of an absent file it does nothing.
+    fn sync(&mut self, name: &str) -> Result<(), HostFault>
+        ensures synced { OnOk result (IsTrue is_told →
+            (c : Option (List ℕ)) → may_leave self.new name.now c → c ≡ files self.new name.now) }
+        ensures alike { OnOk result (IsTrue is_told → files self.new name.now ≡ files self.old name.now) }
+
+        // As in `write_at`.
+        ensures others { IsTrue is_told →
+            Apart name.now (files self.old) (files self.new) (may_leave self.old) (may_leave self.new) }
+        ensures quiet { IsTrue is_told → said self.new ≡ said self.old }
+
+        ensures stops { IsTrue is_told →
+            (c : Option (List ℕ)) → may_leave self.new name.now c → may_leave self.old name.now c }
+        ensures time { IsTrue is_told →
+            Elapses (moment self.old) (moment self.new) (left_since self.old) (left_since self.new) (Here (may_leave self.new) (said self.new)) }
 
         ensures cause { HasCause (disk_faults self.old) (disk_faults self.new) result }
         ensures say_count { say_faults self.new ≡ say_faults self.old };
@@ -83,8 +140,8 @@ pub trait Host {
 
         ensures alike { IsTrue is_told → (n : List ℕ) → files self.new n ≡ files self.old n }
         ensures stops { IsTrue is_told → SameStops (may_leave self.old) (may_leave self.new) }
-        ensures time { IsTrue is_told → Elapses (moment self.old) (moment self.new) (left_since self.old) (left_since self.new)
-            (WhileSaying (may_leave self.new) (said self.old) bytes.now) }
+        ensures time { IsTrue is_told →
+            Elapses (moment self.old) (moment self.new) (left_since self.old) (left_since self.new) (WhileSaying (may_leave self.new) (said self.old) bytes.now) }
 
         ensures cause { HasCause (say_faults self.old) (say_faults self.new) result }
         ensures disk_count { disk_faults self.new ≡ disk_faults self.old };
@@ -93,8 +150,10 @@ pub trait Host {
     ghost read_counts: { (h : Self) (n : List ℕ) → IsTrue is_told → may_leave h n (files h n) };
 
     /// This moment is one of those since any earlier one.
-    ghost counts_now: { (h : Self) (t : ℕ) (f : Files) (s : List ℕ) → IsTrue is_told → t ≤ moment h → Here (may_leave h) (said h) f s → left_since h t f s };
+    ghost counts_now: { (h : Self) (t : ℕ) (f : Files) (s : List ℕ) → IsTrue is_told →
+        t ≤ moment h → Here (may_leave h) (said h) f s → left_since h t f s };
 
     /// Since this moment there was no other.
-    ghost only_now: { (h : Self) (f : Files) (s : List ℕ) → IsTrue is_told → left_since h (moment h) f s → Here (may_leave h) (said h) f s };
+    ghost only_now: { (h : Self) (f : Files) (s : List ℕ) → IsTrue is_told →
+        left_since h (moment h) f s → Here (may_leave h) (said h) f s };
 }

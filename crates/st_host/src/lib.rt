@@ -10,6 +10,7 @@ mod reads;
 mod says;
 mod source;
 mod stdin;
+mod writes;
 
 pub use dir::DirHost;
 pub use host::{Host, HostFault, SayFault};
@@ -19,6 +20,7 @@ pub use reads::{file_length, read_from};
 pub use says::say_all;
 pub use source::{ReadFault, Source};
 pub use stdin::StdinSource;
+pub use writes::{cut_file, sync_file, write_bytes, write_synced};
 
 #[cfg(test)]
 mod tests;

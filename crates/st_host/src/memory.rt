@@ -1,9 +1,9 @@
 // A host in memory. It keeps each deed, so that a stop may leave all that the contract of a host allows.
 ghost use Rattle.std.specs.Prelude.{◌≡◌, ◌⊎◌, ◌↔◌, ◌++◌, ◌∷◌, [], ◌+◌, ◌-◌, ◌<◌, ◌≤◌, ℕ, List, length, reverse, IsTrue, true, IfOk, OnOk, OnErr, IsErr, Option, Some, vec_len, vec_capacity};
-ghost use Rattle.st_host.specs.Counts.{HasCause};
+ghost use Rattle.st_host.specs.Counts.{one_more, Rose, HasCause};
 ghost use Rattle.st_host.specs.Files.{length_of, bytes_of, IsRead};
 
-use crate::log::{Entry, append_file, content, copy};
+use crate::log::{Entry, Kind, append, append_file, append_said, window};
 use crate::{Host, HostFault, SayFault};
 use std::alloc::{AllocError, Global};
 use std::marker::Model;
@@ -34,7 +34,7 @@ impl Model for MemHost {
     ghost Value = { HostState };
 
     ghost view = { λ m. record {
-      deeds = reverse (deeds_of m.log.items m.arena.items m.said.items);
+      deeds = reverse (deeds_of m.log.items m.arena.items);
       calls = m.calls;
       failing = m.failing.items;
       bytes_left = m.bytes_left;
@@ -47,9 +47,9 @@ impl Model for MemHost {
 }
 
 impl MemHost {
-    ghost use Rattle.st_host.specs.HostState.{fresh, counted, with_file, with_said, IsNextFailing, PassesRoom, ReadsOrFails};
+    ghost use Rattle.st_host.specs.HostState.{fresh, counted, with_file, with_deed, IsNextFailing, PassesRoom, ReadsOrFails};
     ghost use Rattle.st_host.specs.Deeds.{said_after, files_after};
-    ghost use Rattle.std.specs.Option.{option_copied};
+    ghost use Rattle.st_host.specs.Log.{deed_of, IsWindow};
 
     /// A host without files, of which no call was made. It has room for nothing.
     pub fn new(alloc: Global) -> Result<MemHost, AllocError>
@@ -77,7 +77,7 @@ impl MemHost {
     }
 
     /// Makes room for so many more bytes, and for so many more calls that change something. Only such a call takes
-    /// room: a `say` one call and its bytes.
+    /// room: one call, the bytes of its name, and the bytes that it writes or says.
     pub fn room_for(&mut self, _alloc: Global, bytes: u64, calls: u64) -> Result<(), AllocError>
         ensures ok { OnOk result (self.new ≡ record self.old {
           bytes_left = self.old.bytes_left + bytes;
@@ -87,6 +87,7 @@ impl MemHost {
     {
         let bytes_left = self.bytes_left.checked_add(bytes).ok_or(AllocError)?;
         let calls_left = self.calls_left.checked_add(calls).ok_or(AllocError)?;
+        self.arena.reserve(bytes_left as usize)?;
         self.said.reserve(bytes_left as usize)?;
         self.log.reserve(calls_left as usize)?;
         self.bytes_left = bytes_left;
@@ -95,7 +96,7 @@ impl MemHost {
     }
 
     /// Puts a file there, in the place of one of the same name. It counts as synced, and takes no room.
-    #[tactic(auto, using(crate::proofs::Appending::put_newest))]
+    #[tactic(auto, using(crate::proofs::Appending::put_first))]
     pub fn put(&mut self, _alloc: Global, name: &str, bytes: &[u8]) -> Result<(), AllocError>
         ensures ok { OnOk result (self.new ≡ with_file name.now bytes.now self.old) }
         ensures err { OnErr result (self.new ≡ self.old) }
@@ -103,6 +104,7 @@ impl MemHost {
         append_file(
             &mut self.log,
             &mut self.arena,
+            self.bytes_left,
             self.calls_left,
             name.as_bytes(),
             bytes,
@@ -117,12 +119,13 @@ impl MemHost {
         &self.said
     }
 
-    // What a file reads as.
+    // The length of a file. The slice takes its bytes from a place on.
     #[tactic(auto, using(crate::proofs::Walking::files_after_walk))]
-    fn content(&self, name: &str) -> Option<&[u8]>
-        ensures { option_copied result ≡ files_after self.now.deeds name.now }
+    fn window(&self, name: &str, at: u64, into: &mut [u8]) -> Option<u64>
+        ensures length { result ≡ length_of (files_after self.now.deeds name.now) }
+        ensures window { IsWindow (bytes_of (files_after self.now.deeds name.now)) at into.new }
     {
-        content(&self.log, &self.arena, name.as_bytes())
+        window(&self.log, &self.arena, name.as_bytes(), at, into)
     }
 
     // Counts a call, and says whether it is one of those that fail.
@@ -134,44 +137,53 @@ impl MemHost {
         self.failing.contains(&self.calls)
     }
 
+    // Counts a disk fault.
+    fn disk_fault(&mut self) -> HostFault
+        ensures counted { self.new ≡ record self.old { disk_faults = one_more self.old.disk_faults } }
+        ensures later { self.old.disk_faults ≤ self.new.disk_faults }
+        ensures rose { Rose self.old.disk_faults self.new.disk_faults }
+    {
+        self.disk_faults = self.disk_faults.saturating_add(1);
+        HostFault
+    }
+
     // Begins a call that only reads.
     fn begin_read(&mut self) -> Result<(), HostFault>
         ensures exactly { ReadsOrFails self.old self.new result }
         ensures cause { HasCause self.old.disk_faults self.new.disk_faults result }
     {
         if self.count_call() {
-            self.disk_faults = self.disk_faults.saturating_add(1);
-            return Err(HostFault);
+            return Err(self.disk_fault());
         }
         Ok(())
     }
 
     // Begins a call that takes so many bytes of the room, and says whether it fails.
-    fn begin_deed(&mut self, bytes: usize) -> bool
+    fn begin_deed(&mut self, bytes: u64) -> bool
         ensures fails { IsTrue result ↔ (IsNextFailing self.old ⊎ PassesRoom self.old bytes) }
         ensures counted { self.new ≡ counted self.old }
     {
         let failing = self.count_call();
-        failing || self.calls_left == 0 || self.bytes_left < bytes as u64
+        failing || self.calls_left == 0 || self.bytes_left < bytes
     }
 
-    // Says bytes for which there is room.
-    #[tactic(auto, using(crate::proofs::Appending::said_newest))]
-    fn add_said(&mut self, bytes: &[u8])
+    // Does a deed for which there is room.
+    #[tactic(auto, using(crate::proofs::Appending::newest_first))]
+    fn add_deed(&mut self, kind: Kind, name: &[u8], bytes: &[u8])
         requires calls { 0 < self.old.calls_left }
-        requires bytes { length bytes.now ≤ self.old.bytes_left }
-        ensures { self.new ≡ with_said bytes.now self.old }
+        requires bytes { length name.now + length bytes.now ≤ self.old.bytes_left }
+        ensures { self.new ≡ with_deed (deed_of kind name.now bytes.now) (length name.now + length bytes.now) self.old }
     {
-        self.said.extend_from_slice(bytes).unwrap();
-        self.log.push_reserved(Entry::Said { bytes: bytes.len() });
-        self.bytes_left -= bytes.len() as u64;
+        append_said(&mut self.said, kind, bytes);
+        append(&mut self.log, &mut self.arena, kind, name, bytes);
+        self.bytes_left -= (name.len() + bytes.len()) as u64;
         self.calls_left -= 1;
     }
 }
 
 impl Host for MemHost {
-    ghost use Rattle.st_host.specs.HostState.{ReadsOrFails, SaysOrFails};
-    ghost use Rattle.st_host.specs.Deeds.{files_after, MayLeave, said_after, LeftSince};
+    ghost use Rattle.st_host.specs.HostState.{ReadsOrFails, ChangesOrFails, SaysOrFails};
+    ghost use Rattle.st_host.specs.Deeds.{Wrote, Cut, Synced, files_after, MayLeave, said_after, LeftSince};
     ghost use Rattle.st_host.specs.MemHost.{reads_now, now_counts, now_only};
 
     ghost is_told = { true };
@@ -202,7 +214,7 @@ impl Host for MemHost {
         ensures cause { HasCause self.old.disk_faults self.new.disk_faults result }
     {
         self.begin_read()?;
-        Ok(self.content(name).map(|bytes| bytes.len() as u64))
+        Ok(self.window(name, 0, &mut []))
     }
 
     fn read_at(&mut self, name: &str, at: u64, into: &mut [u8]) -> Result<usize, HostFault>
@@ -212,21 +224,56 @@ impl Host for MemHost {
         ensures cause { HasCause self.old.disk_faults self.new.disk_faults result }
     {
         self.begin_read()?;
-        match self.content(name) {
-            Some(bytes) => Ok(copy(bytes, at, into)),
-            None => Ok(0),
+        let length = self.window(name, at, into).unwrap_or(0);
+        Ok(into.len().min(length.saturating_sub(at) as usize))
+    }
+
+    fn write_at(&mut self, name: &str, at: u64, bytes: &[u8]) -> Result<(), HostFault>
+        ensures exactly { ChangesOrFails (Wrote name.now at bytes.now) (length name.now + length bytes.now) (at + length bytes.now)
+            self.old self.new result }
+        ensures cause { HasCause self.old.disk_faults self.new.disk_faults result }
+    {
+        let failing = self.begin_deed((name.len() + bytes.len()) as u64);
+        match at.checked_add(bytes.len() as u64) {
+            Some(end) if !failing => {
+                self.add_deed(Kind::Wrote { end }, name.as_bytes(), bytes);
+                Ok(())
+            }
+            _ => Err(self.disk_fault()),
         }
+    }
+
+    fn cut(&mut self, name: &str, len: u64) -> Result<(), HostFault>
+        ensures exactly { ChangesOrFails (Cut name.now len) (length name.now) len self.old self.new result }
+        ensures cause { HasCause self.old.disk_faults self.new.disk_faults result }
+    {
+        if self.begin_deed(name.len() as u64) {
+            return Err(self.disk_fault());
+        }
+        self.add_deed(Kind::Cut { len }, name.as_bytes(), &[]);
+        Ok(())
+    }
+
+    fn sync(&mut self, name: &str) -> Result<(), HostFault>
+        ensures exactly { ChangesOrFails (Synced name.now) (length name.now) 0 self.old self.new result }
+        ensures cause { HasCause self.old.disk_faults self.new.disk_faults result }
+    {
+        if self.begin_deed(name.len() as u64) {
+            return Err(self.disk_fault());
+        }
+        self.add_deed(Kind::Synced, name.as_bytes(), &[]);
+        Ok(())
     }
 
     fn say(&mut self, bytes: &[u8]) -> Result<(), SayFault>
         ensures exactly { SaysOrFails bytes.now self.old self.new result }
         ensures cause { HasCause self.old.say_faults self.new.say_faults result }
     {
-        if self.begin_deed(bytes.len()) {
+        if self.begin_deed(bytes.len() as u64) {
             self.say_faults = self.say_faults.saturating_add(1);
             return Err(SayFault);
         }
-        self.add_said(bytes);
+        self.add_deed(Kind::Said, &[], bytes);
         Ok(())
     }
 }

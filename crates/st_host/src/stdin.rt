@@ -6,7 +6,7 @@ use std::io::Read;
 
 /// Standard input.
 ///
-/// The count stays at its last value.
+/// Each error raises the count, up to the last value of 64 bits.
 #[derive(Drop)]
 pub struct StdinSource<R: Input> {
     reader: R::Reader,

@@ -51,6 +51,30 @@ fn a_host_in_memory_fails_where_it_is_told_to(rt: HostRuntime) -> Result<(), Fai
     Ok(())
 }
 
+#[test]
+fn a_host_in_memory_writes_and_cuts(rt: HostRuntime) -> Result<(), Fail> {
+    let alloc = rt.alloc();
+    let mut host = MemHost::new(alloc)?;
+    host.put(alloc, "a", b"12345")?;
+    host.room_for(alloc, 20, 6)?;
+    let mut bytes = [0; 8];
+    assert_eq!(rt; host.write_at("a", 3, b"xyz"), Ok(()));
+    assert_eq!(rt; host.sync("a"), Ok(()));
+    assert_eq!(rt; host.read_at("a", 1, &mut bytes), Ok(5));
+    assert_eq!(rt; &bytes[..5], b"23xyz".as_slice());
+    assert_eq!(rt; host.cut("a", 2), Ok(()));
+    assert_eq!(rt; host.write_at("a", 4, b"!"), Ok(()));
+    assert_eq!(rt; host.read_at("a", 0, &mut bytes), Ok(5));
+    assert_eq!(rt; &bytes[..5], [49, 50, 0, 0, 33].as_slice());
+    assert_eq!(rt; host.write_at("b", 2, b"new"), Ok(()));
+    assert_eq!(rt; host.length("b"), Ok(Some(5)));
+    assert_eq!(rt; host.length("a"), Ok(Some(5)));
+    assert_eq!(rt; host.cut("b", 7), Ok(()));
+    assert_eq!(rt; host.length("b"), Ok(Some(7)));
+    assert_eq!(rt; host.sync("b"), Err(HostFault));
+    Ok(())
+}
+
 // Takes bytes through the bound, up to five at a time.
 fn check_take<S: Source>(rt: &impl Abort, source: &mut S, wanted: &[u8]) {
     let mut bytes = [0; 5];
@@ -81,12 +105,20 @@ fn a_folder_has_its_files(rt: HostRuntime) -> Result<(), Fail> {
     let length = host.length(name);
     let count = host.read_at(name, 2, &mut bytes);
     let at_end = host.read_at(name, 8, &mut [0; 4]);
+    let wrote = host.write_at(name, 9, b"z");
+    let synced = host.sync(name);
+    let longer = host.length(name);
+    let cut = host.cut(name, 1);
+    let shorter = host.length(name);
     fs::remove_file(&rt, name)?;
+    assert_eq!(rt; (wrote, synced, cut), (Ok(()), Ok(()), Ok(())));
+    assert_eq!(rt; (longer, shorter), (Ok(Some(10)), Ok(Some(1))));
     assert_eq!(rt; length, Ok(Some(8)));
     assert_eq!(rt; count, Ok(4));
     assert_eq!(rt; bytes.as_slice(), b"3456".as_slice());
     assert_eq!(rt; at_end, Ok(0));
     assert_eq!(rt; host.length(name), Ok(None));
+    assert_eq!(rt; host.sync(name), Ok(()));
     assert_eq!(rt; host.read_at(name, 0, &mut bytes), Ok(0));
     assert_eq!(rt; host.say(b"said\n"), Ok(()));
     Ok(())
