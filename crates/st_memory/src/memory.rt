@@ -90,6 +90,10 @@ pub trait Memory: Drop {
     fn used(&self) -> Demand
         ensures { result ≡ record { entries = total_used one (view self.now).objects; words = total_used words_of (view self.now).objects } };
 
+    /// How many objects there can be, and how many words they can have.
+    fn capacity(&self) -> Demand
+        ensures { result ≡ record { entries = (view self.now).head.entries; words = (view self.now).head.words } };
+
     /// The least kept pointer above `after`.
     fn next_live(&self, after: u32) -> Option<Oop>
         ensures found { IfSome result (λ o. (is_live (view self.now).objects (value o) ≡ true) × (after < o.0)) }

@@ -85,6 +85,10 @@ impl Memory for PlainMemory {
         self.contents.objects.used()
     }
 
+    fn capacity(&self) -> Demand {
+        self.contents.head.capacity
+    }
+
     fn next_live(&self, after: u32) -> Option<Oop> {
         self.contents.objects.next_live(after)
     }

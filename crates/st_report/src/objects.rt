@@ -8,52 +8,10 @@ ghost use Rattle.st_model.specs.Text.{values_text, numbers_text, kind_text, colo
 ghost use Rattle.st_report.specs.Saying.{Says};
 
 use crate::pieces::{say, say_number, say_value};
+use st_bodies::{count_fields, count_units, unit_at};
 use st_host::{Host, SayFault};
 use st_memory::Memory;
-use st_method::literals;
 use st_model::{Kind, Oop};
-
-#[tactic(auto, using(crate::proofs::Bodies::bodies))]
-/// How many fields an object has; of a Method header and literals.
-fn count_fields<M: Memory>(m: &M, o: Oop) -> u32
-    requires { is_live (M.view m.now).objects (value o) ≡ true }
-    ensures { result ≡ length (object_of (M.view m.now).objects (value o)).fields }
-{
-    match m.kind(o) {
-        Kind::Pointers => m.size(o),
-        Kind::Words | Kind::Bytes => 0,
-        Kind::Method => literals(m.pointer(o, 0)) + 1,
-    }
-}
-
-#[tactic(auto, using(crate::proofs::Bodies::bodies))]
-/// How many words or bytes an object has besides its fields.
-fn count_units<M: Memory>(m: &M, o: Oop, fields: u32) -> u32
-    requires live { is_live (M.view m.now).objects (value o) ≡ true }
-    requires fields { fields ≡ length (object_of (M.view m.now).objects (value o)).fields }
-    ensures { result ≡ length (object_of (M.view m.now).objects (value o)).units }
-{
-    match m.kind(o) {
-        Kind::Pointers => 0,
-        Kind::Words | Kind::Bytes | Kind::Method => m.size(o) - 2 * fields,
-    }
-}
-
-#[tactic(auto, using(crate::proofs::Bodies::bodies))]
-/// Word or byte i of an object, counted from behind its fields.
-fn unit_at<M: Memory>(m: &M, o: Oop, fields: u32, i: u32) -> u32
-    requires live { is_live (M.view m.now).objects (value o) ≡ true }
-    requires fields { fields ≡ length (object_of (M.view m.now).objects (value o)).fields }
-    requires kind { is_pointers (object_of (M.view m.now).objects (value o)).kind ≡ false }
-    requires range { i + 1 ≤ length (object_of (M.view m.now).objects (value o)).units }
-    ensures { slice_get (object_of (M.view m.now).objects (value o)).units i ≡ Some result }
-{
-    if m.kind(o).is_words() {
-        u32::from(m.word(o, i))
-    } else {
-        u32::from(m.byte(o, 2 * fields + i))
-    }
-}
 
 /// Says the fields of an object.
 fn say_fields<H: Host, M: Memory>(host: &mut H, m: &M, o: Oop, fields: u32) -> Result<(), SayFault>
@@ -69,7 +27,7 @@ fn say_fields<H: Host, M: Memory>(host: &mut H, m: &M, o: Oop, fields: u32) -> R
     Ok(())
 }
 
-#[tactic(auto, using(crate::proofs::Bodies::bodies))]
+#[tactic(auto, using(st_bodies::proofs::Bodies::bodies))]
 /// Says the words or bytes of an object.
 fn say_units<H: Host, M: Memory>(host: &mut H, m: &M, o: Oop, fields: u32) -> Result<(), SayFault>
     requires live { is_live (M.view m.now).objects (value o) ≡ true }
