@@ -1,18 +1,13 @@
 -- What a reading with the values of an image's own head says of a file.
 use Rattle.std.proofs.Common.{◌≡◌, ℕ, ◌≤◌, ◌^◌, List, length, refl, subst}
-use Rattle.std.specs.Prelude.{None}
 use Rattle.st_model.specs.Image.{image_head}
 use Rattle.st_model.specs.Faults.{IsWellFormed, IsImageFault}
 use Rattle.st_model.specs.declared.fault.ImageFault.{ImageFault}
 use Rattle.st_model.specs.View.{View}
 use Rattle.st_frames.specs.declared.frame.Frame.{Frame}
-use Rattle.st_image.specs.declared.head.HeadValues.{HeadValues}
-use Rattle.st_image.specs.HeadValues.{head_over}
+use Rattle.st_image.specs.HeadValues.{no_values, head_over}
 use Rattle.st_image.specs.Reading.{IsStart}
 use Rattle.st80.specs.Ends.{IsReadable, IsFaulty}
-
-abbrev pub no_values : HeadValues
-no_values = record { entries = None; words = None; globals = None; symbols = None }
 
 own_head : (bytes : List ℕ) → head_over no_values bytes ≡ image_head bytes
 unfolding head_over

@@ -1,8 +1,10 @@
 //! Worked runs of the program over a host in memory.
 use crate::status::Status;
 use crate::tool::tool;
-use st_host::{MemHost, MemSource};
+use st_host::{Host, MemHost, MemSource, read_from};
+use st_image::{HeadValues, ReadImage, read, write};
 use st_model::ImageFault;
+use st_plain::PlainLoader;
 use std::alloc::{AllocError, Global};
 use std::process::Abort;
 use std::test::Fail;
@@ -333,4 +335,22 @@ fn faults_of_the_host_are_told(rt: HostRuntime) -> Result<(), Fail> {
     let mut at_last_line = host_with(alloc, &bytes)?;
     at_last_line.fail(alloc, &[1])?;
     check(&rt, &mut at_last_line, &["once"], Status::Usage, &[])
+}
+
+#[test]
+fn an_image_is_written_as_it_was(rt: HostRuntime) -> Result<(), Fail> {
+    let alloc = rt.alloc();
+    let bytes = image(alloc, &[])?;
+    let mut host = MemHost::new(alloc)?;
+    host.put(alloc, "B", &[9; 1200])?;
+    host.room_for(alloc, 2000, 10)?;
+    match read::<PlainLoader>(alloc, &bytes, &HeadValues::NONE) {
+        Ok(loaded) => assert_eq!(rt; write(&loaded.memory, &mut host, "B")?, 1156),
+        Err(ReadImage::Fault(_)) | Err(ReadImage::OutOfMemory) => return Err(AllocError.into()),
+    }
+    assert_eq!(rt; host.length("B"), Ok(Some(1156)));
+    let mut written = vec![in alloc; 0; 1156]?;
+    assert_eq!(rt; read_from(&mut host, "B", 0, &mut written)?, 1156);
+    assert_eq!(rt; written.as_slice(), bytes.as_slice());
+    Ok(())
 }

@@ -8,3 +8,4 @@ pub mod Clean
 pub mod Entries
 pub mod Complete
 pub mod Starts
+pub mod Back

@@ -5,3 +5,4 @@ pub mod Rows
 pub mod Loads
 pub mod Reading
 pub mod HeadValues
+pub mod Back

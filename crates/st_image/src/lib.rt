@@ -1,4 +1,4 @@
-//! Reads an image file: its fault, or its objects.
+//! Reads an image file: its fault, or its objects. Writes one, and says that what is written is read back.
 #![tactic(auto)]
 
 mod checks;
@@ -16,8 +16,9 @@ mod shape;
 
 pub use error::ReadImage;
 pub use head::HeadValues;
-pub use laws::{fault_is_determined, no_fault_is_well_formed};
+pub use laws::{fault_is_determined, image_back, no_fault_is_well_formed};
 pub use reading::{Loaded, read};
+pub use st_writer::write;
 
 #[cfg(test)]
 mod tests;

@@ -1,8 +1,8 @@
 use Rattle.std.proofs.Common.{◌≡◌, ◌≤◌, ◌^◌, List, ℕ, length, sym, subst, ◌∙◌}
-use Rattle.st_image.specs.HeadValues.{head_over}
+use Rattle.st_image.specs.HeadValues.{no_values, head_over}
 use Rattle.st_image.specs.Rows.{IsReadFault}
 use Rattle.st_image.specs.declared.error.ReadImage.{ReadImage}
-use Rattle.st80.proofs.Started.{no_values, readable, started, faulty}
+use Rattle.st80.proofs.Started.{readable, started, faulty}
 use Rattle.st80.proofs.image.start.Goals as goal
 
 pub returns-in-Ok-clause-readable : goal.returns-in-Ok-clause-readable
