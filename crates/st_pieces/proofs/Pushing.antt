@@ -1,14 +1,13 @@
 -- Runs of calls that add bytes follow each other.
-use Rattle.std.proofs.Common.{◌≡◌, ℕ, ◌+◌, ◌≤◌, List, [], ◌++◌, length, IsTrue, refl, sym, ap, subst, ◌∙◌, inl, arith, append_assoc, append-nil, length-append}
+use Rattle.std.proofs.Common.{◌≡◌, ℕ, List, [], ◌++◌, IsTrue, refl, sym, subst, inl, arith, append_assoc, append-nil, length-append}
 use Rattle.std.specs.Prelude.{Result, Ok, Err, OnOk, IsErr}
-use Rattle.st_host.specs.Counts.{HasCause}
 use Rattle.st_host.specs.Files.{Files, KeepsBelow}
-use Rattle.st_host.specs.Stops.{Apart, comes, Here}
-use Rattle.st_host.specs.Runs.{Touched, LeavesOnly, WritesAbove}
+use Rattle.st_host.specs.Stops.{comes, Here}
+use Rattle.st_host.specs.Runs.{Touched, WritesAbove}
 use Rattle.st_host.specs.declared.host.Host.{Ghosts}
 use Rattle.st_host.proofs.Rising.{cause_after}
 use Rattle.st_host.proofs.Touching.{keeps_same, above_join}
-use Rattle.st_pieces.specs.Pieces.{Held, end_of, Holds, Adds, Pushes}
+use Rattle.st_pieces.specs.Pieces.{Held, Holds, Adds, Pushes}
 
 module _ {D : Type 0} (host : Ghosts D) (name : List ℕ) where
   pub adds_join : (a b : List ℕ) (old mid new : D) (p q r : Held) → Adds host name a old mid p q → Adds host name b mid new q r → Adds host name (a ++ b) old new p r

@@ -1,12 +1,12 @@
 -- What a write, a cut and more bytes held back make of the text of a file.
-use Rattle.std.proofs.Common.{◌≡◌, ℕ, ◌+◌, ◌<◌, ◌≤◌, List, [], ◌++◌, length, take, drop, get_or, Option, refl, sym, ap, ◌∙◌, arith, inl, append_assoc, length-append, length-take}
+use Rattle.std.proofs.Common.{◌≡◌, ℕ, ◌+◌, ◌<◌, ◌≤◌, List, [], ◌++◌, length, take, drop, get_or, Option, sym, ap, ◌∙◌, arith, inl, append_assoc, length-take}
 use Rattle.std.specs.Prelude.{Some, None}
 use Rattle.std.proofs.lemmas.List.{append-nil, get_or-take, get_or-drop, length-take-le}
 use Rattle.std.proofs.lemmas.Grind.{same_number_lists}
 use Rattle.std.proofs.Math.Seq.{take-add}
 use Rattle.std.proofs.Common.{length-drop}
 use Rattle.st_host.specs.Files.{bytes_of, IsWritten, IsCut}
-use Rattle.st_pieces.specs.Pieces.{Held, end_of, Holds}
+use Rattle.st_pieces.specs.Pieces.{Holds}
 
 -- the file before the bytes that were written
 front : (at : ℕ) (bytes : List ℕ) (file new : Option (List ℕ)) → IsWritten at bytes file new → at ≤ length (bytes_of file) → take at (bytes_of new) ≡ take at (bytes_of file)
@@ -29,8 +29,8 @@ pub flushed : (at : ℕ) (bytes : List ℕ) (file new : Option (List ℕ)) (t : 
 flushed at bytes file new t is holds = record {
   there = omega (arith, is.long);
   is = append-nil (take (at + length bytes) (bytes_of new))
-  ∙ (take-add at (length bytes) (bytes_of new)
-  ∙ ((λ k. front at bytes file new is holds.there k ++ back at bytes file new is k) ∙ holds.is));
+      ∙ (take-add at (length bytes) (bytes_of new)
+      ∙ ((λ k. front at bytes file new is holds.there k ++ back at bytes file new is k) ∙ holds.is));
 }
 
 pub held_more : (at : ℕ) (bytes more : List ℕ) (file : Option (List ℕ)) (t : List ℕ)

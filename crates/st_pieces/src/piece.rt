@@ -86,12 +86,7 @@ impl Piece {
     }
 
     /// Adds at most 512 bytes to the file. They may be held back for now.
-    pub fn push<H: Host>(
-        &mut self,
-        host: &mut H,
-        name: &str,
-        bytes: &[u8],
-    ) -> Result<(), HostFault>
+    pub fn push<H: Host>(&mut self, host: &mut H, name: &str, bytes: &[u8]) -> Result<(), HostFault>
         requires few { length bytes.now ≤ 512 }
         requires end { end_of self.old < 2 ^ 64 }
         ensures { Pushes H.Host.own name.now bytes.now host.old host.new self.old self.new result }

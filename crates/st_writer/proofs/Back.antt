@@ -1,6 +1,6 @@
 -- The objects that a written image has are those of the table that it was written from.
-use Rattle.std.proofs.Common.{◌≡◌, ◌≢◌, ℕ, ◌+◌, ◌-◌, ◌*◌, ◌/◌, ◌%◌, ◌<◌, ◌≤◌, ◌⊎◌, inl, inr, Bool, true, false, cond, ◌==◌, List, [], ◌∷◌, length, get_or, refl, sym, ap, ◌∙◌, subst, arith}
-use Rattle.std.specs.Prelude.{Option, Some, None, slice_get}
+use Rattle.std.proofs.Common.{◌≡◌, ℕ, ◌+◌, ◌-◌, ◌*◌, ◌/◌, ◌%◌, ◌<◌, ◌≤◌, ◌⊎◌, inl, inr, true, false, cond, ◌==◌, List, length, get_or, refl, sym, ap, ◌∙◌, arith}
+use Rattle.std.specs.Prelude.{Option, Some, None}
 use Rattle.std.proofs.lemmas.Bool.{cases_lt, cases_Bool, cases_eq, eq-eqb, ne_eqb, eqb-true, eqb-false, both_ways}
 use Rattle.std.proofs.lemmas.Option.{slice_get-get_or}
 use Rattle.st_model.proofs.Made.{made_from}
@@ -8,14 +8,14 @@ use Rattle.st_model.specs.Lists.{made}
 use Rattle.st_model.specs.declared.kind.Kind.{Kind}
 use Rattle.st_model.specs.declared.kind.Kind.TheVariants as kind
 use Rattle.st_model.specs.Values.{Value, Small, Ref, value_of, is_small}
-use Rattle.st_model.specs.Objects.{Object, nil, is_pointers, is_words, is_method, holds_fields, words_of}
-use Rattle.st_model.specs.Formed.{IsFormed, IsHeader, literals_of}
+use Rattle.st_model.specs.Objects.{Object, nil, is_pointers, is_words, is_method, holds_fields}
+use Rattle.st_model.specs.Formed.{IsFormed, literals_of}
 use Rattle.st_model.specs.Machine.{Head}
 use Rattle.st_model.specs.Table.{Table, entry}
-use Rattle.st_model.specs.Image.{bit, has_letters, flags, has_odd_length, has_pointers, is_used, place, size, class, body, literal_count}
+use Rattle.st_model.specs.Image.{is_used, class, body, literal_count}
 use Rattle.st_model.specs.declared.head.ImageHead.{ImageHead}
 use Rattle.st_model.specs.Start.{is_word_class, has_words, kind_in, field_count, byte_count, unit_count, fields_in, units_in, field_in, units_start, unit_in, object_in, entry_in}
-use Rattle.st_writer.specs.Written.{word_of, unit_words, words_below, object_bytes, text_of}
+use Rattle.st_writer.specs.Written.{word_of, unit_words, words_below, text_of}
 use Rattle.st_writer.proofs.Bodies.{words_in_parts, length-object, field_word, unit_word, unit_byte}
 use Rattle.st_writer.proofs.Placing.{letters_back}
 use Rattle.st_writer.proofs.Entries.{head_of, IsWritable, is_odd, marks_at, place_at, size_at, class_at, body_at, byte_at, used_at, object_used}
@@ -180,10 +180,10 @@ module _ (t : Table) (n : ℕ) (h : Head) (can : IsWritable t n) where
     object_back =
         let half : class head bytes k / 2 ≡ o.class = let c = class_at t n h can k o k_in e in omega arith in
         let fields : o.fields ≡ made (field_in head bytes k) (length o.fields) =
-            made_from (field_in head bytes k) o.fields (length o.fields) nil refl
-            (λ i inside. sym (ap value_of (field_at i inside) ∙ value_back (get_or o.fields i nil))) in
+        made_from (field_in head bytes k) o.fields (length o.fields) nil refl
+        (λ i inside. sym (ap value_of (field_at i inside) ∙ value_back (get_or o.fields i nil))) in
         let units : o.units ≡ made (unit_in head bytes k) (length o.units) =
-            made_from (unit_in head bytes k) o.units (length o.units) 0 refl (λ i inside. sym (unit_at i inside)) in
+        made_from (unit_in head bytes k) o.units (length o.units) 0 refl (λ i inside. sym (unit_at i inside)) in
         (λ j. record {
           class = half j;
           kind = kind_at j;

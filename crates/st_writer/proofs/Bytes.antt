@@ -1,10 +1,10 @@
 -- Numbers that are read back from bytes.
-use Rattle.std.proofs.Common.{◌≡◌, ℕ, zero, suc, ◌+◌, ◌*◌, ◌/◌, ◌%◌, ◌<◌, ◌≤◌, ◌⊎◌, inl, inr, List, [], ◌∷◌, ◌++◌, length, get_or, refl, sym, ap, ◌∙◌, arith, length-append}
+use Rattle.std.proofs.Common.{◌≡◌, ℕ, zero, suc, ◌+◌, ◌*◌, ◌/◌, ◌%◌, ◌<◌, ◌≤◌, ◌⊎◌, inl, inr, List, [], ◌∷◌, ◌++◌, length, get_or, refl, ap, ◌∙◌, arith, length-append}
 use Rattle.std.specs.List.{flat_map}
 use Rattle.std.proofs.lemmas.Bool.{cases_lt}
 use Rattle.std.proofs.lemmas.List.{get_or-append-add, get_or_append_left}
-use Rattle.st_model.specs.Image.{number16, number32}
-use Rattle.st_writer.specs.Written.{word_bytes, long_bytes, joined}
+use Rattle.st_model.specs.Image.{number16}
+use Rattle.st_writer.specs.Written.{word_bytes, joined}
 
 -- a word of two bytes
 pub halves : (w : ℕ) → 256 * (w / 256) + w % 256 ≡ w

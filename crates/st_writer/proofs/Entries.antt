@@ -1,7 +1,7 @@
 -- What a written image says of each place of its table.
-use Rattle.std.proofs.Common.{◌≡◌, ℕ, zero, suc, ◌+◌, ◌-◌, ◌*◌, ◌/◌, ◌%◌, ◌<◌, ◌≤◌, ◌⊎◌, inl, inr, Bool, true, false, not, ◌&&◌, ◌==◌, nat_lt, List, length, get_or, refl, sym, ap, ◌∙◌, subst, arith}
-use Rattle.std.specs.Prelude.{Option, Some, None, is_some}
-use Rattle.std.proofs.lemmas.Bool.{cases_lt, cases_Bool, lt-ltb, le-ltb, eq-eqb, ne_eqb, and_parts, and_from, not-true, both_ways, eqb-true, ltb-true}
+use Rattle.std.proofs.Common.{◌≡◌, ℕ, zero, suc, ◌+◌, ◌*◌, ◌/◌, ◌%◌, ◌<◌, ◌≤◌, ◌⊎◌, inl, inr, Bool, true, false, not, ◌==◌, List, length, get_or, refl, sym, ap, ◌∙◌, subst, arith}
+use Rattle.std.specs.Prelude.{Option, Some, None}
+use Rattle.std.proofs.lemmas.Bool.{cases_lt, lt-ltb, eq-eqb, ne_eqb, and_parts, and_from, not-true, both_ways, ltb-true}
 use Rattle.st_model.specs.declared.kind.Kind.{Kind}
 use Rattle.st_model.specs.declared.kind.Kind.TheVariants as kind
 use Rattle.st_model.specs.declared.head.ImageHead.{ImageHead}
@@ -10,9 +10,9 @@ use Rattle.st_model.specs.Formed.{IsFormed}
 use Rattle.st_model.specs.Machine.{Head}
 use Rattle.st_model.specs.Table.{Table, entry}
 use Rattle.st_model.specs.Show.{IsUsed}
-use Rattle.st_model.specs.Image.{number16, table_start, bit, flags, location, has_odd_length, has_pointers, is_free, is_used, place, word, size, class, body, names}
-use Rattle.st_writer.specs.Written.{bytes_at, words_at, words_below, space_below, entries_below, entry_bytes, word_bytes, marks, object_bytes, text_of, joined}
-use Rattle.st_writer.proofs.Bytes.{number16-word, number16-after, joined_word, joined_at, joined_longer}
+use Rattle.st_model.specs.Image.{number16, table_start, bit, flags, location, is_free, is_used, place, word, size, class, body}
+use Rattle.st_writer.specs.Written.{bytes_at, words_at, words_below, space_below, entries_below, entry_bytes, word_bytes, marks, object_bytes, text_of}
+use Rattle.st_writer.proofs.Bytes.{number16-word, number16-after, joined_word, joined_at}
 use Rattle.st_writer.proofs.Bodies.{words_in_parts, length-object, size_word, class_word}
 use Rattle.st_writer.proofs.Placing.{written_head, length-space, length-entries, at_entries, at_space, byte_at_space}
 

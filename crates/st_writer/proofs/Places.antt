@@ -1,19 +1,18 @@
 -- What is known of the places of a table and the objects there, and texts that grow.
-use Rattle.std.proofs.Common.{◌≡◌, ℕ, zero, suc, ◌+◌, ◌-◌, ◌*◌, ◌/◌, ◌%◌, ◌<◌, ◌≤◌, ◌^◌, ◌⊎◌, inl, inr, cond, ◌==◌, true, false, List, [], ◌∷◌, ◌++◌, length, take, map, get_or, refl, sym, ap, ◌∙◌, subst, arith}
+use Rattle.std.proofs.Common.{◌≡◌, ℕ, zero, suc, ◌+◌, ◌-◌, ◌*◌, ◌/◌, ◌%◌, ◌<◌, ◌≤◌, ◌⊎◌, inl, inr, cond, ◌==◌, true, false, List, [], ◌∷◌, ◌++◌, length, take, map, get_or, refl, sym, ap, ◌∙◌, arith}
 use Rattle.std.specs.Prelude.{Option, Some, None, is_some, slice_get, unwrap_or}
 use Rattle.std.specs.List.{flat_map}
 use Rattle.std.proofs.lemmas.Bool.{cases_Bool, eqb-true, eqb-false}
 use Rattle.std.proofs.lemmas.Grind.{flat_map-append}
-use Rattle.std.proofs.lemmas.List.{take_more, take-map, length-map, take_all}
+use Rattle.std.proofs.lemmas.List.{take_more, take-map}
 use Rattle.std.proofs.lemmas.Option.{get_or_from_slice_get, slice_get_within}
-use Rattle.st_model.specs.declared.oop.Oop.{Oop}
-use Rattle.st_model.specs.Values.{Value, Small, Ref, value, value_of}
-use Rattle.st_model.specs.Objects.{Object, words_of, is_pointers}
+use Rattle.st_model.specs.Values.{Value, Small, Ref, value_of}
+use Rattle.st_model.specs.Objects.{Object, words_of}
 use Rattle.st_model.specs.Table.{Table, entry}
 use Rattle.st_model.specs.Formed.{IsFormed}
 use Rattle.st_model.specs.View.{View, IsWhole, is_live, object_of, nothing, table_of}
 use Rattle.st_model.proofs.WholeLemmas.{formed_live}
-use Rattle.st_writer.specs.Written.{used_below, word_bytes, word_of, unit_words, root_word, bytes_at, words_at, entry_bytes, marks}
+use Rattle.st_writer.specs.Written.{used_below, word_bytes, word_of, unit_words, root_word, bytes_at}
 use Rattle.st_writer.proofs.Bodies.{words_in_parts, length-object}
 
 some_there : (e : Option Object) → is_some e ≡ true → e ≡ Some (unwrap_or e nothing)

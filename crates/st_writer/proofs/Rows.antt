@@ -1,34 +1,31 @@
 -- A written image has none of the faults that concern the file, its objects and its roots, and it gives the view that it
 -- was written from.
-use Rattle.std.proofs.Common.{◌≡◌, ◌≢◌, ℕ, zero, suc, ◌+◌, ◌-◌, ◌*◌, ◌/◌, ◌%◌, ◌<◌, ◌≤◌, ◌⊎◌, inl, inr, Bool, true, false, cond, not, ◌&&◌, ◌||◌, ◌==◌, nat_lt, List, [], ◌∷◌, ◌++◌, append_assoc, length, map, get_or, refl, sym, ap, ◌∙◌, subst, arith}
+use Rattle.std.proofs.Common.{◌≡◌, ℕ, zero, suc, ◌+◌, ◌-◌, ◌*◌, ◌/◌, ◌%◌, ◌<◌, ◌≤◌, ◌⊎◌, inl, inr, Bool, true, false, cond, not, ◌&&◌, ◌||◌, ◌==◌, nat_lt, List, [], ◌∷◌, ◌++◌, append_assoc, length, map, get_or, refl, sym, ap, ◌∙◌, arith}
 use Rattle.std.specs.Prelude.{Option, Some, None, is_some, Contains, nat_le}
 use Rattle.std.proofs.lemmas.Bool.{cases_lt, cases_Bool, cases_eq, eq-eqb, ne_eqb, eqb-true, both_ways, and_parts, and_left, and_right, and_from, or_from, or_cases, le-ltb, ltb-true, leb-true}
 use Rattle.std.proofs.lemmas.List.Elements.{All-contains, All-append, All-map, All-cons, All-nil}
 use Rattle.std.specs.List.{All}
 use Rattle.st_model.proofs.Made.{made_from}
 use Rattle.st_model.proofs.WholeLemmas.{live_used}
-use Rattle.st_model.specs.Lists.{made}
 use Rattle.st_model.specs.declared.kind.Kind.{Kind}
 use Rattle.st_model.specs.declared.kind.Kind.TheVariants as kind
 use Rattle.st_model.specs.declared.head.ImageHead.{ImageHead}
 use Rattle.st_model.specs.declared.fault.ImageFault.{ImageFault}
 use Rattle.st_model.specs.declared.fault.ImageFault.TheVariants as fault
 use Rattle.st_model.specs.Values.{Value, Small, Ref, value_of, is_small, IsLive, AllLive}
-use Rattle.st_model.specs.Objects.{Object, PageObject, page, place_of, nil, one, is_pointers, is_method, words_of, IsLiveObject}
-use Rattle.st_model.specs.Formed.{IsFormed}
-use Rattle.st_model.specs.Machine.{Head}
+use Rattle.st_model.specs.Objects.{Object, PageObject, page, place_of, nil, one, is_pointers, is_method, words_of}
 use Rattle.st_model.specs.Table.{Table, entry, total_used}
 use Rattle.st_model.specs.Show.{IsUsed}
 use Rattle.st_model.specs.View.{View, IsWhole, is_live, empty_view, table_of}
-use Rattle.st_model.specs.Image.{table_end, entries_of, has_odd_length, has_pointers, is_used, place, size, class, body, literal_count, names}
-use Rattle.st_model.specs.Start.{entry_in, machine_head, start_view}
+use Rattle.st_model.specs.Image.{table_end, has_odd_length, has_pointers, is_used, place, size, class, body, literal_count, names}
+use Rattle.st_model.specs.Start.{entry_in, start_view}
 use Rattle.st_model.specs.Faults.{short_fails, lengths_fail, capacity_fails, size_fails, ShareWord, class_fails, is_field, field_fails, method_fails, roots, root_fails, Fails, row}
 use Rattle.st_model.specs.Faults as faults
 use Rattle.st_writer.specs.Written.{word_of, unit_words, words_below, used_below, root_word, zeros, padding, head_bytes, space_below, entries_below, text_of, image_of}
 use Rattle.st_writer.proofs.Bodies.{words_in_parts}
 use Rattle.st_writer.proofs.Placing.{length-space, length-text}
-use Rattle.st_writer.proofs.Sums.{number_at, sum_below, sum_grows, sum_used, words_are, used_within, past_used}
-use Rattle.st_writer.proofs.Entries.{head_of, IsWritable, is_odd, words_among, marks_at, place_at, size_at, class_at, used_at, object_used}
+use Rattle.st_writer.proofs.Sums.{number_at, sum_below, sum_used, words_are, used_within, past_used}
+use Rattle.st_writer.proofs.Entries.{head_of, IsWritable, is_odd, words_among, marks_at, place_at, size_at, class_at, object_used}
 use Rattle.st_writer.proofs.Back.{value_back, class_is, field_at, header_at, entry_back}
 
 -- TABLES
@@ -315,9 +312,9 @@ module _ (v : View) (whole : IsWhole v) where
   root_clean : (p : ℕ) → Contains (roots head) p → IsRight p
   root_clean p among =
       let pages : All IsRight (map (λ (q : PageObject). 2 * place_of q) page) =
-        All-map IsRight (λ (q : PageObject). 2 * place_of q) page (λ k d below. root_used _ (live_used t _ (whole.complete.page (get_or page k d)))) in
+      All-map IsRight (λ (q : PageObject). 2 * place_of q) page (λ k d below. root_used _ (live_used t _ (whole.complete.page (get_or page k d)))) in
       let tables = All-cons IsRight (root_word v.head.globals) (root_word v.head.symbols ∷ []) (root_table v.head.globals whole.complete.globals)
-          (All-cons IsRight (root_word v.head.symbols) [] (root_table v.head.symbols whole.complete.symbols) (All-nil IsRight)) in
+      (All-cons IsRight (root_word v.head.symbols) [] (root_table v.head.symbols whole.complete.symbols) (All-nil IsRight)) in
       All-contains IsRight (roots head) p (All-append IsRight (map (λ (q : PageObject). 2 * place_of q) page) (root_word v.head.globals ∷ root_word v.head.symbols ∷ []) pages tables) among
 
   pub clean : (g : ImageFault) → row g < 10 → ¬ Fails head bytes g

@@ -2,7 +2,7 @@
 use Rattle.std.proofs.Common.{◌≡◌, ℕ, zero, suc, ◌+◌, ◌-◌, ◌<◌, ◌≤◌, ◌⊎◌, inl, inr, Bool, true, false, cond, [], ◌∷◌, length, refl, sym, ap, ◌∙◌, arith}
 use Rattle.std.specs.Prelude.{Option, Some, None, is_some}
 use Rattle.std.proofs.lemmas.Bool.{cases_lt}
-use Rattle.st_model.specs.Objects.{Object, one, words_of}
+use Rattle.st_model.specs.Objects.{Object, words_of}
 use Rattle.st_model.specs.Table.{Table, entry, total_used}
 use Rattle.st_writer.specs.Written.{words_at, words_below, used_below}
 

@@ -22,7 +22,12 @@ fn padding(words: u32) -> usize
 }
 
 /// Adds the whole text of an image.
-fn push_image<M: Memory, H: Host>(m: &M, piece: &mut Piece, host: &mut H, name: &str) -> Result<(), HostFault>
+fn push_image<M: Memory, H: Host>(
+    m: &M,
+    piece: &mut Piece,
+    host: &mut H,
+    name: &str,
+) -> Result<(), HostFault>
     requires { end_of piece.old ≤ 512 }
     ensures { Pushes H.Host.own name.now (image_of (M.view m.now)) host.old host.new piece.old piece.new result }
 {

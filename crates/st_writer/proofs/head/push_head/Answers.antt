@@ -1,4 +1,4 @@
-use Rattle.std.proofs.Common.{◌≡◌, ◌*◌, ℕ, List, [], ◌∷◌, sym, ap, subst, ◌∙◌}
+use Rattle.std.proofs.Common.{◌≡◌, ◌*◌, ℕ, List, [], ◌∷◌, subst, ◌∙◌}
 use Rattle.std.specs.List.{flat_map}
 use Rattle.st_pieces.specs.Pieces.{Pushes}
 use Rattle.st_writer.specs.Written.{long_bytes, root_word}

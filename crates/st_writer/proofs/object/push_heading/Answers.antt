@@ -1,5 +1,4 @@
-use Rattle.std.proofs.Common.{◌≡◌, ◌*◌, ◌++◌, sym, ap, ◌∙◌}
-use Rattle.st_model.specs.Objects.{words_of}
+use Rattle.std.proofs.Common.{◌≡◌, ◌*◌, ◌++◌, sym}
 use Rattle.st_model.specs.Values.{value}
 use Rattle.st_model.specs.View.{object_of}
 use Rattle.st_pieces.proofs.Pushing.{push_then}

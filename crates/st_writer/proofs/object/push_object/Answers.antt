@@ -1,4 +1,4 @@
-use Rattle.std.proofs.Common.{◌≡◌, ◌*◌, ◌++◌, length, map, refl, arith}
+use Rattle.std.proofs.Common.{◌*◌, ◌++◌, map, refl, arith}
 use Rattle.std.specs.List.{flat_map}
 use Rattle.std.proofs.lemmas.List.{length-map}
 use Rattle.st_bodies.proofs.Bodies.{most_units}
@@ -13,8 +13,15 @@ use Rattle.st_writer.proofs.object.push_object.Goals as goal
 pub push_units-requires-clause-end : goal.push_units-requires-clause-end
 push_units-requires-clause-end g c =
     let o = object_of (g.M.Memory.view c.args.m.now).objects (value c.args.o) in
-    omega (arith, c.requires.end, c.in_ok-push_heading.ensures.adds.end, c.in_ok-push_fields.ensures.adds.end, length-words (map word_of o.fields), length-map o.fields word_of,
-      most_units {v = g.M.Memory.view c.args.m.now} (value c.args.o) (g.met.M.Memory.whole c.args.m.now) c.requires.live)
+    omega (
+      arith,
+      c.requires.end,
+      c.in_ok-push_heading.ensures.adds.end,
+      c.in_ok-push_fields.ensures.adds.end,
+      length-words (map word_of o.fields),
+      length-map o.fields word_of,
+      most_units {v = g.M.Memory.view c.args.m.now} (value c.args.o) (g.met.M.Memory.whole c.args.m.now) c.requires.live,
+    )
 
 pub returns-in_err-push_fields : goal.returns-in_err-push_fields
 returns-in_err-push_fields g c =

@@ -1,4 +1,4 @@
-use Rattle.std.proofs.Common.{◌≡◌, ◌+◌, ◌-◌, suc, sym, ap, ◌∙◌, length, arith}
+use Rattle.std.proofs.Common.{sym, ◌∙◌, arith}
 use Rattle.st_writer.proofs.Places.{used_skip, used_stop, used_none}
 use Rattle.st_writer.proofs.table.count_entries.Goals as goal
 

@@ -1,11 +1,11 @@
-use Rattle.std.proofs.Common.{◌≡◌, ◌+◌, ◌/◌, ◌%◌, ◌++◌, length, sym, ap, ◌∙◌}
+use Rattle.std.proofs.Common.{◌≡◌, ◌+◌, ◌/◌, ◌%◌, ◌++◌, sym, ap, ◌∙◌}
 use Rattle.std.specs.Prelude.{Option, Some, None}
 use Rattle.st_model.specs.Objects.{Object}
 use Rattle.st_model.specs.Values.{value}
 use Rattle.st_model.specs.Table.{entry}
 use Rattle.st_model.specs.View.{object_of}
 use Rattle.st_pieces.proofs.Pushing.{push_then}
-use Rattle.st_writer.specs.Written.{word_bytes, marks, entry_bytes}
+use Rattle.st_writer.specs.Written.{word_bytes, entry_bytes}
 use Rattle.st_writer.proofs.Places.{there, absent}
 use Rattle.st_writer.proofs.table.push_entry.Goals as goal
 

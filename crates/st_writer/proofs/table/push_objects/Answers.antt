@@ -1,4 +1,4 @@
-use Rattle.std.proofs.Common.{◌+◌, arith}
+use Rattle.std.proofs.Common.{arith}
 use Rattle.st_model.specs.Table.{entry}
 use Rattle.st_pieces.proofs.Pushing.{push_none, push_then, push_cut}
 use Rattle.st_writer.specs.Written.{bytes_at, space_below}

@@ -1,4 +1,4 @@
-use Rattle.std.proofs.Common.{◌≡◌, ◌-◌, length, ap, ◌∙◌, ◌+◌, ◌*◌, ◌++◌, [], ◌∷◌, take, map, Ok, refl, arith}
+use Rattle.std.proofs.Common.{◌≡◌, ◌-◌, length, ap, ◌∙◌, ◌+◌, ◌*◌, [], ◌∷◌, take, arith}
 use Rattle.std.specs.Prelude.{slice_get}
 use Rattle.st_bodies.proofs.Bodies.{most_units}
 use Rattle.st_model.specs.Values.{value}

@@ -1,4 +1,4 @@
-use Rattle.std.proofs.Common.{◌+◌, ◌*◌, ◌++◌, take, map, Ok, refl, arith}
+use Rattle.std.proofs.Common.{take, map, arith}
 use Rattle.std.specs.List.{flat_map}
 use Rattle.st_model.specs.Values.{value}
 use Rattle.st_model.specs.View.{object_of}

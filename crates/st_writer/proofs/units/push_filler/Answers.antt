@@ -1,4 +1,4 @@
-use Rattle.std.proofs.Common.{◌≡◌, ◌%◌, ◌==◌, false, cond, [], ◌∷◌, ℕ, List, sym, subst, ap}
+use Rattle.std.proofs.Common.{◌≡◌, ◌%◌, ◌==◌, false}
 use Rattle.std.proofs.lemmas.Bool.{ne_eqb}
 use Rattle.st_pieces.proofs.Pushing.{push_none}
 use Rattle.st_writer.proofs.units.push_filler.Goals as goal

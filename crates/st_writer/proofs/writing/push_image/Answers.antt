@@ -30,8 +30,15 @@ returns-in_err-push_objects g c =
 
 pub push_zeros-requires-2-clause-end : goal.push_zeros-requires-2-clause-end
 push_zeros-requires-2-clause-end g c =
-    omega (arith, c.requires, c.in_ok-push_head.ensures.adds.end, c.in_ok-push_zeros.ensures.adds.end, c.in_ok-push_objects.ensures.adds.end, length-zeros 480,
-      space_small (g.M.Memory.view c.args.m.now) (g.met.M.Memory.whole c.args.m.now) c.count_entries-entries.result c.count_entries-entries.ensures.count)
+    omega (
+      arith,
+      c.requires,
+      c.in_ok-push_head.ensures.adds.end,
+      c.in_ok-push_zeros.ensures.adds.end,
+      c.in_ok-push_objects.ensures.adds.end,
+      length-zeros 480,
+      space_small (g.M.Memory.view c.args.m.now) (g.met.M.Memory.whole c.args.m.now) c.count_entries-entries.result c.count_entries-entries.ensures.count,
+    )
 
 pub returns-in_err-push_zeros-2 : goal.returns-in_err-push_zeros-2
 returns-in_err-push_zeros-2 g c =
@@ -48,9 +55,18 @@ returns-in_err-push_zeros-2 g c =
 
 pub push_entries-requires-clause-end : goal.push_entries-requires-clause-end
 push_entries-requires-clause-end g c =
-    omega (arith, c.requires, c.in_ok-push_head.ensures.adds.end, c.in_ok-push_zeros.ensures.adds.end, c.in_ok-push_objects.ensures.adds.end, c.in_ok-push_zeros-2.ensures.adds.end,
-      length-zeros 480, length-zeros c.padding.result, c.padding.ensures.few,
-      space_small (g.M.Memory.view c.args.m.now) (g.met.M.Memory.whole c.args.m.now) c.count_entries-entries.result c.count_entries-entries.ensures.count)
+    omega (
+      arith,
+      c.requires,
+      c.in_ok-push_head.ensures.adds.end,
+      c.in_ok-push_zeros.ensures.adds.end,
+      c.in_ok-push_objects.ensures.adds.end,
+      c.in_ok-push_zeros-2.ensures.adds.end,
+      length-zeros 480,
+      length-zeros c.padding.result,
+      c.padding.ensures.few,
+      space_small (g.M.Memory.view c.args.m.now) (g.met.M.Memory.whole c.args.m.now) c.count_entries-entries.result c.count_entries-entries.ensures.count,
+    )
 
 pub returns : goal.returns
 returns g c =

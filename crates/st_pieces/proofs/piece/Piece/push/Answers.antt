@@ -1,4 +1,4 @@
-use Rattle.std.proofs.Common.{◌≡◌, ℕ, List, ◌++◌, length, sym, ap, subst, ◌∙◌, arith, length-append}
+use Rattle.std.proofs.Common.{◌≡◌, ◌++◌, sym, ap, subst, arith, length-append}
 use Rattle.st_pieces.specs.Pieces.{Held, end_of, Holds}
 use Rattle.st_pieces.proofs.Texts.{held_more}
 use Rattle.st_pieces.proofs.piece.Piece.push.Goals as goal
