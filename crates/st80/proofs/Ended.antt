@@ -1,5 +1,5 @@
 -- A run's end is what its report begins with.
-use Rattle.std.proofs.Common.{◌≡◌, ℕ, List, ◌++◌, [], refl, sym, ap, ◌∙◌, append-nil}
+use Rattle.std.proofs.Common.{◌≡◌, ℕ, List, ◌++◌, [], refl, sym, append-nil}
 use Rattle.st_model.specs.Machine.{State}
 use Rattle.st_model.specs.Table.{Table}
 use Rattle.st_model.specs.Text.{report, state_text, dead_text}

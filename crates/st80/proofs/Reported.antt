@@ -1,13 +1,13 @@
 -- What is said of a run of the code is what is said of the book's machine.
-use Rattle.std.proofs.Common.{◌≡◌, ℕ, length, refl, sym, ap}
+use Rattle.std.proofs.Common.{◌≡◌, ℕ, length, sym, ap}
 use Rattle.st_model.specs.declared.dead.Dead.{Dead}
 use Rattle.st_model.specs.declared.outcome.Outcome.{Outcome}
 use Rattle.st_model.specs.declared.outcome.Outcome.TheVariants as outcome
 use Rattle.st_model.specs.Machine.{State, Transition, Died, Went}
 use Rattle.st_model.specs.Births.{Births, births}
 use Rattle.st_model.specs.Table.{Table}
-use Rattle.st_model.specs.Cycles.{run, finished, EndsShown}
-use Rattle.st_model.specs.Show.{Shows, show, raised}
+use Rattle.st_model.specs.Cycles.{run, EndsShown}
+use Rattle.st_model.specs.Show.{Shows, raised}
 use Rattle.st_model.specs.Text.{report, shown_end, run_text}
 use Rattle.st_model.specs.View.{View, IsWhole}
 use Rattle.st_model.proofs.Raised.{raised_shown}

@@ -2,6 +2,7 @@
 #![tactic(auto)]
 
 mod image;
+mod last_line;
 mod once;
 mod refusal;
 mod report;

@@ -1,32 +1,23 @@
 ghost use Rattle.std.specs.Prelude.{◌≡◌, ℕ, List, OnOk};
 ghost use Rattle.st_host.specs.Counts.{HasCause};
+ghost use Rattle.st_host.specs.Files.{bytes_of};
 ghost use Rattle.st_host.specs.Runs.{ReadsAndSays, SaysAll};
 ghost use Rattle.st_model.specs.View.{no_devices};
 ghost use Rattle.st_model.specs.Show.{raised};
 ghost use Rattle.st_model.specs.Text.{run_text};
 ghost use Rattle.st_frames.specs.Shown.{IsFrame, shown};
 ghost use Rattle.st_report.specs.Saying.{Says};
-ghost use Rattle.st80.specs.Ends.{last_line, OnceEnds, SaysLastLine, StatusHasCause};
+ghost use Rattle.st80.specs.Ends.{OnceEnds, StatusHasCause};
 
 use crate::image::start;
+use crate::last_line::refuse;
 use crate::report::say_run;
 use crate::status::Status;
 use st_frames::Frame;
-use st_host::{Host, SayFault, say_all};
+use st_host::{Host, SayFault};
 use st_machine::run;
 use st_memory::{Loader, Memory};
 use std::alloc::Global;
-
-/// Says the last line of a status, which stays where that fails.
-pub fn refuse<H: Host>(host: &mut H, status: Status)
-    ensures line { SaysLastLine H.Host.own status host.old host.new }
-    ensures reads { ReadsAndSays H.Host.own (last_line status) host.old host.new }
-    ensures disk { H.disk_faults host.new ≡ H.disk_faults host.old }
-{
-    match say_all(host, status.last_line()) {
-        Ok(()) | Err(SayFault) => {}
-    }
-}
 
 /// Runs cycles of a machine at its start, and says how they end.
 fn run_and_report<H: Host, M: Memory>(
@@ -47,7 +38,7 @@ fn run_and_report<H: Host, M: Memory>(
 
 /// The command `once`: runs cycles of the machine of an image, and says what it shows then.
 pub fn once<H: Host, L: Loader>(alloc: Global, host: &mut H, image: &str, cycles: u32) -> Status
-    ensures ends { OnceEnds H.Host.own (H.files host.old image.now) cycles host.old host.new result }
+    ensures ends { OnceEnds H.Host.own (bytes_of (H.files host.old image.now)) cycles host.old host.new result }
     ensures cause { StatusHasCause H.Host.own host.old host.new result }
     ensures reads { (text : List ℕ) × ReadsAndSays H.Host.own text host.old host.new }
 {

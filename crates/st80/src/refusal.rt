@@ -3,13 +3,16 @@ ghost use Rattle.st80.specs.Ends.{status_of};
 
 use crate::status::Status;
 use st_host::HostFault;
+use st_model::ImageFault;
 use std::alloc::AllocError;
 
 /// Why a machine wasn't started.
 #[derive(Clone, Copy, Debug, PartialEq, Eq)]
 pub enum Refusal {
-    /// The image is absent, is above 2^23 bytes, has no letters `ST80` or isn't well-formed.
-    Unread,
+    /// The image has this fault.
+    Image(ImageFault),
+    /// The image has more than 2^23 bytes.
+    TooLarge,
     /// The host failed at a file.
     DiskFault,
     /// There was no memory.
@@ -22,7 +25,8 @@ impl Refusal {
         ensures { result ≡ status_of self }
     {
         match self {
-            Refusal::Unread => Status::Unread,
+            Refusal::Image(fault) => Status::Image(fault),
+            Refusal::TooLarge => Status::TooLarge,
             Refusal::DiskFault => Status::DiskFault,
             Refusal::OutOfMemory => Status::OutOfMemory,
         }

@@ -2,6 +2,7 @@
 use crate::status::Status;
 use crate::tool::tool;
 use st_host::{MemHost, MemSource};
+use st_model::ImageFault;
 use std::alloc::{AllocError, Global};
 use std::process::Abort;
 use std::test::Fail;
@@ -196,27 +197,94 @@ fn other_words_are_refused(rt: HostRuntime) -> Result<(), Fail> {
     Ok(())
 }
 
+/// Image B with words put at bytes.
+fn changed(alloc: Global, changes: &[(usize, u16)]) -> Result<Vec<u8>, AllocError> {
+    let mut bytes = image(alloc, &[])?;
+    for (at, word) in changes {
+        if *at < bytes.len() && bytes.len() - *at > 1 {
+            bytes[*at] = (*word >> 8) as u8;
+            bytes[*at + 1] = (*word & 255) as u8;
+        }
+    }
+    Ok(bytes)
+}
+
+/// Checks that bytes as the image are refused with this fault and this last line.
+fn check_fault(
+    rt: &(impl Abort + AllocGlobal),
+    bytes: &[u8],
+    fault: ImageFault,
+    line: &str,
+) -> Result<(), Fail> {
+    let mut host = host_with(rt.alloc(), bytes)?;
+    check(
+        rt,
+        &mut host,
+        &["once", "B", "4"],
+        Status::Image(fault),
+        &[line],
+    )
+}
+
 #[test]
-fn what_is_no_image_is_refused(rt: HostRuntime) -> Result<(), Fail> {
+fn a_short_or_absent_image_is_refused(rt: HostRuntime) -> Result<(), Fail> {
     let alloc = rt.alloc();
     let whole = image(alloc, &[])?;
-    let words = ["once", "B", "4"];
     let mut absent = host_with(alloc, &whole)?;
     check(
         &rt,
         &mut absent,
         &["once", "-", "4"],
-        Status::Unread,
-        &["image\n"],
+        Status::Image(ImageFault::Short),
+        &["image 1\n"],
     )?;
-    let mut cut = host_with(alloc, whole.as_slice().get(..511).unwrap_or(&[]))?;
-    check(&rt, &mut cut, &words, Status::Unread, &["image\n"])?;
-    let mut empty = host_with(alloc, &[])?;
-    check(&rt, &mut empty, &words, Status::Unread, &["image\n"])?;
-    let mut long = whole;
+    for length in [0, 511, 1155] {
+        let first = whole.as_slice().get(..length).unwrap_or(&[]);
+        check_fault(&rt, first, ImageFault::Short, "image 1\n")?;
+    }
+    Ok(())
+}
+
+#[test]
+fn each_fault_has_its_last_line(rt: HostRuntime) -> Result<(), Fail> {
+    let rows: [(&[(usize, u16)], ImageFault, &str); 9] = [
+        (&[(14, 3)], ImageFault::Lengths, "image 2\n"),
+        (&[(18, 23)], ImageFault::Capacity, "image 3\n"),
+        (&[(656, 7)], ImageFault::Size(64), "image 4 64\n"),
+        (
+            &[(1130, 32), (1138, 32)],
+            ImageFault::Overlap(44, 52),
+            "image 5 44 52\n",
+        ),
+        (&[(514, 13)], ImageFault::Class(2), "image 6 2\n"),
+        (&[(632, 9998)], ImageFault::Field(62, 6), "image 7 62 6\n"),
+        (&[(660, 0)], ImageFault::Method(64), "image 8 64\n"),
+        (
+            &[(1112, 32), (1114, 0)],
+            ImageFault::Root(44),
+            "image 9 44\n",
+        ),
+        (&[(602, 3)], ImageFault::Scheduler, "image 10\n"),
+    ];
+    for (changes, fault, line) in rows {
+        let bytes = changed(rt.alloc(), changes)?;
+        check_fault(&rt, &bytes, fault, line)?;
+    }
+    Ok(())
+}
+
+#[test]
+fn an_image_past_the_greatest_length_is_too_large(rt: HostRuntime) -> Result<(), Fail> {
+    let mut long = image(rt.alloc(), &[])?;
     long.resize(8_388_609, 0)?;
-    let mut too_long = host_with(alloc, &long)?;
-    check(&rt, &mut too_long, &words, Status::Unread, &["image\n"])
+    let mut host = host_with(rt.alloc(), &long)?;
+    check(
+        &rt,
+        &mut host,
+        &["once", "B", "4"],
+        Status::TooLarge,
+        &["too large\n"],
+    )
 }
 
 #[test]

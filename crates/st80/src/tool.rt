@@ -1,11 +1,13 @@
 ghost use Rattle.std.specs.Prelude.{◌≡◌, ℕ, List, map, Some, None};
 ghost use Rattle.std.specs.String.{string_bytes};
+ghost use Rattle.st_host.specs.Files.{bytes_of};
 ghost use Rattle.st_host.specs.Runs.{ReadsAndSays};
 ghost use Rattle.st80.specs.Ends.{OnceEnds, SaysLastLine, StatusHasCause};
 ghost use Rattle.st80.specs.Words.{once_of, word};
 ghost use Rattle.st80.specs.declared.status.Status.TheVariants.{Usage};
 
-use crate::once::{once, refuse};
+use crate::last_line::refuse;
+use crate::once::once;
 use crate::status::Status;
 use crate::words::{image_name, read_once};
 use st_host::{Host, Source};
@@ -22,7 +24,7 @@ pub fn tool<H: Host, S: Source>(
     _script: &mut S,
 ) -> Status
     ensures usage { once_of (map string_bytes words.now) ≡ None → (result ≡ Usage) × SaysLastLine H.Host.own Usage host.old host.new }
-    ensures once { (n : ℕ) → once_of (map string_bytes words.now) ≡ Some n → OnceEnds H.Host.own (H.files host.old (word (map string_bytes words.now) 1)) n host.old host.new result }
+    ensures once { (n : ℕ) → once_of (map string_bytes words.now) ≡ Some n → OnceEnds H.Host.own (bytes_of (H.files host.old (word (map string_bytes words.now) 1))) n host.old host.new result }
     ensures cause { StatusHasCause H.Host.own host.old host.new result }
     ensures reads { (text : List ℕ) × ReadsAndSays H.Host.own text host.old host.new }
 {

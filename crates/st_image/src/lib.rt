@@ -15,7 +15,7 @@ mod roots;
 mod shape;
 
 pub use error::ReadImage;
-pub use head::{HeadValues, has_letters};
+pub use head::HeadValues;
 pub use laws::{fault_is_determined, no_fault_is_well_formed};
 pub use reading::{Loaded, read};
 

@@ -1,5 +1,6 @@
 use crate::checks::check;
-use crate::{HeadValues, ReadImage, has_letters};
+use crate::head::has_letters;
+use crate::{HeadValues, ReadImage};
 use st_model::ImageFault;
 use std::alloc::{AllocError, Global};
 use std::process::Abort;

@@ -1,6 +1,7 @@
 use Rattle.std.proofs.Common.{◌≡◌, ℕ, List, Some, sym, subst, ◌∙◌, map}
 use Rattle.std.specs.Prelude.{Option}
 use Rattle.std.specs.String.{string_bytes}
+use Rattle.st_host.specs.Files.{bytes_of}
 use Rattle.st80.specs.Words.{once_of, word}
 use Rattle.st80.specs.Ends.{OnceEnds}
 use Rattle.st80.proofs.tool.tool.Goals as goal
@@ -12,5 +13,5 @@ pub returns-in-Some-clause-once : goal.returns-in-Some-clause-once
 returns-in-Some-clause-once g c n e =
     let read : once_of (map string_bytes c.args.words.now) ≡ Some c.in-Some.cycles = sym c.read_once.ensures.once ∙ c.in-Some.is in
     let same = one_number (once_of (map string_bytes c.args.words.now)) c.in-Some.cycles n read e in
-    let named = subst (λ (name : List ℕ). OnceEnds g.H.Host (g.H.Host.files c.args.host.now name) c.in-Some.cycles c.args.host.now c.once.new.host c.once.result) c.image_name.ensures c.once.ensures.ends in
-    subst (λ (m : ℕ). OnceEnds g.H.Host (g.H.Host.files c.args.host.now (word (map string_bytes c.args.words.now) 1)) m c.args.host.now c.once.new.host c.once.result) same named
+    let named = subst (λ (name : List ℕ). OnceEnds g.H.Host (bytes_of (g.H.Host.files c.args.host.now name)) c.in-Some.cycles c.args.host.now c.once.new.host c.once.result) c.image_name.ensures c.once.ensures.ends in
+    subst (λ (m : ℕ). OnceEnds g.H.Host (bytes_of (g.H.Host.files c.args.host.now (word (map string_bytes c.args.words.now) 1))) m c.args.host.now c.once.new.host c.once.result) same named
