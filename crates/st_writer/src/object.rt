@@ -76,9 +76,7 @@ pub fn push_object<M: Memory, H: Host>(
     requires end { end_of piece.old ≤ 2 ^ 40 }
     ensures { Pushes H.Host.own name.now (object_bytes (object_of (M.view m.now).objects (value o))) host.old host.new piece.old piece.new result }
 {
-    let fields = count_fields(m, o);
-    let units = count_units(m, o, fields);
     push_heading(m, o, piece, host, name)?;
-    push_fields(m, o, fields, piece, host, name)?;
-    push_units(m, o, fields, units, piece, host, name)
+    push_fields(m, o, piece, host, name)?;
+    push_units(m, o, piece, host, name)
 }

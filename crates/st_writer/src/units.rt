@@ -7,6 +7,7 @@ ghost use Rattle.st_pieces.specs.Pieces.{end_of, Pushes};
 ghost use Rattle.st_writer.specs.Written.{word_bytes, word_of, filler, unit_bytes};
 
 use crate::numbers::push_word;
+use st_bodies::{count_fields, count_units};
 use st_host::{Host, HostFault};
 use st_memory::Memory;
 use st_model::{Kind, Oop};
@@ -16,17 +17,15 @@ use st_pieces::Piece;
 pub fn push_fields<M: Memory, H: Host>(
     m: &M,
     o: Oop,
-    fields: u32,
     piece: &mut Piece,
     host: &mut H,
     name: &str,
 ) -> Result<(), HostFault>
     requires live { is_live (M.view m.now).objects (value o) ≡ true }
-    requires fields { fields ≡ length (object_of (M.view m.now).objects (value o)).fields }
     requires end { end_of piece.old ≤ 2 ^ 41 }
     ensures { Pushes H.Host.own name.now (flat_map word_bytes (map word_of (object_of (M.view m.now).objects (value o)).fields)) host.old host.new piece.old piece.new result }
 {
-    for i in 0..fields {
+    for i in 0..count_fields(m, o) {
         push_word(piece, host, name, m.pointer(o, i).0)?;
     }
     Ok(())
@@ -36,18 +35,16 @@ pub fn push_fields<M: Memory, H: Host>(
 fn push_words<M: Memory, H: Host>(
     m: &M,
     o: Oop,
-    count: u32,
     piece: &mut Piece,
     host: &mut H,
     name: &str,
 ) -> Result<(), HostFault>
     requires live { is_live (M.view m.now).objects (value o) ≡ true }
     requires kind { is_words (object_of (M.view m.now).objects (value o)).kind ≡ true }
-    requires count { count ≡ length (object_of (M.view m.now).objects (value o)).units }
     requires end { end_of piece.old ≤ 2 ^ 41 }
     ensures { Pushes H.Host.own name.now (flat_map word_bytes (object_of (M.view m.now).objects (value o)).units) host.old host.new piece.old piece.new result }
 {
-    for i in 0..count {
+    for i in 0..count_units(m, o, count_fields(m, o)) {
         push_word(piece, host, name, m.word(o, i))?;
     }
     Ok(())
@@ -57,8 +54,6 @@ fn push_words<M: Memory, H: Host>(
 fn push_bytes<M: Memory, H: Host>(
     m: &M,
     o: Oop,
-    fields: u32,
-    count: u32,
     piece: &mut Piece,
     host: &mut H,
     name: &str,
@@ -66,12 +61,11 @@ fn push_bytes<M: Memory, H: Host>(
     requires live { is_live (M.view m.now).objects (value o) ≡ true }
     requires words { is_words (object_of (M.view m.now).objects (value o)).kind ≡ false }
     requires pointers { is_pointers (object_of (M.view m.now).objects (value o)).kind ≡ false }
-    requires fields { fields ≡ length (object_of (M.view m.now).objects (value o)).fields }
-    requires count { count ≡ length (object_of (M.view m.now).objects (value o)).units }
     requires end { end_of piece.old ≤ 2 ^ 41 }
     ensures { Pushes H.Host.own name.now (object_of (M.view m.now).objects (value o)).units host.old host.new piece.old piece.new result }
 {
-    for i in 0..count {
+    let fields = count_fields(m, o);
+    for i in 0..count_units(m, o, fields) {
         piece.push(host, name, &[m.byte(o, 2 * fields + i)])?;
     }
     Ok(())
@@ -97,8 +91,6 @@ fn push_filler<H: Host>(
 fn push_filled<M: Memory, H: Host>(
     m: &M,
     o: Oop,
-    fields: u32,
-    count: u32,
     piece: &mut Piece,
     host: &mut H,
     name: &str,
@@ -106,34 +98,28 @@ fn push_filled<M: Memory, H: Host>(
     requires live { is_live (M.view m.now).objects (value o) ≡ true }
     requires words { is_words (object_of (M.view m.now).objects (value o)).kind ≡ false }
     requires pointers { is_pointers (object_of (M.view m.now).objects (value o)).kind ≡ false }
-    requires fields { fields ≡ length (object_of (M.view m.now).objects (value o)).fields }
-    requires count { count ≡ length (object_of (M.view m.now).objects (value o)).units }
     requires end { end_of piece.old ≤ 2 ^ 41 }
-    ensures { Pushes H.Host.own name.now ((object_of (M.view m.now).objects (value o)).units ++ filler count) host.old host.new piece.old piece.new result }
+    ensures { Pushes H.Host.own name.now ((object_of (M.view m.now).objects (value o)).units ++ filler (length (object_of (M.view m.now).objects (value o)).units)) host.old host.new piece.old piece.new result }
 {
-    push_bytes(m, o, fields, count, piece, host, name)?;
-    push_filler(piece, host, name, count)
+    push_bytes(m, o, piece, host, name)?;
+    push_filler(piece, host, name, count_units(m, o, count_fields(m, o)))
 }
 
 /// Adds the words or bytes of an object, with a byte of 0 after an odd number of bytes.
 pub fn push_units<M: Memory, H: Host>(
     m: &M,
     o: Oop,
-    fields: u32,
-    count: u32,
     piece: &mut Piece,
     host: &mut H,
     name: &str,
 ) -> Result<(), HostFault>
     requires live { is_live (M.view m.now).objects (value o) ≡ true }
-    requires fields { fields ≡ length (object_of (M.view m.now).objects (value o)).fields }
-    requires count { count ≡ length (object_of (M.view m.now).objects (value o)).units }
     requires end { end_of piece.old ≤ 2 ^ 41 }
     ensures { Pushes H.Host.own name.now (unit_bytes (object_of (M.view m.now).objects (value o)).kind (object_of (M.view m.now).objects (value o)).units) host.old host.new piece.old piece.new result }
 {
     match m.kind(o) {
         Kind::Pointers => Ok(()),
-        Kind::Words => push_words(m, o, count, piece, host, name),
-        Kind::Bytes | Kind::Method => push_filled(m, o, fields, count, piece, host, name),
+        Kind::Words => push_words(m, o, piece, host, name),
+        Kind::Bytes | Kind::Method => push_filled(m, o, piece, host, name),
     }
 }

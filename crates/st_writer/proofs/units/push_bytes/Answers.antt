@@ -23,14 +23,14 @@ pub loop-i-preserved : goal.loop-i-preserved
 loop-i-preserved g c =
     let xs = (object_of (g.M.Memory.view c.args.m.now).objects (value c.args.o)).units in
     let i = c.loop-i.i in
-    let at : i ≡ 2 * c.args.fields + i - 2 * length (object_of (g.M.Memory.view c.args.m.now).objects (value c.args.o)).fields = let f = c.requires.fields in omega arith in
+    let at : i ≡ 2 * c.count_fields-fields.result + i - 2 * length (object_of (g.M.Memory.view c.args.m.now).objects (value c.args.o)).fields = let f = c.count_fields-fields.ensures in omega arith in
     record {
       pushes = push_then g.H.Host c.args.name.now _ (take i xs) (c.byte.result ∷ []) _ _ _ _ _ _ _ c.loop-i.invariant.pushes c.in_ok-push.ensures (bytes_more xs i _ (ap (slice_get xs) at ∙ c.byte.ensures));
       end = omega (arith, c.loop-i.invariant.end, c.in_ok-push.ensures.adds.end);
     }
 
 pub overflow_mul-fields : goal.overflow_mul-fields
-overflow_mul-fields g c = omega (arith, most_units {v = g.M.Memory.view c.args.m.now} (value c.args.o) (g.met.M.Memory.whole c.args.m.now) c.requires.live)
+overflow_mul-fields g c = omega (arith, c.count_fields-fields.ensures, most_units {v = g.M.Memory.view c.args.m.now} (value c.args.o) (g.met.M.Memory.whole c.args.m.now) c.requires.live)
 
 pub overflow_add-fields : goal.overflow_add-fields
-overflow_add-fields g c = omega (arith, most_units {v = g.M.Memory.view c.args.m.now} (value c.args.o) (g.met.M.Memory.whole c.args.m.now) c.requires.live)
+overflow_add-fields g c = omega (arith, c.count_fields-fields.ensures, most_units {v = g.M.Memory.view c.args.m.now} (value c.args.o) (g.met.M.Memory.whole c.args.m.now) c.requires.live)
