@@ -1,0 +1,4 @@
+pub mod Leaves
+pub mod Phrases
+pub mod Reading
+pub mod Trees

@@ -1,0 +1,5 @@
+//! The parser: from the bytes of a method's text to its tree, or its first fault.
+#![tactic(auto)]
+
+mod leaf;
+mod read;
