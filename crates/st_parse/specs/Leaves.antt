@@ -1,5 +1,5 @@
 -- Tokens as the grammar sees them: each with its kind, which is found by its sort, its bytes and the token before it.
-use Rattle.std.specs.Prelude.{ℕ, ◌-◌, Bool, true, false, ◌&&◌, ◌==◌, List, [], ◌∷◌, ◌++◌, take, drop, if◌then◌else◌, Option, Some, None, codes, bytes_eq}
+use Rattle.std.specs.Prelude.{ℕ, ◌+◌, ◌-◌, Bool, true, false, ◌&&◌, ◌==◌, List, [], ◌∷◌, ◌++◌, take, drop, if◌then◌else◌, Option, Some, None, codes, bytes_eq}
 use Rattle.std.specs.List.{list_any}
 use Rattle.std.specs.Str.{byte}
 use Rattle.st_tree.specs.declared.token.Token.{Token}
@@ -62,9 +62,9 @@ is_joined None t = false
 is_joined (Some before) t = ends_keyword before.sort && before.end == t.start
 
 abbrev pub leaf_of : List ℕ → Option Token → Token → Leaf
-leaf_of text before t = record { kind = kind_of text (is_joined before t) t; token = t }
+leaf_of text before t = record { kind = kind_of text (is_joined before t) t; token = t; place = t.start + 1 }
 
--- tokens that stand behind another one, each with its kind
+-- tokens that stand behind another one, each with its kind and its place
 abbrev pub leaves_behind : List ℕ → Option Token → List Token → List Leaf
 leaves_behind text before [] = []
 leaves_behind text before (t ∷ ts) = leaf_of text before t ∷ leaves_behind text (Some t) ts

@@ -10,7 +10,7 @@ use Rattle.st_parse.specs.declared.read.ReadError.{ReadError}
 use Rattle.st_parse.specs.declared.read.ReadError.TheVariants as errors
 use Rattle.st_parse.specs.Leaves.{among, keywords, operators}
 use Rattle.st_parse.specs.Phrases.{names, constants, plain_elements, first_keywords}
-use Rattle.st_parse.specs.Trees.{bytes, name_at, constant_at, place_of, number_of, is_super, sent, sent_if, cascaded}
+use Rattle.st_parse.specs.Trees.{bytes, name_at, constant_at, number_of, is_super, sent, sent_if, cascaded}
 use Rattle.st_tree.specs.declared.token.Signed.{Signed}
 use Rattle.st_tree.specs.Views.{NameView, ElementView, ElementsView, ExpressionView, ExpressionsView, StatementsView, MethodView, with_element, with_expression, with_statement}
 use Rattle.st_tree.specs.Views as views
@@ -121,13 +121,13 @@ module _ (text : List ℕ) where
   joined_at bs ts = many (λ _. among (Joined ∷ [])) joined_step (length ts) bs ts
 
   unfoldable pub keyword_symbol_at : List Leaf → Read ElementView
-  keyword_symbol_at ts = token_at first_keywords ts >>= λ k. joined_at (bytes text k.0) k.1 >>= λ ks. Ok (record { place = place_of k.0; what = views.symbol ks.0 }, ks.1)
+  keyword_symbol_at ts = token_at first_keywords ts >>= λ k. joined_at (bytes text k.0) k.1 >>= λ ks. Ok (record { place = k.0.place; what = views.symbol ks.0 }, ks.1)
 
   unfoldable pub constant_element_at : List Kind → List Leaf → Read ElementView
   constant_element_at kinds ts = token_at kinds ts >>= λ o. Ok (constant_at text o.0, o.1)
 
   unfoldable pub nested_at : (List Leaf → Read ElementsView) → List Kind → List Leaf → Read ElementView
-  nested_at inner kinds ts = token_at kinds ts >>= λ o. inner o.1 >>= λ es. Ok (record { place = place_of o.0; what = views.array es.0 }, es.1)
+  nested_at inner kinds ts = token_at kinds ts >>= λ o. inner o.1 >>= λ es. Ok (record { place = o.0.place; what = views.array es.0 }, es.1)
 
   unfoldable pub element_at : (List Leaf → Read ElementsView) → List Leaf → Read ElementView
   element_at inner ts =
@@ -159,13 +159,19 @@ module _ (text : List ℕ) where
     unfoldable pub array_primary_at : List Leaf → Read ExpressionView
     array_primary_at ts = nested_at arrays (Opening ∷ []) ts >>= λ e. Ok (views.literal e.0, e.1)
 
+    unfoldable pub block_primary_at : List Leaf → Read ExpressionView
+    block_primary_at ts = token_at (OpenBlock ∷ []) ts >>= λ o. brackets true o.1 >>= λ e. Ok (e.0, e.1)
+
+    unfoldable pub group_primary_at : List Leaf → Read ExpressionView
+    group_primary_at ts = token_at (Open ∷ []) ts >>= λ o. brackets false o.1 >>= λ e. Ok (e.0, e.1)
+
     unfoldable pub primary_at : List Leaf → Read ExpressionView
     primary_at ts =
         if first (among names) ts then name_primary_at ts
         else (if first (among constants) ts then constant_primary_at ts
         else (if first (among (Opening ∷ [])) ts then array_primary_at ts
-        else (if first (among (OpenBlock ∷ [])) ts then (token_at (OpenBlock ∷ []) ts >>= λ o. brackets true o.1)
-        else (token_at (Open ∷ []) ts >>= λ o. brackets false o.1))))
+        else (if first (among (OpenBlock ∷ [])) ts then block_primary_at ts
+        else group_primary_at ts)))
 
     unfoldable pub names_step : ExpressionView → List Leaf → Read ExpressionView
     names_step t ts = token_at names ts >>= λ n. Ok (sent t (bytes text n.0) views.no_expressions, n.1)
@@ -173,8 +179,12 @@ module _ (text : List ℕ) where
     unfoldable pub names_at : ExpressionView → List Leaf → Read ExpressionView
     names_at t ts = many (λ _. among names) names_step (length ts) t ts
 
+    -- also `super` alone
+    unfoldable pub any_unary_at : List Leaf → Read ExpressionView
+    any_unary_at ts = primary_at ts >>= λ p. names_at p.0 p.1
+
     unfoldable pub unary_at : List Leaf → Read ExpressionView
-    unary_at ts = primary_at ts >>= λ p. names_at p.0 p.1 >>= λ u. checked_at u.0 u.1
+    unary_at ts = any_unary_at ts >>= λ u. checked_at u.0 u.1
 
     unfoldable pub operations_step : ExpressionView → List Leaf → Read ExpressionView
     operations_step t ts = token_at operators ts >>= λ o. unary_at o.1 >>= λ u. Ok (sent t (bytes text o.0) (views.expression u.0 views.no_expressions), u.1)
@@ -182,8 +192,11 @@ module _ (text : List ℕ) where
     unfoldable pub operations_at : ExpressionView → List Leaf → Read ExpressionView
     operations_at t ts = many (λ _. among operators) operations_step (length ts) t ts
 
+    unfoldable pub any_binary_at : List Leaf → Read ExpressionView
+    any_binary_at ts = primary_at ts >>= λ p. names_at p.0 p.1 >>= λ u. operations_at u.0 u.1
+
     unfoldable pub binary_at : List Leaf → Read ExpressionView
-    binary_at ts = primary_at ts >>= λ p. names_at p.0 p.1 >>= λ u. operations_at u.0 u.1 >>= λ b. checked_at b.0 b.1
+    binary_at ts = any_binary_at ts >>= λ b. checked_at b.0 b.1
 
     unfoldable pub parts_step : PartsView → List Leaf → Read PartsView
     parts_step s ts = token_at keywords ts >>= λ k. binary_at k.1 >>= λ b. Ok (record { selector = s.selector ++ bytes text k.0; arguments = with_expression s.arguments b.0 }, b.1)
@@ -223,8 +236,11 @@ module _ (text : List ℕ) where
     unfoldable pub sends_at : ExpressionView → List Leaf → Read ExpressionView
     sends_at t ts = if first (among message_starts) ts then (messages_at t ts >>= λ m. cascades_at m.0 m.1) else Ok (t, ts)
 
+    unfoldable pub any_cascade_at : List Leaf → Read ExpressionView
+    any_cascade_at ts = primary_at ts >>= λ p. sends_at p.0 p.1
+
     unfoldable pub cascade_at : List Leaf → Read ExpressionView
-    cascade_at ts = primary_at ts >>= λ p. sends_at p.0 p.1 >>= λ c. checked_at c.0 c.1
+    cascade_at ts = any_cascade_at ts >>= λ c. checked_at c.0 c.1
 
     unfoldable pub targets_at : List Leaf → List NameView × List Leaf
     targets_at (x ∷ y ∷ ts) = if is_target x y then (name_at text x ∷ (targets_at ts).0, (targets_at ts).1) else ([], x ∷ y ∷ ts)

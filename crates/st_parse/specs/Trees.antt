@@ -1,5 +1,5 @@
 -- What phrases mean: the tree of each, in a text. And which of them fit: the conditions that no form of a row has.
-use Rattle.std.specs.Prelude.{ℕ, ◌+◌, ◌-◌, Bool, true, false, ◌==◌, not, List, [], ◌∷◌, ◌++◌, length, take, drop, if◌then◌else◌, Option, Some, None, IsTrue, IsFalse, codes, bytes_eq}
+use Rattle.std.specs.Prelude.{ℕ, ◌-◌, Bool, true, false, ◌==◌, not, List, [], ◌∷◌, ◌++◌, length, take, drop, if◌then◌else◌, Option, Some, None, IsTrue, IsFalse, codes, bytes_eq}
 use Rattle.std.specs.Str.{byte}
 use Rattle.st_tree.specs.declared.token.Signed.{Signed}
 use Rattle.st_tree.specs.declared.token.Sort.{Sort}
@@ -62,18 +62,15 @@ abbrev pub number_of : Sort → Signed
 number_of (sorts.Number n) = n
 number_of _ = record { minus = false; size = 0 }
 
-abbrev pub place_of : Leaf → ℕ
-place_of x = x.token.start + 1
-
 module _ (text : List ℕ) where
   abbrev pub bytes : Leaf → List ℕ
   bytes x = bytes_of text x.token
 
   abbrev pub name_at : Leaf → NameView
-  name_at x = record { text = bytes x; place = place_of x }
+  name_at x = record { text = bytes x; place = x.place }
 
   abbrev pub constant_at : Leaf → ElementView
-  constant_at x = record { place = place_of x; what = content_of x.token.sort (bytes x) }
+  constant_at x = record { place = x.place; what = content_of x.token.sort (bytes x) }
 
   -- the bytes of leaves, one after the other
   abbrev pub joined_bytes : {kinds : List Kind} → List (One kinds) → List ℕ
@@ -87,8 +84,8 @@ module _ (text : List ℕ) where
   abbrev mutual
     pub element_tree : Element → ElementView
     element_tree (plain o) = constant_at o.leaf
-    element_tree (keyword_symbol k ks) = record { place = place_of k.leaf; what = views.symbol (bytes k.leaf ++ joined_bytes ks) }
-    element_tree (nested o es c) = record { place = place_of o.leaf; what = views.array (elements_tree es) }
+    element_tree (keyword_symbol k ks) = record { place = k.leaf.place; what = views.symbol (bytes k.leaf ++ joined_bytes ks) }
+    element_tree (nested o es c) = record { place = o.leaf.place; what = views.array (elements_tree es) }
 
     pub elements_tree : Elements → ElementsView
     elements_tree no_elements = views.no_elements
@@ -96,7 +93,7 @@ module _ (text : List ℕ) where
 
   abbrev pub literal_tree : Literal → ElementView
   literal_tree (constant o) = constant_at o.leaf
-  literal_tree (array o es c) = record { place = place_of o.leaf; what = views.array (elements_tree es) }
+  literal_tree (array o es c) = record { place = o.leaf.place; what = views.array (elements_tree es) }
 
   abbrev pub parameters_tree : List Parameter → List NameView
   parameters_tree [] = []

@@ -1,6 +1,7 @@
 //! Tokens as the grammar sees them.
 
-ghost use Rattle.std.specs.Prelude.{◌≡◌, IfOk};
+ghost use Rattle.std.specs.Prelude.{◌≡◌, ◌<◌, ◌-◌, ◌^◌, IfOk, length};
+ghost use Rattle.st_scan.specs.Scans.{AreSpans};
 ghost use Rattle.st_parse.specs.Leaves.{bytes_of, kind_of, mark_kind, operator_kind, keyword_kind, leaves_of, is_joined, kind_number};
 
 use st_tree::{Sort, Token};
@@ -41,11 +42,12 @@ impl Kind {
     }
 }
 
-/// A token and its kind.
+/// A token, its kind, and its place, counted from 1.
 #[derive(Clone, Copy, Debug, PartialEq, Eq)]
 pub struct Leaf {
     pub kind: Kind,
     pub token: Token,
+    pub place: u32,
 }
 
 /// The bytes of a token.
@@ -129,8 +131,10 @@ fn is_joined(before: Option<Token>, token: Token) -> bool
     }
 }
 
-/// Tokens of a text, each with its kind.
+/// Tokens of a text, each with its kind and place.
 pub fn leaves_of(alloc: Global, text: &[u8], tokens: &[Token]) -> Result<Vec<Leaf>, AllocError>
+    requires spans { AreSpans 0 tokens.now (length text.now) }
+    requires short { length text.now < 2 ^ 32 - 1 }
     ensures { IfOk result (λ leaves. leaves.items ≡ leaves_of text.now tokens.now) }
 {
     let mut leaves = Vec::new(alloc);
@@ -140,6 +144,7 @@ pub fn leaves_of(alloc: Global, text: &[u8], tokens: &[Token]) -> Result<Vec<Lea
         leaves.push(Leaf {
             kind,
             token: *token,
+            place: token.start + 1,
         })?;
         before = Some(*token);
     }

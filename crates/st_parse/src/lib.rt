@@ -2,4 +2,5 @@
 #![tactic(auto)]
 
 mod leaf;
+mod literal;
 mod read;

@@ -1,7 +1,7 @@
 //! Reading one leaf, and what stops a reader.
 
-ghost use Rattle.std.specs.Prelude.{◌≡◌, ◌∷◌, [], length};
-ghost use Rattle.st_parse.specs.Leaves.{among, kind_number};
+ghost use Rattle.std.specs.Prelude.{◌≡◌, ◌<◌, ◌+◌, ◌^◌, length};
+ghost use Rattle.st_parse.specs.Leaves.{among};
 ghost use Rattle.st_parse.specs.Reading.{Gives, Fails, stop, first, token_at};
 ghost use Rattle.st_parse.specs.declared.read.ReadError.TheVariants.{OutOfMemory};
 
@@ -14,6 +14,19 @@ use std::alloc::{AllocError, AllocFailed};
 pub enum ReadError {
     Fault { cause: Cause, left: usize },
     OutOfMemory,
+}
+
+impl ReadError {
+    /// One bracket too many is open, the one before these leaves.
+    pub fn too_deep(leaves: &[Leaf]) -> ReadError
+        requires { length leaves.now < 2 ^ 63 }
+        ensures { result ≡ ReadError.Fault Cause.Deep (length leaves.now + 1) }
+    {
+        ReadError::Fault {
+            cause: Cause::Deep,
+            left: leaves.len() + 1,
+        }
+    }
 }
 
 impl From<AllocError> for ReadError {
@@ -65,8 +78,3 @@ pub fn token<'a>(
     }
 }
 
-pub fn name(leaves: &[Leaf]) -> Result<(Leaf, &[Leaf]), ReadError>
-    ensures { Gives (λ x. (x.0, x.1.now)) result (token_at (Kind.Name ∷ []) leaves.now) }
-{
-    token(&[Kind::Name], leaves)
-}
