@@ -1,3 +1,4 @@
 pub mod Heights
 pub mod Loops
 pub mod Readers
+pub mod Repeats
