@@ -36,6 +36,26 @@ within (k ∷ ks) js e x a =
       | inr there ↦ within ks js parts.1 x there
     ]
 
+-- each kind is in one of two lists
+abbrev pub are_covered : List Kind → List Kind → List Kind → Bool
+are_covered ks js ls = list_all (λ k. contains js k || contains ls k) ks
+
+second_true : (a b : Bool) → (a || b) ≡ true → a ≡ false → b ≡ true
+second_true true b e f = absurd cc
+second_true false b e f = e
+
+pub covered : (ks js ls : List Kind) → are_covered ks js ls ≡ true → (x : Leaf) → among ks x ≡ true → among js x ≡ false → among ls x ≡ true
+covered [] js ls e x a f = absurd cc
+covered (k ∷ ks) js ls e x a f =
+    let parts = and_parts (contains js k || contains ls k) (are_covered ks js ls) e in
+    elim (or_cases (eqb (kind_number x.kind) (kind_number k)) (among ks x) a) [
+      | inl here ↦
+          let same = eqb-true (kind_number x.kind) (kind_number k) here in
+          let no : contains js k ≡ false = ap (λ (n : ℕ). list_any (λ j. eqb n (kind_number j)) js) (sym same) ∙ f in
+          ap (λ (n : ℕ). list_any (λ j. eqb n (kind_number j)) ls) same ∙ second_true (contains js k) (contains ls k) parts.0 no
+      | inr there ↦ covered ks js ls parts.1 x there f
+    ]
+
 -- neither opens nor closes a bracket
 abbrev pub are_neutral : List Kind → Bool
 are_neutral ks = are_apart ks openings && are_apart ks closings

@@ -2,6 +2,8 @@ pub mod Balanced
 pub mod Bracketed
 pub mod Heights
 pub mod KindSets
+pub mod Lists
+pub mod Literals
 pub mod Loops
 pub mod Readers
 pub mod Repeats
