@@ -1,5 +1,6 @@
 pub mod Balanced
 pub mod Bracketed
+pub mod Expressions
 pub mod Heights
 pub mod KindSets
 pub mod Lists

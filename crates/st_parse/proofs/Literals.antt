@@ -13,7 +13,7 @@ use Rattle.st_parse.specs.Reading.{Read, ◌>>=◌, first, token_at, many, eleme
 use Rattle.st_parse.proofs.Heights.{IsBalanced}
 use Rattle.st_parse.proofs.KindSets.{apart, within, neutral, are_neutral, are_apart, are_within, covered, sample, one_plain, one_first_keyword}
 use Rattle.st_parse.proofs.Balanced.{elements_balanced, element_balanced}
-use Rattle.st_parse.proofs.Readers.{Reads, nothing, first_nothing, is_nil, mapped, renamed, token_reads, both, either, text_both, goes_both, text_either, tree_either, goes_either}
+use Rattle.st_parse.proofs.Readers.{Reads, nothing, first_nothing, is_nil, mapped, renamed, token_reads, both, either, anyway, text_both, goes_both, text_either, tree_either, goes_either}
 use Rattle.st_parse.proofs.Repeats.{IsRepeat, IsMore, repeated}
 use Rattle.st_parse.proofs.Bracketed.{bracket_zero_zero, bracket_zero_suc, bracket_suc_suc}
 use Rattle.st_parse.proofs.Lists.{and_false, or_false, or_and_false, ones_reads}
@@ -68,6 +68,18 @@ element_some (plain o) = omega arith
 element_some (keyword_symbol o js) = omega arith
 element_some (nested o es c) = omega arith
 
+abbrev pub Array : List Kind → Type 0
+Array ks = One ks × Elements × One (Close ∷ [])
+
+abbrev pub array_text : {ks : List Kind} → Array ks → List Leaf
+array_text a = a.0.leaf ∷ (elements_text a.1 ++ a.2.leaf ∷ [])
+
+abbrev pub any_open : List Kind
+any_open = Opening ∷ Open ∷ []
+
+abbrev pub hash_open : List Kind
+hash_open = Opening ∷ []
+
 module _ (text : List ℕ) where
   joined_one : (o : One (Joined ∷ [])) (bs : List ℕ) → List ℕ
   joined_one o bs = bs ++ bytes text o.leaf
@@ -101,20 +113,11 @@ module _ (text : List ℕ) where
 
   -- ARRAYS
 
-  abbrev pub Array : List Kind → Type 0
-  Array ks = One ks × Elements × One (Close ∷ [])
-
-  abbrev pub array_text : {ks : List Kind} → Array ks → List Leaf
-  array_text a = a.0.leaf ∷ (elements_text a.1 ++ a.2.leaf ∷ [])
-
   abbrev pub array_tree : {ks : List Kind} → Array ks → ElementView
   array_tree a = record { place = a.0.leaf.place; what = views.array (elements_tree text a.1) }
 
   abbrev pub ArrayReads : List Kind → ℕ → ℕ → Type 0
   ArrayReads ks n m = Reads {P = Array ks} (array_text {ks = ks}) (array_tree {ks = ks}) (λ a. nothing) (among ks) n m (nested_at text (array_at text n) ks) (nested_at text (array_at text m) ks)
-
-  abbrev any_open : List Kind
-  any_open = Opening ∷ Open ∷ []
 
   abbrev Sum : Type 0
   Sum = One plain_elements ⊎ ((One first_keywords × List (One (Joined ∷ []))) ⊎ Array any_open)
@@ -175,8 +178,8 @@ module _ (text : List ℕ) where
   pub element_reads : (n m : ℕ) → n ≤ m → ArrayReads any_open n m → Reads element_text (element_tree text) element_goes (among element_starts) n m (element_at text (array_at text n)) (element_at text (array_at text m))
   unfolding element_at goes_sum
   element_reads n m le R =
-      renamed (either (among plain_elements) (constant_reads plain_elements one_plain n m le refl)
-        (either (among first_keywords) (keyword_symbol_reads n m le) R (among (first_keywords ++ any_open)) (λ x e. e) (λ p l. p.0.fits) array_not (λ x e f. covered (first_keywords ++ any_open) first_keywords any_open refl x e f))
+      renamed (either (among plain_elements) (anyway (among plain_elements) (constant_reads plain_elements one_plain n m le refl))
+        (either (among first_keywords) (anyway (among first_keywords) (keyword_symbol_reads n m le)) R (among (first_keywords ++ any_open)) (λ x e. e) (λ p l. p.0.fits) array_not (λ x e f. covered (first_keywords ++ any_open) first_keywords any_open refl x e f))
         (among element_starts) (λ x e. e) (λ p l. p.fits) starts_not (λ x e f. covered element_starts plain_elements (first_keywords ++ any_open) refl x e f))
       element_text (element_tree text) element_goes to text_to tree_to goes_to from text_from tree_from goes_from
 
@@ -267,9 +270,6 @@ module _ (text : List ℕ) where
       unpaired any_open some_open (within any_open openings refl) zero (suc k) (zero_suc any_open some_open (within any_open openings refl) zero k (elements_read zero k (omega arith) (nested_reads k zero (omega arith))))
   nested_reads (suc k) (suc j) le =
       unpaired any_open some_open (within any_open openings refl) (suc j) (suc k) (suc_suc any_open some_open (within any_open openings refl) j k (elements_read j k (omega arith) (nested_reads k j (omega arith))))
-
-  abbrev hash_open : List Kind
-  hash_open = Opening ∷ []
 
   abbrev some_hash : One hash_open
   some_hash = record { leaf = sample Opening; fits = refl }

@@ -361,6 +361,56 @@ module _ {P Q A B : Type 0} {textP : P → List Leaf} {treeP : P → A} {goesP :
 
 -- ONE OR THE OTHER
 
+-- the same of leaves the first of which passes
+pub record ReadsIf {P A : Type 0} (looks : Leaf → Bool) (text : P → List Leaf) (tree : P → A) (goes : P → Leaf → Bool) (begin : Leaf → Bool) (n m : ℕ) (r r' : List Leaf → Read A) : Type 0 where
+  pub fewer : n ≤ m
+  pub told : (ts : List Leaf) → first looks ts ≡ true → Told text tree goes begin n r' ts (r ts)
+  pub again : (p : P) (l : List Leaf) → first (goes p) l ≡ false → highest 0 (text p) ≤ m → r' (text p ++ l) ≡ Ok (tree p, l)
+  pub balanced : (p : P) → IsBalanced (text p)
+
+pub anyway : {P A : Type 0} {text : P → List Leaf} {tree : P → A} {goes : P → Leaf → Bool} {begin : Leaf → Bool} {n m : ℕ} {r r' : List Leaf → Read A} (looks : Leaf → Bool)
+    → Reads text tree goes begin n m r r' → ReadsIf looks text tree goes begin n m r r'
+anyway looks R = record { fewer = R.fewer; told = λ ts e. R.told ts; again = R.again; balanced = R.balanced }
+
+-- only the phrases that begin so
+module _ {P A : Type 0} {text : P → List Leaf} {tree : P → A} {goes : P → Leaf → Bool} {n m : ℕ} {r r' : List Leaf → Read A} (looks : Leaf → Bool) (R : Reads text tree goes looks n m r r')
+    (empty : (p : P) (x : Leaf) → text p ≡ [] → looks x ≡ true → goes p x ≡ true) where
+  abbrev pub Some : Type 0
+  Some = (p : P) × (first looks (text p) ≡ true)
+
+  some_ok : (ts rest us : List Leaf) (p : P) → us ≡ text p → ts ≡ us ++ rest → first looks ts ≡ true → first (goes p) rest ≡ false → first looks (text p) ≡ true
+  some_ok ts rest (u ∷ us) p is parts e s = ap (first looks) (sym is) ∙ (ap (first looks) (sym parts) ∙ e)
+  some_ok ts [] [] p is parts e s =
+      let no : first looks [] ≡ true = ap (first looks) (sym parts) ∙ e in
+      absurd cc
+  some_ok ts (x ∷ rest) [] p is parts e s =
+      let yes = empty p x (sym is) (ap (first looks) (sym parts) ∙ e) in
+      absurd cc
+
+  some_err : (c : Cause) (before more rest : List Leaf) (p : P) → text p ≡ before ++ more → first looks (before ++ rest) ≡ true → Reason looks n r' c before more rest → first looks (text p) ≡ true
+  some_err c (b ∷ before) more rest p begins e w = ap (first looks) begins ∙ e
+  some_err c [] more rest p begins e (inl (three, w)) = absurd (omega (arith, w.takes e))
+  some_err c [] more rest p begins e (inr (six, d)) =
+      let here : looks d.bracket ≡ true = ap (first looks) (sym d.rest_is) ∙ e in
+      ap (first looks) begins ∙ ap (first looks) d.more_is ∙ here
+
+  some_told : (ts : List Leaf) (z : Read A) → first looks ts ≡ true → Told text tree goes looks n r' ts z → Told {P = Some} (λ p. text p.0) (λ p. tree p.0) (λ p. goes p.0) looks n r' ts z
+  some_told ts (Ok x) e t = record { p = (t.p, some_ok ts x.1 (text t.p) t.p refl t.parts e t.stops); parts = t.parts; is = t.is; stops = t.stops; low = t.low }
+  some_told ts (Err s) e t = record {
+    before = t.before;
+    rest = t.rest;
+    p = (t.p, some_err s.cause t.before t.more t.rest t.p t.begins (ap (first looks) (sym t.parts) ∙ e) t.why);
+    more = t.more;
+    parts = t.parts;
+    place = t.place;
+    begins = t.begins;
+    low = t.low;
+    why = t.why;
+  }
+
+  pub nonempty : ReadsIf {P = Some} looks (λ p. text p.0) (λ p. tree p.0) (λ p. goes p.0) looks n m r r'
+  nonempty = record { fewer = R.fewer; told = λ ts e. some_told ts (r ts) e (R.told ts); again = λ p l e low. R.again p.0 l e low; balanced = λ p. R.balanced p.0 }
+
 abbrev pub text_either : {P Q : Type 0} → (P → List Leaf) → (Q → List Leaf) → P ⊎ Q → List Leaf
 text_either textP textQ (inl p) = textP p
 text_either textP textQ (inr q) = textQ q
@@ -391,7 +441,7 @@ first_into f g (x ∷ l) into e = into x e
 
 module _ {P Q A : Type 0} {textP : P → List Leaf} {treeP : P → A} {goesP : P → Leaf → Bool} {beginP : Leaf → Bool} {n m : ℕ} {r1 r1' : List Leaf → Read A}
     {textQ : Q → List Leaf} {treeQ : Q → A} {goesQ : Q → Leaf → Bool} {beginQ : Leaf → Bool} {r2 r2' : List Leaf → Read A}
-    (looks : Leaf → Bool) (R1 : Reads textP treeP goesP beginP n m r1 r1') (R2 : Reads textQ treeQ goesQ beginQ n m r2 r2') (begin : Leaf → Bool)
+    (looks : Leaf → Bool) (R1 : ReadsIf looks textP treeP goesP beginP n m r1 r1') (R2 : Reads textQ treeQ goesQ beginQ n m r2 r2') (begin : Leaf → Bool)
     (inside : (x : Leaf) → looks x ≡ true → beginP x ≡ true)
     (starts : (p : P) (l : List Leaf) → first looks (textP p ++ l) ≡ true)
     (others : (q : Q) (x : Leaf) (us : List Leaf) → textQ q ≡ x ∷ us → looks x ≡ false)
@@ -448,7 +498,7 @@ module _ {P Q A : Type 0} {textP : P → List Leaf} {treeP : P → A} {goesP : P
       })
 
   either_told : (ts : List Leaf) (b : Bool) → first looks ts ≡ b → Told (text_either textP textQ) (tree_either treeP treeQ) (goes_either looks goesP textQ goesQ) begin n choice' ts (cond b (r1 ts) (r2 ts))
-  either_told ts true e = first_told ts (r1 ts) e (R1.told ts)
+  either_told ts true e = first_told ts (r1 ts) e (R1.told ts e)
   either_told ts false e = other_told ts (r2 ts) e (R2.told ts)
 
   not_looked : (q : Q) (l us : List Leaf) → us ≡ textQ q → first (goes_either looks goesP textQ goesQ (inr q)) l ≡ false → first looks (us ++ l) ≡ false
