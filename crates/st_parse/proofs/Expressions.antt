@@ -19,20 +19,20 @@ use Rattle.st_parse.proofs.Repeats.{IsRepeat, IsMore, repeated}
 use Rattle.st_parse.proofs.Lists.{and_false, or_false, or_and_false, ones_reads}
 use Rattle.st_parse.proofs.Literals.{Array, array_text, array_tree, constant_reads, array_reads, hash_open}
 
-primary_some : (p : Primary) → 0 < length (primary_text p)
+pub primary_some : (p : Primary) → 0 < length (primary_text p)
 primary_some (name o) = omega arith
 primary_some (literal (constant o)) = omega arith
 primary_some (literal (array o es c)) = omega arith
 primary_some (block o b c) = omega arith
 primary_some (group o e c) = omega arith
 
-ones_text-append : {ks : List Kind} (os ps : List (One ks)) → ones_text (os ++ ps) ≡ ones_text os ++ ones_text ps
+pub ones_text-append : {ks : List Kind} (os ps : List (One ks)) → ones_text (os ++ ps) ≡ ones_text os ++ ones_text ps
 ones_text-append [] ps = refl
 ones_text-append (o ∷ os) ps = ap (λ (l : List Leaf). o.leaf ∷ l) (ones_text-append os ps)
 
 module _ (text : List ℕ) where
   -- a name more makes a message
-  names_sent : (t : ExpressionView) (ns : List (One names)) (n : One names) → is_super (after_names text t (ns ++ n ∷ [])) ≡ false
+  pub names_sent : (t : ExpressionView) (ns : List (One names)) (n : One names) → is_super (after_names text t (ns ++ n ∷ [])) ≡ false
   names_sent t [] n = refl
   names_sent t (x ∷ ns) n = names_sent (sent t (bytes text x.leaf) views.no_expressions) ns n
 
@@ -278,7 +278,7 @@ module _ (text : List ℕ) where
   abbrev pub binary_goes : Leaf → Bool
   binary_goes x = among operators x || among names x
 
-  or_assoc : (a b c : Bool) → ((a || b) || c) ≡ (a || (b || c))
+  pub or_assoc : (a b c : Bool) → ((a || b) || c) ≡ (a || (b || c))
   or_assoc true b c = refl
   or_assoc false b c = refl
 
@@ -379,7 +379,7 @@ module _ (text : List ℕ) where
         (λ o. o.0.leaf ∷ unary_text o.1.0) (λ o. sent t (bytes text o.0.leaf) (views.expression (unary_tree text o.1.0) views.no_expressions)) (λ o. among names)
         (λ o. o) (λ o. refl) (λ o. refl) (λ o x. sym (or_and_false (among names x) (is_nil (unary_text o.1.0)))) (λ o. o) (λ o. refl) (λ o. refl) (λ o x. or_and_false (among names x) (is_nil (unary_text o.1.0)))
 
-    abbrev OperationsReads : ExpressionView → Type 0
+    abbrev pub OperationsReads : ExpressionView → Type 0
     OperationsReads t = Reads {P = FitOperations} (λ os. operations_text os.0) (λ os. after_operations text t os.0) (λ os x. among operators x || operations_last os.0 x) (among operators) n m
         (operations_at text (array_at text n) (bracket_at text n) t) (operations_at text (array_at text m) (bracket_at text m) t)
 

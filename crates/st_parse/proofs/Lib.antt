@@ -1,5 +1,6 @@
 pub mod Balanced
 pub mod Bracketed
+pub mod Cascades
 pub mod Expressions
 pub mod Heights
 pub mod KindSets

@@ -47,7 +47,7 @@ element_ends (plain o) x ks a e = refl
 element_ends (keyword_symbol k js) x ks a e = apart ks (Joined ∷ []) a x e
 element_ends (nested o es c) x ks a e = refl
 
-or_none : (a b : Bool) → a ≡ false → b ≡ false → (a || b) ≡ false
+pub or_none : (a b : Bool) → a ≡ false → b ≡ false → (a || b) ≡ false
 or_none true b e f = absurd cc
 or_none false b e f = f
 
