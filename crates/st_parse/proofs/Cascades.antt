@@ -197,6 +197,290 @@ module _ (text : List ℕ) where
   takes_names [] x e = inr (λ no. covered message_starts names rest_starts refl x e no)
   takes_names (n ∷ ns) x e = inl (omega arith)
 
+  -- MESSAGES OF A CASCADE
+
+  abbrev FitMessage : Type 0
+  FitMessage = (m : Message) × MessageFits text m
+
+  abbrev FitMessages : Type 0
+  FitMessages = (ms : Messages) × MessagesFit text ms
+
+  abbrev MessageSum : Type 0
+  MessageSum = One names ⊎ ((One operators × FitUnary text) ⊎ (PartPair × FitParts))
+
+  abbrev binary_part_text : One operators × FitUnary text → List Leaf
+  binary_part_text o = o.0.leaf ∷ unary_text o.1.0
+
+  abbrev keyword_part_text : PartPair × FitParts → List Leaf
+  keyword_part_text = text_both (λ k. k.0.leaf ∷ binary_text k.1.0) (λ ks. parts_text ks.0)
+
+  abbrev message_sum_text : MessageSum → List Leaf
+  message_sum_text = text_either (one_text {kinds = names}) (text_either binary_part_text keyword_part_text)
+
+  abbrev message_sum_tree : ExpressionView → MessageSum → ExpressionView
+  message_sum_tree t =
+      tree_either (λ k. cascaded t (bytes text k.leaf) views.no_expressions)
+      (tree_either (λ o. cascaded t (bytes text o.0.leaf) (views.expression (unary_tree text o.1.0) views.no_expressions)) (λ k. cascaded t (bytes text k.0.0.leaf ++ selector_of text k.1.0) (views.expression (binary_tree text k.0.1.0) (arguments_of text k.1.0))))
+
+  message_sum_goes : MessageSum → Leaf → Bool
+  message_sum_goes =
+      goes_either (among names) (λ o. nothing) (text_either binary_part_text keyword_part_text)
+      (goes_either (among operators) (goes_both (λ o. nothing) (λ (u : FitUnary text). unary_text u.0) (λ u. among names)) keyword_part_text (goes_both (λ (k : PartPair). binary_goes text) (λ (ks : FitParts). parts_text ks.0) keys_goes))
+
+  abbrev pub message_goes : Message → Leaf → Bool
+  message_goes (unary_message k) x = false
+  message_goes (binary_message o u) x = among names x
+  message_goes (keyword_message k b ks) x = tail_goes x
+
+  abbrev to_message : MessageSum → FitMessage
+  to_message (inl k) = (unary_message k, tt)
+  to_message (inr (inl o)) = (binary_message o.0 o.1.0, o.1.1)
+  to_message (inr (inr k)) = (keyword_message k.0.0 k.0.1.0 k.1.0, (k.0.1.1, k.1.1))
+
+  abbrev from_message : FitMessage → MessageSum
+  from_message (unary_message k, f) = inl k
+  from_message (binary_message o u, f) = inr (inl (o, (u, f)))
+  from_message (keyword_message k b ks, f) = inr (inr ((k, (b, f.0)), (ks, f.1)))
+
+  message_text_to : (s : MessageSum) → message_text (to_message s).0 ≡ message_sum_text s
+  message_text_to (inl k) = refl
+  message_text_to (inr (inl o)) = refl
+  message_text_to (inr (inr k)) = refl
+
+  message_tree_to : (t : ExpressionView) (s : MessageSum) → with_one text t (to_message s).0 ≡ message_sum_tree t s
+  message_tree_to t (inl k) = refl
+  message_tree_to t (inr (inl o)) = refl
+  message_tree_to t (inr (inr k)) = refl
+
+  message_goes_to : (s : MessageSum) (x : Leaf) → message_goes (to_message s).0 x ≡ message_sum_goes s x
+  unfolding message_sum_goes
+  message_goes_to (inl k) x = refl
+  message_goes_to (inr (inl o)) x = sym (or_false (among names x || (is_nil (unary_text o.1.0) && false)) ∙ or_and_false (among names x) (is_nil (unary_text o.1.0)))
+  message_goes_to (inr (inr k)) x =
+      sym (
+        or_false ((((among keywords x || parts_last k.1.0 x) || (is_nil (parts_text k.1.0) && binary_goes text x)) || false))
+            ∙ or_false ((among keywords x || parts_last k.1.0 x) || (is_nil (parts_text k.1.0) && binary_goes text x))
+            ∙ or_assoc text (among keywords x) (parts_last k.1.0 x) (is_nil (parts_text k.1.0) && binary_goes text x)
+            ∙ ap (λ (b : Bool). among keywords x || b) (parts_goes k.1.0 x)
+      )
+
+  message_text_from : (f : FitMessage) → message_sum_text (from_message f) ≡ message_text f.0
+  message_text_from (unary_message k, f) = refl
+  message_text_from (binary_message o u, f) = refl
+  message_text_from (keyword_message k b ks, f) = refl
+
+  message_tree_from : (t : ExpressionView) (f : FitMessage) → message_sum_tree t (from_message f) ≡ with_one text t f.0
+  message_tree_from t (unary_message k, f) = refl
+  message_tree_from t (binary_message o u, f) = refl
+  message_tree_from t (keyword_message k b ks, f) = refl
+
+  message_goes_from : (f : FitMessage) (x : Leaf) → message_sum_goes (from_message f) x ≡ message_goes f.0 x
+  message_goes_from (unary_message k, f) x = sym (message_goes_to (inl k) x)
+  message_goes_from (binary_message o u, f) x = sym (message_goes_to (inr (inl (o, (u, f)))) x)
+  message_goes_from (keyword_message k b ks, f) x = sym (message_goes_to (inr (inr ((k, (b, f.0)), (ks, f.1)))) x)
+
+  not_names : (q : (One operators × FitUnary text) ⊎ (PartPair × FitParts)) (x : Leaf) (us : List Leaf) → text_either binary_part_text keyword_part_text q ≡ x ∷ us → among names x ≡ false
+  not_names (inl o) x us e = let same : o.0.leaf ≡ x = cc in ap (among names) (sym same) ∙ apart operators names refl o.0.leaf o.0.fits
+  not_names (inr k) x us e = let same : k.0.0.leaf ≡ x = cc in ap (among names) (sym same) ∙ apart keywords names refl k.0.0.leaf k.0.0.fits
+
+  not_operators : (k : PartPair × FitParts) (x : Leaf) (us : List Leaf) → keyword_part_text k ≡ x ∷ us → among operators x ≡ false
+  not_operators k x us e = let same : k.0.0.leaf ≡ x = cc in ap (among operators) (sym same) ∙ apart keywords operators refl k.0.0.leaf k.0.0.fits
+
+  abbrev semicolon : List Kind
+  semicolon = Semicolon ∷ []
+
+  abbrev one_semicolon : One semicolon
+  one_semicolon = record { leaf = sample Semicolon; fits = refl }
+
+  abbrev CascadePair : Type 0
+  CascadePair = One semicolon × FitMessage
+
+  abbrev pub messages_last : Messages → Leaf → Bool
+  messages_last no_messages x = false
+  messages_last (message s k ms) x = messages_last ms x || (is_nil (messages_text ms) && message_goes k x)
+
+  message_ends : (k : Message) (x : Leaf) → among semicolon x ≡ true → message_goes k x ≡ false
+  message_ends (unary_message k) x e = refl
+  message_ends (binary_message o u) x e = apart semicolon names refl x e
+  message_ends (keyword_message k b ks) x e = or_none (among keywords x) _ (apart semicolon keywords refl x e) (or_none (among operators x) _ (apart semicolon operators refl x e) (apart semicolon names refl x e))
+
+  messages_repeat : IsRepeat (λ (t : ExpressionView). among semicolon) (λ (c : CascadePair). c.0.leaf ∷ message_text c.1.0) (λ c t. with_one text t c.1.0) (λ c. message_goes c.1.0) (λ t ms. MessagesFit text ms) messages_text (λ ms t. after_messages text t ms) messages_last
+  messages_repeat = record {
+    some = λ p. omega arith;
+    nil = no_messages;
+    nil_valid = λ a. tt;
+    nil_text = refl;
+    nil_is = λ a. refl;
+    nil_last = λ x. refl;
+    cons = λ c ms. message c.0 c.1.0 ms;
+    cons_more = λ a c ms x e v. ((c.1.1, v), refl, refl);
+    cons_last = λ a c ms x v. refl;
+    uncons = uncons;
+  }
+    where
+      uncons : (t : ExpressionView) (ms : Messages) → MessagesFit text ms → ((messages_text ms ≡ []) × (after_messages text t ms ≡ t))
+          ⊎ IsMore (λ (t : ExpressionView). among semicolon) (λ (c : CascadePair). c.0.leaf ∷ message_text c.1.0) (λ c t. with_one text t c.1.0) (λ c. message_goes c.1.0) (λ t ms. MessagesFit text ms) messages_text (λ ms t. after_messages text t ms) messages_last t ms
+      uncons t no_messages v = inl (refl, refl)
+      uncons t (message s k ms) v = inr (record {
+        p = (s, (k, v.0));
+        rest = ms;
+        valid = v.1;
+        parts = refl;
+        is = refl;
+        last_is = λ x. refl;
+        starts = λ l. s.fits;
+        ends = λ x e. message_ends k x e;
+      })
+
+  -- CASCADES
+
+  abbrev AnySends : Type 0
+  AnySends = Tail × FitMessages
+
+  abbrev sends_text : AnySends → List Leaf
+  sends_text = text_both tail_text (λ ms. messages_text ms.0)
+
+  abbrev sends_tree : ExpressionView → AnySends → ExpressionView
+  sends_tree t s = after_messages text (tail_tree s.0 t) s.1.0
+
+  abbrev sends_goes : AnySends → Leaf → Bool
+  sends_goes = goes_both (λ (q : Tail). tail_goes) (λ (ms : FitMessages). messages_text ms.0) (λ ms x. among semicolon x || messages_last ms.0 x)
+
+  right_true : (a b : Bool) → b ≡ true → (a || b) ≡ true
+  right_true true b e = refl
+  right_true false b e = e
+
+  sends_empty : (s : AnySends) (x : Leaf) → sends_text s ≡ [] → among message_starts x ≡ true → sends_goes s x ≡ true
+  sends_empty (q, (no_messages, f)) x e l = right_true (among semicolon x || false) _ (starts_tail x l)
+  sends_empty (q, (message s k ms, f)) x e l = absurd (omega (arith, ap length e, length-append (tail_text q) (s.leaf ∷ (message_text k ++ messages_text ms))))
+
+  -- messages, at least one of them to the receiver itself
+  abbrev Sends : Type 0
+  Sends = (s : AnySends) × (first (among message_starts) (sends_text s) ≡ true)
+
+  abbrev SendSum : Type 0
+  SendSum = Sends ⊎ Unit {0}
+
+  abbrev send_text : SendSum → List Leaf
+  send_text = text_either (λ s. sends_text s.0) (λ u. [])
+
+  abbrev send_tree : ExpressionView → SendSum → ExpressionView
+  send_tree t = tree_either (λ s. sends_tree t s.0) (λ u. t)
+
+  abbrev send_goes : SendSum → Leaf → Bool
+  send_goes = goes_either (among message_starts) (λ s. sends_goes s.0) (λ u. []) (λ u. nothing)
+
+  pub IsSend : ExpressionView → Type 0
+  IsSend t = (r : ExpressionView) × (ms : views.MessagesView) × (t ≡ views.send r ms)
+
+  messages_sent : (ms : Messages) (r : ExpressionView) (vs : views.MessagesView) → is_super (after_messages text (views.send r vs) ms) ≡ false
+  messages_sent no_messages r vs = refl
+  messages_sent (message s (unary_message k) ms) r vs = messages_sent ms r _
+  messages_sent (message s (binary_message o u) ms) r vs = messages_sent ms r _
+  messages_sent (message s (keyword_message k b ks) ms) r vs = messages_sent ms r _
+
+  names_send : (t : ExpressionView) (k : One names) (ns : List (One names)) → IsSend (after_names text t (k ∷ ns))
+  unfolding IsSend
+  names_send t k [] = (t, _, refl)
+  names_send t k (l ∷ ns) = names_send (sent t (bytes text k.leaf) views.no_expressions) l ns
+
+  operations_send : (t : ExpressionView) (o : One operators) (u : Unary) (os : Operations) → IsSend (after_operations text t (operation o u os))
+  unfolding IsSend
+  operations_send t o u no_operations = (t, _, refl)
+  operations_send t o u (operation p v os) = operations_send (sent t (bytes text o.leaf) (views.expression (unary_tree text u) views.no_expressions)) p v os
+
+  abbrev is_empty : Tail → Bool
+  is_empty ([], ((no_operations, f), (no_parts, g))) = true
+  is_empty q = false
+
+  tail_send : (q : Tail) (t : ExpressionView) → is_empty q ≡ false → IsSend (tail_tree q t)
+  unfolding IsSend
+  tail_send ([], ((no_operations, f), (no_parts, g))) t e = absurd cc
+  tail_send (ns, (os, (part k b ks, g))) t e = (after_operations text (after_names text t ns) os.0, _, refl)
+  tail_send (ns, ((operation o u os, f), (no_parts, g))) t e = operations_send (after_names text t ns) o u os
+  tail_send (k ∷ ns, ((no_operations, f), (no_parts, g))) t e = names_send t k ns
+
+  after_send : (t : ExpressionView) (ms : Messages) → IsSend t → is_super (after_messages text t ms) ≡ false
+  unfolding IsSend
+  after_send t ms s = ap (λ (u : ExpressionView). is_super (after_messages text u ms)) s.2 ∙ messages_sent ms s.0 s.1
+
+  -- what begins with a message has one
+  sends_some : (s : Sends) → is_empty s.0.0 ≡ false
+  sends_some ((([], ((no_operations, f), (no_parts, g))), (no_messages, h)), e) = absurd cc
+  sends_some ((([], ((no_operations, f), (no_parts, g))), (message s k ms, h)), e) =
+      let no = apart semicolon message_starts refl s.leaf s.fits in
+      absurd cc
+  sends_some ((([], ((no_operations, f), (part k b ks, g))), ms), e) = refl
+  sends_some ((([], ((operation o u os, f), ks)), ms), e) = refl
+  sends_some (((k ∷ ns, (os, ks)), ms), e) = refl
+
+  abbrev AnyCascade : Type 0
+  AnyCascade = FitPrimary text × SendSum
+
+  abbrev any_cascade_text : AnyCascade → List Leaf
+  any_cascade_text = text_both (λ p. primary_text p.0) send_text
+
+  abbrev any_cascade_tree : AnyCascade → ExpressionView
+  any_cascade_tree c = send_tree (primary_tree text c.0.0) c.1
+
+  any_cascade_goes : AnyCascade → Leaf → Bool
+  any_cascade_goes = goes_both (λ (p : FitPrimary text). nothing) send_text send_goes
+
+  any_cascade_some : (c : AnyCascade) → 0 < length (any_cascade_text c)
+  any_cascade_some c = omega (arith, primary_some c.0.0, length-append (primary_text c.0.0) (send_text c.1))
+
+  cascade_longer : (c : AnyCascade) → is_super (any_cascade_tree c) ≡ true → (d : AnyCascade) × (more : List Leaf) × (any_cascade_text d ≡ any_cascade_text c ++ more) × (is_super (any_cascade_tree d) ≡ false)
+  cascade_longer (p, inr u) e = (
+    (p, inl (((one_name ∷ [], ((no_operations, tt), (no_parts, tt))), (no_messages, tt)), refl)),
+    one_name.leaf ∷ [],
+    ap (λ (l : List Leaf). l ++ one_name.leaf ∷ []) (sym (append-nil (primary_text p.0))),
+    refl,
+  )
+  cascade_longer (p, inl s) e =
+      let no = after_send (tail_tree s.0.0 (primary_tree text p.0)) s.0.1.0 (tail_send s.0.0 (primary_tree text p.0) (sends_some s)) in
+      absurd cc
+
+  abbrev GoodCascade : Type 0
+  GoodCascade = (c : AnyCascade) × (is_super (any_cascade_tree c) ≡ false)
+
+  abbrev pub FitCascade : Type 0
+  FitCascade = (c : Cascade) × CascadeFits text c
+
+  -- a tail has a message
+  tail_message : (p : FitPrimary text) (q : Tail) → is_empty q ≡ false → (has_message text (keyworded (binary (unary p.0 q.0) q.1.0.0) q.1.1.0) ≡ true)
+  tail_message p ([], ((no_operations, f), (no_parts, g))) e = absurd cc
+  tail_message p ([], ((no_operations, f), (part k b ks, g))) e = refl
+  tail_message p ([], ((operation o u os, f), ks)) e = refl
+  tail_message p (k ∷ ns, (os, ks)) e = refl
+
+  may_cascade : (p : FitPrimary text) (q : Tail) (ms : Messages) → is_empty q ≡ false → MayCascade text (keyworded (binary (unary p.0 q.0) q.1.0.0) q.1.1.0) ms
+  may_cascade p q no_messages e = tt
+  may_cascade p q (message s k ms) e = tail_message p q e
+
+  super_not : (t : ExpressionView) → IsSend t → is_super t ≡ false
+  unfolding IsSend
+  super_not t s = ap is_super s.2
+
+  abbrev to_cascade : GoodCascade → FitCascade
+  to_cascade ((p, inl s), g) = (
+    cascade (keyworded (binary (unary p.0 s.0.0.0) s.0.0.1.0.0) s.0.0.1.1.0) s.0.1.0,
+    (p.1, s.0.0.1.0.1, s.0.0.1.1.1, s.0.1.1, super_not (tail_tree s.0.0 (primary_tree text p.0)) (tail_send s.0.0 (primary_tree text p.0) (sends_some s)), may_cascade p s.0.0 s.0.1.0 (sends_some s)),
+  )
+  to_cascade ((p, inr u), g) = (cascade (keyworded (binary (unary p.0 []) no_operations) no_parts) no_messages, (p.1, tt, tt, tt, g, tt))
+
+  pub from_cascade : FitCascade → GoodCascade
+  from_cascade (cascade (keyworded (binary (unary p []) no_operations) no_parts) no_messages, f) = (((p, f.0), inr tt), f.4)
+  from_cascade (cascade (keyworded (binary (unary p []) no_operations) no_parts) (message s k ms), f) = absurd (let no = f.5 in cc)
+  from_cascade (cascade (keyworded (binary (unary p []) no_operations) (part k b ks)) ms, f) =
+      let q : Tail = ([], ((no_operations, tt), (part k b ks, f.2))) in
+      (((p, f.0), inl ((q, (ms, f.3)), within keywords message_starts refl k.leaf k.fits)), after_send (tail_tree q (primary_tree text p)) ms (tail_send q (primary_tree text p) refl))
+  from_cascade (cascade (keyworded (binary (unary p []) (operation o u os)) ks) ms, f) =
+      let q : Tail = ([], ((operation o u os, f.1), (ks, f.2))) in
+      (((p, f.0), inl ((q, (ms, f.3)), within operators message_starts refl o.leaf o.fits)), after_send (tail_tree q (primary_tree text p)) ms (tail_send q (primary_tree text p) refl))
+  from_cascade (cascade (keyworded (binary (unary p (n ∷ ns)) os) ks) ms, f) =
+      let q : Tail = (n ∷ ns, ((os, f.1), (ks, f.2))) in
+      (((p, f.0), inl ((q, (ms, f.3)), within names message_starts refl n.leaf n.fits)), after_send (tail_tree q (primary_tree text p)) ms (tail_send q (primary_tree text p) refl))
+
   module _ (n m : ℕ) (I : Inner text n m) where
     part_reads : (s : PartsView) → Reads {P = PartPair} (λ k. k.0.leaf ∷ binary_text k.1.0) (λ k. with_part k s) (λ k. binary_goes text) (among keywords) n m (parts_step text (array_at text n) (bracket_at text n) s) (parts_step text (array_at text m) (bracket_at text m) s)
     unfolding parts_step
