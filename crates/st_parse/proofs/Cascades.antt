@@ -481,6 +481,82 @@ module _ (text : List ℕ) where
       let q : Tail = (n ∷ ns, ((os, f.1), (ks, f.2))) in
       (((p, f.0), inl ((q, (ms, f.3)), within names message_starts refl n.leaf n.fits)), after_send (tail_tree q (primary_tree text p)) ms (tail_send q (primary_tree text p) refl))
 
+  -- what a cascade goes on with
+  abbrev pub cascade_goes : Cascade → Leaf → Bool
+  cascade_goes (cascade (keyworded (binary (unary p []) no_operations) no_parts) ms) x = among message_starts x
+  cascade_goes (cascade k ms) x = (among semicolon x || messages_last ms x) || (is_nil (messages_text ms) && tail_goes x)
+
+  cascade_text_to : (c : GoodCascade) → cascade_text (to_cascade c).0 ≡ any_cascade_text c.0
+  cascade_text_to ((p, inl s), g) =
+      let p : List Leaf = primary_text p.0 in
+      let ns : List Leaf = ones_text s.0.0.0 in
+      let os : List Leaf = operations_text s.0.0.1.0.0 in
+      let ks : List Leaf = parts_text s.0.0.1.1.0 in
+      let ms : List Leaf = messages_text s.0.1.0 in
+      regroup p ns os ks ms
+    where
+      regroup : (p ns os ks ms : List Leaf) → (((p ++ ns) ++ os) ++ ks) ++ ms ≡ p ++ ((ns ++ (os ++ ks)) ++ ms)
+      regroup p ns os ks ms = simp append_assoc
+  cascade_text_to ((p, inr u), g) = simp append-nil
+
+  cascade_tree_to : (c : GoodCascade) → cascade_tree text (to_cascade c).0 ≡ any_cascade_tree c.0
+  cascade_tree_to ((p, inl s), g) = refl
+  cascade_tree_to ((p, inr u), g) = refl
+
+  cascade_goes_to : (c : GoodCascade) (x : Leaf) → cascade_goes (to_cascade c).0 x ≡ any_cascade_goes c.0 x
+  unfolding any_cascade_goes
+  cascade_goes_to ((p, inr u), g) x = sym (or_false (among message_starts x))
+  cascade_goes_to ((p, inl s), g) x = sym (or_and_false (sends_goes s.0 x) (is_nil (sends_text s.0)) ∙ some s)
+    where
+      some : (s : Sends) → sends_goes s.0 x ≡ cascade_goes (cascade (keyworded (binary (unary p.0 s.0.0.0) s.0.0.1.0.0) s.0.0.1.1.0) s.0.1.0) x
+      some s = tails s.0.0 s.0.1.0 (sends_some s)
+        where
+          tails : (q : Tail) (ms : Messages) → is_empty q ≡ false → ((among semicolon x || messages_last ms x) || (is_nil (messages_text ms) && tail_goes x)) ≡ cascade_goes (cascade (keyworded (binary (unary p.0 q.0) q.1.0.0) q.1.1.0) ms) x
+          tails ([], ((no_operations, f), (no_parts, g))) ms e = absurd cc
+          tails ([], ((no_operations, f), (part k b ks, g))) ms e = refl
+          tails ([], ((operation o u os, f), ks)) ms e = refl
+          tails (k ∷ ns, (os, ks)) ms e = refl
+
+  cascade_text_from : (c : FitCascade) → any_cascade_text (from_cascade c).0 ≡ cascade_text c.0
+  unfolding from_cascade
+  cascade_text_from (cascade (keyworded (binary (unary p []) no_operations) no_parts) no_messages, f) = simp append-nil
+  cascade_text_from (cascade (keyworded (binary (unary p []) no_operations) no_parts) (message s k ms), f) = absurd (let no = f.5 in cc)
+  cascade_text_from (cascade (keyworded (binary (unary p []) no_operations) (part k b ks)) ms, f) = simp (append_assoc, append-nil)
+  cascade_text_from (cascade (keyworded (binary (unary p []) (operation o u os)) ks) ms, f) = simp (append_assoc, append-nil)
+  cascade_text_from (cascade (keyworded (binary (unary p (n ∷ ns)) os) ks) ms, f) = simp append_assoc
+
+  cascade_tree_from : (c : FitCascade) → any_cascade_tree (from_cascade c).0 ≡ cascade_tree text c.0
+  unfolding from_cascade
+  cascade_tree_from (cascade (keyworded (binary (unary p []) no_operations) no_parts) no_messages, f) = refl
+  cascade_tree_from (cascade (keyworded (binary (unary p []) no_operations) no_parts) (message s k ms), f) = absurd (let no = f.5 in cc)
+  cascade_tree_from (cascade (keyworded (binary (unary p []) no_operations) (part k b ks)) ms, f) = refl
+  cascade_tree_from (cascade (keyworded (binary (unary p []) (operation o u os)) ks) ms, f) = refl
+  cascade_tree_from (cascade (keyworded (binary (unary p (n ∷ ns)) os) ks) ms, f) = refl
+
+  any_goes : (c : AnyCascade) (x : Leaf) → any_cascade_goes c x ≡ send_goes c.1 x
+  unfolding any_cascade_goes
+  any_goes c x = or_and_false (send_goes c.1 x) (is_nil (send_text c.1))
+
+  cascade_goes_from : (c : FitCascade) (x : Leaf) → any_cascade_goes (from_cascade c).0 x ≡ cascade_goes c.0 x
+  unfolding from_cascade
+  cascade_goes_from (cascade (keyworded (binary (unary p []) no_operations) no_parts) no_messages, f) x = any_goes (from_cascade (cascade (keyworded (binary (unary p []) no_operations) no_parts) no_messages, f)).0 x
+  cascade_goes_from (cascade (keyworded (binary (unary p []) no_operations) no_parts) (message s k ms), f) x = absurd (let no = f.5 in cc)
+  cascade_goes_from (cascade (keyworded (binary (unary p []) no_operations) (part k b ks)) ms, f) x = any_goes (from_cascade (cascade (keyworded (binary (unary p []) no_operations) (part k b ks)) ms, f)).0 x
+  cascade_goes_from (cascade (keyworded (binary (unary p []) (operation o u os)) ks) ms, f) x = any_goes (from_cascade (cascade (keyworded (binary (unary p []) (operation o u os)) ks) ms, f)).0 x
+  cascade_goes_from (cascade (keyworded (binary (unary p (n ∷ ns)) os) ks) ms, f) x = any_goes (from_cascade (cascade (keyworded (binary (unary p (n ∷ ns)) os) ks) ms, f)).0 x
+
+  sends_begin : (s : Sends) (l : List Leaf) → first (among message_starts) (sends_text s.0 ++ l) ≡ true
+  sends_begin s l = more (sends_text s.0) l s.1
+    where
+      more : (us l : List Leaf) → first (among message_starts) us ≡ true → first (among message_starts) (us ++ l) ≡ true
+      more [] l e = absurd cc
+      more (u ∷ us) l e = e
+
+  -- a ; ends messages
+  between_messages : (ms : FitMessages) (l : List Leaf) → first tail_goes l ≡ false → first tail_goes (messages_text ms.0 ++ l) ≡ false
+  between_messages (no_messages, f) l e = e
+  between_messages (message s k ms, f) l e = message_ends (keyword_message one_keyword one_binary.0 no_parts) s.leaf s.fits
+
   module _ (n m : ℕ) (I : Inner text n m) where
     part_reads : (s : PartsView) → Reads {P = PartPair} (λ k. k.0.leaf ∷ binary_text k.1.0) (λ k. with_part k s) (λ k. binary_goes text) (among keywords) n m (parts_step text (array_at text n) (bracket_at text n) s) (parts_step text (array_at text m) (bracket_at text m) s)
     unfolding parts_step
@@ -535,3 +611,81 @@ module _ (text : List ℕ) where
           ])
           takes_names)
         tail_text (λ q. tail_tree q t) (λ q. tail_goes) (λ q. q) (λ q. refl) (λ q. refl) (λ q x. sym (goes_tail q x)) (λ q. q) (λ q. refl) (λ q. refl) goes_tail
+
+    -- MESSAGES OF A CASCADE
+
+    unary_message_reads : (t : ExpressionView) → Reads (one_text {kinds = names}) (λ k. cascaded t (bytes text k.leaf) views.no_expressions) (λ k. nothing) (among names) n m (unary_message_at text (array_at text n) (bracket_at text n) t) (unary_message_at text (array_at text m) (bracket_at text m) t)
+    unfolding unary_message_at
+    unary_message_reads t = mapped (λ k. cascaded t (bytes text k) views.no_expressions) (token_reads names one_name (neutral names refl) n m I.fewer)
+
+    binary_message_reads : (t : ExpressionView) → Reads {P = One operators × FitUnary text} binary_part_text (λ o. cascaded t (bytes text o.0.leaf) (views.expression (unary_tree text o.1.0) views.no_expressions)) (goes_both (λ o. nothing) (λ (u : FitUnary text). unary_text u.0) (λ u. among names)) (among operators) n m
+        (binary_message_at text (array_at text n) (bracket_at text n) t) (binary_message_at text (array_at text m) (bracket_at text m) t)
+    unfolding binary_message_at
+    binary_message_reads t =
+        both (token_reads operators one_operator (neutral operators refl) n m I.fewer) (λ (u : FitUnary text). unary_text u.0) (λ u o. cascaded t (bytes text o) (views.expression (unary_tree text u.0) views.no_expressions)) (λ u. among names) (among primary_starts)
+        (λ o ts. unary_at text (array_at text n) (bracket_at text n) ts >>= λ u. Ok (cascaded t (bytes text o) (views.expression u.0 views.no_expressions), u.1))
+        (λ o ts. unary_at text (array_at text m) (bracket_at text m) ts >>= λ u. Ok (cascaded t (bytes text o) (views.expression u.0 views.no_expressions), u.1))
+        (λ o. mapped (λ u. cascaded t (bytes text o) (views.expression u views.no_expressions)) (unary_reads text n m I))
+        (one_unary text) (among operators) (λ p q l e. first_nothing (unary_text q.0 ++ l)) (λ x ts e. inl e) (λ p x e. inl (omega arith))
+
+    keyword_message_reads : (t : ExpressionView) → Reads {P = PartPair × FitParts} keyword_part_text (λ k. cascaded t (bytes text k.0.0.leaf ++ selector_of text k.1.0) (views.expression (binary_tree text k.0.1.0) (arguments_of text k.1.0))) (goes_both (λ (k : PartPair). binary_goes text) (λ (ks : FitParts). parts_text ks.0) keys_goes) (among keywords) n m
+        (keyword_message_at text (array_at text n) (bracket_at text n) t) (keyword_message_at text (array_at text m) (bracket_at text m) t)
+    unfolding keyword_message_at
+    keyword_message_reads t =
+        both (part_reads no_parts_yet) (λ (ks : FitParts). parts_text ks.0) (λ ks s. cascaded t (s.selector ++ selector_of text ks.0) (joined_expressions s.arguments (arguments_of text ks.0))) keys_goes (among keywords)
+        (λ s ts. parts_at text (array_at text n) (bracket_at text n) s ts >>= λ ks. Ok (cascaded t ks.0.selector ks.0.arguments, ks.1))
+        (λ s ts. parts_at text (array_at text m) (bracket_at text m) s ts >>= λ ks. Ok (cascaded t ks.0.selector ks.0.arguments, ks.1))
+        (λ s. mapped (λ (ks : PartsView). cascaded t ks.selector ks.arguments) (parts_reads s))
+        (no_parts, tt) (among keywords) (λ p q l e. between_keys q l e) (λ x ts e. inl e) (λ p x e. inl (omega arith))
+      where
+        between_keys : (ks : FitParts) (l : List Leaf) → first (binary_goes text) l ≡ false → first (binary_goes text) (parts_text ks.0 ++ l) ≡ false
+        between_keys (no_parts, g) l e = e
+        between_keys (part k b ks, g) l e = binary_goes_not k.leaf k.fits
+
+    message_reads : (t : ExpressionView) → Reads {P = FitMessage} (λ k. message_text k.0) (λ k. with_one text t k.0) (λ k. message_goes k.0) nothing n m (message_at text (array_at text n) (bracket_at text n) t) (message_at text (array_at text m) (bracket_at text m) t)
+    unfolding message_at message_sum_goes
+    message_reads t =
+        renamed (either (among names) (anyway (among names) (unary_message_reads t))
+          (either (among operators) (anyway (among operators) (binary_message_reads t)) (keyword_message_reads t) nothing (λ x e. e) (λ p l. p.0.fits) not_operators (λ x e f. absurd cc))
+          nothing (λ x e. e) (λ p l. p.fits) not_names (λ x e f. absurd cc))
+        (λ k. message_text k.0) (λ k. with_one text t k.0) (λ k. message_goes k.0) to_message message_text_to (message_tree_to t) message_goes_to from_message message_text_from (message_tree_from t) message_goes_from
+
+    cascade_step_reads : (t : ExpressionView) → Reads {P = CascadePair} (λ c. c.0.leaf ∷ message_text c.1.0) (λ c. with_one text t c.1.0) (λ c. message_goes c.1.0) (among semicolon) n m (cascade_step text (array_at text n) (bracket_at text n) t) (cascade_step text (array_at text m) (bracket_at text m) t)
+    unfolding cascade_step
+    cascade_step_reads t =
+        renamed (both (token_reads semicolon one_semicolon (neutral semicolon refl) n m I.fewer) (λ (k : FitMessage). message_text k.0) (λ k s. with_one text t k.0) (λ k. message_goes k.0) nothing
+          (λ s ts. message_at text (array_at text n) (bracket_at text n) t ts) (λ s ts. message_at text (array_at text m) (bracket_at text m) t ts) (λ s. message_reads t)
+          (unary_message one_name, tt) (among semicolon) (λ p q l e. first_nothing (message_text q.0 ++ l)) (λ x ts e. inl e) (λ p x e. inl (omega arith)))
+        (λ c. c.0.leaf ∷ message_text c.1.0) (λ c. with_one text t c.1.0) (λ c. message_goes c.1.0)
+        (λ c. c) (λ c. refl) (λ c. refl) (λ c x. sym (or_and_false (message_goes c.1.0 x) (is_nil (message_text c.1.0)))) (λ c. c) (λ c. refl) (λ c. refl) (λ c x. or_and_false (message_goes c.1.0 x) (is_nil (message_text c.1.0)))
+
+    cascades_reads : (t : ExpressionView) → Reads {P = FitMessages} (λ ms. messages_text ms.0) (λ ms. after_messages text t ms.0) (λ ms x. among semicolon x || messages_last ms.0 x) (among semicolon) n m (cascades_at text (array_at text n) (bracket_at text n) t) (cascades_at text (array_at text m) (bracket_at text m) t)
+    unfolding cascades_at
+    cascades_reads t = repeated messages_repeat n m I.fewer (cascade_step text (array_at text n) (bracket_at text n)) (cascade_step text (array_at text m) (bracket_at text m)) cascade_step_reads messages_balanced t
+
+    -- CASCADES
+
+    any_sends_reads : (t : ExpressionView) → Reads {P = AnySends} sends_text (sends_tree t) sends_goes (among message_starts) n m
+        (λ ts. messages_at text (array_at text n) (bracket_at text n) t ts >>= λ k. cascades_at text (array_at text n) (bracket_at text n) k.0 k.1)
+        (λ ts. messages_at text (array_at text m) (bracket_at text m) t ts >>= λ k. cascades_at text (array_at text m) (bracket_at text m) k.0 k.1)
+    any_sends_reads t =
+        both (messages_reads t) (λ (ms : FitMessages). messages_text ms.0) (λ ms k. after_messages text k ms.0) (λ ms x. among semicolon x || messages_last ms.0 x) (among semicolon)
+        (cascades_at text (array_at text n) (bracket_at text n)) (cascades_at text (array_at text m) (bracket_at text m)) cascades_reads
+        (no_messages, tt) (among message_starts) (λ p q l e. between_messages q l e) (λ x ts e. inl e) (λ p x e. inr (λ no. let yes = starts_tail x e in absurd cc))
+
+    sends_reads : (t : ExpressionView) → Reads {P = SendSum} send_text (send_tree t) send_goes nothing n m (sends_at text (array_at text n) (bracket_at text n) t) (sends_at text (array_at text m) (bracket_at text m) t)
+    unfolding sends_at
+    sends_reads t =
+        either (among message_starts) (nonempty (among message_starts) (any_sends_reads t) sends_empty) (pure t nothing n m I.fewer) nothing (λ x e. e) sends_begin (λ q x us e. absurd cc) (λ x e f. absurd cc)
+
+    any_cascade_reads : Reads {P = AnyCascade} any_cascade_text any_cascade_tree any_cascade_goes (among primary_starts) n m (any_cascade_at text (array_at text n) (bracket_at text n)) (any_cascade_at text (array_at text m) (bracket_at text m))
+    unfolding any_cascade_at any_cascade_goes
+    any_cascade_reads =
+        both (primary_reads text n m I) send_text (λ s t. send_tree t s) send_goes nothing (sends_at text (array_at text n) (bracket_at text n)) (sends_at text (array_at text m) (bracket_at text m)) sends_reads
+        (inr tt) (among primary_starts) (λ p q l e. first_nothing (send_text q ++ l)) (λ x ts e. inl e) (λ p x e. inl (primary_some p.0))
+
+    pub cascade_reads : Reads {P = FitCascade} (λ c. cascade_text c.0) (λ c. cascade_tree text c.0) (λ c. cascade_goes c.0) (among primary_starts) n m (cascade_at text (array_at text n) (bracket_at text n)) (cascade_at text (array_at text m) (bracket_at text m))
+    unfolding cascade_at
+    cascade_reads =
+        renamed (tested any_cascade_reads is_super any_cascade_some cascade_longer) (λ c. cascade_text c.0) (λ c. cascade_tree text c.0) (λ c. cascade_goes c.0)
+        to_cascade cascade_text_to cascade_tree_to cascade_goes_to from_cascade cascade_text_from cascade_tree_from cascade_goes_from
