@@ -1,3 +1,4 @@
+pub mod Assignments
 pub mod Balanced
 pub mod Bracketed
 pub mod Cascades

@@ -591,3 +591,16 @@ module _ {P A : Type 0} {text : P → List Leaf} {tree : P → A} {goes : P → 
     again = λ p l e low. ap test (R.again p.0 l e low) ∙ test_good (tree p.0) l p.1;
     balanced = λ p. R.balanced p.0;
   }
+
+-- fewer leaves to begin with
+module _ {P A : Type 0} {text : P → List Leaf} {tree : P → A} {goes : P → Leaf → Bool} {begin : Leaf → Bool} {n m : ℕ} {r r' : List Leaf → Read A} (begin2 : Leaf → Bool) (less : (x : Leaf) → begin2 x ≡ true → begin x ≡ true) (R : Reads text tree goes begin n m r r') where
+  weaker_told : (ts : List Leaf) (z : Read A) → Told text tree goes begin n r' ts z → Told text tree goes begin2 n r' ts z
+  weaker_told ts (Ok x) t = t
+  weaker_told ts (Err s) t = record { before = t.before; rest = t.rest; p = t.p; more = t.more; parts = t.parts; place = t.place; begins = t.begins; low = t.low; why = why t.why }
+    where
+      why : Reason begin n r' s.cause t.before t.more t.rest → Reason begin2 n r' s.cause t.before t.more t.rest
+      why (inl (three, w)) = inl (three, record { fails = w.fails; takes = λ e. w.takes (first_into begin2 begin (t.before ++ t.rest) less e) })
+      why (inr d) = inr d
+
+  pub weaker : Reads text tree goes begin2 n m r r'
+  weaker = record { fewer = R.fewer; told = λ ts. weaker_told ts (r ts) (R.told ts); again = R.again; balanced = R.balanced }

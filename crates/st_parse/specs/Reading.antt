@@ -274,14 +274,19 @@ module _ (text : List ℕ) where
     parameters_at ns ts = many (λ _. among (Colon ∷ [])) parameters_step (length ts) ns ts
 
     -- a block behind its arguments
-    unfoldable pub block_body_at : List NameView → List Leaf → Read ExpressionView
-    block_body_at [] ts = statements_at ts >>= λ ss. Ok (views.block [] ss.0, ss.1)
-    block_body_at (n ∷ ns) ts =
-        if first (among (Bar ∷ [])) ts then (token_at (Bar ∷ []) ts >>= λ b. statements_at b.1 >>= λ ss. Ok (views.block (n ∷ ns) ss.0, ss.1))
-        else Ok (views.block (n ∷ ns) views.no_statements, ts)
+    unfoldable pub argument_body_at : List NameView → List Leaf → Read ExpressionView
+    argument_body_at ns ts =
+        if first (among (Bar ∷ [])) ts then (token_at (Bar ∷ []) ts >>= λ b. statements_at b.1 >>= λ ss. Ok (views.block ns ss.0, ss.1))
+        else Ok (views.block ns views.no_statements, ts)
+
+    unfoldable pub argument_block_at : List Leaf → Read ExpressionView
+    argument_block_at ts = parameters_step [] ts >>= λ p. parameters_at p.0 p.1 >>= λ ns. argument_body_at ns.0 ns.1
+
+    unfoldable pub plain_block_at : List Leaf → Read ExpressionView
+    plain_block_at ts = statements_at ts >>= λ ss. Ok (views.block [] ss.0, ss.1)
 
     unfoldable pub block_at : List Leaf → Read ExpressionView
-    block_at ts = parameters_at [] ts >>= λ ns. block_body_at ns.0 ns.1
+    block_at ts = if first (among (Colon ∷ [])) ts then argument_block_at ts else plain_block_at ts
 
   -- behind [ or (, where n more brackets may be open
   unfoldable pub bracket_at : ℕ → Bool → List Leaf → Read ExpressionView
