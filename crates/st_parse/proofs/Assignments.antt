@@ -8,16 +8,16 @@ use Rattle.st_parse.specs.declared.leaf.Leaf.{Leaf}
 use Rattle.st_parse.specs.declared.leaf.Kind.{Kind}
 use Rattle.st_parse.specs.declared.leaf.Kind.TheVariants.{Opening, Assign, Semicolon, Open, OpenBlock}
 use Rattle.st_parse.specs.Leaves.{among, keywords, operators}
-use Rattle.st_parse.specs.Phrases.{One, names, constants, ones_text, Literal, constant, array, Target, Primary, name, literal, block, group, Unary, unary, Binary, binary, Operations, no_operations, operation, Keyworded, keyworded, Parts, no_parts, part, Cascade, cascade, Messages, no_messages, message, Expression, expression, operations_text, parts_text, messages_text, primary_text, cascade_text, targets_text, expression_text}
+use Rattle.st_parse.specs.Phrases.{One, names, constants, ones_text, Literal, constant, array, Target, Primary, name, literal, block, group, Unary, unary, Binary, binary, Operations, no_operations, operation, Keyworded, keyworded, Parts, no_parts, part, Cascade, cascade, Messages, no_messages, message, Message, unary_message, binary_message, keyword_message, Expression, expression, operations_text, parts_text, messages_text, primary_text, cascade_text, targets_text, expression_text}
 use Rattle.st_parse.specs.Trees.{name_at, assigned, cascade_tree, expression_tree, CascadeFits, ExpressionFits}
-use Rattle.st_parse.specs.Reading.{Stop, Read, stop, ◌>>=◌, first, primary_starts, is_target, array_at, bracket_at, cascade_at, targets_at, assigned_to, expression_at}
+use Rattle.st_parse.specs.Reading.{Stop, Read, stop, ◌>>=◌, first, primary_starts, message_starts, is_target, array_at, bracket_at, cascade_at, targets_at, assigned_to, expression_at}
 use Rattle.st_parse.specs.Faults.{height, highest}
 use Rattle.st_parse.proofs.Heights.{IsBalanced, balanced_nil, behind_balanced}
-use Rattle.st_parse.proofs.KindSets.{apart, within, neutral}
+use Rattle.st_parse.proofs.KindSets.{apart, within, neutral, are_apart}
 use Rattle.st_parse.proofs.Balanced.{expression_balanced, one_and, targets_balanced}
-use Rattle.st_parse.proofs.Readers.{Alike, Reads, Told, ToldOk, ToldErr, Reason, IsStuck, IsDeep, or_left, or_right, or_neither, first_into}
+use Rattle.st_parse.proofs.Readers.{Alike, Reads, Told, ToldOk, ToldErr, Reason, IsStuck, IsDeep, or_left, or_right, or_neither, is_nil, first_into}
 use Rattle.st_parse.proofs.Expressions.{Inner, FitExpression}
-use Rattle.st_parse.proofs.Cascades.{FitCascade, cascade_goes, cascade_reads}
+use Rattle.st_parse.proofs.Cascades.{FitCascade, tail_goes, message_goes, messages_last, cascade_goes, cascade_reads}
 
 abbrev assignment : List Kind
 assignment = Assign ∷ []
@@ -229,3 +229,40 @@ module _ (text : List ℕ) where
       where
         again : (e : FitExpression text) (l : List Leaf) → first (expression_goes text e.0) l ≡ false → highest 0 (expression_text e.0) ≤ m → read m (expression_text e.0 ++ l) ≡ Ok (expression_tree text e.0, l)
         again (expression ts c, f) l e low = expression_again ts c l f e low
+
+-- what no expression goes on with
+pub record IsForeign (x : Leaf) : Type 0 where
+  pub keyword : among keywords x ≡ false
+  pub operator : among operators x ≡ false
+  pub name : among names x ≡ false
+  pub message : among message_starts x ≡ false
+  pub semicolon : among (Semicolon ∷ []) x ≡ false
+  pub assign : among assignment x ≡ false
+
+pub foreign : (ks : List Kind) → are_apart ks keywords ≡ true → are_apart ks operators ≡ true → are_apart ks names ≡ true → are_apart ks message_starts ≡ true → are_apart ks (Semicolon ∷ []) ≡ true → are_apart ks assignment ≡ true → (x : Leaf) → among ks x ≡ true → IsForeign x
+foreign ks b c d e f g x h = record { keyword = apart ks keywords b x h; operator = apart ks operators c x h; name = apart ks names d x h; message = apart ks message_starts e x h; semicolon = apart ks (Semicolon ∷ []) f x h; assign = apart ks assignment g x h }
+
+module _ (text : List ℕ) where
+  message_not : (k : Message) (x : Leaf) → IsForeign x → message_goes text k x ≡ false
+  message_not (unary_message k) x f = refl
+  message_not (binary_message o u) x f = f.name
+  message_not (keyword_message k b ks) x f = or_neither (among keywords x) _ f.keyword (or_neither (among operators x) _ f.operator f.name)
+
+  last_not : (ms : Messages) (x : Leaf) → IsForeign x → messages_last text ms x ≡ false
+  last_not no_messages x f = refl
+  last_not (message s k ms) x f = or_neither (messages_last text ms x) _ (last_not ms x f) (no_second (is_nil (messages_text ms)) (message_goes text k x) (message_not k x f))
+
+  tail_not : (x : Leaf) → IsForeign x → tail_goes x ≡ false
+  tail_not x f = or_neither (among keywords x) _ f.keyword (or_neither (among operators x) _ f.operator f.name)
+
+  sent_not : (ms : Messages) (x : Leaf) → IsForeign x → ((among (Semicolon ∷ []) x || messages_last text ms x) || (is_nil (messages_text ms) && tail_goes x)) ≡ false
+  sent_not ms x f = or_neither (among (Semicolon ∷ []) x || messages_last text ms x) _ (or_neither (among (Semicolon ∷ []) x) _ f.semicolon (last_not ms x f)) (no_second (is_nil (messages_text ms)) (tail_goes x) (tail_not x f))
+
+  cascade_not : (c : Cascade) (x : Leaf) → IsForeign x → cascade_goes text c x ≡ false
+  cascade_not (cascade (keyworded (binary (unary p []) no_operations) no_parts) ms) x f = f.message
+  cascade_not (cascade (keyworded (binary (unary p []) no_operations) (part k b ks)) ms) x f = sent_not ms x f
+  cascade_not (cascade (keyworded (binary (unary p []) (operation o u os)) ks) ms) x f = sent_not ms x f
+  cascade_not (cascade (keyworded (binary (unary p (n ∷ ns)) os) ks) ms) x f = sent_not ms x f
+
+  pub expression_not : (e : Expression) (x : Leaf) → IsForeign x → expression_goes text e x ≡ false
+  expression_not (expression ts c) x f = or_neither (cascade_goes text c x) _ (cascade_not c x f) (no_second (is_bare c) (among assignment x) f.assign)

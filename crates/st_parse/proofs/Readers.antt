@@ -604,3 +604,22 @@ module _ {P A : Type 0} {text : P → List Leaf} {tree : P → A} {goes : P → 
 
   pub weaker : Reads text tree goes begin2 n m r r'
   weaker = record { fewer = R.fewer; told = λ ts. weaker_told ts (r ts) (R.told ts); again = R.again; balanced = R.balanced }
+
+-- other readers that do the same
+module _ {P A : Type 0} {text : P → List Leaf} {tree : P → A} {goes : P → Leaf → Bool} {begin : Leaf → Bool} {n m : ℕ} {r r' : List Leaf → Read A} (r2 r2' : List Leaf → Read A)
+    (one : (ts : List Leaf) → r2 ts ≡ r ts) (two : (ts : List Leaf) → r2' ts ≡ r' ts) (R : Reads text tree goes begin n m r r') where
+  agreeing_told : (ts : List Leaf) (z : Read A) → Told text tree goes begin n r' ts z → Told text tree goes begin n r2' ts z
+  agreeing_told ts (Ok x) t = t
+  agreeing_told ts (Err s) t = record { before = t.before; rest = t.rest; p = t.p; more = t.more; parts = t.parts; place = t.place; begins = t.begins; low = t.low; why = why t.why }
+    where
+      why : Reason begin n r' s.cause t.before t.more t.rest → Reason begin n r2' s.cause t.before t.more t.rest
+      why (inl (three, w)) = inl (three, record { fails = λ l a. two (t.before ++ l) ∙ w.fails l a; takes = w.takes })
+      why (inr d) = inr d
+
+  pub agreeing : Reads text tree goes begin n m r2 r2'
+  agreeing = record {
+    fewer = R.fewer;
+    told = λ ts. subst (Told text tree goes begin n r2' ts) (sym (one ts)) (agreeing_told ts (r ts) (R.told ts));
+    again = λ p l e low. two (text p ++ l) ∙ R.again p l e low;
+    balanced = R.balanced;
+  }

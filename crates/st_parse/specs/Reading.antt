@@ -107,6 +107,10 @@ abbrev pub assigned_to : List NameView → ExpressionView → ExpressionView
 assigned_to [] t = t
 assigned_to (n ∷ ns) t = views.assign n (assigned_to ns t)
 
+-- another statement may follow, and begins
+abbrev pub statement_looks : BodyView → Leaf → Bool
+statement_looks b x = b.goes_on && among statement_starts x
+
 -- a name that stands only before a message
 abbrev pub checked_at : ExpressionView → List Leaf → Read ExpressionView
 checked_at t ts = if is_super t then stop Expected ts else Ok (t, ts)
@@ -257,9 +261,6 @@ module _ (text : List ℕ) where
 
     unfoldable pub statement_step : BodyView → List Leaf → Read BodyView
     statement_step b ts = if first (among (Return ∷ [])) ts then returned_at b ts else plain_at b ts
-
-    abbrev pub statement_looks : BodyView → Leaf → Bool
-    statement_looks b x = b.goes_on && among statement_starts x
 
     unfoldable pub body_at : BodyView → List Leaf → Read BodyView
     body_at b ts = many statement_looks statement_step (length ts) b ts
