@@ -79,7 +79,7 @@ abbrev body : StatementsView → Bool → BodyView
 body ss g = record { statements = ss; goes_on = g }
 
 -- whether another statement may follow
-abbrev stays : Statements → Bool → Bool
+abbrev pub stays : Statements → Bool → Bool
 stays no_statements g = g
 stays (last e) g = false
 stays (next e p ss) g = stays ss true
@@ -147,7 +147,7 @@ module _ (text : List ℕ) where
   abbrev start_kinds : Leaf → Bool
   start_kinds x = among statement_starts x
 
-  expression_begins : (e : Expression) (k : List Leaf) → first (among primary_starts) (expression_text e ++ k) ≡ true
+  pub expression_begins : (e : Expression) (k : List Leaf) → first (among primary_starts) (expression_text e ++ k) ≡ true
   expression_begins (expression (t ∷ ts) c) k = within names primary_starts refl t.name.leaf t.name.fits
   expression_begins (expression [] (cascade (keyworded (binary (unary (name o) ns) os) ks) ms)) k = within names primary_starts refl o.leaf o.fits
   expression_begins (expression [] (cascade (keyworded (binary (unary (literal (constant o)) ns) os) ks) ms)) k = within constants primary_starts refl o.leaf o.fits
@@ -155,7 +155,7 @@ module _ (text : List ℕ) where
   expression_begins (expression [] (cascade (keyworded (binary (unary (block o b c) ns) os) ks) ms)) k = within (OpenBlock ∷ []) primary_starts refl o.leaf o.fits
   expression_begins (expression [] (cascade (keyworded (binary (unary (group o e c) ns) os) ks) ms)) k = within (Open ∷ []) primary_starts refl o.leaf o.fits
 
-  into_statements : (l : List Leaf) → first (among primary_starts) l ≡ true → first start_kinds l ≡ true
+  pub into_statements : (l : List Leaf) → first (among primary_starts) l ≡ true → first start_kinds l ≡ true
   into_statements [] e = absurd cc
   into_statements (x ∷ l) e = within primary_starts statement_starts refl x e
 
@@ -170,7 +170,7 @@ module _ (text : List ℕ) where
   step_some (inl s) = omega arith
   step_some (inr s) = omega (arith, expression_some s.0.0, length-append (expression_text s.0.0) (period_text s.1))
 
-  one_expression : FitExpression text
+  pub one_expression : FitExpression text
   one_expression = (expression [] (cascade (keyworded (binary (unary (name one_name) []) no_operations) no_parts) no_messages), (tt, tt, tt, tt, refl, tt))
 
   plain_not_returned : (q : Plain) (x : Leaf) (us : List Leaf) → plain_text q ≡ x ∷ us → among returning x ≡ false

@@ -1,5 +1,6 @@
 pub mod Assignments
 pub mod Balanced
+pub mod Blocks
 pub mod Bodies
 pub mod Bracketed
 pub mod Cascades
