@@ -192,7 +192,7 @@ module _ (text : List ℕ) where
   block_tree_from (full_block p ps b ss, f) = refl
   block_tree_from (empty_block p ps, f) = refl
 
-  statement_begins : (ss : Statements) (x : Leaf) (us : List Leaf) → statements_text ss ≡ x ∷ us → among statement_starts x ≡ true
+  pub statement_begins : (ss : Statements) (x : Leaf) (us : List Leaf) → statements_text ss ≡ x ∷ us → among statement_starts x ≡ true
   statement_begins no_statements x us e = absurd cc
   statement_begins (last e) x us is = first_is text e (statements_text (last e)) x us [] (sym (append-nil (expression_text e))) is
   statement_begins (next e p ss) x us is = first_is text e (statements_text (next e p ss)) x us (p.leaf ∷ statements_text ss) refl is

@@ -10,5 +10,6 @@ pub mod KindSets
 pub mod Lists
 pub mod Literals
 pub mod Loops
+pub mod Methods
 pub mod Readers
 pub mod Repeats
