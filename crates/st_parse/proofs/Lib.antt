@@ -5,8 +5,10 @@ pub mod Bodies
 pub mod Bracketed
 pub mod Cascades
 pub mod Expressions
+pub mod Faulty
 pub mod Heights
 pub mod KindSets
+pub mod Laws
 pub mod Lists
 pub mod Literals
 pub mod Loops

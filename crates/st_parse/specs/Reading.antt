@@ -115,6 +115,11 @@ statement_looks b x = b.goes_on && among statement_starts x
 abbrev pub checked_at : ExpressionView → List Leaf → Read ExpressionView
 checked_at t ts = if is_super t then stop Expected ts else Ok (t, ts)
 
+-- nothing may be left behind a method
+abbrev pub end_at : MethodView → List Leaf → Result MethodView Stop
+end_at m [] = Ok m
+end_at m (x ∷ ts) = Err (record { cause = Trailing; left = length (x ∷ ts) })
+
 module _ (text : List ℕ) where
   -- LITERALS
 
@@ -351,10 +356,6 @@ module _ (text : List ℕ) where
   unfoldable pub method_at : ℕ → List Leaf → Read MethodView
   method_at room ts = pattern_at ts >>= λ p. options_at p.1 >>= λ o. statements_at (array_at room) (bracket_at room) o.1 >>= λ ss.
       Ok (record { selector = p.0.selector; arguments = p.0.arguments; temporaries = o.0.temporaries; primitive = o.0.primitive; body = ss.0 }, ss.1)
-
-  abbrev pub end_at : MethodView → List Leaf → Result MethodView Stop
-  end_at m [] = Ok m
-  end_at m (x ∷ ts) = Err (record { cause = Trailing; left = length (x ∷ ts) })
 
   -- a method that the leaves are, all of them
   unfoldable pub whole_at : ℕ → List Leaf → Result MethodView Stop
