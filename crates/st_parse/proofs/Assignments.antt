@@ -107,7 +107,7 @@ module _ (text : List ℕ) where
 
   one_target : (n : ℕ) (x y : Leaf) (ts : List Leaf) → is_target x y ≡ true → read n (x ∷ y ∷ ts) ≡ assigning x (read n ts)
   unfolding expression_at targets_at
-  one_target n x y ts e = rw e (later (targets_at text (array_at text n) (bracket_at text n) ts).0 (read_cascade n (targets_at text (array_at text n) (bracket_at text n) ts).1))
+  one_target n x y ts e = rw e (later (targets_at text ts).0 (read_cascade n (targets_at text ts).1))
     where
       later : (ns : List NameView) (r : Read ExpressionView) → ending (name_at text x ∷ ns) r ≡ assigning x (ending ns r)
       later ns (Ok c) = refl

@@ -228,7 +228,7 @@ module _ (text : List ℕ) where
   one_block = (plain_block no_statements, tt)
 
   module _ (n m : ℕ) (I : Inner text n m) where
-    parameter_reads : (ns : List NameView) → Reads parameter_text (λ p. with_parameter p ns) (λ p. nothing) (among colon) n m (parameters_step text (array_at text n) (bracket_at text n) ns) (parameters_step text (array_at text m) (bracket_at text m) ns)
+    pub parameter_reads : (ns : List NameView) → Reads parameter_text (λ p. with_parameter p ns) (λ p. nothing) (among colon) n m (parameters_step text ns) (parameters_step text ns)
     unfolding parameters_step
     parameter_reads ns =
         renamed (both (token_reads colon one_parameter.colon (neutral colon refl) n m I.fewer) (one_text {kinds = names}) (λ o c. ns ++ name_at text o.leaf ∷ []) (λ o. nothing) (among names)
@@ -236,10 +236,10 @@ module _ (text : List ℕ) where
           (λ c. mapped (λ k. ns ++ name_at text k ∷ []) (token_reads names one_name (neutral names refl) n m I.fewer)) one_name (among colon) (λ p q l e. first_nothing (one_text q ++ l)) (λ x ts e. inl e) (λ p x e. inl (omega arith)))
         parameter_text (λ p. with_parameter p ns) (λ p. nothing) (λ p. record { colon = p.0; name = p.1 }) (λ p. refl) (λ p. refl) (λ p x. refl) (λ p. (p.colon, p.name)) (λ p. refl) (λ p. refl) (λ p x. refl)
 
-    parameters_reads : (ns : List NameView) → Reads parameters_text (λ ps. ns ++ parameters_tree text ps) (λ ps. among colon) (among colon) n m (parameters_at text (array_at text n) (bracket_at text n) ns) (parameters_at text (array_at text m) (bracket_at text m) ns)
+    parameters_reads : (ns : List NameView) → Reads parameters_text (λ ps. ns ++ parameters_tree text ps) (λ ps. among colon) (among colon) n m (parameters_at text ns) (parameters_at text ns)
     unfolding parameters_at
     parameters_reads ns =
-        renamed (repeated parameters_repeat n m I.fewer (parameters_step text (array_at text n) (bracket_at text n)) (parameters_step text (array_at text m) (bracket_at text m)) parameter_reads parameters_balanced ns)
+        renamed (repeated parameters_repeat n m I.fewer (parameters_step text) (parameters_step text) parameter_reads parameters_balanced ns)
         parameters_text (λ ps. ns ++ parameters_tree text ps) (λ ps. among colon) (λ ps. ps.0) (λ ps. refl) (λ ps. refl) (λ ps x. sym (or_false (among colon x))) (λ ps. (ps, tt)) (λ ps. refl) (λ ps. refl) (λ ps x. or_false (among colon x))
 
     body_reads : (ns : List NameView) → Reads {P = ArgumentBody} body_text (λ b. body_tree b ns) body_goes nothing n m (argument_body_at text (array_at text n) (bracket_at text n) ns) (argument_body_at text (array_at text m) (bracket_at text m) ns)
@@ -255,8 +255,8 @@ module _ (text : List ℕ) where
     unfolding argument_block_at
     argument_reads =
         both (parameter_reads []) (text_both parameters_text body_text) (λ q ns. body_tree q.1 (ns ++ parameters_tree text q.0)) (goes_both (λ (ps : List Parameter). among colon) body_text body_goes) nothing
-        (λ ns ts. parameters_at text (array_at text n) (bracket_at text n) ns ts >>= λ ps. argument_body_at text (array_at text n) (bracket_at text n) ps.0 ps.1)
-        (λ ns ts. parameters_at text (array_at text m) (bracket_at text m) ns ts >>= λ ps. argument_body_at text (array_at text m) (bracket_at text m) ps.0 ps.1)
+        (λ ns ts. parameters_at text ns ts >>= λ ps. argument_body_at text (array_at text n) (bracket_at text n) ps.0 ps.1)
+        (λ ns ts. parameters_at text ns ts >>= λ ps. argument_body_at text (array_at text m) (bracket_at text m) ps.0 ps.1)
         (λ ns. both (parameters_reads ns) body_text (λ b ps. body_tree b ps) body_goes nothing (argument_body_at text (array_at text n) (bracket_at text n)) (argument_body_at text (array_at text m) (bracket_at text m)) body_reads
           (inr tt) nothing (λ p q l e. between_parameters q l e) (λ x ts e. absurd cc) (λ p x e. absurd cc))
         ([], inr tt) (among colon) (λ p q l e. first_nothing (text_both parameters_text body_text q ++ l)) (λ x ts e. inl e) (λ p x e. inl (omega arith))

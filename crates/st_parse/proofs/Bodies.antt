@@ -166,7 +166,7 @@ module _ (text : List ℕ) where
       some [] e = absurd cc
       some (x ∷ l) e = omega arith
 
-  step_some : (s : Step) → 0 < length (step_text s)
+  pub step_some : (s : Step) → 0 < length (step_text s)
   step_some (inl s) = omega arith
   step_some (inr s) = omega (arith, expression_some s.0.0, length-append (expression_text s.0.0) (period_text s.1))
 
@@ -375,7 +375,7 @@ module _ (text : List ℕ) where
         (λ s. s) (λ s. refl) (λ s. sym (returned_tree_is s.1.1 (with_statement b.statements true (expression_tree text s.1.0.0)))) (λ s x. sym (returned_goes_is s x))
         (λ s. s) (λ s. refl) (λ s. returned_tree_is s.1.1 (with_statement b.statements true (expression_tree text s.1.0.0))) returned_goes_is
 
-    step_reads : (b : BodyView) → Reads {P = Step} step_text (λ s. after_step s b) step_goes (statement_looks b) n m (statement_step text (array_at text n) (bracket_at text n) b) (statement_step text (array_at text m) (bracket_at text m) b)
+    pub step_reads : (b : BodyView) → Reads {P = Step} step_text (λ s. after_step s b) step_goes (statement_looks b) n m (statement_step text (array_at text n) (bracket_at text n) b) (statement_step text (array_at text m) (bracket_at text m) b)
     unfolding statement_step statement_goes
     step_reads b =
         weaker (statement_looks b) (λ x e. (and_parts b.goes_on (among statement_starts x) e).1)

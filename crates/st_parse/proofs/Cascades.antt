@@ -2,14 +2,14 @@
 use Rattle.std.proofs.Common.{◌≡◌, ℕ, zero, suc, ◌<◌, ◌≤◌, Bool, true, false, ◌||◌, ◌&&◌, List, [], ◌∷◌, ◌++◌, ◌⊎◌, inl, inr, length, Ok, Err, refl, sym, ap, ◌∙◌, subst, append_assoc, length-append, arith}
 use Rattle.std.proofs.lemmas.List.{append-nil}
 use Rattle.std.proofs.lemmas.Bool.{cases_Bool}
-use Rattle.st_tree.specs.Views.{NameView, ExpressionView, ExpressionsView, with_expression}
+use Rattle.st_tree.specs.Views.{NameView, ExpressionView, ExpressionsView, with_expression, with_sent}
 use Rattle.st_tree.specs.Views as views
 use Rattle.st_parse.specs.declared.leaf.Leaf.{Leaf}
 use Rattle.st_parse.specs.declared.leaf.Kind.{Kind}
 use Rattle.st_parse.specs.declared.leaf.Kind.TheVariants.{Semicolon}
 use Rattle.st_parse.specs.Leaves.{among, keywords, operators}
 use Rattle.st_parse.specs.Phrases.{One, names, one_text, ones_text, name, Unary, unary, Binary, binary, Operations, no_operations, operation, Parts, no_parts, part, Keyworded, keyworded, Cascade, cascade, Messages, no_messages, message, Message, unary_message, binary_message, keyword_message, primary_text, unary_text, binary_text, operations_text, parts_text, keyworded_text, messages_text, message_text, cascade_text}
-use Rattle.st_parse.specs.Trees.{bytes, is_super, sent, sent_if, cascaded, primary_tree, after_names, unary_tree, binary_tree, after_operations, selector_of, arguments_of, keyworded_tree, after_messages, with_one, cascade_tree, has_message, MayCascade, UnaryFits, BinaryFits, OperationsFit, PartsFit, MessageFits, MessagesFit, CascadeFits}
+use Rattle.st_parse.specs.Trees.{bytes, is_super, sent, sent_if, primary_tree, after_names, unary_tree, binary_tree, after_operations, selector_of, arguments_of, keyworded_tree, after_messages, with_one, cascade_tree, has_message, MayCascade, UnaryFits, BinaryFits, OperationsFit, PartsFit, MessageFits, MessagesFit, CascadeFits}
 use Rattle.st_parse.specs.Reading.{Stop, Read, ◌>>=◌, first, token_at, many, primary_starts, message_starts, PartsView, no_parts_yet, array_at, bracket_at, primary_at, names_step, names_at, unary_at, operations_step, operations_at, binary_at, parts_step, parts_at, keyword_at, messages_at, unary_message_at, binary_message_at, keyword_message_at, message_at, cascade_step, cascades_at, sends_at, any_cascade_at, cascade_at}
 use Rattle.st_parse.proofs.Loops.{many_stop}
 use Rattle.st_parse.proofs.KindSets.{apart, within, covered, neutral, sample, one_name, one_operator, one_keyword}
@@ -219,8 +219,8 @@ module _ (text : List ℕ) where
 
   abbrev message_sum_tree : ExpressionView → MessageSum → ExpressionView
   message_sum_tree t =
-      tree_either (λ k. cascaded t (bytes text k.leaf) views.no_expressions)
-      (tree_either (λ o. cascaded t (bytes text o.0.leaf) (views.expression (unary_tree text o.1.0) views.no_expressions)) (λ k. cascaded t (bytes text k.0.0.leaf ++ selector_of text k.1.0) (views.expression (binary_tree text k.0.1.0) (arguments_of text k.1.0))))
+      tree_either (λ k. with_sent t (bytes text k.leaf) views.no_expressions)
+      (tree_either (λ o. with_sent t (bytes text o.0.leaf) (views.expression (unary_tree text o.1.0) views.no_expressions)) (λ k. with_sent t (bytes text k.0.0.leaf ++ selector_of text k.1.0) (views.expression (binary_tree text k.0.1.0) (arguments_of text k.1.0))))
 
   message_sum_goes : MessageSum → Leaf → Bool
   message_sum_goes =
@@ -558,7 +558,7 @@ module _ (text : List ℕ) where
   between_messages (message s k ms, f) l e = message_ends (keyword_message one_keyword one_binary.0 no_parts) s.leaf s.fits
 
   module _ (n m : ℕ) (I : Inner text n m) where
-    part_reads : (s : PartsView) → Reads {P = PartPair} (λ k. k.0.leaf ∷ binary_text k.1.0) (λ k. with_part k s) (λ k. binary_goes text) (among keywords) n m (parts_step text (array_at text n) (bracket_at text n) s) (parts_step text (array_at text m) (bracket_at text m) s)
+    pub part_reads : (s : PartsView) → Reads {P = PartPair} (λ k. k.0.leaf ∷ binary_text k.1.0) (λ k. with_part k s) (λ k. binary_goes text) (among keywords) n m (parts_step text (array_at text n) (bracket_at text n) s) (parts_step text (array_at text m) (bracket_at text m) s)
     unfolding parts_step
     part_reads s =
         renamed (both (token_reads keywords one_keyword (neutral keywords refl) n m I.fewer) (λ (b : FitBinary text). binary_text b.0)
@@ -582,9 +582,9 @@ module _ (text : List ℕ) where
     unfolding operations_at
     operations_go t x ts e = many_stop (λ (b : ExpressionView). among operators) (operations_step text (array_at text n) (bracket_at text n)) (length (x ∷ ts)) t (x ∷ ts) e
 
-    names_go : (t : ExpressionView) (x : Leaf) (ts : List Leaf) → among names x ≡ false → names_at text (array_at text n) (bracket_at text n) t (x ∷ ts) ≡ Ok (t, x ∷ ts)
+    names_go : (t : ExpressionView) (x : Leaf) (ts : List Leaf) → among names x ≡ false → names_at text t (x ∷ ts) ≡ Ok (t, x ∷ ts)
     unfolding names_at
-    names_go t x ts e = many_stop (λ (b : ExpressionView). among names) (names_step text (array_at text n) (bracket_at text n)) (length (x ∷ ts)) t (x ∷ ts) e
+    names_go t x ts e = many_stop (λ (b : ExpressionView). among names) (names_step text) (length (x ∷ ts)) t (x ∷ ts) e
 
     rest_reads : (t : ExpressionView) → Reads {P = FitOperations text × FitParts} (text_both (λ os. operations_text os.0) (λ ks. parts_text ks.0)) (λ q. sent_if (after_operations text t q.0.0) (selector_of text q.1.0) (arguments_of text q.1.0)) rest_goes (among rest_starts) n m
         (λ ts. operations_at text (array_at text n) (bracket_at text n) t ts >>= λ b. keyword_at text (array_at text n) (bracket_at text n) b.0 b.1)
@@ -614,28 +614,28 @@ module _ (text : List ℕ) where
 
     -- MESSAGES OF A CASCADE
 
-    unary_message_reads : (t : ExpressionView) → Reads (one_text {kinds = names}) (λ k. cascaded t (bytes text k.leaf) views.no_expressions) (λ k. nothing) (among names) n m (unary_message_at text (array_at text n) (bracket_at text n) t) (unary_message_at text (array_at text m) (bracket_at text m) t)
+    unary_message_reads : (t : ExpressionView) → Reads (one_text {kinds = names}) (λ k. with_sent t (bytes text k.leaf) views.no_expressions) (λ k. nothing) (among names) n m (unary_message_at text t) (unary_message_at text t)
     unfolding unary_message_at
-    unary_message_reads t = mapped (λ k. cascaded t (bytes text k) views.no_expressions) (token_reads names one_name (neutral names refl) n m I.fewer)
+    unary_message_reads t = mapped (λ k. with_sent t (bytes text k) views.no_expressions) (token_reads names one_name (neutral names refl) n m I.fewer)
 
-    binary_message_reads : (t : ExpressionView) → Reads {P = One operators × FitUnary text} binary_part_text (λ o. cascaded t (bytes text o.0.leaf) (views.expression (unary_tree text o.1.0) views.no_expressions)) (goes_both (λ o. nothing) (λ (u : FitUnary text). unary_text u.0) (λ u. among names)) (among operators) n m
+    binary_message_reads : (t : ExpressionView) → Reads {P = One operators × FitUnary text} binary_part_text (λ o. with_sent t (bytes text o.0.leaf) (views.expression (unary_tree text o.1.0) views.no_expressions)) (goes_both (λ o. nothing) (λ (u : FitUnary text). unary_text u.0) (λ u. among names)) (among operators) n m
         (binary_message_at text (array_at text n) (bracket_at text n) t) (binary_message_at text (array_at text m) (bracket_at text m) t)
     unfolding binary_message_at
     binary_message_reads t =
-        both (token_reads operators one_operator (neutral operators refl) n m I.fewer) (λ (u : FitUnary text). unary_text u.0) (λ u o. cascaded t (bytes text o) (views.expression (unary_tree text u.0) views.no_expressions)) (λ u. among names) (among primary_starts)
-        (λ o ts. unary_at text (array_at text n) (bracket_at text n) ts >>= λ u. Ok (cascaded t (bytes text o) (views.expression u.0 views.no_expressions), u.1))
-        (λ o ts. unary_at text (array_at text m) (bracket_at text m) ts >>= λ u. Ok (cascaded t (bytes text o) (views.expression u.0 views.no_expressions), u.1))
-        (λ o. mapped (λ u. cascaded t (bytes text o) (views.expression u views.no_expressions)) (unary_reads text n m I))
+        both (token_reads operators one_operator (neutral operators refl) n m I.fewer) (λ (u : FitUnary text). unary_text u.0) (λ u o. with_sent t (bytes text o) (views.expression (unary_tree text u.0) views.no_expressions)) (λ u. among names) (among primary_starts)
+        (λ o ts. unary_at text (array_at text n) (bracket_at text n) ts >>= λ u. Ok (with_sent t (bytes text o) (views.expression u.0 views.no_expressions), u.1))
+        (λ o ts. unary_at text (array_at text m) (bracket_at text m) ts >>= λ u. Ok (with_sent t (bytes text o) (views.expression u.0 views.no_expressions), u.1))
+        (λ o. mapped (λ u. with_sent t (bytes text o) (views.expression u views.no_expressions)) (unary_reads text n m I))
         (one_unary text) (among operators) (λ p q l e. first_nothing (unary_text q.0 ++ l)) (λ x ts e. inl e) (λ p x e. inl (omega arith))
 
-    keyword_message_reads : (t : ExpressionView) → Reads {P = PartPair × FitParts} keyword_part_text (λ k. cascaded t (bytes text k.0.0.leaf ++ selector_of text k.1.0) (views.expression (binary_tree text k.0.1.0) (arguments_of text k.1.0))) (goes_both (λ (k : PartPair). binary_goes text) (λ (ks : FitParts). parts_text ks.0) keys_goes) (among keywords) n m
+    keyword_message_reads : (t : ExpressionView) → Reads {P = PartPair × FitParts} keyword_part_text (λ k. with_sent t (bytes text k.0.0.leaf ++ selector_of text k.1.0) (views.expression (binary_tree text k.0.1.0) (arguments_of text k.1.0))) (goes_both (λ (k : PartPair). binary_goes text) (λ (ks : FitParts). parts_text ks.0) keys_goes) (among keywords) n m
         (keyword_message_at text (array_at text n) (bracket_at text n) t) (keyword_message_at text (array_at text m) (bracket_at text m) t)
     unfolding keyword_message_at
     keyword_message_reads t =
-        both (part_reads no_parts_yet) (λ (ks : FitParts). parts_text ks.0) (λ ks s. cascaded t (s.selector ++ selector_of text ks.0) (joined_expressions s.arguments (arguments_of text ks.0))) keys_goes (among keywords)
-        (λ s ts. parts_at text (array_at text n) (bracket_at text n) s ts >>= λ ks. Ok (cascaded t ks.0.selector ks.0.arguments, ks.1))
-        (λ s ts. parts_at text (array_at text m) (bracket_at text m) s ts >>= λ ks. Ok (cascaded t ks.0.selector ks.0.arguments, ks.1))
-        (λ s. mapped (λ (ks : PartsView). cascaded t ks.selector ks.arguments) (parts_reads s))
+        both (part_reads no_parts_yet) (λ (ks : FitParts). parts_text ks.0) (λ ks s. with_sent t (s.selector ++ selector_of text ks.0) (joined_expressions s.arguments (arguments_of text ks.0))) keys_goes (among keywords)
+        (λ s ts. parts_at text (array_at text n) (bracket_at text n) s ts >>= λ ks. Ok (with_sent t ks.0.selector ks.0.arguments, ks.1))
+        (λ s ts. parts_at text (array_at text m) (bracket_at text m) s ts >>= λ ks. Ok (with_sent t ks.0.selector ks.0.arguments, ks.1))
+        (λ s. mapped (λ (ks : PartsView). with_sent t ks.selector ks.arguments) (parts_reads s))
         (no_parts, tt) (among keywords) (λ p q l e. between_keys q l e) (λ x ts e. inl e) (λ p x e. inl (omega arith))
       where
         between_keys : (ks : FitParts) (l : List Leaf) → first (binary_goes text) l ≡ false → first (binary_goes text) (parts_text ks.0 ++ l) ≡ false
@@ -650,7 +650,7 @@ module _ (text : List ℕ) where
           nothing (λ x e. e) (λ p l. p.fits) not_names (λ x e f. absurd cc))
         (λ k. message_text k.0) (λ k. with_one text t k.0) (λ k. message_goes k.0) to_message message_text_to (message_tree_to t) message_goes_to from_message message_text_from (message_tree_from t) message_goes_from
 
-    cascade_step_reads : (t : ExpressionView) → Reads {P = CascadePair} (λ c. c.0.leaf ∷ message_text c.1.0) (λ c. with_one text t c.1.0) (λ c. message_goes c.1.0) (among semicolon) n m (cascade_step text (array_at text n) (bracket_at text n) t) (cascade_step text (array_at text m) (bracket_at text m) t)
+    pub cascade_step_reads : (t : ExpressionView) → Reads {P = CascadePair} (λ c. c.0.leaf ∷ message_text c.1.0) (λ c. with_one text t c.1.0) (λ c. message_goes c.1.0) (among semicolon) n m (cascade_step text (array_at text n) (bracket_at text n) t) (cascade_step text (array_at text m) (bracket_at text m) t)
     unfolding cascade_step
     cascade_step_reads t =
         renamed (both (token_reads semicolon one_semicolon (neutral semicolon refl) n m I.fewer) (λ (k : FitMessage). message_text k.0) (λ k s. with_one text t k.0) (λ k. message_goes k.0) nothing

@@ -345,7 +345,7 @@ module _ (text : List ℕ) where
           (among primary_starts) (λ x e. e) (λ p l. p.fits) others1 (λ x e f. covered primary_starts names after_name refl x e f))
         (λ p. primary_text p.0) (λ p. primary_tree text p.0) (λ p. nothing) to text_to tree_to no_goes from text_from tree_from (λ p x. sym (no_goes (from p) x))
 
-    pub names_reads : (t : ExpressionView) → Reads (ones_text {kinds = names}) (λ l. after_names text t l) (λ l. among names) (among names) n m (names_at text (array_at text n) (bracket_at text n) t) (names_at text (array_at text m) (bracket_at text m) t)
+    pub names_reads : (t : ExpressionView) → Reads (ones_text {kinds = names}) (λ l. after_names text t l) (λ l. among names) (among names) n m (names_at text t) (names_at text t)
     unfolding names_at names_step
     names_reads t =
         ones_reads names (λ o e. sent e (bytes text o.leaf) views.no_expressions) (λ l e. after_names text e l) (λ e. refl) (λ o l e. refl) refl n m I.fewer
@@ -356,7 +356,7 @@ module _ (text : List ℕ) where
         (any_unary_at text (array_at text n) (bracket_at text n)) (any_unary_at text (array_at text m) (bracket_at text m))
     unfolding any_unary_at
     any_unary_reads =
-        both primary_reads ones_text (λ l t. after_names text t l) (λ l. among names) (among names) (names_at text (array_at text n) (bracket_at text n)) (names_at text (array_at text m) (bracket_at text m)) names_reads
+        both primary_reads ones_text (λ l t. after_names text t l) (λ l. among names) (among names) (names_at text) (names_at text) names_reads
         [] (among primary_starts) (λ p q l e. first_nothing (ones_text q ++ l)) (λ x ts e. inl e) (λ p x e. inl (primary_some p.0))
 
     pub unary_reads : Reads {P = FitUnary} (λ u. unary_text u.0) (λ u. unary_tree text u.0) (λ u. among names) (among primary_starts) n m (unary_at text (array_at text n) (bracket_at text n)) (unary_at text (array_at text m) (bracket_at text m))
@@ -367,7 +367,7 @@ module _ (text : List ℕ) where
 
     -- BINARY EXPRESSIONS
 
-    operation_reads : (t : ExpressionView) → Reads {P = One operators × FitUnary} (λ o. o.0.leaf ∷ unary_text o.1.0) (λ o. sent t (bytes text o.0.leaf) (views.expression (unary_tree text o.1.0) views.no_expressions)) (λ o. among names) (among operators) n m
+    pub operation_reads : (t : ExpressionView) → Reads {P = One operators × FitUnary} (λ o. o.0.leaf ∷ unary_text o.1.0) (λ o. sent t (bytes text o.0.leaf) (views.expression (unary_tree text o.1.0) views.no_expressions)) (λ o. among names) (among operators) n m
         (operations_step text (array_at text n) (bracket_at text n) t) (operations_step text (array_at text m) (bracket_at text m) t)
     unfolding operations_step
     operation_reads t =
@@ -390,8 +390,8 @@ module _ (text : List ℕ) where
 
     tail_reads : (t : ExpressionView) → Reads {P = List (One names) × FitOperations} (text_both ones_text (λ os. operations_text os.0)) (λ q. after_operations text (after_names text t q.0) q.1.0)
         (goes_both (λ l. among names) (λ (os : FitOperations). operations_text os.0) (λ os x. among operators x || operations_last os.0 x)) nothing n m
-        (λ ts. names_at text (array_at text n) (bracket_at text n) t ts >>= λ u. operations_at text (array_at text n) (bracket_at text n) u.0 u.1)
-        (λ ts. names_at text (array_at text m) (bracket_at text m) t ts >>= λ u. operations_at text (array_at text m) (bracket_at text m) u.0 u.1)
+        (λ ts. names_at text t ts >>= λ u. operations_at text (array_at text n) (bracket_at text n) u.0 u.1)
+        (λ ts. names_at text t ts >>= λ u. operations_at text (array_at text m) (bracket_at text m) u.0 u.1)
     tail_reads t =
         both (names_reads t) (λ (os : FitOperations). operations_text os.0) (λ os u. after_operations text u os.0) (λ os x. among operators x || operations_last os.0 x) (among operators)
         (operations_at text (array_at text n) (bracket_at text n)) (operations_at text (array_at text m) (bracket_at text m)) operations_reads
@@ -402,8 +402,8 @@ module _ (text : List ℕ) where
     any_binary_reads =
         both primary_reads (text_both ones_text (λ (os : FitOperations). operations_text os.0)) (λ q t. after_operations text (after_names text t q.0) q.1.0)
         (goes_both (λ (l : List (One names)). among names) (λ (os : FitOperations). operations_text os.0) (λ os x. among operators x || operations_last os.0 x)) nothing
-        (λ t ts. names_at text (array_at text n) (bracket_at text n) t ts >>= λ u. operations_at text (array_at text n) (bracket_at text n) u.0 u.1)
-        (λ t ts. names_at text (array_at text m) (bracket_at text m) t ts >>= λ u. operations_at text (array_at text m) (bracket_at text m) u.0 u.1)
+        (λ t ts. names_at text t ts >>= λ u. operations_at text (array_at text n) (bracket_at text n) u.0 u.1)
+        (λ t ts. names_at text t ts >>= λ u. operations_at text (array_at text m) (bracket_at text m) u.0 u.1)
         tail_reads ([], (no_operations, tt)) (among primary_starts) (λ p q l e. first_nothing (text_both ones_text (λ (os : FitOperations). operations_text os.0) q ++ l)) (λ x ts e. inl e) (λ p x e. inl (primary_some p.0))
 
     pub binary_reads : Reads {P = FitBinary} (λ b. binary_text b.0) (λ b. binary_tree text b.0) (λ b. binary_goes) (among primary_starts) n m (binary_at text (array_at text n) (bracket_at text n)) (binary_at text (array_at text m) (bracket_at text m))

@@ -15,3 +15,5 @@ pub mod Loops
 pub mod Methods
 pub mod Readers
 pub mod Repeats
+pub mod Shorter
+pub mod Unquoting

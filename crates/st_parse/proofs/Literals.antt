@@ -63,7 +63,7 @@ element_begins (plain o) k = within plain_elements element_starts refl o.leaf o.
 element_begins (keyword_symbol o js) k = within first_keywords element_starts refl o.leaf o.fits
 element_begins (nested o es c) k = within (Opening ∷ Open ∷ []) element_starts refl o.leaf o.fits
 
-element_some : (e : Element) → 0 < length (element_text e)
+pub element_some : (e : Element) → 0 < length (element_text e)
 element_some (plain o) = omega arith
 element_some (keyword_symbol o js) = omega arith
 element_some (nested o es c) = omega arith
@@ -216,11 +216,13 @@ module _ (text : List ℕ) where
       Reads {P = Elements × Unit {0}} (λ l. elements_text l.0) (λ l. elements_tree text l.0) (λ l x. among element_starts x || elements_last l.0 x) (among element_starts) n m
       (elements_at text (array_at text n) views.no_elements) (elements_at text (array_at text m) views.no_elements)
 
+  pub elements_step_reads : (n m : ℕ) → n ≤ m → ArrayReads any_open n m → (es : ElementsView) → Reads element_text (λ e. with_element es (element_tree text e)) element_goes (among element_starts) n m (elements_step text (array_at text n) es) (elements_step text (array_at text m) es)
+  unfolding elements_step
+  elements_step_reads n m le R es = mapped (with_element es) (element_reads n m le R)
+
   elements_read : (n m : ℕ) → n ≤ m → ArrayReads any_open n m → ElementsRead n m
-  unfolding elements_at elements_step
-  elements_read n m le R =
-      repeated elements_repeat n m le (λ es ts. element_at text (array_at text n) ts >>= λ e. Ok (with_element es e.0, e.1)) (λ es ts. element_at text (array_at text m) ts >>= λ e. Ok (with_element es e.0, e.1))
-      (λ es. mapped (with_element es) (element_reads n m le R)) elements_balanced views.no_elements
+  unfolding elements_at
+  elements_read n m le R = repeated elements_repeat n m le (elements_step text (array_at text n)) (elements_step text (array_at text m)) (elements_step_reads n m le R) elements_balanced views.no_elements
 
   module _ (ks : List Kind) (some : One ks) (opens : (x : Leaf) → among ks x ≡ true → among openings x ≡ true) where
     one_close : One (Close ∷ [])

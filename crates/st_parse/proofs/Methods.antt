@@ -349,7 +349,7 @@ module _ (text : List ℕ) where
       go (u ∷ us) is = not_start o u (statement_begins text ss.0 u us (sym is))
 
   module _ (n m : ℕ) (I : Inner text n m) where
-    pattern_step_reads : (p : PatternView) → Reads keyword_name_text (λ k. with_keyword k p) (λ k. nothing) (among keywords) n m (pattern_step text p) (pattern_step text p)
+    pub pattern_step_reads : (p : PatternView) → Reads keyword_name_text (λ k. with_keyword k p) (λ k. nothing) (among keywords) n m (pattern_step text p) (pattern_step text p)
     unfolding pattern_step
     pattern_step_reads p =
         renamed (both (token_reads keywords one_keyword (neutral keywords refl) n m I.fewer) (one_text {kinds = names}) (λ o k. pattern_view (p.selector ++ bytes text k) (p.arguments ++ name_at text o.leaf ∷ [])) (λ o. nothing) (among names)

@@ -10,9 +10,9 @@ use Rattle.st_parse.specs.declared.read.ReadError.{ReadError}
 use Rattle.st_parse.specs.declared.read.ReadError.TheVariants as errors
 use Rattle.st_parse.specs.Leaves.{among, keywords, operators}
 use Rattle.st_parse.specs.Phrases.{names, constants, plain_elements, first_keywords}
-use Rattle.st_parse.specs.Trees.{bytes, name_at, constant_at, number_of, is_super, sent, sent_if, cascaded}
+use Rattle.st_parse.specs.Trees.{bytes, name_at, constant_at, number_of, is_super, sent, sent_if}
 use Rattle.st_tree.specs.declared.token.Signed.{Signed}
-use Rattle.st_tree.specs.Views.{NameView, ElementView, ElementsView, ExpressionView, ExpressionsView, StatementsView, MethodView, with_element, with_expression, with_statement}
+use Rattle.st_tree.specs.Views.{NameView, ElementView, ElementsView, ExpressionView, ExpressionsView, StatementsView, MethodView, with_element, with_expression, with_statement, with_sent}
 use Rattle.st_tree.specs.Views as views
 
 -- a fault, and how many leaves are left there
@@ -157,6 +157,25 @@ module _ (text : List ℕ) where
 
   -- EXPRESSIONS
 
+  unfoldable pub names_step : ExpressionView → List Leaf → Read ExpressionView
+  names_step t ts = token_at names ts >>= λ n. Ok (sent t (bytes text n.0) views.no_expressions, n.1)
+
+  unfoldable pub names_at : ExpressionView → List Leaf → Read ExpressionView
+  names_at t ts = many (λ _. among names) names_step (length ts) t ts
+
+  unfoldable pub unary_message_at : ExpressionView → List Leaf → Read ExpressionView
+  unary_message_at t ts = token_at names ts >>= λ n. Ok (with_sent t (bytes text n.0) views.no_expressions, n.1)
+
+  unfoldable pub targets_at : List Leaf → List NameView × List Leaf
+  targets_at (x ∷ y ∷ ts) = if is_target x y then (name_at text x ∷ (targets_at ts).0, (targets_at ts).1) else ([], x ∷ y ∷ ts)
+  targets_at ts = ([], ts)
+
+  unfoldable pub parameters_step : List NameView → List Leaf → Read (List NameView)
+  parameters_step ns ts = token_at (Colon ∷ []) ts >>= λ c. token_at names c.1 >>= λ n. Ok (ns ++ name_at text n.0 ∷ [], n.1)
+
+  unfoldable pub parameters_at : List NameView → List Leaf → Read (List NameView)
+  parameters_at ns ts = many (λ _. among (Colon ∷ [])) parameters_step (length ts) ns ts
+
   -- `brackets` reads behind [ where it is told so, and else behind (
   module _ (arrays : List Leaf → Read ElementsView) (brackets : Bool → List Leaf → Read ExpressionView) where
     unfoldable pub name_primary_at : List Leaf → Read ExpressionView
@@ -181,12 +200,6 @@ module _ (text : List ℕ) where
         else (if first (among (Opening ∷ [])) ts then array_primary_at ts
         else (if first (among (OpenBlock ∷ [])) ts then block_primary_at ts
         else group_primary_at ts)))
-
-    unfoldable pub names_step : ExpressionView → List Leaf → Read ExpressionView
-    names_step t ts = token_at names ts >>= λ n. Ok (sent t (bytes text n.0) views.no_expressions, n.1)
-
-    unfoldable pub names_at : ExpressionView → List Leaf → Read ExpressionView
-    names_at t ts = many (λ _. among names) names_step (length ts) t ts
 
     -- also `super` alone
     unfoldable pub any_unary_at : List Leaf → Read ExpressionView
@@ -220,14 +233,11 @@ module _ (text : List ℕ) where
     unfoldable pub messages_at : ExpressionView → List Leaf → Read ExpressionView
     messages_at t ts = names_at t ts >>= λ u. operations_at u.0 u.1 >>= λ b. keyword_at b.0 b.1
 
-    unfoldable pub unary_message_at : ExpressionView → List Leaf → Read ExpressionView
-    unary_message_at t ts = token_at names ts >>= λ n. Ok (cascaded t (bytes text n.0) views.no_expressions, n.1)
-
     unfoldable pub binary_message_at : ExpressionView → List Leaf → Read ExpressionView
-    binary_message_at t ts = token_at operators ts >>= λ o. unary_at o.1 >>= λ u. Ok (cascaded t (bytes text o.0) (views.expression u.0 views.no_expressions), u.1)
+    binary_message_at t ts = token_at operators ts >>= λ o. unary_at o.1 >>= λ u. Ok (with_sent t (bytes text o.0) (views.expression u.0 views.no_expressions), u.1)
 
     unfoldable pub keyword_message_at : ExpressionView → List Leaf → Read ExpressionView
-    keyword_message_at t ts = parts_step no_parts_yet ts >>= λ s. parts_at s.0 s.1 >>= λ ks. Ok (cascaded t ks.0.selector ks.0.arguments, ks.1)
+    keyword_message_at t ts = parts_step no_parts_yet ts >>= λ s. parts_at s.0 s.1 >>= λ ks. Ok (with_sent t ks.0.selector ks.0.arguments, ks.1)
 
     unfoldable pub message_at : ExpressionView → List Leaf → Read ExpressionView
     message_at t ts =
@@ -251,10 +261,6 @@ module _ (text : List ℕ) where
     unfoldable pub cascade_at : List Leaf → Read ExpressionView
     cascade_at ts = any_cascade_at ts >>= λ c. checked_at c.0 c.1
 
-    unfoldable pub targets_at : List Leaf → List NameView × List Leaf
-    targets_at (x ∷ y ∷ ts) = if is_target x y then (name_at text x ∷ (targets_at ts).0, (targets_at ts).1) else ([], x ∷ y ∷ ts)
-    targets_at ts = ([], ts)
-
     unfoldable pub expression_at : List Leaf → Read ExpressionView
     expression_at ts = cascade_at (targets_at ts).1 >>= λ c. Ok (assigned_to (targets_at ts).0 c.0, c.1)
 
@@ -272,12 +278,6 @@ module _ (text : List ℕ) where
 
     unfoldable pub statements_at : List Leaf → Read StatementsView
     statements_at ts = body_at (record { statements = views.no_statements; goes_on = true }) ts >>= λ b. Ok (b.0.statements, b.1)
-
-    unfoldable pub parameters_step : List NameView → List Leaf → Read (List NameView)
-    parameters_step ns ts = token_at (Colon ∷ []) ts >>= λ c. token_at names c.1 >>= λ n. Ok (ns ++ name_at text n.0 ∷ [], n.1)
-
-    unfoldable pub parameters_at : List NameView → List Leaf → Read (List NameView)
-    parameters_at ns ts = many (λ _. among (Colon ∷ [])) parameters_step (length ts) ns ts
 
     -- a block behind its arguments
     unfoldable pub argument_body_at : List NameView → List Leaf → Read ExpressionView

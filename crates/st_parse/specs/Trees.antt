@@ -4,7 +4,7 @@ use Rattle.std.specs.Str.{byte}
 use Rattle.st_tree.specs.declared.token.Signed.{Signed}
 use Rattle.st_tree.specs.declared.token.Sort.{Sort}
 use Rattle.st_tree.specs.declared.token.Sort.TheVariants as sorts
-use Rattle.st_tree.specs.Views.{NameView, ContentView, ElementsView, ElementView, ExpressionView, StatementsView, MessagesView, ExpressionsView, MethodView, with_message}
+use Rattle.st_tree.specs.Views.{NameView, ContentView, ElementsView, ElementView, ExpressionView, StatementsView, MessagesView, ExpressionsView, MethodView, with_sent}
 use Rattle.st_tree.specs.Views as views
 use Rattle.st_parse.specs.declared.leaf.Leaf.{Leaf}
 use Rattle.st_parse.specs.declared.leaf.Kind.{Kind}
@@ -34,11 +34,6 @@ sent t selector arguments = views.send t (views.message selector arguments views
 abbrev pub sent_if : ExpressionView → List ℕ → ExpressionsView → ExpressionView
 sent_if t selector views.no_expressions = t
 sent_if t selector (views.expression e es) = sent t selector (views.expression e es)
-
--- one more message to the receiver of a message
-abbrev pub cascaded : ExpressionView → List ℕ → ExpressionsView → ExpressionView
-cascaded (views.send receiver ms) selector arguments = views.send receiver (with_message ms selector arguments)
-cascaded t selector arguments = t
 
 -- what a name is in a literal array
 abbrev pub word_content : List ℕ → ContentView
@@ -151,9 +146,9 @@ module _ (text : List ℕ) where
 
     -- t with one more message of a cascade
     pub with_one : ExpressionView → Message → ExpressionView
-    with_one t (unary_message n) = cascaded t (bytes n.leaf) views.no_expressions
-    with_one t (binary_message o u) = cascaded t (bytes o.leaf) (views.expression (unary_tree u) views.no_expressions)
-    with_one t (keyword_message k b ks) = cascaded t (bytes k.leaf ++ selector_of ks) (views.expression (binary_tree b) (arguments_of ks))
+    with_one t (unary_message n) = with_sent t (bytes n.leaf) views.no_expressions
+    with_one t (binary_message o u) = with_sent t (bytes o.leaf) (views.expression (unary_tree u) views.no_expressions)
+    with_one t (keyword_message k b ks) = with_sent t (bytes k.leaf ++ selector_of ks) (views.expression (binary_tree b) (arguments_of ks))
 
     pub expression_tree : Expression → ExpressionView
     expression_tree (expression ts c) = assigned ts (cascade_tree c)
