@@ -1,5 +1,6 @@
 pub mod Faults
 pub mod Leaves
+pub mod Parsed
 pub mod Phrases
 pub mod Reading
 pub mod Texts

@@ -17,6 +17,16 @@ pub enum ReadError {
 }
 
 impl ReadError {
+    /// The first of these leaves cannot stand there, or there is none.
+    pub fn expected(leaves: &[Leaf]) -> ReadError
+        ensures { result ≡ ReadError.Fault Cause.Expected (length leaves.now) }
+    {
+        ReadError::Fault {
+            cause: Cause::Expected,
+            left: leaves.len(),
+        }
+    }
+
     /// One bracket too many is open, the one before these leaves.
     pub fn too_deep(leaves: &[Leaf]) -> ReadError
         requires { length leaves.now < 2 ^ 63 }
@@ -71,10 +81,7 @@ pub fn token<'a>(
 {
     match leaves {
         [leaf, rest @ ..] if is_among(kinds, *leaf) => Ok((*leaf, rest)),
-        _ => Err(ReadError::Fault {
-            cause: Cause::Expected,
-            left: leaves.len(),
-        }),
+        _ => Err(ReadError::expected(leaves)),
     }
 }
 
