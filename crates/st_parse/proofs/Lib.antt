@@ -1,3 +1,4 @@
+pub mod Assigning
 pub mod Assignments
 pub mod Balanced
 pub mod Blocks

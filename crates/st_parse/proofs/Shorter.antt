@@ -34,9 +34,9 @@ module _ (text : List ℕ) where
   pub elements_shorter : (n : ℕ) (es : ElementsView) (ts : List Leaf) (x : ElementsView × List Leaf) → elements_step text (array_at text n) es ts ≡ Ok x → length x.1 < length ts
   elements_shorter n es ts x e = shorter (elements_step_reads text n n (omega arith) (nested_reads text n n (omega arith)) es) element_some ts x e
 
-  pub names_shorter : (n : ℕ) (t : ExpressionView) (ts : List Leaf) (x : ExpressionView × List Leaf) → names_step text t ts ≡ Ok x → length x.1 < length ts
+  pub names_shorter : (t : ExpressionView) (ts : List Leaf) (x : ExpressionView × List Leaf) → names_step text t ts ≡ Ok x → length x.1 < length ts
   unfolding names_step
-  names_shorter n t ts x e = shorter (mapped (λ k. sent t (bytes text k) views.no_expressions) (token_reads names one_name (neutral names refl) 0 0 (omega arith))) (λ o. omega arith) ts x e
+  names_shorter t ts x e = shorter (mapped (λ k. sent t (bytes text k) views.no_expressions) (token_reads names one_name (neutral names refl) 0 0 (omega arith))) (λ o. omega arith) ts x e
 
   pub operations_shorter : (n : ℕ) (t : ExpressionView) (ts : List Leaf) (x : ExpressionView × List Leaf) → operations_step text (array_at text n) (bracket_at text n) t ts ≡ Ok x → length x.1 < length ts
   operations_shorter n t ts x e = shorter (operation_reads text n n (inner n) t) (λ o. omega arith) ts x e
@@ -50,8 +50,8 @@ module _ (text : List ℕ) where
   pub statement_shorter : (n : ℕ) (b : BodyView) (ts : List Leaf) (x : BodyView × List Leaf) → statement_step text (array_at text n) (bracket_at text n) b ts ≡ Ok x → length x.1 < length ts
   statement_shorter n b ts x e = shorter (step_reads text n n (inner n) b) (step_some text) ts x e
 
-  pub parameter_shorter : (n : ℕ) (ns : List NameView) (ts : List Leaf) (x : List NameView × List Leaf) → parameters_step text ns ts ≡ Ok x → length x.1 < length ts
-  parameter_shorter n ns ts x e = shorter (parameter_reads text n n (inner n) ns) (λ o. omega arith) ts x e
+  pub parameter_shorter : (ns : List NameView) (ts : List Leaf) (x : List NameView × List Leaf) → parameters_step text ns ts ≡ Ok x → length x.1 < length ts
+  parameter_shorter ns ts x e = shorter (parameter_reads text 0 0 (inner 0) ns) (λ o. omega arith) ts x e
 
   pub pattern_shorter : (p : PatternView) (ts : List Leaf) (x : PatternView × List Leaf) → pattern_step text p ts ≡ Ok x → length x.1 < length ts
   pattern_shorter p ts x e = shorter (pattern_step_reads text 0 0 (inner 0) p) (λ o. omega arith) ts x e

@@ -1,4 +1,4 @@
-use Rattle.std.proofs.Common.{◌+◌, ◌*◌, length}
+use Rattle.std.proofs.Common.{◌+◌, ◌*◌, ◌∷◌, [], length}
 use Rattle.st_tree.specs.Views.{expression_view}
 use Rattle.st_parse.specs.declared.leaf.Kind.TheVariants.{Semicolon}
 use Rattle.st_parse.specs.Leaves.{among, keywords, operators}
@@ -69,3 +69,31 @@ decreases-behind_arguments l = 30 * l.room + 23
 
 abbrev pub decreases-block : goal.decreases-block
 decreases-block l = 30 * l.room + 25
+
+abbrev pub invariant-binary_messages-loop-alloc : goal.invariant-binary_messages-loop-alloc
+invariant-binary_messages-loop-alloc l =
+    Going (λ _. among operators) (operations_step l.text (array_at l.text l.room) (bracket_at l.text l.room)) (expression_view l.receiver) l.rest (operations_at l.text (array_at l.text l.room) (bracket_at l.text l.room) (expression_view l.fn.first) l.leaves)
+
+abbrev pub decreases-binary_messages-loop-alloc : goal.decreases-binary_messages-loop-alloc
+decreases-binary_messages-loop-alloc l = length l.rest
+
+abbrev pub invariant-keyword_parts-loop-alloc : goal.invariant-keyword_parts-loop-alloc
+invariant-keyword_parts-loop-alloc l =
+    Going (λ _. among keywords) (parts_step l.text (array_at l.text l.room) (bracket_at l.text l.room)) (parts_view l.parts) l.rest (parts_at l.text (array_at l.text l.room) (bracket_at l.text l.room) (parts_view l.fn.first) l.leaves)
+
+abbrev pub decreases-keyword_parts-loop-alloc : goal.decreases-keyword_parts-loop-alloc
+decreases-keyword_parts-loop-alloc l = length l.rest
+
+abbrev pub invariant-next_messages-loop-alloc : goal.invariant-next_messages-loop-alloc
+invariant-next_messages-loop-alloc l =
+    Going (λ _. among (Semicolon ∷ [])) (cascade_step l.text (array_at l.text l.room) (bracket_at l.text l.room)) (expression_view l.cascade) l.rest (cascades_at l.text (array_at l.text l.room) (bracket_at l.text l.room) (expression_view l.fn.first) l.leaves)
+
+abbrev pub decreases-next_messages-loop-alloc : goal.decreases-next_messages-loop-alloc
+decreases-next_messages-loop-alloc l = length l.rest
+
+abbrev pub invariant-all_statements-loop-alloc : goal.invariant-all_statements-loop-alloc
+invariant-all_statements-loop-alloc l =
+    Going (statement_looks) (statement_step l.text (array_at l.text l.room) (bracket_at l.text l.room)) (body_view l.body) l.rest (body_at l.text (array_at l.text l.room) (bracket_at l.text l.room) (body_view l.fn.first) l.leaves)
+
+abbrev pub decreases-all_statements-loop-alloc : goal.decreases-all_statements-loop-alloc
+decreases-all_statements-loop-alloc l = length l.rest
