@@ -1,5 +1,5 @@
 -- What a method's text means, and its first fault.
-use Rattle.std.specs.Prelude.{◌≡◌, ℕ, ◌+◌, ◌-◌, ◌≤◌, Bool, true, false, ◌&&◌, ◌||◌, ◌==◌, nat_lt, if◌then◌else◌, List, [], ◌∷◌, ◌++◌, length, drop, Option, Some, None}
+use Rattle.std.specs.Prelude.{◌≡◌, ℕ, ◌+◌, ◌-◌, ◌≤◌, Bool, true, false, ◌&&◌, ◌||◌, ◌==◌, nat_lt, if◌then◌else◌, List, [], ◌∷◌, ◌++◌, length, drop, Option, Some, None, Result, Ok, Err}
 use Rattle.st_tree.specs.declared.token.Token.{Token}
 use Rattle.st_tree.specs.declared.token.Sort.TheVariants as sorts
 use Rattle.st_tree.specs.declared.fault.Fault.{Fault}
@@ -8,7 +8,8 @@ use Rattle.st_tree.specs.declared.fault.Cause.TheVariants as causes
 use Rattle.st_tree.specs.declared.fault.SyntaxFault.{SyntaxFault}
 use Rattle.st_tree.specs.declared.fault.SyntaxFault.TheVariants.{At, OutOfMemory}
 use Rattle.st_tree.specs.Faults.{cause_number}
-use Rattle.st_tree.specs.Views.{MethodView}
+use Rattle.st_tree.specs.declared.tree.MethodTree.{MethodTree}
+use Rattle.st_tree.specs.Views.{MethodView, method_view}
 use Rattle.st_scan.specs.Scans.{ScansTo, HasTokens}
 use Rattle.st_parse.specs.declared.leaf.Leaf.{Leaf}
 use Rattle.st_parse.specs.declared.leaf.Kind.TheVariants.{Number}
@@ -71,3 +72,9 @@ HasFault text place cause = (fault : Fault) × HasFirst text fault × (fault.pla
 abbrev pub IsFaultOf : List ℕ → SyntaxFault → Type 0
 IsFaultOf text (At place cause) = HasFault text place cause
 IsFaultOf text OutOfMemory = Unit {0}
+
+-- the result is this tree, unless memory ran out
+abbrev pub IsOnly : MethodView → Result MethodTree SyntaxFault → Type 0
+IsOnly t (Ok u) = method_view u ≡ t
+IsOnly t (Err (At place cause)) = ⊥
+IsOnly t (Err OutOfMemory) = Unit {0}

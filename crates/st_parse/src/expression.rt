@@ -15,10 +15,10 @@ use crate::read::{ReadError, is_among, starts, token};
 use st_tree::{Expression, ExpressionList, Message, MessageList, Name, NameList, Statement, StatementList, Text};
 use std::alloc::{AllocError, Global};
 
-const NAMES: [Kind; 1] = [Kind::Name];
+pub const NAMES: [Kind; 1] = [Kind::Name];
 const CONSTANTS: [Kind; 2] = [Kind::Number, Kind::Constant];
-const KEYWORDS: [Kind; 3] = [Kind::Keyword, Kind::Joined, Kind::Primitive];
-const OPERATORS: [Kind; 4] = [Kind::Operator, Kind::Bar, Kind::Less, Kind::Greater];
+pub const KEYWORDS: [Kind; 3] = [Kind::Keyword, Kind::Joined, Kind::Primitive];
+pub const OPERATORS: [Kind; 4] = [Kind::Operator, Kind::Bar, Kind::Less, Kind::Greater];
 
 /// What a message begins with.
 const MESSAGE_STARTS: [Kind; 8] = [
