@@ -11,7 +11,7 @@ use Rattle.st_parse.specs.declared.leaf.Leaf.{Leaf}
 use Rattle.st_parse.specs.Leaves.{leaves_of}
 use Rattle.st_parse.specs.Faults.{highest, most, IsMethod, IsMethodOf, FaultAt}
 use Rattle.st_parse.specs.Texts.{Means, words, place_at, GrammarFinds, first_fault, HasFirst, HasFault}
-use Rattle.st_parse.proofs.Laws.{one_tree, one_fault, method_no_fault}
+use Rattle.st_parse.proofs.Theorems.{one_tree, one_fault, method_no_fault}
 
 pub tree_determined : (text : List ℕ) (t u : MethodView) → Means text t → Means text u → t ≡ u
 tree_determined text t u x y =

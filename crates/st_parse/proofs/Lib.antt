@@ -9,12 +9,13 @@ pub mod Expressions
 pub mod Faulty
 pub mod Heights
 pub mod KindSets
-pub mod Laws
 pub mod Lists
 pub mod Literals
 pub mod Loops
 pub mod Methods
+pub mod Parsing
 pub mod Readers
 pub mod Repeats
 pub mod Shorter
+pub mod Theorems
 pub mod Unquoting

@@ -405,7 +405,7 @@ module _ (text : List ℕ) where
         temporaries_text (λ t. names_of text t.inside) (λ t. nothing)
         (λ t. record { open_bar = t.0; inside = t.1.0; close_bar = t.1.1 }) (λ t. refl) (λ t. refl) (λ t x. sym (and_false (is_nil (ones_text t.1.0 ++ t.1.1.leaf ∷ [])))) (λ t. (t.open_bar, (t.inside, t.close_bar))) (λ t. refl) (λ t. refl) (λ t x. and_false (is_nil (ones_text t.inside ++ t.close_bar.leaf ∷ [])))
 
-    primitive_reads : Reads primitive_text (primitive_number text) (λ p. nothing) (among less) n m (primitive_at text) (primitive_at text)
+    primitive_reads : Reads primitive_text (primitive_number text) (λ p. nothing) (among less) n m primitive_at primitive_at
     unfolding primitive_at
     primitive_reads =
         renamed (both (token_reads less one_less (neutral less refl) n m I.fewer) (text_both (one_text {kinds = Primitive ∷ []}) (text_both (one_text {kinds = Number ∷ []}) (one_text {kinds = Greater ∷ []}))) (λ q o. number_of q.1.0.leaf.token.sort) (λ q. nothing) nothing
@@ -424,8 +424,8 @@ module _ (text : List ℕ) where
     unfolding temporaries_first_at
     temporaries_first_reads =
         both temporaries_reads maybe_primitive_text (λ q ns. tree_either (λ p. options_view ns (Some (primitive_number text p))) (λ u. options_view ns None) q) maybe_primitive_goes nothing
-        (λ ns ts. cond (first (among less) ts) (primitive_at text ts >>= λ p. Ok (options_view ns (Some p.0), p.1)) (Ok (options_view ns None, ts)))
-        (λ ns ts. cond (first (among less) ts) (primitive_at text ts >>= λ p. Ok (options_view ns (Some p.0), p.1)) (Ok (options_view ns None, ts)))
+        (λ ns ts. cond (first (among less) ts) (primitive_at ts >>= λ p. Ok (options_view ns (Some p.0), p.1)) (Ok (options_view ns None, ts)))
+        (λ ns ts. cond (first (among less) ts) (primitive_at ts >>= λ p. Ok (options_view ns (Some p.0), p.1)) (Ok (options_view ns None, ts)))
         (λ ns. either (among less) (anyway (among less) (mapped (λ v. options_view ns (Some v)) primitive_reads)) (pure (options_view ns None) nothing n m I.fewer) nothing (λ x e. e) (λ p l. p.less.fits) (λ q x us e. absurd cc) (λ x e f. absurd cc))
         (inr tt) (among bar) (λ p q l e. first_nothing (maybe_primitive_text q ++ l)) (λ x ts e. inl e) (λ p x e. inl (omega arith))
 

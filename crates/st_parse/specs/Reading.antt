@@ -115,6 +115,10 @@ statement_looks b x = b.goes_on && among statement_starts x
 abbrev pub checked_at : ExpressionView → List Leaf → Read ExpressionView
 checked_at t ts = if is_super t then stop Expected ts else Ok (t, ts)
 
+-- the number of a primitive
+unfoldable pub primitive_at : List Leaf → Read Signed
+primitive_at ts = token_at (Less ∷ []) ts >>= λ l. token_at (Primitive ∷ []) l.1 >>= λ k. token_at (Number ∷ []) k.1 >>= λ n. token_at (Greater ∷ []) n.1 >>= λ g. Ok (number_of n.0.token.sort, g.1)
+
 -- nothing may be left behind a method
 abbrev pub end_at : MethodView → List Leaf → Result MethodView Stop
 end_at m [] = Ok m
@@ -331,9 +335,6 @@ module _ (text : List ℕ) where
 
   unfoldable pub temporaries_at : List Leaf → Read (List NameView)
   temporaries_at ts = token_at (Bar ∷ []) ts >>= λ o. name_list_at [] o.1 >>= λ ns. token_at (Bar ∷ []) ns.1 >>= λ c. Ok (ns.0, c.1)
-
-  unfoldable pub primitive_at : List Leaf → Read Signed
-  primitive_at ts = token_at (Less ∷ []) ts >>= λ l. token_at (Primitive ∷ []) l.1 >>= λ k. token_at (Number ∷ []) k.1 >>= λ n. token_at (Greater ∷ []) n.1 >>= λ g. Ok (number_of n.0.token.sort, g.1)
 
   -- temporaries, and a primitive if one follows
   unfoldable pub temporaries_first_at : List Leaf → Read OptionsView

@@ -2,6 +2,12 @@
 #![tactic(auto)]
 
 mod expression;
+mod laws;
 mod leaf;
 mod literal;
+mod method;
+mod parser;
 mod read;
+
+pub use laws::{one_fault, one_tree};
+pub use parser::parse;
