@@ -140,6 +140,14 @@ abbrev pub with_message : MessagesView → List ℕ → ExpressionsView → Mess
 with_message no_messages selector arguments = message selector arguments no_messages
 with_message (message first es rest) selector arguments = message first es (with_message rest selector arguments)
 
+-- one more message to the receiver of a message; another expression stays as it is
+abbrev pub with_sent : ExpressionView → List ℕ → ExpressionsView → ExpressionView
+with_sent (send receiver ms) selector arguments = send receiver (with_message ms selector arguments)
+with_sent (variable n) selector arguments = variable n
+with_sent (literal e) selector arguments = literal e
+with_sent (block names body) selector arguments = block names body
+with_sent (assign target e) selector arguments = assign target e
+
 -- a method
 pub record MethodView : Type 0 where
   pub selector : List ℕ

@@ -4,7 +4,11 @@
 //! `a _ b _ ..` show: only brackets are bounded. So an expression is dropped and printed by loops down these two, and a
 //! walk goes along its `chain`.
 
+ghost use Rattle.std.specs.Prelude.{◌≡◌, IfOk};
+ghost use Rattle.st_tree.specs.Views.{expression_view, expressions_view, with_sent};
+
 use crate::token::Signed;
+use std::alloc::AllocError;
 use std::fmt;
 
 /// A text, as its bytes.
@@ -93,6 +97,25 @@ pub enum Content {
     Nil,
     False,
     True,
+}
+
+impl Expression {
+    /// One more message to the receiver of this message, which becomes a cascade. Another expression stays as it is.
+    #[tactic(auto, using(crate::proofs::Views::views))]
+    pub fn with_sent(self, message: Message) -> Result<Expression, AllocError>
+        ensures { IfOk result (λ e. expression_view e ≡ with_sent (expression_view self) message.selector.items (expressions_view message.arguments.items)) }
+    {
+        match self {
+            Expression::Send {
+                receiver,
+                mut messages,
+            } => {
+                messages.push(message)?;
+                Ok(Expression::Send { receiver, messages })
+            }
+            _ => Ok(self),
+        }
+    }
 }
 
 impl Drop for Expression {

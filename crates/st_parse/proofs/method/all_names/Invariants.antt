@@ -1,0 +1,14 @@
+use Rattle.std.proofs.Common.{length}
+use Rattle.st_tree.specs.Views.{names_view}
+use Rattle.st_parse.specs.Leaves.{among, keywords}
+use Rattle.st_parse.specs.Phrases.{names}
+use Rattle.st_parse.specs.Parsed.{pattern_view}
+use Rattle.st_parse.specs.Reading.{name_step, name_list_at}
+use Rattle.st_parse.proofs.Loops.{Going}
+use Rattle.st_parse.proofs.method.all_names.Given as goal
+
+abbrev pub invariant-loop-alloc : goal.invariant-loop-alloc
+invariant-loop-alloc l = Going (λ _. among names) (name_step l.text) (names_view l.names.items) l.rest (name_list_at l.text (names_view l.fn.first.items) l.leaves)
+
+abbrev pub decreases-loop-alloc : goal.decreases-loop-alloc
+decreases-loop-alloc l = length l.rest

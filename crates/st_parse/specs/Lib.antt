@@ -1,0 +1,7 @@
+pub mod Faults
+pub mod Leaves
+pub mod Parsed
+pub mod Phrases
+pub mod Reading
+pub mod Texts
+pub mod Trees

@@ -1,0 +1,351 @@
+//! Methods. The functions here read as those on expressions do.
+
+ghost use Rattle.std.specs.Prelude.{◌≡◌, ◌∷◌, [], Some, None};
+ghost use Rattle.st_tree.specs.Views.{names_view, method_view};
+ghost use Rattle.st_parse.specs.Faults.{most};
+ghost use Rattle.st_parse.specs.Trees.{number_of};
+ghost use Rattle.st_parse.specs.Reading.{Gives, Fails, pattern_step, keyword_names_at, pattern_at, unary_pattern_at, binary_pattern_at, keyword_pattern_at, name_step, name_list_at, temporaries_at, primitive_at, options_at, temporaries_first_at, primitive_first_at, method_at, whole_at, end_at};
+ghost use Rattle.st_parse.specs.Parsed.{pattern_view, options_view};
+
+use crate::expression::{KEYWORDS, NAMES, OPERATORS, name_of, statements};
+use crate::leaf::{Kind, Leaf, bytes_of};
+use crate::read::{ReadError, starts, token};
+use st_tree::{Cause, MethodTree, NameList, Signed, Sort, Text};
+use std::alloc::Global;
+
+/// The most brackets that may be open.
+const MOST: u32 = 200;
+
+/// A selector and its arguments, so far.
+#[derive(Debug, Drop)]
+struct Pattern {
+    selector: Text,
+    arguments: NameList,
+}
+
+/// What stands between a method's pattern and its statements.
+#[derive(Debug, Drop)]
+struct Options {
+    temporaries: NameList,
+    primitive: Option<Signed>,
+}
+
+/// A pattern with one more keyword and the name of its argument.
+#[tactic(auto, unfolding(crate::specs::Reading::pattern_step))]
+fn keyword_name<'a>(
+    alloc: Global,
+    text: &[u8],
+    pattern: Pattern,
+    leaves: &'a [Leaf],
+) -> Result<(Pattern, &'a [Leaf]), ReadError>
+    ensures { Gives (λ x. (pattern_view x.0, x.1.now)) result (pattern_step text.now (pattern_view pattern) leaves.now) }
+{
+    let (keyword, rest) = token(&KEYWORDS, leaves)?;
+    let (leaf, rest) = token(&NAMES, rest)?;
+    let mut selector = pattern.selector;
+    let mut arguments = pattern.arguments;
+    selector.extend_from_slice(bytes_of(text, keyword.token))?;
+    arguments.push(name_of(alloc, text, leaf)?)?;
+    let pattern = Pattern {
+        selector,
+        arguments,
+    };
+    Ok((pattern, rest))
+}
+
+/// A pattern with all keywords that follow.
+#[tactic(auto, unfolding(crate::specs::Reading::keyword_names_at))]
+fn keyword_names<'a>(
+    alloc: Global,
+    text: &[u8],
+    first: Pattern,
+    leaves: &'a [Leaf],
+) -> Result<(Pattern, &'a [Leaf]), ReadError>
+    ensures { Gives (λ x. (pattern_view x.0, x.1.now)) result (keyword_names_at text.now (pattern_view first) leaves.now) }
+{
+    let mut pattern = first;
+    let mut rest = leaves;
+    while starts(&KEYWORDS, rest) {
+        let (longer, after) = keyword_name(alloc, text, pattern, rest)?;
+        pattern = longer;
+        rest = after;
+    }
+    Ok((pattern, rest))
+}
+
+/// A pattern of one name.
+#[tactic(auto, unfolding(crate::specs::Reading::unary_pattern_at))]
+fn unary_pattern<'a>(
+    alloc: Global,
+    text: &[u8],
+    leaves: &'a [Leaf],
+) -> Result<(Pattern, &'a [Leaf]), ReadError>
+    ensures { Gives (λ x. (pattern_view x.0, x.1.now)) result (unary_pattern_at text.now leaves.now) }
+{
+    let (leaf, rest) = token(&NAMES, leaves)?;
+    let selector = bytes_of(text, leaf.token).to_vec(alloc)?;
+    let arguments = Vec::new(alloc);
+    let pattern = Pattern {
+        selector,
+        arguments,
+    };
+    Ok((pattern, rest))
+}
+
+/// A pattern of an operator and a name.
+#[tactic(auto, unfolding(crate::specs::Reading::binary_pattern_at))]
+fn binary_pattern<'a>(
+    alloc: Global,
+    text: &[u8],
+    leaves: &'a [Leaf],
+) -> Result<(Pattern, &'a [Leaf]), ReadError>
+    ensures { Gives (λ x. (pattern_view x.0, x.1.now)) result (binary_pattern_at text.now leaves.now) }
+{
+    let (operator, rest) = token(&OPERATORS, leaves)?;
+    let (leaf, rest) = token(&NAMES, rest)?;
+    let selector = bytes_of(text, operator.token).to_vec(alloc)?;
+    let mut arguments = Vec::new(alloc);
+    arguments.push(name_of(alloc, text, leaf)?)?;
+    let pattern = Pattern {
+        selector,
+        arguments,
+    };
+    Ok((pattern, rest))
+}
+
+/// A pattern of keywords and names.
+#[tactic(auto, unfolding(crate::specs::Reading::keyword_pattern_at))]
+fn keyword_pattern<'a>(
+    alloc: Global,
+    text: &[u8],
+    leaves: &'a [Leaf],
+) -> Result<(Pattern, &'a [Leaf]), ReadError>
+    ensures { Gives (λ x. (pattern_view x.0, x.1.now)) result (keyword_pattern_at text.now leaves.now) }
+{
+    let none = Pattern {
+        selector: Vec::new(alloc),
+        arguments: Vec::new(alloc),
+    };
+    let (first, rest) = keyword_name(alloc, text, none, leaves)?;
+    keyword_names(alloc, text, first, rest)
+}
+
+/// A pattern.
+#[tactic(auto, unfolding(crate::specs::Reading::pattern_at))]
+fn any_pattern<'a>(
+    alloc: Global,
+    text: &[u8],
+    leaves: &'a [Leaf],
+) -> Result<(Pattern, &'a [Leaf]), ReadError>
+    ensures { Gives (λ x. (pattern_view x.0, x.1.now)) result (pattern_at text.now leaves.now) }
+{
+    if starts(&NAMES, leaves) {
+        unary_pattern(alloc, text, leaves)
+    } else if starts(&OPERATORS, leaves) {
+        binary_pattern(alloc, text, leaves)
+    } else {
+        keyword_pattern(alloc, text, leaves)
+    }
+}
+
+/// Names with one more.
+#[tactic(auto, unfolding(crate::specs::Reading::name_step))]
+fn one_name<'a>(
+    alloc: Global,
+    text: &[u8],
+    mut names: NameList,
+    leaves: &'a [Leaf],
+) -> Result<(NameList, &'a [Leaf]), ReadError>
+    ensures { Gives (λ x. (names_view x.0.items, x.1.now)) result (name_step text.now (names_view names.items) leaves.now) }
+{
+    let (leaf, rest) = token(&NAMES, leaves)?;
+    names.push(name_of(alloc, text, leaf)?)?;
+    Ok((names, rest))
+}
+
+/// Names with all that follow.
+#[tactic(auto, unfolding(crate::specs::Reading::name_list_at))]
+fn all_names<'a>(
+    alloc: Global,
+    text: &[u8],
+    first: NameList,
+    leaves: &'a [Leaf],
+) -> Result<(NameList, &'a [Leaf]), ReadError>
+    ensures { Gives (λ x. (names_view x.0.items, x.1.now)) result (name_list_at text.now (names_view first.items) leaves.now) }
+{
+    let mut names = first;
+    let mut rest = leaves;
+    while starts(&NAMES, rest) {
+        let (longer, after) = one_name(alloc, text, names, rest)?;
+        names = longer;
+        rest = after;
+    }
+    Ok((names, rest))
+}
+
+/// Temporaries.
+#[tactic(auto, unfolding(crate::specs::Reading::temporaries_at))]
+fn temporaries<'a>(
+    alloc: Global,
+    text: &[u8],
+    leaves: &'a [Leaf],
+) -> Result<(NameList, &'a [Leaf]), ReadError>
+    ensures { Gives (λ x. (names_view x.0.items, x.1.now)) result (temporaries_at text.now leaves.now) }
+{
+    let (_bar, rest) = token(&[Kind::Bar], leaves)?;
+    let (names, rest) = all_names(alloc, text, Vec::new(alloc), rest)?;
+    let (_bar, rest) = token(&[Kind::Bar], rest)?;
+    Ok((names, rest))
+}
+
+/// The value of a number's token.
+fn number_of(sort: Sort) -> Signed
+    ensures { result ≡ number_of sort }
+{
+    match sort {
+        Sort::Number(number) => number,
+        _ => Signed {
+            minus: false,
+            size: 0,
+        },
+    }
+}
+
+/// The number of a primitive.
+#[tactic(auto, unfolding(crate::specs::Reading::primitive_at))]
+fn primitive(leaves: &[Leaf]) -> Result<(Signed, &[Leaf]), ReadError>
+    ensures { Gives (λ x. (x.0, x.1.now)) result (primitive_at leaves.now) }
+{
+    let (_less, rest) = token(&[Kind::Less], leaves)?;
+    let (_keyword, rest) = token(&[Kind::Primitive], rest)?;
+    let (number, rest) = token(&[Kind::Number], rest)?;
+    let (_greater, rest) = token(&[Kind::Greater], rest)?;
+    Ok((number_of(number.token.sort), rest))
+}
+
+/// Temporaries, and a primitive if one follows.
+#[tactic(auto, unfolding(crate::specs::Reading::temporaries_first_at))]
+fn temporaries_first<'a>(
+    alloc: Global,
+    text: &[u8],
+    leaves: &'a [Leaf],
+) -> Result<(Options, &'a [Leaf]), ReadError>
+    ensures { Gives (λ x. (options_view x.0, x.1.now)) result (temporaries_first_at text.now leaves.now) }
+{
+    let (temporaries, rest) = temporaries(alloc, text, leaves)?;
+    if starts(&[Kind::Less], rest) {
+        let (number, rest) = primitive(rest)?;
+        let primitive = Some(number);
+        Ok((
+            Options {
+                temporaries,
+                primitive,
+            },
+            rest,
+        ))
+    } else {
+        let primitive = None;
+        Ok((
+            Options {
+                temporaries,
+                primitive,
+            },
+            rest,
+        ))
+    }
+}
+
+/// A primitive, and temporaries if they follow.
+#[tactic(auto, unfolding(crate::specs::Reading::primitive_first_at))]
+fn primitive_first<'a>(
+    alloc: Global,
+    text: &[u8],
+    leaves: &'a [Leaf],
+) -> Result<(Options, &'a [Leaf]), ReadError>
+    ensures { Gives (λ x. (options_view x.0, x.1.now)) result (primitive_first_at text.now leaves.now) }
+{
+    let (number, rest) = primitive(leaves)?;
+    let primitive = Some(number);
+    if starts(&[Kind::Bar], rest) {
+        let (temporaries, rest) = temporaries(alloc, text, rest)?;
+        Ok((
+            Options {
+                temporaries,
+                primitive,
+            },
+            rest,
+        ))
+    } else {
+        let temporaries = Vec::new(alloc);
+        Ok((
+            Options {
+                temporaries,
+                primitive,
+            },
+            rest,
+        ))
+    }
+}
+
+/// Temporaries and a primitive, each optional, in either order.
+#[tactic(auto, unfolding(crate::specs::Reading::options_at))]
+fn any_options<'a>(
+    alloc: Global,
+    text: &[u8],
+    leaves: &'a [Leaf],
+) -> Result<(Options, &'a [Leaf]), ReadError>
+    ensures { Gives (λ x. (options_view x.0, x.1.now)) result (options_at text.now leaves.now) }
+{
+    if starts(&[Kind::Bar], leaves) {
+        temporaries_first(alloc, text, leaves)
+    } else if starts(&[Kind::Less], leaves) {
+        primitive_first(alloc, text, leaves)
+    } else {
+        let temporaries = Vec::new(alloc);
+        let primitive = None;
+        Ok((
+            Options {
+                temporaries,
+                primitive,
+            },
+            leaves,
+        ))
+    }
+}
+
+/// A method, and the leaves behind it.
+#[tactic(auto, unfolding(crate::specs::Reading::method_at))]
+fn method<'a>(
+    alloc: Global,
+    text: &[u8],
+    leaves: &'a [Leaf],
+) -> Result<(MethodTree, &'a [Leaf]), ReadError>
+    ensures { Gives (λ x. (method_view x.0, x.1.now)) result (method_at text.now most leaves.now) }
+{
+    let (pattern, rest) = any_pattern(alloc, text, leaves)?;
+    let (options, rest) = any_options(alloc, text, rest)?;
+    let (body, rest) = statements(alloc, text, MOST, rest)?;
+    let tree = MethodTree {
+        selector: pattern.selector,
+        arguments: pattern.arguments,
+        temporaries: options.temporaries,
+        primitive: options.primitive,
+        body,
+    };
+    Ok((tree, rest))
+}
+
+/// The method that the leaves are, all of them.
+#[tactic(auto, unfolding(crate::specs::Reading::whole_at))]
+pub fn whole(alloc: Global, text: &[u8], leaves: &[Leaf]) -> Result<MethodTree, ReadError>
+    ensures { Gives (λ t. method_view t) result (whole_at text.now most leaves.now) }
+{
+    let (tree, rest) = method(alloc, text, leaves)?;
+    match rest {
+        [] => Ok(tree),
+        _ => Err(ReadError::Fault {
+            cause: Cause::Trailing,
+            left: rest.len(),
+        }),
+    }
+}
