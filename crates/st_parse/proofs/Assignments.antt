@@ -165,10 +165,13 @@ module _ (text : List ℕ) where
       where
         why : Reason (among primary_starts) n (read_cascade m) s.cause t.before t.more t.rest → Reason (among primary_starts) n (read m) s.cause t.before t.more t.rest
         why (inr d) = inr d
-        why (inl (three, w)) = inl (three, record {
-          fails = λ l a. no_target m (t.before ++ l) (alike_target t.before t.rest l (ap first_target (sym t.parts) ∙ e) a w.takes) ∙ w.fails l a;
-          takes = w.takes;
-        })
+        why (inl (three, w)) = inl (
+          three,
+          record {
+            fails = λ l a. no_target m (t.before ++ l) (alike_target t.before t.rest l (ap first_target (sym t.parts) ∙ e) a w.takes) ∙ w.fails l a;
+            takes = w.takes;
+          },
+        )
 
     -- with one more target
     target_told : (x y : Leaf) (ts : List Leaf) (z : Read ExpressionView) → among names x ≡ true → among assignment y ≡ true → is_target x y ≡ true → ExpressionTold ts z → ExpressionTold (x ∷ y ∷ ts) (assigning x z)
@@ -190,6 +193,7 @@ module _ (text : List ℕ) where
         why : Reason (among primary_starts) n (read m) s.cause t.before t.more t.rest → Reason (among primary_starts) n (read m) s.cause (x ∷ y ∷ t.before) t.more t.rest
         why (inl (three, w)) = inl (three, record { fails = λ l a. one_target m x y (t.before ++ l) e ∙ ap (assigning x) (w.fails l a); takes = λ b. omega arith })
         why (inr (six, d)) = inr (six, record { bracket = d.bracket; rest_behind = d.rest_behind; more_behind = d.more_behind; opens = d.opens; rest_is = d.rest_is; more_is = d.more_is; high = λ h. target_flat x y t.before ex ey h ∙ d.high h })
+
         longer : (p : FitExpression text) → expression_text p.0 ≡ t.before ++ t.more → ExpressionTold (x ∷ y ∷ ts) (assigning x (Err s))
         longer (expression xs c, f) begins = record {
           before = x ∷ y ∷ t.before;

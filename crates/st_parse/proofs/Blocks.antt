@@ -232,8 +232,8 @@ module _ (text : List ℕ) where
     unfolding parameters_step
     parameter_reads ns =
         renamed (both (token_reads colon one_parameter.colon (neutral colon refl) n m I.fewer) (one_text {kinds = names}) (λ o c. ns ++ name_at text o.leaf ∷ []) (λ o. nothing) (among names)
-          (λ c ts. token_at names ts >>= λ k. Ok (ns ++ name_at text k.0 ∷ [], k.1)) (λ c ts. token_at names ts >>= λ k. Ok (ns ++ name_at text k.0 ∷ [], k.1))
-          (λ c. mapped (λ k. ns ++ name_at text k ∷ []) (token_reads names one_name (neutral names refl) n m I.fewer)) one_name (among colon) (λ p q l e. first_nothing (one_text q ++ l)) (λ x ts e. inl e) (λ p x e. inl (omega arith)))
+        (λ c ts. token_at names ts >>= λ k. Ok (ns ++ name_at text k.0 ∷ [], k.1)) (λ c ts. token_at names ts >>= λ k. Ok (ns ++ name_at text k.0 ∷ [], k.1))
+        (λ c. mapped (λ k. ns ++ name_at text k ∷ []) (token_reads names one_name (neutral names refl) n m I.fewer)) one_name (among colon) (λ p q l e. first_nothing (one_text q ++ l)) (λ x ts e. inl e) (λ p x e. inl (omega arith)))
         parameter_text (λ p. with_parameter p ns) (λ p. nothing) (λ p. record { colon = p.0; name = p.1 }) (λ p. refl) (λ p. refl) (λ p x. refl) (λ p. (p.colon, p.name)) (λ p. refl) (λ p. refl) (λ p x. refl)
 
     parameters_reads : (ns : List NameView) → Reads parameters_text (λ ps. ns ++ parameters_tree text ps) (λ ps. among colon) (among colon) n m (parameters_at text ns) (parameters_at text ns)
@@ -247,8 +247,8 @@ module _ (text : List ℕ) where
     body_reads ns =
         either (among bar)
         (anyway (among bar) (both (token_reads bar one_bar (neutral bar refl) n m I.fewer) (λ (ss : FitStatements text). statements_text ss.0) (λ ss o. views.block ns (statements_tree text ss.0)) (λ ss. statements_goes text ss.0) nothing
-          (λ o ts. statements_at text (array_at text n) (bracket_at text n) ts >>= λ ss. Ok (views.block ns ss.0, ss.1)) (λ o ts. statements_at text (array_at text m) (bracket_at text m) ts >>= λ ss. Ok (views.block ns ss.0, ss.1))
-          (λ o. mapped (λ ss. views.block ns ss) (statements_reads text n m I)) (no_statements, tt) (among bar) (λ p q l e. first_nothing (statements_text q.0 ++ l)) (λ x ts e. inl e) (λ p x e. inl (omega arith))))
+        (λ o ts. statements_at text (array_at text n) (bracket_at text n) ts >>= λ ss. Ok (views.block ns ss.0, ss.1)) (λ o ts. statements_at text (array_at text m) (bracket_at text m) ts >>= λ ss. Ok (views.block ns ss.0, ss.1))
+        (λ o. mapped (λ ss. views.block ns ss) (statements_reads text n m I)) (no_statements, tt) (among bar) (λ p q l e. first_nothing (statements_text q.0 ++ l)) (λ x ts e. inl e) (λ p x e. inl (omega arith))))
         (pure (views.block ns views.no_statements) nothing n m I.fewer) nothing (λ x e. e) (λ p l. p.0.fits) (λ q x us e. absurd cc) (λ x e f. absurd cc)
 
     argument_reads : Reads {P = Arguments} arguments_text arguments_tree arguments_goes (among colon) n m (argument_block_at text (array_at text n) (bracket_at text n)) (argument_block_at text (array_at text m) (bracket_at text m))
@@ -258,7 +258,7 @@ module _ (text : List ℕ) where
         (λ ns ts. parameters_at text ns ts >>= λ ps. argument_body_at text (array_at text n) (bracket_at text n) ps.0 ps.1)
         (λ ns ts. parameters_at text ns ts >>= λ ps. argument_body_at text (array_at text m) (bracket_at text m) ps.0 ps.1)
         (λ ns. both (parameters_reads ns) body_text (λ b ps. body_tree b ps) body_goes nothing (argument_body_at text (array_at text n) (bracket_at text n)) (argument_body_at text (array_at text m) (bracket_at text m)) body_reads
-          (inr tt) nothing (λ p q l e. between_parameters q l e) (λ x ts e. absurd cc) (λ p x e. absurd cc))
+        (inr tt) nothing (λ p q l e. between_parameters q l e) (λ x ts e. absurd cc) (λ p x e. absurd cc))
         ([], inr tt) (among colon) (λ p q l e. first_nothing (text_both parameters_text body_text q ++ l)) (λ x ts e. inl e) (λ p x e. inl (omega arith))
 
     plain_block_reads : Reads {P = FitStatements text} (λ ss. statements_text ss.0) (λ ss. views.block [] (statements_tree text ss.0)) (λ ss. statements_goes text ss.0) nothing n m (plain_block_at text (array_at text n) (bracket_at text n)) (plain_block_at text (array_at text m) (bracket_at text m))

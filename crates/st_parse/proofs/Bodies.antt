@@ -59,7 +59,7 @@ module _ {B : Type 0} (f : Bool → B) (n m : ℕ) (le : n ≤ m) where
   period_reads =
       agreeing period_reader period_reader same_reader same_reader
       (either (among period) (anyway (among period) (mapped (λ o. f true) (token_reads period (record { leaf = sample Period; fits = refl }) (neutral period refl) n m le))) (pure (f false) nothing n m le) nothing
-        (λ x e. e) (λ p l. p.fits) (λ q x us e. absurd cc) (λ x e g. absurd cc))
+      (λ x e. e) (λ p l. p.fits) (λ q x us e. absurd cc) (λ x e g. absurd cc))
 
 -- STATEMENTS ONE BEHIND ANOTHER
 
@@ -355,8 +355,8 @@ module _ (text : List ℕ) where
     unfolding plain_at
     plain_reads b =
         renamed (both (expression_reads text n m I) period_text (λ q e. period_tree (λ g. body (with_statement b.statements false e) g) q) period_goes nothing
-          (λ e ts. Ok (body (with_statement b.statements false e) (period_at ts).0, (period_at ts).1)) (λ e ts. Ok (body (with_statement b.statements false e) (period_at ts).0, (period_at ts).1))
-          (λ e. period_reads (λ g. body (with_statement b.statements false e) g) n m I.fewer) (inr tt) (among primary_starts) behind_period (λ x ts e. inl e) (λ p x e. inl (expression_some p.0)))
+        (λ e ts. Ok (body (with_statement b.statements false e) (period_at ts).0, (period_at ts).1)) (λ e ts. Ok (body (with_statement b.statements false e) (period_at ts).0, (period_at ts).1))
+        (λ e. period_reads (λ g. body (with_statement b.statements false e) g) n m I.fewer) (inr tt) (among primary_starts) behind_period (λ x ts e. inl e) (λ p x e. inl (expression_some p.0)))
         plain_text (λ s. after_plain s b) (λ s. ending_goes s.0 s.1)
         (λ s. s) (λ s. refl) (λ s. sym (plain_tree_is s (with_statement b.statements false (expression_tree text s.0.0)))) (λ s x. sym (plain_goes_is s x))
         (λ s. s) (λ s. refl) (λ s. plain_tree_is s (with_statement b.statements false (expression_tree text s.0.0))) plain_goes_is
@@ -365,12 +365,12 @@ module _ (text : List ℕ) where
     unfolding returned_at
     returned_reads b =
         renamed (both (token_reads returning (record { leaf = sample Return; fits = refl }) (neutral returning refl) n m I.fewer) plain_text (λ q r. period_tree (λ g. body (with_statement b.statements true (expression_tree text q.0.0)) false) q.1) plain_goes (among primary_starts)
-          (λ r ts. expression_at text (array_at text n) (bracket_at text n) ts >>= λ e. Ok (body (with_statement b.statements true e.0) false, (period_at e.1).1))
-          (λ r ts. expression_at text (array_at text m) (bracket_at text m) ts >>= λ e. Ok (body (with_statement b.statements true e.0) false, (period_at e.1).1))
-          (λ r. both (expression_reads text n m I) period_text (λ q e. period_tree (λ g. body (with_statement b.statements true e) false) q) period_goes nothing
-            (λ e ts. Ok (body (with_statement b.statements true e) false, (period_at ts).1)) (λ e ts. Ok (body (with_statement b.statements true e) false, (period_at ts).1))
-            (λ e. period_reads (λ g. body (with_statement b.statements true e) false) n m I.fewer) (inr tt) (among primary_starts) behind_period (λ x ts e. inl e) (λ p x e. inl (expression_some p.0)))
-          (one_expression, inr tt) (among returning) (λ p q l e. first_nothing (plain_text q ++ l)) (λ x ts e. inl e) (λ p x e. inl (omega arith)))
+        (λ r ts. expression_at text (array_at text n) (bracket_at text n) ts >>= λ e. Ok (body (with_statement b.statements true e.0) false, (period_at e.1).1))
+        (λ r ts. expression_at text (array_at text m) (bracket_at text m) ts >>= λ e. Ok (body (with_statement b.statements true e.0) false, (period_at e.1).1))
+        (λ r. both (expression_reads text n m I) period_text (λ q e. period_tree (λ g. body (with_statement b.statements true e) false) q) period_goes nothing
+        (λ e ts. Ok (body (with_statement b.statements true e) false, (period_at ts).1)) (λ e ts. Ok (body (with_statement b.statements true e) false, (period_at ts).1))
+        (λ e. period_reads (λ g. body (with_statement b.statements true e) false) n m I.fewer) (inr tt) (among primary_starts) behind_period (λ x ts e. inl e) (λ p x e. inl (expression_some p.0)))
+        (one_expression, inr tt) (among returning) (λ p q l e. first_nothing (plain_text q ++ l)) (λ x ts e. inl e) (λ p x e. inl (omega arith)))
         returned_text (λ s. after_returned s b) (λ s. ending_goes s.1.0 s.1.1)
         (λ s. s) (λ s. refl) (λ s. sym (returned_tree_is s.1.1 (with_statement b.statements true (expression_tree text s.1.0.0)))) (λ s x. sym (returned_goes_is s x))
         (λ s. s) (λ s. refl) (λ s. returned_tree_is s.1.1 (with_statement b.statements true (expression_tree text s.1.0.0))) returned_goes_is
@@ -380,7 +380,7 @@ module _ (text : List ℕ) where
     step_reads b =
         weaker (statement_looks b) (λ x e. (and_parts b.goes_on (among statement_starts x) e).1)
         (renamed (either (among returning) (anyway (among returning) (returned_reads b)) (plain_reads b) (among statement_starts) (λ x e. e) (λ p l. p.0.fits) plain_not_returned (λ x e f. covered statement_starts returning primary_starts refl x e f))
-          step_text (λ s. after_step s b) step_goes (λ s. s) text_is (tree_is b) goes_is (λ s. s) (λ s. sym (text_is s)) (λ s. sym (tree_is b s)) (λ s x. sym (goes_is s x)))
+        step_text (λ s. after_step s b) step_goes (λ s. s) text_is (tree_is b) goes_is (λ s. s) (λ s. sym (text_is s)) (λ s. sym (tree_is b s)) (λ s x. sym (goes_is s x)))
 
     pub statements_reads : Reads {P = FitStatements} (λ ss. statements_text ss.0) (λ ss. statements_tree text ss.0) (λ ss. statements_goes ss.0) nothing n m (statements_at text (array_at text n) (bracket_at text n)) (statements_at text (array_at text m) (bracket_at text m))
     unfolding statements_at body_at

@@ -64,10 +64,13 @@ module _ {P A B : Type 0} (opens closes : List Kind) (some_open : One opens) (so
     place = refl;
     begins = refl;
     low = omega arith;
-    why = inl (refl, record {
-      fails = λ l a. ap (λ (r : Read Leaf). r >>= λ o. inner m o.1 >>= λ y. Ok (f o.0 y.0, y.1)) (token_fails opens l (first_alike (among opens) ts l a e));
-      takes = λ t. absurd cc;
-    });
+    why = inl (
+      refl,
+      record {
+        fails = λ l a. ap (λ (r : Read Leaf). r >>= λ o. inner m o.1 >>= λ y. Ok (f o.0 y.0, y.1)) (token_fails opens l (first_alike (among opens) ts l a e));
+        takes = λ t. absurd cc;
+      },
+    );
   }
 
   too_deep : (m : ℕ) (x : Leaf) (ts : List Leaf) → among opens x ≡ true → ToldErr {A = B} bracket_text (among opens) zero (reader m) (x ∷ ts) (record { cause = Deep; left = suc (length ts) })
@@ -146,6 +149,7 @@ module _ {P A B : Type 0} (opens closes : List Kind) (some_open : One opens) (so
       where
         up : highest 0 (x ∷ text t.p) ≤ suc j
         up = omega (arith, highest_inside 0 x (text t.p) (opening x e), highest_up 0 (text t.p), t.low)
+
         err : ToldErr {P = Bracket} {A = B} bracket_text (among opens) (suc j) (reader (suc k)) (x ∷ ts) (record { cause = Expected; left = length rest })
         err = record {
           before = x ∷ text t.p;
@@ -156,13 +160,16 @@ module _ {P A B : Type 0} (opens closes : List Kind) (some_open : One opens) (so
           place = refl;
           begins = refl;
           low = up;
-          why = inl (refl, record {
-            fails = λ l a.
-                opened_suc k x (text t.p ++ l) e
-                ∙ ap (λ (r : Read A). given x (closed r)) (R.again t.p l (first_alike (goes t.p) rest l a (subst (λ (k : List Leaf). first (goes t.p) k ≡ false) at t.stops)) (omega (arith, t.low, R.fewer)))
-                ∙ ap (λ (r : Read Leaf). given x (close_with (tree t.p) r)) (token_fails closes l (first_alike (among closes) rest l a ec));
-            takes = λ b. omega arith;
-          });
+          why = inl (
+            refl,
+            record {
+              fails = λ l a.
+                  opened_suc k x (text t.p ++ l) e
+                  ∙ ap (λ (r : Read A). given x (closed r)) (R.again t.p l (first_alike (goes t.p) rest l a (subst (λ (k : List Leaf). first (goes t.p) k ≡ false) at t.stops)) (omega (arith, t.low, R.fewer)))
+                  ∙ ap (λ (r : Read Leaf). given x (close_with (tree t.p) r)) (token_fails closes l (first_alike (among closes) rest l a ec));
+              takes = λ b. omega arith;
+            },
+          );
         }
 
     body_told : (x : Leaf) (e : among opens x ≡ true) (ts : List Leaf) (z : Read A) → Told text tree goes begin j (body k) ts z
@@ -181,19 +188,25 @@ module _ {P A B : Type 0} (opens closes : List Kind) (some_open : One opens) (so
     }
       where
         why : Reason begin j (body k) s.cause t.before t.more t.rest → Reason (among opens) (suc j) (reader (suc k)) s.cause (x ∷ t.before) (t.more ++ some_close.leaf ∷ []) t.rest
-        why (inl (three, w)) = inl (three, record {
-          fails = λ l a. opened_suc k x (t.before ++ l) e ∙ ap (λ (r : Read A). given x (closed r)) (w.fails l a);
-          takes = λ b. omega arith;
-        })
-        why (inr (six, d)) = inr (six, record {
-          bracket = d.bracket;
-          rest_behind = d.rest_behind;
-          more_behind = d.more_behind ++ some_close.leaf ∷ [];
-          opens = d.opens;
-          rest_is = d.rest_is;
-          more_is = ap (λ (l : List Leaf). l ++ some_close.leaf ∷ []) d.more_is;
-          high = λ h. height_inside h x t.before (opening x e) ∙ d.high (h + 1) ∙ omega arith;
-        })
+        why (inl (three, w)) = inl (
+          three,
+          record {
+            fails = λ l a. opened_suc k x (t.before ++ l) e ∙ ap (λ (r : Read A). given x (closed r)) (w.fails l a);
+            takes = λ b. omega arith;
+          },
+        )
+        why (inr (six, d)) = inr (
+          six,
+          record {
+            bracket = d.bracket;
+            rest_behind = d.rest_behind;
+            more_behind = d.more_behind ++ some_close.leaf ∷ [];
+            opens = d.opens;
+            rest_is = d.rest_is;
+            more_is = ap (λ (l : List Leaf). l ++ some_close.leaf ∷ []) d.more_is;
+            high = λ h. height_inside h x t.before (opening x e) ∙ d.high (h + 1) ∙ omega arith;
+          },
+        )
 
     suc_told : (ts : List Leaf) (b : Bool) → first (among opens) ts ≡ b → Told {P = Bracket} {A = B} bracket_text bracket_tree (λ b. nothing) (among opens) (suc j) (reader (suc k)) ts (reader (suc j) ts)
     suc_told [] b e = not_opened (suc j) (suc k) [] refl

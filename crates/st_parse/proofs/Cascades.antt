@@ -53,6 +53,7 @@ starts_tail x e = elim (cases_Bool (among keywords x)) [
     left : (a b : Bool) → a ≡ true → (a || b) ≡ true
     left true b e = refl
     left false b e = absurd cc
+
     right : (a b : Bool) → b ≡ true → (a || b) ≡ true
     right true b e = refl
     right false b e = e
@@ -258,10 +259,10 @@ module _ (text : List ℕ) where
   message_goes_to (inr (inl o)) x = sym (or_false (among names x || (is_nil (unary_text o.1.0) && false)) ∙ or_and_false (among names x) (is_nil (unary_text o.1.0)))
   message_goes_to (inr (inr k)) x =
       sym (
-        or_false ((((among keywords x || parts_last k.1.0 x) || (is_nil (parts_text k.1.0) && binary_goes text x)) || false))
-            ∙ or_false ((among keywords x || parts_last k.1.0 x) || (is_nil (parts_text k.1.0) && binary_goes text x))
-            ∙ or_assoc text (among keywords x) (parts_last k.1.0 x) (is_nil (parts_text k.1.0) && binary_goes text x)
-            ∙ ap (λ (b : Bool). among keywords x || b) (parts_goes k.1.0 x)
+      or_false ((((among keywords x || parts_last k.1.0 x) || (is_nil (parts_text k.1.0) && binary_goes text x)) || false))
+      ∙ or_false ((among keywords x || parts_last k.1.0 x) || (is_nil (parts_text k.1.0) && binary_goes text x))
+      ∙ or_assoc text (among keywords x) (parts_last k.1.0 x) (is_nil (parts_text k.1.0) && binary_goes text x)
+      ∙ ap (λ (b : Bool). among keywords x || b) (parts_goes k.1.0 x)
       )
 
   message_text_from : (f : FitMessage) → message_sum_text (from_message f) ≡ message_text f.0
@@ -562,11 +563,11 @@ module _ (text : List ℕ) where
     unfolding parts_step
     part_reads s =
         renamed (both (token_reads keywords one_keyword (neutral keywords refl) n m I.fewer) (λ (b : FitBinary text). binary_text b.0)
-          (λ b k. let p : PartsView = record { selector = s.selector ++ bytes text k; arguments = with_expression s.arguments (binary_tree text b.0) } in p) (λ b. binary_goes text) (among primary_starts)
-          (λ k ts. binary_at text (array_at text n) (bracket_at text n) ts >>= λ b. Ok (record { selector = s.selector ++ bytes text k; arguments = with_expression s.arguments b.0 }, b.1))
-          (λ k ts. binary_at text (array_at text m) (bracket_at text m) ts >>= λ b. Ok (record { selector = s.selector ++ bytes text k; arguments = with_expression s.arguments b.0 }, b.1))
-          (λ k. mapped (λ b. record { selector = s.selector ++ bytes text k; arguments = with_expression s.arguments b }) (binary_reads text n m I))
-          one_binary (among keywords) (λ p q l e. first_nothing (binary_text q.0 ++ l)) (λ x ts e. inl e) (λ p x e. inl (omega arith)))
+        (λ b k. let p : PartsView = record { selector = s.selector ++ bytes text k; arguments = with_expression s.arguments (binary_tree text b.0) } in p) (λ b. binary_goes text) (among primary_starts)
+        (λ k ts. binary_at text (array_at text n) (bracket_at text n) ts >>= λ b. Ok (record { selector = s.selector ++ bytes text k; arguments = with_expression s.arguments b.0 }, b.1))
+        (λ k ts. binary_at text (array_at text m) (bracket_at text m) ts >>= λ b. Ok (record { selector = s.selector ++ bytes text k; arguments = with_expression s.arguments b.0 }, b.1))
+        (λ k. mapped (λ b. record { selector = s.selector ++ bytes text k; arguments = with_expression s.arguments b }) (binary_reads text n m I))
+        one_binary (among keywords) (λ p q l e. first_nothing (binary_text q.0 ++ l)) (λ x ts e. inl e) (λ p x e. inl (omega arith)))
         (λ k. k.0.leaf ∷ binary_text k.1.0) (λ k. with_part k s) (λ k. binary_goes text)
         (λ k. k) (λ k. refl) (λ k. refl) (λ k x. sym (or_and_false (binary_goes text x) (is_nil (binary_text k.1.0)))) (λ k. k) (λ k. refl) (λ k. refl) (λ k x. or_and_false (binary_goes text x) (is_nil (binary_text k.1.0)))
 
@@ -602,14 +603,14 @@ module _ (text : List ℕ) where
     unfolding messages_at any_tail_goes
     messages_reads t =
         renamed (both (names_reads text n m I t) (text_both (λ (os : FitOperations text). operations_text os.0) (λ (ks : FitParts). parts_text ks.0)) (λ q u. sent_if (after_operations text u q.0.0) (selector_of text q.1.0) (arguments_of text q.1.0)) rest_goes (among rest_starts)
-          (λ u ts. operations_at text (array_at text n) (bracket_at text n) u ts >>= λ b. keyword_at text (array_at text n) (bracket_at text n) b.0 b.1)
-          (λ u ts. operations_at text (array_at text m) (bracket_at text m) u ts >>= λ b. keyword_at text (array_at text m) (bracket_at text m) b.0 b.1)
-          rest_reads ((no_operations, tt), (no_parts, tt)) (among message_starts) (λ p q l e. between_names q l e)
-          (λ x ts e. elim (cases_Bool (among names x)) [
-            | inl o ↦ inl o
-            | inr o ↦ inr (λ s was. let no = names_go t x ts o in absurd cc)
-          ])
-          takes_names)
+        (λ u ts. operations_at text (array_at text n) (bracket_at text n) u ts >>= λ b. keyword_at text (array_at text n) (bracket_at text n) b.0 b.1)
+        (λ u ts. operations_at text (array_at text m) (bracket_at text m) u ts >>= λ b. keyword_at text (array_at text m) (bracket_at text m) b.0 b.1)
+        rest_reads ((no_operations, tt), (no_parts, tt)) (among message_starts) (λ p q l e. between_names q l e)
+        (λ x ts e. elim (cases_Bool (among names x)) [
+          | inl o ↦ inl o
+          | inr o ↦ inr (λ s was. let no = names_go t x ts o in absurd cc)
+        ])
+        takes_names)
         tail_text (λ q. tail_tree q t) (λ q. tail_goes) (λ q. q) (λ q. refl) (λ q. refl) (λ q x. sym (goes_tail q x)) (λ q. q) (λ q. refl) (λ q. refl) goes_tail
 
     -- MESSAGES OF A CASCADE
@@ -646,16 +647,16 @@ module _ (text : List ℕ) where
     unfolding message_at message_sum_goes
     message_reads t =
         renamed (either (among names) (anyway (among names) (unary_message_reads t))
-          (either (among operators) (anyway (among operators) (binary_message_reads t)) (keyword_message_reads t) nothing (λ x e. e) (λ p l. p.0.fits) not_operators (λ x e f. absurd cc))
-          nothing (λ x e. e) (λ p l. p.fits) not_names (λ x e f. absurd cc))
+        (either (among operators) (anyway (among operators) (binary_message_reads t)) (keyword_message_reads t) nothing (λ x e. e) (λ p l. p.0.fits) not_operators (λ x e f. absurd cc))
+        nothing (λ x e. e) (λ p l. p.fits) not_names (λ x e f. absurd cc))
         (λ k. message_text k.0) (λ k. with_one text t k.0) (λ k. message_goes k.0) to_message message_text_to (message_tree_to t) message_goes_to from_message message_text_from (message_tree_from t) message_goes_from
 
     pub cascade_step_reads : (t : ExpressionView) → Reads {P = CascadePair} (λ c. c.0.leaf ∷ message_text c.1.0) (λ c. with_one text t c.1.0) (λ c. message_goes c.1.0) (among semicolon) n m (cascade_step text (array_at text n) (bracket_at text n) t) (cascade_step text (array_at text m) (bracket_at text m) t)
     unfolding cascade_step
     cascade_step_reads t =
         renamed (both (token_reads semicolon one_semicolon (neutral semicolon refl) n m I.fewer) (λ (k : FitMessage). message_text k.0) (λ k s. with_one text t k.0) (λ k. message_goes k.0) nothing
-          (λ s ts. message_at text (array_at text n) (bracket_at text n) t ts) (λ s ts. message_at text (array_at text m) (bracket_at text m) t ts) (λ s. message_reads t)
-          (unary_message one_name, tt) (among semicolon) (λ p q l e. first_nothing (message_text q.0 ++ l)) (λ x ts e. inl e) (λ p x e. inl (omega arith)))
+        (λ s ts. message_at text (array_at text n) (bracket_at text n) t ts) (λ s ts. message_at text (array_at text m) (bracket_at text m) t ts) (λ s. message_reads t)
+        (unary_message one_name, tt) (among semicolon) (λ p q l e. first_nothing (message_text q.0 ++ l)) (λ x ts e. inl e) (λ p x e. inl (omega arith)))
         (λ c. c.0.leaf ∷ message_text c.1.0) (λ c. with_one text t c.1.0) (λ c. message_goes c.1.0)
         (λ c. c) (λ c. refl) (λ c. refl) (λ c x. sym (or_and_false (message_goes c.1.0 x) (is_nil (message_text c.1.0)))) (λ c. c) (λ c. refl) (λ c. refl) (λ c x. or_and_false (message_goes c.1.0 x) (is_nil (message_text c.1.0)))
 

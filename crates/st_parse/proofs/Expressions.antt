@@ -83,7 +83,7 @@ module _ (text : List ℕ) where
   sum_goes =
       goes_either (among names) (λ o. nothing) (text_either (one_text {kinds = constants}) (text_either (array_text {ks = hash_open}) (text_either block_bracket_text group_bracket_text)))
       (goes_either (among constants) (λ o. nothing) (text_either (array_text {ks = hash_open}) (text_either block_bracket_text group_bracket_text))
-        (goes_either (among hash_open) (λ o. nothing) (text_either block_bracket_text group_bracket_text) (goes_either (among (OpenBlock ∷ [])) (λ o. nothing) group_bracket_text (λ b. nothing))))
+      (goes_either (among hash_open) (λ o. nothing) (text_either block_bracket_text group_bracket_text) (goes_either (among (OpenBlock ∷ [])) (λ o. nothing) group_bracket_text (λ b. nothing))))
 
   abbrev to : PrimarySum → FitPrimary
   to (inl o) = (name o, tt)
@@ -247,7 +247,7 @@ module _ (text : List ℕ) where
     where
       uncons : (t : ExpressionView) (os : Operations) → OperationsFit text os → ((operations_text os ≡ []) × (after_operations text t os ≡ t))
           ⊎ IsMore (λ (t : ExpressionView). among operators) (λ (o : One operators × FitUnary). o.0.leaf ∷ unary_text o.1.0) (λ o t. sent t (bytes text o.0.leaf) (views.expression (unary_tree text o.1.0) views.no_expressions)) (λ o. among names)
-              (λ t os. OperationsFit text os) operations_text (λ os t. after_operations text t os) operations_last t os
+          (λ t os. OperationsFit text os) operations_text (λ os t. after_operations text t os) operations_last t os
       uncons t no_operations v = inl (refl, refl)
       uncons t (operation o u os) v = inr (record {
         p = (o, (u, v.0));
@@ -337,12 +337,12 @@ module _ (text : List ℕ) where
     unfolding primary_at sum_goes
     primary_reads =
         renamed (either (among names) (anyway (among names) name_reads)
-          (either (among constants) (anyway (among constants) literal_reads)
-            (either (among hash_open) (anyway (among hash_open) array_primary_reads)
-              (either (among (OpenBlock ∷ [])) (anyway (among (OpenBlock ∷ [])) I.blocks) I.groups (among after_array) (λ x e. e) (λ p l. p.0.fits) others4 (λ x e f. covered after_array (OpenBlock ∷ []) (Open ∷ []) refl x e f))
-              (among after_constant) (λ x e. e) (λ p l. p.0.fits) others3 (λ x e f. covered after_constant hash_open after_array refl x e f))
-            (among after_name) (λ x e. e) (λ p l. p.fits) others2 (λ x e f. covered after_name constants after_constant refl x e f))
-          (among primary_starts) (λ x e. e) (λ p l. p.fits) others1 (λ x e f. covered primary_starts names after_name refl x e f))
+        (either (among constants) (anyway (among constants) literal_reads)
+        (either (among hash_open) (anyway (among hash_open) array_primary_reads)
+        (either (among (OpenBlock ∷ [])) (anyway (among (OpenBlock ∷ [])) I.blocks) I.groups (among after_array) (λ x e. e) (λ p l. p.0.fits) others4 (λ x e f. covered after_array (OpenBlock ∷ []) (Open ∷ []) refl x e f))
+        (among after_constant) (λ x e. e) (λ p l. p.0.fits) others3 (λ x e f. covered after_constant hash_open after_array refl x e f))
+        (among after_name) (λ x e. e) (λ p l. p.fits) others2 (λ x e f. covered after_name constants after_constant refl x e f))
+        (among primary_starts) (λ x e. e) (λ p l. p.fits) others1 (λ x e f. covered primary_starts names after_name refl x e f))
         (λ p. primary_text p.0) (λ p. primary_tree text p.0) (λ p. nothing) to text_to tree_to no_goes from text_from tree_from (λ p x. sym (no_goes (from p) x))
 
     pub names_reads : (t : ExpressionView) → Reads (ones_text {kinds = names}) (λ l. after_names text t l) (λ l. among names) (among names) n m (names_at text t) (names_at text t)
@@ -372,10 +372,10 @@ module _ (text : List ℕ) where
     unfolding operations_step
     operation_reads t =
         renamed (both (token_reads operators one_operator (neutral operators refl) n m I.fewer) (λ (u : FitUnary). unary_text u.0) (λ u o. sent t (bytes text o) (views.expression (unary_tree text u.0) views.no_expressions)) (λ u. among names) (among primary_starts)
-          (λ o ts. unary_at text (array_at text n) (bracket_at text n) ts >>= λ u. Ok (sent t (bytes text o) (views.expression u.0 views.no_expressions), u.1))
-          (λ o ts. unary_at text (array_at text m) (bracket_at text m) ts >>= λ u. Ok (sent t (bytes text o) (views.expression u.0 views.no_expressions), u.1))
-          (λ o. mapped (λ u. sent t (bytes text o) (views.expression u views.no_expressions)) unary_reads)
-          one_unary (among operators) (λ p q l e. first_nothing (unary_text q.0 ++ l)) (λ x ts e. inl e) (λ p x e. inl (omega arith)))
+        (λ o ts. unary_at text (array_at text n) (bracket_at text n) ts >>= λ u. Ok (sent t (bytes text o) (views.expression u.0 views.no_expressions), u.1))
+        (λ o ts. unary_at text (array_at text m) (bracket_at text m) ts >>= λ u. Ok (sent t (bytes text o) (views.expression u.0 views.no_expressions), u.1))
+        (λ o. mapped (λ u. sent t (bytes text o) (views.expression u views.no_expressions)) unary_reads)
+        one_unary (among operators) (λ p q l e. first_nothing (unary_text q.0 ++ l)) (λ x ts e. inl e) (λ p x e. inl (omega arith)))
         (λ o. o.0.leaf ∷ unary_text o.1.0) (λ o. sent t (bytes text o.0.leaf) (views.expression (unary_tree text o.1.0) views.no_expressions)) (λ o. among names)
         (λ o. o) (λ o. refl) (λ o. refl) (λ o x. sym (or_and_false (among names x) (is_nil (unary_text o.1.0)))) (λ o. o) (λ o. refl) (λ o. refl) (λ o x. or_and_false (among names x) (is_nil (unary_text o.1.0)))
 

@@ -179,8 +179,8 @@ module _ (text : List ℕ) where
   unfolding element_at goes_sum
   element_reads n m le R =
       renamed (either (among plain_elements) (anyway (among plain_elements) (constant_reads plain_elements one_plain n m le refl))
-        (either (among first_keywords) (anyway (among first_keywords) (keyword_symbol_reads n m le)) R (among (first_keywords ++ any_open)) (λ x e. e) (λ p l. p.0.fits) array_not (λ x e f. covered (first_keywords ++ any_open) first_keywords any_open refl x e f))
-        (among element_starts) (λ x e. e) (λ p l. p.fits) starts_not (λ x e f. covered element_starts plain_elements (first_keywords ++ any_open) refl x e f))
+      (either (among first_keywords) (anyway (among first_keywords) (keyword_symbol_reads n m le)) R (among (first_keywords ++ any_open)) (λ x e. e) (λ p l. p.0.fits) array_not (λ x e f. covered (first_keywords ++ any_open) first_keywords any_open refl x e f))
+      (among element_starts) (λ x e. e) (λ p l. p.fits) starts_not (λ x e f. covered element_starts plain_elements (first_keywords ++ any_open) refl x e f))
       element_text (element_tree text) element_goes to text_to tree_to goes_to from text_from tree_from goes_from
 
   elements_repeat : IsRepeat (λ (b : ElementsView). among element_starts) element_text (λ e es. with_element es (element_tree text e)) element_goes (λ b k. Unit {0}) elements_text (λ l es. appended es (elements_tree text l)) elements_last

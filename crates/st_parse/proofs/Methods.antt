@@ -344,6 +344,7 @@ module _ (text : List ℕ) where
       not_start (with_primitive p) x s = apart statement_starts bar refl x s
       not_start (temporaries_first t p) x s = refl
       not_start (primitive_first p t) x s = refl
+
       go : (us : List Leaf) → us ≡ statements_text ss.0 → first (options_goes o) (us ++ l) ≡ false
       go [] is = e
       go (u ∷ us) is = not_start o u (statement_begins text ss.0 u us (sym is))
@@ -353,8 +354,8 @@ module _ (text : List ℕ) where
     unfolding pattern_step
     pattern_step_reads p =
         renamed (both (token_reads keywords one_keyword (neutral keywords refl) n m I.fewer) (one_text {kinds = names}) (λ o k. pattern_view (p.selector ++ bytes text k) (p.arguments ++ name_at text o.leaf ∷ [])) (λ o. nothing) (among names)
-          (λ k ts. token_at names ts >>= λ o. Ok (pattern_view (p.selector ++ bytes text k) (p.arguments ++ name_at text o.0 ∷ []), o.1)) (λ k ts. token_at names ts >>= λ o. Ok (pattern_view (p.selector ++ bytes text k) (p.arguments ++ name_at text o.0 ∷ []), o.1))
-          (λ k. mapped (λ o. pattern_view (p.selector ++ bytes text k) (p.arguments ++ name_at text o ∷ [])) (token_reads names one_name (neutral names refl) n m I.fewer)) one_name (among keywords) (λ p q l e. first_nothing (one_text q ++ l)) (λ x ts e. inl e) (λ p x e. inl (omega arith)))
+        (λ k ts. token_at names ts >>= λ o. Ok (pattern_view (p.selector ++ bytes text k) (p.arguments ++ name_at text o.0 ∷ []), o.1)) (λ k ts. token_at names ts >>= λ o. Ok (pattern_view (p.selector ++ bytes text k) (p.arguments ++ name_at text o.0 ∷ []), o.1))
+        (λ k. mapped (λ o. pattern_view (p.selector ++ bytes text k) (p.arguments ++ name_at text o ∷ [])) (token_reads names one_name (neutral names refl) n m I.fewer)) one_name (among keywords) (λ p q l e. first_nothing (one_text q ++ l)) (λ x ts e. inl e) (λ p x e. inl (omega arith)))
         keyword_name_text (λ k. with_keyword k p) (λ k. nothing) (λ k. record { keyword = k.0; name = k.1 }) (λ k. refl) (λ k. refl) (λ k x. refl) (λ k. (k.keyword, k.name)) (λ k. refl) (λ k. refl) (λ k x. refl)
 
     keyword_names_reads : (p : PatternView) → Reads keyword_names_text (λ ks. with_keywords ks p) (λ ks. among keywords) (among keywords) n m (keyword_names_at text p) (keyword_names_at text p)
@@ -398,10 +399,10 @@ module _ (text : List ℕ) where
     unfolding temporaries_at
     temporaries_reads =
         renamed (both (token_reads bar one_bar (neutral bar refl) n m I.fewer) (text_both (ones_text {kinds = names}) (one_text {kinds = bar})) (λ q o. names_of text q.0) (goes_both (λ (l : List (One names)). among names) (one_text {kinds = bar}) (λ c. nothing)) nothing
-          (λ o ts. name_list_at text [] ts >>= λ ns. token_at bar ns.1 >>= λ c. Ok (ns.0, c.1)) (λ o ts. name_list_at text [] ts >>= λ ns. token_at bar ns.1 >>= λ c. Ok (ns.0, c.1))
-          (λ o. both (name_list_reads []) (one_text {kinds = bar}) (λ c ns. ns) (λ c. nothing) (among bar) (λ ns ts. token_at bar ts >>= λ c. Ok (ns, c.1)) (λ ns ts. token_at bar ts >>= λ c. Ok (ns, c.1))
-            (λ ns. mapped (λ c. ns) (token_reads bar one_bar (neutral bar refl) n m I.fewer)) one_bar nothing (λ p q l e. apart bar names refl q.leaf q.fits) (λ x ts e. absurd cc) (λ p x e. absurd cc))
-          ([], one_bar) (among bar) (λ p q l e. first_nothing (text_both (ones_text {kinds = names}) (one_text {kinds = bar}) q ++ l)) (λ x ts e. inl e) (λ p x e. inl (omega arith)))
+        (λ o ts. name_list_at text [] ts >>= λ ns. token_at bar ns.1 >>= λ c. Ok (ns.0, c.1)) (λ o ts. name_list_at text [] ts >>= λ ns. token_at bar ns.1 >>= λ c. Ok (ns.0, c.1))
+        (λ o. both (name_list_reads []) (one_text {kinds = bar}) (λ c ns. ns) (λ c. nothing) (among bar) (λ ns ts. token_at bar ts >>= λ c. Ok (ns, c.1)) (λ ns ts. token_at bar ts >>= λ c. Ok (ns, c.1))
+        (λ ns. mapped (λ c. ns) (token_reads bar one_bar (neutral bar refl) n m I.fewer)) one_bar nothing (λ p q l e. apart bar names refl q.leaf q.fits) (λ x ts e. absurd cc) (λ p x e. absurd cc))
+        ([], one_bar) (among bar) (λ p q l e. first_nothing (text_both (ones_text {kinds = names}) (one_text {kinds = bar}) q ++ l)) (λ x ts e. inl e) (λ p x e. inl (omega arith)))
         temporaries_text (λ t. names_of text t.inside) (λ t. nothing)
         (λ t. record { open_bar = t.0; inside = t.1.0; close_bar = t.1.1 }) (λ t. refl) (λ t. refl) (λ t x. sym (and_false (is_nil (ones_text t.1.0 ++ t.1.1.leaf ∷ [])))) (λ t. (t.open_bar, (t.inside, t.close_bar))) (λ t. refl) (λ t. refl) (λ t x. and_false (is_nil (ones_text t.inside ++ t.close_bar.leaf ∷ [])))
 
@@ -409,14 +410,14 @@ module _ (text : List ℕ) where
     unfolding primitive_at
     primitive_reads =
         renamed (both (token_reads less one_less (neutral less refl) n m I.fewer) (text_both (one_text {kinds = Primitive ∷ []}) (text_both (one_text {kinds = Number ∷ []}) (one_text {kinds = Greater ∷ []}))) (λ q o. number_of q.1.0.leaf.token.sort) (λ q. nothing) nothing
-          (λ l ts. token_at (Primitive ∷ []) ts >>= λ k. token_at (Number ∷ []) k.1 >>= λ v. token_at (Greater ∷ []) v.1 >>= λ g. Ok (number_of v.0.token.sort, g.1)) (λ l ts. token_at (Primitive ∷ []) ts >>= λ k. token_at (Number ∷ []) k.1 >>= λ v. token_at (Greater ∷ []) v.1 >>= λ g. Ok (number_of v.0.token.sort, g.1))
-          (λ l. both (token_reads (Primitive ∷ []) one_primitive (neutral (Primitive ∷ []) refl) n m I.fewer) (text_both (one_text {kinds = Number ∷ []}) (one_text {kinds = Greater ∷ []})) (λ q o. number_of q.0.leaf.token.sort) (λ q. nothing) nothing
-            (λ k ts. token_at (Number ∷ []) ts >>= λ v. token_at (Greater ∷ []) v.1 >>= λ g. Ok (number_of v.0.token.sort, g.1)) (λ k ts. token_at (Number ∷ []) ts >>= λ v. token_at (Greater ∷ []) v.1 >>= λ g. Ok (number_of v.0.token.sort, g.1))
-            (λ k. both (token_reads (Number ∷ []) one_number (neutral (Number ∷ []) refl) n m I.fewer) (one_text {kinds = Greater ∷ []}) (λ g v. number_of v.token.sort) (λ g. nothing) nothing
-              (λ v ts. token_at (Greater ∷ []) ts >>= λ g. Ok (number_of v.token.sort, g.1)) (λ v ts. token_at (Greater ∷ []) ts >>= λ g. Ok (number_of v.token.sort, g.1))
-              (λ v. mapped (λ g. number_of v.token.sort) (weaker nothing (λ x e. absurd cc) (token_reads (Greater ∷ []) one_greater (neutral (Greater ∷ []) refl) n m I.fewer))) one_greater nothing (λ p q l e. first_nothing (one_text q ++ l)) (λ x ts e. absurd cc) (λ p x e. absurd cc))
-            (one_number, one_greater) nothing (λ p q l e. first_nothing (text_both one_text one_text q ++ l)) (λ x ts e. absurd cc) (λ p x e. absurd cc))
-          (one_primitive, (one_number, one_greater)) (among less) (λ p q l e. first_nothing (text_both one_text (text_both one_text one_text) q ++ l)) (λ x ts e. inl e) (λ p x e. inl (omega arith)))
+        (λ l ts. token_at (Primitive ∷ []) ts >>= λ k. token_at (Number ∷ []) k.1 >>= λ v. token_at (Greater ∷ []) v.1 >>= λ g. Ok (number_of v.0.token.sort, g.1)) (λ l ts. token_at (Primitive ∷ []) ts >>= λ k. token_at (Number ∷ []) k.1 >>= λ v. token_at (Greater ∷ []) v.1 >>= λ g. Ok (number_of v.0.token.sort, g.1))
+        (λ l. both (token_reads (Primitive ∷ []) one_primitive (neutral (Primitive ∷ []) refl) n m I.fewer) (text_both (one_text {kinds = Number ∷ []}) (one_text {kinds = Greater ∷ []})) (λ q o. number_of q.0.leaf.token.sort) (λ q. nothing) nothing
+        (λ k ts. token_at (Number ∷ []) ts >>= λ v. token_at (Greater ∷ []) v.1 >>= λ g. Ok (number_of v.0.token.sort, g.1)) (λ k ts. token_at (Number ∷ []) ts >>= λ v. token_at (Greater ∷ []) v.1 >>= λ g. Ok (number_of v.0.token.sort, g.1))
+        (λ k. both (token_reads (Number ∷ []) one_number (neutral (Number ∷ []) refl) n m I.fewer) (one_text {kinds = Greater ∷ []}) (λ g v. number_of v.token.sort) (λ g. nothing) nothing
+        (λ v ts. token_at (Greater ∷ []) ts >>= λ g. Ok (number_of v.token.sort, g.1)) (λ v ts. token_at (Greater ∷ []) ts >>= λ g. Ok (number_of v.token.sort, g.1))
+        (λ v. mapped (λ g. number_of v.token.sort) (weaker nothing (λ x e. absurd cc) (token_reads (Greater ∷ []) one_greater (neutral (Greater ∷ []) refl) n m I.fewer))) one_greater nothing (λ p q l e. first_nothing (one_text q ++ l)) (λ x ts e. absurd cc) (λ p x e. absurd cc))
+        (one_number, one_greater) nothing (λ p q l e. first_nothing (text_both one_text one_text q ++ l)) (λ x ts e. absurd cc) (λ p x e. absurd cc))
+        (one_primitive, (one_number, one_greater)) (among less) (λ p q l e. first_nothing (text_both one_text (text_both one_text one_text) q ++ l)) (λ x ts e. inl e) (λ p x e. inl (omega arith)))
         primitive_text (primitive_number text) (λ p. nothing)
         (λ p. record { less = p.0; keyword = p.1.0; number = p.1.1.0; greater = p.1.1.1 }) (λ p. refl) (λ p. refl) (λ p x. refl) (λ p. (p.less, (p.keyword, (p.number, p.greater)))) (λ p. refl) (λ p. refl) (λ p x. refl)
 
@@ -442,8 +443,8 @@ module _ (text : List ℕ) where
     unfolding options_at options_sum_goes
     options_reads =
         renamed (either (among bar) (anyway (among bar) temporaries_first_reads)
-          (either (among less) (anyway (among less) primitive_first_reads) (pure (options_view [] None) nothing n m I.fewer) nothing (λ x e. e) (λ p l. p.0.less.fits) (λ q x us e. absurd cc) (λ x e f. absurd cc))
-          nothing (λ x e. e) (λ t l. t.0.open_bar.fits) not_bar (λ x e f. absurd cc))
+        (either (among less) (anyway (among less) primitive_first_reads) (pure (options_view [] None) nothing n m I.fewer) nothing (λ x e. e) (λ p l. p.0.less.fits) (λ q x us e. absurd cc) (λ x e f. absurd cc))
+        nothing (λ x e. e) (λ t l. t.0.open_bar.fits) not_bar (λ x e f. absurd cc))
         options_text options_tree options_goes to_options options_text_to options_tree_to options_goes_to from_options options_text_from options_tree_from options_goes_from
 
     -- METHODS
@@ -452,13 +453,13 @@ module _ (text : List ℕ) where
     unfolding method_at method_goes
     method_reads =
         renamed (both pattern_reads (text_both options_text (λ (ss : FitStatements text). statements_text ss.0))
-          (λ q p. let v : MethodView = record { selector = p.selector; arguments = p.arguments; temporaries = options_temporaries text q.0; primitive = options_primitive text q.0; body = statements_tree text q.1.0 } in v) rest_goes nothing
-          (λ p ts. options_at text ts >>= λ o. statements_at text (array_at text n) (bracket_at text n) o.1 >>= λ ss. Ok (record { selector = p.selector; arguments = p.arguments; temporaries = o.0.temporaries; primitive = o.0.primitive; body = ss.0 }, ss.1))
-          (λ p ts. options_at text ts >>= λ o. statements_at text (array_at text m) (bracket_at text m) o.1 >>= λ ss. Ok (record { selector = p.selector; arguments = p.arguments; temporaries = o.0.temporaries; primitive = o.0.primitive; body = ss.0 }, ss.1))
-          (λ p. both options_reads (λ (ss : FitStatements text). statements_text ss.0) (λ ss o. let v : MethodView = record { selector = p.selector; arguments = p.arguments; temporaries = o.temporaries; primitive = o.primitive; body = statements_tree text ss.0 } in v) (λ ss. statements_goes text ss.0) nothing
-            (λ o ts. statements_at text (array_at text n) (bracket_at text n) ts >>= λ ss. Ok (record { selector = p.selector; arguments = p.arguments; temporaries = o.temporaries; primitive = o.primitive; body = ss.0 }, ss.1))
-            (λ o ts. statements_at text (array_at text m) (bracket_at text m) ts >>= λ ss. Ok (record { selector = p.selector; arguments = p.arguments; temporaries = o.temporaries; primitive = o.primitive; body = ss.0 }, ss.1))
-            (λ o. mapped (λ ss. let v : MethodView = record { selector = p.selector; arguments = p.arguments; temporaries = o.temporaries; primitive = o.primitive; body = ss } in v) (statements_reads text n m I)) (no_statements, tt) nothing between_options (λ x ts e. absurd cc) (λ p x e. absurd cc))
-          (no_options, (no_statements, tt)) nothing between_pattern (λ x ts e. absurd cc) (λ p x e. absurd cc))
+        (λ q p. let v : MethodView = record { selector = p.selector; arguments = p.arguments; temporaries = options_temporaries text q.0; primitive = options_primitive text q.0; body = statements_tree text q.1.0 } in v) rest_goes nothing
+        (λ p ts. options_at text ts >>= λ o. statements_at text (array_at text n) (bracket_at text n) o.1 >>= λ ss. Ok (record { selector = p.selector; arguments = p.arguments; temporaries = o.0.temporaries; primitive = o.0.primitive; body = ss.0 }, ss.1))
+        (λ p ts. options_at text ts >>= λ o. statements_at text (array_at text m) (bracket_at text m) o.1 >>= λ ss. Ok (record { selector = p.selector; arguments = p.arguments; temporaries = o.0.temporaries; primitive = o.0.primitive; body = ss.0 }, ss.1))
+        (λ p. both options_reads (λ (ss : FitStatements text). statements_text ss.0) (λ ss o. let v : MethodView = record { selector = p.selector; arguments = p.arguments; temporaries = o.temporaries; primitive = o.primitive; body = statements_tree text ss.0 } in v) (λ ss. statements_goes text ss.0) nothing
+        (λ o ts. statements_at text (array_at text n) (bracket_at text n) ts >>= λ ss. Ok (record { selector = p.selector; arguments = p.arguments; temporaries = o.temporaries; primitive = o.primitive; body = ss.0 }, ss.1))
+        (λ o ts. statements_at text (array_at text m) (bracket_at text m) ts >>= λ ss. Ok (record { selector = p.selector; arguments = p.arguments; temporaries = o.temporaries; primitive = o.primitive; body = ss.0 }, ss.1))
+        (λ o. mapped (λ ss. let v : MethodView = record { selector = p.selector; arguments = p.arguments; temporaries = o.temporaries; primitive = o.primitive; body = ss } in v) (statements_reads text n m I)) (no_statements, tt) nothing between_options (λ x ts e. absurd cc) (λ p x e. absurd cc))
+        (no_options, (no_statements, tt)) nothing between_pattern (λ x ts e. absurd cc) (λ p x e. absurd cc))
         (λ p. method_text p.0) (λ p. method_tree text p.0) method_goes
         to_method (λ p. refl) (λ p. refl) (λ p x. refl) from_method method_text_from method_tree_from (λ p x. refl)

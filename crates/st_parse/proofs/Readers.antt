@@ -330,6 +330,7 @@ module _ {P Q A B : Type 0} {textP : P → List Leaf} {treeP : P → A} {goesP :
         | inl into ↦ f into
         | inr never ↦ absurd (never s (ap r1 (sym e) ∙ was))
       ]
+
       why : Reason beginP n r1' s.cause t.before t.more t.rest → Reason begin n (λ l. r1' l >>= λ y. r2' y.0 y.1) s.cause t.before (t.more ++ textQ some) t.rest
       why (inl (e, w)) = inl (e, record { fails = λ l a. ap (λ (z : Read A). z >>= λ y. r2' y.0 y.1) (w.fails l a); takes = takes (t.before ++ t.rest) t.parts w.takes })
       why (inr (e, d)) = inr (e, record { bracket = d.bracket; rest_behind = d.rest_behind; more_behind = d.more_behind ++ textQ some; opens = d.opens; rest_is = d.rest_is; more_is = ap (λ (l : List Leaf). l ++ textQ some) d.more_is; high = d.high })
@@ -475,10 +476,13 @@ module _ {P Q A : Type 0} {textP : P → List Leaf} {treeP : P → A} {goesP : P
       why (inl (three, w)) =
           let here : first looks (t.before ++ t.rest) ≡ true = ap (first looks) (sym t.parts) ∙ e in
           let some : 0 < length t.before = w.takes (first_into looks beginP (t.before ++ t.rest) inside here) in
-          inl (three, record {
-            fails = λ l a. chosen1 (t.before ++ l) (sym (first_same looks t.before t.rest l some) ∙ here) ∙ w.fails l a;
-            takes = λ b. some;
-          })
+          inl (
+            three,
+            record {
+              fails = λ l a. chosen1 (t.before ++ l) (sym (first_same looks t.before t.rest l some) ∙ here) ∙ w.fails l a;
+              takes = λ b. some;
+            },
+          )
 
   other_told : (ts : List Leaf) (z : Read A) → first looks ts ≡ false → Told textQ treeQ goesQ beginQ n r2' ts z
       → Told (text_either textP textQ) (tree_either treeP treeQ) (goes_either looks goesP textQ goesQ) begin n choice' ts z
@@ -487,15 +491,20 @@ module _ {P Q A : Type 0} {textP : P → List Leaf} {treeP : P → A} {goesP : P
     where
       here : first looks (t.before ++ t.rest) ≡ false
       here = ap (first looks) (sym t.parts) ∙ e
+
       second : (l : List Leaf) → first looks l ≡ false → first begin l ≡ true → first beginQ l ≡ true
       second [] e b = absurd cc
       second (x ∷ l) e b = begins x b e
+
       why : Reason beginQ n r2' s.cause t.before t.more t.rest → Reason begin n choice' s.cause t.before t.more t.rest
       why (inr d) = inr d
-      why (inl (three, w)) = inl (three, record {
-        fails = λ l a. chosen2 (t.before ++ l) (first_alike looks (t.before ++ t.rest) (t.before ++ l) (alike_behind t.before t.rest l a) here) ∙ w.fails l a;
-        takes = λ b. w.takes (second (t.before ++ t.rest) here b);
-      })
+      why (inl (three, w)) = inl (
+        three,
+        record {
+          fails = λ l a. chosen2 (t.before ++ l) (first_alike looks (t.before ++ t.rest) (t.before ++ l) (alike_behind t.before t.rest l a) here) ∙ w.fails l a;
+          takes = λ b. w.takes (second (t.before ++ t.rest) here b);
+        },
+      )
 
   either_told : (ts : List Leaf) (b : Bool) → first looks ts ≡ b → Told (text_either textP textQ) (tree_either treeP treeQ) (goes_either looks goesP textQ goesQ) begin n choice' ts (cond b (r1 ts) (r2 ts))
   either_told ts true e = first_told ts (r1 ts) e (R1.told ts e)
@@ -564,10 +573,13 @@ module _ {P A : Type 0} {text : P → List Leaf} {tree : P → A} {goes : P → 
         place = refl;
         begins = longer.2;
         low = t.low;
-        why = inl (refl, record {
-          fails = λ l a. ap test (R.again t.p l (first_alike (goes t.p) x.1 l a t.stops) (omega (arith, t.low, R.fewer))) ∙ test_bad (tree t.p) l (ap bad t.is ∙ e);
-          takes = λ b. some t.p;
-        });
+        why = inl (
+          refl,
+          record {
+            fails = λ l a. ap test (R.again t.p l (first_alike (goes t.p) x.1 l a t.stops) (omega (arith, t.low, R.fewer))) ∙ test_bad (tree t.p) l (ap bad t.is ∙ e);
+            takes = λ b. some t.p;
+          },
+        );
       }
 
   tested_told : (ts : List Leaf) (z : Read A) → Told text tree goes begin n r' ts z → ((p : P) → bad (tree p) ≡ true → (q : P) × (more : List Leaf) × (text q ≡ text p ++ more) × (bad (tree q) ≡ false))
@@ -578,6 +590,7 @@ module _ {P A : Type 0} {text : P → List Leaf} {tree : P → A} {goes : P → 
       why : (more2 : List Leaf) → Reason begin n r' s.cause t.before t.more t.rest → (behind : List Leaf) → more2 ≡ t.more ++ behind → Reason begin n (λ l. test (r' l)) s.cause t.before more2 t.rest
       why more2 (inl (three, w)) behind is = inl (three, record { fails = λ l a. ap test (w.fails l a); takes = w.takes })
       why more2 (inr (six, d)) behind is = inr (six, record { bracket = d.bracket; rest_behind = d.rest_behind; more_behind = d.more_behind ++ behind; opens = d.opens; rest_is = d.rest_is; more_is = is ∙ ap (λ (l : List Leaf). l ++ behind) d.more_is; high = d.high })
+
       failed : (bad (tree t.p) ≡ true) ⊎ (bad (tree t.p) ≡ false) → ToldErr {P = Good} (λ p. text p.0) begin n (λ l. test (r' l)) ts s
       failed (inr good) = record { before = t.before; rest = t.rest; p = (t.p, good); more = t.more; parts = t.parts; place = t.place; begins = t.begins; low = t.low; why = why t.more t.why [] (sym (append-nil t.more)) }
       failed (inl wrong) =

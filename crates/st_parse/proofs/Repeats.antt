@@ -145,7 +145,7 @@ module _ {A P L : Type 0} {looks : A → Leaf → Bool} {text : P → List Leaf}
     where
       why : ((s.cause ≡ Expected) × ((l : List Leaf) (k : ℕ) → length (u.before ++ l) ≤ k → Alike u.rest l → many looks step' k x.0 (u.before ++ l) ≡ stop Expected l) × (first (looks x.0) x.1 ≡ true → 0 < length u.before)) ⊎ ((s.cause ≡ Deep) × IsDeep n u.before u.more u.rest)
           → ((s.cause ≡ Expected) × ((l : List Leaf) (k : ℕ) → length ((text t.p ++ u.before) ++ l) ≤ k → Alike u.rest l → many looks step' k a ((text t.p ++ u.before) ++ l) ≡ stop Expected l) × (first (looks a) ts ≡ true → 0 < length (text t.p ++ u.before)))
-              ⊎ ((s.cause ≡ Deep) × IsDeep n (text t.p ++ u.before) u.more u.rest)
+          ⊎ ((s.cause ≡ Deep) × IsDeep n (text t.p ++ u.before) u.more u.rest)
       why (inr (six, d)) = inr (six, record { bracket = d.bracket; rest_behind = d.rest_behind; more_behind = d.more_behind; opens = d.opens; rest_is = d.rest_is; more_is = d.more_is; high = λ h. ((S a).balanced t.p).flat h u.before ∙ d.high h })
       why (inl (three, go, takes)) = inl (
         three,
@@ -178,9 +178,10 @@ module _ {A P L : Type 0} {looks : A → Leaf → Bool} {text : P → List Leaf}
       fails l (suc k) some enough w =
           many_step looks step' k a (t.before ++ l) (sym (first_same (looks a) t.before t.rest l some) ∙ ap (first (looks a)) (sym t.parts) ∙ e)
           ∙ ap (λ (r : Read A). r >>= λ x. many looks step' k x.0 x.1) w
+
       why : Reason (looks a) n (step' a) s.cause t.before t.more t.rest
           → ((s.cause ≡ Expected) × ((l : List Leaf) (k : ℕ) → length (t.before ++ l) ≤ k → Alike t.rest l → many looks step' k a (t.before ++ l) ≡ stop Expected l) × (first (looks a) ts ≡ true → 0 < length t.before))
-              ⊎ ((s.cause ≡ Deep) × IsDeep n t.before t.more t.rest)
+          ⊎ ((s.cause ≡ Deep) × IsDeep n t.before t.more t.rest)
       why (inr d) = inr d
       why (inl (three, w)) =
           let some = w.takes (ap (first (looks a)) (sym t.parts) ∙ e) in
@@ -195,9 +196,11 @@ module _ {A P L : Type 0} {looks : A → Leaf → Bool} {text : P → List Leaf}
       rest_told : (x : A × List Leaf) (z : Read A) → first (looks a) ts ≡ true → ToldOk text (λ p. after p a) goes n ts x → LoopTold x.0 x.1 z → LoopTold a ts z
       rest_told x (Ok y) e t u = more_ok a ts x y e t u
       rest_told x (Err s) e t u = more_err a ts x s e t u
+
       stepped : ((b : A) (l : List Leaf) → length l ≤ k → LoopTold b l (many looks step k b l)) → (z : Read A) → first (looks a) ts ≡ true → Told text (λ p. after p a) goes (looks a) n (step' a) ts z → LoopTold a ts (z >>= λ x. many looks step k x.0 x.1)
       stepped again (Ok x) e t = rest_told x (many looks step k x.0 x.1) e t (again x.0 x.1 (omega (arith, R.some t.p, ap length t.parts, length-append (text t.p) x.1)))
       stepped again (Err s) e t = first_err a ts s e t
+
       chosen : ((b : A) (l : List Leaf) → length l ≤ k → LoopTold b l (many looks step k b l)) → (b : Bool) → first (looks a) ts ≡ b → LoopTold a ts (cond b (step a ts >>= λ x. many looks step k x.0 x.1) (Ok (a, ts)))
       chosen again true e = stepped again (step a ts) e ((S a).told ts)
       chosen again false e = none a ts e
@@ -264,6 +267,7 @@ module _ {A P L : Type 0} {looks : A → Leaf → Bool} {text : P → List Leaf}
         | inl w ↦ inl (w.0, record { fails = λ l alike. w.1 l (length (t.before ++ l)) (omega arith) alike; takes = λ b. w.2 (ap (first (looks a)) t.parts ∙ b) })
         | inr d ↦ inr d
       ]
+
       told : (ts : List Leaf) (z : Read A) → LoopTold a ts z → Told {P = (l : L) × Valid a l} (λ l. texts l.0) (λ l. afters l.0 a) (λ l. goes_on a l.0) (looks a) n (λ l. many looks step' (length l) a l) ts z
       told ts (Ok x) t = record { p = (t.p, t.valid); parts = t.parts; is = t.is; stops = t.stops; low = t.low }
       told ts (Err s) t = record { before = t.before; rest = t.rest; p = (t.p, t.valid); more = t.more; parts = t.parts; place = t.place; begins = t.begins; low = t.low; why = why ts s t }

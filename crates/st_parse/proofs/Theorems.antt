@@ -71,10 +71,13 @@ module _ (text : List ℕ) where
         where
           lengths : length rest ≡ length t.rest
           lengths = place ∙ sym t.place
+
           front : before ≡ t.before
           front = same_front before t.before rest t.rest (sym parts ∙ t.parts) lengths
+
           back : rest ≡ t.rest
           back = same_back before t.before rest t.rest front (sym parts ∙ t.parts)
+
           why : Reason nothing most (method_at text m) s.cause t.before t.more t.rest → ⊥
           why (inr (six, d)) = let no_way : Expected ≡ Deep = sym three ∙ six in absurd cc
           why (inl (e, w)) =
@@ -91,16 +94,20 @@ module _ (text : List ℕ) where
     where
       never : s.cause ≡ Expected → (l : List Leaf) → Alike t.rest l → (p : FitMethod text) → method_text p.0 ≡ t.before ++ l → ⊥
       never three l alike p is = stuck (max most (highest 0 (method_text p.0))) (omega arith) ts t.before t.rest l s was three t.parts t.place alike p (omega arith) is
+
       why : Reason nothing most (method_at text most) s.cause t.before t.more t.rest → Why text s.cause t.before t.rest
       why (inl (three, w)) = inr (cannot t.before t.rest (never three), inr (three, λ (p, f, e). never three [] tt (p, f) (e ∙ sym (append-nil t.before))))
-      why (inr (six, d)) = inl (six, record {
-        bracket = d.bracket;
-        behind = d.rest_behind;
-        parts = d.rest_is;
-        opens = d.opens;
-        could = (t.p.0, t.p.1, d.more_behind, t.begins ∙ ap (λ (l : List Leaf). t.before ++ l) d.more_is ∙ sym (append_assoc t.before (d.bracket ∷ []) d.more_behind));
-        open_before = d.high 0 ∙ omega arith;
-      })
+      why (inr (six, d)) = inl (
+        six,
+        record {
+          bracket = d.bracket;
+          behind = d.rest_behind;
+          parts = d.rest_is;
+          opens = d.opens;
+          could = (t.p.0, t.p.1, d.more_behind, t.begins ∙ ap (λ (l : List Leaf). t.before ++ l) d.more_is ∙ sym (append_assoc t.before (d.bracket ∷ []) d.more_behind));
+          open_before = d.high 0 ∙ omega arith;
+        },
+      )
 
   -- nothing follows a method that was read, with what it would go on with
   trailing : (ts : List Leaf) (t : MethodView) (x : Leaf) (rest : List Leaf) → ToldOk {P = FitMethod text} (λ p. method_text p.0) (λ p. method_tree text p.0) (method_goes text) most ts (t, x ∷ rest) → FaultAt text ts Trailing (length (x ∷ rest))

@@ -12,12 +12,18 @@ ghost use Rattle.st_parse.specs.Parsed.{parts_view, body_view, NoTarget, BeginsW
 use crate::leaf::{Kind, Leaf, bytes_of};
 use crate::literal::{constant_element, nested};
 use crate::read::{ReadError, is_among, starts, token};
-use st_tree::{Expression, ExpressionList, Message, MessageList, Name, NameList, Statement, StatementList, Text};
+use st_tree::{
+    Expression, ExpressionList, Message, MessageList, Name, NameList, Statement, StatementList,
+    Text,
+};
 use std::alloc::{AllocError, Global};
 
 pub const NAMES: [Kind; 1] = [Kind::Name];
+
 const CONSTANTS: [Kind; 2] = [Kind::Number, Kind::Constant];
+
 pub const KEYWORDS: [Kind; 3] = [Kind::Keyword, Kind::Joined, Kind::Primitive];
+
 pub const OPERATORS: [Kind; 4] = [Kind::Operator, Kind::Bar, Kind::Less, Kind::Greater];
 
 /// What a message begins with.
@@ -116,10 +122,7 @@ fn is_super(e: &Expression) -> bool
 
 /// An expression that is no `super` without a message.
 #[tactic(auto, unfolding(crate::specs::Reading::checked_at))]
-fn checked<'a>(
-    e: Expression,
-    leaves: &'a [Leaf],
-) -> Result<(Expression, &'a [Leaf]), ReadError>
+fn checked<'a>(e: Expression, leaves: &'a [Leaf]) -> Result<(Expression, &'a [Leaf]), ReadError>
     ensures { Gives (λ x. (expression_view x.0, x.1.now)) result (checked_at (expression_view e) leaves.now) }
 {
     if is_super(&e) {
@@ -391,13 +394,25 @@ fn message<'a>(
         let (leaf, rest) = token(&NAMES, leaves)?;
         let selector = bytes_of(text, leaf.token).to_vec(alloc)?;
         let arguments = Vec::new(alloc);
-        Ok((cascade.with_sent(Message { selector, arguments })?, rest))
+        Ok((
+            cascade.with_sent(Message {
+                selector,
+                arguments,
+            })?,
+            rest,
+        ))
     } else if starts(&OPERATORS, leaves) {
         let (leaf, rest) = token(&OPERATORS, leaves)?;
-        let (argument, rest) = unary(alloc, text, room, rest)?;
+        let (value, rest) = unary(alloc, text, room, rest)?;
         let selector = bytes_of(text, leaf.token).to_vec(alloc)?;
-        let arguments = one(alloc, argument)?;
-        Ok((cascade.with_sent(Message { selector, arguments })?, rest))
+        let arguments = one(alloc, value)?;
+        Ok((
+            cascade.with_sent(Message {
+                selector,
+                arguments,
+            })?,
+            rest,
+        ))
     } else {
         let none = Parts {
             selector: Vec::new(alloc),
@@ -509,8 +524,8 @@ fn target(leaves: &[Leaf]) -> Option<(Leaf, &[Leaf])>
     ensures { MatchOption result (NoTarget leaves.now) (λ x. BeginsWithTarget leaves.now x.0 x.1.now) }
 {
     match leaves {
-        [name, assign, rest @ ..] if is_among(&NAMES, *name) && is_among(&[Kind::Assign], *assign) =>
-            Some((*name, rest)),
+        [name, assign, rest @ ..]
+            if is_among(&NAMES, *name) && is_among(&[Kind::Assign], *assign) => Some((*name, rest)),
         _ => None,
     }
 }
@@ -573,13 +588,25 @@ fn statement<'a>(
         statements.push(Statement { returns, value })?;
         let (_period, rest) = period(rest);
         let goes_on = false;
-        Ok((Body { statements, goes_on }, rest))
+        Ok((
+            Body {
+                statements,
+                goes_on,
+            },
+            rest,
+        ))
     } else {
         let (value, rest) = expression(alloc, text, room, leaves)?;
         let returns = false;
         statements.push(Statement { returns, value })?;
         let (goes_on, rest) = period(rest);
-        Ok((Body { statements, goes_on }, rest))
+        Ok((
+            Body {
+                statements,
+                goes_on,
+            },
+            rest,
+        ))
     }
 }
 

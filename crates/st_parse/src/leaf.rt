@@ -56,7 +56,9 @@ pub fn bytes_of(text: &[u8], token: Token) -> &[u8]
 {
     let start = text.len().min(token.start as usize);
     let rest = &text[start..];
-    let length = rest.len().min((token.end as usize).saturating_sub(token.start as usize));
+    let length = rest
+        .len()
+        .min((token.end as usize).saturating_sub(token.start as usize));
     &rest[..length]
 }
 
@@ -122,11 +124,13 @@ fn is_joined(before: Option<Token>, token: Token) -> bool
     ensures { result ≡ is_joined before token }
 {
     match before {
-        Some(Token {
-            end,
-            sort: Sort::Keyword,
-            ..
-        }) => end == token.start,
+        Some(
+            Token {
+                end,
+                sort: Sort::Keyword,
+                ..
+            },
+        ) => end == token.start,
         _ => false,
     }
 }

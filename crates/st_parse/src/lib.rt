@@ -11,3 +11,6 @@ mod read;
 
 pub use laws::{one_fault, one_tree};
 pub use parser::parse;
+
+#[cfg(test)]
+mod tests;

@@ -101,8 +101,9 @@ fn content(alloc: Global, sort: Sort, bytes: &[u8]) -> Result<Content, AllocErro
         Sort::Bytes => Ok(Content::Bytes(undoubled(alloc, between_quotes(bytes))?)),
         Sort::Symbol => Ok(Content::Symbol(behind_first(bytes).to_vec(alloc)?)),
         Sort::Name => word(alloc, bytes),
-        Sort::Keyword | Sort::Operator | Sort::Opening | Sort::Mark =>
-            Ok(Content::Symbol(bytes.to_vec(alloc)?)),
+        Sort::Keyword | Sort::Operator | Sort::Opening | Sort::Mark => Ok(Content::Symbol(
+            bytes.to_vec(alloc)?,
+        )),
     }
 }
 

@@ -73,10 +73,7 @@ pub fn starts(kinds: &[Kind], leaves: &[Leaf]) -> bool
 }
 
 /// The first leaf, which has to have one of these kinds, and those behind it.
-pub fn token<'a>(
-    kinds: &[Kind],
-    leaves: &'a [Leaf],
-) -> Result<(Leaf, &'a [Leaf]), ReadError>
+pub fn token<'a>(kinds: &[Kind], leaves: &'a [Leaf]) -> Result<(Leaf, &'a [Leaf]), ReadError>
     ensures { Gives (λ x. (x.0, x.1.now)) result (token_at kinds.now leaves.now) }
 {
     match leaves {
@@ -84,4 +81,3 @@ pub fn token<'a>(
         _ => Err(ReadError::expected(leaves)),
     }
 }
-

@@ -1,0 +1,291 @@
+use crate::parse;
+use std::alloc::{AllocError, Global};
+use std::process::Abort;
+use std::test::Fail;
+
+/// What is parsed of a text: the selector, how many arguments, temporaries and statements, and the primitive's number; or
+/// the fault.
+fn shown(rt: &impl Abort, alloc: Global, text: &[u8]) -> Result<String, AllocError> {
+    assert!(rt; text.len() <= 65_536);
+    let tree = match parse(alloc, text) {
+        Ok(tree) => tree,
+        Err(fault) => return format!(in alloc; "{fault}"),
+    };
+    let mut shown = String::new(alloc);
+    for byte in &tree.selector {
+        shown.push(char::from(*byte))?;
+    }
+    let counts = format!(in alloc;
+        " {} {} {}",
+        tree.arguments.len(),
+        tree.temporaries.len(),
+        tree.body.len()
+    )?;
+    shown.push_str(&counts)?;
+    if let Some(number) = tree.primitive {
+        let sign = if number.minus { "-" } else { "" };
+        let primitive = format!(in alloc; " <{sign}{}>", number.size)?;
+        shown.push_str(&primitive)?;
+    }
+    Ok(shown)
+}
+
+/// Texts, and what they mean or their first fault, one a line.
+const ROWS: &str = r#" => syntax 1 3
+foo ^1 ) => syntax 8 7
+foo ^(1 => syntax 8 3
+foo "x => syntax 5 2
+foo ^3.5 => syntax 6 5
+foo ^37r1 => syntax 6 4
+foo ^4294967296 => syntax 6 4
+foo | a a | => foo 0 2 0
+a: b b _ 1 => a: 1 0 1
+foo ^-16385 => foo 0 0 1
+foo <primitive: 0> => foo 0 0 0 <0>
+foo ^#a => foo 0 0 1
+foo ^1 => foo 0 0 1
+foo ^zork => foo 0 0 1
+foo super _ 1 => foo 0 0 1
+foo ^super => syntax 11 3
+foo x foo: super bar: 1 => syntax 18 3
+foo 1 + super - 2 => syntax 15 3
+foo super => syntax 10 3
+foo (super) => syntax 11 3
+foo super; x => syntax 10 3
+foo super x => foo 0 0 1
+foo super + 1 => foo 0 0 1
+foo super x: 1 => foo 0 0 1
+foo x + super y => foo 0 0 1
+foo x + (super + y) => foo 0 0 1
+foo x a: super + 1 => foo 0 0 1
+foo x a: super y + 1 b: 2 => foo 0 0 1
+super super super => super 0 0 1
+super: super | super | [:super | super super] => super: 1 1 1
+foo . => syntax 5 7
+foo [.] => syntax 6 3
+foo x. => foo 0 0 1
+foo x. . => syntax 8 7
+foo x. y => foo 0 0 2
+foo x. ^y => foo 0 0 2
+foo x. ^y. => foo 0 0 2
+foo ^x. . => syntax 9 7
+foo ^x. y => syntax 9 7
+foo ^x. ^y => syntax 9 7
+foo [^x. y] => syntax 10 3
+foo ^ => syntax 6 3
+foo ^^x => syntax 6 3
+foo | | ^1 => foo 0 0 1
+foo | a | | b | ^1 => syntax 11 7
+foo | a => syntax 8 3
+foo | 1 | => syntax 7 3
+foo | a: | => syntax 7 3
+foo (x y); z => syntax 10 7
+foo (x y) z; z => foo 0 0 1
+foo x; z => syntax 6 7
+foo 1; z => syntax 6 7
+foo x y; z => foo 0 0 1
+foo x + y; z => foo 0 0 1
+foo x a: y; z; + 1; b: 2 c: 3; d => foo 0 0 1
+foo x y; => syntax 9 3
+foo x y;; z => syntax 9 3
+foo x y; (z) => syntax 10 3
+foo x y; z _ 1 => syntax 12 7
+foo ^(1 3.5) => syntax 9 3
+foo ^1 3.5 => syntax 8 5
+foo ^1 37r1 => syntax 8 4
+foo ^1 ) "x => syntax 8 7
+foo ^1 {  => syntax 8 1
+foo ^(1 { => syntax 9 1
+foo: 3.5 => syntax 6 3
+foo -1 => syntax 5 7
+foo ^16r1e5 => syntax 6 5
+foo ^16r1F.5 => syntax 6 5
+foo ^1r1 => syntax 6 4
+foo ^2r3 => syntax 6 4
+foo ^37r1.5 => syntax 6 4
+foo ^# a => syntax 6 1
+foo ^##a => syntax 6 1
+foo ^$ => syntax 6 1
+foo ^'a => syntax 6 2
+foo ^#(1 [ 2) => syntax 10 3
+foo [:a | | b] => syntax 11 3
+foo: 1 => syntax 6 3
+1 => syntax 1 3
+foo <primitive: x> => syntax 17 3
+foo <primitive: -20000> => foo 0 0 0 <-20000>
+foo <primitive: 256> => foo 0 0 0 <256>
+foo <primitive: 1 => syntax 18 3
+foo <primitive 1> => syntax 6 3
+foo <prim: 1> => syntax 6 3
+foo <primitive:> => syntax 16 3
+foo primitive: 1 => syntax 5 7
+primitive: primitive: ^primitive: => syntax 12 3
+primitive: primitive ^primitive => primitive: 1 0 1
+foo | a | <primitive: 1> ^a => foo 0 1 1 <1>
+foo <primitive: 1> | a | ^a => foo 0 1 1 <1>
+foo <primitive: 1> <primitive: 2> => syntax 20 7
+foo | a | <primitive: 1> | b | => syntax 26 7
+foo x <primitive: 1> => syntax 8 3
+foo ^x < y => foo 0 0 1
+foo ^x <primitive: 1> 2 => syntax 9 3
+foo nil _ 1 => foo 0 0 1
+foo [:x | x _ 1] => foo 0 0 1
+foo: a [:a | a] => foo: 1 0 1
+foo [:q | q]. [:q | q]. ^q => foo 0 0 3
+foo ^#(1 -16385) => foo 0 0 1
+foo: x ^x => foo: 1 0 1
+foo: => syntax 5 3
+foo:bar: => syntax 5 3
+foo:bar => foo: 1 0 0
++ x ^x => + 1 0 1
+| x | a | ^a => | 1 1 1
++ => syntax 2 3
+++ 1 => syntax 4 3
+at: a put: b ^b => at:put: 2 0 1
+at: a at: => syntax 10 3
+at:a put:b => at:put: 2 0 0
+foo ^-0 => foo 0 0 1
+foo ^16rg => foo 0 0 1
+foo ^3E5 => foo 0 0 1
+foo ^3e- 5 => foo 0 0 1
+foo ^#a:b => foo 0 0 1
+foo ^x|-1 => foo 0 0 1
+foo ^[:a|-1] => foo 0 0 1
+foo [true] whileTrue: [^1] => foo 0 0 1
+foo [:a] => foo 0 0 1
+foo [:a :b] => foo 0 0 1
+foo [:a | ] => foo 0 0 1
+foo [:a :b | a. b.] => foo 0 0 1
+foo [:a b] => syntax 9 3
+foo [: | a] => syntax 8 3
+foo [a | b] => foo 0 0 1
+foo [| a] => syntax 6 3
+foo [] => foo 0 0 1
+foo [ => syntax 6 3
+foo [x => syntax 7 3
+foo [x) => syntax 7 3
+foo (x] => syntax 7 3
+foo () => syntax 6 3
+foo (x. y) => syntax 7 3
+foo (^x) => syntax 6 3
+foo (a _ b) c _ 1 => syntax 15 7
+foo a _ b := c _ d e => foo 0 0 1
+foo a _ => syntax 8 3
+foo a b _ 1 => syntax 9 7
+foo 1 _ 2 => syntax 7 7
+foo a: _ 1 => syntax 5 7
+foo x a: 1 b => foo 0 0 1
+foo x a: y b: z c d + e => foo 0 0 1
+foo x a: => syntax 9 3
+foo x a: b: 1 => syntax 10 3
+foo x a: y _ 1 => syntax 12 7
+foo x + => syntax 8 3
+foo x + + y => syntax 9 3
+foo x + y a: z + w b: 2 => foo 0 0 1
+foo x y z => foo 0 0 1
+foo x 1 => syntax 7 7
+foo x (y) => syntax 7 7
+foo #(a #b c: d:e: #f:g: + #+ | nil true false $a 'b' 1 -1 (a (b)) #(c)) => foo 0 0 1
+foo #() => foo 0 0 1
+foo #( => syntax 7 3
+foo #(a => syntax 8 3
+foo #(a ] => syntax 9 3
+foo #(^) => syntax 7 3
+foo #(a . b) => syntax 9 3
+foo #(a _ b) => syntax 9 3
+foo #(a; b) => syntax 8 3
+foo #(:a) => syntax 7 3
+foo (a) => foo 0 0 1
+foo #(a) b => foo 0 0 1
+foo #a b: #(1 2) => foo 0 0 1
+foo $a + 'b' => foo 0 0 1
+foo "a" x "b" y "c" => foo 0 0 1
+"only" => syntax 7 3
+"#;
+
+#[test]
+fn texts_have_their_trees_and_faults(rt: HostRuntime) -> Result<(), Fail> {
+    let mut rows = 0u32;
+    let mut wrong = String::new(rt.alloc());
+    for row in ROWS.lines() {
+        let (text, expected) = row.split_once(" => ").ok_or("no row")?;
+        let found = shown(&rt, rt.alloc(), text.as_bytes())?;
+        if found.as_str() != expected {
+            let line = format!(in rt.alloc(); "{text} => {found}; ")?;
+            wrong.push_str(&line)?;
+        }
+        rows = rows.wrapping_add(1);
+    }
+    assert_eq!(rt; wrong.as_str(), "");
+    assert_eq!(rt; rows, 170);
+    Ok(())
+}
+
+/// `count` copies of `part`, between two other texts.
+fn repeated(
+    alloc: Global,
+    before: &[u8],
+    part: &[u8],
+    count: usize,
+    behind: &[u8],
+) -> Result<Vec<u8>, AllocError> {
+    let mut text = before.to_vec(alloc)?;
+    for _ in 0..count {
+        text.extend_from_slice(part)?;
+    }
+    text.extend_from_slice(behind)?;
+    Ok(text)
+}
+
+/// What opens a bracket, how many of them, what stands behind, and what is parsed.
+const DEPTHS: [(&[u8], usize, &[u8], &str); 9] = [
+    (b"(", 201, b"", "syntax 206 6"),
+    (b"(", 200, b"", "syntax 206 3"),
+    (b"(", 200, b"1", "syntax 207 3"),
+    (b"(", 200, b"1 (", "syntax 208 3"),
+    (b"[", 200, b"", "syntax 206 3"),
+    (b"[", 201, b"", "syntax 206 6"),
+    (b"#(", 200, b"", "syntax 406 3"),
+    (b"#(", 201, b"", "syntax 406 6"),
+    (b"(", 200, b"#(", "syntax 206 6"),
+];
+
+#[test]
+fn brackets_are_as_deep_as_they_may_be(rt: HostRuntime) -> Result<(), Fail> {
+    for (bracket, count, behind, expected) in DEPTHS {
+        let text = repeated(rt.alloc(), b"foo ^", bracket, count, behind)?;
+        let found = shown(&rt, rt.alloc(), &text)?;
+        assert_eq!(rt; found.as_str(), expected);
+    }
+    let opened = repeated(rt.alloc(), b"foo ^", b"(", 200, b"1")?;
+    let closed = repeated(rt.alloc(), &opened, b")", 200, b"")?;
+    let found = shown(&rt, rt.alloc(), &closed)?;
+    assert_eq!(rt; found.as_str(), "foo 0 0 1");
+    Ok(())
+}
+
+/// Texts of 65,536 bytes at most: what stands first, what is repeated, how often, what stands last, and what is parsed.
+const LARGE: [(&[u8], &[u8], usize, &[u8], &str); 7] = [
+    (b"foo ^x", b" y", 32_760, b"", "foo 0 0 1"),
+    (b"foo ^x", b"+y", 32_760, b"", "foo 0 0 1"),
+    (b"foo x", b" a:y", 16_380, b"", "foo 0 0 1"),
+    (b"foo x y", b";z", 32_760, b"", "foo 0 0 1"),
+    (b"foo ", b"a_", 32_760, b"1", "foo 0 0 1"),
+    (b"foo ", b"x.", 32_760, b"", "foo 0 0 32760"),
+    (b"foo #(", b"1 ", 32_760, b")", "foo 0 0 1"),
+];
+
+#[test]
+fn large_texts_are_parsed(rt: HostRuntime) -> Result<(), Fail> {
+    for (before, part, count, behind, expected) in LARGE {
+        let text = repeated(rt.alloc(), before, part, count, behind)?;
+        let found = shown(&rt, rt.alloc(), &text)?;
+        assert_eq!(rt; found.as_str(), expected);
+    }
+    let opened = repeated(rt.alloc(), b"", b"(", 200, b"1")?;
+    let statement = repeated(rt.alloc(), &opened, b")", 200, b".")?;
+    let text = repeated(rt.alloc(), b"foo ", &statement, 163, b"")?;
+    let found = shown(&rt, rt.alloc(), &text)?;
+    assert_eq!(rt; found.as_str(), "foo 0 0 163");
+    Ok(())
+}
