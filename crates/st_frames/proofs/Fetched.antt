@@ -1,5 +1,5 @@
 -- Registers that are fetched from a context.
-use Rattle.std.proofs.Common.{◌≡◌, Ok, Err, refl, sym}
+use Rattle.std.proofs.Common.{◌≡◌, Ok, Err, refl, sym, true}
 use Rattle.std.specs.Prelude.{Result}
 use Rattle.st_model.specs.declared.dead.Dead.{Dead}
 use Rattle.st_model.specs.Values.{Value}
@@ -7,15 +7,16 @@ use Rattle.st_model.specs.Objects.{nil}
 use Rattle.st_model.specs.Machine.{Registers, State, Died, Went, empty_world}
 use Rattle.st_model.specs.Contexts.{context_registers, fetch_context_registers, scheduled_context, fetch_scheduled_registers}
 use Rattle.st_model.specs.Table.{Table, table}
+use Rattle.st_model.specs.Steps.{are_there}
 use Rattle.st_model.specs.View.{View}
 use Rattle.st_model.proofs.Runs.{run-then, after-went, after-died, run-set_registers}
 use Rattle.st_frames.specs.declared.frame.Frame.{Frame}
 use Rattle.st_frames.specs.Shown.{shown, registers_of, with_registers, FetchesFrame}
 
 pub fetched : (v w : View) (c : Value) (f : Frame) → ((s : State Table) → s.memory ≡ v.objects → (context_registers table c).run s ≡ Went (registers_of f) s)
-    → w.objects ≡ v.objects → w.head ≡ v.head → FetchesFrame (fetch_context_registers table c) v (Ok f) w
+    → are_there table v.objects (registers_of f) ≡ true → w.objects ≡ v.objects → w.head ≡ v.head → FetchesFrame (fetch_context_registers table c) v (Ok f) w
 unfolding fetch_context_registers
-fetched v w c f e o h = λ r. simp (run-then, e (with_registers v r) refl, after-went, run-set_registers)
+fetched v w c f e there o h = λ r. simp (run-then, e (with_registers v r) refl, after-went, run-set_registers table (registers_of f) (with_registers v r) there)
     (λ i. Went tt (record { memory = sym o i; registers = registers_of f; world = empty_world nil; head = sym h i }))
 
 pub not_fetched : (v w : View) (c : Value) (cause : Dead) → ((s : State Table) → s.memory ≡ v.objects → (context_registers table c).run s ≡ Died cause)

@@ -1,69 +1,75 @@
-ghost use Rattle.std.specs.Prelude.{◌≡◌, ◌≤◌, ◌+◌, ◌≤ℤ◌, pos, negsuc, IfOk, OnErr};
-ghost use Rattle.st_model.specs.Values.{value};
-ghost use Rattle.st_model.specs.Objects.{nil};
-ghost use Rattle.st_model.specs.Machine.{State, empty_world};
-ghost use Rattle.st_model.specs.Table.{table};
-ghost use Rattle.st_model.specs.View.{IsKnown};
-ghost use Rattle.st_model.specs.Contexts.{home_of, fetch_stack_pointer, context_registers, fetch_context_registers, scheduled_context, fetch_scheduled_registers};
-ghost use Rattle.st_model.specs.Calls.{Reads, itself};
-ghost use Rattle.st_frames.specs.Shown.{IsFrame, IsFrameOf, StaysFrame, FetchesFrame, registers_of};
+ghost use Rattle.std.specs.Prelude.{◌≡◌, ◌<◌, ◌≤◌, ◌+◌, ◌≤ℤ◌, pos, negsuc, ◌+ℤ◌, IfOk};
+ghost use Rattle.st_model.specs.Values.{word, small_integer};
+ghost use Rattle.st_model.specs.Steps.{set_registers, are_there};
+ghost use Rattle.st_model.specs.Contexts.{home_by, home_of, stack_place, fetch_stack_pointer, context_registers, fetch_context_registers, scheduled_context, fetch_scheduled_registers, store_context_registers, switch};
+ghost use Rattle.st_model.specs.Calls.{Does, Reads, itself};
+ghost use Rattle.st_frames.specs.Rows.{row_state, fetched_in};
 
-use crate::fields::{count_fields, fetch_field, fetch_integer};
-use crate::frame::Frame;
-use st_memory::Memory;
-use st_model::{Dead, Oop, RootPlace};
+use crate::access::{active, stack_pointer};
+use crate::objects::{page_word, store_field, stored_integer};
+use crate::fetched::Fetched;
+use crate::registers::Registers;
+use crate::words::{small, small_integer};
+use st_memory::Objects;
+use st_model::{Dead, PageObject, Word};
 
-/// The home context of a context.
-#[tactic(auto, using(st_model::proofs::Runs::runs), unfolding(st_model::specs::Contexts::home_of))]
-fn home_of<M: Memory>(m: &M, context: Oop) -> Result<Oop, Dead>
-    requires { IsKnown (M.view m.now).objects (value context) }
-    ensures home { Reads (home_of table (value context)) value (M.view m.now).objects result }
-    ensures known { IfOk result (λ x. IsKnown (M.view m.now).objects (value x)) }
+/// The home context of a context whose field 3 this is.
+#[tactic(auto, using(st_model::proofs::Runs::runs, crate::proofs::Homes::homes))]
+fn home_by<O: Objects>(m: &O, context: Word, method: Word) -> Result<Word, Dead>
+    ensures { Reads (home_by O.names (word context) (word method)) word (O.table m.now) result }
 {
-    let method = fetch_field(m, context, 3)?;
     if method.is_small() {
-        fetch_field(m, context, 5)
+        m.fetch_field(context, 5)
     } else {
         Ok(context)
     }
 }
 
+/// The home context of a context.
+#[tactic(auto, using(st_model::proofs::Runs::runs), unfolding(st_model::specs::Contexts::home_of))]
+fn home_of<O: Objects>(m: &O, context: Word) -> Result<Word, Dead>
+    ensures { Reads (home_of O.names (word context)) word (O.table m.now) result }
+{
+    let method = m.fetch_field(context, 3)?;
+    home_by(m, context, method)
+}
+
 /// The stack pointer of a context, from 5 to its last field and at most 16388.
 #[tactic(auto, using(st_model::proofs::Runs::runs), unfolding(st_model::specs::Contexts::fetch_stack_pointer, st_model::specs::Contexts::stack_place))]
-fn fetch_stack_pointer<M: Memory>(m: &M, context: Oop) -> Result<u32, Dead>
-    requires { IsKnown (M.view m.now).objects (value context) }
-    ensures place { Reads (fetch_stack_pointer table (value context)) itself (M.view m.now).objects result }
+fn fetch_stack_pointer<O: Objects>(m: &O, context: Word) -> Result<u32, Dead>
+    ensures place { Reads (fetch_stack_pointer O.names (word context)) itself (O.table m.now) result }
     ensures low { IfOk result (λ n. 5 ≤ n) }
     ensures high { IfOk result (λ n. n ≤ 16388) }
 {
-    let stored = fetch_integer(m, context, 2)?;
+    let stored = stored_integer(m, context, 2)?;
     if stored < -5 {
         return Err(Dead::Sp);
     }
     let sp = (stored + 5) as u32;
-    let fields = count_fields(m, context)?;
+    let fields = m.count_fields(context)?;
     if sp < 5 {
         return Err(Dead::Sp);
     }
-    if sp > 16388 {
+    if 16388 < sp {
         return Err(Dead::Sp);
     }
-    if sp < fields { Ok(sp) } else { Err(Dead::Sp) }
+    if fields <= sp {
+        return Err(Dead::Sp);
+    }
+    Ok(sp)
 }
 
 /// The registers that a context gives.
 #[tactic(auto, using(st_model::proofs::Runs::runs), unfolding(st_model::specs::Contexts::context_registers))]
-fn context_registers<M: Memory>(m: &M, context: Oop) -> Result<Frame, Dead>
-    requires { IsKnown (M.view m.now).objects (value context) }
-    ensures registers { Reads (context_registers table (value context)) registers_of (M.view m.now).objects result }
-    ensures frame { IfOk result (IsFrameOf (M.view m.now).objects) }
+pub fn read_registers<O: Objects>(m: &O, context: Word) -> Result<Fetched, Dead>
+    ensures { Reads (context_registers O.names (word context)) fetched_in (O.table m.now) result }
 {
     let home = home_of(m, context)?;
-    let method = fetch_field(m, home, 3)?;
-    let receiver = fetch_field(m, home, 5)?;
-    let ip = fetch_integer(m, context, 1)?;
+    let method = m.fetch_field(home, 3)?;
+    let receiver = m.fetch_field(home, 5)?;
+    let ip = stored_integer(m, context, 1)?;
     let sp = fetch_stack_pointer(m, context)?;
-    Ok(Frame {
+    Ok(Fetched {
         active: context,
         home,
         method,
@@ -73,54 +79,113 @@ fn context_registers<M: Memory>(m: &M, context: Oop) -> Result<Frame, Dead>
     })
 }
 
-/// Holds the registers at their places.
-fn hold_registers<M: Memory>(m: &mut M, f: &Frame)
-    requires { IsFrameOf (M.view m.old).objects f.now }
-    ensures objects { (M.view m.new).objects ≡ (M.view m.old).objects }
-    ensures head { (M.view m.new).head ≡ (M.view m.old).head }
-    ensures devices { (M.view m.new).held.devices ≡ (M.view m.old).held.devices }
-    ensures frame { IsFrame (M.view m.new) f.now }
+/// The registers that a context gives.
+#[tactic(auto, using(crate::proofs::Doing::states))]
+fn context_registers<O: Objects>(m: &O, r: &Registers, context: Word) -> Result<Fetched, Dead>
+    ensures does { Does (context_registers O.names (word context)) fetched_in (row_state (O.table m.now) (O.head m.now) r.now) result (row_state (O.table m.now) (O.head m.now) r.now) }
 {
-    m.hold(RootPlace::Active, f.active);
-    m.hold(RootPlace::Home, f.home);
-    m.hold(RootPlace::Method, f.method);
-    m.hold(RootPlace::Receiver, f.receiver);
+    read_registers(m, context)
 }
 
-/// Fetches the registers from a context, which becomes the active one, and holds them at their places. Dead, with
-/// nothing held, where the context lacks them or its stack pointer is none of its places.
-pub fn fetch<M: Memory>(m: &mut M, context: Oop) -> Result<Frame, Dead>
-    requires { IsKnown (M.view m.old).objects (value context) }
-    ensures registers { FetchesFrame (fetch_context_registers table (value context)) (M.view m.old) result (M.view m.new) }
-    ensures objects { (M.view m.new).objects ≡ (M.view m.old).objects }
-    ensures head { (M.view m.new).head ≡ (M.view m.old).head }
-    ensures frame { IfOk result (StaysFrame (M.view m.old) (M.view m.new)) }
-    ensures err { OnErr result ((M.view m.new).held ≡ (M.view m.old).held) }
+/// Whether all of them are there.
+pub fn are_there<O: Objects>(m: &O, new: &Fetched) -> bool
+    ensures { result ≡ are_there O.names (O.table m.now) (fetched_in new.now) }
 {
-    let frame = context_registers(m, context)?;
-    hold_registers(m, &frame);
-    Ok(frame)
+    m.is_there(new.active)
+        && m.is_there(new.home)
+        && m.is_there(new.method)
+        && m.is_there(new.receiver)
+}
+
+/// Sets all registers, each of which must be there.
+#[tactic(auto, using(crate::proofs::Homes::sets))]
+fn set_registers<O: Objects>(m: &O, r: &mut Registers, new: &Fetched) -> Result<(), Dead>
+    ensures does { Does (set_registers O.names (fetched_in new.now)) itself (row_state (O.table m.now) (O.head m.now) r.old) result (row_state (O.table m.now) (O.head m.now) r.new) }
+{
+    if !are_there(m, new) {
+        return Err(Dead::Kind);
+    }
+    *r = Registers {
+        active: new.active,
+        home: new.home,
+        method: new.method,
+        receiver: new.receiver,
+        ip: new.ip,
+        sp: new.sp,
+    };
+    Ok(())
+}
+
+/// Fetches the registers from a context, which becomes the active one.
+#[tactic(auto, using(crate::proofs::Doing::rows), unfolding(st_model::specs::Contexts::fetch_context_registers))]
+pub fn fetch_context_registers<O: Objects>(
+    m: &O,
+    r: &mut Registers,
+    context: Word,
+) -> Result<(), Dead>
+    ensures does { Does (fetch_context_registers O.names (word context)) itself (row_state (O.table m.now) (O.head m.now) r.old) result (row_state (O.table m.now) (O.head m.now) r.new) }
+{
+    let new = context_registers(m, r, context)?;
+    set_registers(m, r, &new)
 }
 
 /// The context of the scheduler's active process.
-#[tactic(auto, using(st_model::proofs::Runs::runs, st_model::proofs::Words::pages, crate::proofs::Registers::registers), unfolding(st_model::specs::Contexts::scheduled_context))]
-fn scheduled_context<M: Memory>(m: &M) -> Result<Oop, Dead>
-    ensures context { Reads (scheduled_context table) value (M.view m.now).objects result }
-    ensures known { IfOk result (λ x. IsKnown (M.view m.now).objects (value x)) }
+#[tactic(auto, using(st_model::proofs::Runs::runs), unfolding(st_model::specs::Contexts::scheduled_context))]
+pub fn read_scheduled_context<O: Objects>(m: &O) -> Result<Word, Dead>
+    ensures { Reads (scheduled_context O.names) word (O.table m.now) result }
 {
-    let scheduler = fetch_field(m, Oop::SCHEDULER, 1)?;
-    let process = fetch_field(m, scheduler, 1)?;
-    fetch_field(m, process, 1)
+    let association = page_word(m, PageObject::SchedulerAssociation);
+    let scheduler = m.fetch_field(association, 1)?;
+    let process = m.fetch_field(scheduler, 1)?;
+    m.fetch_field(process, 1)
 }
 
-/// Fetches the registers from the context of the scheduler's active process, as `fetch` does.
-pub fn fetch_scheduled<M: Memory>(m: &mut M) -> Result<Frame, Dead>
-    ensures registers { FetchesFrame (fetch_scheduled_registers table) (M.view m.old) result (M.view m.new) }
-    ensures objects { (M.view m.new).objects ≡ (M.view m.old).objects }
-    ensures head { (M.view m.new).head ≡ (M.view m.old).head }
-    ensures frame { IfOk result (StaysFrame (M.view m.old) (M.view m.new)) }
-    ensures err { OnErr result ((M.view m.new).held ≡ (M.view m.old).held) }
+/// The context of the scheduler's active process.
+#[tactic(auto, using(crate::proofs::Doing::states))]
+fn scheduled_context<O: Objects>(m: &O, r: &Registers) -> Result<Word, Dead>
+    ensures does { Does (scheduled_context O.names) word (row_state (O.table m.now) (O.head m.now) r.now) result (row_state (O.table m.now) (O.head m.now) r.now) }
 {
-    let context = scheduled_context(m)?;
-    fetch(m, context)
+    read_scheduled_context(m)
+}
+
+/// Fetches the registers from the context of the scheduler's active process.
+#[tactic(auto, using(crate::proofs::Doing::rows), unfolding(st_model::specs::Contexts::fetch_scheduled_registers))]
+pub fn fetch_scheduled_registers<O: Objects>(m: &O, r: &mut Registers) -> Result<(), Dead>
+    ensures does { Does (fetch_scheduled_registers O.names) itself (row_state (O.table m.now) (O.head m.now) r.old) result (row_state (O.table m.now) (O.head m.now) r.new) }
+{
+    let context = scheduled_context(m, r)?;
+    fetch_context_registers(m, r, context)
+}
+
+/// The stored instruction pointer: plus 1.
+#[tactic(auto, using(crate::proofs::Homes::stored), unfolding(crate::specs::Rows::row_state))]
+fn stored_instruction_pointer(r: &Registers) -> Word
+    ensures { word result ≡ small_integer (r.now.ip +ℤ pos 1) }
+{
+    small_integer(r.ip + 1)
+}
+
+/// Stores the instruction pointer plus 1 and the stack pointer less 5 in the active context.
+#[tactic(auto, using(crate::proofs::Doing::rows, crate::proofs::Homes::stored), unfolding(st_model::specs::Contexts::store_context_registers))]
+fn store_context_registers<O: Objects>(m: &mut O, r: &Registers) -> Result<(), Dead>
+    requires room { 2 ≤ O.room m.old }
+    ensures does { Does (store_context_registers O.names) itself (row_state (O.table m.old) (O.head m.old) r.now) result (row_state (O.table m.new) (O.head m.new) r.now) }
+    ensures room { O.room m.old ≤ O.room m.new + 2 }
+{
+    let context = active(m, r);
+    let ip = stored_instruction_pointer(r);
+    let sp = stack_pointer(m, r);
+    store_field(m, r, context, 1, ip)?;
+    store_field(m, r, context, 2, small(sp - 5))
+}
+
+/// Goes from the active context to this one.
+#[tactic(auto, using(crate::proofs::Doing::rows), unfolding(st_model::specs::Contexts::switch))]
+pub fn switch<O: Objects>(m: &mut O, r: &mut Registers, context: Word) -> Result<(), Dead>
+    requires room { 2 ≤ O.room m.old }
+    ensures does { Does (switch O.names (word context)) itself (row_state (O.table m.old) (O.head m.old) r.old) result (row_state (O.table m.new) (O.head m.new) r.new) }
+    ensures room { O.room m.old ≤ O.room m.new + 2 }
+{
+    store_context_registers(m, r)?;
+    fetch_context_registers(m, r, context)
 }

@@ -4,7 +4,9 @@ use Rattle.std.specs.Prelude.{Contains}
 use Rattle.std.proofs.lemmas.Bool.{cases_eq, both_ways, false_from_ne_true, true_from_ne_false, or_parts, ltb-false, eqb-false, eq-eqb, ne_eqb, not-false}
 use Rattle.st_model.specs.declared.head.ImageHead.{ImageHead}
 use Rattle.st_model.specs.declared.fault.ImageFault.TheVariants.{Capacity, Size, Overlap, Class, Field, Method, Root}
-use Rattle.st_model.specs.Objects.{PageObject, NilObject, FalseObject, TrueObject, SchedulerAssociation, SmallIntegerClass, StringClass, ArrayClass, MethodContextClass, BlockContextClass, PointClass, LargeClass, MessageClass, MethodClass, CharacterClass, NotUnderstood, CannotReturn, Selectors, Characters, MustBeBoolean, SymbolClass, place_of}
+use Rattle.st_model.specs.Objects.{place_of}
+use Rattle.st_model.specs.declared.page.PageObject.{PageObject}
+use Rattle.st_model.specs.declared.page.PageObject.TheVariants.{NilObject, FalseObject, TrueObject, SchedulerAssociation, SmallIntegerClass, StringClass, ArrayClass, MethodContextClass, BlockContextClass, PointClass, LargeClass, MessageClass, MethodClass, CharacterClass, NotUnderstood, CannotReturn, Selectors, Characters, MustBeBoolean, SymbolClass}
 use Rattle.st_model.specs.Image.{entries_of, has_pointers, is_used, size, class, body, names, literal_count}
 use Rattle.st_model.specs.Faults.{Fails, At, ShareWord, used_below, capacity_fails, size_fails, class_fails, field_fails, method_fails, root_fails, roots}
 use Rattle.st_image.specs.Sizes.{AreInside}

@@ -1,8 +1,16 @@
-//! What an object memory promises, however it keeps its objects.
+//! What an object memory promises, however it keeps its objects, and what the rows of bytecodes do with one.
 #![tactic(auto)]
 
+mod change;
+mod draft;
+mod live;
 mod loader;
 mod memory;
+mod objects;
+mod transfer;
 
+pub use draft::Draft;
+pub use live::live_value;
 pub use loader::Loader;
 pub use memory::Memory;
+pub use objects::Objects;

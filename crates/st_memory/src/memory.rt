@@ -1,10 +1,10 @@
-ghost use Rattle.std.specs.Prelude.{◌≡◌, ◌<◌, ◌≤◌, ◌-◌, length, slice_get, Some, true, false, IfSome, IfNone};
+ghost use Rattle.std.specs.Prelude.{◌≡◌, ◌<◌, ◌≤◌, ◌-◌, ◌/◌, length, slice_get, Some, true, false, IfSome, IfNone};
 ghost use Rattle.st_model.specs.declared.oop.Oop.{Oop};
 ghost use Rattle.st_model.specs.Values.{value, Ref};
 ghost use Rattle.st_model.specs.Objects.{is_method, is_words, size_of, words_of, first_unit, one};
-ghost use Rattle.st_model.specs.Table.{total_used};
-ghost use Rattle.st_model.specs.Formed.{IsHeader};
-ghost use Rattle.st_model.specs.View.{View, IsKnown, is_live, object_of, IsWhole, IsPlace, held_at, with_held, with_stored, table_of, SettlesTo};
+ghost use Rattle.st_model.specs.Table.{total_used, first_free, placed};
+ghost use Rattle.st_model.specs.Formed.{IsHeader, IsMakeable, fresh};
+ghost use Rattle.st_model.specs.View.{View, IsKnown, is_live, object_of, IsWhole, IsPlace, held_at, with_held, with_stored, table_of, SettlesTo, demand_of, fits};
 
 use st_model::{Demand, Kind, Oop, RootPlace};
 
@@ -65,6 +65,20 @@ pub trait Memory: Drop {
         requires known { IsKnown (view self.old).objects (value v) }
         requires header { IsHeader (object_of (view self.old).objects (value o)) at (value v) }
         ensures objects { (view self.new).objects ≡ with_stored (view self.old).objects (value o) at (value v) }
+        ensures held { (view self.new).held ≡ (view self.old).held }
+        ensures head { (view self.new).head ≡ (view self.old).head };
+
+    /// Whether d fits within the capacities beside the objects that are kept, wherever free words lie.
+    fn room(&self, d: Demand) -> bool
+        ensures { result ≡ fits (view self.now) d };
+
+    /// A new object at the least free pointer, with fields of nil, words and bytes of 0, and a method's literal count.
+    fn make(&mut self, class: Oop, kind: Kind, size: u32, literals: u32) -> Oop
+        requires class { is_live (view self.old).objects (value class) ≡ true }
+        requires makeable { IsMakeable (class.0 / 2) kind size literals }
+        requires room { fits (view self.old) (demand_of (fresh (class.0 / 2) kind size literals)) ≡ true }
+        ensures pointer { value result ≡ Ref (first_free (view self.old).objects) }
+        ensures objects { (view self.new).objects ≡ placed (view self.old).objects (fresh (class.0 / 2) kind size literals) }
         ensures held { (view self.new).held ≡ (view self.old).held }
         ensures head { (view self.new).head ≡ (view self.old).head };
 

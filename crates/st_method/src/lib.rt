@@ -1,10 +1,9 @@
 //! The fields of a compiled method: its header, literals and bytecodes (chapter 27).
 #![tactic(auto)]
 
-mod header;
 mod parts;
 
-pub use header::literals;
+pub use st_model::literals;
 pub use parts::{byte_at, literal};
 
 #[cfg(test)]

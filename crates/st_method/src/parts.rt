@@ -6,9 +6,8 @@ ghost use Rattle.st_model.specs.Table.{table};
 ghost use Rattle.st_model.specs.Steps.{literal, byte_at};
 ghost use Rattle.st_model.specs.Calls.{Reads, itself};
 
-use crate::header::literals;
 use st_memory::Memory;
-use st_model::{Dead, Oop};
+use st_model::{Dead, Oop, literals};
 
 /// Literal n of a method, counted from 0. Dead where it is no method, or has no such literal.
 #[tactic(auto, using(st_model::proofs::Runs::runs), unfolding(st_model::specs::Steps::literal))]

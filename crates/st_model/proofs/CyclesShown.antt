@@ -1,34 +1,36 @@
--- What a cycle over a table leaves shows what the cycle over the births leaves.
-use Rattle.std.proofs.Common.{◌≡◌, ℕ, zero, suc, ◌<◌, [], ◌∷◌, Option, Some, None, Bool, true, false, refl, sym, ◌∙◌, ap, subst, arith, length}
-use Rattle.std.specs.Prelude.{IsTrue, nat_le, ◌&&◌, if◌then◌else◌}
+-- A running machine over a table does, cycle by cycle, what the births do that its table shows.
+use Rattle.std.proofs.Common.{◌≡◌, ℕ, zero, suc, ◌<◌, [], ◌∷◌, Option, Some, None, Bool, true, false, refl, sym, ◌∙◌, ap, subst, arith, length, inl, inr, is_some}
+use Rattle.std.specs.Prelude.{IsTrue, nat_lt, if◌then◌else◌}
 use mathlib.Core.Path.{fun_ext}
-use Rattle.st_model.specs.Objects.{Object, words_of, renamed_object}
-use Rattle.st_model.specs.Machine.{State, Transition, Died, Went, roots_of}
+use Rattle.st_model.specs.declared.demand.Demand.{Demand}
+use Rattle.st_model.specs.Values.{Value, Small, Ref, renamed, IsLive}
+use Rattle.st_model.specs.Outcomes.{Outcome, Ending, With, Space, Unbuilt, renamed_outcome, renamed_ending, IsLiveOutcome}
+use Rattle.st_model.specs.Outcomes as outcome
+use Rattle.st_model.specs.Machine.{Head, State, Transition, Died, Went, used, is_over, roots_of}
+use Rattle.st_model.specs.Steps.{next_byte}
 use Rattle.st_model.specs.Bytecodes.{step}
-use Rattle.st_model.specs.Births.{Births, births, borne, object_born, settled_births}
-use Rattle.st_model.specs.Table.{Table, table, entry}
-use Rattle.st_model.specs.Show.{Shows, IsClosed}
+use Rattle.st_model.specs.Births.{Births, births, borne, settled_births, pointer_of}
+use Rattle.st_model.specs.Table.{Table, table, apart, bounded_table, entry}
+use Rattle.st_model.specs.Show.{Shows, IsClosed, IsUsed}
 use Rattle.st_model.specs.Settled.{Reclaimed, with_memory, settled_set, reclaim}
-use Rattle.st_model.specs.declared.outcome.Outcome.{Outcome}
-use Rattle.st_model.specs.declared.outcome.Outcome.TheVariants as outcome
 use Rattle.st_model.specs.Calls.{itself}
-use Rattle.st_model.specs.Cycles.{ended, and_on, cycle, run, EndsShown, StaysClosed}
-use Rattle.st_model.proofs.Same.{StateSame, OptionSame, TransitionSame, Anything}
-use Rattle.st_model.proofs.StepsSame.{step-same}
-use Rattle.st_model.proofs.BirthLemmas.{borne_before, object_there}
+use Rattle.st_model.specs.Cycles.{less, capacity_of, free_space, made_between, byte_answered, next_code, ended, done_or_not, cycle, and_on, run_of, run, counted, finished_of, finished}
+use Rattle.st_model.specs.Foreseen.{done, done_if_room, foreseen, foreseen_cycle, IsSound, EndsShown, StaysSound, Foretells, DoesAsBirths}
+use Rattle.st_model.proofs.Same.{StateSame, TransitionSame, Anything, IsLiveEnd, renamed_end}
+use Rattle.st_model.proofs.StepsSame.{next_byte-same}
+use Rattle.st_model.proofs.BytecodesSame.{step-same}
+use Rattle.st_model.proofs.TableLemmas.{entry_before}
+use Rattle.st_model.proofs.BirthLemmas.{borne_before}
 use Rattle.st_model.proofs.SettledLemmas.{some_is}
-use Rattle.st_model.proofs.HeapsSame.{Naming, HeapSame, cycle_simulation}
-use Rattle.st_model.proofs.Started.{naming, states_start}
+use Rattle.st_model.proofs.HeapsSame.{Naming, cycle_simulation}
+use Rattle.st_model.proofs.Started.{naming, states_start, heaps_start}
 use Rattle.st_model.proofs.Ended.{reclaimed}
+use Rattle.st_model.proofs.HeapsApart.{apart_simulation, states_apart, used_apart, used_same}
+use Rattle.st_model.proofs.Bounded.{bounded_same}
 use Rattle.st_model.proofs.SettledIs.{settled_is, settled_once}
 
 births_finite : (s : State Births) (n : ℕ) → IsTrue (births.kept s.memory n) → n < length s.memory
 births_finite s n h = let p = some_is (borne s.memory n) h in borne_before s.memory n p.0 p.1
-
-entry_before : (t : Table) (k : ℕ) (o : Object) → entry t k ≡ Some o → k < length t
-entry_before [] k o e = cc
-entry_before (a ∷ t) zero o e = omega arith
-entry_before (a ∷ t) (suc k) o e = omega (arith, entry_before t k o e)
 
 pub table_finite_in : (t : Table) (k : ℕ) → IsTrue (table.kept t k) → k < length t
 table_finite_in t k h = let o = some_is (entry t k) h in entry_before t k o.0 o.1
@@ -43,53 +45,212 @@ reclaim_table : (c : State Table) → Reclaimed table c (reclaim table c)
 unfolding reclaim
 reclaim_table c = record { set = settled_set table c.memory (roots_of c); is_settled = settled_is table c.memory (roots_of c) (table_finite_in c.memory); is = refl }
 
+-- an outcome's name is the pointer of what it names
+value_shown : (w : Naming) (d : State Table) (t : State Births) (v : Value)
+    → ((n : ℕ) → w.live n → IsUsed d.memory (w.name n) → w.name n ≡ pointer_of t.memory n)
+    → IsLive w.live v → IsLive (IsUsed d.memory) (renamed w.name v) → renamed w.name v ≡ renamed (pointer_of t.memory) v
+value_shown w d t (Small n) f l u = refl
+value_shown w d t (Ref n) f l u = ap (λ x. Ref x) (f n l u)
+
+outcome_shown : (w : Naming) (d : State Table) (t : State Births) (o : Outcome)
+    → ((n : ℕ) → w.live n → IsUsed d.memory (w.name n) → w.name n ≡ pointer_of t.memory n)
+    → IsLiveOutcome w.live o → IsLiveOutcome (IsUsed d.memory) (renamed_outcome w.name o) → renamed_outcome w.name o ≡ renamed_outcome (pointer_of t.memory) o
+outcome_shown w d t outcome.Went f l u = refl
+outcome_shown w d t outcome.Snapshot f l u = refl
+outcome_shown w d t outcome.Quit f l u = refl
+outcome_shown w d t outcome.Debugger f l u = refl
+outcome_shown w d t (outcome.Say v) f l u = ap (λ x. outcome.Say x) (value_shown w d t v f l u)
+
 -- a step that went is followed by reclaiming
-went_step : (w : Naming) (d : State Table) (u : State Births) → StateSame (cycle_simulation w) u d → IsClosed (reclaim table d)
-    → Shows (reclaim table d) (reclaim births u)
-went_step w d u same closed =
+went_step : (w : Naming) (d : State Table) (u : State Births) (o : Outcome) → StateSame (cycle_simulation w) u d → IsLiveOutcome w.live o → IsClosed (reclaim table d)
+    → IsLiveOutcome (IsUsed (reclaim table d).memory) (renamed_outcome w.name o)
+    → (renamed_outcome w.name o ≡ renamed_outcome (pointer_of (reclaim births u).memory) o) × Shows (reclaim table d) (reclaim births u)
+went_step w d u o same live closed used =
     let r = reclaimed w u d same (reclaim table d) (reclaim_table d) closed in
-    subst (λ t. Shows (reclaim table d) t) (reclaimed_is u r.0 r.1) r.2
+    let e = reclaimed_is u r.0 r.1 in (
+      subst (λ (t : State Births). renamed_outcome w.name o ≡ renamed_outcome (pointer_of t.memory) o) e (outcome_shown w (reclaim table d) r.0 o r.3 live used),
+      subst (λ t. Shows (reclaim table d) t) e r.2,
+    )
 
-cycle_step : (w : Naming) (c : State Table) (s : State Births) (o : Transition (State Births) Outcome) (p : Transition (State Table) Outcome) → Shows c s
-    → TransitionSame (cycle_simulation w) Anything itself o p
-    → ((d : State Table) → ended table c p ≡ Went outcome.Went d → IsClosed d) → EndsShown (ended table c p) (ended births s o)
-cycle_step w c s (Died a) (Died b) v z k = z
-cycle_step w c s (Died a) (Went b d) v z k = absurd z
-cycle_step w c s (Went a u) (Died b) v z k = absurd z
-cycle_step w c s (Went outcome.Went u) (Went outcome.Went d) v z k = (refl, went_step w d u z.2 (k (reclaim table d) refl))
-cycle_step w c s (Went outcome.Went u) (Went (outcome.Unbuilt b) d) v z k = let e = z.1 in cc
-cycle_step w c s (Went (outcome.Unbuilt a) u) (Went outcome.Went d) v z k = let e = z.1 in cc
-cycle_step w c s (Went (outcome.Unbuilt a) u) (Went (outcome.Unbuilt b) d) v z k = (z.1, v)
+module _ (c : State Table) (s : State Births) (w : Shows c s) (places : length c.memory ≡ 32768) where
+  -- foreseeing
 
-pub cycle_shown : (c : State Table) (s : State Births) → Shows c s → ((d : State Table) → cycle table c ≡ Went outcome.Went d → IsClosed d)
-    → EndsShown (cycle table c) (cycle births s)
-unfolding cycle
-cycle_shown c s w k =
-    cycle_step (naming c s w) c s ((step births).run s) ((step table).run c) w
-    ((step-same (cycle_simulation (naming c s w))).go s c (states_start c s w)) k
+  foretold : (o : Transition (State Births) (Option Outcome)) (p : Transition (State Table) (Option Outcome))
+      → TransitionSame (apart_simulation c s w places) (IsLiveEnd (naming c s w).live) (renamed_end (apart_simulation c s w places).name) o p → Foretells p o
+  foretold (Died a) (Died b) (inl h) = h
+  foretold (Died a) (Died b) (inr h) = absurd h
+  foretold (Died a) (Went b t) h = absurd h
+  foretold (Went a u) (Died b) h = absurd h.1
+  foretold (Went a u) (Went b d) (inl h) = absurd h.1
+  foretold (Went a u) (Went b d) (inr h) = (some_renamed a b h.1, used_apart c s w places u.memory d.memory h.2.memory)
+    where
+      some_renamed : (a b : Option Outcome) → b ≡ renamed_end (apart_simulation c s w places).name a → is_some b ≡ is_some a
+      some_renamed None b e = rw e refl
+      some_renamed (Some o) b e = rw e refl
 
-run_step : (n : ℕ) (o : Transition (State Table) Outcome) (p : Transition (State Births) Outcome) → EndsShown o p
-    → ((c : State Table) (s : State Births) → o ≡ Went outcome.Went c → Shows c s → EndsShown (run table n c) (run births n s))
-    → EndsShown (and_on o (λ c. run table n c)) (and_on p (λ s. run births n s))
+  pub foretells : Foretells ((step apart).run c) ((step births).run s)
+  foretells = foretold ((step births).run s) ((step apart).run c) ((step-same (apart_simulation c s w places)).go s c (states_apart c s w places))
+
+  -- doing
+
+  heads_alike : (d : Demand) → is_over d c.head ≡ is_over d s.head
+  heads_alike d = ap (λ (a : Head). is_over d a) w.head
+
+  done_within : (o : Outcome) (u : State Births) (p : Transition (State Table) (Option Outcome)) → (step table).run c ≡ p
+      → TransitionSame (cycle_simulation (naming c s w)) (IsLiveEnd (naming c s w).live) (renamed_end (naming c s w).name) (Went (Some o) u) p
+      → is_over (used births u.memory) s.head ≡ false → DoesAsBirths c o u
+  done_within o u (Died k) e h f = absurd h.1
+  done_within o u (Went p d) e (inl h) f = absurd h.1
+  done_within o u (Went p d) e (inr h) f =
+      let q = used_same c s w places u.memory d.memory h.2.memory in
+      let r : is_over (used table d.memory) c.head ≡ false = ap (λ x. is_over x c.head) q ∙ (heads_alike (used births u.memory) ∙ f) in
+      let g : (step table).run c ≡ Went (Some (renamed_outcome (naming c s w).name o)) d = e ∙ ap (λ x. Went x d) h.1 in
+      record {
+        outcome = renamed_outcome (naming c s w).name o;
+        state = d;
+        does = bounded_same c d (Some (renamed_outcome (naming c s w).name o)) g r;
+        shows = λ closed live. went_step (naming c s w) d u o h.2 h.0 closed live;
+      }
+
+  pub does_as_births : (o : Outcome) (u : State Births) → (step births).run s ≡ Went (Some o) u → is_over (used births u.memory) s.head ≡ false → DoesAsBirths c o u
+  does_as_births o u e f =
+      let h = (step-same (cycle_simulation (naming c s w))).go s c (states_start c s w) in
+      done_within o u ((step table).run c) refl (rw e at h) f
+
+  -- the code at which both stop
+
+  code_of : (o : Transition (State Births) ℕ) (p : Transition (State Table) ℕ) → TransitionSame (cycle_simulation (naming c s w)) Anything itself o p → byte_answered p ≡ byte_answered o
+  code_of (Died a) (Died b) h = refl
+  code_of (Died a) (Went b t) h = absurd h
+  code_of (Went a u) (Died b) h = absurd h.1
+  code_of (Went a u) (Went b d) (inl h) = absurd h.1
+  code_of (Went a u) (Went b d) (inr h) = h.1
+
+  pub same_code : next_code table c ≡ next_code births s
+  unfolding next_code
+  same_code = code_of ((next_byte births).run s) ((next_byte table).run c) ((next_byte-same (cycle_simulation (naming c s w))).go s c (states_start c s w))
+
+  used_before : used table c.memory ≡ used births s.memory
+  used_before = used_same c s w places s.memory c.memory (heaps_start c s w)
+
+  pub same_free : free_space table c ≡ free_space births s
+  same_free = let e = used_before in let f = w.head in ap (λ (a : Head). less (capacity_of a) (used table c.memory)) f ∙ ap (λ x. less (capacity_of s.head) x) e
+
+  -- a cycle
+
+  no_space : (d : State Table) (u : State Births) → used apart d.memory ≡ used births u.memory
+      → EndsShown (done_if_room c d true) (done_or_not births s outcome.Went u true)
+  no_space d u e =
+      let f = used_before in
+      let g = same_free in
+      let m : made_between apart c d ≡ made_between births s u = ap (λ x. less x (used table c.memory)) e ∙ ap (λ x. less (used births u.memory) x) f in
+      (ap (λ x. Space x (free_space table c)) m ∙ ap (λ x. Space (made_between births s u) x) g, w)
+
+  within_space : (o : Outcome) (d : State Table) (u : State Births) → (step births).run s ≡ Went (Some o) u → is_over (used births u.memory) s.head ≡ false
+      → ((e : Outcome) (x : State Table) → done_if_room c d false ≡ Went (With e) x → IsSound x × IsLiveOutcome (IsUsed x.memory) e)
+      → EndsShown (done_if_room c d false) (done_or_not births s o u false)
+  within_space o d u e f k =
+      let does = does_as_births o u e f in
+      let q : done_if_room c d false ≡ Went (With does.outcome) (reclaim table does.state) = ap (done c) does.does in
+      let sound = k does.outcome (reclaim table does.state) q in
+      let shown = does.shows sound.0.closed sound.1 in
+      rw q (ap (λ x. With x) shown.0, shown.1)
+
+  with_room : (o : Outcome) (d : State Table) (u : State Births) (b : Bool) → (step births).run s ≡ Went (Some o) u → used apart d.memory ≡ used births u.memory
+      → is_over (used births u.memory) s.head ≡ b
+      → ((e : Outcome) (x : State Table) → done_if_room c d b ≡ Went (With e) x → IsSound x × IsLiveOutcome (IsUsed x.memory) e)
+      → EndsShown (done_if_room c d b) (done_or_not births s o u b)
+  with_room o d u true e q f k = no_space d u q
+  with_room o d u false e q f k = within_space o d u e f k
+
+  cycle_ends : (o : Transition (State Births) (Option Outcome)) (p : Transition (State Table) (Option Outcome)) → (step births).run s ≡ o → Foretells p o
+      → ((e : Outcome) (x : State Table) → foreseen c p ≡ Went (With e) x → IsSound x × IsLiveOutcome (IsUsed x.memory) e)
+      → EndsShown (foreseen c p) (ended births s o)
+  cycle_ends (Died a) (Died b) e h k = h
+  cycle_ends (Died a) (Went p d) e h k = absurd h
+  cycle_ends (Went o u) (Died b) e h k = absurd h
+  cycle_ends (Went None u) (Went None d) e h k = (ap (λ x. Unbuilt x) same_code, w)
+  cycle_ends (Went None u) (Went (Some p) d) e h k = let q = h.0 in absurd (cc)
+  cycle_ends (Went (Some o) u) (Went None d) e h k = let q = h.0 in absurd (cc)
+  cycle_ends (Went (Some o) u) (Went (Some p) d) e h k =
+      let t : is_over (used apart d.memory) c.head ≡ is_over (used births u.memory) s.head = ap (λ x. is_over x c.head) h.1 ∙ heads_alike (used births u.memory) in
+      subst (λ b. EndsShown (done_if_room c d b) (done_or_not births s o u (is_over (used births u.memory) s.head))) (sym t)
+      (with_room o d u (is_over (used births u.memory) s.head) e h.1 refl (λ x y z. k x y (ap (done_if_room c d) t ∙ z)))
+
+  pub cycle_shown : ((e : Outcome) (x : State Table) → foreseen_cycle c ≡ Went (With e) x → IsSound x × IsLiveOutcome (IsUsed x.memory) e) → EndsShown (foreseen_cycle c) (cycle births s)
+  unfolding foreseen_cycle cycle
+  cycle_shown k = cycle_ends ((step births).run s) ((step apart).run c) refl foretells k
+
+-- a run
+
+run_step : (n : ℕ) (o : Transition (State Table) Ending) (p : Transition (State Births) Ending) → EndsShown o p
+    → ((c : State Table) (s : State Births) → o ≡ Went (With outcome.Went) c → Shows c s → EndsShown (run_of foreseen_cycle n c) (run_of (cycle births) n s))
+    → EndsShown (and_on o (λ c. run_of foreseen_cycle n c)) (and_on p (λ s. run_of (cycle births) n s))
 run_step n (Died a) (Died b) h f = h
 run_step n (Died a) (Went b s) h f = absurd h
 run_step n (Went a c) (Died b) h f = absurd h
-run_step n (Went outcome.Went c) (Went outcome.Went s) h f = f c s refl h.1
-run_step n (Went outcome.Went c) (Went (outcome.Unbuilt b) s) h f = let e = h.0 in cc
-run_step n (Went (outcome.Unbuilt a) c) (Went outcome.Went s) h f = let e = h.0 in cc
-run_step n (Went (outcome.Unbuilt a) c) (Went (outcome.Unbuilt b) s) h f = h
+run_step n (Went a c) (Went b s) h f = rw h.0 (on_step b h f)
+  where
+    on_step : (b : Ending) → (a ≡ renamed_ending (pointer_of s.memory) b) × Shows c s
+        → ((c' : State Table) (s' : State Births) → Went a c ≡ Went (With outcome.Went) c' → Shows c' s' → EndsShown (run_of foreseen_cycle n c') (run_of (cycle births) n s'))
+        → EndsShown (and_on (Went (renamed_ending (pointer_of s.memory) b) c) (λ c'. run_of foreseen_cycle n c')) (and_on (Went b s) (λ s'. run_of (cycle births) n s'))
+    on_step (With outcome.Went) h f = f c s (ap (λ x. Went x c) h.0) h.1
+    on_step (With outcome.Snapshot) h f = (refl, h.1)
+    on_step (With outcome.Quit) h f = (refl, h.1)
+    on_step (With outcome.Debugger) h f = (refl, h.1)
+    on_step (With (outcome.Say v)) h f = (refl, h.1)
+    on_step (Space demand left) h f = (refl, h.1)
+    on_step (Unbuilt code) h f = (refl, h.1)
 
-closed_next : (c d : State Table) → StaysClosed c → cycle table c ≡ Went outcome.Went d → StaysClosed d
-unfolding run
-closed_next c d k e n f h = k (suc n) f (rw e h)
+next_run : (n : ℕ) (c d : State Table) → foreseen_cycle c ≡ Went (With outcome.Went) d → run_of foreseen_cycle (suc n) c ≡ run_of foreseen_cycle n d
+unfolding run_of
+next_run n c d e = rw e refl
 
-one_cycle : (c d : State Table) → cycle table c ≡ Went outcome.Went d → run table 1 c ≡ Went outcome.Went d
-unfolding run
-one_cycle c d e = rw e refl
+one_cycle : (c : State Table) (o : Outcome) (d : State Table) → foreseen_cycle c ≡ Went (With o) d → run_of foreseen_cycle 1 c ≡ Went (With o) d
+unfolding run_of
+one_cycle c o d e = rw e (after_one o d)
+  where
+    after_one : (o : Outcome) (d : State Table) → and_on (Went (With o) d) (λ t. Went (With outcome.Went) t) ≡ Went (With o) d
+    after_one outcome.Went d = refl
+    after_one outcome.Snapshot d = refl
+    after_one outcome.Quit d = refl
+    after_one outcome.Debugger d = refl
+    after_one (outcome.Say v) d = refl
 
-pub run_shown : (n : ℕ) (c : State Table) (s : State Births) → Shows c s → StaysClosed c → EndsShown (run table n c) (run births n s)
-unfolding run
-run_shown zero c s w k = (refl, w)
-run_shown (suc n) c s w k =
-    run_step n (cycle table c) (cycle births s) (cycle_shown c s w (λ d e. k 1 d (one_cycle c d e)))
-    (λ d t e v. run_shown n d t v (closed_next c d k e))
+sound_next : (c d : State Table) → StaysSound c → foreseen_cycle c ≡ Went (With outcome.Went) d → StaysSound d
+sound_next c d k e n o x q = k (suc n) o x (next_run n c d e ∙ q)
+
+pub run_shown : (n : ℕ) (c : State Table) (s : State Births) → Shows c s → IsSound c → StaysSound c → EndsShown (run_of foreseen_cycle n c) (run births n s)
+unfolding run_of run
+run_shown zero c s w p k = (refl, w)
+run_shown (suc n) c s w p k =
+    run_step n (foreseen_cycle c) (cycle births s) (cycle_shown c s w p.places (λ o d e. k 1 o d (one_cycle c o d e)))
+    (λ d t e v. run_shown n d t v (k 1 outcome.Went d (one_cycle c outcome.Went d e)).0 (sound_next c d k e))
+
+-- as many cycles are finished
+
+counted_step : (n : ℕ) (o : Transition (State Table) Ending) (p : Transition (State Births) Ending) → EndsShown o p
+    → ((c : State Table) (s : State Births) → o ≡ Went (With outcome.Went) c → Shows c s → finished_of foreseen_cycle n c ≡ finished_of (cycle births) n s)
+    → counted o (λ c. finished_of foreseen_cycle n c) ≡ counted p (λ s. finished_of (cycle births) n s)
+counted_step n (Died a) (Died b) h f = refl
+counted_step n (Died a) (Went b s) h f = absurd h
+counted_step n (Went a c) (Died b) h f = absurd h
+counted_step n (Went a c) (Went b s) h f = rw h.0 (on_step b h f)
+  where
+    on_step : (b : Ending) → (a ≡ renamed_ending (pointer_of s.memory) b) × Shows c s
+        → ((c' : State Table) (s' : State Births) → Went a c ≡ Went (With outcome.Went) c' → Shows c' s' → finished_of foreseen_cycle n c' ≡ finished_of (cycle births) n s')
+        → counted (Went (renamed_ending (pointer_of s.memory) b) c) (λ c'. finished_of foreseen_cycle n c') ≡ counted (Went b s) (λ s'. finished_of (cycle births) n s')
+    on_step (With outcome.Went) h f = ap (λ x. suc x) (f c s (ap (λ x. Went x c) h.0) h.1)
+    on_step (With outcome.Snapshot) h f = refl
+    on_step (With outcome.Quit) h f = refl
+    on_step (With outcome.Debugger) h f = refl
+    on_step (With (outcome.Say v)) h f = refl
+    on_step (Space demand left) h f = refl
+    on_step (Unbuilt code) h f = refl
+
+pub finished_shown : (n : ℕ) (c : State Table) (s : State Births) → Shows c s → IsSound c → StaysSound c → finished_of foreseen_cycle n c ≡ finished births n s
+unfolding finished_of finished
+finished_shown zero c s w p k = refl
+finished_shown (suc n) c s w p k =
+    counted_step n (foreseen_cycle c) (cycle births s) (cycle_shown c s w p.places (λ o d e. k 1 o d (one_cycle c o d e)))
+    (λ d t e v. finished_shown n d t v (k 1 outcome.Went d (one_cycle c outcome.Went d e)).0 (sound_next c d k e))

@@ -1,6 +1,6 @@
 -- Worked rows of image files, computed from the definitions: an image of 24 objects, and the same with one word changed.
 use Rattle.std.proofs.Common.{◌≡◌, ℕ, ◌+◌, ◌/◌, ◌%◌, zero, suc, List, [], ◌∷◌, ◌++◌, Bool, true, false, not, ◌&&◌, ◌||◌, slice_set, replicate, refl, lit<, lit≤, Some}
-use Rattle.std.specs.Prelude.{pos, nat_le}
+use Rattle.std.specs.Prelude.{pos, nat_le, is_some}
 use Rattle.std.specs.List.{list_any}
 use Rattle.st_model.specs.declared.kind.Kind.TheVariants as kind
 use Rattle.st_model.specs.declared.dead.Dead.TheVariants as dead
@@ -11,7 +11,7 @@ use Rattle.st_model.specs.Faults.{Fails, short_fails, lengths_fail, capacity_fai
 use Rattle.st_model.specs.Values.{Value, Small, Ref, value_of}
 use Rattle.st_model.specs.Objects.{Object, nil}
 use Rattle.st_model.specs.Machine.{State, Died, Went, answer, die, after, ◌>>=◌, ◌>>◌}
-use Rattle.st_model.specs.Steps.{set_registers, found, object_named, object, of_page, or_die, check, fetch_field, count_fields, integer_or_die, fetch_integer}
+use Rattle.st_model.specs.Steps.{registers_set, set_registers, found, object_named, object, of_page, or_die, check, fetch_field, count_fields, integer_or_die, fetch_integer}
 use Rattle.st_model.specs.Contexts.{home_by, home_of, stack_place, fetch_stack_pointer, context_registers, fetch_context_registers, scheduled_context, fetch_scheduled_registers}
 use Rattle.st_model.specs.Table.{Table, table, entry}
 use Rattle.st_model.specs.View.{empty_view, nothing_held}
@@ -149,7 +149,7 @@ wrong_root = ((15, lit< tt, refl), refl)
 -- THE START
 
 opened_start : Unit {0}
-unfolding opened is_word_class has_words kind_in fields_in units_in field_in unit_in object_in entry_in start_view start empty_view nothing_held value_of answer die after ◌>>=◌ ◌>>◌ set_registers found object_named object of_page or_die check fetch_field integer_or_die fetch_integer home_by home_of stack_place fetch_stack_pointer count_fields context_registers fetch_context_registers scheduled_context fetch_scheduled_registers
+unfolding opened is_word_class has_words kind_in fields_in units_in field_in unit_in object_in entry_in start_view start empty_view nothing_held value_of answer die after ◌>>=◌ ◌>>◌ registers_set set_registers found object_named object of_page or_die check fetch_field integer_or_die fetch_integer home_by home_of stack_place fetch_stack_pointer count_fields context_registers fetch_context_registers scheduled_context fetch_scheduled_registers
 opened_start = tt
 
 context_read : object_in head image 31 ≡ record { class = 11; kind = kind.Pointers; fields = nil ∷ Small 3 ∷ Small 1 ∷ Ref 32 ∷ replicate 14 nil; units = [] }
@@ -174,6 +174,7 @@ died s a b = simp (a, b)
 fetched : (s : State Table) → entry s.memory 4 ≡ Some (plain (nil ∷ Ref 29 ∷ [])) → entry s.memory 29 ≡ Some (plain (nil ∷ Ref 30 ∷ []))
     → entry s.memory 30 ≡ Some (plain (nil ∷ Ref 31 ∷ Small 4 ∷ nil ∷ []))
     → entry s.memory 31 ≡ Some (record { class = 11; kind = kind.Pointers; fields = nil ∷ Small 3 ∷ Small 1 ∷ Ref 32 ∷ replicate 14 nil; units = [] })
+    → is_some (entry s.memory 32) ≡ true → is_some (entry s.memory 1) ≡ true
     → (fetch_scheduled_registers table).run s ≡ Went tt (record s { registers = record { active = Ref 31; home = Ref 31; method = Ref 32; receiver = nil; ip = pos 2; sp = 6 } })
 unfolding opened_start plain
-fetched s a b c d = simp (a, b, c, d)
+fetched s a b c d e f = simp (a, b, c, d, e, f)

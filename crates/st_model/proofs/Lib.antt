@@ -1,18 +1,29 @@
 pub mod Words
 pub mod Same
 pub mod StepsSame
+pub mod ContextsSame
+pub mod LookupSame
+pub mod SendsSame
+pub mod ReturnsSame
+pub mod BytecodesSame
 pub mod TableLemmas
 pub mod BirthLemmas
 pub mod HeapsSame
+pub mod Totals
 pub mod Names
 pub mod Started
 pub mod SettledLemmas
 pub mod SettledIs
 pub mod Ended
+pub mod HeapsApart
+pub mod Bounded
+pub mod Closed
 pub mod CyclesShown
 pub mod Runs
+pub mod Tabular
+pub mod Transfers
+pub mod Copies
 pub mod Settling
-mod Rows
 pub mod Pointers
 pub mod FormedLemmas
 pub mod WholeLemmas
@@ -22,4 +33,8 @@ pub mod Roots
 pub mod Raised
 pub mod Showing
 pub mod Made
+pub mod Making
 mod ImageRows
+mod Opened
+mod Rows
+mod SendRows

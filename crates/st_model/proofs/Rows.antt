@@ -2,24 +2,18 @@
 -- method pushes 1 and 2, pops into temporary variable 0, and jumps back to its begin.
 use Rattle.std.proofs.Common.{◌≡◌, ℕ, List, [], ◌∷◌, ◌++◌, Some, None, Option, refl}
 use Rattle.std.specs.Prelude.{ℤ, pos, codes}
+use Rattle.std.specs.Fmt.{digits}
 use Rattle.st_model.specs.declared.kind.Kind.TheVariants as kind
-use Rattle.st_model.specs.declared.outcome.Outcome.TheVariants as outcome
 use Rattle.st_model.specs.Values.{Value, Small, Ref}
 use Rattle.st_model.specs.Objects.{Object, nil}
-use Rattle.st_model.specs.Machine.{State, Registers, Head, empty_world, Transition, Died, Went, answer, die, after, ◌>>=◌, ◌>>◌}
-use Rattle.st_model.specs.Steps.{get_active, get_home, get_method, get_receiver, get_ip, get_sp, set_ip, set_sp, set_registers, found, object_named, object, replace_at, replace, of_page, or_die, check, fetch_field, store_field, integer_or_die, fetch_integer, count_fields, put, push, top, pop, literal, byte_at, next_byte, jump}
-use Rattle.st_model.specs.Contexts.{home_by, home_of, stack_place, fetch_stack_pointer, context_registers, fetch_context_registers, scheduled_context, fetch_scheduled_registers}
-use Rattle.st_model.specs.Bytecodes.{fetch_receiver_variable, fetch_temporary_variable, fetch_literal_constant, fetch_literal_variable, fetch_operand, store_receiver_variable, store_temporary_variable, store_literal_variable, store_operand, push_operand, store_and_pop, push_receiver, constant_value, push_constant, extended_push, extended_store, extended_store_and_pop, pop_stack, duplicate_top, push_active_context, short_unconditional_jump, long_unconditional_jump, bytecode, perform, step}
+use Rattle.st_model.specs.Outcomes.{With}
+use Rattle.st_model.specs.Outcomes as outcome
 use Rattle.st_model.specs.Table.{Table, table}
-use Rattle.st_model.specs.Settled.{is_root, is_supported, next_round, settled_set, reclaim}
-use Rattle.st_model.specs.Cycles.{cycle, run, finished}
-use Rattle.std.specs.Fmt.{digits}
-use Rattle.st_model.specs.Text.{state_text, report}
-
--- opens the machine's definitions
-opened : Unit {0}
-unfolding answer die after ◌>>=◌ ◌>>◌ get_active get_home get_method get_receiver get_ip get_sp set_ip set_sp set_registers found object_named object replace_at replace of_page or_die check fetch_field store_field integer_or_die fetch_integer count_fields put push top pop literal byte_at next_byte jump home_by home_of stack_place fetch_stack_pointer context_registers fetch_context_registers scheduled_context fetch_scheduled_registers fetch_receiver_variable fetch_temporary_variable fetch_literal_constant fetch_literal_variable fetch_operand store_receiver_variable store_temporary_variable store_literal_variable store_operand push_operand store_and_pop push_receiver constant_value push_constant extended_push extended_store extended_store_and_pop pop_stack duplicate_top push_active_context short_unconditional_jump long_unconditional_jump bytecode perform step is_root is_supported next_round settled_set reclaim cycle run finished
-opened = tt
+use Rattle.st_model.specs.Text.{ran_text, state_text}
+use Rattle.st_model.specs.Machine.{State, Registers, empty_world, Went}
+use Rattle.st_model.specs.Contexts.{fetch_scheduled_registers}
+use Rattle.st_model.specs.Cycles.{run}
+use Rattle.st_model.proofs.Opened.{opened}
 
 -- an object of class 12 with these fields
 plain : List Value → Option Object
@@ -65,17 +59,17 @@ unfolding opened at_first state registers_at objects context method nils loop pl
 fetched = refl
 
 -- after no cycle all is as it was
-no_cycle : run table 0 at_first ≡ Went outcome.Went at_first
+no_cycle : run table 0 at_first ≡ Went (With outcome.Went) at_first
 unfolding opened
 no_cycle = refl
 
 -- after four cycles the instruction pointer stands at the begin again, and the words 2, 1 and 2 on the stack
-four_cycles : run table 4 at_first ≡ Went outcome.Went (state (registers_at (pos 2) 7) (objects (context 3 1 (Small 2 ∷ Small 1 ∷ Small 2 ∷ nils)) (method loop)))
+four_cycles : run table 4 at_first ≡ Went (With outcome.Went) (state (registers_at (pos 2) 7) (objects (context 3 1 (Small 2 ∷ Small 1 ∷ Small 2 ∷ nils)) (method loop)))
 unfolding opened at_first state registers_at objects context method nils loop plain
 four_cycles = refl
 
 -- and so it is said
-four_cycles_said : report 4 (Went outcome.Went (state (registers_at (pos 2) 7) (objects (context 3 1 (Small 2 ∷ Small 1 ∷ Small 2 ∷ nils)) (method loop)))) ≡
+four_cycles_said : ran_text 4 ++ state_text (state (registers_at (pos 2) 7) (objects (context 3 1 (Small 2 ∷ Small 1 ∷ Small 2 ∷ nils)) (method loop))) ≡
     codes "ran 4\n"
     ++ (codes "registers @62 @62 @64 @2 3 2\n"
     ++ (codes "input 0 0 0 0 0 0\n"

@@ -1,17 +1,18 @@
 -- What steps over the table come to.
 use Rattle.std.proofs.Common.{◌≡◌, ℕ, suc, zero, ◌<◌, ◌≤◌, List, [], ◌∷◌, length, Bool, true, false, Option, Some, None, refl, ◌∙◌, ap, arith, is_some}
-use Rattle.std.specs.Prelude.{ℤ, slice_get, slice_set, unwrap_or, nat_lt}
+use Rattle.std.specs.Prelude.{ℤ, slice_get, slice_set, unwrap_or, nat_lt, nat_le}
 use Rattle.std.proofs.lemmas.Bool.Decides.{nat_tests}
 use Rattle.st_model.specs.declared.dead.Dead.{Dead}
 use Rattle.st_model.specs.declared.dead.Dead.TheVariants as dead
 use Rattle.st_model.specs.Values.{Value, Small, Ref, is_small}
 use Rattle.st_model.specs.Objects.{PageObject, place_of, Object, with_field, is_pointers}
-use Rattle.st_model.specs.Machine.{Registers, State, Transition, Died, Went, Step, after, answer, die, ◌>>=◌, ◌>>◌}
-use Rattle.st_model.specs.Steps.{get_active, get_home, get_method, get_receiver, get_ip, get_sp, set_ip, set_sp, set_registers, of_page, found, object_named, object, replace_at, replace, or_die, check, fetch_field, store_field, integer_or_die}
-use Rattle.st_model.specs.Table.{Table, table, entry}
+use Rattle.st_model.specs.Machine.{ObjectMemory, Registers, State, is_there, Transition, Died, Went, Step, after, answer, die, ◌>>=◌, ◌>>◌}
+use Rattle.st_model.specs.Steps.{get_active, get_home, get_method, get_receiver, get_ip, get_sp, set_ip, set_sp, registers_set, set_registers, are_there, of_page, found, object_named, object, stored_at, store_at, set_field, or_die, check, fetch_field, store_field, integer_or_die}
+use Rattle.st_model.specs.Table.{Table, table, entry, changed}
 use Rattle.st_model.specs.Values.{integer_of}
 use Rattle.st_model.specs.Contexts.{home_by}
-use Rattle.st_model.specs.View.{is_live, object_of, with_stored, nothing}
+use Rattle.st_model.specs.Formed.{IsWord}
+use Rattle.st_model.specs.View.{IsKnown, is_live, object_of, with_stored, nothing}
 
 pub run-then : {A B : Type 0} (m : Step Table A) (f : A → Step Table B) (s : State Table) → (m >>= f).run s ≡ after (m.run s) (λ a t. (f a).run t)
 unfolding ◌>>=◌
@@ -69,9 +70,15 @@ pub run-set_sp : (n : ℕ) (s : State Table) → (set_sp n).run s ≡ Went tt (r
 unfolding set_sp
 run-set_sp n s = refl
 
-pub run-set_registers : (r : Registers) (s : State Table) → (set_registers r).run s ≡ Went tt (record s { registers = r })
+set_there : (r : Registers) (s : State Table) (b : Bool) → b ≡ true → registers_set r s b ≡ Went tt (record s { registers = r })
+unfolding registers_set
+set_there r s true e = refl
+set_there r s false e = cc
+
+pub run-set_registers : (m : ObjectMemory Table) (r : Registers) (s : State Table) → are_there m s.memory r ≡ true
+    → (set_registers m r).run s ≡ Went tt (record s { registers = r })
 unfolding set_registers
-run-set_registers r s = refl
+run-set_registers m r s e = set_there r s (are_there m s.memory r) e
 
 pub run-of_page : (q : PageObject) (s : State Table) → (of_page table q).run s ≡ Went (Ref (place_of q)) s
 unfolding of_page
@@ -86,6 +93,18 @@ pub run-failed : (k : Dead) (b : Bool) (s : State Table) → b ≡ false → (ch
 unfolding check die
 run-failed k true s e = cc
 run-failed k false s e = refl
+
+pub check-below : (k : Dead) (a b : ℕ) (s : State Table) → a < b → (check k (nat_lt a b)).run s ≡ Went tt s
+check-below k a b s l = run-passed k (nat_lt a b) s (grind (arith, nat_tests))
+
+pub check-not_below : (k : Dead) (a b : ℕ) (s : State Table) → b ≤ a → (check k (nat_lt a b)).run s ≡ Died k
+check-not_below k a b s l = run-failed k (nat_lt a b) s (grind (arith, nat_tests))
+
+pub check-at_most : (k : Dead) (a b : ℕ) (s : State Table) → a ≤ b → (check k (nat_le a b)).run s ≡ Went tt s
+check-at_most k a b s l = run-passed k (nat_le a b) s (grind (arith, nat_tests))
+
+pub check-above : (k : Dead) (a b : ℕ) (s : State Table) → b < a → (check k (nat_le a b)).run s ≡ Died k
+check-above k a b s l = run-failed k (nat_le a b) s (grind (arith, nat_tests))
 
 pub run-some : {A : Type 0} (k : Dead) (x : Option A) (a : A) (s : State Table) → x ≡ Some a → (or_die k x).run s ≡ Went a s
 unfolding or_die answer
@@ -112,19 +131,41 @@ unfolding object object_named is_live object_of
 run-live (Small n) s e = cc
 run-live (Ref n) s e = read_live (entry s.memory n) s e
 
-pub run-replace : (v : Value) (i : ℕ) (x : Value) (s : State Table) → is_live s.memory v ≡ true
-    → (replace table v (with_field (object_of s.memory v) i x)).run s ≡ Went tt (record s { memory = with_stored s.memory v i x })
-unfolding replace replace_at is_live object_of with_stored
-run-replace (Small n) i x s e = cc
-run-replace (Ref n) i x s e = refl
+read_gone : (x : Option Object) (s : State Table) → is_some x ≡ false → (found x).run s ≡ Died dead.Kind
+unfolding found die
+read_gone None s e = refl
+read_gone (Some o) s e = cc
+
+pub run-gone : (v : Value) (s : State Table) → is_small v ≡ false → is_live s.memory v ≡ false → (object table v).run s ≡ Died dead.Kind
+unfolding object object_named is_live
+run-gone (Small n) s small e = cc
+run-gone (Ref n) s small e = read_gone (entry s.memory n) s e
+
+stored_live : (n i : ℕ) (x : Value) (s : State Table) (a : Option Object) → is_some a ≡ true
+    → stored_at table n i x s a true ≡ Went tt (record s { memory = changed s.memory n (with_field (unwrap_or a nothing) i x) })
+unfolding stored_at
+stored_live n i x s None e = cc
+stored_live n i x s (Some o) e = refl
+
+-- what is known is there
+pub known_there : (t : Table) (v : Value) → IsKnown t v → IsWord v → is_there table t v ≡ true
+unfolding is_live
+known_there t (Small n) known word = grind (arith, nat_tests)
+known_there t (Ref n) known word = known refl
+
+pub run-set_field : (v : Value) (i : ℕ) (x : Value) (s : State Table) → is_live s.memory v ≡ true → is_there table s.memory x ≡ true
+    → (set_field table v i x).run s ≡ Went tt (record s { memory = with_stored s.memory v i x })
+unfolding set_field store_at is_live object_of with_stored
+run-set_field (Small n) i x s e k = cc
+run-set_field (Ref n) i x s e k = rw k (stored_live n i x s (entry s.memory n) e)
 
 -- a field of a live object of kind Pointers is stored
 pub run-store : (v : Value) (i : ℕ) (x : Value) (s : State Table) → is_live s.memory v ≡ true → is_pointers (object_of s.memory v).kind ≡ true
-    → i < length (object_of s.memory v).fields → (store_field table v i x).run s ≡ Went tt (record s { memory = with_stored s.memory v i x })
+    → i < length (object_of s.memory v).fields → IsKnown s.memory x → IsWord x → (store_field table v i x).run s ≡ Went tt (record s { memory = with_stored s.memory v i x })
 unfolding store_field
-run-store v i x s live kind range =
+run-store v i x s live kind range known word =
     let r : nat_lt i (length (object_of s.memory v).fields) ≡ true = grind (arith, nat_tests) in
-    simp (run-then, run-next, after-went, run-live v s live, run-passed dead.Kind _ s kind, run-passed dead.Field _ s r, run-replace v i x s live) refl
+    simp (run-then, run-next, after-went, run-live v s live, run-passed dead.Kind _ s kind, run-passed dead.Field _ s r, run-set_field v i x s live (known_there s.memory x known word)) refl
 
 pub run-integer : (v : Value) (s : State Table) → is_small v ≡ true → (integer_or_die v).run s ≡ Went (integer_of v) s
 unfolding integer_or_die answer
@@ -151,6 +192,9 @@ get-past [] i l = refl
 get-past (x ∷ xs) zero l = absurd (omega arith)
 get-past (x ∷ xs) (suc i) l = get-past xs i (omega arith)
 
-pub ruleset runs = (run-then, run-next, after-went, after-died, run-answer, run-die, run-active, run-home, run-method, run-receiver, run-ip, run-sp, run-set_ip, run-set_sp, run-set_registers, run-of_page, run-passed, run-failed, run-some, run-none, run-small, run-live, run-replace, run-integer, run-no_integer, run-block_home, run-method_home, get-past)
+pub ruleset runs = (run-then, run-next, after-went, after-died, run-answer, run-die, run-active, run-home, run-method, run-receiver, run-ip, run-sp, run-set_ip, run-set_sp, run-set_registers, run-of_page, run-passed, run-failed, run-some, run-none, run-small, run-live, run-gone, run-set_field, run-integer, run-no_integer, run-block_home, run-method_home, get-past)
 
 pub ruleset stores = (run-store)
+
+-- checks of numbers
+pub ruleset tests = (check-below, check-not_below, check-at_most, check-above)

@@ -1,57 +1,56 @@
--- Each step over births does the same over pointers.
-use Rattle.std.proofs.Common.{◌≡◌, ℕ, List, [], ◌∷◌, zero, suc, Option, Some, None, Bool, true, false, refl, ap}
-use Rattle.std.specs.Prelude.{slice_get, ℤ}
+-- Each step on registers, fields, the stack and methods over births does the same over pointers.
+use Rattle.std.proofs.Common.{◌≡◌, ℕ, List, [], ◌∷◌, zero, suc, Option, Some, None, Bool, true, false, refl, ap, ◌∙◌, ◌⊎◌, inl, inr, length}
+use Rattle.std.proofs.Math.ListN.{length-set}
+use Rattle.std.specs.Prelude.{◌+◌, ◌-◌, ◌*◌, ◌++◌, slice_get, replicate, ℤ}
 use Rattle.st_model.specs.declared.dead.Dead.{Dead}
 use Rattle.st_model.specs.declared.kind.Kind.{Kind}
+use Rattle.st_model.specs.declared.kind.Kind.TheVariants as kind
 use Rattle.st_model.specs.Values.{Value, Small, Ref, renamed, renamed_all, IsLive, AllLive}
-use Rattle.st_model.specs.Objects.{Object, PageObject, renamed_object, IsLiveObject}
-use Rattle.st_model.specs.Machine.{ObjectMemory, Registers}
-use Rattle.st_model.specs.Steps.{get_active, get_home, get_method, get_receiver, get_ip, get_sp, set_ip, set_sp, found, object_named, object, replace_at, replace, make, of_page, or_die, check, fetch_field, store_field, append, count_fields, put, push, top, pop, literal, byte_at, next_byte, jump}
-use Rattle.st_model.specs.declared.bytecode.Operand.{Operand}
-use Rattle.st_model.specs.declared.bytecode.Operand.TheVariants.{ReceiverVariable, TemporaryVariable, LiteralConstant, LiteralVariable}
-use Rattle.st_model.specs.declared.bytecode.Constant.{Constant}
-use Rattle.st_model.specs.declared.bytecode.Constant.TheVariants as constant
-use Rattle.st_model.specs.declared.bytecode.Bytecode.{Bytecode}
-use Rattle.st_model.specs.declared.bytecode.Bytecode.TheVariants as code
+use Rattle.st_model.specs.Objects.{Object, PageObject, NilObject, renamed_object, IsLiveObject, words_of, with_field}
+use Rattle.st_model.specs.Machine.{ObjectMemory, Registers, State, is_there, has_room, head_roots, device_roots, roots_of, answer, die}
+use Rattle.st_model.specs.Formed.{fresh_with}
+use Rattle.st_model.specs.Show.{renamed_registers}
+use Rattle.st_model.specs.Steps.{get_active, get_home, get_method, get_receiver, get_ip, get_sp, set_ip, set_sp, found, object_named, object, stored_at, store_at, set_field, made, make_named, make, registers_set, set_registers, new_of, are_there, of_page, new_object, class_of, or_die, check, fetch_field, store_field, integer_or_die, fetch_integer, count_fields, fetch_fields, store_fields, transfer, put, push, under, look_at_words, drop_words, top, pop, literal, byte_at, next_byte, jump}
 use Rattle.st_model.specs.Calls.{itself}
-use Rattle.st_model.specs.Bytecodes.{fetch_receiver_variable, fetch_temporary_variable, fetch_literal_constant, fetch_literal_variable, fetch_operand, store_receiver_variable, store_temporary_variable, store_literal_variable, store_operand, push_operand, store_and_pop, push_receiver, constant_value, push_constant, extended_push, extended_store, extended_store_and_pop, pop_stack, duplicate_top, push_active_context, short_unconditional_jump, long_unconditional_jump, bytecode, perform, step}
-use Rattle.st_model.proofs.Same.{OptionSame, Simulation, StateSame, Same, Anything, steps_same, then-same, then_value-same}
+use Rattle.st_model.proofs.Same.{OptionSame, Simulation, StateSame, TransitionSame, StaysOver, Same, Anything, IsLiveRegisters, is_there-renamed, steps_same, then_unit-same, over_value, over_object, with_field-renamed, stored_is_live}
 
 module _ {H K : Type 0} {M : ObjectMemory H} {N : ObjectMemory K} (sim : Simulation M N) where
   pub get_active-same : Same sim (IsLive sim.live) (renamed sim.name) get_active get_active
   unfolding get_active
-  get_active-same = record { go = λ s t st. (st.roots.0, ap (λ r. r.active) st.registers, st) }
+  get_active-same = record { go = λ s t st. inr (st.roots.0, ap (λ r. r.active) st.registers, st); stay = λ s o. (over_value sim s.memory o s.registers.active, o) }
 
   pub get_home-same : Same sim (IsLive sim.live) (renamed sim.name) get_home get_home
   unfolding get_home
-  get_home-same = record { go = λ s t st. (st.roots.1.0, ap (λ r. r.home) st.registers, st) }
+  get_home-same = record { go = λ s t st. inr (st.roots.1.0, ap (λ r. r.home) st.registers, st); stay = λ s o. (over_value sim s.memory o s.registers.home, o) }
 
   pub get_method-same : Same sim (IsLive sim.live) (renamed sim.name) get_method get_method
   unfolding get_method
-  get_method-same = record { go = λ s t st. (st.roots.1.1.0, ap (λ r. r.method) st.registers, st) }
+  get_method-same = record { go = λ s t st. inr (st.roots.1.1.0, ap (λ r. r.method) st.registers, st); stay = λ s o. (over_value sim s.memory o s.registers.method, o) }
 
   pub get_receiver-same : Same sim (IsLive sim.live) (renamed sim.name) get_receiver get_receiver
   unfolding get_receiver
-  get_receiver-same = record { go = λ s t st. (st.roots.1.1.1.0, ap (λ r. r.receiver) st.registers, st) }
+  get_receiver-same = record { go = λ s t st. inr (st.roots.1.1.1.0, ap (λ r. r.receiver) st.registers, st); stay = λ s o. (over_value sim s.memory o s.registers.receiver, o) }
 
   pub get_ip-same : Same sim Anything itself get_ip get_ip
   unfolding get_ip
-  get_ip-same = record { go = λ s t st. (tt, ap (λ r. r.ip) st.registers, st) }
+  get_ip-same = record { go = λ s t st. inr (tt, ap (λ r. r.ip) st.registers, st); stay = λ s o. (tt, o) }
 
   pub get_sp-same : Same sim Anything itself get_sp get_sp
   unfolding get_sp
-  get_sp-same = record { go = λ s t st. (tt, ap (λ r. r.sp) st.registers, st) }
+  get_sp-same = record { go = λ s t st. inr (tt, ap (λ r. r.sp) st.registers, st); stay = λ s o. (tt, o) }
 
   pub set_sp-same : (n : ℕ) → Same sim Anything itself (set_sp n) (set_sp n)
   unfolding set_sp
   set_sp-same n = record {
-    go = λ s t st. (tt, refl, record { memory = st.memory; roots = st.roots; registers = ap (λ (r : Registers). record r { sp = n }) st.registers; world = st.world; head = st.head });
+    go = λ s t st. inr (tt, refl, record { memory = st.memory; limits = st.limits; keeps = st.keeps; roots = st.roots; registers = ap (λ (r : Registers). record r { sp = n }) st.registers; world = st.world; head = st.head });
+    stay = λ s o. (tt, o);
   }
 
   pub set_ip-same : (n : ℤ) → Same sim Anything itself (set_ip n) (set_ip n)
   unfolding set_ip
   set_ip-same n = record {
-    go = λ s t st. (tt, refl, record { memory = st.memory; roots = st.roots; registers = ap (λ (r : Registers). record r { ip = n }) st.registers; world = st.world; head = st.head });
+    go = λ s t st. inr (tt, refl, record { memory = st.memory; limits = st.limits; keeps = st.keeps; roots = st.roots; registers = ap (λ (r : Registers). record r { ip = n }) st.registers; world = st.world; head = st.head });
+    stay = λ s o. (tt, o);
   }
 
   pub found-same : (a b : Option Object) → OptionSame sim.live sim.name a b
@@ -60,12 +59,18 @@ module _ {H K : Type 0} {M : ObjectMemory H} {N : ObjectMemory K} (sim : Simulat
   found-same None b h = rw h (search steps_same)
   found-same (Some a) b h = rw h.1 (search steps_same)
 
+  found_over : (a : Option Object) (s : State H) → sim.over s.memory → StaysOver sim (IsLiveObject sim.live) ((found a).run s)
+  unfolding found answer die
+  found_over None s o = tt
+  found_over (Some a) s o = (over_object sim s.memory o a, o)
+
   pub object_named-same : (n : ℕ) → sim.live n
       → Same sim (IsLiveObject sim.live) (renamed_object sim.name) (object_named M n) (object_named N (sim.name n))
   unfolding object_named
   object_named-same n h = record {
     go = λ s t st.
         (found-same (M.read s.memory n) (N.read t.memory (sim.name n)) (sim.read s.memory t.memory n st.memory h)).go s t st;
+    stay = λ s o. found_over (M.read s.memory n) s o;
   }
 
   object_one-same : (v : Value) → IsLive sim.live v
@@ -78,45 +83,183 @@ module _ {H K : Type 0} {M : ObjectMemory H} {N : ObjectMemory K} (sim : Simulat
       → Same sim (IsLiveObject sim.live) (renamed_object sim.name) (object M v) (object N w)
   object-same v w h e = rw e (object_one-same v h)
 
-  pub replace_at-same : (n : ℕ) (o : Object) → sim.live n → IsLiveObject sim.live o
-      → Same sim Anything itself (replace_at M n o) (replace_at N (sim.name n) (renamed_object sim.name o))
-  unfolding replace_at
-  replace_at-same n o h l = record { go = λ s t st. (tt, refl, record { memory = sim.replace s.memory t.memory n o st.memory h l; roots = st.roots; registers = st.registers; world = st.world; head = st.head }) }
+  words-with_field : (o : Object) (i : ℕ) (x : Value) → words_of (with_field o i x) ≡ words_of o
+  words-with_field o i x = rw (length-set o.fields i x) refl
 
-  replace_one-same : (v : Value) (o : Object) → IsLive sim.live v → IsLiveObject sim.live o
-      → Same sim Anything itself (replace M v o) (replace N (renamed sim.name v) (renamed_object sim.name o))
-  unfolding replace
-  replace_one-same (Small n) o h l = search steps_same
-  replace_one-same (Ref n) o h l = replace_at-same n o h l
+  stored-same : (n i : ℕ) (x : Value) (s : State H) (t : State K) (a b : Option Object) (c : Bool) → sim.live n → IsLive sim.live x → StateSame sim s t
+      → M.read s.memory n ≡ a → is_there M s.memory x ≡ c → OptionSame sim.live sim.name a b
+      → TransitionSame sim Anything itself (stored_at M n i x s a c) (stored_at N (sim.name n) i (renamed sim.name x) t b c)
+  unfolding stored_at
+  stored-same n i x s t None b c l k st e f h = rw h (inl refl)
+  stored-same n i x s t (Some o) b false l k st e f h = rw h.1 (inl refl)
+  stored-same n i x s t (Some o) b true l k st e f h = rw (h.1, with_field-renamed sim.name o i x) (inr (
+    tt,
+    refl,
+    record {
+      memory = sim.replace s.memory t.memory n i x o st.memory l (stored_is_live sim.live o i x h.0 k) e f;
+      limits = st.limits;
+      keeps = sim.keeps_replace s.memory n i x o (roots_of s) e st.keeps;
+      roots = st.roots;
+      registers = st.registers;
+      world = st.world;
+      head = st.head;
+    },
+  ))
 
-  pub replace-same : (v w : Value) (o : Object) (p : Object) → IsLive sim.live v → IsLiveObject sim.live o → w ≡ renamed sim.name v → p ≡ renamed_object sim.name o
-      → Same sim Anything itself (replace M v o) (replace N w p)
-  replace-same v w o p h l f e = rw (e, f) (replace_one-same v o h l)
+  stored_over : (n i : ℕ) (x : Value) (s : State H) (a : Option Object) (c : Bool) → M.read s.memory n ≡ a → sim.over s.memory → StaysOver sim Anything (stored_at M n i x s a c)
+  unfolding stored_at
+  stored_over n i x s None c e o = tt
+  stored_over n i x s (Some a) false e o = tt
+  stored_over n i x s (Some a) true e o = (tt, sim.over_replace s.memory n a (with_field a i x) o e (words-with_field a i x))
 
-  pub append-same : (o : Object) → IsLiveObject sim.live o
-      → Same sim (IsLive sim.live) (renamed sim.name) (append M o) (append N (renamed_object sim.name o))
-  unfolding append
-  append-same o l = record {
-    go = λ s t st. (
-      sim.next_live s.memory t.memory st.memory,
-      ap Ref (sim.next s.memory t.memory st.memory),
-      record { memory = sim.append s.memory t.memory o st.memory l; roots = st.roots; registers = st.registers; world = st.world; head = st.head },
-    );
+  pub store_at-same : (n i : ℕ) (x : Value) → sim.live n → IsLive sim.live x → Same sim Anything itself (store_at M n i x) (store_at N (sim.name n) i (renamed sim.name x))
+  unfolding store_at
+  store_at-same n i x l k = record {
+    go = λ s t st.
+        rw (is_there-renamed sim s.memory t.memory x st.memory k)
+        (stored-same n i x s t (M.read s.memory n) (N.read t.memory (sim.name n)) (is_there M s.memory x) l k st refl refl (sim.read s.memory t.memory n st.memory l));
+    stay = λ s o. stored_over n i x s (M.read s.memory n) (is_there M s.memory x) refl o;
   }
 
-  make_one-same : (c : Value) (kind : Kind) (vs : List Value) (units : List ℕ) → IsLive sim.live c → AllLive sim.live vs
-      → Same sim (IsLive sim.live) (renamed sim.name) (make M c kind vs units) (make N (renamed sim.name c) kind (renamed_all sim.name vs) units)
-  unfolding make
-  make_one-same (Small n) kind vs units h l = search steps_same
-  make_one-same (Ref n) kind vs units h l = append-same (record { class = n; kind = kind; fields = vs; units = units }) (record { class = h; fields = l })
+  set_field_one-same : (v : Value) (i : ℕ) (x : Value) → IsLive sim.live v → IsLive sim.live x
+      → Same sim Anything itself (set_field M v i x) (set_field N (renamed sim.name v) i (renamed sim.name x))
+  unfolding set_field
+  set_field_one-same (Small n) i x h l = search steps_same
+  set_field_one-same (Ref n) i x h l = store_at-same n i x h l
 
-  pub make-same : (c : Value) (kind : Kind) (vs ws : List Value) (units : List ℕ) → IsLive sim.live c → AllLive sim.live vs → ws ≡ renamed_all sim.name vs
-      → Same sim (IsLive sim.live) (renamed sim.name) (make M c kind vs units) (make N (renamed sim.name c) kind ws units)
-  make-same c kind vs ws units h l e = rw e (make_one-same c kind vs units h l)
+  pub set_field-same : (v w : Value) (i : ℕ) (x y : Value) → IsLive sim.live v → IsLive sim.live x → w ≡ renamed sim.name v → y ≡ renamed sim.name x
+      → Same sim Anything itself (set_field M v i x) (set_field N w i y)
+  set_field-same v w i x y h l e f = rw (e, f) (set_field_one-same v i x h l)
+
+  live_replicate : (v : Value) (n : ℕ) → IsLive sim.live v → AllLive sim.live (replicate n v)
+  live_replicate v zero h = tt
+  live_replicate v (suc n) h = (h, live_replicate v n h)
+
+  replicate-renamed : (v : Value) (n : ℕ) → replicate n (renamed sim.name v) ≡ renamed_all sim.name (replicate n v)
+  replicate-renamed v zero = refl
+  replicate-renamed v (suc n) = ap (λ ws. renamed sim.name v ∷ ws) (replicate-renamed v n)
+
+  fresh_live : (v : Value) (c : ℕ) (k : Kind) (size literals : ℕ) → IsLive sim.live v → sim.live c → IsLiveObject sim.live (fresh_with v c k size literals)
+  fresh_live v c kind.Pointers size literals h l = record { class = l; fields = live_replicate v size h }
+  fresh_live v c kind.Words size literals h l = record { class = l; fields = tt }
+  fresh_live v c kind.Bytes size literals h l = record { class = l; fields = tt }
+  fresh_live v c kind.Method size literals h l = record { class = l; fields = (tt, live_replicate v literals h) }
+
+  fresh-renamed : (v : Value) (c : ℕ) (k : Kind) (size literals : ℕ)
+      → fresh_with (renamed sim.name v) (sim.name c) k size literals ≡ renamed_object sim.name (fresh_with v c k size literals)
+  fresh-renamed v c kind.Pointers size literals = λ i. record { class = sim.name c; kind = kind.Pointers; fields = replicate-renamed v size i; units = [] }
+  fresh-renamed v c kind.Words size literals = refl
+  fresh-renamed v c kind.Bytes size literals = refl
+  fresh-renamed v c kind.Method size literals = λ i. record { class = sim.name c; kind = kind.Method; fields = Small literals ∷ replicate-renamed v literals i; units = replicate (size - 2 * (literals + 1)) 0 }
+
+  new_of-renamed : (h : H) (k : K) (c : ℕ) (kind : Kind) (size literals : ℕ) → sim.heaps h k
+      → new_of N k (sim.name c) kind size literals ≡ renamed_object sim.name (new_of M h c kind size literals)
+  new_of-renamed h k c kind size literals s =
+      ap (λ n. fresh_with (Ref n) (sim.name c) kind size literals) (sim.named h k NilObject s) ∙ fresh-renamed (Ref (M.named h NilObject)) c kind size literals
+
+  new_live : (h : H) (k : K) (c : ℕ) (kind : Kind) (size literals : ℕ) → sim.heaps h k → sim.live c → IsLiveObject sim.live (new_of M h c kind size literals)
+  new_live h k c kind size literals s l = fresh_live (Ref (M.named h NilObject)) c kind size literals (sim.named_live h k NilObject s) l
+
+  module _ (c : ℕ) (kind : Kind) (size literals : ℕ) where
+    made-same : (s : State H) (t : State K) (there room room' : Bool) → sim.live c → StateSame sim s t → is_there M s.memory (Ref c) ≡ there
+        → (room' ≡ room) ⊎ ((room ≡ true) × sim.over (M.append s.memory (new_of M s.memory c kind size literals)))
+        → TransitionSame sim (IsLive sim.live) (renamed sim.name) (made M (new_of M s.memory c kind size literals) s there room)
+        (made N (renamed_object sim.name (new_of M s.memory c kind size literals)) t there room')
+    unfolding made
+    made-same s t false room room' l st e r = inl refl
+    made-same s t true true true l st e r = inr (
+      sim.next_live s.memory t.memory st.memory,
+      ap Ref (sim.next s.memory t.memory st.memory),
+      record {
+        memory = sim.append s.memory t.memory c kind size literals st.memory (new_live s.memory t.memory c kind size literals st.memory l) e;
+        limits = st.limits;
+        keeps = sim.keeps_append s.memory (new_of M s.memory c kind size literals) (roots_of s) st.keeps;
+        roots = st.roots;
+        registers = st.registers;
+        world = st.world;
+        head = st.head;
+      },
+    )
+    made-same s t true true false l st e (inl r) = absurd (cc)
+    made-same s t true true false l st e (inr r) = inl (sim.next_live s.memory t.memory st.memory, r.1)
+    made-same s t true false true l st e (inl r) = absurd (cc)
+    made-same s t true false true l st e (inr r) = let q = r.0 in absurd (cc)
+    made-same s t true false false l st e r = inr (sim.named_live s.memory t.memory NilObject st.memory, ap Ref (sim.named s.memory t.memory NilObject st.memory), st)
+
+    made_over : (s : State H) (there room : Bool) → sim.over s.memory → StaysOver sim (IsLive sim.live) (made M (new_of M s.memory c kind size literals) s there room)
+    unfolding made
+    made_over s false room o = tt
+    made_over s true true o = (sim.over_live s.memory (M.next s.memory) o, sim.over_append s.memory (new_of M s.memory c kind size literals) o)
+    made_over s true false o = (sim.over_live s.memory (M.named s.memory NilObject) o, o)
+
+    make_named-same : sim.live c → Same sim (IsLive sim.live) (renamed sim.name) (make_named M c kind size literals) (make_named N (sim.name c) kind size literals)
+    unfolding make_named
+    make_named-same l = record {
+      go = λ s t st.
+          let o = new_of M s.memory c kind size literals in
+          rw (new_of-renamed s.memory t.memory c kind size literals st.memory, is_there-renamed sim s.memory t.memory (Ref c) st.memory l)
+          (made-same s t (is_there M s.memory (Ref c)) (has_room M s.head s.memory o) (has_room N t.head t.memory (renamed_object sim.name o)) l st refl
+          (sim.rooms s.memory t.memory s.head t.head o st.memory st.limits st.head));
+      stay = λ s o. made_over s (is_there M s.memory (Ref c)) (has_room M s.head s.memory (new_of M s.memory c kind size literals)) o;
+    }
+
+  make_one-same : (v : Value) (kind : Kind) (size literals : ℕ) → IsLive sim.live v
+      → Same sim (IsLive sim.live) (renamed sim.name) (make M v kind size literals) (make N (renamed sim.name v) kind size literals)
+  unfolding make
+  make_one-same (Small n) kind size literals h = search steps_same
+  make_one-same (Ref n) kind size literals h = make_named-same n kind size literals h
+
+  pub make-same : (v w : Value) (kind : Kind) (size literals : ℕ) → IsLive sim.live v → w ≡ renamed sim.name v
+      → Same sim (IsLive sim.live) (renamed sim.name) (make M v kind size literals) (make N w kind size literals)
+  make-same v w kind size literals h e = rw e (make_one-same v kind size literals h)
+
+  four_there : (s : State H) (t : State K) (r : Registers) → StateSame sim s t → IsLiveRegisters sim.live r → are_there N t.memory (renamed_registers sim.name r) ≡ are_there M s.memory r
+  four_there s t r st l =
+      let a = is_there-renamed sim s.memory t.memory r.active st.memory l.0 in
+      let b = is_there-renamed sim s.memory t.memory r.home st.memory l.1 in
+      let c = is_there-renamed sim s.memory t.memory r.method st.memory l.2 in
+      let d = is_there-renamed sim s.memory t.memory r.receiver st.memory l.3 in
+      rw (a, b, c, d) refl
+
+  registers_set-same : (r : Registers) (s : State H) (t : State K) (there : Bool) → IsLiveRegisters sim.live r → StateSame sim s t → are_there M s.memory r ≡ there
+      → TransitionSame sim Anything itself (registers_set r s there) (registers_set (renamed_registers sim.name r) t there)
+  unfolding registers_set
+  registers_set-same r s t false h st e = inl refl
+  registers_set-same r s t true h st e = inr (
+    tt,
+    refl,
+    record {
+      memory = st.memory;
+      limits = st.limits;
+      keeps = sim.keeps_set s.memory s.registers r (head_roots s.head ++ device_roots s.world.devices) st.keeps e;
+      roots = (h.0, (h.1, (h.2, (h.3, st.roots.1.1.1.1))));
+      registers = refl;
+      world = st.world;
+      head = st.head;
+    },
+  )
+
+  registers_set_over : (r : Registers) (s : State H) (there : Bool) → sim.over s.memory → StaysOver sim Anything (registers_set r s there)
+  unfolding registers_set
+  registers_set_over r s false o = tt
+  registers_set_over r s true o = (tt, o)
+
+  set_registers_one-same : (r : Registers) → IsLiveRegisters sim.live r → Same sim Anything itself (set_registers M r) (set_registers N (renamed_registers sim.name r))
+  unfolding set_registers
+  set_registers_one-same r h = record {
+    go = λ s t st. rw (four_there s t r st h) (registers_set-same r s t (are_there M s.memory r) h st refl);
+    stay = λ s o. registers_set_over r s (are_there M s.memory r) o;
+  }
+
+  pub set_registers-same : (r q : Registers) → IsLiveRegisters sim.live r → q ≡ renamed_registers sim.name r → Same sim Anything itself (set_registers M r) (set_registers N q)
+  set_registers-same r q h e = rw e (set_registers_one-same r h)
 
   pub of_page-same : (p : PageObject) → Same sim (IsLive sim.live) (renamed sim.name) (of_page M p) (of_page N p)
   unfolding of_page
-  of_page-same p = record { go = λ s t st. (sim.named_live s.memory t.memory p st.memory, ap Ref (sim.named s.memory t.memory p st.memory), st) }
+  of_page-same p = record {
+    go = λ s t st. inr (sim.named_live s.memory t.memory p st.memory, ap Ref (sim.named s.memory t.memory p st.memory), st);
+    stay = λ s o. (sim.over_live s.memory (M.named s.memory p) o, o);
+  }
 
   check_one-same : (cause : Dead) (b : Bool) → Same sim Anything itself (check cause b) (check cause b)
   unfolding check
@@ -142,7 +285,37 @@ module _ {H K : Type 0} {M : ObjectMemory H} {N : ObjectMemory K} (sim : Simulat
       → Same sim (IsLive sim.live) (renamed sim.name) (fetch_field M v i) (fetch_field N w i)
   fetch_field-same v w i h e = rw e (fetch_field_one-same v i h)
 
-  pub ruleset memory_same = (steps_same, get_active-same, get_home-same, get_method-same, get_receiver-same, get_ip-same, get_sp-same, set_ip-same, set_sp-same, object-same, replace-same, make-same, of_page-same, check-same, value_or_die-same, fetch_field-same)
+  pub ruleset memory_same = (steps_same, get_active-same, get_home-same, get_method-same, get_receiver-same, get_ip-same, get_sp-same, set_ip-same, set_sp-same, object-same, set_field-same, make-same, of_page-same, check-same, value_or_die-same, fetch_field-same)
+
+  pub new_object-same : (v w : Value) (n : ℕ) → IsLive sim.live v → w ≡ renamed sim.name v → Same sim (IsLive sim.live) (renamed sim.name) (new_object M v n) (new_object N w n)
+  unfolding new_object
+  new_object-same v w n h e = make-same v w kind.Pointers n 0 h e
+
+  ref_is_live : (n : ℕ) → sim.live n → IsLive sim.live (Ref n)
+  ref_is_live n h = h
+
+  class_of_one-same : (v : Value) → IsLive sim.live v → Same sim (IsLive sim.live) (renamed sim.name) (class_of M v) (class_of N (renamed sim.name v))
+  unfolding class_of
+  class_of_one-same (Small n) h = search memory_same depth 16 fits 4000
+  class_of_one-same (Ref n) h = search (memory_same, object_named-same, ref_is_live) depth 16 fits 4000
+
+  pub class_of-same : (v w : Value) → IsLive sim.live v → w ≡ renamed sim.name v → Same sim (IsLive sim.live) (renamed sim.name) (class_of M v) (class_of N w)
+  class_of-same v w h e = rw e (class_of_one-same v h)
+
+  integer_or_die_one-same : (v : Value) → Same sim Anything itself (integer_or_die v) (integer_or_die (renamed sim.name v))
+  unfolding integer_or_die
+  integer_or_die_one-same (Small n) = search steps_same
+  integer_or_die_one-same (Ref n) = search steps_same
+
+  pub integer_or_die-same : (v w : Value) → w ≡ renamed sim.name v → Same sim Anything itself (integer_or_die v) (integer_or_die w)
+  integer_or_die-same v w e = rw e (integer_or_die_one-same v)
+
+  fetch_integer_one-same : (v : Value) (i : ℕ) → IsLive sim.live v → Same sim Anything itself (fetch_integer M v i) (fetch_integer N (renamed sim.name v) i)
+  unfolding fetch_integer
+  fetch_integer_one-same v i h = search (memory_same, integer_or_die-same) depth 16 fits 4000
+
+  pub fetch_integer-same : (v w : Value) (i : ℕ) → IsLive sim.live v → w ≡ renamed sim.name v → Same sim Anything itself (fetch_integer M v i) (fetch_integer N w i)
+  fetch_integer-same v w i h e = rw e (fetch_integer_one-same v i h)
 
   store_field_one-same : (v : Value) (i : ℕ) (x : Value) → IsLive sim.live v → IsLive sim.live x
       → Same sim Anything itself (store_field M v i x) (store_field N (renamed sim.name v) i (renamed sim.name x))
@@ -159,6 +332,35 @@ module _ {H K : Type 0} {M : ObjectMemory H} {N : ObjectMemory K} (sim : Simulat
 
   pub count_fields-same : (v w : Value) → IsLive sim.live v → w ≡ renamed sim.name v → Same sim Anything itself (count_fields M v) (count_fields N w)
   count_fields-same v w h e = rw e (count_fields_one-same v h)
+
+  fetch_fields_one-same : (v : Value) (from n : ℕ) → IsLive sim.live v
+      → Same sim (AllLive sim.live) (renamed_all sim.name) (fetch_fields M v from n) (fetch_fields N (renamed sim.name v) from n)
+  unfolding fetch_fields
+  fetch_fields_one-same v from zero h = search memory_same depth 16 fits 4000
+  fetch_fields_one-same v from (suc n) h = search (memory_same, fetch_fields_one-same v (suc from) n) depth 16 fits 4000
+
+  pub fetch_fields-same : (v w : Value) (from n : ℕ) → IsLive sim.live v → w ≡ renamed sim.name v
+      → Same sim (AllLive sim.live) (renamed_all sim.name) (fetch_fields M v from n) (fetch_fields N w from n)
+  fetch_fields-same v w from n h e = rw e (fetch_fields_one-same v from n h)
+
+  store_fields_one-same : (v : Value) (to : ℕ) (xs : List Value) → IsLive sim.live v → AllLive sim.live xs
+      → Same sim Anything itself (store_fields M v to xs) (store_fields N (renamed sim.name v) to (renamed_all sim.name xs))
+  unfolding store_fields
+  store_fields_one-same v to [] h k = search memory_same depth 16 fits 4000
+  store_fields_one-same v to (x ∷ xs) h k = then_unit-same sim _ _ _ _ _ _ (store_field_one-same v to x h k.0) (store_fields_one-same v (suc to) xs h k.1)
+
+  pub store_fields-same : (v w : Value) (to : ℕ) (xs ys : List Value) → IsLive sim.live v → AllLive sim.live xs → w ≡ renamed sim.name v → ys ≡ renamed_all sim.name xs
+      → Same sim Anything itself (store_fields M v to xs) (store_fields N w to ys)
+  store_fields-same v w to xs ys h k e f = rw (e, f) (store_fields_one-same v to xs h k)
+
+  transfer_one-same : (n : ℕ) (v : Value) (from : ℕ) (w : Value) (to : ℕ) → IsLive sim.live v → IsLive sim.live w
+      → Same sim Anything itself (transfer M n v from w to) (transfer N n (renamed sim.name v) from (renamed sim.name w) to)
+  unfolding transfer
+  transfer_one-same n v from w to h k = search (memory_same, fetch_fields-same, store_fields-same) depth 16 fits 4000
+
+  pub transfer-same : (n : ℕ) (v v' : Value) (from : ℕ) (w w' : Value) (to : ℕ) → IsLive sim.live v → IsLive sim.live w → v' ≡ renamed sim.name v → w' ≡ renamed sim.name w
+      → Same sim Anything itself (transfer M n v from w to) (transfer N n v' from w' to)
+  transfer-same n v v' from w w' to h k e f = rw (e, f) (transfer_one-same n v from w to h k)
 
   put_one-same : (c : Value) (at : ℕ) (x : Value) → IsLive sim.live c → IsLive sim.live x
       → Same sim Anything itself (put M c at x) (put N (renamed sim.name c) at (renamed sim.name x))
@@ -179,6 +381,18 @@ module _ {H K : Type 0} {M : ObjectMemory H} {N : ObjectMemory K} (sim : Simulat
   pub top-same : Same sim (IsLive sim.live) (renamed sim.name) (top M) (top N)
   unfolding top
   top-same = search memory_same depth 16 fits 4000
+
+  pub under-same : (k : ℕ) → Same sim (IsLive sim.live) (renamed sim.name) (under M k) (under N k)
+  unfolding under
+  under-same k = search memory_same depth 16 fits 4000
+
+  pub look_at_words-same : (n : ℕ) → Same sim Anything itself (look_at_words M n) (look_at_words N n)
+  unfolding look_at_words
+  look_at_words-same n = search (memory_same, under-same, top-same) depth 16 fits 4000
+
+  pub drop_words-same : (n : ℕ) → Same sim Anything itself (drop_words n) (drop_words n)
+  unfolding drop_words
+  drop_words-same n = search memory_same depth 16 fits 4000
 
   pub pop-same : Same sim (IsLive sim.live) (renamed sim.name) (pop M) (pop N)
   unfolding pop
@@ -216,134 +430,4 @@ module _ {H K : Type 0} {M : ObjectMemory H} {N : ObjectMemory K} (sim : Simulat
   unfolding jump
   jump-same d = search memory_same depth 16 fits 4000
 
-  pub ruleset parts_same = (memory_same, store_field-same, push-same, top-same, pop-same, literal-same, next_byte-same, jump-same)
-
-  pub fetch_receiver_variable-same : (i : ℕ) → Same sim (IsLive sim.live) (renamed sim.name) (fetch_receiver_variable M i) (fetch_receiver_variable N i)
-  unfolding fetch_receiver_variable
-  fetch_receiver_variable-same i = search parts_same depth 16 fits 4000
-
-  pub fetch_temporary_variable-same : (i : ℕ) → Same sim (IsLive sim.live) (renamed sim.name) (fetch_temporary_variable M i) (fetch_temporary_variable N i)
-  unfolding fetch_temporary_variable
-  fetch_temporary_variable-same i = search parts_same depth 16 fits 4000
-
-  pub fetch_literal_constant-same : (i : ℕ) → Same sim (IsLive sim.live) (renamed sim.name) (fetch_literal_constant M i) (fetch_literal_constant N i)
-  unfolding fetch_literal_constant
-  fetch_literal_constant-same i = search parts_same depth 16 fits 4000
-
-  pub fetch_literal_variable-same : (i : ℕ) → Same sim (IsLive sim.live) (renamed sim.name) (fetch_literal_variable M i) (fetch_literal_variable N i)
-  unfolding fetch_literal_variable
-  fetch_literal_variable-same i = search (parts_same, fetch_literal_constant-same) depth 16 fits 4000
-
-  pub fetch_operand-same : (o : Operand) → Same sim (IsLive sim.live) (renamed sim.name) (fetch_operand M o) (fetch_operand N o)
-  unfolding fetch_operand
-  fetch_operand-same (ReceiverVariable i) = fetch_receiver_variable-same i
-  fetch_operand-same (TemporaryVariable i) = fetch_temporary_variable-same i
-  fetch_operand-same (LiteralConstant i) = fetch_literal_constant-same i
-  fetch_operand-same (LiteralVariable i) = fetch_literal_variable-same i
-
-  store_receiver_variable_one-same : (i : ℕ) (x : Value) → IsLive sim.live x → Same sim Anything itself (store_receiver_variable M i x) (store_receiver_variable N i (renamed sim.name x))
-  unfolding store_receiver_variable
-  store_receiver_variable_one-same i x h = search parts_same depth 16 fits 4000
-
-  store_temporary_variable_one-same : (i : ℕ) (x : Value) → IsLive sim.live x → Same sim Anything itself (store_temporary_variable M i x) (store_temporary_variable N i (renamed sim.name x))
-  unfolding store_temporary_variable
-  store_temporary_variable_one-same i x h = search parts_same depth 16 fits 4000
-
-  store_literal_variable_one-same : (i : ℕ) (x : Value) → IsLive sim.live x → Same sim Anything itself (store_literal_variable M i x) (store_literal_variable N i (renamed sim.name x))
-  unfolding store_literal_variable
-  store_literal_variable_one-same i x h = search (parts_same, fetch_literal_constant-same) depth 16 fits 4000
-
-  store_operand_one-same : (o : Operand) (x : Value) → IsLive sim.live x → Same sim Anything itself (store_operand M o x) (store_operand N o (renamed sim.name x))
-  unfolding store_operand
-  store_operand_one-same (ReceiverVariable i) x h = store_receiver_variable_one-same i x h
-  store_operand_one-same (TemporaryVariable i) x h = store_temporary_variable_one-same i x h
-  store_operand_one-same (LiteralConstant i) x h = search steps_same
-  store_operand_one-same (LiteralVariable i) x h = store_literal_variable_one-same i x h
-
-  pub store_operand-same : (o : Operand) (x y : Value) → IsLive sim.live x → y ≡ renamed sim.name x → Same sim Anything itself (store_operand M o x) (store_operand N o y)
-  store_operand-same o x y h e = rw e (store_operand_one-same o x h)
-
-  pub constant_value-same : (c : Constant) → Same sim (IsLive sim.live) (renamed sim.name) (constant_value M c) (constant_value N c)
-  unfolding constant_value
-  constant_value-same constant.True = search parts_same
-  constant_value-same constant.False = search parts_same
-  constant_value-same constant.Nil = search parts_same
-  constant_value-same constant.MinusOne = search parts_same
-  constant_value-same constant.Zero = search parts_same
-  constant_value-same constant.One = search parts_same
-  constant_value-same constant.Two = search parts_same
-
-  pub ruleset operands_same = (parts_same, fetch_operand-same, store_operand-same, constant_value-same)
-
-  push_operand-same : (o : Operand) → Same sim Anything itself (push_operand M o) (push_operand N o)
-  unfolding push_operand
-  push_operand-same o = search operands_same depth 16 fits 4000
-
-  store_and_pop-same : (o : Operand) → Same sim Anything itself (store_and_pop M o) (store_and_pop N o)
-  unfolding store_and_pop
-  store_and_pop-same o = search operands_same depth 16 fits 4000
-
-  push_receiver-same : Same sim Anything itself (push_receiver M) (push_receiver N)
-  unfolding push_receiver
-  push_receiver-same = search operands_same depth 16 fits 4000
-
-  push_constant-same : (c : Constant) → Same sim Anything itself (push_constant M c) (push_constant N c)
-  unfolding push_constant
-  push_constant-same c = search operands_same depth 16 fits 4000
-
-  extended_push-same : Same sim Anything itself (extended_push M) (extended_push N)
-  unfolding extended_push
-  extended_push-same = search (operands_same, push_operand-same) depth 16 fits 4000
-
-  extended_store-same : Same sim Anything itself (extended_store M) (extended_store N)
-  unfolding extended_store
-  extended_store-same = search operands_same depth 16 fits 4000
-
-  extended_store_and_pop-same : Same sim Anything itself (extended_store_and_pop M) (extended_store_and_pop N)
-  unfolding extended_store_and_pop
-  extended_store_and_pop-same = search (operands_same, store_and_pop-same) depth 16 fits 4000
-
-  pop_stack-same : Same sim Anything itself (pop_stack M) (pop_stack N)
-  unfolding pop_stack
-  pop_stack-same = search operands_same depth 16 fits 4000
-
-  duplicate_top-same : Same sim Anything itself (duplicate_top M) (duplicate_top N)
-  unfolding duplicate_top
-  duplicate_top-same = search operands_same depth 16 fits 4000
-
-  push_active_context-same : Same sim Anything itself (push_active_context M) (push_active_context N)
-  unfolding push_active_context
-  push_active_context-same = search operands_same depth 16 fits 4000
-
-  short_unconditional_jump-same : (i : ℕ) → Same sim Anything itself (short_unconditional_jump i) (short_unconditional_jump i)
-  unfolding short_unconditional_jump
-  short_unconditional_jump-same i = search operands_same depth 16 fits 4000
-
-  long_unconditional_jump-same : (i : ℕ) → Same sim Anything itself (long_unconditional_jump M i) (long_unconditional_jump N i)
-  unfolding long_unconditional_jump
-  long_unconditional_jump-same i = search operands_same depth 16 fits 4000
-
-  bytecode-same : (b : Bytecode) → Same sim Anything itself (bytecode M b) (bytecode N b)
-  unfolding bytecode
-  bytecode-same (code.Push o) = push_operand-same o
-  bytecode-same (code.StoreAndPop o) = store_and_pop-same o
-  bytecode-same code.PushReceiver = push_receiver-same
-  bytecode-same (code.PushConstant c) = push_constant-same c
-  bytecode-same code.ExtendedPush = extended_push-same
-  bytecode-same code.ExtendedStore = extended_store-same
-  bytecode-same code.ExtendedStoreAndPop = extended_store_and_pop-same
-  bytecode-same code.PopStack = pop_stack-same
-  bytecode-same code.DuplicateTop = duplicate_top-same
-  bytecode-same code.PushActiveContext = push_active_context-same
-  bytecode-same (code.ShortUnconditionalJump i) = short_unconditional_jump-same i
-  bytecode-same (code.LongUnconditionalJump i) = long_unconditional_jump-same i
-  bytecode-same code.Unused = search steps_same
-
-  perform-same : (b : ℕ) (c : Option Bytecode) → Same sim Anything itself (perform M b c) (perform N b c)
-  unfolding perform
-  perform-same b None = search steps_same
-  perform-same b (Some c) = search (steps_same, bytecode-same) depth 16 fits 4000
-
-  pub step-same : Same sim Anything itself (step M) (step N)
-  unfolding step
-  step-same = search (parts_same, perform-same) depth 16 fits 4000
+  pub ruleset parts_same = (memory_same, new_object-same, class_of-same, fetch_integer-same, count_fields-same, transfer-same, store_field-same, push-same, under-same, look_at_words-same, drop_words-same, top-same, pop-same, literal-same, next_byte-same, jump-same, number_or_die-same, integer_or_die-same)

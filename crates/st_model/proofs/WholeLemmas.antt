@@ -71,7 +71,7 @@ module _ (P Q : ℕ → Type 0) (f : (n : ℕ) → P n → Q n) where
   live_more (Small n) h = h
   live_more (Ref n) h = f n h
 
-  live_all : (xs : List Value) → AllLive P xs → AllLive Q xs
+  pub live_all : (xs : List Value) → AllLive P xs → AllLive Q xs
   live_all [] h = tt
   live_all (y ∷ ys) h = (live_more y h.0, live_all ys h.1)
 

@@ -7,6 +7,7 @@ use Rattle.st_model.specs.Text.{value_text}
 use Rattle.st_model.specs.Values.{Value, Small, Ref, value_of, is_small, integer, integer_of}
 use Rattle.st_model.specs.Objects.{place_of, NilObject, FalseObject, TrueObject, SchedulerAssociation}
 use Rattle.st_model.specs.Formed.{literals_of}
+use Rattle.st_model.specs.Steps.{same_value}
 
 is_small_if : (b : Bool) (n : ℕ) → is_small (if b then Small n else Ref n) ≡ b
 is_small_if true n = refl
@@ -39,6 +40,8 @@ integer-low n l = let b : nat_lt n 16384 ≡ true = grind (arith, nat_tests) in 
 
 pub integer-high : (n : ℕ) → 16384 ≤ n → integer n ≡ negsuc (32767 - n)
 integer-high n l = let b : nat_lt n 16384 ≡ false = grind (arith, nat_tests) in rw b refl
+
+pub ruleset word_integers = (integer_of-value_of, integer-low, integer-high)
 
 pub ruleset integers = (integer_of-value_of, integer-low, integer-high)
 
@@ -84,3 +87,14 @@ pub value_text-small : (w : ℕ) → is_small (value_of w) ≡ true → value_te
 value_text-small w e = text_small (value_of w) e
 
 pub ruleset texts = (value_text-pointer, value_text-small)
+
+same_if : (a b : ℕ) (p q : Bool) → (a % 2 == 1) ≡ p → (b % 2 == 1) ≡ q
+    → (a == b) ≡ same_value (if p then Small (a / 2) else Ref (a / 2)) (if q then Small (b / 2) else Ref (b / 2))
+same_if a b true true e f = grind (arith, nat_tests)
+same_if a b true false e f = grind (arith, nat_tests)
+same_if a b false true e f = grind (arith, nat_tests)
+same_if a b false false e f = grind (arith, nat_tests)
+
+pub same_words : (a b : ℕ) → (a == b) ≡ same_value (value_of a) (value_of b)
+unfolding value_of
+same_words a b = same_if a b (a % 2 == 1) (b % 2 == 1) refl refl

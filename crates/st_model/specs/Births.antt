@@ -57,6 +57,17 @@ borne [] n = None
 borne (b ∷ h) zero = kept_pointer b
 borne (b ∷ h) (suc n) = borne h n
 
+-- the pointer of a birth, as far as there is one
+abbrev pub pointer_of : Births → ℕ → ℕ
+pointer_of [] n = 0
+pointer_of (b ∷ h) zero = b.pointer
+pointer_of (b ∷ h) (suc n) = pointer_of h n
+
+-- the sum of a number over the kept objects
+abbrev pub total_kept : (Object → ℕ) → Births → ℕ
+total_kept weight [] = 0
+total_kept weight (b ∷ h) = (if b.kept then weight b.object else 0) + total_kept weight h
+
 -- a new object goes to the end, and is kept
 abbrev pub born : Births → Birth → Births
 born [] b = b ∷ []
@@ -77,4 +88,7 @@ births = record {
   size = λ h. length h;
   kept = λ h n. is_some (borne h n);
   settled = settled_births;
+  pointer = pointer_of;
+  total = total_kept;
+  bounded = false;
 }

@@ -1,8 +1,6 @@
 -- The bytecodes, a definition for each group of rows of the book's table (chapter 28), and the step that does one.
-use Rattle.std.specs.Prelude.{ℕ, ◌+◌, Option, Some, None, ℤ, pos, ◌+ℤ◌, ◌-ℤ◌, ◌*ℤ◌}
+use Rattle.std.specs.Prelude.{ℕ, ◌+◌, ◌*◌, Option, None, ℤ, pos, ◌+ℤ◌, ◌-ℤ◌, ◌*ℤ◌}
 use Rattle.st_model.specs.declared.dead.Dead.TheVariants as dead
-use Rattle.st_model.specs.declared.outcome.Outcome.{Outcome}
-use Rattle.st_model.specs.declared.outcome.Outcome.TheVariants as outcome
 use Rattle.st_model.specs.declared.bytecode.Operand.{Operand}
 use Rattle.st_model.specs.declared.bytecode.Operand.TheVariants.{ReceiverVariable, TemporaryVariable, LiteralConstant, LiteralVariable}
 use Rattle.st_model.specs.declared.bytecode.Constant.{Constant}
@@ -11,9 +9,12 @@ use Rattle.st_model.specs.declared.bytecode.Bytecode.{Bytecode}
 use Rattle.st_model.specs.declared.bytecode.Bytecode.TheVariants as code
 use Rattle.st_model.specs.Values.{Value, Small}
 use Rattle.st_model.specs.Objects.{NilObject, FalseObject, TrueObject}
-use Rattle.st_model.specs.Decoded.{decoded, operand_of}
+use Rattle.st_model.specs.Outcomes.{Outcome}
+use Rattle.st_model.specs.Decoded.{decoded, operand_of, selector_of, arguments_of}
 use Rattle.st_model.specs.Machine.{ObjectMemory, Step, answer, die, ◌>>=◌, ◌>>◌}
 use Rattle.st_model.specs.Steps.{get_active, get_home, get_method, get_receiver, fetch_field, store_field, of_page, push, top, pop, literal, next_byte, jump}
+use Rattle.st_model.specs.Sends.{goes_on, send, send_to_super, special_send, arithmetic_send}
+use Rattle.st_model.specs.Returns.{return_to_sender, return_to_caller, jump_on}
 
 -- Receiver variable i is field i of the receiver, temporary variable i is field 6 + i of the home context,
 -- and literal variable i is the value of an association, field 1 of literal i.
@@ -150,31 +151,116 @@ long_unconditional_jump m i = do
   b ← next_byte m
   jump (long_offset i b)
 
--- the row of a bytecode
-unfoldable pub bytecode : {H : Type 0} → ObjectMemory H → Bytecode → Step H Unit
-bytecode m (code.Push operand) = push_operand m operand
-bytecode m (code.StoreAndPop operand) = store_and_pop m operand
-bytecode m code.PushReceiver = push_receiver m
-bytecode m (code.PushConstant c) = push_constant m c
-bytecode m code.ExtendedPush = extended_push m
-bytecode m code.ExtendedStore = extended_store m
-bytecode m code.ExtendedStoreAndPop = extended_store_and_pop m
-bytecode m code.PopStack = pop_stack m
-bytecode m code.DuplicateTop = duplicate_top m
-bytecode m code.PushActiveContext = push_active_context m
-bytecode m (code.ShortUnconditionalJump i) = short_unconditional_jump i
-bytecode m (code.LongUnconditionalJump i) = long_unconditional_jump m i
-bytecode m code.Unused = die dead.Code
+-- literal i is sent with n arguments
+unfoldable pub send_literal : {H : Type 0} → ObjectMemory H → ℕ → ℕ → Step H (Option Outcome)
+send_literal m i n = do
+  selector ← fetch_literal_constant m i
+  send m selector n
 
--- a code whose row isn't built yet does nothing
-unfoldable pub perform : {H : Type 0} → ObjectMemory H → ℕ → Option Bytecode → Step H Outcome
-perform m b None = answer (outcome.Unbuilt b)
-perform m b (Some c) = do
-  bytecode m c
-  answer outcome.Went
+unfoldable pub send_literal_to_super : {H : Type 0} → ObjectMemory H → ℕ → ℕ → Step H (Option Outcome)
+send_literal_to_super m i n = do
+  selector ← fetch_literal_constant m i
+  send_to_super m selector n
+
+-- 131
+unfoldable pub extended_send : {H : Type 0} → ObjectMemory H → Step H (Option Outcome)
+extended_send m = do
+  b ← next_byte m
+  send_literal m (selector_of b) (arguments_of b)
+
+-- 132: the first byte is the number of arguments, and the second numbers the literal
+unfoldable pub double_extended_send : {H : Type 0} → ObjectMemory H → Step H (Option Outcome)
+double_extended_send m = do
+  n ← next_byte m
+  i ← next_byte m
+  send_literal m i n
+
+-- 133
+unfoldable pub extended_super_send : {H : Type 0} → ObjectMemory H → Step H (Option Outcome)
+extended_super_send m = do
+  b ← next_byte m
+  send_literal_to_super m (selector_of b) (arguments_of b)
+
+-- 134
+unfoldable pub double_extended_super_send : {H : Type 0} → ObjectMemory H → Step H (Option Outcome)
+double_extended_super_send m = do
+  n ← next_byte m
+  i ← next_byte m
+  send_literal_to_super m i n
+
+-- 120
+unfoldable pub return_receiver : {H : Type 0} → ObjectMemory H → Step H (Option Outcome)
+return_receiver m = do
+  receiver ← get_receiver
+  return_to_sender m receiver
+
+-- 121 to 123
+unfoldable pub return_constant : {H : Type 0} → ObjectMemory H → Constant → Step H (Option Outcome)
+return_constant m c = do
+  x ← constant_value m c
+  return_to_sender m x
+
+-- 124
+unfoldable pub return_top_to_sender : {H : Type 0} → ObjectMemory H → Step H (Option Outcome)
+return_top_to_sender m = do
+  x ← pop m
+  return_to_sender m x
+
+-- 125
+unfoldable pub return_top_to_caller : {H : Type 0} → ObjectMemory H → Step H (Option Outcome)
+return_top_to_caller m = do
+  x ← pop m
+  return_to_caller m x
+
+-- 152 to 159
+unfoldable pub short_jump_on_false : {H : Type 0} → ObjectMemory H → ℕ → Step H (Option Outcome)
+short_jump_on_false m i = jump_on m FalseObject TrueObject (pos (i + 1))
+
+-- 168 to 171
+unfoldable pub long_jump_on_true : {H : Type 0} → ObjectMemory H → ℕ → Step H (Option Outcome)
+long_jump_on_true m i = do
+  b ← next_byte m
+  jump_on m TrueObject FalseObject (pos (i * 256 + b))
+
+-- 172 to 175
+unfoldable pub long_jump_on_false : {H : Type 0} → ObjectMemory H → ℕ → Step H (Option Outcome)
+long_jump_on_false m i = do
+  b ← next_byte m
+  jump_on m FalseObject TrueObject (pos (i * 256 + b))
+
+-- the row of a bytecode; none where it comes to a primitive that isn't built
+unfoldable pub bytecode : {H : Type 0} → ObjectMemory H → Bytecode → Step H (Option Outcome)
+bytecode m (code.Push operand) = goes_on (push_operand m operand)
+bytecode m (code.StoreAndPop operand) = goes_on (store_and_pop m operand)
+bytecode m code.PushReceiver = goes_on (push_receiver m)
+bytecode m (code.PushConstant c) = goes_on (push_constant m c)
+bytecode m code.ReturnReceiver = return_receiver m
+bytecode m (code.ReturnConstant c) = return_constant m c
+bytecode m code.ReturnTopToSender = return_top_to_sender m
+bytecode m code.ReturnTopToCaller = return_top_to_caller m
+bytecode m code.Unused = die dead.Code
+bytecode m code.ExtendedPush = goes_on (extended_push m)
+bytecode m code.ExtendedStore = goes_on (extended_store m)
+bytecode m code.ExtendedStoreAndPop = goes_on (extended_store_and_pop m)
+bytecode m code.ExtendedSend = extended_send m
+bytecode m code.DoubleExtendedSend = double_extended_send m
+bytecode m code.ExtendedSuperSend = extended_super_send m
+bytecode m code.DoubleExtendedSuperSend = double_extended_super_send m
+bytecode m code.PopStack = goes_on (pop_stack m)
+bytecode m code.DuplicateTop = goes_on (duplicate_top m)
+bytecode m code.PushActiveContext = goes_on (push_active_context m)
+bytecode m (code.ShortUnconditionalJump i) = goes_on (short_unconditional_jump i)
+bytecode m (code.ShortJumpOnFalse i) = short_jump_on_false m i
+bytecode m (code.LongUnconditionalJump i) = goes_on (long_unconditional_jump m i)
+bytecode m (code.LongJumpOnTrue i) = long_jump_on_true m i
+bytecode m (code.LongJumpOnFalse i) = long_jump_on_false m i
+bytecode m (code.ArithmeticSend k) = arithmetic_send m k
+bytecode m (code.SpecialSend k) = special_send m k
+bytecode m (code.PrimitiveSend k) = answer None
+bytecode m (code.LiteralSend i n) = send_literal m i n
 
 -- the next bytecode
-unfoldable pub step : {H : Type 0} → ObjectMemory H → Step H Outcome
+unfoldable pub step : {H : Type 0} → ObjectMemory H → Step H (Option Outcome)
 step m = do
   b ← next_byte m
-  perform m b (decoded b)
+  bytecode m (decoded b)

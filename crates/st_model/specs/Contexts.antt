@@ -1,10 +1,11 @@
 -- Contexts and the registers that are fetched from them (chapter 27).
-use Rattle.std.specs.Prelude.{ℕ, ◌+◌, ℤ, pos, negsuc, ◌+ℤ◌, ◌-ℤ◌, nat_lt, nat_le}
+use Rattle.std.specs.Prelude.{ℕ, ◌+◌, ◌-◌, ◌*◌, ℤ, pos, negsuc, ◌+ℤ◌, ◌-ℤ◌, nat_lt, nat_le}
 use Rattle.st_model.specs.declared.dead.Dead.TheVariants as dead
-use Rattle.st_model.specs.Values.{Value, Small, Ref}
-use Rattle.st_model.specs.Objects.{SchedulerAssociation}
+use Rattle.st_model.specs.Values.{Value, Small, Ref, small_integer}
+use Rattle.st_model.specs.Objects.{SchedulerAssociation, MethodContextClass}
 use Rattle.st_model.specs.Machine.{ObjectMemory, Registers, Step, answer, die, ◌>>=◌, ◌>>◌}
-use Rattle.st_model.specs.Steps.{check, of_page, count_fields, fetch_field, fetch_integer, set_registers}
+use Rattle.st_model.specs.Steps.{check, of_page, new_object, count_fields, fetch_field, store_field, fetch_integer, transfer, get_active, get_ip, get_sp, set_sp, set_registers, look_at_words, drop_words}
+use Rattle.st_model.specs.Methods.{literal_count, temporary_count, context_size}
 
 -- Field 3 of a method context is its method; that of a block context is an argument count, and its home is field 5.
 unfoldable pub home_by : {H : Type 0} → ObjectMemory H → Value → Value → Step H Value
@@ -46,7 +47,7 @@ context_registers m c = do
 unfoldable pub fetch_context_registers : {H : Type 0} → ObjectMemory H → Value → Step H Unit
 fetch_context_registers m c = do
   r ← context_registers m c
-  set_registers r
+  set_registers m r
 
 -- the context of the scheduler's active process
 unfoldable pub scheduled_context : {H : Type 0} → ObjectMemory H → Step H Value
@@ -60,3 +61,54 @@ unfoldable pub fetch_scheduled_registers : {H : Type 0} → ObjectMemory H → S
 fetch_scheduled_registers m = do
   c ← scheduled_context m
   fetch_context_registers m c
+
+-- the instruction pointer is stored plus 1, and the stack pointer less 5
+unfoldable pub store_context_registers : {H : Type 0} → ObjectMemory H → Step H Unit
+store_context_registers m = do
+  c ← get_active
+  ip ← get_ip
+  sp ← get_sp
+  store_field m c 1 (small_integer (ip +ℤ pos 1))
+  store_field m c 2 (Small (sp - 5))
+
+-- from the active context to this one
+unfoldable pub switch : {H : Type 0} → ObjectMemory H → Value → Step H Unit
+switch m c = do
+  store_context_registers m
+  fetch_context_registers m c
+
+-- The sender, the instruction pointer of the first bytecode as it is stored, the temporary count as stack pointer, and
+-- the method; field 4 isn't used.
+unfoldable pub fill_context : {H : Type 0} → ObjectMemory H → Value → Value → Value → Step H Unit
+fill_context m context method header = do
+  active ← get_active
+  store_field m context 0 active
+  store_field m context 1 (Small (2 * literal_count header + 3))
+  store_field m context 2 (Small (temporary_count header))
+  store_field m context 3 method
+
+unfoldable pub new_context : {H : Type 0} → ObjectMemory H → Value → Value → Step H Value
+new_context m method header = do
+  class ← of_page m MethodContextClass
+  context ← new_object m class (context_size header)
+  fill_context m context method header
+  answer context
+
+-- receiver and n arguments go from the stack to fields 5 and on of the context
+unfoldable pub pass_words : {H : Type 0} → ObjectMemory H → Value → ℕ → Step H Unit
+pass_words m context n = do
+  c ← get_active
+  sp ← get_sp
+  transfer m (n + 1) c (sp - n) context 5
+  drop_words (n + 1)
+
+-- A context of the method becomes the active one. It must have places for receiver and arguments, and for all
+-- temporary variables.
+unfoldable pub activate : {H : Type 0} → ObjectMemory H → Value → Value → ℕ → Step H Unit
+activate m method header n = do
+  look_at_words m n
+  check dead.Sp (nat_le (6 + n) (context_size header))
+  check dead.Sp (nat_le (6 + temporary_count header) (context_size header))
+  context ← new_context m method header
+  pass_words m context n
+  switch m context

@@ -1,10 +1,10 @@
 -- What the bytes of the bytecodes name (the table of chapter 28).
-use Rattle.std.specs.Prelude.{ℕ, Option, Some, None, ◌-◌, ◌%◌, ◌<◌, nat_lt, ◌==◌, if◌then◌else◌, ⊤}
+use Rattle.std.specs.Prelude.{ℕ, ◌-◌, ◌/◌, ◌%◌, ◌<◌, ◌≤◌, nat_lt, ◌==◌, if◌then◌else◌, ⊤}
 use Rattle.st_model.specs.declared.bytecode.Operand.{Operand}
 use Rattle.st_model.specs.declared.bytecode.Operand.TheVariants.{ReceiverVariable, TemporaryVariable, LiteralConstant, LiteralVariable}
 use Rattle.st_model.specs.declared.bytecode.Constant.TheVariants.{True, False, Nil, MinusOne, Zero, One, Two}
 use Rattle.st_model.specs.declared.bytecode.Bytecode.{Bytecode}
-use Rattle.st_model.specs.declared.bytecode.Bytecode.TheVariants.{Push, StoreAndPop, PushReceiver, PushConstant, ExtendedPush, ExtendedStore, ExtendedStoreAndPop, PopStack, DuplicateTop, PushActiveContext, ShortUnconditionalJump, LongUnconditionalJump, Unused}
+use Rattle.st_model.specs.declared.bytecode.Bytecode.TheVariants.{Push, StoreAndPop, PushReceiver, PushConstant, ReturnReceiver, ReturnConstant, ReturnTopToSender, ReturnTopToCaller, Unused, ExtendedPush, ExtendedStore, ExtendedStoreAndPop, ExtendedSend, DoubleExtendedSend, ExtendedSuperSend, DoubleExtendedSuperSend, PopStack, DuplicateTop, PushActiveContext, ShortUnconditionalJump, ShortJumpOnFalse, LongUnconditionalJump, LongJumpOnTrue, LongJumpOnFalse, ArithmeticSend, SpecialSend, PrimitiveSend, LiteralSend}
 
 -- the byte after an extended code: the upper two bits are the type, the lower six the number
 abbrev pub operand_of : ℕ → Operand
@@ -13,36 +13,59 @@ operand_of b =
     if nat_lt b 128 then TemporaryVariable (b % 64) else
     if nat_lt b 192 then LiteralConstant (b % 64) else LiteralVariable (b % 64)
 
--- what the first byte of a bytecode means; none for a code whose row isn't built yet
-abbrev pub decoded : ℕ → Option Bytecode
+-- of the byte after 131 or 133 the lower five bits number a literal, and the upper three are the number of arguments
+abbrev pub selector_of : ℕ → ℕ
+selector_of b = b % 32
+
+abbrev pub arguments_of : ℕ → ℕ
+arguments_of b = b / 32
+
+-- what the first byte of a bytecode means
+abbrev pub decoded : ℕ → Bytecode
 decoded b =
-    if nat_lt b 16 then Some (Push (ReceiverVariable b)) else
-    if nat_lt b 32 then Some (Push (TemporaryVariable (b - 16))) else
-    if nat_lt b 64 then Some (Push (LiteralConstant (b - 32))) else
-    if nat_lt b 96 then Some (Push (LiteralVariable (b - 64))) else
-    if nat_lt b 104 then Some (StoreAndPop (ReceiverVariable (b - 96))) else
-    if nat_lt b 112 then Some (StoreAndPop (TemporaryVariable (b - 104))) else
-    if b == 112 then Some PushReceiver else
-    if b == 113 then Some (PushConstant True) else
-    if b == 114 then Some (PushConstant False) else
-    if b == 115 then Some (PushConstant Nil) else
-    if b == 116 then Some (PushConstant MinusOne) else
-    if b == 117 then Some (PushConstant Zero) else
-    if b == 118 then Some (PushConstant One) else
-    if b == 119 then Some (PushConstant Two) else
-    if nat_lt b 126 then None else
-    if nat_lt b 128 then Some Unused else
-    if b == 128 then Some ExtendedPush else
-    if b == 129 then Some ExtendedStore else
-    if b == 130 then Some ExtendedStoreAndPop else
-    if nat_lt b 135 then None else
-    if b == 135 then Some PopStack else
-    if b == 136 then Some DuplicateTop else
-    if b == 137 then Some PushActiveContext else
-    if nat_lt b 144 then Some Unused else
-    if nat_lt b 152 then Some (ShortUnconditionalJump (b - 144)) else
-    if nat_lt b 160 then None else
-    if nat_lt b 168 then Some (LongUnconditionalJump (b - 160)) else None
+    if nat_lt b 16 then Push (ReceiverVariable b) else
+    if nat_lt b 32 then Push (TemporaryVariable (b - 16)) else
+    if nat_lt b 64 then Push (LiteralConstant (b - 32)) else
+    if nat_lt b 96 then Push (LiteralVariable (b - 64)) else
+    if nat_lt b 104 then StoreAndPop (ReceiverVariable (b - 96)) else
+    if nat_lt b 112 then StoreAndPop (TemporaryVariable (b - 104)) else
+    if b == 112 then PushReceiver else
+    if b == 113 then PushConstant True else
+    if b == 114 then PushConstant False else
+    if b == 115 then PushConstant Nil else
+    if b == 116 then PushConstant MinusOne else
+    if b == 117 then PushConstant Zero else
+    if b == 118 then PushConstant One else
+    if b == 119 then PushConstant Two else
+    if b == 120 then ReturnReceiver else
+    if b == 121 then ReturnConstant True else
+    if b == 122 then ReturnConstant False else
+    if b == 123 then ReturnConstant Nil else
+    if b == 124 then ReturnTopToSender else
+    if b == 125 then ReturnTopToCaller else
+    if nat_lt b 128 then Unused else
+    if b == 128 then ExtendedPush else
+    if b == 129 then ExtendedStore else
+    if b == 130 then ExtendedStoreAndPop else
+    if b == 131 then ExtendedSend else
+    if b == 132 then DoubleExtendedSend else
+    if b == 133 then ExtendedSuperSend else
+    if b == 134 then DoubleExtendedSuperSend else
+    if b == 135 then PopStack else
+    if b == 136 then DuplicateTop else
+    if b == 137 then PushActiveContext else
+    if nat_lt b 144 then Unused else
+    if nat_lt b 152 then ShortUnconditionalJump (b - 144) else
+    if nat_lt b 160 then ShortJumpOnFalse (b - 152) else
+    if nat_lt b 168 then LongUnconditionalJump (b - 160) else
+    if nat_lt b 172 then LongJumpOnTrue (b - 168) else
+    if nat_lt b 176 then LongJumpOnFalse (b - 172) else
+    if nat_lt b 192 then ArithmeticSend (b - 176) else
+    if nat_lt b 198 then SpecialSend (b - 176) else
+    if nat_lt b 203 then PrimitiveSend (b - 176) else
+    if nat_lt b 208 then SpecialSend (b - 176) else
+    if nat_lt b 224 then LiteralSend (b - 208) 0 else
+    if nat_lt b 240 then LiteralSend (b - 224) 1 else LiteralSend (b - 240) 2
 
 -- an operand's number has six bits at most
 abbrev pub IsNumberedOperand : Operand → Type 0
@@ -51,18 +74,33 @@ IsNumberedOperand (TemporaryVariable i) = i < 64
 IsNumberedOperand (LiteralConstant i) = i < 64
 IsNumberedOperand (LiteralVariable i) = i < 64
 
--- and a jump's three
+-- the range of a bytecode's numbers
 abbrev pub IsNumbered : Bytecode → Type 0
 IsNumbered (Push o) = IsNumberedOperand o
 IsNumbered (StoreAndPop o) = IsNumberedOperand o
 IsNumbered PushReceiver = ⊤
 IsNumbered (PushConstant c) = ⊤
+IsNumbered ReturnReceiver = ⊤
+IsNumbered (ReturnConstant c) = ⊤
+IsNumbered ReturnTopToSender = ⊤
+IsNumbered ReturnTopToCaller = ⊤
+IsNumbered Unused = ⊤
 IsNumbered ExtendedPush = ⊤
 IsNumbered ExtendedStore = ⊤
 IsNumbered ExtendedStoreAndPop = ⊤
+IsNumbered ExtendedSend = ⊤
+IsNumbered DoubleExtendedSend = ⊤
+IsNumbered ExtendedSuperSend = ⊤
+IsNumbered DoubleExtendedSuperSend = ⊤
 IsNumbered PopStack = ⊤
 IsNumbered DuplicateTop = ⊤
 IsNumbered PushActiveContext = ⊤
 IsNumbered (ShortUnconditionalJump i) = i < 8
+IsNumbered (ShortJumpOnFalse i) = i < 8
 IsNumbered (LongUnconditionalJump i) = i < 8
-IsNumbered Unused = ⊤
+IsNumbered (LongJumpOnTrue i) = i < 4
+IsNumbered (LongJumpOnFalse i) = i < 4
+IsNumbered (ArithmeticSend i) = i < 32
+IsNumbered (SpecialSend i) = i < 32
+IsNumbered (PrimitiveSend i) = i < 32
+IsNumbered (LiteralSend i n) = (i < 16) × (n ≤ 2)

@@ -38,11 +38,15 @@ pub record IsFormed (o : Object) : Type 0 where
   pub size : words_of o ≤ 65535
 
 -- a new object of a class: fields are nil, units are 0, and a Method's header has the literal count and else zeros
+abbrev pub fresh_with : Value → ℕ → Kind → ℕ → ℕ → Object
+fresh_with nil class kind.Pointers size literals = record { class = class; kind = kind.Pointers; fields = replicate size nil; units = [] }
+fresh_with nil class kind.Words size literals = record { class = class; kind = kind.Words; fields = []; units = replicate size 0 }
+fresh_with nil class kind.Bytes size literals = record { class = class; kind = kind.Bytes; fields = []; units = replicate size 0 }
+fresh_with nil class kind.Method size literals = record { class = class; kind = kind.Method; fields = Small literals ∷ replicate literals nil; units = replicate (size - 2 * (literals + 1)) 0 }
+
+-- with nil of the table
 abbrev pub fresh : ℕ → Kind → ℕ → ℕ → Object
-fresh class kind.Pointers size literals = record { class = class; kind = kind.Pointers; fields = replicate size nil; units = [] }
-fresh class kind.Words size literals = record { class = class; kind = kind.Words; fields = []; units = replicate size 0 }
-fresh class kind.Bytes size literals = record { class = class; kind = kind.Bytes; fields = []; units = replicate size 0 }
-fresh class kind.Method size literals = record { class = class; kind = kind.Method; fields = Small literals ∷ replicate literals nil; units = replicate (size - 2 * (literals + 1)) 0 }
+fresh class k size literals = fresh_with nil class k size literals
 
 -- what a new object's kind asks of its class, its size in fields, words or bytes, and its number of literals
 pub record IsMakeable (class : ℕ) (k : Kind) (size literals : ℕ) : Type 0 where

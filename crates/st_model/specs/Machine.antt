@@ -1,8 +1,9 @@
 -- The machine over any object memory, as steps that change a state or die.
-use Rattle.std.specs.Prelude.{ℕ, ℤ, List, [], ◌∷◌, ◌++◌, Option, Some, None, Bool}
+use Rattle.std.specs.Prelude.{ℕ, ◌+◌, ℤ, List, [], ◌∷◌, ◌++◌, Option, Some, None, Bool, true, ◌&&◌, is_some, nat_lt, nat_le, if◌then◌else◌}
 use Rattle.st_model.specs.declared.dead.Dead.{Dead}
-use Rattle.st_model.specs.Values.{Value}
-use Rattle.st_model.specs.Objects.{Object, PageObject}
+use Rattle.st_model.specs.declared.demand.Demand.{Demand}
+use Rattle.st_model.specs.Values.{Value, Small, Ref}
+use Rattle.st_model.specs.Objects.{Object, PageObject, one, words_of}
 
 -- what a machine asks of the memory that keeps its objects under names (chapter 30)
 pub record ObjectMemory (H : Type 0) : Type 0 where
@@ -21,6 +22,12 @@ pub record ObjectMemory (H : Type 0) : Type 0 where
   pub settled : H → (ℕ → Bool) → H
   -- the name of an object of the root page
   pub named : H → PageObject → ℕ
+  -- half of the pointer that the object of this name bears
+  pub pointer : H → ℕ → ℕ
+  -- a number summed over the kept objects
+  pub total : (Object → ℕ) → H → ℕ
+  -- whether it makes an object only where the capacities have room for it
+  pub bounded : Bool
 
 -- The registers of the interpreter (chapter 27). ip is the number, from 0, of the next byte of the
 -- method; sp that of the active context's field that holds the top of the stack.
@@ -70,6 +77,24 @@ pub record State (H : Type 0) : Type 0 where
   pub registers : Registers
   pub world : World
   pub head : Head
+
+-- a SmallInteger of 15 bits, or a name of an object that is there; no machine meets another value
+abbrev pub is_there : {H : Type 0} → ObjectMemory H → H → Value → Bool
+is_there m h (Small n) = nat_lt n 32768
+is_there m h (Ref n) = is_some (m.read h n)
+
+-- the entries and the words of the kept objects
+abbrev pub used : {H : Type 0} → ObjectMemory H → H → Demand
+used m h = record { entries = m.total one h; words = m.total words_of h }
+
+-- so much is more than the capacities
+abbrev pub is_over : Demand → Head → Bool
+is_over d a = if nat_lt a.entries d.entries then true else nat_lt a.words d.words
+
+-- one object more may be made: always, but for a memory that is bounded
+abbrev pub has_room : {H : Type 0} → ObjectMemory H → Head → H → Object → Bool
+has_room m a h o =
+    if m.bounded then nat_le (m.total one h + 1) a.entries && nat_le (m.total words_of h + words_of o) a.words else true
 
 abbrev pub table_root : Option Value → List Value
 table_root None = []

@@ -2,6 +2,8 @@
 use Rattle.std.specs.Prelude.{ℕ, ◌+◌, ◌*◌, ◌/◌, List, [], ◌∷◌, length, Bool, true, false, if◌then◌else◌, slice_set}
 use Rattle.st_model.specs.declared.kind.Kind.{Kind}
 use Rattle.st_model.specs.declared.kind.Kind.TheVariants.{Pointers, Words, Bytes, Method}
+pub use Rattle.st_model.specs.declared.page.PageObject.{PageObject}
+pub use Rattle.st_model.specs.declared.page.PageObject.TheVariants.{NilObject, FalseObject, TrueObject, SchedulerAssociation, SmallIntegerClass, StringClass, ArrayClass, MethodContextClass, BlockContextClass, PointClass, LargeClass, MessageClass, MethodClass, CharacterClass, NotUnderstood, CannotReturn, Selectors, Characters, MustBeBoolean, SymbolClass}
 use Rattle.st_model.specs.Values.{Value, Ref, renamed_all, AllLive}
 
 -- The fields of a Method are its header and literals, and its units the bytes after them.
@@ -70,14 +72,10 @@ pub record IsLiveObject (live : ℕ → Type 0) (o : Object) : Type 0 where
   pub class : live o.class
   pub fields : AllLive live o.fields
 
--- the objects of the root page, which stay at their pointers (chapter 27's known pointers)
-pub data PageObject : Type 0 where
-  NilObject FalseObject TrueObject SchedulerAssociation SmallIntegerClass StringClass ArrayClass MethodContextClass BlockContextClass PointClass LargeClass MessageClass MethodClass CharacterClass NotUnderstood CannotReturn Selectors Characters MustBeBoolean SymbolClass : PageObject
-
 abbrev pub page : List PageObject
 page = NilObject ∷ FalseObject ∷ TrueObject ∷ SchedulerAssociation ∷ SmallIntegerClass ∷ StringClass ∷ ArrayClass ∷ MethodContextClass ∷ BlockContextClass ∷ PointClass ∷ LargeClass ∷ MessageClass ∷ MethodClass ∷ CharacterClass ∷ NotUnderstood ∷ CannotReturn ∷ Selectors ∷ Characters ∷ MustBeBoolean ∷ SymbolClass ∷ []
 
--- half of the pointer that the object bears
+-- half of the pointer that an object of the page bears
 abbrev pub place_of : PageObject → ℕ
 place_of NilObject = 1
 place_of FalseObject = 2

@@ -6,6 +6,7 @@ use Rattle.st_model.specs.Lists.{made}
 use Rattle.st_model.specs.Values.{Value, renamed, renamed_all, IsLive, AllLive}
 use Rattle.st_model.specs.Objects.{Object, PageObject, place_of, renamed_object, IsLiveObject}
 use Rattle.st_model.specs.Machine.{State, Registers, Devices, World, Head, roots_of}
+pub use Rattle.st_model.specs.Births.{pointer_of}
 use Rattle.st_model.specs.Births.{Births, object_born, borne, bears, bearer}
 use Rattle.st_model.specs.Table.{Table, entry}
 
@@ -32,12 +33,6 @@ renamed_option f (Some v) = Some (renamed f v)
 
 abbrev pub renamed_head : (ℕ → ℕ) → Head → Head
 renamed_head f a = record { entries = a.entries; words = a.words; globals = renamed_option f a.globals; symbols = renamed_option f a.symbols }
-
--- the pointer of a birth, as far as there is one
-abbrev pub pointer_of : Births → ℕ → ℕ
-pointer_of [] n = 0
-pointer_of (b ∷ h) zero = b.pointer
-pointer_of (b ∷ h) (suc n) = pointer_of h n
 
 abbrev pub IsKept : Births → ℕ → Type 0
 IsKept h n = (p : ℕ) × borne h n ≡ Some p

@@ -1,12 +1,14 @@
--- Registers, fields, the stack and the bytes of methods, over any memory (chapters 27 and 28). The checks of a
+-- Registers, fields, the stack, new objects and the bytes of methods, over any memory (chapters 27 and 28). The checks of a
 -- step stand in the order in which it makes them: the first that fails gives the cause of death.
-use Rattle.std.specs.Prelude.{ℕ, ◌+◌, ◌-◌, List, [], ◌∷◌, Option, Some, None, Bool, true, false, slice_get, nat_lt, nat_le, length, if◌then◌else◌, ℤ, pos, negsuc, ◌+ℤ◌, int_le}
+use Rattle.std.specs.Prelude.{ℕ, zero, suc, ◌+◌, ◌-◌, ◌==◌, List, [], ◌∷◌, Option, Some, None, Bool, true, false, ◌&&◌, slice_get, is_some, nat_lt, nat_le, length, if◌then◌else◌, ℤ, pos, negsuc, ◌+ℤ◌, int_le}
 use Rattle.st_model.specs.declared.dead.Dead.{Dead}
 use Rattle.st_model.specs.declared.dead.Dead.TheVariants as dead
 use Rattle.st_model.specs.declared.kind.Kind.{Kind}
+use Rattle.st_model.specs.declared.kind.Kind.TheVariants as kind
 use Rattle.st_model.specs.Values.{Value, Small, Ref, integer}
-use Rattle.st_model.specs.Objects.{Object, PageObject, is_pointers, is_method, first_unit, with_field}
-use Rattle.st_model.specs.Machine.{ObjectMemory, Registers, Went, Step, answer, die, ◌>>=◌, ◌>>◌}
+use Rattle.st_model.specs.Objects.{Object, PageObject, NilObject, SmallIntegerClass, is_pointers, is_method, first_unit, with_field}
+use Rattle.st_model.specs.Formed.{fresh_with}
+use Rattle.st_model.specs.Machine.{ObjectMemory, Registers, State, Transition, Died, Went, Step, is_there, has_room, answer, die, ◌>>=◌, ◌>>◌}
 
 -- the registers
 
@@ -34,9 +36,6 @@ set_ip n = record { run = λ s. Went tt (record s { registers = record s.registe
 unfoldable pub set_sp : {H : Type 0} → ℕ → Step H Unit
 set_sp n = record { run = λ s. Went tt (record s { registers = record s.registers { sp = n } }) }
 
-unfoldable pub set_registers : {H : Type 0} → Registers → Step H Unit
-set_registers r = record { run = λ s. Went tt (record s { registers = r }) }
-
 -- the memory
 
 -- no machine meets a name without an object; it would die of a wrong kind
@@ -52,24 +51,71 @@ unfoldable pub object : {H : Type 0} → ObjectMemory H → Value → Step H Obj
 object m (Small n) = die dead.Small
 object m (Ref n) = object_named m n
 
-unfoldable pub replace_at : {H : Type 0} → ObjectMemory H → ℕ → Object → Step H Unit
-replace_at m n o = record { run = λ s. Went tt (record s { memory = m.replace s.memory n o }) }
+-- What a step keeps is there: a value that is stored, a class, a register. No machine meets another; it would die of a
+-- wrong kind.
 
-unfoldable pub replace : {H : Type 0} → ObjectMemory H → Value → Object → Step H Unit
-replace m (Small n) o = die dead.Small
-replace m (Ref n) o = replace_at m n o
+unfoldable pub stored_at : {H : Type 0} → ObjectMemory H → ℕ → ℕ → Value → State H → Option Object → Bool → Transition (State H) Unit
+stored_at m n i x s None known = Died dead.Kind
+stored_at m n i x s (Some o) false = Died dead.Kind
+stored_at m n i x s (Some o) true = Went tt (record s { memory = m.replace s.memory n (with_field o i x) })
 
-unfoldable pub append : {H : Type 0} → ObjectMemory H → Object → Step H Value
-append m o = record { run = λ s. Went (Ref (m.next s.memory)) (record s { memory = m.append s.memory o }) }
+unfoldable pub store_at : {H : Type 0} → ObjectMemory H → ℕ → ℕ → Value → Step H Unit
+store_at m n i x = record { run = λ s. stored_at m n i x s (m.read s.memory n) (is_there m s.memory x) }
 
--- a new object of this class, at the end of all that were made
-unfoldable pub make : {H : Type 0} → ObjectMemory H → Value → Kind → List Value → List ℕ → Step H Value
-make m (Small n) kind fields units = die dead.Small
-make m (Ref class) kind fields units = append m (record { class = class; kind = kind; fields = fields; units = units })
+-- the object with x in field i takes its place
+unfoldable pub set_field : {H : Type 0} → ObjectMemory H → Value → ℕ → Value → Step H Unit
+set_field m (Small n) i x = die dead.Small
+set_field m (Ref n) i x = store_at m n i x
+
+-- a new object of a class, whose fields are nil
+abbrev pub new_of : {H : Type 0} → ObjectMemory H → H → ℕ → Kind → ℕ → ℕ → Object
+new_of m h class k size literals = fresh_with (Ref (m.named h NilObject)) class k size literals
+
+unfoldable pub made : {H : Type 0} → ObjectMemory H → Object → State H → Bool → Bool → Transition (State H) Value
+made m o s false room = Died dead.Kind
+made m o s true true = Went (Ref (m.next s.memory)) (record s { memory = m.append s.memory o })
+made m o s true false = Went (Ref (m.named s.memory NilObject)) s
+
+unfoldable pub make_named : {H : Type 0} → ObjectMemory H → ℕ → Kind → ℕ → ℕ → Step H Value
+make_named m class k size literals = record {
+  run = λ s.
+      made m (new_of m s.memory class k size literals) s (is_there m s.memory (Ref class)) (has_room m s.head s.memory (new_of m s.memory class k size literals));
+}
+
+-- One object more, of this class, kind, size and number of literals. A bounded memory makes none where there is no room
+-- for it, and answers nil.
+unfoldable pub make : {H : Type 0} → ObjectMemory H → Value → Kind → ℕ → ℕ → Step H Value
+make m (Small n) k size literals = die dead.Small
+make m (Ref class) k size literals = make_named m class k size literals
+
+-- a new object of kind Pointers, with n fields of nil
+unfoldable pub new_object : {H : Type 0} → ObjectMemory H → Value → ℕ → Step H Value
+new_object m class n = make m class kind.Pointers n 0
+
+unfoldable pub registers_set : {H : Type 0} → Registers → State H → Bool → Transition (State H) Unit
+registers_set r s false = Died dead.Kind
+registers_set r s true = Went tt (record s { registers = r })
+
+abbrev pub are_there : {H : Type 0} → ObjectMemory H → H → Registers → Bool
+are_there m h r = is_there m h r.active && (is_there m h r.home && (is_there m h r.method && is_there m h r.receiver))
+
+unfoldable pub set_registers : {H : Type 0} → ObjectMemory H → Registers → Step H Unit
+set_registers m r = record { run = λ s. registers_set r s (are_there m s.memory r) }
 
 -- an object of the page
 unfoldable pub of_page : {H : Type 0} → ObjectMemory H → PageObject → Step H Value
 of_page m q = record { run = λ s. Went (Ref (m.named s.memory q)) s }
+
+unfoldable pub class_of : {H : Type 0} → ObjectMemory H → Value → Step H Value
+class_of m (Small n) = of_page m SmallIntegerClass
+class_of m (Ref n) = object_named m n >>= (λ o. answer (Ref o.class))
+
+-- the same SmallInteger, or the same object
+abbrev pub same_value : Value → Value → Bool
+same_value (Small a) (Small b) = a == b
+same_value (Small a) (Ref b) = false
+same_value (Ref a) (Small b) = false
+same_value (Ref a) (Ref b) = a == b
 
 -- fields
 
@@ -94,7 +140,7 @@ store_field m v i x = do
   o ← object m v
   check dead.Kind (is_pointers o.kind)
   check dead.Field (nat_lt i (length o.fields))
-  replace m v (with_field o i x)
+  set_field m v i x
 
 -- the integer that a field must hold
 unfoldable pub integer_or_die : {H : Type 0} → Value → Step H ℤ
@@ -112,6 +158,27 @@ count_fields m v = do
   o ← object m v
   check dead.Kind (is_pointers o.kind)
   answer (length o.fields)
+
+-- n fields from one on, in their order
+unfoldable pub fetch_fields : {H : Type 0} → ObjectMemory H → Value → ℕ → ℕ → Step H (List Value)
+fetch_fields m v from zero = answer []
+fetch_fields m v from (suc n) = do
+  x ← fetch_field m v from
+  xs ← fetch_fields m v (suc from) n
+  answer (x ∷ xs)
+
+-- these into the fields from one on
+unfoldable pub store_fields : {H : Type 0} → ObjectMemory H → Value → ℕ → List Value → Step H Unit
+store_fields m v to [] = answer tt
+store_fields m v to (x ∷ xs) = do
+  store_field m v to x
+  store_fields m v (suc to) xs
+
+-- n fields of one object are stored into fields of another, once all of them are fetched
+unfoldable pub transfer : {H : Type 0} → ObjectMemory H → ℕ → Value → ℕ → Value → ℕ → Step H Unit
+transfer m n source from target to = do
+  xs ← fetch_fields m source from n
+  store_fields m target to xs
 
 -- the stack
 
@@ -138,6 +205,28 @@ top m = do
   check dead.Sp (nat_lt 5 sp)
   c ← get_active
   fetch_field m c sp
+
+-- the word k words below the top
+unfoldable pub under : {H : Type 0} → ObjectMemory H → ℕ → Step H Value
+under m k = do
+  sp ← get_sp
+  check dead.Sp (nat_lt (5 + k) sp)
+  c ← get_active
+  fetch_field m c (sp - k)
+
+-- The top word and the n below it are there. Where the lowest and the highest are, so are those between them.
+unfoldable pub look_at_words : {H : Type 0} → ObjectMemory H → ℕ → Step H Unit
+look_at_words m n = do
+  lowest ← under m n
+  highest ← top m
+  answer tt
+
+-- pops n words that were looked at, of which none is below the stack
+unfoldable pub drop_words : {H : Type 0} → ℕ → Step H Unit
+drop_words n = do
+  sp ← get_sp
+  check dead.Sp (nat_le (5 + n) sp)
+  set_sp (sp - n)
 
 -- the word at the top, which stays in its field
 unfoldable pub pop : {H : Type 0} → ObjectMemory H → Step H Value

@@ -1,6 +1,6 @@
--- The code's object memory: an object, or none, for each halved pointer. Place 0 is never used, and pointers are borne
--- again.
-use Rattle.std.specs.Prelude.{◌+◌, length, ℕ, zero, suc, List, [], ◌∷◌, Option, Some, None, Bool, is_some, if◌then◌else◌}
+-- The code's object memories: an object, or none, for each halved pointer. Place 0 is never used, and pointers are
+-- borne again.
+use Rattle.std.specs.Prelude.{◌≡◌, ◌+◌, ◌-◌, length, take, ℕ, zero, suc, List, [], ◌∷◌, Option, Some, None, Bool, true, false, is_some, nat_lt, if◌then◌else◌}
 use Rattle.st_model.specs.Objects.{Object, place_of}
 use Rattle.st_model.specs.Machine.{ObjectMemory}
 
@@ -58,4 +58,47 @@ table = record {
   size = λ t. length t;
   kept = λ t k. is_some (entry t k);
   settled = settled_table;
+  pointer = λ t k. k;
+  total = total_used;
+  bounded = false;
 }
+
+-- The table of a running machine, which makes an object only where the capacities have room for it. Where they have
+-- none, nothing is made, and the answer is nil.
+abbrev pub bounded_table : ObjectMemory Table
+bounded_table = record table { bounded = true }
+
+-- an object more at the table's end
+abbrev pub joined : Table → Object → Table
+joined [] o = Some o ∷ []
+joined (e ∷ t) o = e ∷ joined t o
+
+-- where the first of these places is k, the place of the free one number i, counted from 0
+abbrev pub free_place : Table → ℕ → ℕ → ℕ
+free_place [] k i = k + i
+free_place (None ∷ t) k zero = k
+free_place (None ∷ t) k (suc i) = free_place t (suc k) i
+free_place (Some o ∷ t) k i = free_place t (suc k) i
+
+abbrev pub without_first : Table → Table
+without_first [] = []
+without_first (e ∷ t) = t
+
+-- the names below 32768 are halved pointers; object number i of those above bears the free pointer number i
+abbrev pub pointer_apart : Table → ℕ → ℕ
+pointer_apart t k = if nat_lt k 32768 then k else free_place (without_first (take 32768 t)) 1 (k - 32768)
+
+-- A table of 32768 places in which a step is foreseen: new objects stand apart, behind all places, so that there is
+-- always one for them.
+abbrev pub apart : ObjectMemory Table
+apart = record table {
+  append = joined;
+  next = λ t. length t;
+  pointer = pointer_apart;
+}
+
+-- it reads, changes and names objects as the table does, and may make new ones in its own way
+pub record IsTabular (m : ObjectMemory Table) : Type 0 where
+  pub read : m.read ≡ entry
+  pub replace : m.replace ≡ changed
+  pub named : m.named ≡ table.named

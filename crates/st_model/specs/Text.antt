@@ -1,20 +1,21 @@
 -- The text of a report: a run's end, the registers, the input state, what is held, what is used, and every object.
 -- Each line ends with LF. Pointers are written as @60, SmallIntegers as numbers.
-use Rattle.std.specs.Prelude.{codes, ℕ, ◌+◌, ◌-◌, ◌*◌, suc, List, [], ◌∷◌, ◌++◌, length, Some, None, ℤ, pos, ◌+ℤ◌}
+use Rattle.std.specs.Prelude.{codes, ℕ, ◌+◌, ◌-◌, ◌*◌, ◌/◌, ◌%◌, ◌==◌, zero, suc, List, [], ◌∷◌, ◌++◌, length, Option, Some, None, ℤ, pos, ◌+ℤ◌, nat_lt, if◌then◌else◌}
 use Rattle.std.specs.Fmt.{decimal, signed_decimal}
 use Rattle.std.specs.List.{flat_map}
 use Rattle.st_model.specs.declared.dead.Dead.{Dead}
 use Rattle.st_model.specs.declared.kind.Kind.{Kind}
 use Rattle.st_model.specs.declared.kind.Kind.TheVariants.{Pointers, Words, Bytes, Method}
-use Rattle.st_model.specs.declared.outcome.Outcome.{Outcome}
-use Rattle.st_model.specs.declared.outcome.Outcome.TheVariants as outcome
+use Rattle.st_model.specs.declared.demand.Demand.{Demand}
+use Rattle.st_model.specs.Outcomes.{Outcome, Ending, With, Space, Unbuilt}
+use Rattle.st_model.specs.Outcomes as outcome
 use Rattle.st_model.specs.Values.{Value, Small, Ref, integer}
 use Rattle.st_model.specs.Objects.{Object, one, words_of}
 use Rattle.st_model.specs.Deaths.{dead_number}
 use Rattle.st_model.specs.Machine.{Registers, World, State, Transition, Died, Went}
 use Rattle.st_model.specs.Table.{Table, total_used}
-use Rattle.st_model.specs.Births.{Births, births}
-use Rattle.st_model.specs.Cycles.{run, finished}
+use Rattle.st_model.specs.Births.{Births, births, object_born}
+use Rattle.st_model.specs.Cycles.{cycle}
 use Rattle.st_model.specs.Show.{show}
 
 abbrev pub value_text : Value → List ℕ
@@ -95,16 +96,56 @@ dead_text n cause = codes "dead" ++ (numbers_text (n ∷ dead_number cause ∷ [
 abbrev pub unbuilt_text : ℕ → ℕ → List ℕ
 unbuilt_text n code = codes "unbuilt" ++ (numbers_text (n ∷ code ∷ []) ++ codes "\n")
 
--- a dead machine shows nothing but its cause
-abbrev pub report : ℕ → Transition (State Table) Outcome → List ℕ
-report n (Died cause) = dead_text n cause
-report n (Went outcome.Went s) = ran_text n ++ state_text s
-report n (Went (outcome.Unbuilt code) s) = unbuilt_text n code ++ state_text s
+-- what the step would have made, and what was free
+abbrev pub space_text : ℕ → Demand → Demand → List ℕ
+space_text n demand left = codes "space" ++ (numbers_text (n ∷ demand.entries ∷ demand.words ∷ left.entries ∷ left.words ∷ []) ++ codes "\n")
 
-abbrev pub shown_end : Transition (State Births) Outcome → Transition (State Table) Outcome
-shown_end (Died cause) = Died cause
-shown_end (Went a s) = Went a (show s)
+abbrev pub quit_text : ℕ → List ℕ
+quit_text n = codes "quit" ++ (numbers_text (n ∷ []) ++ codes "\n")
 
--- what is said of a run of n cycles of the book's machine
-unfoldable pub run_text : ℕ → State Births → List ℕ
-run_text n s = report (finished births n s) (shown_end (run births n s))
+abbrev pub debugger_text : ℕ → List ℕ
+debugger_text n = codes "debugger" ++ (numbers_text (n ∷ []) ++ codes "\n")
+
+-- the digit of a number below 16
+abbrev pub hexadecimal : ℕ → ℕ
+hexadecimal n = if nat_lt n 10 then 48 + n else 87 + n
+
+-- a byte from 32 to 126 but 92 stands for itself, and others are a backslash and two hexadecimal digits
+abbrev pub escaped_byte : ℕ → List ℕ
+escaped_byte b =
+    if nat_lt b 32 then 92 ∷ hexadecimal (b / 16) ∷ hexadecimal (b % 16) ∷ [] else
+    if nat_lt 126 b then 92 ∷ hexadecimal (b / 16) ∷ hexadecimal (b % 16) ∷ [] else
+    if b == 92 then 92 ∷ hexadecimal (b / 16) ∷ hexadecimal (b % 16) ∷ [] else b ∷ []
+
+abbrev pub escaped : List ℕ → List ℕ
+escaped bytes = flat_map escaped_byte bytes
+
+-- the line that says the bytes of an object
+abbrev pub said_text : Option Object → List ℕ
+said_text None = []
+said_text (Some o) = codes "say " ++ (escaped o.units ++ codes "\n")
+
+abbrev pub said_value : Births → Value → List ℕ
+said_value h (Small n) = []
+said_value h (Ref n) = said_text (object_born h n)
+
+-- What is said of a cycle, where so many were finished before it, and of all that follow. A dead machine shows nothing
+-- but its cause. A snapshot is passed over, and what a bytecode says has a line of its own.
+abbrev pub cycles_text : ℕ → Transition (State Births) Ending → (State Births → List ℕ) → List ℕ
+cycles_text n (Died cause) f = dead_text n cause
+cycles_text n (Went (With outcome.Went) s) f = f s
+cycles_text n (Went (With outcome.Snapshot) s) f = f s
+cycles_text n (Went (With outcome.Quit) s) f = quit_text (suc n) ++ state_text (show s)
+cycles_text n (Went (With outcome.Debugger) s) f = debugger_text (suc n) ++ state_text (show s)
+cycles_text n (Went (With (outcome.Say v)) s) f = said_value s.memory v ++ f s
+cycles_text n (Went (Space demand left) s) f = space_text n demand left ++ state_text (show s)
+cycles_text n (Went (Unbuilt code) s) f = unbuilt_text n code ++ state_text (show s)
+
+-- what is said of so many cycles of the book's machine, after others that were finished
+unfoldable pub text_after : ℕ → ℕ → State Births → List ℕ
+text_after n zero s = ran_text n ++ state_text (show s)
+text_after n (suc k) s = cycles_text n (cycle births s) (λ t. text_after (suc n) k t)
+
+-- what is said of n cycles of the book's machine
+abbrev pub run_text : ℕ → State Births → List ℕ
+run_text n s = text_after 0 n s

@@ -1,14 +1,16 @@
 -- What a memory of the code contains, and what it says of itself at all times.
-use Rattle.std.specs.Prelude.{◌≡◌, ℕ, ◌+◌, ◌/◌, ◌%◌, ◌==◌, ◌-◌, ◌*◌, ◌<◌, ◌≤◌, replicate, Bool, true, false, List, [], ◌∷◌, ◌++◌, length, is_some, slice_get, slice_set, slice_index_or, unwrap_or, Option, Some, None, IsTrue, if◌then◌else◌, ⊤}
+use Rattle.std.specs.Prelude.{◌≡◌, ℕ, ◌+◌, ◌/◌, ◌%◌, ◌==◌, ◌-◌, ◌*◌, ◌<◌, ◌≤◌, replicate, Bool, true, false, List, [], ◌∷◌, ◌++◌, length, is_some, slice_get, slice_set, slice_index_or, unwrap_or, Option, Some, None, IsTrue, if◌then◌else◌, ⊤, nat_le, ◌&&◌, suc, zero, get_or}
+use Rattle.st_model.specs.declared.dead.Dead.{Dead}
+use Rattle.st_model.specs.declared.dead.Dead.TheVariants as dead
 use Rattle.st_model.specs.declared.place.RootPlace.{RootPlace}
 use Rattle.st_model.specs.declared.place.RootPlace.TheVariants as place
 use Rattle.st_model.specs.declared.kind.Kind.TheVariants as kind
 use Rattle.st_model.specs.declared.oop.Oop.{Oop}
 use Rattle.st_model.specs.declared.demand.Demand.{Demand}
 use Rattle.st_model.specs.Values.{Value, Small, Ref, value, value_of, is_small}
-use Rattle.st_model.specs.Objects.{Object, PageObject, nil, place_of, one, with_field, object_with_unit, words_of, IsLiveObject}
+use Rattle.st_model.specs.Objects.{Object, PageObject, nil, place_of, one, with_field, object_with_unit, words_of, IsLiveObject, is_pointers}
 use Rattle.st_model.specs.Formed.{IsFormed}
-use Rattle.st_model.specs.Machine.{Registers, Devices, Head, State, head_roots, device_roots}
+use Rattle.st_model.specs.Machine.{Devices, Head, head_roots, device_roots}
 use Rattle.st_model.specs.Table.{Table, table, entry, changed, total_used}
 use Rattle.st_model.specs.Settled.{IsSettled}
 use Rattle.st_model.specs.Show.{IsUsed}
@@ -53,6 +55,33 @@ with_object t (Ref n) o = slice_set t n (Some o)
 unfoldable pub with_stored : Table → Value → ℕ → Value → Table
 with_stored t (Small n) i x = t
 with_stored t (Ref n) i x = changed t n (with_field (object_of t (Ref n)) i x)
+
+-- the table with these in the object's fields from one on
+unfoldable pub with_fields : Table → Value → ℕ → List Value → Table
+with_fields t v i [] = t
+with_fields t v i (x ∷ xs) = with_fields (with_stored t v i x) v (suc i) xs
+
+-- what stands in field i of an object; nil where it has none
+unfoldable pub field_of : Table → Value → ℕ → Value
+field_of t v i = get_or (object_of t v).fields i nil
+
+-- n fields of an object from one on
+unfoldable pub fields_from : Table → Value → ℕ → ℕ → List Value
+fields_from t v i zero = []
+fields_from t v i (suc n) = field_of t v i ∷ fields_from t v (suc i) n
+
+-- a live object of kind Pointers has n fields from one on
+pub record Has (t : Table) (v : Value) (from n : ℕ) : Type 0 where
+  pub live : is_live t v ≡ true
+  pub kind : is_pointers (object_of t v).kind ≡ true
+  pub fields : from + n ≤ length (object_of t v).fields
+
+-- why there aren't, and of what a step dies then
+pub data Lacks (t : Table) (v : Value) (from n : ℕ) : Dead → Type 0 where
+  SmallInteger : is_small v ≡ true → Lacks t v from n dead.Small
+  Gone : is_small v ≡ false → is_live t v ≡ false → Lacks t v from n dead.Kind
+  OtherKind : is_live t v ≡ true → is_pointers (object_of t v).kind ≡ false → Lacks t v from n dead.Kind
+  TooFew : is_live t v ≡ true → is_pointers (object_of t v).kind ≡ true → length (object_of t v).fields < from + n → Lacks t v from n dead.Field
 
 -- nil at every place of the devices, of which so many are for pending signals
 abbrev pub idle_devices : ℕ → Devices
@@ -154,3 +183,11 @@ IsPlace place.InputSemaphore = ⊤
 IsPlace place.Timer = ⊤
 IsPlace place.LowSpace = ⊤
 IsPlace (place.Pending k) = k < 4096
+
+-- what an object takes of the capacities
+abbrev pub demand_of : Object → Demand
+demand_of o = record { entries = 1; words = words_of o }
+
+-- so many entries and words fit beside those of the kept objects, wherever in a memory what is free may lie
+abbrev pub fits : View → Demand → Bool
+fits v d = nat_le (total_used one v.objects + d.entries) v.head.entries && nat_le (total_used words_of v.objects + d.words) v.head.words

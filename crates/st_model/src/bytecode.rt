@@ -1,4 +1,4 @@
-ghost use Rattle.std.specs.Prelude.{◌≡◌, IfSome};
+ghost use Rattle.std.specs.Prelude.{◌≡◌};
 ghost use Rattle.st_model.specs.Decoded.{decoded, operand_of, IsNumbered, IsNumberedOperand};
 
 /// A variable or constant that a bytecode names.
@@ -37,12 +37,30 @@ pub enum Bytecode {
     PushReceiver,
     /// Pushes a constant (113 to 119).
     PushConstant(Constant),
+    /// Returns the receiver to the sender (120).
+    ReturnReceiver,
+    /// Returns a constant to the sender (121 to 123).
+    ReturnConstant(Constant),
+    /// Pops, and returns the word to the sender (124).
+    ReturnTopToSender,
+    /// Pops, and returns the word to the caller (125).
+    ReturnTopToCaller,
+    /// A code that is never used (126, 127, 138 to 143).
+    Unused,
     /// Pushes what the next byte names (128).
     ExtendedPush,
     /// Stores the top in what the next byte names (129).
     ExtendedStore,
     /// Pops into what the next byte names (130).
     ExtendedStoreAndPop,
+    /// Sends the literal that the next byte names, with as many arguments as it says (131).
+    ExtendedSend,
+    /// Sends the literal of the second byte with as many arguments as the first says (132).
+    DoubleExtendedSend,
+    /// As 131, to super (133).
+    ExtendedSuperSend,
+    /// As 132, to super (134).
+    DoubleExtendedSuperSend,
     /// Pops (135).
     PopStack,
     /// Pushes the top again (136).
@@ -51,10 +69,22 @@ pub enum Bytecode {
     PushActiveContext,
     /// Jumps by this number plus 1 (144 to 151).
     ShortUnconditionalJump(u8),
+    /// Pops, and jumps on false by this number plus 1 (152 to 159).
+    ShortJumpOnFalse(u8),
     /// Jumps by this number less 4, times 256, plus the next byte (160 to 167).
     LongUnconditionalJump(u8),
-    /// A code that is never used (126, 127, 138 to 143).
-    Unused,
+    /// Pops, and jumps on true by this number times 256 plus the next byte (168 to 171).
+    LongJumpOnTrue(u8),
+    /// Pops, and jumps on false by this number times 256 plus the next byte (172 to 175).
+    LongJumpOnFalse(u8),
+    /// Sends the special selector of this number, for which arithmetic on SmallIntegers is tried first (176 to 191).
+    ArithmeticSend(u8),
+    /// Sends the special selector of this number (192 to 197, 203 to 207).
+    SpecialSend(u8),
+    /// Sends the special selector of this number, for which a primitive is tried first (198 to 202).
+    PrimitiveSend(u8),
+    /// Sends a literal with 0, 1 or 2 arguments (208 to 255).
+    LiteralSend { literal: u8, arguments: u8 },
 }
 
 /// What the byte after an extended code names.
@@ -71,35 +101,62 @@ pub fn extended_operand(byte: u8) -> Operand
     }
 }
 
-/// What the first byte of a bytecode means, or none where the code's row isn't built yet.
-pub fn decode(byte: u8) -> Option<Bytecode>
+/// What the first byte of a bytecode means.
+pub fn decode(byte: u8) -> Bytecode
     ensures code { result ≡ decoded byte }
-    ensures numbered { IfSome result IsNumbered }
+    ensures numbered { IsNumbered result }
 {
     match byte {
-        0..=15 => Some(Bytecode::Push(Operand::ReceiverVariable(byte))),
-        16..=31 => Some(Bytecode::Push(Operand::TemporaryVariable(byte - 16))),
-        32..=63 => Some(Bytecode::Push(Operand::LiteralConstant(byte - 32))),
-        64..=95 => Some(Bytecode::Push(Operand::LiteralVariable(byte - 64))),
-        96..=103 => Some(Bytecode::StoreAndPop(Operand::ReceiverVariable(byte - 96))),
-        104..=111 => Some(Bytecode::StoreAndPop(Operand::TemporaryVariable(byte - 104))),
-        112 => Some(Bytecode::PushReceiver),
-        113 => Some(Bytecode::PushConstant(Constant::True)),
-        114 => Some(Bytecode::PushConstant(Constant::False)),
-        115 => Some(Bytecode::PushConstant(Constant::Nil)),
-        116 => Some(Bytecode::PushConstant(Constant::MinusOne)),
-        117 => Some(Bytecode::PushConstant(Constant::Zero)),
-        118 => Some(Bytecode::PushConstant(Constant::One)),
-        119 => Some(Bytecode::PushConstant(Constant::Two)),
-        126 | 127 | 138..=143 => Some(Bytecode::Unused),
-        128 => Some(Bytecode::ExtendedPush),
-        129 => Some(Bytecode::ExtendedStore),
-        130 => Some(Bytecode::ExtendedStoreAndPop),
-        135 => Some(Bytecode::PopStack),
-        136 => Some(Bytecode::DuplicateTop),
-        137 => Some(Bytecode::PushActiveContext),
-        144..=151 => Some(Bytecode::ShortUnconditionalJump(byte - 144)),
-        160..=167 => Some(Bytecode::LongUnconditionalJump(byte - 160)),
-        _ => None,
+        0..=15 => Bytecode::Push(Operand::ReceiverVariable(byte)),
+        16..=31 => Bytecode::Push(Operand::TemporaryVariable(byte - 16)),
+        32..=63 => Bytecode::Push(Operand::LiteralConstant(byte - 32)),
+        64..=95 => Bytecode::Push(Operand::LiteralVariable(byte - 64)),
+        96..=103 => Bytecode::StoreAndPop(Operand::ReceiverVariable(byte - 96)),
+        104..=111 => Bytecode::StoreAndPop(Operand::TemporaryVariable(byte - 104)),
+        112 => Bytecode::PushReceiver,
+        113 => Bytecode::PushConstant(Constant::True),
+        114 => Bytecode::PushConstant(Constant::False),
+        115 => Bytecode::PushConstant(Constant::Nil),
+        116 => Bytecode::PushConstant(Constant::MinusOne),
+        117 => Bytecode::PushConstant(Constant::Zero),
+        118 => Bytecode::PushConstant(Constant::One),
+        119 => Bytecode::PushConstant(Constant::Two),
+        120 => Bytecode::ReturnReceiver,
+        121 => Bytecode::ReturnConstant(Constant::True),
+        122 => Bytecode::ReturnConstant(Constant::False),
+        123 => Bytecode::ReturnConstant(Constant::Nil),
+        124 => Bytecode::ReturnTopToSender,
+        125 => Bytecode::ReturnTopToCaller,
+        126 | 127 | 138..=143 => Bytecode::Unused,
+        128 => Bytecode::ExtendedPush,
+        129 => Bytecode::ExtendedStore,
+        130 => Bytecode::ExtendedStoreAndPop,
+        131 => Bytecode::ExtendedSend,
+        132 => Bytecode::DoubleExtendedSend,
+        133 => Bytecode::ExtendedSuperSend,
+        134 => Bytecode::DoubleExtendedSuperSend,
+        135 => Bytecode::PopStack,
+        136 => Bytecode::DuplicateTop,
+        137 => Bytecode::PushActiveContext,
+        144..=151 => Bytecode::ShortUnconditionalJump(byte - 144),
+        152..=159 => Bytecode::ShortJumpOnFalse(byte - 152),
+        160..=167 => Bytecode::LongUnconditionalJump(byte - 160),
+        168..=171 => Bytecode::LongJumpOnTrue(byte - 168),
+        172..=175 => Bytecode::LongJumpOnFalse(byte - 172),
+        176..=191 => Bytecode::ArithmeticSend(byte - 176),
+        192..=197 | 203..=207 => Bytecode::SpecialSend(byte - 176),
+        198..=202 => Bytecode::PrimitiveSend(byte - 176),
+        208..=223 => Bytecode::LiteralSend {
+            literal: byte - 208,
+            arguments: 0,
+        },
+        224..=239 => Bytecode::LiteralSend {
+            literal: byte - 224,
+            arguments: 1,
+        },
+        240..=255 => Bytecode::LiteralSend {
+            literal: byte - 240,
+            arguments: 2,
+        },
     }
 }

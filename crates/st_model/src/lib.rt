@@ -4,37 +4,66 @@
 //! The book is Goldberg and Robson, "Smalltalk-80: The Language and its Implementation" (1983).
 #![tactic(auto)]
 
-ghost use Rattle.std.specs.Prelude.{◌≡◌, ℕ};
+ghost use Rattle.std.specs.Prelude.{◌≡◌, ℕ, length};
 ghost use Rattle.st_model.specs.Machine.{State};
 ghost use Rattle.st_model.specs.Births.{Births, births};
-ghost use Rattle.st_model.specs.Table.{Table, table};
-ghost use Rattle.st_model.specs.Cycles.{run, EndsShown, StaysClosed};
+ghost use Rattle.st_model.specs.Table.{Table, apart, bounded_table};
+ghost use Rattle.st_model.specs.Bytecodes.{step};
+ghost use Rattle.st_model.specs.Cycles.{run, run_of, finished, finished_of};
 ghost use Rattle.st_model.specs.Show.{Shows};
+ghost use Rattle.st_model.specs.Foreseen.{foreseen_cycle, IsSound, StaysSound, EndsShown, Foretells, DoesWithin, KeepsClosed};
 
 mod bytecode;
 mod dead;
 mod demand;
 mod fault;
+mod halt;
 mod head;
+mod header;
 mod kind;
 mod oop;
 mod outcome;
+mod page;
 mod place;
+mod word;
 
 pub use bytecode::{Bytecode, Constant, Operand, decode, extended_operand};
 pub use dead::Dead;
 pub use demand::Demand;
 pub use fault::ImageFault;
+pub use halt::Halt;
 pub use head::ImageHead;
+pub use header::literals;
 pub use kind::Kind;
 pub use oop::Oop;
 pub use outcome::Outcome;
+pub use page::PageObject;
 pub use place::RootPlace;
+pub use word::Word;
 
-/// The law that joins the book's machine to the code's: a table that shows births, and in which no run of cycles leaves
-/// a dangling pointer, goes on to show them after any number of cycles, and dies of the cause of which they die.
+/// The first law that joins the book's machine to the code's: a step that is foreseen over a table of 32768 places, where
+/// new objects stand apart, ends as the step over the births that the table shows: it dies of the same cause, or comes to a
+/// primitive that isn't built, or goes on with as many entries and words used.
+pub fn apart_foretells_births()
+    ensures { (c : State Table) (s : State Births) → Shows c s → length c.memory ≡ 32768 → Foretells ((step apart).run c) ((step births).run s) }
+{}
+
+/// The second law: where a step over the births goes on and stays within the capacities, the step over the bounded table
+/// does too, and after reclaiming shows what the births keep.
+pub fn bounded_does_as_births()
+    ensures { (c : State Table) (s : State Births) → Shows c s → length c.memory ≡ 32768 → DoesWithin c s }
+{}
+
+/// What the bounded table's step keeps was there: it leaves a table closed in which nothing dangles.
+pub fn bounded_stays_closed()
+    ensures { KeepsClosed (step bounded_table) }
+{}
+
+/// So a running machine, which foresees each step and does it where there is room, shows the births after any number of
+/// cycles, or dies of the cause of which they die, as long as what it leaves is sound; and as many cycles are finished.
 pub fn table_shows_births()
-    ensures { (n : ℕ) (c : State Table) (s : State Births) → Shows c s → StaysClosed c → EndsShown (run table n c) (run births n s) }
+    ensures ends { (n : ℕ) (c : State Table) (s : State Births) → Shows c s → IsSound c → StaysSound c → EndsShown (run_of foreseen_cycle n c) (run births n s) }
+    ensures count { (n : ℕ) (c : State Table) (s : State Births) → Shows c s → IsSound c → StaysSound c → finished_of foreseen_cycle n c ≡ finished births n s }
 {}
 
 #[cfg(test)]

@@ -13,4 +13,6 @@ pub use laws::{one_fault, one_tree};
 pub use parser::parse;
 
 #[cfg(test)]
+mod differential;
+#[cfg(test)]
 mod tests;

@@ -263,3 +263,29 @@ fn brackets_are_as_deep_as_they_may_be(rt: HostRuntime) -> Result<(), Fail> {
     assert_eq!(rt; found.as_str(), "foo 0 0 1");
     Ok(())
 }
+
+/// Texts of 65,536 bytes at most: what stands first, what is repeated, how often, what stands last, and what is parsed.
+const LARGE: [(&[u8], &[u8], usize, &[u8], &str); 7] = [
+    (b"foo ^x", b" y", 32_760, b"", "foo 0 0 1"),
+    (b"foo ^x", b"+y", 32_760, b"", "foo 0 0 1"),
+    (b"foo x", b" a:y", 16_380, b"", "foo 0 0 1"),
+    (b"foo x y", b";z", 32_760, b"", "foo 0 0 1"),
+    (b"foo ", b"a_", 32_760, b"1", "foo 0 0 1"),
+    (b"foo ", b"x.", 32_760, b"", "foo 0 0 32760"),
+    (b"foo #(", b"1 ", 32_760, b")", "foo 0 0 1"),
+];
+
+#[test]
+fn large_texts_are_parsed(rt: HostRuntime) -> Result<(), Fail> {
+    for (before, part, count, behind, expected) in LARGE {
+        let text = repeated(rt.alloc(), before, part, count, behind)?;
+        let found = shown(&rt, rt.alloc(), &text)?;
+        assert_eq!(rt; found.as_str(), expected);
+    }
+    let opened = repeated(rt.alloc(), b"", b"(", 200, b"1")?;
+    let statement = repeated(rt.alloc(), &opened, b")", 200, b".")?;
+    let text = repeated(rt.alloc(), b"foo ", &statement, 163, b"")?;
+    let found = shown(&rt, rt.alloc(), &text)?;
+    assert_eq!(rt; found.as_str(), "foo 0 0 163");
+    Ok(())
+}

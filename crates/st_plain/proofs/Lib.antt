@@ -1,7 +1,11 @@
 pub mod Beginning
+pub mod Closed
+pub mod Counting
+pub mod Filling
 pub mod Fresh
 pub mod Holding
 pub mod Looking
+pub mod Made
 pub mod Marking
 pub mod Needing
 pub mod Placing

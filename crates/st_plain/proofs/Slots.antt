@@ -1,5 +1,5 @@
 -- What the table of the lists has at a name, and the entry of a word.
-use Rattle.std.proofs.Common.{◌≡◌, ℕ, ◌/◌, true, false, List, [], ◌∷◌, zero, suc, ap, ◌∙◌, refl, is_some}
+use Rattle.std.proofs.Common.{◌≡◌, ℕ, ◌/◌, true, false, List, [], ◌∷◌, zero, suc, sym, ap, ◌∙◌, refl, is_some}
 use Rattle.std.specs.Prelude.{slice_get, unwrap_or, Option, Some, None}
 use Rattle.std.specs.Option.{option_map}
 use Rattle.st_model.specs.declared.oop.Oop.{Oop}
@@ -39,10 +39,13 @@ module _ (p : List Oop) (u : List ℕ) where
   entry-listed (e ∷ es) zero = refl
   entry-listed (e ∷ es) (suc n) = entry-listed es n
 
+  pub is_some-entry : (es : List (Option Entry)) (n : ℕ) → is_some (entry (listed_table p u es) n) ≡ is_some (slot es n)
+  is_some-entry es n = ap is_some (entry-listed es n) ∙ is_some-option_map (entry_object p u) (slot es n)
+
   pub is_live-listed : (es : List (Option Entry)) (v : Value) → is_live (listed_table p u es) v ≡ is_some (entry_of es v)
   unfolding is_live entry_of
   is_live-listed es (Small n) = refl
-  is_live-listed es (Ref n) = ap is_some (entry-listed es n) ∙ is_some-option_map (entry_object p u) (slot es n)
+  is_live-listed es (Ref n) = is_some-entry es n
 
   pub object_of-listed : (es : List (Option Entry)) (v : Value) (e : Entry) → entry_of es v ≡ Some e → object_of (listed_table p u es) v ≡ entry_object p u e
   unfolding object_of entry_of
@@ -60,6 +63,14 @@ slot-entry_of es (Ref n) e h = (n, refl, h)
 
 pub placed_entry : (nf nu : ℕ) (es : List (Option Entry)) (v : Value) (e : Entry) → AllPlaced nf nu es → entry_of es v ≡ Some e → IsPlaced nf nu e
 placed_entry nf nu es v e placed h = let r = slot-entry_of es v e h in placed r.0 e (slice_get-slot es r.0 e r.2)
+
+none_of : {A : Type 0} (x : Option A) → is_some x ≡ false → x ≡ None
+none_of None h = refl
+none_of (Some a) h = cc
+
+-- a pointer that no object has has no entry
+pub free_slot : (p : List Oop) (u : List ℕ) (es : List (Option Entry)) (w : ℕ) → is_small (value_of w) ≡ false → is_live (listed_table p u es) (value_of w) ≡ false → slot es (w / 2) ≡ None
+free_slot p u es w even free = none_of (slot es (w / 2)) (ap is_some (sym (entry_of-even es w even)) ∙ sym (is_live-listed p u es (value_of w)) ∙ free)
 
 pub ruleset slots = (entry_of-small, entry_of-even)
 

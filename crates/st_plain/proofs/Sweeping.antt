@@ -1,5 +1,5 @@
 -- Entries that are left where those of unmarked names leave.
-use Rattle.std.proofs.Common.{◌≡◌, ◌≢◌, ℕ, ◌+◌, ◌≤◌, zero, suc, Bool, true, false, List, [], ◌∷◌, length, set, refl, sym, ap, ◌∙◌, subst, arith, inl, inr, is_some}
+use Rattle.std.proofs.Common.{◌≡◌, ◌≢◌, ℕ, ◌+◌, ◌≤◌, min, zero, suc, Bool, true, false, List, [], ◌∷◌, set, refl, sym, ap, ◌∙◌, subst, arith, inl, inr, is_some, length-set}
 use Rattle.std.specs.Prelude.{slice_get, nat_le, Option, Some, None, if◌then◌else◌}
 use Rattle.std.specs.Option.{option_map}
 use Rattle.std.proofs.lemmas.Bool.{cases_eq, cases_lt}
@@ -8,7 +8,8 @@ use Rattle.st_model.specs.declared.oop.Oop.{Oop}
 use Rattle.st_model.specs.Table.{settled_table}
 use Rattle.st_model.specs.Settled.{or}
 use Rattle.st_plain.specs.declared.entry.Entry.{Entry}
-use Rattle.st_plain.specs.Lists.{listed_table, entry_object, slot, kept_entries, entry_total, one_entry, IsLaidOut}
+use Rattle.st_plain.specs.Lists.{listed_table, entry_object, slot, kept_entries, IsLaidOut, IsFull}
+use Rattle.st_plain.proofs.Placing.{slot-set_other}
 
 -- the names that are marked, or not reached yet
 abbrev pub kept_from : (ℕ → Bool) → ℕ → ℕ → Bool
@@ -62,14 +63,6 @@ kept_but (e ∷ es) f g zero fails same = λ i. (if fails i then e else None) �
     rest (d ∷ ds) a b h = λ i. (if h 0 i then d else None) ∷ rest ds (λ j. a (suc j)) (λ j. b (suc j)) (λ j. h (suc j)) i
 kept_but (e ∷ es) f g (suc k) fails same = λ i. (if same 0 (λ q. absurd (omega (arith, q))) i then e else None) ∷ kept_but es (λ j. f (suc j)) (λ j. g (suc j)) k fails (λ j ne. same (suc j) (λ q. ne (omega (arith, q)))) i
 
-pub slot-kept : (es : List (Option Entry)) (keep : ℕ → Bool) (k : ℕ) → slot (kept_entries es keep) k ≡ (if keep k then slot es k else None)
-slot-kept [] keep k = sym (kept_none (keep k) None refl)
-slot-kept (e ∷ es) keep zero = refl
-slot-kept (e ∷ es) keep (suc k) = slot-kept es (λ j. keep (suc j)) k
-
-kept_here : (marked : ℕ → Bool) (k : ℕ) → kept_from marked k k ≡ true
-kept_here marked k = or_true (marked k) (nat_le k k) (le_self k)
-
 -- before the first place all entries are left
 pub kept_from_none : (es : List (Option Entry)) (marked : ℕ → Bool) → es ≡ kept_entries es (kept_from marked 0)
 kept_from_none es marked = sym (kept_all es (kept_from marked 0) (λ j. or_true (marked j) (nat_le 0 j) (le_zero j)))
@@ -89,30 +82,12 @@ module _ (es : List (Option Entry)) (marked : ℕ → Bool) (k : ℕ) where
     | inr n ↦ sym (other j n)
   ])
 
-  -- and where there is none, none leaves
-  pub kept_from-none : is_some (slot (kept_entries es (kept_from marked k)) k) ≡ false → kept_entries es (kept_from marked k) ≡ kept_entries es (kept_from marked (k + 1))
-  kept_from-none h = kept_same es (kept_from marked k) (kept_from marked (k + 1)) (λ j there. elim (cases_eq j k) [
-    | inl e ↦
-        let here : slot (kept_entries es (kept_from marked k)) k ≡ slot es k = slot-kept es (kept_from marked k) k ∙ ap (λ b. if b then slot es k else None) (kept_here marked k) in
-        let some : is_some (slot es k) ≡ true = subst (λ i. is_some (slot es i) ≡ true) e there in
-        let none : is_some (slot es k) ≡ false = ap is_some (sym here) ∙ h in
-        absurd (cc)
-    | inr n ↦ sym (other j n)
-  ])
-
 -- past the last entry there is nothing to keep
 pub kept_from_end : (es : List (Option Entry)) (marked : ℕ → Bool) (end : ℕ) → ((j : ℕ) → end ≤ j → slot es j ≡ None) → kept_entries es (kept_from marked end) ≡ kept_entries es marked
 kept_from_end es marked end empty = kept_same es (kept_from marked end) marked (λ j there. elim (cases_lt j end) [
   | inl l ↦ or_false (marked j) (nat_le end j) (grind (arith, nat_tests))
   | inr l ↦ let e = ap is_some (empty j l) in absurd (cc)
 ])
-
-pub total-without : (es : List (Option Entry)) (k : ℕ) → is_some (slot es k) ≡ true → entry_total one_entry (set es k None) + 1 ≡ entry_total one_entry es
-total-without [] k h = cc
-total-without (None ∷ es) zero h = cc
-total-without (Some e ∷ es) zero h = omega arith
-total-without (None ∷ es) (suc k) h = total-without es k h
-total-without (Some e ∷ es) (suc k) h = let a = total-without es k h in omega (arith, a)
 
 module _ (p : List Oop) (u : List ℕ) where
   pub kept-listed : (es : List (Option Entry)) (keep : ℕ → Bool) → listed_table p u (kept_entries es keep) ≡ settled_table (listed_table p u es) keep
@@ -123,30 +98,43 @@ module _ (p : List Oop) (u : List ℕ) where
       head true = refl
       head false = refl
 
-kept_still : (es : List (Option Entry)) (keep : ℕ → Bool) (j : ℕ) (d : Entry) → slice_get (kept_entries es keep) j ≡ Some (Some d) → slice_get es j ≡ Some (Some d)
-kept_still [] keep j d h = h
-kept_still (e ∷ es) keep zero d h = head (keep 0) h
-  where
-    head : (b : Bool) → Some (if b then e else None) ≡ Some (Some d) → Some e ≡ Some (Some d)
-    head true q = q
-    head false q = cc
-kept_still (e ∷ es) keep (suc j) d h = kept_still es (λ k. keep (suc k)) j d h
+-- where the entry at a place leaves, the others stay as they are
 
-length-kept : (es : List (Option Entry)) (keep : ℕ → Bool) → length (kept_entries es keep) ≡ length es
-length-kept [] keep = refl
-length-kept (e ∷ es) keep = ap (λ n. suc n) (length-kept es (λ k. keep (suc k)))
+set_none_still : (es : List (Option Entry)) (k j : ℕ) (d : Entry) → slice_get (set es k None) j ≡ Some (Some d) → slice_get es j ≡ Some (Some d)
+set_none_still [] k j d h = h
+set_none_still (e ∷ es) zero zero d h = cc
+set_none_still (e ∷ es) zero (suc j) d h = h
+set_none_still (e ∷ es) (suc k) zero d h = h
+set_none_still (e ∷ es) (suc k) (suc j) d h = set_none_still es k j d h
 
-pub kept_laid_out : (es : List (Option Entry)) (p : List Oop) (u : List ℕ) (end nf nu : ℕ) (keep : ℕ → Bool) → IsLaidOut es p u end nf nu → IsLaidOut (kept_entries es keep) p u end nf nu
-kept_laid_out es p u end nf nu keep laid = record {
-  places = length-kept es keep ∙ laid.places;
+slot-set_none : (es : List (Option Entry)) (k j : ℕ) → slot es j ≡ None → slot (set es k None) j ≡ None
+slot-set_none [] k j h = h
+slot-set_none (e ∷ es) zero zero h = refl
+slot-set_none (e ∷ es) zero (suc j) h = h
+slot-set_none (e ∷ es) (suc k) zero h = h
+slot-set_none (e ∷ es) (suc k) (suc j) h = slot-set_none es k j h
+
+pub removed_laid_out : (es : List (Option Entry)) (fields units end nf nu k : ℕ) → IsLaidOut es fields units end nf nu → IsLaidOut (set es k None) fields units end nf nu
+removed_laid_out es fields units end nf nu k laid = record {
+  places = length-set es k None ∙ laid.places;
   within = laid.within;
-  empty = λ k l. slot-kept es keep k ∙ kept_none (keep k) (slot es k) (laid.empty k l);
-  placed = λ i e h. laid.placed i e (kept_still es keep i e h);
-  apart = λ i j d e ne hi hj. laid.apart i j d e ne (kept_still es keep i d hi) (kept_still es keep j e hj);
+  empty = λ j l. slot-set_none es k j (laid.empty j l);
+  placed = λ i e h. laid.placed i e (set_none_still es k i e h);
+  apart = λ i j d e ne hi hj. laid.apart i j d e ne (set_none_still es k i d hi) (set_none_still es k j e hj);
   fields_end = laid.fields_end;
   units_end = laid.units_end;
-  fields_free = laid.fields_free;
-  units_free = laid.units_free;
   few_fields = laid.few_fields;
   few_units = laid.few_units;
 }
+
+-- places before the one that is emptied are as full as they were
+pub full_less : (es : List (Option Entry)) (k end : ℕ) → IsFull es end → IsFull (set es k None) (min end k)
+full_less es k end full = λ j low high.
+    let other : j ≢ k = omega (arith, high) in
+    ap is_some (slot-set_other es k j None other) ∙ full j low (omega (arith, high))
+
+-- emptying an empty place changes nothing
+pub set_none_same : (es : List (Option Entry)) (k : ℕ) → slot es k ≡ None → set es k None ≡ es
+set_none_same [] k h = refl
+set_none_same (e ∷ es) zero h = ap (λ x. x ∷ es) (sym h)
+set_none_same (e ∷ es) (suc k) h = ap (λ xs. e ∷ xs) (set_none_same es k h)

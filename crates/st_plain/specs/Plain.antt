@@ -27,9 +27,18 @@ extent_of o = record { next_field = o.next_field; next_unit = o.next_unit; field
 abbrev pub unused : ℕ → Extent
 unused words = record { next_field = 0; next_unit = 0; fields = words; units = 2 * words }
 
+-- the same lists, none of which is in use
+abbrev pub emptied : Extent → Extent
+emptied e = record e { next_field = 0; next_unit = 0 }
+
 -- the same lists with so much more in use
 abbrev pub with_taken : Extent → ℕ → ℕ → Extent
 with_taken e fields units = record e { next_field = e.next_field + fields; next_unit = e.next_unit + units }
+
+-- the lists are as long as a number of words may need
+pub record IsLong (e : Extent) (words : ℕ) : Type 0 where
+  pub fields : e.fields ≡ words
+  pub units : e.units ≡ 2 * words
 
 -- The lists are as long as a number of words may need, and no more of them is in use than the objects take.
 pub record IsEnough (e : Extent) (used words : ℕ) : Type 0 where
@@ -52,3 +61,8 @@ is_needed v n = or (is_root table v.objects (view_roots v) n) (is_referred v.obj
 -- there is room for what may be placed yet
 abbrev pub HasRoom : Contents → Type 0
 HasRoom c = IsEnough (extent_of c.objects) (total_used words_of (objects_of c.objects)) c.head.capacity.words
+
+-- the lists, and those to close up into, are as long as the capacities may need
+pub record AreLong (c : Contents) : Type 0 where
+  pub objects : IsLong (extent_of c.objects) c.head.capacity.words
+  pub spare : IsLong (extent_of c.spare) c.head.capacity.words

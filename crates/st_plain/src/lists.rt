@@ -1,4 +1,4 @@
-ghost use Rattle.std.specs.Prelude.{◌≡◌, ℕ, length, false, None, IfOk, slice_index_or, slice_index};
+ghost use Rattle.std.specs.Prelude.{◌≡◌, ℕ, length, None, IfOk, slice_index_or};
 ghost use Rattle.st_plain.specs.Lists.{slot, nil_word};
 
 use crate::entry::Entry;
@@ -23,8 +23,7 @@ pub fn nil_words(alloc: Global, len: usize) -> Result<Vec<Oop>, AllocError>
 
 /// Units that are all 0.
 pub fn zero_units(alloc: Global, len: usize) -> Result<Vec<u16>, AllocError>
-    ensures len { IfOk result (λ v. length v.items ≡ len) }
-    ensures zero { IfOk result (λ v. (k : ℕ) → slice_index v.items k ≡ 0) }
+    ensures { IfOk result (λ v. length v.items ≡ len) }
 {
     vec![in alloc; 0; len]
 }

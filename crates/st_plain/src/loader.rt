@@ -1,7 +1,7 @@
 ghost use Rattle.std.specs.Prelude.{◌≡◌};
 ghost use Rattle.st_model.specs.Loading.{IsLoading};
 ghost use Rattle.st_model.specs.Props.{IsLoading-prop};
-ghost use Rattle.st_plain.specs.Plain.{plain_view, HasRoom};
+ghost use Rattle.st_plain.specs.Plain.{plain_view, extent_of, HasRoom, IsLong};
 
 use crate::contents::{Contents, Head};
 use crate::memory::PlainMemory;
@@ -15,6 +15,7 @@ pub struct PlainLoader {
     contents: Contents,
     ghost loading: { IsLoading (plain_view contents) } by { IsLoading-prop (plain_view contents) },
     ghost room: { HasRoom contents },
+    ghost spare: { IsLong (extent_of contents.spare) contents.head.capacity.words },
 }
 
 impl Loader for PlainLoader {
@@ -60,4 +61,4 @@ impl Loader for PlainLoader {
 }
 
 #[cfg(test)]
-mod tests;
+pub mod tests;

@@ -1,6 +1,6 @@
 ghost use Rattle.std.specs.Prelude.{◌≡◌};
 ghost use Rattle.st_model.specs.View.{IsWhole};
-ghost use Rattle.st_plain.specs.Plain.{plain_view};
+ghost use Rattle.st_plain.specs.Plain.{plain_view, AreLong};
 ghost use Rattle.st_model.specs.Props.{IsWhole-prop};
 
 use crate::contents::Contents;
@@ -12,12 +12,14 @@ use st_model::{Demand, Kind, Oop, RootPlace};
 pub struct PlainMemory {
     contents: Contents,
     ghost whole: { IsWhole (plain_view contents) } by { IsWhole-prop (plain_view contents) },
+    ghost long: { AreLong contents },
 }
 
 impl PlainMemory {
     /// A memory of these parts.
     pub(crate) fn new(contents: Contents) -> PlainMemory
-        requires { IsWhole (plain_view contents) }
+        requires whole { IsWhole (plain_view contents) }
+        requires long { AreLong contents }
         ensures { result.contents ≡ contents }
     {
         PlainMemory { contents }
@@ -65,6 +67,14 @@ impl Memory for PlainMemory {
         self.contents.objects.set_field(o, at, v);
     }
 
+    fn room(&self, d: Demand) -> bool {
+        self.contents.room(d)
+    }
+
+    fn make(&mut self, class: Oop, kind: Kind, size: u32, literals: u32) -> Oop {
+        self.contents.make(class, kind, size, literals)
+    }
+
     fn held(&self, place: RootPlace) -> Oop {
         self.contents.roots.held(place)
     }
@@ -103,3 +113,6 @@ impl Memory for PlainMemory {
 
     ghost whole = { λ m. m.whole };
 }
+
+#[cfg(test)]
+mod tests;

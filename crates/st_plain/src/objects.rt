@@ -1,18 +1,16 @@
-ghost use Rattle.std.specs.Prelude.{◌≡◌, ◌<◌, ◌≤◌, ◌+◌, ◌/◌, ◌≢◌, ◌*◌, ℕ, length, true, false, Some, None, is_some, IfSome, IfNone, IfOk, slice_get, replicate, slice_index_or, nat_le};
-ghost use Rattle.st_model.specs.declared.oop.Oop.{Oop};
-ghost use Rattle.st_model.specs.Values.{value, is_small};
+ghost use Rattle.std.specs.Prelude.{◌≡◌, ◌<◌, ◌≤◌, ℕ, length, true, false, Some, None, IfSome, IfNone, IfOk, slice_get};
+ghost use Rattle.st_model.specs.Values.{value};
 ghost use Rattle.st_model.specs.Objects.{one, words_of};
-ghost use Rattle.st_model.specs.Formed.{IsMakeable, fresh};
-ghost use Rattle.st_model.specs.Table.{entry, total_used, settled_table};
-ghost use Rattle.st_model.specs.Settled.{or, object_names, is_marked};
-ghost use Rattle.st_model.specs.View.{is_live, object_of, with_object, with_stored, with_unit};
+ghost use Rattle.st_model.specs.Table.{entry, total_used};
+ghost use Rattle.st_model.specs.Settled.{object_names};
+ghost use Rattle.st_model.specs.View.{is_live, object_of, with_stored, with_unit};
 ghost use Rattle.st_plain.specs.Marked.{AddsMarks};
-ghost use Rattle.st_plain.specs.Lists.{IsLaidOut, IsPlaced, slot, entry_of, entry_object, slot_number, one_entry, entry_words, kept_entries, entry_total, cleared};
+ghost use Rattle.st_plain.specs.Lists.{IsLaidOut, IsCounted, IsFull, IsPlaced, slot, entry_of, entry_object};
 
 use crate::entry::Entry;
 use crate::lists::{empty_places, nil_words, zero_units};
 use crate::marks::Marks;
-use st_model::{Demand, Kind, Oop};
+use st_model::{Demand, Oop};
 use std::alloc::{AllocError, Global};
 
 /// The objects of a memory. Entry k is that of pointer 2k; the fields and units of all objects stand in a list each.
@@ -28,11 +26,17 @@ pub struct Objects {
     pub next_field: u32,
     /// The first unit that no object has had.
     pub next_unit: u32,
-    ghost laid_out: { IsLaidOut entries.items pointers.items units.items table_end next_field next_unit },
+    /// How many objects there are, and how many words they have.
+    pub used: Demand,
+    /// Each place from 1 up to here has an object.
+    pub full_end: u32,
+    ghost laid_out: { IsLaidOut entries.items (length pointers.items) (length units.items) table_end next_field next_unit },
+    ghost counted: { IsCounted entries.items used },
+    ghost full: { IsFull entries.items full_end },
 }
 
 impl Objects {
-    ghost use Rattle.st_plain.specs.Plain.{objects_of, is_referred, extent_of, unused, with_taken};
+    ghost use Rattle.st_plain.specs.Plain.{objects_of, is_referred, extent_of, unused};
 
     /// No objects, and room for the fields and units of so many words.
     pub fn new(alloc: Global, words: u32) -> Result<Objects, AllocError>
@@ -51,11 +55,16 @@ impl Objects {
             table_end: 0,
             next_field: 0,
             next_unit: 0,
+            used: Demand {
+                entries: 0,
+                words: 0,
+            },
+            full_end: 1,
         })
     }
 
     /// The entry at a place.
-    fn slot(&self, k: usize) -> Option<Entry>
+    pub fn slot(&self, k: usize) -> Option<Entry>
         ensures slot { result ≡ slot self.now.entries.items k }
         ensures placed { IfSome result (IsPlaced self.now.next_field self.now.next_unit) }
     {
@@ -137,89 +146,11 @@ impl Objects {
         self.units[(entry.units_at + at) as usize] = v;
     }
 
-    /// A new object of nil and 0 at a pointer.
-    fn place_cleared(&mut self, at: Oop, class: Oop, kind: Kind, fields: u32, units: u32)
-        requires even { is_small (value at) ≡ false }
-        requires class { is_small (value class) ≡ false }
-        requires small { 2 * fields + units ≤ 131066 }
-        requires fields_end { self.old.next_field + fields ≤ length self.old.pointers.items }
-        requires units_end { self.old.next_unit + units ≤ length self.old.units.items }
-        ensures objects { objects_of self.new ≡ with_object (objects_of self.old) (value at) (cleared (class.0 / 2) kind fields units) }
-        ensures extent { extent_of self.new ≡ with_taken (extent_of self.old) fields units }
-    {
-        let place = at.0 >> 1;
-        let entry = Entry {
-            class,
-            kind,
-            fields_at: self.next_field,
-            fields,
-            units_at: self.next_unit,
-            units,
-        };
-        self.entries[usize::from(place)] = Some(entry);
-        self.table_end = self.table_end.max(u32::from(place) + 1);
-        self.next_field += fields;
-        self.next_unit += units;
-    }
-
-    /// A new object at a pointer, with fields of nil, units of 0 and, in a Method, its literal count.
-    pub fn place(&mut self, at: Oop, class: Oop, kind: Kind, size: u32, literals: u32)
-        requires even { is_small (value at) ≡ false }
-        requires class { is_small (value class) ≡ false }
-        requires makeable { IsMakeable (class.0 / 2) kind size literals }
-        requires fields_end { self.old.next_field + length (fresh (class.0 / 2) kind size literals).fields ≤ length self.old.pointers.items }
-        requires units_end { self.old.next_unit + length (fresh (class.0 / 2) kind size literals).units ≤ length self.old.units.items }
-        ensures objects { objects_of self.new ≡ with_object (objects_of self.old) (value at) (fresh (class.0 / 2) kind size literals) }
-        ensures extent { let o = fresh (class.0 / 2) kind size literals in
-            extent_of self.new ≡ with_taken (extent_of self.old) (length o.fields) (length o.units) }
-    {
-        let fields = fields_of(class, kind, size, literals);
-        let units = units_of(class, kind, size, literals);
-        self.place_cleared(at, class, kind, fields, units);
-        if kind.is_method() {
-            self.set_field(at, 0, Oop(2 * literals as u16 + 1));
-        }
-    }
-
-    /// 1 where there is an entry.
-    fn entries_at(&self, k: usize) -> u32
-        ensures entries { result ≡ slot_number one_entry (slot self.now.entries.items k) }
-        ensures few { result ≤ 1 }
-    {
-        match self.slot(k) {
-            Some(_) => 1,
-            None => 0,
-        }
-    }
-
-    /// The words of the object at a place.
-    fn words_at(&self, k: usize) -> u32
-        ensures words { result ≡ slot_number entry_words (slot self.now.entries.items k) }
-        ensures small { result ≤ 131068 }
-    {
-        match self.slot(k) {
-            Some(e) => {
-                if e.kind.is_words() {
-                    2 + e.units
-                } else {
-                    2 + e.fields + e.units.div_ceil(2)
-                }
-            }
-            None => 0,
-        }
-    }
-
     /// How many objects there are, and how many words they have.
     pub fn used(&self) -> Demand
         ensures { result ≡ record { entries = total_used one (objects_of self.now); words = total_used words_of (objects_of self.now) } }
     {
-        let mut entries = 0;
-        let mut words = 0;
-        for k in 0..self.table_end as usize {
-            entries += self.entries_at(k);
-            words += self.words_at(k);
-        }
-        Demand { entries, words }
+        self.used
     }
 
     /// The least pointer of an object above `after`.
@@ -254,54 +185,5 @@ impl Objects {
         for k in 0..self.table_end as usize {
             self.mark_from(k, marks);
         }
-    }
-
-    /// Takes away each object whose name is not marked, and answers how many there were.
-    pub fn keep_marked(&mut self, marks: &Marks) -> u32
-        ensures objects { objects_of self.new ≡ settled_table (objects_of self.old) (is_marked marks.now.names.items) }
-        ensures gone { total_used one (objects_of self.new) + result ≡ total_used one (objects_of self.old) }
-    {
-        drop_unmarked(self.entries.as_mut_slice(), marks, self.table_end as usize)
-    }
-}
-
-/// Empties each of the first places that is not marked, and answers how many had an entry.
-fn drop_unmarked(entries: &mut [Option<Entry>], marks: &Marks, end: usize) -> u32
-    requires within { end ≤ length entries.old }
-    requires few { end ≤ 32768 }
-    ensures entries { entries.new ≡ kept_entries entries.old (λ k. or (is_marked marks.now.names.items k) (nat_le end k)) }
-    ensures gone { entry_total one_entry entries.new + result ≡ entry_total one_entry entries.old }
-{
-    let mut gone = 0;
-    for k in 0..end {
-        if entries[k].is_some() && !marks.has(k) {
-            entries[k] = None;
-            gone += 1;
-        }
-    }
-    gone
-}
-
-/// How many fields a new object has.
-fn fields_of(class: Oop, kind: Kind, size: u32, literals: u32) -> u32
-    requires { IsMakeable (class.0 / 2) kind size literals }
-    ensures { result ≡ length (fresh (class.0 / 2) kind size literals).fields }
-{
-    match kind {
-        Kind::Pointers => size,
-        Kind::Words | Kind::Bytes => 0,
-        Kind::Method => literals + 1,
-    }
-}
-
-/// How many units a new object has.
-fn units_of(class: Oop, kind: Kind, size: u32, literals: u32) -> u32
-    requires { IsMakeable (class.0 / 2) kind size literals }
-    ensures { result ≡ length (fresh (class.0 / 2) kind size literals).units }
-{
-    match kind {
-        Kind::Pointers => 0,
-        Kind::Words | Kind::Bytes => size,
-        Kind::Method => size - 2 * (literals + 1),
     }
 }

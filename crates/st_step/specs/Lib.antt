@@ -1,1 +1,1 @@
-pub mod Unbuilt
+pub mod Planned

@@ -1,149 +1,127 @@
-ghost use Rattle.std.specs.Prelude.{◌≡◌, ◌<◌, IfOk, OnErr};
-ghost use Rattle.st_model.specs.Values.{value};
+ghost use Rattle.std.specs.Prelude.{◌≡◌, ◌<◌, ◌≤◌, ◌+◌, Ok};
+ghost use Rattle.st_model.specs.Values.{word};
 ghost use Rattle.st_model.specs.Decoded.{IsNumberedOperand};
-ghost use Rattle.st_model.specs.Table.{table};
-ghost use Rattle.st_model.specs.View.{IsKnown};
 ghost use Rattle.st_model.specs.Bytecodes.{fetch_receiver_variable, fetch_temporary_variable, fetch_literal_constant, fetch_literal_variable, fetch_operand, store_receiver_variable, store_temporary_variable, store_literal_variable, store_operand, constant_value};
 ghost use Rattle.st_model.specs.Calls.{Does, itself};
-ghost use Rattle.st_frames.specs.Shown.{IsFrame, StaysFrame, shown};
+ghost use Rattle.st_frames.specs.Rows.{row_state};
 
-use st_frames::{Frame, fetch_field, store_field};
-use st_memory::Memory;
-use st_method::literal;
-use st_model::{Constant, Dead, Oop, Operand};
+use st_frames::{Registers, fetch_field, home, literal, method, page, receiver, small, store_field};
+use st_memory::Objects;
+use st_model::{Constant, Dead, Operand, PageObject, Word};
 
 /// Field i of the receiver.
-#[tactic(auto, using(st_frames::proofs::Shown::shows, st_frames::proofs::Registers::registers), unfolding(st_model::specs::Bytecodes::fetch_receiver_variable))]
-fn fetch_receiver_variable<M: Memory>(f: &Frame, m: &M, i: u32) -> Result<Oop, Dead>
-    requires frame { IsFrame (M.view m.now) f.now }
-    requires small { i < 64 }
-    ensures fetches { Does (fetch_receiver_variable table i) value (shown (M.view m.now) f.now) result (shown (M.view m.now) f.now) }
-    ensures known { IfOk result (λ x. IsKnown (M.view m.now).objects (value x)) }
+#[tactic(auto, using(st_frames::proofs::Doing::rows), unfolding(st_model::specs::Bytecodes::fetch_receiver_variable))]
+fn fetch_receiver_variable<O: Objects>(m: &O, r: &Registers, i: u32) -> Result<Word, Dead>
+    ensures does { Does (fetch_receiver_variable O.names i) word (row_state (O.table m.now) (O.head m.now) r.now) result (row_state (O.table m.now) (O.head m.now) r.now) }
 {
-    fetch_field(m, f.receiver, i)
+    let object = receiver(m, r);
+    fetch_field(m, r, object, i)
 }
 
 /// Temporary variable i of the home context.
-#[tactic(auto, using(st_frames::proofs::Shown::shows, st_frames::proofs::Registers::registers), unfolding(st_model::specs::Bytecodes::fetch_temporary_variable))]
-fn fetch_temporary_variable<M: Memory>(f: &Frame, m: &M, i: u32) -> Result<Oop, Dead>
-    requires frame { IsFrame (M.view m.now) f.now }
-    requires small { i < 64 }
-    ensures fetches { Does (fetch_temporary_variable table i) value (shown (M.view m.now) f.now) result (shown (M.view m.now) f.now) }
-    ensures known { IfOk result (λ x. IsKnown (M.view m.now).objects (value x)) }
+#[tactic(auto, using(st_frames::proofs::Doing::rows), unfolding(st_model::specs::Bytecodes::fetch_temporary_variable))]
+fn fetch_temporary_variable<O: Objects>(m: &O, r: &Registers, i: u32) -> Result<Word, Dead>
+    requires number { i < 64 }
+    ensures does { Does (fetch_temporary_variable O.names i) word (row_state (O.table m.now) (O.head m.now) r.now) result (row_state (O.table m.now) (O.head m.now) r.now) }
 {
-    fetch_field(m, f.home, 6 + i)
+    let context = home(m, r);
+    fetch_field(m, r, context, 6 + i)
 }
 
 /// Literal i of the method.
-#[tactic(auto, using(st_frames::proofs::Shown::shows, st_frames::proofs::Registers::registers), unfolding(st_model::specs::Bytecodes::fetch_literal_constant))]
-fn fetch_literal_constant<M: Memory>(f: &Frame, m: &M, i: u32) -> Result<Oop, Dead>
-    requires frame { IsFrame (M.view m.now) f.now }
-    requires small { i < 64 }
-    ensures fetches { Does (fetch_literal_constant table i) value (shown (M.view m.now) f.now) result (shown (M.view m.now) f.now) }
-    ensures known { IfOk result (λ x. IsKnown (M.view m.now).objects (value x)) }
+#[tactic(auto, using(st_frames::proofs::Doing::rows), unfolding(st_model::specs::Bytecodes::fetch_literal_constant))]
+pub fn fetch_literal_constant<O: Objects>(m: &O, r: &Registers, i: u32) -> Result<Word, Dead>
+    ensures does { Does (fetch_literal_constant O.names i) word (row_state (O.table m.now) (O.head m.now) r.now) result (row_state (O.table m.now) (O.head m.now) r.now) }
 {
-    literal(m, f.method, i)
+    let running = method(m, r);
+    literal(m, r, running, i)
 }
 
 /// The value of the association that is literal i of the method.
-#[tactic(auto, using(st_frames::proofs::Shown::shows, st_frames::proofs::Registers::registers), unfolding(st_model::specs::Bytecodes::fetch_literal_variable))]
-fn fetch_literal_variable<M: Memory>(f: &Frame, m: &M, i: u32) -> Result<Oop, Dead>
-    requires frame { IsFrame (M.view m.now) f.now }
-    requires small { i < 64 }
-    ensures fetches { Does (fetch_literal_variable table i) value (shown (M.view m.now) f.now) result (shown (M.view m.now) f.now) }
-    ensures known { IfOk result (λ x. IsKnown (M.view m.now).objects (value x)) }
+#[tactic(auto, using(st_frames::proofs::Doing::rows), unfolding(st_model::specs::Bytecodes::fetch_literal_variable))]
+fn fetch_literal_variable<O: Objects>(m: &O, r: &Registers, i: u32) -> Result<Word, Dead>
+    ensures does { Does (fetch_literal_variable O.names i) word (row_state (O.table m.now) (O.head m.now) r.now) result (row_state (O.table m.now) (O.head m.now) r.now) }
 {
-    let association = fetch_literal_constant(f, m, i)?;
-    fetch_field(m, association, 1)
+    let association = fetch_literal_constant(m, r, i)?;
+    fetch_field(m, r, association, 1)
 }
 
 /// What an operand names.
-#[tactic(auto, unfolding(st_model::specs::Bytecodes::fetch_operand))]
-pub fn fetch_operand<M: Memory>(f: &Frame, m: &M, operand: Operand) -> Result<Oop, Dead>
-    requires frame { IsFrame (M.view m.now) f.now }
+#[tactic(auto, using(st_frames::proofs::Doing::rows), unfolding(st_model::specs::Bytecodes::fetch_operand))]
+pub fn fetch_operand<O: Objects>(m: &O, r: &Registers, operand: Operand) -> Result<Word, Dead>
     requires numbered { IsNumberedOperand operand }
-    ensures fetches { Does (fetch_operand table operand) value (shown (M.view m.now) f.now) result (shown (M.view m.now) f.now) }
-    ensures known { IfOk result (λ x. IsKnown (M.view m.now).objects (value x)) }
+    ensures does { Does (fetch_operand O.names operand) word (row_state (O.table m.now) (O.head m.now) r.now) result (row_state (O.table m.now) (O.head m.now) r.now) }
 {
     match operand {
-        Operand::ReceiverVariable(i) => fetch_receiver_variable(f, m, u32::from(i)),
-        Operand::TemporaryVariable(i) => fetch_temporary_variable(f, m, u32::from(i)),
-        Operand::LiteralConstant(i) => fetch_literal_constant(f, m, u32::from(i)),
-        Operand::LiteralVariable(i) => fetch_literal_variable(f, m, u32::from(i)),
+        Operand::ReceiverVariable(i) => fetch_receiver_variable(m, r, u32::from(i)),
+        Operand::TemporaryVariable(i) => fetch_temporary_variable(m, r, u32::from(i)),
+        Operand::LiteralConstant(i) => fetch_literal_constant(m, r, u32::from(i)),
+        Operand::LiteralVariable(i) => fetch_literal_variable(m, r, u32::from(i)),
     }
 }
 
 /// Stores x in field i of the receiver.
-#[tactic(auto, using(st_frames::proofs::Shown::shows, st_frames::proofs::Registers::registers), unfolding(st_model::specs::Bytecodes::store_receiver_variable))]
-fn store_receiver_variable<M: Memory>(f: &Frame, m: &mut M, i: u32, x: Oop) -> Result<(), Dead>
-    requires frame { IsFrame (M.view m.old) f.now }
-    requires known { IsKnown (M.view m.old).objects (value x) }
-    requires small { i < 64 }
-    ensures stores { Does (store_receiver_variable table i (value x)) itself (shown (M.view m.old) f.now) result (shown (M.view m.new) f.now) }
-    ensures held { (M.view m.new).held ≡ (M.view m.old).held }
-    ensures dies { OnErr result (M.view m.new ≡ M.view m.old) }
+#[tactic(auto, using(st_frames::proofs::Doing::rows), unfolding(st_model::specs::Bytecodes::store_receiver_variable))]
+fn store_receiver_variable<O: Objects>(m: &mut O, r: &Registers, i: u32, x: Word) -> Result<(), Dead>
+    requires room { 1 ≤ O.room m.old }
+    ensures does { Does (store_receiver_variable O.names i (word x)) itself (row_state (O.table m.old) (O.head m.old) r.now) result (row_state (O.table m.new) (O.head m.new) r.now) }
+    ensures room { O.room m.old ≤ O.room m.new + 1 }
 {
-    store_field(f, m, f.receiver, i, x)
+    let object = receiver(m, r);
+    store_field(m, r, object, i, x)
 }
 
 /// Stores x in temporary variable i of the home context.
-#[tactic(auto, using(st_frames::proofs::Shown::shows, st_frames::proofs::Registers::registers), unfolding(st_model::specs::Bytecodes::store_temporary_variable))]
-fn store_temporary_variable<M: Memory>(f: &Frame, m: &mut M, i: u32, x: Oop) -> Result<(), Dead>
-    requires frame { IsFrame (M.view m.old) f.now }
-    requires known { IsKnown (M.view m.old).objects (value x) }
-    requires small { i < 64 }
-    ensures stores { Does (store_temporary_variable table i (value x)) itself (shown (M.view m.old) f.now) result (shown (M.view m.new) f.now) }
-    ensures held { (M.view m.new).held ≡ (M.view m.old).held }
-    ensures dies { OnErr result (M.view m.new ≡ M.view m.old) }
+#[tactic(auto, using(st_frames::proofs::Doing::rows), unfolding(st_model::specs::Bytecodes::store_temporary_variable))]
+fn store_temporary_variable<O: Objects>(m: &mut O, r: &Registers, i: u32, x: Word) -> Result<(), Dead>
+    requires number { i < 64 }
+    requires room { 1 ≤ O.room m.old }
+    ensures does { Does (store_temporary_variable O.names i (word x)) itself (row_state (O.table m.old) (O.head m.old) r.now) result (row_state (O.table m.new) (O.head m.new) r.now) }
+    ensures room { O.room m.old ≤ O.room m.new + 1 }
 {
-    store_field(f, m, f.home, 6 + i, x)
+    let context = home(m, r);
+    store_field(m, r, context, 6 + i, x)
 }
 
 /// Stores x as the value of the association that is literal i of the method.
-#[tactic(auto, using(st_frames::proofs::Shown::shows, st_frames::proofs::Registers::registers), unfolding(st_model::specs::Bytecodes::store_literal_variable))]
-fn store_literal_variable<M: Memory>(f: &Frame, m: &mut M, i: u32, x: Oop) -> Result<(), Dead>
-    requires frame { IsFrame (M.view m.old) f.now }
-    requires known { IsKnown (M.view m.old).objects (value x) }
-    requires small { i < 64 }
-    ensures stores { Does (store_literal_variable table i (value x)) itself (shown (M.view m.old) f.now) result (shown (M.view m.new) f.now) }
-    ensures held { (M.view m.new).held ≡ (M.view m.old).held }
-    ensures dies { OnErr result (M.view m.new ≡ M.view m.old) }
+#[tactic(auto, using(st_frames::proofs::Doing::rows), unfolding(st_model::specs::Bytecodes::store_literal_variable))]
+fn store_literal_variable<O: Objects>(m: &mut O, r: &Registers, i: u32, x: Word) -> Result<(), Dead>
+    requires room { 1 ≤ O.room m.old }
+    ensures does { Does (store_literal_variable O.names i (word x)) itself (row_state (O.table m.old) (O.head m.old) r.now) result (row_state (O.table m.new) (O.head m.new) r.now) }
+    ensures room { O.room m.old ≤ O.room m.new + 1 }
 {
-    let association = fetch_literal_constant(f, m, i)?;
-    store_field(f, m, association, 1, x)
+    let association = fetch_literal_constant(m, r, i)?;
+    store_field(m, r, association, 1, x)
 }
 
 /// Stores x in what an operand names. Dead of an unused code where that is a literal constant.
-#[tactic(auto, unfolding(st_model::specs::Bytecodes::store_operand, st_model::specs::Machine::die))]
-pub fn store_operand<M: Memory>(f: &Frame, m: &mut M, operand: Operand, x: Oop) -> Result<(), Dead>
-    requires frame { IsFrame (M.view m.old) f.now }
-    requires known { IsKnown (M.view m.old).objects (value x) }
+#[tactic(auto, using(st_frames::proofs::Doing::rows), unfolding(st_model::specs::Bytecodes::store_operand))]
+pub fn store_operand<O: Objects>(m: &mut O, r: &Registers, operand: Operand, x: Word) -> Result<(), Dead>
     requires numbered { IsNumberedOperand operand }
-    ensures stores { Does (store_operand table operand (value x)) itself (shown (M.view m.old) f.now) result (shown (M.view m.new) f.now) }
-    ensures held { (M.view m.new).held ≡ (M.view m.old).held }
-    ensures dies { OnErr result (M.view m.new ≡ M.view m.old) }
+    requires room { 1 ≤ O.room m.old }
+    ensures does { Does (store_operand O.names operand (word x)) itself (row_state (O.table m.old) (O.head m.old) r.now) result (row_state (O.table m.new) (O.head m.new) r.now) }
+    ensures room { O.room m.old ≤ O.room m.new + 1 }
 {
     match operand {
-        Operand::ReceiverVariable(i) => store_receiver_variable(f, m, u32::from(i), x),
-        Operand::TemporaryVariable(i) => store_temporary_variable(f, m, u32::from(i), x),
+        Operand::ReceiverVariable(i) => store_receiver_variable(m, r, u32::from(i), x),
+        Operand::TemporaryVariable(i) => store_temporary_variable(m, r, u32::from(i), x),
         Operand::LiteralConstant(_) => Err(Dead::Code),
-        Operand::LiteralVariable(i) => store_literal_variable(f, m, u32::from(i), x),
+        Operand::LiteralVariable(i) => store_literal_variable(m, r, u32::from(i), x),
     }
 }
 
 /// The word of a constant.
-#[tactic(auto, unfolding(st_model::specs::Bytecodes::constant_value, st_model::specs::Steps::of_page, st_model::specs::Machine::answer, st_model::specs::Values::value_of))]
-pub fn constant_value<M: Memory>(f: &Frame, m: &M, constant: Constant) -> Oop
-    ensures constant { Does (constant_value table constant) value (shown (M.view m.now) f.now) (Ok result) (shown (M.view m.now) f.now) }
-    ensures known { IsKnown (M.view m.now).objects (value result) }
+#[tactic(auto, using(st_frames::proofs::Doing::rows), unfolding(st_model::specs::Bytecodes::constant_value))]
+pub fn constant_value<O: Objects>(m: &O, r: &Registers, constant: Constant) -> Word
+    ensures does { Does (constant_value O.names constant) word (row_state (O.table m.now) (O.head m.now) r.now) (Ok result) (row_state (O.table m.now) (O.head m.now) r.now) }
 {
     match constant {
-        Constant::True => Oop::TRUE,
-        Constant::False => Oop::FALSE,
-        Constant::Nil => Oop::NIL,
-        Constant::MinusOne => Oop(0xffff),
-        Constant::Zero => Oop(1),
-        Constant::One => Oop(3),
-        Constant::Two => Oop(5),
+        Constant::True => page(m, r, PageObject::TrueObject),
+        Constant::False => page(m, r, PageObject::FalseObject),
+        Constant::Nil => page(m, r, PageObject::NilObject),
+        Constant::MinusOne => small(32767),
+        Constant::Zero => small(0),
+        Constant::One => small(1),
+        Constant::Two => small(2),
     }
 }

@@ -1,32 +1,39 @@
-ghost use Rattle.std.specs.Prelude.{◌≡◌, IfOk, OnOk, OnErr};
-ghost use Rattle.st_model.specs.Table.{table};
+ghost use Rattle.std.specs.Prelude.{◌≡◌, IfOk};
+ghost use Rattle.st_model.specs.Outcomes.{end_of};
+ghost use Rattle.st_model.specs.Machine.{used};
+ghost use Rattle.st_model.specs.Table.{table, apart, bounded_table};
 ghost use Rattle.st_model.specs.Bytecodes.{step};
-ghost use Rattle.st_model.specs.Calls.{Does, itself};
+ghost use Rattle.st_model.specs.Calls.{Does};
 ghost use Rattle.st_frames.specs.Shown.{IsFrame, StaysFrame, shown};
-ghost use Rattle.st_step.specs.Unbuilt.{MovesAlone};
+ghost use Rattle.st_step.specs.Planned.{Plans};
 
-use crate::bytes::next_byte;
-use crate::rows::perform;
-use st_frames::Frame;
-use st_memory::Memory;
-use st_model::{Dead, Outcome, decode};
+use crate::rows::step_row;
+use st_frames::{Frame, hold, load};
+use st_memory::{Draft, Memory};
+use st_model::{Dead, Demand, Halt, Outcome};
 
-/// Does the next bytecode. Dead where its row says so; a code whose row isn't built yet does nothing but move the
-/// instruction pointer on.
-#[tactic(auto, using(st_frames::proofs::Shown::shows), unfolding(st_model::specs::Bytecodes::step, st_model::specs::Bytecodes::perform))]
-pub fn step<M: Memory>(f: &mut Frame, m: &mut M) -> Result<Outcome, Dead>
-    requires frame { IsFrame (M.view m.old) f.old }
-    ensures step { Does (step table) itself (shown (M.view m.old) f.old) result (shown (M.view m.new) f.new) }
-    ensures frame { OnOk result (StaysFrame (M.view m.old) (M.view m.new) f.new) }
-    ensures dies { OnErr result (M.view m.new ≡ M.view m.old) }
-    ensures unbuilt { IfOk result (λ o. MovesAlone o (M.view m.old) (M.view m.new) f.old f.new) }
+/// What the next bytecode would take of the capacities, or why it can't be done. Nothing is changed.
+pub fn plan<M: Memory>(m: &M, f: &Frame) -> Result<Demand, Halt>
+    requires frame { IsFrame (M.view m.now) f.now }
+    ensures plans { Plans (used table (M.view m.now).objects) ((step apart).run (shown (M.view m.now) f.now)) result }
 {
-    let byte = next_byte(f, m)?;
-    match decode(byte) {
-        Some(code) => {
-            perform(f, m, code)?;
-            Ok(Outcome::Went)
-        }
-        None => Ok(Outcome::Unbuilt(byte)),
+    let mut draft = Draft::new(m);
+    let mut r = load(m, f);
+    match step_row(&mut draft, &mut r) {
+        Ok(Some(_)) => Ok(draft.demand()),
+        Ok(None) => Err(Halt::Unbuilt),
+        Err(cause) => Err(Halt::Dead(cause)),
     }
+}
+
+/// Does the next bytecode, once a plan has said what it takes and there is room for that.
+pub fn step<M: Memory>(m: &mut M, f: &mut Frame) -> Result<Option<Outcome>, Dead>
+    requires frame { IsFrame (M.view m.old) f.old }
+    ensures step { Does (step bounded_table) end_of (shown (M.view m.old) f.old) result (shown (M.view m.new) f.new) }
+    ensures frame { IfOk result (λ o. StaysFrame (M.view m.old) (M.view m.new) f.new) }
+{
+    let mut r = load(m, f);
+    let outcome = step_row(m, &mut r)?;
+    *f = hold(m, &r);
+    Ok(outcome)
 }

@@ -20,7 +20,7 @@ const PAGE: [u16; 19] = [
 ];
 
 /// Stores into a field: the object, the field's number, the word.
-const STORES: [(u16, u32, u16); 9] = [
+const STORES: [(u16, u32, u16); 7] = [
     (8, 1, 58),
     (58, 1, 60),
     (60, 1, 62),
@@ -28,8 +28,6 @@ const STORES: [(u16, u32, u16); 9] = [
     (62, 1, 7),
     (62, 2, 3),
     (62, 3, 64),
-    (68, 0, 70),
-    (70, 0, 68),
 ];
 
 /// Whether what the objects refer to and the root page are there; it asks that there are no tables of names.
@@ -51,19 +49,24 @@ fn is_complete(alloc: Global, c: &Contents) -> Result<bool, AllocError>
     Ok(true)
 }
 
-/// Whether there can be such an object; it asks for a small one.
-fn is_makeable(class: Oop, kind: Kind, size: u32, literals: u32) -> bool
-    ensures makeable { result ≡ true → IsMakeable (class.0 / 2) kind size literals }
-    ensures small { result ≡ true → words_of (fresh (class.0 / 2) kind size literals) ≤ 200 }
+/// Whether there can be such an object without literals; it asks for a small one.
+pub fn is_makeable(class: Oop, kind: Kind, size: u32) -> bool
+    ensures { result ≡ true → IsMakeable (class.0 / 2) kind size 0 }
 {
     match kind {
-        Kind::Pointers => class.0 / 2 != 17 && literals == 0 && size <= 100,
-        Kind::Words => class.0 / 2 != 17 && literals == 0 && size <= 100,
-        Kind::Bytes => class.0 / 2 != 17 && literals == 0 && size <= 100,
-        Kind::Method => class.0 / 2 == 17
-            && literals <= 9
-            && 2 * literals + 2 <= size
-            && size <= 100,
+        Kind::Pointers | Kind::Words | Kind::Bytes => class.0 / 2 != 17 && size <= 100,
+        Kind::Method => class.0 / 2 == 17 && 2 <= size && size <= 100,
+    }
+}
+
+/// How many words such an object has.
+pub fn words_for(class: Oop, kind: Kind, size: u32) -> u32
+    requires { IsMakeable (class.0 / 2) kind size 0 }
+    ensures { result ≡ words_of (fresh (class.0 / 2) kind size 0) }
+{
+    match kind {
+        Kind::Pointers | Kind::Words => 2 + size,
+        Kind::Bytes | Kind::Method => 2 + size.div_ceil(2),
     }
 }
 
@@ -76,10 +79,10 @@ fn place(rt: &impl Abort, l: &mut PlainLoader, at: u16, class: u16, kind: Kind, 
     assert!(rt; at.0 != 0);
     assert!(rt; !class.is_small());
     assert!(rt; !l.contents.objects.live(at));
-    assert!(rt; is_makeable(class, kind, size, 0));
+    assert!(rt; is_makeable(class, kind, size));
     assert!(rt; used.entries < capacity.entries);
     assert!(rt; used.words <= capacity.words);
-    assert!(rt; capacity.words - used.words >= 200);
+    assert!(rt; words_for(class, kind, size) <= capacity.words - used.words);
     l.place(at, class, kind, size, 0);
 }
 
@@ -102,10 +105,11 @@ fn store_header(rt: &impl Abort, l: &mut PlainLoader, o: u16, header: u16) {
     l.set_pointer(o, 0, Oop(header));
 }
 
-fn begun<L: Loader>(alloc: Global) -> Result<L, AllocError> {
+/// No objects, under capacities within the limits and without tables of names.
+fn begun<L: Loader>(alloc: Global, entries: u32, words: u32) -> Result<L, AllocError> {
     let capacity = Demand {
-        entries: 32767,
-        words: 1048576,
+        entries: entries.min(32767),
+        words: words.min(1048576),
     };
     L::begin(alloc, capacity, Oop(0), Oop(0))
 }
@@ -116,9 +120,14 @@ fn finished<L: Loader>(l: L) -> L::Done
     l.finish()
 }
 
-/// The worked image of 24 objects and 78 words, an unnamed object of 3 words, and two that name each other alone.
-fn image(rt: &impl Abort, alloc: Global) -> Result<PlainMemory, Fail> {
-    let mut l: PlainLoader = begun(alloc)?;
+/// The worked image of 24 objects and 78 words.
+fn worked_image(
+    rt: &impl Abort,
+    alloc: Global,
+    entries: u32,
+    words: u32,
+) -> Result<PlainLoader, Fail> {
+    let mut l: PlainLoader = begun(alloc, entries, words)?;
     for at in PAGE {
         place(rt, &mut l, at, 12, Kind::Pointers, 0);
     }
@@ -127,9 +136,6 @@ fn image(rt: &impl Abort, alloc: Global) -> Result<PlainMemory, Fail> {
     place(rt, &mut l, 60, 12, Kind::Pointers, 4);
     place(rt, &mut l, 62, 22, Kind::Pointers, 18);
     place(rt, &mut l, 64, 34, Kind::Method, 7);
-    place(rt, &mut l, 66, 16, Kind::Words, 3);
-    place(rt, &mut l, 68, 16, Kind::Pointers, 1);
-    place(rt, &mut l, 70, 16, Kind::Pointers, 1);
     for (o, at, v) in STORES {
         store(rt, &mut l, o, at, v);
     }
@@ -137,9 +143,36 @@ fn image(rt: &impl Abort, alloc: Global) -> Result<PlainMemory, Fail> {
     for (at, v) in [(2, 118), (3, 119), (4, 104), (5, 163), (6, 251)] {
         store_byte(rt, &mut l, 64, at, v);
     }
-    store_word(rt, &mut l, 66, 2, 65535);
+    Ok(l)
+}
+
+/// A memory of what was placed.
+fn completed(rt: &impl Abort, alloc: Global, l: PlainLoader) -> Result<PlainMemory, Fail> {
     assert!(rt; is_complete(alloc, &l.contents)?, "the image is complete");
     Ok(finished(l))
+}
+
+/// The memory of the worked image.
+pub fn worked_memory(
+    rt: &impl Abort,
+    alloc: Global,
+    entries: u32,
+    words: u32,
+) -> Result<PlainMemory, Fail> {
+    let l = worked_image(rt, alloc, entries, words)?;
+    completed(rt, alloc, l)
+}
+
+/// The worked image with an unnamed object of 3 words, and two objects that name each other alone.
+fn image(rt: &impl Abort, alloc: Global) -> Result<PlainMemory, Fail> {
+    let mut l = worked_image(rt, alloc, 32767, 1048576)?;
+    place(rt, &mut l, 66, 16, Kind::Words, 3);
+    place(rt, &mut l, 68, 16, Kind::Pointers, 1);
+    place(rt, &mut l, 70, 16, Kind::Pointers, 1);
+    store(rt, &mut l, 68, 0, 70);
+    store(rt, &mut l, 70, 0, 68);
+    store_word(rt, &mut l, 66, 2, 65535);
+    completed(rt, alloc, l)
 }
 
 fn store_byte(rt: &impl Abort, l: &mut PlainLoader, o: u16, at: u32, v: u8) {
@@ -161,7 +194,7 @@ fn store_word(rt: &impl Abort, l: &mut PlainLoader, o: u16, at: u32, v: u16) {
 }
 
 /// The words of an object of kind Pointers.
-fn fields<M: Memory>(rt: &impl Abort, m: &M, alloc: Global, o: u16) -> Result<Vec<u16>, Fail> {
+pub fn fields<M: Memory>(rt: &impl Abort, m: &M, alloc: Global, o: u16) -> Result<Vec<u16>, Fail> {
     let o = Oop(o);
     let mut words = Vec::new(alloc);
     assert!(rt; m.live(o));
@@ -172,7 +205,7 @@ fn fields<M: Memory>(rt: &impl Abort, m: &M, alloc: Global, o: u16) -> Result<Ve
     Ok(words)
 }
 
-fn used<M: Memory>(rt: &impl Abort, m: &M, entries: u32, words: u32) {
+pub fn used<M: Memory>(rt: &impl Abort, m: &M, entries: u32, words: u32) {
     assert_eq!(rt; m.used(), Demand { entries, words });
 }
 
@@ -212,7 +245,7 @@ fn reads<M: Memory>(rt: &impl Abort, m: &M, alloc: Global) -> Result<(), Fail> {
 }
 
 /// Stores into a field of an object of kind Pointers.
-fn write<M: Memory>(rt: &impl Abort, m: &mut M, o: Oop, at: u32, v: Oop) {
+pub fn write<M: Memory>(rt: &impl Abort, m: &mut M, o: Oop, at: u32, v: Oop) {
     assert!(rt; m.live(o) && m.live(v));
     assert!(rt; m.kind(o).is_pointers());
     assert!(rt; at < m.size(o));

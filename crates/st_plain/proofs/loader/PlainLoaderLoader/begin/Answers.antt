@@ -6,7 +6,7 @@ use Rattle.st_plain.specs.declared.contents.Head.{Head}
 use Rattle.st_model.specs.Objects.{words_of}
 use Rattle.st_model.specs.Table.{total_used}
 use Rattle.st_plain.specs.Plain.{plain_view, extent_of}
-use Rattle.st_plain.proofs.Room.{room_start}
+use Rattle.st_plain.proofs.Room.{room_start, long_start}
 use Rattle.st_plain.proofs.loader.PlainLoaderLoader.begin.Goals as goal
 
 pub invariant_of-result : goal.invariant_of-result
@@ -17,4 +17,5 @@ invariant_of-result c =
     record {
       loading = subst IsLoading (sym e.empty) (loading_empty (head_of c.args.capacity c.args.globals c.args.symbols) c.requires.entries c.requires.words);
       room = room_start (extent_of contents.objects) (total_used words_of (plain_view contents).objects) c.args.capacity.words contents.head.capacity.words e.extent words;
+      spare = long_start (extent_of contents.spare) c.args.capacity.words contents.head.capacity.words e.spare words;
     }

@@ -31,4 +31,5 @@ invariant_of-self c =
       room = room_less (extent_of l.contents.objects) (extent_of now) (total_used words_of v.objects) (total_used words_of (objects_of now)) l.contents.head.capacity.words (length o.fields) (length o.units) (words_of o) l.room e.extent
           (ap (total_used words_of) e.objects ∙ total_used-with_object v.objects x (c.args.at.0 / 2) o named (pointer_within l.contents.objects c.args.at.0 small) r.free)
           (fresh_parts class c.args.kind c.args.size c.args.literals);
+      spare = l.spare;
     }

@@ -24,4 +24,5 @@ invariant_of-self c =
       loading = loading_unit v w x _ l.loading c.requires.live refl refl b (subst (λ n. b < n) (sym (unit_limit-byte (object_of v.objects x).kind c.requires.kind)) small) e.objects;
       room = room_same (extent_of l.contents.objects) (extent_of now) (total_used words_of v.objects) (total_used words_of (objects_of now)) l.contents.head.capacity.words l.room e.extent
           (ap (total_used words_of) e.objects ∙ total_used-with_unit v.objects x _ b c.requires.live);
+      spare = l.spare;
     }

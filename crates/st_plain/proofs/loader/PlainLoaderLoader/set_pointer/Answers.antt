@@ -22,4 +22,5 @@ invariant_of-self c =
       loading = loading_stored v w x c.args.at l.loading c.requires.live refl refl y c.requires.header (IsWord-value_of c.args.v.0 word) e.objects;
       room = room_same (extent_of l.contents.objects) (extent_of now) (total_used words_of v.objects) (total_used words_of (objects_of now)) l.contents.head.capacity.words l.room e.extent
           (ap (total_used words_of) e.objects ∙ total_used-with_stored v.objects x c.args.at y c.requires.live);
+      spare = l.spare;
     }

@@ -22,4 +22,5 @@ invariant_of-self c =
       loading = loading_unit v w x c.args.at l.loading c.requires.live refl refl c.args.v (subst (λ n. c.args.v < n) (sym (unit_limit-word (object_of v.objects x).kind c.requires.kind)) small) e.objects;
       room = room_same (extent_of l.contents.objects) (extent_of now) (total_used words_of v.objects) (total_used words_of (objects_of now)) l.contents.head.capacity.words l.room e.extent
           (ap (total_used words_of) e.objects ∙ total_used-with_unit v.objects x c.args.at c.args.v c.requires.live);
+      spare = l.spare;
     }

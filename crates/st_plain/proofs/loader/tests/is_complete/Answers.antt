@@ -3,7 +3,8 @@ use Rattle.std.specs.Prelude.{Some, None, ◌==◌}
 use Rattle.std.proofs.lemmas.Bool.Decides.{nat_tests}
 use Rattle.std.proofs.lemmas.Grind.{common_steps}
 use Rattle.st_model.specs.Values.{Value, Small, Ref, AllLive}
-use Rattle.st_model.specs.Objects.{Object, PageObject, page, place_of}
+use Rattle.st_model.specs.Objects.{Object, page, place_of}
+use Rattle.st_model.specs.declared.page.PageObject.{PageObject}
 use Rattle.st_model.specs.Table.{table, entry}
 use Rattle.st_model.specs.Settled.{AnyRefTo, Refers, page_root, or, is_marked, any_of_page, is_root}
 use Rattle.st_model.specs.Show.{IsUsed}

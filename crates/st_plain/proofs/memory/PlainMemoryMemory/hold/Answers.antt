@@ -9,4 +9,4 @@ invariant_of-self c =
     let m = c.args.self.now in
     let v = plain_view m.contents in
     let w = plain_view (record m.contents { roots = c.hold.new.self }) in
-    record { whole = whole_held v w c.args.place (value c.args.o) m.whole c.requires.known refl c.hold.ensures refl }
+    record { whole = whole_held v w c.args.place (value c.args.o) m.whole c.requires.known refl c.hold.ensures refl; long = record { objects = m.long.objects; spare = m.long.spare } }

@@ -13,7 +13,7 @@ invariant_of-self c =
     let v = plain_view m.contents in
     let w = plain_view c.drop_unneeded.new.self in
     let e = c.drop_unneeded.ensures in
-    record { whole = whole_settled v w (is_needed v) m.whole (keeps_needed v) e.objects e.held e.head }
+    record { whole = whole_settled v w (is_needed v) m.whole (keeps_needed v) e.objects e.held e.head; long = e.long m.long }
 
 pub loop-preserved : goal.loop-preserved
 loop-preserved c =

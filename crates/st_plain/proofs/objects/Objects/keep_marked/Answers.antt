@@ -1,41 +1,76 @@
-use Rattle.std.proofs.Common.{◌≡◌, ◌+◌, List, ap, sym, ◌∙◌, subst, refl, arith}
-use Rattle.std.specs.Prelude.{Option}
-use Rattle.std.specs.Vec.{with_items}
+use Rattle.std.proofs.Common.{◌≡◌, true, false, refl, ap, ◌∙◌, set, arith}
+use Rattle.std.specs.Prelude.{None}
 use Rattle.std.proofs.lemmas.Grind.{common_steps}
-use Rattle.st_model.specs.Objects.{one}
+use Rattle.st_model.specs.declared.demand.Demand.{Demand}
 use Rattle.st_model.specs.Settled.{is_marked}
-use Rattle.st_model.specs.Table.{total_used}
-use Rattle.st_plain.specs.declared.entry.Entry.{Entry}
-use Rattle.st_plain.specs.Lists.{IsLaidOut, listed_table, kept_entries, one_entry, entry_total}
-use Rattle.st_plain.proofs.Looking.{total_used-listed}
-use Rattle.st_plain.proofs.Sweeping.{kept_from, kept_from_end, kept-listed, kept_laid_out}
+use Rattle.st_plain.specs.declared.objects.Objects.{Objects}
+use Rattle.st_plain.specs.Lists.{listed_table, kept_entries}
+use Rattle.st_plain.specs.Plain.{extent_of}
+use Rattle.st_plain.proofs.Counting.{used_is}
+use Rattle.st_plain.proofs.Sweeping.{kept_from, kept_from_none, kept_from-unmarked, kept_from-marked, kept_from_end, kept-listed}
 use Rattle.st_plain.proofs.objects.Objects.keep_marked.Goals as goal
+use Rattle.st_plain.proofs.objects.Objects.keep_marked.Goals.{then-not-has, else-not-has}
 
-pub invariant_of-self : goal.invariant_of-self
-invariant_of-self c =
-    let o = c.args.self.now in
-    let keep = kept_from (is_marked c.args.marks.now.names.items) o.table_end in
-    let left : (with_items o.entries c.drop_unmarked.new.entries).items ≡ kept_entries o.entries.items keep = grind (arith, common_steps) in
-    record {
-      laid_out = subst (λ (es : List (Option Entry)). IsLaidOut es o.pointers.items o.units.items o.table_end o.next_field o.next_unit) (sym left)
-          (kept_laid_out o.entries.items o.pointers.items o.units.items o.table_end o.next_field o.next_unit keep o.laid_out);
-    }
+pub loop-k-init : goal.loop-k-init
+loop-k-init c = record {
+  entries = kept_from_none c.args.self.now.entries.items (is_marked c.args.marks.now.names.items);
+  pointers = refl;
+  units = refl;
+  extent = refl;
+  end = refl;
+  fewer = omega arith;
+}
+
+pub loop-k-preserved : goal.loop-k-preserved
+loop-k-preserved c =
+    let first = c.args.self.now.entries.items in
+    let marked = is_marked c.args.marks.now.names.items in
+    let k = c.loop-k.k in
+    let was = c.loop-k.invariant in
+    elim c.if-not-has.branch [
+      | then-not-has w ↦
+          let e = w.remove.ensures in
+          let unmarked : marked k ≡ false = grind (arith, common_steps) in
+          let fewer = e.fewer in
+          let before = was.fewer in
+          let used = ap (λ (o : Objects). o.used.entries) w.self-is in
+          record {
+            entries = ap (λ (o : Objects). o.entries.items) w.self-is ∙ e.entries ∙ ap (λ es. set es k None) was.entries ∙ kept_from-unmarked first marked k unmarked;
+            pointers = ap (λ (o : Objects). o.pointers) w.self-is ∙ e.pointers ∙ was.pointers;
+            units = ap (λ (o : Objects). o.units) w.self-is ∙ e.units ∙ was.units;
+            extent = ap extent_of w.self-is ∙ e.extent ∙ was.extent;
+            end = ap (λ (o : Objects). o.table_end) w.self-is ∙ e.end ∙ was.end;
+            fewer = omega (arith, fewer, before, used);
+          }
+      | else-not-has w ↦
+          let is_kept : marked k ≡ true = grind (arith, common_steps) in
+          let before = was.fewer in
+          let used = ap (λ (o : Objects). o.used.entries) w.self-is in
+          record {
+            entries = ap (λ (o : Objects). o.entries.items) w.self-is ∙ was.entries ∙ kept_from-marked first marked k is_kept;
+            pointers = ap (λ (o : Objects). o.pointers) w.self-is ∙ was.pointers;
+            units = ap (λ (o : Objects). o.units) w.self-is ∙ was.units;
+            extent = ap extent_of w.self-is ∙ was.extent;
+            end = ap (λ (o : Objects). o.table_end) w.self-is ∙ was.end;
+            fewer = omega (arith, before, used);
+          }
+    ]
 
 pub returns-clause-objects : goal.returns-clause-objects
 returns-clause-objects c =
     let o = c.args.self.now in
+    let l = c.loop-k.self in
     let marked = is_marked c.args.marks.now.names.items in
-    let left : (with_items o.entries c.drop_unmarked.new.entries).items ≡ kept_entries o.entries.items (kept_from marked o.table_end) = grind (arith, common_steps) in
-    ap (listed_table o.pointers.items o.units.items) (left ∙ kept_from_end o.entries.items marked o.table_end o.laid_out.empty)
+    let i = c.loop-k.invariant in
+    let past : c.loop-k.k ≡ o.table_end = omega arith in
+    ap (λ p. listed_table p l.units.items l.entries.items) (ap (λ (v : _). v.items) i.pointers)
+    ∙ ap (λ u. listed_table o.pointers.items u l.entries.items) (ap (λ (v : _). v.items) i.units)
+    ∙ ap (listed_table o.pointers.items o.units.items) (i.entries ∙ ap (λ n. kept_entries o.entries.items (kept_from marked n)) past ∙ kept_from_end o.entries.items marked o.table_end o.laid_out.empty)
     ∙ kept-listed o.pointers.items o.units.items o.entries.items marked
 
 pub returns-clause-gone : goal.returns-clause-gone
 returns-clause-gone c =
-    let o = c.args.self.now in
-    let p = o.pointers.items in
-    let u = o.units.items in
-    let left : (with_items o.entries c.drop_unmarked.new.entries).items ≡ c.drop_unmarked.new.entries = grind (arith, common_steps) in
-    let now = total_used-listed one one_entry p u c.drop_unmarked.new.entries (λ i e h. refl) in
-    let was = total_used-listed one one_entry p u o.entries.items (λ i e h. refl) in
-    let counted : entry_total one_entry c.drop_unmarked.new.entries + c.drop_unmarked.result ≡ entry_total one_entry o.entries.items = grind (arith, common_steps) in
-    (λ i. total_used one (listed_table p u (left i)) + c.drop_unmarked.result) ∙ (λ i. now i + c.drop_unmarked.result) ∙ counted ∙ sym was
+    let now = ap (λ (m : Demand). m.entries) (used_is c.loop-k.self) in
+    let was = ap (λ (m : Demand). m.entries) (used_is c.args.self.now) in
+    let fewer = c.loop-k.invariant.fewer in
+    omega (arith, now, was, fewer)

@@ -1,0 +1,59 @@
+-- The bits of a header's word.
+use Rattle.std.proofs.Common.{◌≡◌, ℕ, Bool, true, false, None, refl}
+use Rattle.std.specs.Prelude.{if◌then◌else◌, ◌/◌, ◌%◌, ◌==◌}
+use Rattle.st_model.specs.Values.{Value, Small, Ref, value_of, is_small}
+use Rattle.st_model.specs.declared.dead.Dead.TheVariants as dead
+use Rattle.st_model.specs.Machine.{ObjectMemory, State, Died, Went, answer, die}
+use Rattle.st_model.specs.Methods.{bits_of, primitive_number}
+use Rattle.st_model.specs.Sends.{arithmetic_by, special_send}
+use Rattle.st_model.specs.Table.{Table}
+
+bits_small : (b : Bool) (n : ℕ) → is_small (if b then Small n else Ref n) ≡ true → bits_of (if b then Small n else Ref n) ≡ n
+bits_small true n e = refl
+bits_small false n e = cc
+
+bits_large : (b : Bool) (n : ℕ) → is_small (if b then Small n else Ref n) ≡ false → bits_of (if b then Small n else Ref n) ≡ 0
+bits_large true n e = cc
+bits_large false n e = refl
+
+pub bits-small : (w : ℕ) → is_small (value_of w) ≡ true → bits_of (value_of w) ≡ w / 2
+unfolding value_of
+bits-small w e = bits_small (w % 2 == 1) (w / 2) e
+
+pub bits-large : (w : ℕ) → is_small (value_of w) ≡ false → bits_of (value_of w) ≡ 0
+unfolding value_of
+bits-large w e = bits_large (w % 2 == 1) (w / 2) e
+
+pub ruleset bits = (bits-small, bits-large)
+
+primitive_small : (b : Bool) (n : ℕ) (s : State Table) → is_small (if b then Small n else Ref n) ≡ true → (primitive_number (if b then Small n else Ref n)).run s ≡ Went (n % 256) s
+unfolding primitive_number answer
+primitive_small true n s e = refl
+primitive_small false n s e = cc
+
+primitive_large : (b : Bool) (n : ℕ) (s : State Table) → is_small (if b then Small n else Ref n) ≡ false → (primitive_number (if b then Small n else Ref n)).run s ≡ Died dead.NotSmall
+unfolding primitive_number die
+primitive_large true n s e = cc
+primitive_large false n s e = refl
+
+pub primitive-small : (w : ℕ) (s : State Table) → is_small (value_of w) ≡ true → (primitive_number (value_of w)).run s ≡ Went (w / 2 % 256) s
+unfolding value_of
+primitive-small w s e = primitive_small (w % 2 == 1) (w / 2) s e
+
+pub primitive-large : (w : ℕ) (s : State Table) → is_small (value_of w) ≡ false → (primitive_number (value_of w)).run s ≡ Died dead.NotSmall
+unfolding value_of
+primitive-large w s e = primitive_large (w % 2 == 1) (w / 2) s e
+
+pub ruleset primitives = (primitive-small, primitive-large)
+
+pub arithmetic-small : (m : ObjectMemory Table) (k : ℕ) (v : Value) (s : State Table) → is_small v ≡ true → (arithmetic_by m k v).run s ≡ Went None s
+unfolding arithmetic_by answer
+arithmetic-small m k (Small n) s e = refl
+arithmetic-small m k (Ref n) s e = cc
+
+pub arithmetic-object : (m : ObjectMemory Table) (k : ℕ) (v : Value) (s : State Table) → is_small v ≡ false → (arithmetic_by m k v).run s ≡ (special_send m k).run s
+unfolding arithmetic_by
+arithmetic-object m k (Small n) s e = cc
+arithmetic-object m k (Ref n) s e = refl
+
+pub ruleset arithmetic = (arithmetic-small, arithmetic-object)

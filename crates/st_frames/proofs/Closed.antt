@@ -1,0 +1,58 @@
+-- What a memory says of itself makes the state that it shows closed.
+use Rattle.std.proofs.Common.{◌≡◌, ℕ, List, [], ◌∷◌, ◌++◌, Option, Some, None, Bool, true, false, refl, sym, subst, is_some}
+use Rattle.st_model.specs.Values.{Value, Small, Ref, value, AllLive, IsLive}
+use Rattle.st_model.specs.Objects.{Object, nil, place_of}
+use Rattle.st_model.specs.declared.page.PageObject.TheVariants.{NilObject}
+use Rattle.st_model.specs.Machine.{State, Head, table_root, head_roots, device_roots, empty_world, roots_of}
+use Rattle.st_model.specs.Table.{Table, entry}
+use Rattle.st_model.specs.Show.{IsUsed, IsClosed}
+use Rattle.st_model.specs.View.{View, is_live, IsKnown, IsWhole}
+use Rattle.st_frames.specs.declared.frame.Frame.{Frame}
+use Rattle.st_frames.specs.Shown.{shown, IsFrame}
+use Rattle.st_frames.proofs.Known.{known_active, known_home, known_method, known_receiver}
+
+some_used : (x : Option Object) → is_some x ≡ true → (o : Object) × x ≡ Some o
+some_used None e = cc
+some_used (Some o) e = (o, refl)
+
+used : (t : Table) (n : ℕ) → is_live t (Ref n) ≡ true → IsUsed t n
+unfolding is_live
+used t n e = some_used (entry t n) e
+
+live_used : (t : Table) (x : Value) → is_live t x ≡ true → IsLive (IsUsed t) x
+live_used t (Small n) e = tt
+live_used t (Ref n) e = used t n e
+
+known_live : (t : Table) (x : Value) → IsKnown t x → IsLive (IsUsed t) x
+known_live t (Small n) k = tt
+known_live t (Ref n) k = used t n (k refl)
+
+both_live : (live : ℕ → Type 0) (xs ys : List Value) → AllLive live xs → AllLive live ys → AllLive live (xs ++ ys)
+both_live live [] ys h k = k
+both_live live (x ∷ xs) ys h k = (h.0, both_live live xs ys h.1 k)
+
+root_live : (t : Table) (r : Option Value) → ((x : Value) → r ≡ Some x → is_live t x ≡ true) → AllLive (IsUsed t) (table_root r)
+root_live t None f = tt
+root_live t (Some x) f = (live_used t x (f x refl), tt)
+
+pub is_closed : (v : View) (f : Frame) → IsWhole v → IsFrame v f → IsClosed (shown v f)
+is_closed v f w frame =
+    let t = v.objects in
+    let page : (n : ℕ) → is_live t (Ref n) ≡ true → IsUsed t n = used t in
+    let empty = used t (place_of NilObject) (w.complete.page NilObject) in
+    let tables = both_live (IsUsed t) (table_root v.head.globals) (table_root v.head.symbols) (root_live t v.head.globals w.complete.globals) (root_live t v.head.symbols w.complete.symbols) in
+    let devices : AllLive (IsUsed t) (device_roots (empty_world nil).devices) = (empty, (empty, (empty, (empty, (empty, (empty, tt)))))) in
+    record {
+      objects = w.complete.objects;
+      page = λ q. used t (place_of q) (w.complete.page q);
+      roots = (
+        known_live t (value f.active) (known_active w frame),
+        (
+          known_live t (value f.home) (known_home w frame),
+          (
+            known_live t (value f.method) (known_method w frame),
+            (known_live t (value f.receiver) (known_receiver w frame), both_live (IsUsed t) (head_roots v.head) (device_roots (empty_world nil).devices) tables devices),
+          ),
+        ),
+      );
+    }

@@ -1,0 +1,9 @@
+use Rattle.st_model.specs.Values.{word}
+use Rattle.st_lookup.proofs.Finding.{LeftClasses}
+use Rattle.st_lookup.proofs.class.find.Given as goal
+
+abbrev pub invariant-loop-selector : goal.invariant-loop-selector
+invariant-loop-selector g l = LeftClasses g.O.Objects.names (word l.selector) (word l.fn.class) l.left (word l.class) (g.O.Objects.table l.m)
+
+abbrev pub decreases-loop-selector : goal.decreases-loop-selector
+decreases-loop-selector g l = l.left

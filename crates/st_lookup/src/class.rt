@@ -1,0 +1,44 @@
+ghost use Rattle.std.specs.Prelude.{◌≡◌, ◌<◌, ◌≤◌, ◌+◌, ◌-◌};
+ghost use Rattle.st_model.specs.Values.{word};
+ghost use Rattle.st_model.specs.Lookup.{method_in_class, find};
+ghost use Rattle.st_model.specs.Calls.{Reads};
+ghost use Rattle.st_lookup.specs.Places.{found_word};
+
+use crate::places::search_dictionary;
+use st_memory::Objects;
+use st_model::{Dead, PageObject, Word};
+
+/// The method for the selector in the class itself, whose dictionary must have places.
+#[tactic(auto, using(st_model::proofs::Runs::runs, st_model::proofs::Runs::tests), unfolding(st_model::specs::Lookup::method_in_class))]
+fn method_in_class<O: Objects>(m: &O, class: Word, selector: Word) -> Result<Option<Word>, Dead>
+    ensures { Reads (method_in_class O.names (word class) (word selector)) found_word (O.table m.now) result }
+{
+    let dictionary = m.fetch_field(class, 1)?;
+    let fields = m.count_fields(dictionary)?;
+    if fields <= 2 {
+        return Err(Dead::Places);
+    }
+    search_dictionary(m, dictionary, selector, fields - 2)
+}
+
+/// The method for the selector in the class, or in the nearest superclass that has one; none where the chain ends in nil
+/// without one. Dead where a class or a dictionary isn't what it should be, where a dictionary has no places, where what
+/// was found is no method, and at the class of number 32768.
+pub fn find<O: Objects>(m: &O, class: Word, selector: Word) -> Result<Option<Word>, Dead>
+    ensures { Reads (find O.names (word class) (word selector)) found_word (O.table m.now) result }
+{
+    let nil = PageObject::NilObject.word();
+    let mut class = class;
+    let mut left = 32767_u32;
+    while !class.same(nil) {
+        if left == 0 {
+            return Err(Dead::Chain);
+        }
+        if let Some(method) = method_in_class(m, class, selector)? {
+            return Ok(Some(method));
+        }
+        class = m.fetch_field(class, 0)?;
+        left -= 1;
+    }
+    Ok(None)
+}

@@ -1,0 +1,7 @@
+//! The search for a method: through the method dictionaries of a class and of its superclasses (chapter 28).
+#![tactic(auto)]
+
+mod class;
+mod places;
+
+pub use class::find;

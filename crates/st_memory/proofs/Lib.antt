@@ -1,0 +1,11 @@
+pub mod Behind
+mod Copying
+pub mod Drafted
+pub mod Freeing
+pub mod Keeping
+pub mod Looking
+mod Moving
+pub mod Replaying
+pub mod Storing
+mod Wide
+pub mod Writing

@@ -1,0 +1,255 @@
+-- Steps that only look at one object.
+use Rattle.std.proofs.Common.{◌≡◌, ℕ, ◌+◌, ◌<◌, Bool, true, false, length, Result, Ok, Err, refl, sym, ap, ◌∙◌, subst, arith, is_some}
+use Rattle.std.specs.Prelude.{ℤ, pos, slice_get, unwrap_or, Option, Some, None, if◌then◌else◌}
+use Rattle.st_model.specs.declared.dead.Dead.{Dead}
+use Rattle.st_model.specs.declared.dead.Dead.TheVariants as dead
+use Rattle.st_model.specs.declared.kind.Kind.{Kind}
+use Rattle.st_model.specs.declared.kind.Kind.TheVariants as kind
+use Rattle.st_model.specs.Values.{Value, Small, Ref}
+use Rattle.st_model.specs.declared.page.PageObject.TheVariants.{SmallIntegerClass}
+use Rattle.st_model.specs.Objects.{Object, is_pointers, is_method, place_of, nil}
+use Rattle.st_model.specs.Machine.{State, Transition, Died, Went, Step, after, answer, die, empty_world, ◌>>=◌, ◌>>◌}
+use Rattle.st_model.specs.Steps.{object, object_named, found, check, or_die, of_page, fetch_field, count_fields, class_of, literal, byte_at, code_byte}
+use Rattle.st_model.specs.Methods.{method_header, literal_from_last, from_last}
+use Rattle.st_model.specs.Table.{Table, table, entry}
+use Rattle.st_model.specs.View.{nothing, is_live, object_of}
+use Rattle.st_model.specs.Calls.{Reads, transition_of, itself}
+use Rattle.st_memory.specs.Drafts.{HasField, IsLike, AreLike, field_value, named_object}
+
+-- what a step gives that leaves the state as it is
+
+abbrev pub Got : Type 0 → Type 0
+Got A = Transition (Unit {0}) A
+
+abbrev pub here : {A : Type 0} → State Table → Got A → Transition (State Table) A
+here s (Died k) = Died k
+here s (Went a u) = Went a s
+
+abbrev pub result_got : {A B : Type 0} → (B → A) → Result B Dead → Got A
+result_got f (Ok v) = Went (f v) tt
+result_got f (Err k) = Died k
+
+here_result : {A B : Type 0} (f : B → A) (r : Result B Dead) (s : State Table) → here s (result_got f r) ≡ transition_of f r s
+here_result f (Ok v) s = refl
+here_result f (Err k) s = refl
+
+got_is : {A B : Type 0} (g : Got A) (f : B → A) (r : Result B Dead) (s : State Table) → here s g ≡ transition_of f r s → g ≡ result_got f r
+got_is (Died k) f (Ok v) s e = cc
+got_is (Died k) f (Err c) s e = let q : k ≡ c = cc in ap Died q
+got_is (Went a u) f (Ok v) s e = let q : a ≡ f v = cc in ap (λ x. Went x tt) q
+got_is (Went a u) f (Err c) s e = cc
+
+-- a state over a table
+abbrev pub some_state : Table → State Table
+some_state t = record { memory = t; registers = record { active = nil; home = nil; method = nil; receiver = nil; ip = pos 0; sp = 0 }; world = empty_world nil; head = record { entries = 0; words = 0; globals = None; symbols = None } }
+
+-- the step gives this of each table
+abbrev pub Looks : {A : Type 0} → Step Table A → (Table → Got A) → Type 0
+Looks m g = (s : State Table) → m.run s ≡ here s (g s.memory)
+
+module _ {A B : Type 0} (m : Step Table A) (g : Table → Got A) (f : B → A) (looks : Looks m g) where
+  pub reads_got : (t : Table) (r : Result B Dead) → Reads m f t r → g t ≡ result_got f r
+  reads_got t r h = got_is (g t) f r (some_state t) (sym (looks (some_state t)) ∙ h (some_state t) refl)
+
+  pub got_reads : (t : Table) (r : Result B Dead) → g t ≡ result_got f r → Reads m f t r
+  got_reads t r e = λ s over. looks s ∙ ap (λ u. here s (g u)) over ∙ ap (here s) e ∙ here_result f r s
+
+  -- it answers the same over a table of which it gives the same
+  pub reads_moved : (t u : Table) (r : Result B Dead) → g u ≡ g t → Reads m f t r → Reads m f u r
+  reads_moved t u r same h = got_reads u r (same ∙ reads_got t r h)
+
+-- a look at an object of the right kind
+
+abbrev pub or_got : {A : Type 0} → Dead → Option A → Got A
+or_got cause None = Died cause
+or_got cause (Some a) = Went a tt
+
+abbrev pub checked : {A : Type 0} → Bool → Got A → Got A
+checked true g = g
+checked false g = Died dead.Kind
+
+abbrev pub looked : {A : Type 0} → (Kind → Bool) → (Object → Option A) → Dead → Option Object → Got A
+looked test f cause None = Died dead.Kind
+looked test f cause (Some o) = checked (test o.kind) (or_got cause (f o))
+
+abbrev pub look_at : {A : Type 0} → (Kind → Bool) → (Object → Option A) → Dead → Value → Table → Got A
+look_at test f cause (Small n) t = Died dead.Small
+look_at test f cause (Ref n) t = looked test f cause (entry t n)
+
+or_die_looks : {A : Type 0} (cause : Dead) (x : Option A) (s : State Table) → (or_die cause x).run s ≡ here s (or_got cause x)
+unfolding or_die die answer
+or_die_looks cause None s = refl
+or_die_looks cause (Some a) s = refl
+
+checked_looks : {A : Type 0} (b : Bool) (cause : Dead) (x : Option A) (s : State Table) → (check dead.Kind b >> or_die cause x).run s ≡ here s (checked b (or_got cause x))
+unfolding ◌>>◌ ◌>>=◌ after check die answer
+checked_looks true cause x s = or_die_looks cause x s
+checked_looks false cause x s = refl
+
+module _ {A : Type 0} (test : Kind → Bool) (f : Object → Option A) (cause : Dead) where
+  found_looks : (e : Option Object) (s : State Table) → (found e >>= (λ o. check dead.Kind (test o.kind) >> or_die cause (f o))).run s ≡ here s (looked test f cause e)
+  unfolding found ◌>>=◌ after die answer
+  found_looks None s = refl
+  found_looks (Some o) s = checked_looks (test o.kind) cause (f o) s
+
+  pub step_looks : (v : Value) → Looks (object table v >>= (λ o. check dead.Kind (test o.kind) >> or_die cause (f o))) (look_at test f cause v)
+  unfolding object object_named die ◌>>=◌ after
+  step_looks (Small n) s = refl
+  step_looks (Ref n) s = found_looks (entry s.memory n) s
+
+pub fetch_looks : (v : Value) (i : ℕ) → Looks (fetch_field table v i) (look_at is_pointers (λ o. slice_get o.fields i) dead.Field v)
+unfolding fetch_field
+fetch_looks v i = step_looks is_pointers (λ o. slice_get o.fields i) dead.Field v
+
+pub count_looks : (v : Value) → Looks (count_fields table v) (look_at is_pointers (λ o. Some (length o.fields)) dead.Field v)
+unfolding count_fields or_die
+count_looks v = step_looks is_pointers (λ o. Some (length o.fields)) dead.Field v
+
+pub header_looks : (v : Value) → Looks (method_header table v) (look_at is_method (λ o. slice_get o.fields 0) dead.Field v)
+unfolding method_header
+header_looks v = step_looks is_method (λ o. slice_get o.fields 0) dead.Field v
+
+pub literal_looks : (v : Value) (i : ℕ) → Looks (literal table v i) (look_at is_method (λ o. slice_get o.fields (i + 1)) dead.Field v)
+unfolding literal
+literal_looks v i = step_looks is_method (λ o. slice_get o.fields (i + 1)) dead.Field v
+
+pub last_looks : (v : Value) (k : ℕ) → Looks (literal_from_last table v k) (look_at is_method (λ o. from_last o k) dead.Field v)
+unfolding literal_from_last
+last_looks v k = step_looks is_method (λ o. from_last o k) dead.Field v
+
+pub byte_looks : (v : Value) (ip : ℤ) → Looks (byte_at table v ip) (look_at is_method (λ o. code_byte o ip) dead.Ip v)
+unfolding byte_at
+byte_looks v ip = step_looks is_method (λ o. code_byte o ip) dead.Ip v
+
+abbrev pub class_in : Option Object → Got Value
+class_in None = Died dead.Kind
+class_in (Some o) = Went (Ref o.class) tt
+
+abbrev pub class_look : Value → Table → Got Value
+class_look (Small n) t = Went (Ref (place_of SmallIntegerClass)) tt
+class_look (Ref n) t = class_in (entry t n)
+
+class_found : (e : Option Object) (s : State Table) → after ((found e).run s) (λ o t. Went (Ref o.class) t) ≡ here s (class_in e)
+unfolding found after die answer
+class_found None s = refl
+class_found (Some o) s = refl
+
+pub class_looks : (v : Value) → Looks (class_of table v) (class_look v)
+unfolding class_of of_page object_named ◌>>=◌ answer
+class_looks (Small n) s = refl
+class_looks (Ref n) s = class_found (entry s.memory n) s
+
+-- the same is seen where the objects are alike
+
+pub data Alike (a b : Option Object) : Type 0 where
+  neither : a ≡ None → b ≡ None → Alike a b
+  both : (x y : Object) → a ≡ Some x → b ≡ Some y → IsLike x y → Alike a b
+
+pub alike_named : (t u : Table) (v : Value) → AreLike t u → Alike (named_object t v) (named_object u v)
+unfolding is_live object_of
+alike_named t u (Small n) like = neither refl refl
+alike_named t u (Ref n) like = by_entry (entry t n) (entry u n) (like.live (Ref n)) (like.objects (Ref n))
+  where
+    by_entry : (a b : Option Object) → is_some a ≡ is_some b → IsLike (unwrap_or a nothing) (unwrap_or b nothing) → Alike a b
+    by_entry None None e l = neither refl refl
+    by_entry None (Some y) e l = cc
+    by_entry (Some x) None e l = cc
+    by_entry (Some x) (Some y) e l = both x y refl refl l
+
+module _ {A : Type 0} (test : Kind → Bool) (f : Object → Option A) (cause : Dead) where
+  pub look_same : (t u : Table) (v : Value) → named_object t v ≡ named_object u v → look_at test f cause v t ≡ look_at test f cause v u
+  look_same t u (Small n) e = refl
+  look_same t u (Ref n) e = ap (looked test f cause) e
+
+  checked_alike : (b : Bool) (x y : Object) → test y.kind ≡ b → (test y.kind ≡ true → f x ≡ f y) → checked b (or_got cause (f x)) ≡ checked b (or_got cause (f y))
+  checked_alike true x y e same = ap (or_got cause) (same e)
+  checked_alike false x y e same = refl
+
+  looked_alike : (a b : Option Object) → ((x y : Object) → IsLike x y → test y.kind ≡ true → f x ≡ f y) → Alike a b → looked test f cause a ≡ looked test f cause b
+  looked_alike a b same (neither p q) = ap (looked test f cause) (p ∙ sym q)
+  looked_alike a b same (both x y p q like) =
+      ap (looked test f cause) p
+      ∙ ap (λ k. checked (test k) (or_got cause (f x))) like.kind
+      ∙ checked_alike (test y.kind) x y refl (same x y like)
+      ∙ sym (ap (looked test f cause) q)
+
+  pub look_alike : (t u : Table) (v : Value) → ((x y : Object) → IsLike x y → test y.kind ≡ true → f x ≡ f y) → AreLike t u → look_at test f cause v t ≡ look_at test f cause v u
+  look_alike t u (Small n) same like = refl
+  look_alike t u (Ref n) same like = looked_alike (entry t n) (entry u n) same (alike_named t u (Ref n) like)
+
+not_pointers : (k : Kind) → is_method k ≡ true → is_pointers k ≡ false
+not_pointers kind.Pointers e = cc
+not_pointers kind.Words e = cc
+not_pointers kind.Bytes e = cc
+not_pointers kind.Method e = refl
+
+-- methods that are alike are the same
+pub method_same : {A : Type 0} (f : Object → Option A) (x y : Object) → IsLike x y → is_method y.kind ≡ true → f x ≡ f y
+method_same f x y like m = ap f (like.same (not_pointers y.kind m))
+
+pub count_same : (x y : Object) → IsLike x y → is_pointers y.kind ≡ true → ◌≡◌ {A = Option ℕ} (Some (length x.fields)) (Some (length y.fields))
+count_same x y like p = ap (λ n. Some n) like.count
+
+class_alike : (a b : Option Object) → Alike a b → class_in a ≡ class_in b
+class_alike a b (neither p q) = ap class_in (p ∙ sym q)
+class_alike a b (both x y p q like) = ap class_in p ∙ ap (λ n. Went (Ref n) tt) like.class ∙ sym (ap class_in q)
+
+pub class_look_alike : (t u : Table) (v : Value) → AreLike t u → class_look v t ≡ class_look v u
+class_look_alike t u (Small n) like = refl
+class_look_alike t u (Ref n) like = class_alike (entry t n) (entry u n) (alike_named t u (Ref n) like)
+
+pub class_look_same : (t u : Table) (v : Value) → named_object t v ≡ named_object u v → class_look v t ≡ class_look v u
+class_look_same t u (Small n) e = refl
+class_look_same t u (Ref n) e = ap class_in e
+
+-- what an answer says of the object
+
+got_count : (e : Option Object) (n : ℕ) → looked is_pointers (λ o. Some (length o.fields)) dead.Field e ≡ Went n tt → (is_pointers (unwrap_or e nothing).kind ≡ true) × (length (unwrap_or e nothing).fields ≡ n) × (is_some e ≡ true)
+got_count None n h = cc
+got_count (Some o) n h = by_kind (is_pointers o.kind) refl h
+  where
+    by_kind : (b : Bool) → is_pointers o.kind ≡ b → checked b (Went (length o.fields) tt) ≡ Went n tt → (is_pointers o.kind ≡ true) × (length o.fields ≡ n) × (true ≡ true)
+    by_kind true e h = let q : length o.fields ≡ n = cc in (e, q, refl)
+    by_kind false e h = cc
+
+pub counted : (t : Table) (v : Value) (n : ℕ) → look_at is_pointers (λ o. Some (length o.fields)) dead.Field v t ≡ Went n tt → (is_pointers (object_of t v).kind ≡ true) × (length (object_of t v).fields ≡ n) × (is_live t v ≡ true)
+unfolding object_of is_live
+counted t (Small k) n h = cc
+counted t (Ref k) n h = got_count (entry t k) n h
+
+not_counted : (e : Option Object) (c : Dead) → looked is_pointers (λ o. Some (length o.fields)) dead.Field e ≡ Died c → is_pointers (unwrap_or e nothing).kind ≡ true → 0 < length (unwrap_or e nothing).fields → ⊥
+not_counted None c h p l = absurd (omega (arith, l))
+not_counted (Some o) c h p l = by_kind (is_pointers o.kind) p h
+  where
+    by_kind : (b : Bool) → b ≡ true → checked b (Went (length o.fields) tt) ≡ Died c → ⊥
+    by_kind true e g = cc
+    by_kind false e g = cc
+
+-- where no fields are counted there is no field
+pub uncounted : (t : Table) (v : Value) (i : ℕ) (c : Dead) → look_at is_pointers (λ o. Some (length o.fields)) dead.Field v t ≡ Died c → HasField t v i → ⊥
+unfolding object_of
+uncounted t (Small k) i c h has = let l = has.place in absurd (omega (arith, l))
+uncounted t (Ref k) i c h has = not_counted (entry t k) c h has.pointers (let l = has.place in omega (arith, l))
+
+-- a field is not fetched for the cause for which the fields can't be counted
+died_alike : (e : Option Object) (i : ℕ) (c : Dead) → looked is_pointers (λ o. Some (length o.fields)) dead.Field e ≡ Died c → looked is_pointers (λ o. slice_get o.fields i) dead.Field e ≡ Died c
+died_alike None i c h = let q : dead.Kind ≡ c = cc in ap (λ k. Died k) q
+died_alike (Some o) i c h = by_kind (is_pointers o.kind) h
+  where
+    by_kind : (b : Bool) → checked b (Went (length o.fields) tt) ≡ Died c → checked b (or_got dead.Field (slice_get o.fields i)) ≡ Died c
+    by_kind true g = cc
+    by_kind false g = let q : dead.Kind ≡ c = cc in ap (λ k. Died k) q
+
+pub fetch_died : (t : Table) (v : Value) (i : ℕ) (c : Dead) → look_at is_pointers (λ o. Some (length o.fields)) dead.Field v t ≡ Died c → look_at is_pointers (λ o. slice_get o.fields i) dead.Field v t ≡ Died c
+fetch_died t (Small k) i c h = let q : dead.Small ≡ c = cc in ap (λ d. Died d) q
+fetch_died t (Ref k) i c h = died_alike (entry t k) i c h
+
+fetched : (e : Option Object) (i : ℕ) → is_some e ≡ true → is_pointers (unwrap_or e nothing).kind ≡ true → looked is_pointers (λ o. slice_get o.fields i) dead.Field e ≡ or_got dead.Field (slice_get (unwrap_or e nothing).fields i)
+fetched None i s p = cc
+fetched (Some o) i s p = ap (λ b. checked b (or_got dead.Field (slice_get o.fields i))) p
+
+-- what stands in a field of a live object of kind Pointers is what is fetched
+pub fetch_is : (t : Table) (v : Value) (i : ℕ) → is_live t v ≡ true → is_pointers (object_of t v).kind ≡ true → look_at is_pointers (λ o. slice_get o.fields i) dead.Field v t ≡ or_got dead.Field (field_value t v i)
+unfolding object_of is_live
+fetch_is t (Small k) i s p = cc
+fetch_is t (Ref k) i s p = fetched (entry t k) i s p

@@ -1,0 +1,245 @@
+ghost use Rattle.std.specs.Prelude.{◌≡◌, ◌+◌, ◌≤◌, ℕ, true, false, IfOk, IfErr, IfSome, IfNone};
+ghost use Rattle.st_model.specs.Values.{value, word};
+ghost use Rattle.st_model.specs.Table.{table, bounded_table};
+ghost use Rattle.st_model.specs.Machine.{is_there};
+ghost use Rattle.st_model.specs.Steps.{object};
+ghost use Rattle.st_model.specs.Calls.{Reads, Changes, itself};
+ghost use Rattle.st_model.specs.View.{IsKnown, Has, Lacks, is_live, object_of};
+
+use crate::memory::Memory;
+use crate::objects::Objects;
+use crate::transfer::copy_fields;
+use st_model::{Dead, Demand, Kind, Oop, Word, literals};
+
+/// The object that a word names.
+#[tactic(auto, using(st_model::proofs::Runs::runs, crate::proofs::Wide::far, crate::proofs::Wide::lacks, crate::proofs::Wide::small_not_live))]
+fn live_object<M: Memory>(m: &M, o: Word) -> Result<Oop, Dead>
+    ensures object { Reads (object table (word o)) (λ (x : Oop). object_of (M.view m.now).objects (value x)) (M.view m.now).objects result }
+    ensures same { IfOk result (λ x. value x ≡ word o) }
+    ensures live { IfOk result (λ x. is_live (M.view m.now).objects (value x) ≡ true) }
+    ensures gone { IfErr result (λ e. is_live (M.view m.now).objects (word o) ≡ false) }
+    ensures lacks { IfErr result (λ e. (from n : ℕ) → Lacks (M.view m.now).objects (word o) from n e) }
+{
+    if o.is_small() {
+        return Err(Dead::Small);
+    }
+    if o.0 > 65535 {
+        return Err(Dead::Kind);
+    }
+    let object = Oop(o.0 as u16);
+    if m.live(object) {
+        Ok(object)
+    } else {
+        Err(Dead::Kind)
+    }
+}
+
+/// The object of kind Pointers that a word names, where it has so many fields from one on.
+#[tactic(auto, using(crate::proofs::Wide::lacks))]
+fn live_fields<M: Memory>(m: &M, o: Word, n: u32, from: u32) -> Result<Oop, Dead>
+    ensures same { IfOk result (λ x. value x ≡ word o) }
+    ensures has { IfOk result (λ x. Has (M.view m.now).objects (value x) from n) }
+    ensures small { IfOk result (λ x. from + n ≤ 131066) }
+    ensures lacks { IfErr result (Lacks (M.view m.now).objects (word o) from n) }
+{
+    let object = live_object(m, o)?;
+    if !m.kind(object).is_pointers() {
+        return Err(Dead::Kind);
+    }
+    let size = m.size(object);
+    if size < from {
+        return Err(Dead::Field);
+    }
+    if size - from < n {
+        Err(Dead::Field)
+    } else {
+        Ok(object)
+    }
+}
+
+/// The SmallInteger of 15 bits or the object that is there under a word.
+#[tactic(auto, using(crate::proofs::Wide::there))]
+pub fn live_value<M: Memory>(m: &M, x: Word) -> Option<Oop>
+    ensures there { IfSome result (λ o. is_there table (M.view m.now).objects (word x) ≡ true) }
+    ensures same { IfSome result (λ o. value o ≡ word x) }
+    ensures known { IfSome result (λ o. IsKnown (M.view m.now).objects (value o)) }
+    ensures gone { IfNone result (is_there table (M.view m.now).objects (word x) ≡ false) }
+{
+    if x.0 > 65535 {
+        return None;
+    }
+    let value = Oop(x.0 as u16);
+    if value.is_small() {
+        return Some(value);
+    }
+    if m.live(value) { Some(value) } else { None }
+}
+
+impl<M: Memory> Objects for M {
+    ghost use Rattle.st_memory.specs.Tabular.{bounded_tabular};
+
+    ghost names = { bounded_table };
+
+    ghost table = { λ m. (M.view m).objects };
+
+    ghost head = { λ m. (M.view m).head };
+
+    ghost room = { λ m. 24 };
+
+    fn is_there(&self, v: Word) -> bool {
+        live_value(self, v).is_some()
+    }
+
+    #[tactic(auto, using(st_model::proofs::Runs::runs, crate::proofs::Wide::bounded), unfolding(st_model::specs::Steps::fetch_field))]
+    fn fetch_field(&self, o: Word, i: u32) -> Result<Word, Dead> {
+        let object = live_object(self, o)?;
+        if !self.kind(object).is_pointers() {
+            return Err(Dead::Kind);
+        }
+        if i < self.size(object) {
+            Ok(Word::from(self.pointer(object, i)))
+        } else {
+            Err(Dead::Field)
+        }
+    }
+
+    #[tactic(auto, using(st_model::proofs::Runs::runs, crate::proofs::Wide::bounded), unfolding(st_model::specs::Steps::count_fields))]
+    fn count_fields(&self, o: Word) -> Result<u32, Dead> {
+        let object = live_object(self, o)?;
+        if self.kind(object).is_pointers() {
+            Ok(self.size(object))
+        } else {
+            Err(Dead::Kind)
+        }
+    }
+
+    #[tactic(auto, using(st_model::proofs::Runs::runs, crate::proofs::Wide::bounded, crate::proofs::Wide::classes))]
+    fn fetch_class(&self, o: Word) -> Result<Word, Dead> {
+        if o.is_small() {
+            return Ok(Word::SMALL_INTEGER);
+        }
+        let object = live_object(self, o)?;
+        Ok(Word::from(Memory::class_of(self, object)))
+    }
+
+    #[tactic(auto, using(crate::proofs::Wide::halves, crate::proofs::Wide::far))]
+    fn half_word(&self, o: Word) -> u32 {
+        if o.is_small() {
+            return o.0 / 2;
+        }
+        match live_object(self, o) {
+            Ok(_) => o.0 / 2,
+            Err(_) => 0,
+        }
+    }
+
+    #[tactic(auto, using(st_model::proofs::Runs::runs, crate::proofs::Wide::bounded), unfolding(st_model::specs::Methods::method_header))]
+    fn method_header(&self, method: Word) -> Result<Word, Dead> {
+        let object = live_object(self, method)?;
+        if !self.kind(object).is_method() {
+            return Err(Dead::Kind);
+        }
+        Ok(Word::from(self.pointer(object, 0)))
+    }
+
+    #[tactic(auto, using(st_model::proofs::Runs::runs, crate::proofs::Wide::bounded), unfolding(st_model::specs::Steps::literal))]
+    fn literal(&self, method: Word, i: u32) -> Result<Word, Dead> {
+        let object = live_object(self, method)?;
+        if !self.kind(object).is_method() {
+            return Err(Dead::Kind);
+        }
+        if i < literals(self.pointer(object, 0)) {
+            Ok(Word::from(self.pointer(object, i + 1)))
+        } else {
+            Err(Dead::Field)
+        }
+    }
+
+    #[tactic(auto, using(st_model::proofs::Runs::runs, crate::proofs::Wide::bounded), unfolding(st_model::specs::Methods::literal_from_last))]
+    fn literal_from_last(&self, method: Word, k: u32) -> Result<Word, Dead> {
+        let object = live_object(self, method)?;
+        if !self.kind(object).is_method() {
+            return Err(Dead::Kind);
+        }
+        let count = literals(self.pointer(object, 0));
+        if k < count {
+            Ok(Word::from(self.pointer(object, count - k)))
+        } else {
+            Err(Dead::Field)
+        }
+    }
+
+    #[tactic(auto, using(st_model::proofs::Runs::runs, crate::proofs::Wide::bounded), unfolding(st_model::specs::Steps::byte_at))]
+    fn byte_at(&self, method: Word, ip: i32) -> Result<u8, Dead> {
+        let object = live_object(self, method)?;
+        if !self.kind(object).is_method() {
+            return Err(Dead::Kind);
+        }
+        if ip < 0 {
+            return Err(Dead::Ip);
+        }
+        let place = ip as u32;
+        if place < 2 * literals(self.pointer(object, 0)) + 2 {
+            return Err(Dead::Ip);
+        }
+        if place > 16381 {
+            return Err(Dead::Ip);
+        }
+        if place < self.size(object) {
+            Ok(self.byte(object, place))
+        } else {
+            Err(Dead::Ip)
+        }
+    }
+
+    #[tactic(auto, using(st_model::proofs::Runs::runs, crate::proofs::Wide::bounded, crate::proofs::Wide::run_set_gone), unfolding(st_model::specs::Steps::store_field))]
+    fn store_field(&mut self, o: Word, i: u32, x: Word) -> Result<(), Dead> {
+        let object = live_object(self, o)?;
+        if !self.kind(object).is_pointers() {
+            return Err(Dead::Kind);
+        }
+        if i >= self.size(object) {
+            return Err(Dead::Field);
+        }
+        match live_value(self, x) {
+            Some(value) => {
+                self.set_pointer(object, i, value);
+                Ok(())
+            }
+            None => Err(Dead::Kind),
+        }
+    }
+
+    #[tactic(auto, using(crate::proofs::Moving::moving))]
+    fn transfer(
+        &mut self,
+        n: u32,
+        source: Word,
+        from: u32,
+        target: Word,
+        to: u32,
+    ) -> Result<(), Dead> {
+        if n == 0 {
+            return Ok(());
+        }
+        let source = live_fields(self, source, n, from)?;
+        let target = live_fields(self, target, n, to)?;
+        copy_fields(self, n, source, from, target, to);
+        Ok(())
+    }
+
+    fn new_object(&mut self, class: Word, n: u32) -> Result<Word, Dead> {
+        let class = live_object(self, class)?;
+        let needed = Demand {
+            entries: 1,
+            words: n + 2,
+        };
+        if Memory::room(self, needed) {
+            Ok(Word::from(self.make(class, Kind::Pointers, n, 0)))
+        } else {
+            Ok(Word::NIL)
+        }
+    }
+
+    ghost tabular = { bounded_tabular };
+}

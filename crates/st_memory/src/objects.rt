@@ -1,0 +1,99 @@
+ghost use Rattle.std.specs.Prelude.{◌≡◌, ◌≢◌, ℕ, ◌+◌, ◌≤◌, IfOk};
+ghost use Rattle.st_model.specs.Values.{Ref, word};
+ghost use Rattle.st_model.specs.Objects.{place_of};
+ghost use Rattle.st_model.specs.declared.page.PageObject.TheVariants.{MethodClass};
+ghost use Rattle.st_model.specs.Machine.{ObjectMemory, Head, is_there};
+ghost use Rattle.st_model.specs.Table.{Table, IsTabular};
+ghost use Rattle.st_model.specs.Steps.{fetch_field, count_fields, class_of, literal, byte_at, store_field, transfer, new_object};
+ghost use Rattle.st_model.specs.Methods.{method_header, literal_from_last};
+ghost use Rattle.st_model.specs.Lookup.{half_word};
+ghost use Rattle.st_model.specs.Calls.{Reads, Changes, itself};
+
+use st_model::{Dead, Word};
+
+/// The objects that the row of a bytecode reads and changes: those of a memory, or those of a draft over one, which
+/// tells what a row would do. Each call does what the step of its name in the definitions does, and dies as that does.
+pub trait Objects {
+    /// How new objects are named.
+    ghost names: { ObjectMemory Table };
+
+    /// The objects by their names.
+    ghost table: { Self → Table };
+
+    /// The capacities, and the tables of names.
+    ghost head: { Self → Head };
+
+    /// How many more changes it can take.
+    ghost room: { Self → ℕ };
+
+    /// Whether a word is a SmallInteger of 15 bits, or names an object that is there.
+    fn is_there(&self, v: Word) -> bool
+        ensures { result ≡ is_there names (table self.now) (word v) };
+
+    /// Field i of an object of kind Pointers.
+    fn fetch_field(&self, o: Word, i: u32) -> Result<Word, Dead>
+        ensures { Reads (fetch_field names (word o) i) word (table self.now) result };
+
+    /// How many fields an object of kind Pointers has.
+    fn count_fields(&self, o: Word) -> Result<u32, Dead>
+        ensures counts { Reads (count_fields names (word o)) itself (table self.now) result }
+        ensures small { IfOk result (λ n. n ≤ 131066) };
+
+    /// The class of an object.
+    fn fetch_class(&self, o: Word) -> Result<Word, Dead>
+        ensures { Reads (class_of names (word o)) word (table self.now) result };
+
+    /// Half of a word: the bits of a SmallInteger, or half of the pointer that an object bears or will bear; 0 where there
+    /// is no object.
+    fn half_word(&self, o: Word) -> u32
+        ensures { Reads (half_word names (word o)) itself (table self.now) (Ok result) };
+
+    /// The header of a method.
+    fn method_header(&self, method: Word) -> Result<Word, Dead>
+        ensures { Reads (method_header names (word method)) word (table self.now) result };
+
+    /// Literal i of a method, counted from 0.
+    fn literal(&self, method: Word, i: u32) -> Result<Word, Dead>
+        ensures { Reads (literal names (word method) i) word (table self.now) result };
+
+    /// The literal of a method with k literals behind it.
+    fn literal_from_last(&self, method: Word, k: u32) -> Result<Word, Dead>
+        ensures { Reads (literal_from_last names (word method) k) word (table self.now) result };
+
+    /// Byte `ip` of a method, counted from 0, where that is one of its bytecodes and at most 16381.
+    fn byte_at(&self, method: Word, ip: i32) -> Result<u8, Dead>
+        ensures { Reads (byte_at names (word method) ip) itself (table self.now) result };
+
+    /// Stores x in field i of an object of kind Pointers.
+    fn store_field(&mut self, o: Word, i: u32, x: Word) -> Result<(), Dead>
+        requires { 1 ≤ room self.old }
+        ensures stores { Changes (store_field names (word o) i (word x)) itself (table self.old) (head self.old) result (table self.new) }
+        ensures head { head self.new ≡ head self.old }
+        ensures room { room self.old ≤ room self.new + 1 };
+
+    /// Stores n fields of one object in fields of another, once all of them are fetched.
+    fn transfer(
+        &mut self,
+        n: u32,
+        source: Word,
+        from: u32,
+        target: Word,
+        to: u32,
+    ) -> Result<(), Dead>
+        requires { 1 ≤ room self.old }
+        ensures transfers { Changes (transfer names n (word source) from (word target) to) itself (table self.old) (head self.old) result (table self.new) }
+        ensures head { head self.new ≡ head self.old }
+        ensures room { room self.old ≤ room self.new + 1 };
+
+    /// A new object of kind Pointers with n fields of nil. Its class isn't CompiledMethod.
+    fn new_object(&mut self, class: Word, n: u32) -> Result<Word, Dead>
+        requires room { 1 ≤ room self.old }
+        requires class { word class ≢ Ref (place_of MethodClass) }
+        requires small { n ≤ 65533 }
+        ensures makes { Changes (new_object names (word class) n) word (table self.old) (head self.old) result (table self.new) }
+        ensures head { head self.new ≡ head self.old }
+        ensures room { room self.old ≤ room self.new + 1 };
+
+    /// It reads and changes objects as a table does.
+    ghost tabular: { IsTabular names };
+}

@@ -1,0 +1,56 @@
+ghost use Rattle.std.specs.Prelude.{◌≡◌, ◌+◌, ◌≤◌};
+ghost use Rattle.st_model.specs.Values.{value};
+ghost use Rattle.st_model.specs.View.{Has, with_fields, fields_from};
+
+use crate::memory::Memory;
+use st_model::Oop;
+
+/// Copies n fields of an object of kind Pointers into those of another, the lowest first.
+fn copy_from_first<M: Memory>(m: &mut M, n: u32, source: Oop, from: u32, target: Oop, to: u32)
+    requires source { Has (M.view m.old).objects (value source) from n }
+    requires target { Has (M.view m.old).objects (value target) to n }
+    requires small { (from + n ≤ 131066) × (to + n ≤ 131066) }
+    requires down { value source ≡ value target → to ≤ from }
+    ensures objects { (M.view m.new).objects ≡ with_fields (M.view m.old).objects (value target) to (fields_from (M.view m.old).objects (value source) from n) }
+    ensures held { (M.view m.new).held ≡ (M.view m.old).held }
+    ensures head { (M.view m.new).head ≡ (M.view m.old).head }
+{
+    for done in 0..n {
+        let x = m.pointer(source, from + done);
+        m.set_pointer(target, to + done, x);
+    }
+}
+
+/// The same, the highest first.
+fn copy_from_last<M: Memory>(m: &mut M, n: u32, source: Oop, from: u32, target: Oop, to: u32)
+    requires source { Has (M.view m.old).objects (value source) from n }
+    requires target { Has (M.view m.old).objects (value target) to n }
+    requires small { (from + n ≤ 131066) × (to + n ≤ 131066) }
+    requires up { value source ≡ value target → from ≤ to }
+    ensures objects { (M.view m.new).objects ≡ with_fields (M.view m.old).objects (value target) to (fields_from (M.view m.old).objects (value source) from n) }
+    ensures held { (M.view m.new).held ≡ (M.view m.old).held }
+    ensures head { (M.view m.new).head ≡ (M.view m.old).head }
+{
+    let mut left = n;
+    while left > 0 {
+        left -= 1;
+        let x = m.pointer(source, from + left);
+        m.set_pointer(target, to + left, x);
+    }
+}
+
+/// Copies n fields of an object of kind Pointers into those of another, as if all of them were read first.
+pub fn copy_fields<M: Memory>(m: &mut M, n: u32, source: Oop, from: u32, target: Oop, to: u32)
+    requires source { Has (M.view m.old).objects (value source) from n }
+    requires target { Has (M.view m.old).objects (value target) to n }
+    requires small { (from + n ≤ 131066) × (to + n ≤ 131066) }
+    ensures objects { (M.view m.new).objects ≡ with_fields (M.view m.old).objects (value target) to (fields_from (M.view m.old).objects (value source) from n) }
+    ensures held { (M.view m.new).held ≡ (M.view m.old).held }
+    ensures head { (M.view m.new).head ≡ (M.view m.old).head }
+{
+    if from < to {
+        copy_from_last(m, n, source, from, target, to);
+    } else {
+        copy_from_first(m, n, source, from, target, to);
+    }
+}

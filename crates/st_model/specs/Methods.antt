@@ -1,0 +1,57 @@
+-- What the header of a method says (chapter 27). A header is a SmallInteger. Of its word bits 0 to 2 are the flag,
+-- bits 3 to 7 the temporary count, which includes the arguments, bit 8 the large-context flag, and bits 9 to 14 the
+-- literal count.
+use Rattle.std.specs.Prelude.{ℕ, ◌+◌, ◌-◌, ◌*◌, ◌/◌, ◌%◌, ◌==◌, length, Option, Some, None, Bool, slice_get, nat_lt, if◌then◌else◌}
+use Rattle.st_model.specs.declared.dead.Dead.TheVariants as dead
+use Rattle.st_model.specs.Values.{Value, Small, Ref}
+use Rattle.st_model.specs.Objects.{Object, is_method}
+use Rattle.st_model.specs.Machine.{ObjectMemory, Step, answer, die, ◌>>=◌, ◌>>◌}
+use Rattle.st_model.specs.Steps.{object, check, or_die}
+
+-- the 15 bits of a SmallInteger; no header is anything else
+abbrev pub bits_of : Value → ℕ
+bits_of (Small n) = n
+bits_of (Ref n) = 0
+
+abbrev pub flag_of : Value → ℕ
+flag_of header = bits_of header / 4096
+
+abbrev pub temporary_count : Value → ℕ
+temporary_count header = bits_of header / 128 % 32
+
+abbrev pub is_large : Value → Bool
+is_large header = bits_of header / 64 % 2 == 1
+
+abbrev pub literal_count : Value → ℕ
+literal_count header = bits_of header % 64
+
+-- how many fields a context of the method has
+abbrev pub context_size : Value → ℕ
+context_size header = if is_large header then 38 else 18
+
+unfoldable pub method_header : {H : Type 0} → ObjectMemory H → Value → Step H Value
+method_header m v = do
+  o ← object m v
+  check dead.Kind (is_method o.kind)
+  or_die dead.Field (slice_get o.fields 0)
+
+-- the literal with k literals behind it; field 0 is the header
+abbrev pub from_last : Object → ℕ → Option Value
+from_last o k = if nat_lt (k + 1) (length o.fields) then slice_get o.fields (length o.fields - (k + 1)) else None
+
+unfoldable pub literal_from_last : {H : Type 0} → ObjectMemory H → Value → ℕ → Step H Value
+literal_from_last m v k = do
+  o ← object m v
+  check dead.Kind (is_method o.kind)
+  or_die dead.Field (from_last o k)
+
+-- the header extension names a primitive in bits 7 to 14 of its word
+unfoldable pub primitive_number : {H : Type 0} → Value → Step H ℕ
+primitive_number (Small n) = answer (n % 256)
+primitive_number (Ref n) = die dead.NotSmall
+
+-- the extension is the next to last literal
+unfoldable pub method_primitive : {H : Type 0} → ObjectMemory H → Value → Step H ℕ
+method_primitive m v = do
+  extension ← literal_from_last m v 1
+  primitive_number extension

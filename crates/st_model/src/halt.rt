@@ -1,0 +1,10 @@
+use crate::dead::Dead;
+
+/// Why a bytecode can't be done.
+#[derive(Clone, Copy, Debug, PartialEq, Eq)]
+pub enum Halt {
+    /// The machine would die of this cause.
+    Dead(Dead),
+    /// It comes to a primitive that isn't built.
+    Unbuilt,
+}

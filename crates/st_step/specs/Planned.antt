@@ -1,0 +1,23 @@
+-- What a plan of the next bytecode says.
+use Rattle.std.specs.Prelude.{◌≡◌, ◌+◌, Option, Some, None, Result, Ok, Err}
+use Rattle.st_model.specs.declared.demand.Demand.{Demand}
+use Rattle.st_model.specs.declared.halt.Halt.{Halt}
+use Rattle.st_model.specs.declared.halt.Halt.TheVariants as halt
+use Rattle.st_model.specs.Outcomes.{Outcome}
+use Rattle.st_model.specs.Machine.{State, Transition, Died, Went, used}
+use Rattle.st_model.specs.Table.{Table, apart}
+
+abbrev pub plus : Demand → Demand → Demand
+plus d e = record { entries = d.entries + e.entries; words = d.words + e.words }
+
+-- The step dies of the cause that the plan says, or comes to a primitive that isn't built; or it goes on, and uses so much
+-- more than what was used before.
+abbrev pub Plans : Demand → Transition (State Table) (Option Outcome) → Result Demand Halt → Type 0
+Plans before (Died a) (Err (halt.Dead b)) = a ≡ b
+Plans before (Died a) (Err halt.Unbuilt) = ⊥
+Plans before (Died a) (Ok d) = ⊥
+Plans before (Went None c) (Err halt.Unbuilt) = ⊤
+Plans before (Went None c) (Err (halt.Dead b)) = ⊥
+Plans before (Went None c) (Ok d) = ⊥
+Plans before (Went (Some o) c) (Ok d) = used apart c.memory ≡ plus before d
+Plans before (Went (Some o) c) (Err h) = ⊥
