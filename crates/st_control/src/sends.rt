@@ -28,6 +28,7 @@ fn execute_not_understood<O: Objects>(m: &mut O, r: &mut Registers, selector: Wo
     requires room { 14 ≤ O.room m.old }
     ensures does { Does (execute_not_understood O.names (word selector) n (found_word method)) end_of (row_state (O.table m.old) (O.head m.old) r.old) result (row_state (O.table m.new) (O.head m.new) r.new) }
     ensures room { O.room m.old ≤ O.room m.new + 14 }
+    ensures fixed { O.fixed m.new ≡ O.fixed m.old }
 {
     match method {
         Some(method) => {
@@ -45,6 +46,7 @@ fn not_understood<O: Objects>(m: &mut O, r: &mut Registers, class: Word, selecto
     requires room { 14 ≤ O.room m.old }
     ensures does { Does (not_understood O.names (word class) (word selector) n) end_of (row_state (O.table m.old) (O.head m.old) r.old) result (row_state (O.table m.new) (O.head m.new) r.new) }
     ensures room { O.room m.old ≤ O.room m.new + 14 }
+    ensures fixed { O.fixed m.new ≡ O.fixed m.old }
 {
     let understand = page(m, r, PageObject::NotUnderstood);
     let method = find(m, r, class, understand)?;
@@ -58,6 +60,7 @@ fn execute_found<O: Objects>(m: &mut O, r: &mut Registers, class: Word, selector
     requires room { 14 ≤ O.room m.old }
     ensures does { Does (execute_found O.names (word class) (word selector) n (found_word method)) end_of (row_state (O.table m.old) (O.head m.old) r.old) result (row_state (O.table m.new) (O.head m.new) r.new) }
     ensures room { O.room m.old ≤ O.room m.new + 14 }
+    ensures fixed { O.fixed m.new ≡ O.fixed m.old }
 {
     match method {
         Some(method) => execute(m, r, method, n),
@@ -72,6 +75,7 @@ fn send_from<O: Objects>(m: &mut O, r: &mut Registers, class: Word, selector: Wo
     requires room { 14 ≤ O.room m.old }
     ensures does { Does (send_from O.names (word class) (word selector) n) end_of (row_state (O.table m.old) (O.head m.old) r.old) result (row_state (O.table m.new) (O.head m.new) r.new) }
     ensures room { O.room m.old ≤ O.room m.new + 14 }
+    ensures fixed { O.fixed m.new ≡ O.fixed m.old }
 {
     let method = find(m, r, class, selector)?;
     execute_found(m, r, class, selector, n, method)
@@ -84,6 +88,7 @@ pub fn send<O: Objects>(m: &mut O, r: &mut Registers, selector: Word, n: u32) ->
     requires room { 14 ≤ O.room m.old }
     ensures does { Does (send O.names (word selector) n) end_of (row_state (O.table m.old) (O.head m.old) r.old) result (row_state (O.table m.new) (O.head m.new) r.new) }
     ensures room { O.room m.old ≤ O.room m.new + 14 }
+    ensures fixed { O.fixed m.new ≡ O.fixed m.old }
 {
     let receiver = under(m, r, n)?;
     let class = class_of(m, r, receiver)?;
@@ -108,6 +113,7 @@ pub fn send_to_super<O: Objects>(m: &mut O, r: &mut Registers, selector: Word, n
     requires room { 14 ≤ O.room m.old }
     ensures does { Does (send_to_super O.names (word selector) n) end_of (row_state (O.table m.old) (O.head m.old) r.old) result (row_state (O.table m.new) (O.head m.new) r.new) }
     ensures room { O.room m.old ≤ O.room m.new + 14 }
+    ensures fixed { O.fixed m.new ≡ O.fixed m.old }
 {
     under(m, r, n)?;
     let class = class_above(m, r)?;
@@ -121,6 +127,7 @@ pub fn special_send<O: Objects>(m: &mut O, r: &mut Registers, k: u32) -> Result<
     requires room { 14 ≤ O.room m.old }
     ensures does { Does (special_send O.names k) end_of (row_state (O.table m.old) (O.head m.old) r.old) result (row_state (O.table m.new) (O.head m.new) r.new) }
     ensures room { O.room m.old ≤ O.room m.new + 14 }
+    ensures fixed { O.fixed m.new ≡ O.fixed m.old }
 {
     let selectors = page(m, r, PageObject::Selectors);
     let selector = fetch_field(m, r, selectors, 2 * k)?;
@@ -138,6 +145,7 @@ fn arithmetic_by<O: Objects>(m: &mut O, r: &mut Registers, k: u32, receiver: Wor
     requires room { 14 ≤ O.room m.old }
     ensures does { Does (arithmetic_by O.names k (word receiver)) end_of (row_state (O.table m.old) (O.head m.old) r.old) result (row_state (O.table m.new) (O.head m.new) r.new) }
     ensures room { O.room m.old ≤ O.room m.new + 14 }
+    ensures fixed { O.fixed m.new ≡ O.fixed m.old }
 {
     if receiver.is_small() {
         Ok(None)
@@ -153,6 +161,7 @@ pub fn arithmetic_send<O: Objects>(m: &mut O, r: &mut Registers, k: u32) -> Resu
     requires room { 14 ≤ O.room m.old }
     ensures does { Does (arithmetic_send O.names k) end_of (row_state (O.table m.old) (O.head m.old) r.old) result (row_state (O.table m.new) (O.head m.new) r.new) }
     ensures room { O.room m.old ≤ O.room m.new + 14 }
+    ensures fixed { O.fixed m.new ≡ O.fixed m.old }
 {
     let receiver = under(m, r, 1)?;
     arithmetic_by(m, r, k, receiver)

@@ -66,6 +66,7 @@ fn store_receiver_variable<O: Objects>(m: &mut O, r: &Registers, i: u32, x: Word
     requires room { 1 ≤ O.room m.old }
     ensures does { Does (store_receiver_variable O.names i (word x)) itself (row_state (O.table m.old) (O.head m.old) r.now) result (row_state (O.table m.new) (O.head m.new) r.now) }
     ensures room { O.room m.old ≤ O.room m.new + 1 }
+    ensures fixed { O.fixed m.new ≡ O.fixed m.old }
 {
     let object = receiver(m, r);
     store_field(m, r, object, i, x)
@@ -78,6 +79,7 @@ fn store_temporary_variable<O: Objects>(m: &mut O, r: &Registers, i: u32, x: Wor
     requires room { 1 ≤ O.room m.old }
     ensures does { Does (store_temporary_variable O.names i (word x)) itself (row_state (O.table m.old) (O.head m.old) r.now) result (row_state (O.table m.new) (O.head m.new) r.now) }
     ensures room { O.room m.old ≤ O.room m.new + 1 }
+    ensures fixed { O.fixed m.new ≡ O.fixed m.old }
 {
     let context = home(m, r);
     store_field(m, r, context, 6 + i, x)
@@ -89,6 +91,7 @@ fn store_literal_variable<O: Objects>(m: &mut O, r: &Registers, i: u32, x: Word)
     requires room { 1 ≤ O.room m.old }
     ensures does { Does (store_literal_variable O.names i (word x)) itself (row_state (O.table m.old) (O.head m.old) r.now) result (row_state (O.table m.new) (O.head m.new) r.now) }
     ensures room { O.room m.old ≤ O.room m.new + 1 }
+    ensures fixed { O.fixed m.new ≡ O.fixed m.old }
 {
     let association = fetch_literal_constant(m, r, i)?;
     store_field(m, r, association, 1, x)
@@ -101,6 +104,7 @@ pub fn store_operand<O: Objects>(m: &mut O, r: &Registers, operand: Operand, x: 
     requires room { 1 ≤ O.room m.old }
     ensures does { Does (store_operand O.names operand (word x)) itself (row_state (O.table m.old) (O.head m.old) r.now) result (row_state (O.table m.new) (O.head m.new) r.now) }
     ensures room { O.room m.old ≤ O.room m.new + 1 }
+    ensures fixed { O.fixed m.new ≡ O.fixed m.old }
 {
     match operand {
         Operand::ReceiverVariable(i) => store_receiver_variable(m, r, u32::from(i), x),

@@ -20,6 +20,7 @@ fn bytecode<O: Objects>(m: &mut O, r: &mut Registers, code: Bytecode) -> Result<
     requires room { 16 ≤ O.room m.old }
     ensures does { Does (bytecode O.names code) end_of (row_state (O.table m.old) (O.head m.old) r.old) result (row_state (O.table m.new) (O.head m.new) r.new) }
     ensures room { O.room m.old ≤ O.room m.new + 16 }
+    ensures fixed { O.fixed m.new ≡ O.fixed m.old }
 {
     match code {
         Bytecode::Push(operand) => push_operand(m, r, operand)?,
@@ -62,6 +63,7 @@ pub fn step_row<O: Objects>(m: &mut O, r: &mut Registers) -> Result<Option<Outco
     requires room { 16 ≤ O.room m.old }
     ensures does { Does (step O.names) end_of (row_state (O.table m.old) (O.head m.old) r.old) result (row_state (O.table m.new) (O.head m.new) r.new) }
     ensures room { O.room m.old ≤ O.room m.new + 16 }
+    ensures fixed { O.fixed m.new ≡ O.fixed m.old }
 {
     let byte = next_byte(m, r)?;
     bytecode(m, r, decode(byte))

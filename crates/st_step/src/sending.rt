@@ -18,6 +18,7 @@ pub fn send_literal<O: Objects>(m: &mut O, r: &mut Registers, i: u32, n: u32) ->
     requires room { 14 ≤ O.room m.old }
     ensures does { Does (send_literal O.names i n) end_of (row_state (O.table m.old) (O.head m.old) r.old) result (row_state (O.table m.new) (O.head m.new) r.new) }
     ensures room { O.room m.old ≤ O.room m.new + 14 }
+    ensures fixed { O.fixed m.new ≡ O.fixed m.old }
 {
     let selector = fetch_literal_constant(m, r, i)?;
     send(m, r, selector, n)
@@ -30,6 +31,7 @@ fn send_literal_to_super<O: Objects>(m: &mut O, r: &mut Registers, i: u32, n: u3
     requires room { 14 ≤ O.room m.old }
     ensures does { Does (send_literal_to_super O.names i n) end_of (row_state (O.table m.old) (O.head m.old) r.old) result (row_state (O.table m.new) (O.head m.new) r.new) }
     ensures room { O.room m.old ≤ O.room m.new + 14 }
+    ensures fixed { O.fixed m.new ≡ O.fixed m.old }
 {
     let selector = fetch_literal_constant(m, r, i)?;
     send_to_super(m, r, selector, n)
@@ -41,6 +43,7 @@ pub fn extended_send<O: Objects>(m: &mut O, r: &mut Registers) -> Result<Option<
     requires room { 14 ≤ O.room m.old }
     ensures does { Does (extended_send O.names) end_of (row_state (O.table m.old) (O.head m.old) r.old) result (row_state (O.table m.new) (O.head m.new) r.new) }
     ensures room { O.room m.old ≤ O.room m.new + 14 }
+    ensures fixed { O.fixed m.new ≡ O.fixed m.old }
 {
     let byte = next_byte(m, r)?;
     send_literal(m, r, u32::from(byte % 32), u32::from(byte / 32))
@@ -52,6 +55,7 @@ pub fn double_extended_send<O: Objects>(m: &mut O, r: &mut Registers) -> Result<
     requires room { 14 ≤ O.room m.old }
     ensures does { Does (double_extended_send O.names) end_of (row_state (O.table m.old) (O.head m.old) r.old) result (row_state (O.table m.new) (O.head m.new) r.new) }
     ensures room { O.room m.old ≤ O.room m.new + 14 }
+    ensures fixed { O.fixed m.new ≡ O.fixed m.old }
 {
     let arguments = next_byte(m, r)?;
     let literal = next_byte(m, r)?;
@@ -64,6 +68,7 @@ pub fn extended_super_send<O: Objects>(m: &mut O, r: &mut Registers) -> Result<O
     requires room { 14 ≤ O.room m.old }
     ensures does { Does (extended_super_send O.names) end_of (row_state (O.table m.old) (O.head m.old) r.old) result (row_state (O.table m.new) (O.head m.new) r.new) }
     ensures room { O.room m.old ≤ O.room m.new + 14 }
+    ensures fixed { O.fixed m.new ≡ O.fixed m.old }
 {
     let byte = next_byte(m, r)?;
     send_literal_to_super(m, r, u32::from(byte % 32), u32::from(byte / 32))
@@ -75,6 +80,7 @@ pub fn double_extended_super_send<O: Objects>(m: &mut O, r: &mut Registers) -> R
     requires room { 14 ≤ O.room m.old }
     ensures does { Does (double_extended_super_send O.names) end_of (row_state (O.table m.old) (O.head m.old) r.old) result (row_state (O.table m.new) (O.head m.new) r.new) }
     ensures room { O.room m.old ≤ O.room m.new + 14 }
+    ensures fixed { O.fixed m.new ≡ O.fixed m.old }
 {
     let arguments = next_byte(m, r)?;
     let literal = next_byte(m, r)?;
@@ -87,6 +93,7 @@ pub fn return_receiver<O: Objects>(m: &mut O, r: &mut Registers) -> Result<Optio
     requires room { 16 ≤ O.room m.old }
     ensures does { Does (return_receiver O.names) end_of (row_state (O.table m.old) (O.head m.old) r.old) result (row_state (O.table m.new) (O.head m.new) r.new) }
     ensures room { O.room m.old ≤ O.room m.new + 16 }
+    ensures fixed { O.fixed m.new ≡ O.fixed m.old }
 {
     let x = receiver(m, r);
     return_to_sender(m, r, x)
@@ -98,6 +105,7 @@ pub fn return_constant<O: Objects>(m: &mut O, r: &mut Registers, constant: Const
     requires room { 16 ≤ O.room m.old }
     ensures does { Does (return_constant O.names constant) end_of (row_state (O.table m.old) (O.head m.old) r.old) result (row_state (O.table m.new) (O.head m.new) r.new) }
     ensures room { O.room m.old ≤ O.room m.new + 16 }
+    ensures fixed { O.fixed m.new ≡ O.fixed m.old }
 {
     let x = constant_value(m, r, constant);
     return_to_sender(m, r, x)
@@ -109,6 +117,7 @@ pub fn return_top_to_sender<O: Objects>(m: &mut O, r: &mut Registers) -> Result<
     requires room { 16 ≤ O.room m.old }
     ensures does { Does (return_top_to_sender O.names) end_of (row_state (O.table m.old) (O.head m.old) r.old) result (row_state (O.table m.new) (O.head m.new) r.new) }
     ensures room { O.room m.old ≤ O.room m.new + 16 }
+    ensures fixed { O.fixed m.new ≡ O.fixed m.old }
 {
     let x = pop(m, r)?;
     return_to_sender(m, r, x)
@@ -120,6 +129,7 @@ pub fn return_top_to_caller<O: Objects>(m: &mut O, r: &mut Registers) -> Result<
     requires room { 16 ≤ O.room m.old }
     ensures does { Does (return_top_to_caller O.names) end_of (row_state (O.table m.old) (O.head m.old) r.old) result (row_state (O.table m.new) (O.head m.new) r.new) }
     ensures room { O.room m.old ≤ O.room m.new + 16 }
+    ensures fixed { O.fixed m.new ≡ O.fixed m.old }
 {
     let x = pop(m, r)?;
     return_to_caller(m, r, x)
@@ -132,6 +142,7 @@ pub fn short_jump_on_false<O: Objects>(m: &mut O, r: &mut Registers, i: u8) -> R
     requires room { 15 ≤ O.room m.old }
     ensures does { Does (short_jump_on_false O.names i) end_of (row_state (O.table m.old) (O.head m.old) r.old) result (row_state (O.table m.new) (O.head m.new) r.new) }
     ensures room { O.room m.old ≤ O.room m.new + 15 }
+    ensures fixed { O.fixed m.new ≡ O.fixed m.old }
 {
     jump_on(m, r, PageObject::FalseObject, PageObject::TrueObject, u32::from(i) + 1)
 }
@@ -143,6 +154,7 @@ pub fn long_jump_on_true<O: Objects>(m: &mut O, r: &mut Registers, i: u8) -> Res
     requires room { 15 ≤ O.room m.old }
     ensures does { Does (long_jump_on_true O.names i) end_of (row_state (O.table m.old) (O.head m.old) r.old) result (row_state (O.table m.new) (O.head m.new) r.new) }
     ensures room { O.room m.old ≤ O.room m.new + 15 }
+    ensures fixed { O.fixed m.new ≡ O.fixed m.old }
 {
     let byte = next_byte(m, r)?;
     jump_on(m, r, PageObject::TrueObject, PageObject::FalseObject, u32::from(i) * 256 + u32::from(byte))
@@ -155,6 +167,7 @@ pub fn long_jump_on_false<O: Objects>(m: &mut O, r: &mut Registers, i: u8) -> Re
     requires room { 15 ≤ O.room m.old }
     ensures does { Does (long_jump_on_false O.names i) end_of (row_state (O.table m.old) (O.head m.old) r.old) result (row_state (O.table m.new) (O.head m.new) r.new) }
     ensures room { O.room m.old ≤ O.room m.new + 15 }
+    ensures fixed { O.fixed m.new ≡ O.fixed m.old }
 {
     let byte = next_byte(m, r)?;
     jump_on(m, r, PageObject::FalseObject, PageObject::TrueObject, u32::from(i) * 256 + u32::from(byte))
