@@ -40,23 +40,23 @@ impl Model for World {
     ghost Value = { Surroundings };
 
     ghost view = { λ w. record {
-        devices = record {
-            new_process = value w.new_process;
-            display = value w.display;
-            cursor = value w.cursor;
-            input_semaphore = value w.input_semaphore;
-            timer = value w.timer;
-            low_space = value w.low_space;
-            pending = map value w.pending.items;
-        };
-        waiting = w.waiting.items;
-        mouse_x = w.mouse_x;
-        mouse_y = w.mouse_y;
-        second_clock = w.second_clock;
-        millisecond_clock = w.millisecond_clock;
-        timer_due = w.timer_due;
-        low_entries = w.low_entries;
-        low_words = w.low_words;
+      devices = record {
+        new_process = value w.new_process;
+        display = value w.display;
+        cursor = value w.cursor;
+        input_semaphore = value w.input_semaphore;
+        timer = value w.timer;
+        low_space = value w.low_space;
+        pending = map value w.pending.items;
+      };
+      waiting = w.waiting.items;
+      mouse_x = w.mouse_x;
+      mouse_y = w.mouse_y;
+      second_clock = w.second_clock;
+      millisecond_clock = w.millisecond_clock;
+      timer_due = w.timer_due;
+      low_entries = w.low_entries;
+      low_words = w.low_words;
     } };
 
     ghost invariant = { λ w. (w.waiting.capacity ≡ 256) × (w.pending.capacity ≡ 4096) };

@@ -1,6 +1,6 @@
 -- What a cycle of the code does, as the cycle over a table whose step is foreseen.
-use Rattle.std.proofs.Common.{◌≡◌, ℕ, ◌+◌, ◌-◌, Option, Some, None, Bool, true, false, refl, ◌∙◌, ap, sym, Ok, Err, arith}
-use Rattle.std.specs.Prelude.{length, nat_lt, nat_le, ◌&&◌, if◌then◌else◌, Result}
+use Rattle.std.proofs.Common.{◌≡◌, ℕ, ◌+◌, ◌-◌, Option, Some, None, Bool, true, false, refl, ◌∙◌, ap, sym, subst, Ok, Err, arith}
+use Rattle.std.specs.Prelude.{nat_lt, nat_le, ◌&&◌, if◌then◌else◌, Result, pos, ◌+ℤ◌}
 use Rattle.std.proofs.lemmas.Bool.Decides.{nat_tests}
 use Rattle.st_model.specs.declared.dead.Dead.{Dead}
 use Rattle.st_model.specs.declared.dead.Dead.TheVariants as dead
@@ -9,14 +9,23 @@ use Rattle.st_model.specs.declared.halt.Halt.{Halt}
 use Rattle.st_model.specs.declared.halt.Halt.TheVariants as halt
 use Rattle.st_model.specs.Outcomes.{Outcome, Ending, With, Space, Unbuilt}
 use Rattle.st_model.specs.Outcomes as outcome
-use Rattle.st_model.specs.Machine.{State, Transition, Died, Went, used, is_over, Head}
+use Rattle.st_model.specs.Machine.{State, Transition, Died, Went, Step, answer, ◌>>=◌, ◌>>◌, used, is_over}
 use Rattle.st_model.specs.Table.{Table, table, apart, bounded_table}
 use Rattle.st_model.specs.Bytecodes.{step}
 use Rattle.st_model.specs.Settled.{reclaim}
-use Rattle.st_model.specs.Cycles.{next_code, made_between, free_space, less}
+use Rattle.st_model.specs.Cycles.{next_code, byte_answered, made_between, free_space, less}
 use Rattle.st_model.specs.Foreseen.{foreseen, foreseen_cycle, done, done_if_room}
 use Rattle.st_model.specs.View.{View, fits}
 use Rattle.st_step.specs.Planned.{Plans, plus, IsForeseen}
+use Rattle.st_model.specs.Steps.{get_method, get_ip, set_ip, next_byte}
+use Rattle.st_model.specs.Calls.{Does, itself, transition_of}
+use Rattle.st_model.proofs.Tabular.{byte_at-as}
+use Rattle.st_memory.specs.Tabular.{bounded_tabular}
+use Rattle.st_frames.specs.declared.frame.Frame.{Frame}
+use Rattle.st_frames.specs.Shown.{shown, registers_of}
+use Rattle.st_frames.specs.Rows.{registers_in, row_state}
+use Rattle.st_frames.specs.declared.registers.Registers.{Registers as Words}
+use Rattle.st_step.proofs.Stepped.{loaded}
 use Rattle.st_machine.proofs.Going.{step_goes}
 
 -- what fits is not over the capacities
@@ -107,3 +116,29 @@ module _ (v : View) (d : Demand) where
 
   pub over : fits v d ≡ false → is_over (plus (used table v.objects) d) v.head ≡ true
   over e = fits_not ((used table v.objects).entries + d.entries) v.head.entries ((used table v.objects).words + d.words) v.head.words e
+
+-- the code of the next bytecode
+
+abbrev pub answered : Result ℕ Dead → ℕ
+answered (Ok b) = b
+answered (Err cause) = 0
+
+byte-same : next_byte bounded_table ≡ next_byte table
+unfolding next_byte
+byte-same = λ i. do
+  v ← get_method
+  ip ← get_ip
+  b ← byte_at-as bounded_tabular v ip i
+  set_ip (ip +ℤ pos 1)
+  answer b
+
+byte_of : (x : Result ℕ Dead) (d : State Table) → byte_answered (transition_of itself x d) ≡ answered x
+byte_of (Ok b) d = refl
+byte_of (Err cause) d = refl
+
+pub code_is : (v : View) (f : Frame) (r : Words) (x : Result ℕ Dead) (d : State Table) → registers_in r ≡ registers_of f → Does (next_byte bounded_table) itself (row_state v.objects v.head r) x d
+    → next_code table (shown v f) ≡ answered x
+unfolding next_code
+code_is v f r x d same h =
+    let e : (next_byte table).run (shown v f) ≡ transition_of itself x d = ap (λ (m : Step Table ℕ). m.run (shown v f)) (sym byte-same) ∙ (ap (λ (s : State Table). (next_byte bounded_table).run s) (sym (loaded v f r same)) ∙ h) in
+    ap byte_answered e ∙ byte_of x d

@@ -5,7 +5,8 @@ use Rattle.st_model.specs.declared.dead.Dead.{Dead}
 use Rattle.st_model.specs.declared.bytecode.Bytecode.{Bytecode}
 use Rattle.st_model.specs.declared.bytecode.Bytecode.TheVariants as code
 use Rattle.st_model.specs.Values.{Value, Small, Ref}
-use Rattle.st_model.specs.Objects.{PageObject, NilObject, ArrayClass, MessageClass, NotUnderstood, Selectors, CannotReturn, MustBeBoolean, TrueObject, FalseObject}
+use Rattle.st_model.specs.declared.page.PageObject.{PageObject}
+use Rattle.st_model.specs.declared.page.PageObject.TheVariants.{NilObject, NotUnderstood, Selectors, CannotReturn, MustBeBoolean, TrueObject, FalseObject}
 use Rattle.st_model.specs.Outcomes.{Outcome}
 use Rattle.st_model.specs.Outcomes as outcome
 use Rattle.st_model.specs.Decoded.{decoded, selector_of, arguments_of}
@@ -74,7 +75,7 @@ module _ {H : Type 0} where
         let extended = respond_by_extension m method header n in
         if_goes (flag == 5) (answer (Some outcome.Went)) (if flag == 6 then field else if flag == 7 then extended else run) some_goes
         (if_goes (flag == 6) field (if flag == 7 then extended else run) (on_goes (answer_field m (temporary_count header)))
-          (if_goes (flag == 7) extended run (extension_goes method header n) (on_goes (activate m method header n))))
+        (if_goes (flag == 7) extended run (extension_goes method header n) (on_goes (activate m method header n))))
 
     execute_goes : (method : Value) (n : ℕ) → OnlyGoes (execute m method n)
     unfolding execute

@@ -53,16 +53,16 @@ module _ (k : ℕ) (s : State Births) (c : State Table) (places : length c.memor
   only_goes f (outcome.Space demand left) e = cc
   only_goes f (outcome.Unbuilt code) e = cc
 
+  one_cycle : (u : State Births) → cycle births far.state ≡ Went (With outcome.Went) u → run_of (cycle births) 1 far.state ≡ Went (With outcome.Went) u
+  unfolding run_of
+  one_cycle u e = rw e refl
+
   one_more : (d : State Table) → foreseen_cycle c ≡ Went (With outcome.Went) d → IsSound d → SoFar (k + 1) s d
   unfolding run
   one_more d e sound =
       let next = ended_shown (With outcome.Went) d (cycle births far.state) (shown_next (Went (With outcome.Went) d) e (sound_of (With outcome.Went) d sound)) in
-      let went : cycle births far.state ≡ Went (With outcome.Went) next.1 = next.2.0 ∙ ap (λ x. Went x next.1) (only_goes (pointer_of next.1.memory) next.0 next.2.1.0) in
-      record { state = next.1; ran = run_on (cycle births) k 1 s far.state far.ran ∙ one_cycle next.1 went; shows = next.2.1.1 }
-    where
-      one_cycle : (u : State Births) → cycle births far.state ≡ Went (With outcome.Went) u → run_of (cycle births) 1 far.state ≡ Went (With outcome.Went) u
-      unfolding run_of
-      one_cycle u e = rw e refl
+      let went : cycle births far.state ≡ Went (With outcome.Went) next.1 = next.2 ∙ ap (λ x. Went x next.1) (only_goes (pointer_of next.1.memory) next.0 next.3) in
+      record { state = next.1; ran = run_on (cycle births) k 1 s far.state far.ran ∙ one_cycle next.1 went; shows = next.4 }
 
   split : (n : ℕ) → k < n → n ≡ k + suc (n - suc k)
   split n l = omega arith
@@ -74,13 +74,13 @@ module _ (k : ℕ) (s : State Births) (c : State Table) (places : length c.memor
       let next = ended_shown a d (cycle births far.state) (shown_next (Went a d) r (sound_of a d sound)) in
       let b = next.0 in
       let u = next.1 in
-      let goes : goes_on b ≡ false = sym (renamed_goes (pointer_of u.memory) b) ∙ (sym (ap goes_on next.2.1.0) ∙ t.goes) in
-      let cycles : cycles_in b ≡ cycles_in a = sym (renamed_cycles (pointer_of u.memory) b) ∙ sym (ap cycles_in next.2.1.0) in
+      let goes : goes_on b ≡ false = sym (renamed_goes (pointer_of u.memory) b) ∙ (sym (ap goes_on next.3) ∙ t.goes) in
+      let cycles : cycles_in b ≡ cycles_in a = sym (renamed_cycles (pointer_of u.memory) b) ∙ sym (ap cycles_in next.3) in
       let j = n - suc k in
-      let last : run_of (cycle births) (k + suc j) s ≡ Went b u = run_on (cycle births) k (suc j) s far.state far.ran ∙ run_stops (cycle births) j far.state u b next.2.0 goes in
+      let last : run_of (cycle births) (k + suc j) s ≡ Went b u = run_on (cycle births) k (suc j) s far.state far.ran ∙ run_stops (cycle births) j far.state u b next.2 goes in
       let count : finished_of (cycle births) (k + suc j) s ≡ k + cycles_in a =
-      finished_on (cycle births) k (suc j) s far.state far.ran ∙ ap (λ i. k + i) (finished_stops (cycle births) j far.state u b next.2.0 goes ∙ cycles) in
-      let shown : EndsShown (transition_at e d) (Went b u) = subst (λ y. EndsShown y (Went b u)) (sym t.same) next.2.1 in
+      finished_on (cycle births) k (suc j) s far.state far.ran ∙ ap (λ i. k + i) (finished_stops (cycle births) j far.state u b next.2 goes ∙ cycles) in
+      let shown : EndsShown (transition_at e d) (Went b u) = subst (λ y. EndsShown y (Went b u)) (sym t.same) (next.3, next.4) in
       record {
         ends = subst (λ y. EndsShown (transition_at e d) y) (sym (ap (λ i. run_of (cycle births) i s) (split n l) ∙ last)) shown;
         count = ap (λ i. finished_of (cycle births) i s) (split n l) ∙ (count ∙ sym (t.count n));

@@ -8,8 +8,8 @@ ghost use Rattle.st_model.specs.Calls.{transition_of};
 ghost use Rattle.st_frames.specs.Shown.{IsFrame, StaysFrame, shown};
 ghost use Rattle.st_machine.specs.Runs.{ending_of};
 
-use st_frames::{Frame, load};
-use st_memory::{Memory, Objects};
+use st_frames::{Frame, load, next_byte};
+use st_memory::Memory;
 use st_model::{Dead, Demand, Halt, Outcome};
 use st_step::{plan, step};
 
@@ -41,8 +41,8 @@ fn next_code<M: Memory>(m: &M, f: &Frame) -> u8
     requires frame { IsFrame (M.view m.now) f.now }
     ensures { result ≡ next_code table (shown (M.view m.now) f.now) }
 {
-    let r = load(m, f);
-    match m.byte_at(r.method, r.ip) {
+    let mut r = load(m, f);
+    match next_byte(m, &mut r) {
         Ok(code) => code,
         Err(_) => 0,
     }

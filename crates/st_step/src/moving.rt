@@ -50,7 +50,11 @@ pub fn push_receiver<O: Objects>(m: &mut O, r: &mut Registers) -> Result<(), Dea
 
 /// Pushes a constant.
 #[tactic(auto, using(st_frames::proofs::Doing::rows), unfolding(st_model::specs::Bytecodes::push_constant))]
-pub fn push_constant<O: Objects>(m: &mut O, r: &mut Registers, constant: Constant) -> Result<(), Dead>
+pub fn push_constant<O: Objects>(
+    m: &mut O,
+    r: &mut Registers,
+    constant: Constant,
+) -> Result<(), Dead>
     requires room { 1 ≤ O.room m.old }
     ensures does { Does (push_constant O.names constant) itself (row_state (O.table m.old) (O.head m.old) r.old) result (row_state (O.table m.new) (O.head m.new) r.new) }
     ensures room { O.room m.old ≤ O.room m.new + 1 }
@@ -158,4 +162,3 @@ pub fn long_unconditional_jump<O: Objects>(m: &O, r: &mut Registers, i: u8) -> R
     let byte = next_byte(m, r)?;
     jump(m, r, long_offset(i, byte))
 }
-

@@ -1,0 +1,38 @@
+use Rattle.std.proofs.Common.{◌≡◌, ◌<◌, ◌∙◌, refl, sym, ap, subst, arith}
+use Rattle.st_model.specs.Foreseen.{IsSound}
+use Rattle.st_frames.specs.Shown.{shown}
+use Rattle.st_frames.proofs.Closed.{is_closed}
+use Rattle.st_machine.specs.declared.ending.RunEnd.TheVariants as ending
+use Rattle.st_machine.specs.Runs.{EndsAs}
+use Rattle.st_machine.proofs.Runs.{none_so_far, ends_here, goes_further, ran_all}
+use Rattle.st_machine.proofs.running.run.Goals as goal
+
+pub loop-done-init : goal.loop-done-init
+loop-done-init g c = record {
+  frame = record { frame = c.requires.frame; devices = refl };
+  shows = λ s h. none_so_far s (shown (g.M.Memory.view c.args.m.now) c.args.f.now) h;
+}
+
+pub returns-in-Some-clause-ends : goal.returns-in-Some-clause-ends
+returns-in-Some-clause-ends g c = λ s h.
+    let v = g.M.Memory.view c.cycle.new.m in
+    let start = shown (g.M.Memory.view c.loop-done.m) c.loop-done.f in
+    let sound : IsSound (shown v c.cycle.new.f) = record { places = (g.met.M.Memory.whole c.cycle.new.m).places; closed = is_closed v c.cycle.new.f (g.met.M.Memory.whole c.cycle.new.m) c.cycle.ensures.frame.frame } in
+    ends_here c.loop-done.done s start (g.met.M.Memory.whole c.loop-done.m).places (c.loop-done.invariant.shows s h) c.args.n c.cycle.result c.in-Some.end (shown v c.cycle.new.f) c.loop-done-test.true c.cycle.ensures.cycle (sym c.in-Some.ensures) sound
+
+pub loop-done-preserved : goal.loop-done-preserved
+loop-done-preserved g c =
+    let v = g.M.Memory.view c.cycle.new.m in
+    let start = shown (g.M.Memory.view c.loop-done.m) c.loop-done.f in
+    let stays = c.cycle.ensures.frame in
+    let sound : IsSound (shown v c.cycle.new.f) = record { places = (g.met.M.Memory.whole c.cycle.new.m).places; closed = is_closed v c.cycle.new.f (g.met.M.Memory.whole c.cycle.new.m) stays.frame } in
+    record {
+      frame = record { frame = stays.frame; devices = stays.devices ∙ c.loop-done.invariant.frame.devices };
+      shows = λ s h. goes_further c.loop-done.done s start (g.met.M.Memory.whole c.loop-done.m).places (c.loop-done.invariant.shows s h) c.cycle.result (shown v c.cycle.new.f) c.cycle.ensures.cycle (sym c.in_default.ensures) sound;
+    }
+
+pub returns-clause-ends : goal.returns-clause-ends
+returns-clause-ends g c = λ s h.
+    let c' = shown (g.M.Memory.view c.loop-done.m) c.loop-done.f in
+    let all : c.loop-done.done ≡ c.args.n = omega arith in
+    subst (λ n. EndsAs n s ending.Ran c') all (ran_all c.loop-done.done s c' (c.loop-done.invariant.shows s h))
