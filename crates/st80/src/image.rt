@@ -8,8 +8,9 @@ ghost use Rattle.st_image.specs.Reading.{IsStart};
 ghost use Rattle.st80.specs.Ends.{IsReadable, IsRefusal, RefusalHasCause};
 
 use crate::refusal::Refusal;
+use st_frames::Loaded;
 use st_host::{Host, file_length, read_from};
-use st_image::{HeadValues, Loaded, ReadImage, read};
+use st_image::{HeadValues, ReadImage, read};
 use st_memory::Loader;
 use std::alloc::Global;
 

@@ -16,3 +16,12 @@ pub struct Frame {
     /// The number of the active context's field that holds the top of the stack; from 5 to 16388.
     pub sp: u32,
 }
+
+/// A memory with the registers of a machine in it.
+#[derive(Drop)]
+pub struct Loaded<M> {
+    /// The objects, with the registers held at their places.
+    pub memory: M,
+    /// The registers.
+    pub frame: Frame,
+}

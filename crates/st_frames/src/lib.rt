@@ -15,7 +15,7 @@ mod words;
 pub use access::{active, home, method, receiver, set_stack_pointer, stack_pointer};
 pub use bytes::next_byte;
 pub use context::{fetch_context_registers, fetch_scheduled_registers, switch};
-pub use frame::Frame;
+pub use frame::{Frame, Loaded};
 pub use holding::{fetch_scheduled, hold, load};
 pub use objects::{
     class_of, count_fields, fetch_field, fetch_integer, literal, literal_from_last, method_header,

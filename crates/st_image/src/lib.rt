@@ -17,7 +17,7 @@ mod shape;
 pub use error::ReadImage;
 pub use head::HeadValues;
 pub use laws::{fault_is_determined, image_back, no_fault_is_well_formed};
-pub use reading::{Loaded, read};
+pub use reading::read;
 pub use st_writer::write;
 
 #[cfg(test)]

@@ -8,19 +8,10 @@ use crate::checks::check;
 use crate::error::ReadImage;
 use crate::head::HeadValues;
 use crate::loading::load;
-use st_frames::{Frame, fetch_scheduled};
+use st_frames::{Loaded, fetch_scheduled};
 use st_memory::Loader;
 use st_model::ImageFault;
 use std::alloc::Global;
-
-/// A memory with the registers of a machine in it.
-#[derive(Drop)]
-pub struct Loaded<M> {
-    /// The objects, with the registers held at their places.
-    pub memory: M,
-    /// The registers.
-    pub frame: Frame,
-}
 
 /// Reads an image file: its objects in a new memory, with the registers of the scheduler's active process, where it is
 /// well-formed; else its fault. Values that are handed in take the place of the head's. Besides, there may be no memory.

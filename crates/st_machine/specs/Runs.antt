@@ -1,5 +1,5 @@
 -- What a run of the code stands for.
-use Rattle.std.specs.Prelude.{◌≡◌, ℕ, ◌+◌, Result, Ok, Err, Option, Some, None, suc}
+use Rattle.std.specs.Prelude.{◌≡◌, ℕ, ◌+◌, Result, Ok, Err, Option, Some, None, ⊤}
 use Rattle.st_model.specs.declared.dead.Dead.{Dead}
 use Rattle.st_model.specs.declared.outcome.Outcome.TheVariants as code_outcome
 use Rattle.st_model.specs.Values.{value}
@@ -54,6 +54,28 @@ cycles_of n (run_ends.Quit done) = done
 cycles_of n (run_ends.Debugger done) = done
 cycles_of n (run_ends.Dead done cause) = done
 cycles_of n (run_ends.Unbuilt done code) = done
+
+-- No bytecode asks for anything besides yet, so that no run ends so.
+abbrev pub AsksNothing : RunEnd → Type 0
+AsksNothing run_ends.Ran = ⊤
+AsksNothing (run_ends.Space done demand entries words) = ⊤
+AsksNothing (run_ends.Snapshot done) = ⊥
+AsksNothing (run_ends.Say done o) = ⊥
+AsksNothing (run_ends.Quit done) = ⊥
+AsksNothing (run_ends.Debugger done) = ⊥
+AsksNothing (run_ends.Dead done cause) = ⊤
+AsksNothing (run_ends.Unbuilt done code) = ⊤
+
+-- the cause of which the machine is dead after a run
+abbrev pub death_of : RunEnd → Option Dead
+death_of run_ends.Ran = None
+death_of (run_ends.Space done demand entries words) = None
+death_of (run_ends.Snapshot done) = None
+death_of (run_ends.Say done o) = None
+death_of (run_ends.Quit done) = None
+death_of (run_ends.Debugger done) = None
+death_of (run_ends.Dead done cause) = Some cause
+death_of (run_ends.Unbuilt done code) = None
 
 -- n cycles of the book's machine from s end so, with as many finished
 pub record EndsAs (n : ℕ) (s : State Births) (e : RunEnd) (c : State Table) : Type 0 where

@@ -3,7 +3,8 @@
 
 mod cycling;
 mod ending;
+mod machine;
 mod running;
 
 pub use ending::RunEnd;
-pub use running::run;
+pub use machine::Machine;

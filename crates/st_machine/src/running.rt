@@ -4,7 +4,7 @@ ghost use Rattle.st_model.specs.Births.{Births};
 ghost use Rattle.st_model.specs.View.{no_devices};
 ghost use Rattle.st_model.specs.Show.{Shows};
 ghost use Rattle.st_frames.specs.Shown.{IsFrame, StaysFrame, shown};
-ghost use Rattle.st_machine.specs.Runs.{EndsAs, run_end};
+ghost use Rattle.st_machine.specs.Runs.{EndsAs, AsksNothing, run_end};
 
 use crate::cycling::{CycleEnd, cycle};
 use crate::ending::RunEnd;
@@ -45,6 +45,7 @@ pub fn run<M: Memory>(m: &mut M, f: &mut Frame, n: u32) -> RunEnd
     requires quiet { (M.view m.old).held.devices ≡ no_devices }
     ensures ends { (s : State Births) → Shows (shown (M.view m.old) f.old) s → EndsAs n s result (shown (M.view m.new) f.new) }
     ensures frame { StaysFrame (M.view m.old) (M.view m.new) f.new }
+    ensures asks { AsksNothing result }
 {
     for done in 0..n {
         if let Some(end) = run_end(cycle(m, f), done) {

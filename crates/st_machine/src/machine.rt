@@ -1,0 +1,94 @@
+ghost use Rattle.std.specs.Prelude.{◌≡◌, Some, None};
+ghost use Rattle.st_model.specs.Objects.{nil};
+ghost use Rattle.st_model.specs.Machine.{State, empty_world};
+ghost use Rattle.st_model.specs.Births.{Births};
+ghost use Rattle.st_model.specs.Show.{Shows};
+ghost use Rattle.st_model.specs.View.{no_devices};
+ghost use Rattle.st_frames.specs.Shown.{IsFrame, shown};
+ghost use Rattle.st_machine.specs.Runs.{EndsAs, AsksNothing, death_of};
+ghost use Rattle.st_machine.specs.declared.ending.RunEnd.TheVariants.{Dead as DeadEnd};
+
+use crate::ending::RunEnd;
+use crate::running;
+use st_frames::{Frame, Loaded};
+use st_input::World;
+use st_memory::Memory;
+use st_model::Dead;
+
+/// A machine: its objects with the registers held among them, the registers, and what lies round it; and, once it is dead,
+/// the cause. Its objects and registers stay as they were before the bytecode of which it died.
+#[derive(Drop)]
+pub struct Machine<M: Memory> {
+    memory: M,
+    frame: Frame,
+    world: World,
+    death: Option<Dead>,
+    ghost held: { IsFrame (M.view memory) frame },
+    ghost quiet: { (M.view memory).held.devices ≡ no_devices },
+    ghost empty: { world ≡ empty_world nil },
+}
+
+impl<M: Memory> Machine<M> {
+    /// A machine over a memory with registers, in a new world.
+    pub fn boot(loaded: Loaded<M>, world: World) -> Machine<M>
+        requires frame { IsFrame (M.view loaded.memory) loaded.frame }
+        requires quiet { (M.view loaded.memory).held.devices ≡ no_devices }
+        requires empty { world ≡ empty_world nil }
+        ensures memory { M.view result.memory ≡ M.view loaded.memory }
+        ensures frame { result.frame ≡ loaded.frame }
+        ensures alive { result.death ≡ None }
+    {
+        Machine {
+            memory: loaded.memory,
+            frame: loaded.frame,
+            world,
+            death: None,
+        }
+    }
+
+    /// Does n cycles, or those up to the first that doesn't go on. It ends as the book's machine does from each state over
+    /// births that the machine shows. A dead machine stays as it is.
+    pub fn run(&mut self, n: u32) -> RunEnd
+        ensures ends { self.old.death ≡ None → (s : State Births) → Shows (shown (M.view self.old.memory) self.old.frame) s → EndsAs n s result (shown (M.view self.new.memory) self.new.frame) }
+        ensures death { self.old.death ≡ None → self.new.death ≡ death_of result }
+        ensures dead { (cause : _) → self.old.death ≡ Some cause → (result ≡ DeadEnd 0 cause) × (self.new ≡ self.old) }
+        ensures asks { AsksNothing result }
+    {
+        if let Some(cause) = self.death {
+            return RunEnd::Dead { done: 0, cause };
+        }
+        let end = running::run(&mut self.memory, &mut self.frame, n);
+        if let RunEnd::Dead { done: _, cause } = end {
+            self.death = Some(cause);
+        }
+        end
+    }
+
+    /// The objects.
+    pub fn memory(&self) -> &M
+        ensures { result.now ≡ self.now.memory }
+    {
+        &self.memory
+    }
+
+    /// The registers.
+    pub fn frame(&self) -> Frame
+        ensures { result ≡ self.now.frame }
+    {
+        self.frame
+    }
+
+    /// What lies round the machine.
+    pub fn world(&self) -> &World
+        ensures { result.now ≡ self.now.world }
+    {
+        &self.world
+    }
+
+    /// The cause of which it is dead.
+    pub fn death(&self) -> Option<Dead>
+        ensures { result ≡ self.now.death }
+    {
+        self.death
+    }
+}
