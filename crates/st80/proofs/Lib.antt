@@ -1,4 +1,3 @@
 pub mod Digits
-pub mod Ended
 pub mod Reported
 pub mod Started

@@ -11,7 +11,7 @@ use Rattle.st_model.specs.Image.{image_head}
 use Rattle.st_model.specs.Faults.{IsImageFault, IsWellFormed}
 use Rattle.st_model.specs.Start.{start}
 use Rattle.st_model.specs.Show.{raised}
-use Rattle.st_model.specs.Text.{numbers_text, ran_text, dead_text, unbuilt_text, run_text}
+use Rattle.st_model.specs.Text.{numbers_text, ran_text, dead_text, unbuilt_text, space_text, quit_text, debugger_text, state_text, run_text}
 use Rattle.st_machine.specs.declared.ending.RunEnd.{RunEnd}
 use Rattle.st_machine.specs.declared.ending.RunEnd.TheVariants as end
 use Rattle.st80.specs.declared.refusal.Refusal.{Refusal}
@@ -84,11 +84,27 @@ pub record IsReport (bytes : List ℕ) (n : ℕ) (text : List ℕ) : Type 0 wher
   pub starts : start (image_head bytes) bytes ≡ Went tt state
   pub is : text ≡ run_text n (raised state)
 
--- the line of a run's end, of so many cycles that were asked for
+-- The line of a run's end, of so many cycles that were asked for. A snapshot, and bytes that are said, are no end.
 abbrev pub end_text : ℕ → RunEnd → List ℕ
 end_text n end.Ran = ran_text n
+end_text n (end.Space done demand entries words) = space_text done demand (record { entries = entries; words = words })
+end_text n (end.Snapshot done) = []
+end_text n (end.Say done o) = []
+end_text n (end.Quit done) = quit_text done
+end_text n (end.Debugger done) = debugger_text done
 end_text n (end.Dead done cause) = dead_text done cause
 end_text n (end.Unbuilt done code) = unbuilt_text done code
+
+-- what follows that line: what the machine shows, where it isn't dead
+abbrev pub rest_text : RunEnd → State Table → List ℕ
+rest_text end.Ran s = state_text s
+rest_text (end.Space done demand entries words) s = state_text s
+rest_text (end.Snapshot done) s = state_text s
+rest_text (end.Say done o) s = state_text s
+rest_text (end.Quit done) s = state_text s
+rest_text (end.Debugger done) s = state_text s
+rest_text (end.Dead done cause) s = []
+rest_text (end.Unbuilt done code) s = state_text s
 
 module _ {D : Type 0} (host : Ghosts D) where
   -- Nothing but the last line was said. It may be cut or missing only where the count of say faults rose, or stands at

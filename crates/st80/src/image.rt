@@ -1,4 +1,4 @@
-ghost use Rattle.std.specs.Prelude.{◌≡◌, ◌≤◌, ◌^◌, length, IsTrue, IfOk, IfErr};
+ghost use Rattle.std.specs.Prelude.{◌≡◌, ◌≤◌, ◌^◌, length, IsTrue, IfOk, IfErr, None};
 ghost use Rattle.st_host.specs.Files.{bytes_of};
 ghost use Rattle.st_host.specs.Runs.{OnlyReads};
 ghost use Rattle.st_model.specs.Image.{image_head};
@@ -11,6 +11,8 @@ use crate::refusal::Refusal;
 use st_frames::Loaded;
 use st_host::{Host, file_length, read_from};
 use st_image::{HeadValues, ReadImage, read};
+use st_input::World;
+use st_machine::Machine;
 use st_memory::Loader;
 use std::alloc::Global;
 
@@ -35,8 +37,8 @@ fn read_file<H: Host>(alloc: Global, host: &mut H, name: &str) -> Result<Vec<u8>
     Ok(bytes)
 }
 
-/// A machine at the start of the image in a file, where that has at most 2^23 bytes and is well-formed.
-pub fn start<H: Host, L: Loader>(
+/// The memory and registers of the image in a file, where that has at most 2^23 bytes and is well-formed.
+fn read_image<H: Host, L: Loader>(
     alloc: Global,
     host: &mut H,
     name: &str,
@@ -55,4 +57,22 @@ pub fn start<H: Host, L: Loader>(
         Err(ReadImage::Fault(fault)) => Err(Refusal::Image(fault)),
         Err(ReadImage::OutOfMemory) => Err(Refusal::OutOfMemory),
     }
+}
+
+/// A machine at the start of the image in a file, where that has at most 2^23 bytes and is well-formed.
+pub fn start<H: Host, L: Loader>(
+    alloc: Global,
+    host: &mut H,
+    name: &str,
+) -> Result<Machine<L::Done>, Refusal>
+    ensures readable { IfOk result (λ _. IsTrue H.is_told → IsReadable (bytes_of (H.files host.old name.now))) }
+    ensures start { IfOk result (λ m. IsTrue H.is_told → let bytes = bytes_of (H.files host.old name.now) in IsStart (image_head bytes) bytes (L.Done.view m.memory) m.frame) }
+    ensures alive { IfOk result (λ m. m.death ≡ None) }
+    ensures refused { IfErr result (λ e. IsTrue H.is_told → IsRefusal (bytes_of (H.files host.old name.now)) e) }
+    ensures cause { IfErr result (RefusalHasCause H.Host.own host.old host.new) }
+    ensures reads { OnlyReads H.Host.own host.old host.new }
+{
+    let loaded = read_image::<H, L>(alloc, host, name)?;
+    let world = World::new(alloc)?;
+    Ok(Machine::boot(loaded, world))
 }

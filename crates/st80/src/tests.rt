@@ -24,6 +24,25 @@ const TABLE: [u16; 66] = [
     36, 64, 38, 32, 0, 64, 40, 64, 42, 64, 46, 64, 52, 128, 72,
 ];
 
+/// The objects of an image whose method pushes 16383 and 1 and sends a message of one argument: those of image B with an
+/// association, a selector, a class whose dictionary has one method, and that method, which answers its receiver.
+const SENDING_OBJECTS: [u16; 99] = [
+    2, 12, 2, 12, 2, 12, 4, 12, 2, 58, 5, 12, 2, 68, 1, 2, 12, 2, 12, 2, 12, 2, 12, 2, 12, 2, 12,
+    2, 12, 2, 12, 2, 12, 2, 12, 2, 12, 4, 12, 66, 3, 2, 12, 2, 12, 2, 12, 4, 12, 2, 60, 6, 12, 2,
+    62, 9, 2, 20, 22, 2, 15, 1, 64, 2, 2, 2, 2, 2, 2, 2, 2, 2, 2, 2, 2, 2, 2, 7, 34, 5, 32767, 66,
+    8310, 57600, 3, 56, 11008, 5, 12, 3, 70, 66, 3, 16, 72, 4, 34, 8449, 30720,
+];
+
+/// The word of it that is the selector in the dictionary; 66 is what is sent, and 42 is doesNotUnderstand:.
+const SELECTOR: usize = 91;
+
+/// Its table.
+const SENDING_TABLE: [u16; 74] = [
+    32, 0, 64, 0, 64, 2, 64, 4, 64, 6, 32, 0, 64, 10, 64, 15, 64, 17, 32, 0, 32, 0, 64, 19, 64, 21,
+    64, 23, 64, 25, 32, 0, 64, 27, 64, 29, 32, 0, 32, 0, 64, 31, 64, 33, 64, 35, 32, 0, 64, 37, 64,
+    41, 64, 43, 32, 0, 64, 45, 64, 47, 64, 51, 64, 57, 128, 77, 128, 84, 64, 87, 64, 92, 128, 95,
+];
+
 /// The byte of the file at which the method's bytecodes begin.
 const BYTECODES: usize = 662;
 
@@ -70,15 +89,28 @@ fn pad(bytes: &mut Vec<u8>, length: usize) -> Result<(), AllocError> {
     Ok(())
 }
 
+/// An image of these objects and this table, with so many entries.
+fn image_of(
+    alloc: Global,
+    entries: u16,
+    objects: &[u16],
+    table: &[u16],
+) -> Result<Vec<u8>, AllocError> {
+    let mut bytes = Vec::new(alloc);
+    let lengths = [0, objects.len() as u16, 0, table.len() as u16];
+    push_words(&mut bytes, &lengths)?;
+    push_words(&mut bytes, &[0x5354, 0x3830, 0, 1])?;
+    push_words(&mut bytes, &[0, entries, 16, 0, 0, 0, 0, 0])?;
+    pad(&mut bytes, 512)?;
+    push_words(&mut bytes, objects)?;
+    pad(&mut bytes, 1024)?;
+    push_words(&mut bytes, table)?;
+    Ok(bytes)
+}
+
 /// Image B with these bytecodes in front of those of its method.
 fn image(alloc: Global, bytecodes: &[u8]) -> Result<Vec<u8>, AllocError> {
-    let mut bytes = Vec::new(alloc);
-    push_words(&mut bytes, &[0, 78, 0, 66, 0x5354, 0x3830, 0, 1])?;
-    push_words(&mut bytes, &[0, 32767, 16, 0, 0, 0, 0, 0])?;
-    pad(&mut bytes, 512)?;
-    push_words(&mut bytes, &OBJECTS)?;
-    pad(&mut bytes, 1024)?;
-    push_words(&mut bytes, &TABLE)?;
+    let mut bytes = image_of(alloc, 32767, &OBJECTS, &TABLE)?;
     for (i, code) in bytecodes.iter().enumerate() {
         if let Some(byte) = bytes.get_mut(BYTECODES + i) {
             *byte = *code;
@@ -145,15 +177,126 @@ fn no_cycle_leaves_the_image(rt: HostRuntime) -> Result<(), Fail> {
 }
 
 #[test]
-fn a_return_is_not_built(rt: HostRuntime) -> Result<(), Fail> {
-    let mut host = host_with(rt.alloc(), &image(rt.alloc(), &[120])?)?;
+fn a_primitive_is_not_built(rt: HostRuntime) -> Result<(), Fail> {
+    let mut host = host_with(rt.alloc(), &image(rt.alloc(), &[198])?)?;
     let wanted = [
-        "unbuilt 0 120\nregisters @62 @62 @64 @2 3 1\n",
+        "unbuilt 0 198\nregisters @62 @62 @64 @2 3 1\n",
         UNCHANGED,
         "object 62 @22 p @2 3 1 @64 @2 @2 @2 @2 @2 @2 @2 @2 @2 @2 @2 @2 @2 @2\n",
-        "object 64 @34 m 128 : 120 119 104 163 251\n",
+        "object 64 @34 m 128 : 198 119 104 163 251\n",
     ];
     check(&rt, &mut host, &["once", "B", "4"], Status::Done, &wanted)
+}
+
+/// The lines of an input state and of devices that hold nothing.
+const EMPTY_WORLD: &str = "input 0 0 0 0 0 0\nheld @2 @2 @2 @2 @2\n";
+
+/// The lines of the sending image's objects that no run changes.
+const FIRST_OBJECTS: &str = "object 2 @12 p
+object 4 @12 p
+object 6 @12 p
+object 8 @12 p @2 @58
+";
+
+const LATER_OBJECTS: &str = "object 22 @12 p
+object 24 @12 p
+object 26 @12 p
+object 28 @12 p
+object 32 @12 p
+object 34 @12 p
+object 40 @12 p
+object 42 @12 p
+object 44 @12 p
+object 48 @12 p @66 1
+object 50 @12 p
+object 52 @12 p
+object 56 @12 p
+object 58 @12 p @2 @60
+object 60 @12 p @2 @62 4 @2
+";
+
+/// The sending image, with so many entries and this selector in its dictionary.
+fn sending_image(alloc: Global, entries: u16, selector: u16) -> Result<Vec<u8>, AllocError> {
+    let mut objects = SENDING_OBJECTS;
+    objects[SELECTOR] = selector;
+    image_of(alloc, entries, &objects, &SENDING_TABLE)
+}
+
+#[test]
+fn a_message_is_sent_and_answered(rt: HostRuntime) -> Result<(), Fail> {
+    let alloc = rt.alloc();
+    let found = sending_image(alloc, 32767, 66)?;
+    let sent = [
+        "ran 3\nregisters @10 @10 @72 16383 3 1\n",
+        EMPTY_WORLD,
+        "used 29 119\n",
+        FIRST_OBJECTS,
+        "object 10 @22 p @62 3 1 @72 @2 16383 1 @2 @2 @2 @2 @2 @2 @2 @2 @2 @2 @2\nobject 12 @12 p @2 @68 0\nobject 14 @12 p\nobject 16 @12 p\n",
+        LATER_OBJECTS,
+        "object 62 @22 p @2 10 0 @64 @2 @2 16383 1 @2 @2 @2 @2 @2 @2 @2 @2 @2 @2\nobject 64 @34 m 2 16383 @66 : 32 118 225\nobject 66 @56 b 43\nobject 68 @12 p 1 @70 @66\nobject 70 @16 p @72\nobject 72 @34 m 4224 : 120\n",
+    ];
+    check(
+        &rt,
+        &mut host_with(alloc, &found)?,
+        &["once", "B", "3"],
+        Status::Done,
+        &sent,
+    )?;
+    let returned = [
+        "ran 4\nregisters @62 @62 @64 @2 10 1\n",
+        EMPTY_WORLD,
+        "used 28 99\n",
+        FIRST_OBJECTS,
+        "object 12 @12 p @2 @68 0\nobject 14 @12 p\nobject 16 @12 p\n",
+        LATER_OBJECTS,
+        "object 62 @22 p @2 10 0 @64 @2 @2 16383 1 @2 @2 @2 @2 @2 @2 @2 @2 @2 @2\nobject 64 @34 m 2 16383 @66 : 32 118 225\nobject 66 @56 b 43\nobject 68 @12 p 1 @70 @66\nobject 70 @16 p @72\nobject 72 @34 m 4224 : 120\n",
+    ];
+    check(
+        &rt,
+        &mut host_with(alloc, &found)?,
+        &["once", "B", "4"],
+        Status::Done,
+        &returned,
+    )
+}
+
+#[test]
+fn a_message_is_not_understood(rt: HostRuntime) -> Result<(), Fail> {
+    let alloc = rt.alloc();
+    let unknown = [
+        "ran 3\nregisters @20 @20 @72 16383 3 1\n",
+        EMPTY_WORLD,
+        "used 31 126\n",
+        FIRST_OBJECTS,
+        "object 10 @16 p 1\nobject 12 @12 p @2 @68 0\nobject 14 @12 p\nobject 16 @12 p\nobject 18 @32 p @66 @10\nobject 20 @22 p @62 3 1 @72 @2 16383 @18 @2 @2 @2 @2 @2 @2 @2 @2 @2 @2 @2\n",
+        LATER_OBJECTS,
+        "object 62 @22 p @2 10 0 @64 @2 @2 16383 @18 @2 @2 @2 @2 @2 @2 @2 @2 @2 @2\nobject 64 @34 m 2 16383 @66 : 32 118 225\nobject 66 @56 b 43\nobject 68 @12 p 1 @70 @42\nobject 70 @16 p @72\nobject 72 @34 m 4224 : 120\n",
+    ];
+    let image = sending_image(alloc, 32767, 42)?;
+    check(
+        &rt,
+        &mut host_with(alloc, &image)?,
+        &["once", "B", "3"],
+        Status::Done,
+        &unknown,
+    )?;
+    let space = [
+        "space 2 3 27 2 1048477\nregisters @62 @62 @64 @2 9 2\n",
+        EMPTY_WORLD,
+        "used 28 99\n",
+        FIRST_OBJECTS,
+        "object 12 @12 p @2 @68 0\nobject 14 @12 p\nobject 16 @12 p\n",
+        LATER_OBJECTS,
+        "object 62 @22 p @2 7 0 @64 @2 @2 16383 1 @2 @2 @2 @2 @2 @2 @2 @2 @2 @2\nobject 64 @34 m 2 16383 @66 : 32 118 225\nobject 66 @56 b 43\nobject 68 @12 p 1 @70 @42\nobject 70 @16 p @72\nobject 72 @34 m 4224 : 120\n",
+    ];
+    let image = sending_image(alloc, 30, 42)?;
+    check(
+        &rt,
+        &mut host_with(alloc, &image)?,
+        &["once", "B", "3"],
+        Status::Done,
+        &space,
+    )
 }
 
 #[test]

@@ -13,7 +13,8 @@ use Rattle.st_model.specs.declared.head.ImageHead.{ImageHead}
 use Rattle.st_model.specs.declared.fault.ImageFault.{ImageFault}
 use Rattle.st_model.specs.declared.fault.ImageFault.TheVariants as fault
 use Rattle.st_model.specs.Values.{Value, Small, Ref, value_of, is_small, IsLive, AllLive}
-use Rattle.st_model.specs.Objects.{Object, PageObject, page, place_of, nil, one, is_pointers, is_method, words_of}
+use Rattle.st_model.specs.declared.page.PageObject.{PageObject}
+use Rattle.st_model.specs.Objects.{Object, page, place_of, nil, one, is_pointers, is_method, words_of}
 use Rattle.st_model.specs.Table.{Table, entry, total_used}
 use Rattle.st_model.specs.Show.{IsUsed}
 use Rattle.st_model.specs.View.{View, IsWhole, is_live, empty_view, table_of}

@@ -3,7 +3,7 @@ use Rattle.st_image.specs.HeadValues.{no_values, head_over}
 use Rattle.st_image.specs.Rows.{IsReadFault}
 use Rattle.st_image.specs.declared.error.ReadImage.{ReadImage}
 use Rattle.st80.proofs.Started.{readable, started, faulty}
-use Rattle.st80.proofs.image.start.Goals as goal
+use Rattle.st80.proofs.image.read_image.Goals as goal
 
 pub returns-in-Ok-clause-readable : goal.returns-in-Ok-clause-readable
 returns-in-Ok-clause-readable g c told =
