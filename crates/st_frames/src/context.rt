@@ -6,8 +6,8 @@ ghost use Rattle.st_model.specs.Calls.{Does, Reads, itself};
 ghost use Rattle.st_frames.specs.Rows.{row_state, fetched_in};
 
 use crate::access::{active, stack_pointer};
-use crate::objects::{page_word, store_field, stored_integer};
 use crate::fetched::Fetched;
+use crate::objects::{page_word, store_field, stored_integer};
 use crate::registers::Registers;
 use crate::words::{small, small_integer};
 use st_memory::Objects;

@@ -154,7 +154,12 @@ pub fn literal<O: Objects>(m: &O, r: &Registers, method: Word, i: u32) -> Result
 
 /// The literal of a method with k literals behind it.
 #[tactic(auto, using(crate::proofs::Doing::states))]
-pub fn literal_from_last<O: Objects>(m: &O, r: &Registers, method: Word, k: u32) -> Result<Word, Dead>
+pub fn literal_from_last<O: Objects>(
+    m: &O,
+    r: &Registers,
+    method: Word,
+    k: u32,
+) -> Result<Word, Dead>
     ensures does { Does (literal_from_last O.names (word method) k) word (row_state (O.table m.now) (O.head m.now) r.now) result (row_state (O.table m.now) (O.head m.now) r.now) }
 {
     m.literal_from_last(method, k)

@@ -1,0 +1,123 @@
+-- Registers that are fetched from the scheduled context.
+use Rattle.std.proofs.Common.{◌≡◌, Ok, Err, refl, sym, subst, Bool, true, false}
+use Rattle.std.specs.Prelude.{ℕ, ◌+◌, ◌-ℤ◌, ◌+ℤ◌, ℤ, pos, negsuc, Result, nat_le, nat_lt}
+use Rattle.st_model.specs.declared.dead.Dead.{Dead}
+use Rattle.st_model.specs.declared.dead.Dead.TheVariants as dead
+use Rattle.st_model.specs.declared.word.Word.{Word}
+use Rattle.st_model.specs.declared.page.PageObject.TheVariants.{SchedulerAssociation}
+use Rattle.st_model.specs.Values.{Value, Small, Ref, word}
+use Rattle.st_model.specs.Objects.{nil}
+use Rattle.st_model.specs.Machine.{Registers, State, Died, Went, Step, answer, ◌>>=◌, ◌>>◌, empty_world}
+use Rattle.st_model.specs.Contexts.{home_by, home_of, stack_place, fetch_stack_pointer, context_registers, fetch_context_registers, scheduled_context, fetch_scheduled_registers}
+use Rattle.st_model.specs.Table.{Table, table, bounded_table}
+use Rattle.st_model.specs.Steps.{are_there, fetch_integer, integer_or_die, check, set_registers, registers_set}
+use Rattle.st_model.specs.Calls.{Reads}
+use Rattle.st_model.specs.View.{View}
+use Rattle.st_model.proofs.Runs.{run-then, after-went, after-died, run-set_registers}
+use Rattle.st_model.proofs.Tabular.{of_page-as, fetch_field-as, count_fields-as}
+use Rattle.st_memory.specs.Tabular.{bounded_tabular}
+use Rattle.st_frames.specs.declared.frame.Frame.{Frame}
+use Rattle.st_frames.specs.declared.fetched.Fetched.{Fetched}
+use Rattle.st_frames.specs.Rows.{fetched_in}
+use Rattle.st_frames.specs.Shown.{shown, registers_of, with_registers, FetchesFrame}
+
+-- A bounded table gives the registers that a table gives: nothing is made.
+
+home_by-same : (c method : Value) → home_by bounded_table c method ≡ home_by table c method
+unfolding home_by
+home_by-same c (Small n) = fetch_field-as bounded_tabular c 5
+home_by-same c (Ref n) = refl
+
+home_of-same : (c : Value) → home_of bounded_table c ≡ home_of table c
+unfolding home_of
+home_of-same c = λ i. fetch_field-as bounded_tabular c 3 i >>= (λ method. home_by-same c method i)
+
+integer-same : (c : Value) (k : ℕ) → fetch_integer bounded_table c k ≡ fetch_integer table c k
+unfolding fetch_integer
+integer-same c k = λ i. fetch_field-as bounded_tabular c k i >>= integer_or_die
+
+place-same : (c : Value) (n : ℤ) → stack_place bounded_table c n ≡ stack_place table c n
+unfolding stack_place
+place-same c (pos n) = rw (count_fields-as bounded_tabular c) refl
+place-same c (negsuc n) = refl
+
+pointer-same : (c : Value) → fetch_stack_pointer bounded_table c ≡ fetch_stack_pointer table c
+unfolding fetch_stack_pointer
+pointer-same c = λ i. integer-same c 2 i >>= (λ n. place-same c (n +ℤ pos 5) i)
+
+registers-same : (c : Value) → context_registers bounded_table c ≡ context_registers table c
+unfolding context_registers
+registers-same c = λ i. do
+  home ← home_of-same c i
+  method ← fetch_field-as bounded_tabular home 3 i
+  receiver ← fetch_field-as bounded_tabular home 5 i
+  ip ← integer-same c 1 i
+  sp ← pointer-same c i
+  answer (record { active = c; home = home; method = method; receiver = receiver; ip = ip -ℤ pos 1; sp = sp })
+
+fetch-same : (c : Value) → fetch_context_registers bounded_table c ≡ fetch_context_registers table c
+unfolding fetch_context_registers set_registers
+fetch-same c = λ i. registers-same c i >>= set_registers table
+
+context-same : scheduled_context bounded_table ≡ scheduled_context table
+unfolding scheduled_context
+context-same = λ i. do
+  association ← of_page-as bounded_tabular SchedulerAssociation i
+  scheduler ← fetch_field-as bounded_tabular association 1 i
+  process ← fetch_field-as bounded_tabular scheduler 1 i
+  fetch_field-as bounded_tabular process 1 i
+
+scheduled-same : fetch_scheduled_registers bounded_table ≡ fetch_scheduled_registers table
+unfolding fetch_scheduled_registers
+scheduled-same = λ i. context-same i >>= (λ c. fetch-same c i)
+
+module _ (v w : View) where
+  of_table : (x : Result Frame Dead) → FetchesFrame (fetch_scheduled_registers bounded_table) v x w → FetchesFrame (fetch_scheduled_registers table) v x w
+  of_table x h = subst (λ step. FetchesFrame step v x w) scheduled-same h
+
+  no_context : (cause : Dead) → Reads (scheduled_context bounded_table) word v.objects (Err cause) → FetchesFrame (fetch_scheduled_registers bounded_table) v (Err cause) w
+  unfolding fetch_scheduled_registers
+  no_context cause h = λ r. simp (run-then, h (with_registers v r) refl, after-died) refl
+
+  no_registers : (c : Word) (cause : Dead) → Reads (scheduled_context bounded_table) word v.objects (Ok c) → Reads (context_registers bounded_table (word c)) fetched_in v.objects (Err cause)
+      → FetchesFrame (fetch_scheduled_registers bounded_table) v (Err cause) w
+  unfolding fetch_scheduled_registers fetch_context_registers
+  no_registers c cause h k = λ r. simp (run-then, h (with_registers v r) refl, after-went, k (with_registers v r) refl, after-died) refl
+
+  unset : (q : Registers) (s : State Table) (b : Bool) → b ≡ false → registers_set q s b ≡ Died dead.Kind
+  unfolding registers_set
+  unset q s true e = cc
+  unset q s false e = refl
+
+  unset_at : (q : Registers) (s : State Table) → are_there bounded_table s.memory q ≡ false → (set_registers bounded_table q).run s ≡ Died dead.Kind
+  unfolding set_registers
+  unset_at q s e = unset q s (are_there bounded_table s.memory q) e
+
+  not_there : (c : Word) (q : Fetched) → Reads (scheduled_context bounded_table) word v.objects (Ok c) → Reads (context_registers bounded_table (word c)) fetched_in v.objects (Ok q)
+      → are_there bounded_table v.objects (fetched_in q) ≡ false → FetchesFrame (fetch_scheduled_registers bounded_table) v (Err dead.Kind) w
+  unfolding fetch_scheduled_registers fetch_context_registers
+  not_there c q h k e = λ r. simp (run-then, h (with_registers v r) refl, after-went, k (with_registers v r) refl, unset_at (fetched_in q) (with_registers v r) e) refl
+
+  all_there : (c : Word) (q : Fetched) (f : Frame) → Reads (scheduled_context bounded_table) word v.objects (Ok c) → Reads (context_registers bounded_table (word c)) fetched_in v.objects (Ok q)
+      → are_there bounded_table v.objects (fetched_in q) ≡ true → registers_of f ≡ fetched_in q → w.objects ≡ v.objects → w.head ≡ v.head
+      → FetchesFrame (fetch_scheduled_registers bounded_table) v (Ok f) w
+  unfolding fetch_scheduled_registers fetch_context_registers
+  all_there c q f h k e same o a = λ r.
+      simp (run-then, h (with_registers v r) refl, after-went, k (with_registers v r) refl, run-set_registers bounded_table (fetched_in q) (with_registers v r) e)
+      (λ i. Went tt (record { memory = sym o i; registers = sym same i; world = empty_world nil; head = sym a i }))
+
+  pub dead-context : (cause : Dead) → Reads (scheduled_context bounded_table) word v.objects (Err cause) → FetchesFrame (fetch_scheduled_registers table) v (Err cause) w
+  dead-context cause h = of_table (Err cause) (no_context cause h)
+
+  pub dead-registers : (c : Word) (cause : Dead) → Reads (scheduled_context bounded_table) word v.objects (Ok c) → Reads (context_registers bounded_table (word c)) fetched_in v.objects (Err cause)
+      → FetchesFrame (fetch_scheduled_registers table) v (Err cause) w
+  dead-registers c cause h k = of_table (Err cause) (no_registers c cause h k)
+
+  pub dead-there : (c : Word) (q : Fetched) → Reads (scheduled_context bounded_table) word v.objects (Ok c) → Reads (context_registers bounded_table (word c)) fetched_in v.objects (Ok q)
+      → are_there bounded_table v.objects (fetched_in q) ≡ false → FetchesFrame (fetch_scheduled_registers table) v (Err dead.Kind) w
+  dead-there c q h k e = of_table (Err dead.Kind) (not_there c q h k e)
+
+  pub fetched-frame : (c : Word) (q : Fetched) (f : Frame) → Reads (scheduled_context bounded_table) word v.objects (Ok c) → Reads (context_registers bounded_table (word c)) fetched_in v.objects (Ok q)
+      → are_there bounded_table v.objects (fetched_in q) ≡ true → registers_of f ≡ fetched_in q → w.objects ≡ v.objects → w.head ≡ v.head
+      → FetchesFrame (fetch_scheduled_registers table) v (Ok f) w
+  fetched-frame c q f h k e same o a = of_table (Ok f) (all_there c q f h k e same o a)
