@@ -183,17 +183,20 @@ module _ (t : Table) (cs : List Change) (k : ℕ) (o : Word) (i : ℕ) (has : Ha
     pub from_source : (j : ℕ) → target.0 ≡ o.0 → to ≤ i → i - to < n → (j ≡ from + (i - to)) × HasField t (word source) j
         → HasField t (word source) j × (field_value (replayed t cs (k + 1)) (word o) i ≡ field_value (replayed t cs k) (word source) j)
     from_source j f low high found =
-        let then_has = field_like (replayed t cs k) t (word source) j (replayed_like t cs k) found.1 in
-        (found.1,
-            ap (λ u. field_value u (word o) i) (step_is (Fields n source from target to) e)
-            ∙ fields_hit (replayed t cs k) source target n from to o i f low high has_then (subst (HasField (replayed t cs k) (word source)) found.0 then_has)
-            ∙ ap (field_value (replayed t cs k) (word source)) (sym found.0))
+        let then_has = field_like (replayed t cs k) t (word source) j (replayed_like t cs k) found.1 in (
+          found.1,
+          ap (λ u. field_value u (word o) i) (step_is (Fields n source from target to) e)
+              ∙ fields_hit (replayed t cs k) source target n from to o i f low high has_then (subst (HasField (replayed t cs k) (word source)) found.0 then_has)
+              ∙ ap (field_value (replayed t cs k) (word source)) (sym found.0),
+        )
 
     pub from_before : (target.0 ≢ o.0) ⊎ (i < to) ⊎ (n ≤ i - to) ⊎ (HasField t (word source) (from + (i - to)) → ⊥)
         → HasField t (word o) i × (field_value (replayed t cs (k + 1)) (word o) i ≡ field_value (replayed t cs k) (word o) i)
-    from_before apart = (has,
-        ap (λ u. field_value u (word o) i) (step_is (Fields n source from target to) e)
-        ∙ fields_miss (replayed t cs k) source target n from to o i (apart_then apart))
+    from_before apart = (
+      has,
+      ap (λ u. field_value u (word o) i) (step_is (Fields n source from target to) e)
+          ∙ fields_miss (replayed t cs k) source target n from to o i (apart_then apart),
+    )
       where
         apart_then : (target.0 ≢ o.0) ⊎ (i < to) ⊎ (n ≤ i - to) ⊎ (HasField t (word source) (from + (i - to)) → ⊥) → (target.0 ≢ o.0) ⊎ (i < to) ⊎ (n ≤ i - to) ⊎ (HasField (replayed t cs k) (word source) (from + (i - to)) → ⊥)
         apart_then (inl d) = inl d

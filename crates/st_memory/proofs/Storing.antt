@@ -159,9 +159,10 @@ get_some (x ∷ xs) (suc i) d l = get_some xs i d (omega (arith, l))
 are_known : (t : Table) (v : Value) (from n : ℕ) → AllThere t → from + n ≤ length (object_of t v).fields → AreKnown t (fields_from t v from n)
 unfolding fields_from field_of
 are_known t v from zero closed l = tt
-are_known t v from (suc n) closed l =
-    (there_known t (get_or (object_of t v).fields from nil) (closed v from (get_or (object_of t v).fields from nil) (get_some (object_of t v).fields from nil (omega (arith, l)))),
-        are_known t v (suc from) n closed (omega (arith, l)))
+are_known t v from (suc n) closed l = (
+  there_known t (get_or (object_of t v).fields from nil) (closed v from (get_or (object_of t v).fields from nil) (get_some (object_of t v).fields from nil (omega (arith, l)))),
+  are_known t v (suc from) n closed (omega (arith, l)),
+)
 
 module _ (t u : Table) (source target : Word) (from to : ℕ) (a : Head) where
   pub copies_none : (n : ℕ) → n ≡ 0 → u ≡ t → Changes (transfer apart n (word source) from (word target) to) itself t a (Ok tt) u

@@ -12,7 +12,11 @@ pub struct Made {
 #[derive(Clone, Copy)]
 pub enum Change {
     /// A value is stored in a field of an object.
-    Field { object: Word, at: u32, value: Word },
+    Field {
+        object: Word,
+        at: u32,
+        value: Word,
+    },
     /// n fields of one object, from one on, are copied to those of another.
     Fields {
         n: u32,

@@ -232,9 +232,13 @@ impl<'a, M: Memory> Draft<'a, M> {
 
 impl<'a, M: Memory> Objects for Draft<'a, M> {
     ghost use Rattle.st_memory.specs.Tabular.{apart_tabular};
+
     ghost names = { apart };
+
     ghost table = { λ d. draft_table (M.view d.base.now).objects d.made d.made_count d.changes d.count };
+
     ghost head = { λ d. (M.view d.base.now).head };
+
     ghost room = { λ d. 24 - (d.made_count + d.count) };
 
     fn is_there(&self, v: Word) -> bool {
@@ -311,7 +315,14 @@ impl<'a, M: Memory> Objects for Draft<'a, M> {
         Ok(())
     }
 
-    fn transfer(&mut self, n: u32, source: Word, from: u32, target: Word, to: u32) -> Result<(), Dead> {
+    fn transfer(
+        &mut self,
+        n: u32,
+        source: Word,
+        from: u32,
+        target: Word,
+        to: u32,
+    ) -> Result<(), Dead> {
         if n == 0 {
             return Ok(());
         }

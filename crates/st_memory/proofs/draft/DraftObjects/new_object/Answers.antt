@@ -45,7 +45,7 @@ invariant_of-self g c =
             (d.sized k (omega (arith, l, n)))
       ];
       closed = subst AllThere (sym (draft_more v.objects d.made d.made_count m d.changes d.count whole.places within d.named))
-        (closed_joined (draft_table v.objects d.made d.made_count d.changes d.count) m d.closed (nil_there v d.made d.made_count d.changes d.count whole (omega (arith, within))));
+          (closed_joined (draft_table v.objects d.made d.made_count d.changes d.count) m d.closed (nil_there v d.made d.made_count d.changes d.count whole (omega (arith, within))));
     }
 
 pub returns-clause-makes : goal.returns-clause-makes
