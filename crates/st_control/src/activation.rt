@@ -24,6 +24,7 @@ fn fill_context<O: Objects>(
     requires room { 4 ≤ O.room m.old }
     ensures does { Does (fill_context O.names (word context) (word method) (word header)) itself (row_state (O.table m.old) (O.head m.old) r.now) result (row_state (O.table m.new) (O.head m.new) r.now) }
     ensures room { O.room m.old ≤ O.room m.new + 4 }
+    ensures fixed { O.fixed m.new ≡ O.fixed m.old }
 {
     let sender = active(m, r);
     store_field(m, r, context, 0, sender)?;
@@ -43,6 +44,7 @@ fn new_context<O: Objects>(
     requires room { 5 ≤ O.room m.old }
     ensures does { Does (new_context O.names (word method) (word header)) word (row_state (O.table m.old) (O.head m.old) r.now) result (row_state (O.table m.new) (O.head m.new) r.now) }
     ensures room { O.room m.old ≤ O.room m.new + 5 }
+    ensures fixed { O.fixed m.new ≡ O.fixed m.old }
 {
     let class = page(m, r, PageObject::MethodContextClass);
     let context = new_object(m, r, class, context_size(header))?;
@@ -57,6 +59,7 @@ fn pass_words<O: Objects>(m: &mut O, r: &mut Registers, context: Word, n: u32) -
     requires room { 1 ≤ O.room m.old }
     ensures does { Does (pass_words O.names (word context) n) itself (row_state (O.table m.old) (O.head m.old) r.old) result (row_state (O.table m.new) (O.head m.new) r.new) }
     ensures room { O.room m.old ≤ O.room m.new + 1 }
+    ensures fixed { O.fixed m.new ≡ O.fixed m.old }
 {
     let source = active(m, r);
     let sp = stack_pointer(m, r);
@@ -77,6 +80,7 @@ pub fn activate<O: Objects>(
     requires room { 8 ≤ O.room m.old }
     ensures does { Does (activate O.names (word method) (word header) n) itself (row_state (O.table m.old) (O.head m.old) r.old) result (row_state (O.table m.new) (O.head m.new) r.new) }
     ensures room { O.room m.old ≤ O.room m.new + 8 }
+    ensures fixed { O.fixed m.new ≡ O.fixed m.old }
 {
     look_at_words(m, r, n)?;
     let size = context_size(header);

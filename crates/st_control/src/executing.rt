@@ -18,6 +18,7 @@ fn answer_field<O: Objects>(m: &mut O, r: &mut Registers, i: u32) -> Result<(), 
     requires room { 1 ≤ O.room m.old }
     ensures does { Does (answer_field O.names i) itself (row_state (O.table m.old) (O.head m.old) r.old) result (row_state (O.table m.new) (O.head m.new) r.new) }
     ensures room { O.room m.old ≤ O.room m.new + 1 }
+    ensures fixed { O.fixed m.new ≡ O.fixed m.old }
 {
     let object = pop(m, r)?;
     let answer = fetch_field(m, r, object, i)?;
@@ -59,6 +60,7 @@ fn respond<O: Objects>(
     requires room { 8 ≤ O.room m.old }
     ensures does { Does (respond O.names (word method) (word header) n primitive) end_of (row_state (O.table m.old) (O.head m.old) r.old) result (row_state (O.table m.new) (O.head m.new) r.new) }
     ensures room { O.room m.old ≤ O.room m.new + 8 }
+    ensures fixed { O.fixed m.new ≡ O.fixed m.old }
 {
     if primitive == 0 {
         activate(m, r, method, header, n)?;
@@ -81,6 +83,7 @@ fn respond_by_extension<O: Objects>(
     requires room { 8 ≤ O.room m.old }
     ensures does { Does (respond_by_extension O.names (word method) (word header) n) end_of (row_state (O.table m.old) (O.head m.old) r.old) result (row_state (O.table m.new) (O.head m.new) r.new) }
     ensures room { O.room m.old ≤ O.room m.new + 8 }
+    ensures fixed { O.fixed m.new ≡ O.fixed m.old }
 {
     let primitive = method_primitive(m, r, method)?;
     respond(m, r, method, header, n, primitive)
@@ -100,6 +103,7 @@ fn execute_by<O: Objects>(
     requires room { 8 ≤ O.room m.old }
     ensures does { Does (execute_by O.names (word method) (word header) n flag) end_of (row_state (O.table m.old) (O.head m.old) r.old) result (row_state (O.table m.new) (O.head m.new) r.new) }
     ensures room { O.room m.old ≤ O.room m.new + 8 }
+    ensures fixed { O.fixed m.new ≡ O.fixed m.old }
 {
     match flag {
         5 => Ok(Some(Outcome::Went)),
@@ -127,6 +131,7 @@ pub fn execute<O: Objects>(
     requires room { 8 ≤ O.room m.old }
     ensures does { Does (execute O.names (word method) n) end_of (row_state (O.table m.old) (O.head m.old) r.old) result (row_state (O.table m.new) (O.head m.new) r.new) }
     ensures room { O.room m.old ≤ O.room m.new + 8 }
+    ensures fixed { O.fixed m.new ≡ O.fixed m.old }
 {
     let header = method_header(m, r, method)?;
     execute_by(m, r, method, header, n, flag(header))

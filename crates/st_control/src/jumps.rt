@@ -20,6 +20,7 @@ fn must_be_boolean<O: Objects>(
     requires room { 15 ≤ O.room m.old }
     ensures does { Does (must_be_boolean O.names (word x)) end_of (row_state (O.table m.old) (O.head m.old) r.old) result (row_state (O.table m.new) (O.head m.new) r.new) }
     ensures room { O.room m.old ≤ O.room m.new + 15 }
+    ensures fixed { O.fixed m.new ≡ O.fixed m.old }
 {
     push(m, r, x)?;
     let selector = page(m, r, PageObject::MustBeBoolean);
@@ -40,6 +41,7 @@ fn jump_if<O: Objects>(
     requires room { 15 ≤ O.room m.old }
     ensures does { Does (jump_if O.names (word x) (pos d) is_wanted is_other) end_of (row_state (O.table m.old) (O.head m.old) r.old) result (row_state (O.table m.new) (O.head m.new) r.new) }
     ensures room { O.room m.old ≤ O.room m.new + 15 }
+    ensures fixed { O.fixed m.new ≡ O.fixed m.old }
 {
     if is_wanted {
         jump(m, r, d as i32)?;
@@ -64,6 +66,7 @@ pub fn jump_on<O: Objects>(
     requires room { 15 ≤ O.room m.old }
     ensures does { Does (jump_on O.names wanted other (pos d)) end_of (row_state (O.table m.old) (O.head m.old) r.old) result (row_state (O.table m.new) (O.head m.new) r.new) }
     ensures room { O.room m.old ≤ O.room m.new + 15 }
+    ensures fixed { O.fixed m.new ≡ O.fixed m.old }
 {
     let x = pop(m, r)?;
     let a = page(m, r, wanted);

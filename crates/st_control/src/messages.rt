@@ -17,6 +17,7 @@ fn copy_arguments<O: Objects>(m: &mut O, r: &Registers, array: Word, n: u32) -> 
     requires room { 1 ≤ O.room m.old }
     ensures does { Does (copy_arguments O.names (word array) n) itself (row_state (O.table m.old) (O.head m.old) r.now) result (row_state (O.table m.new) (O.head m.new) r.now) }
     ensures room { O.room m.old ≤ O.room m.new + 1 }
+    ensures fixed { O.fixed m.new ≡ O.fixed m.old }
 {
     let source = active(m, r);
     let sp = stack_pointer(m, r);
@@ -30,6 +31,7 @@ fn argument_array<O: Objects>(m: &mut O, r: &Registers, n: u32) -> Result<Word, 
     requires room { 2 ≤ O.room m.old }
     ensures does { Does (argument_array O.names n) word (row_state (O.table m.old) (O.head m.old) r.now) result (row_state (O.table m.new) (O.head m.new) r.now) }
     ensures room { O.room m.old ≤ O.room m.new + 2 }
+    ensures fixed { O.fixed m.new ≡ O.fixed m.old }
 {
     let class = page(m, r, PageObject::ArrayClass);
     let array = new_object(m, r, class, n)?;
@@ -48,6 +50,7 @@ fn new_message<O: Objects>(
     requires room { 3 ≤ O.room m.old }
     ensures does { Does (new_message O.names (word selector) (word array)) word (row_state (O.table m.old) (O.head m.old) r.now) result (row_state (O.table m.new) (O.head m.new) r.now) }
     ensures room { O.room m.old ≤ O.room m.new + 3 }
+    ensures fixed { O.fixed m.new ≡ O.fixed m.old }
 {
     let class = page(m, r, PageObject::MessageClass);
     let message = new_object(m, r, class, 2)?;
@@ -68,6 +71,7 @@ pub fn replace_by_message<O: Objects>(
     requires room { 6 ≤ O.room m.old }
     ensures does { Does (replace_by_message O.names (word selector) n) itself (row_state (O.table m.old) (O.head m.old) r.old) result (row_state (O.table m.new) (O.head m.new) r.new) }
     ensures room { O.room m.old ≤ O.room m.new + 6 }
+    ensures fixed { O.fixed m.new ≡ O.fixed m.old }
 {
     let array = argument_array(m, r, n)?;
     let message = new_message(m, r, selector, array)?;

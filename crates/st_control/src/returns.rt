@@ -22,6 +22,7 @@ fn cannot_return<O: Objects>(
     requires room { 16 ≤ O.room m.old }
     ensures does { Does (cannot_return O.names (word answer)) end_of (row_state (O.table m.old) (O.head m.old) r.old) result (row_state (O.table m.new) (O.head m.new) r.new) }
     ensures room { O.room m.old ≤ O.room m.new + 16 }
+    ensures fixed { O.fixed m.new ≡ O.fixed m.old }
 {
     let context = active(m, r);
     push(m, r, context)?;
@@ -41,6 +42,7 @@ fn return_into<O: Objects>(
     requires room { 3 ≤ O.room m.old }
     ensures does { Does (return_into O.names (word context) (word answer)) itself (row_state (O.table m.old) (O.head m.old) r.old) result (row_state (O.table m.new) (O.head m.new) r.new) }
     ensures room { O.room m.old ≤ O.room m.new + 3 }
+    ensures fixed { O.fixed m.new ≡ O.fixed m.old }
 {
     let left = active(m, r);
     let nil = page(m, r, PageObject::NilObject);
@@ -62,6 +64,7 @@ fn return_unless<O: Objects>(
     requires room { 16 ≤ O.room m.old }
     ensures does { Does (return_unless O.names (word context) (word answer) is_left) end_of (row_state (O.table m.old) (O.head m.old) r.old) result (row_state (O.table m.new) (O.head m.new) r.new) }
     ensures room { O.room m.old ≤ O.room m.new + 16 }
+    ensures fixed { O.fixed m.new ≡ O.fixed m.old }
 {
     if is_left {
         cannot_return(m, r, answer)
@@ -83,6 +86,7 @@ fn return_to_context<O: Objects>(
     requires room { 16 ≤ O.room m.old }
     ensures does { Does (return_to_context O.names (word context) (word answer) (word nil)) end_of (row_state (O.table m.old) (O.head m.old) r.old) result (row_state (O.table m.new) (O.head m.new) r.new) }
     ensures room { O.room m.old ≤ O.room m.new + 16 }
+    ensures fixed { O.fixed m.new ≡ O.fixed m.old }
 {
     let ip = fetch_field(m, r, context, 1)?;
     return_unless(m, r, context, answer, ip.same(nil))
@@ -101,6 +105,7 @@ fn return_unless_nil<O: Objects>(
     requires room { 16 ≤ O.room m.old }
     ensures does { Does (return_unless_nil O.names (word context) (word answer) (word nil) is_nil) end_of (row_state (O.table m.old) (O.head m.old) r.old) result (row_state (O.table m.new) (O.head m.new) r.new) }
     ensures room { O.room m.old ≤ O.room m.new + 16 }
+    ensures fixed { O.fixed m.new ≡ O.fixed m.old }
 {
     if is_nil {
         cannot_return(m, r, answer)
@@ -120,6 +125,7 @@ fn return_to<O: Objects>(
     requires room { 16 ≤ O.room m.old }
     ensures does { Does (return_to O.names (word context) (word answer)) end_of (row_state (O.table m.old) (O.head m.old) r.old) result (row_state (O.table m.new) (O.head m.new) r.new) }
     ensures room { O.room m.old ≤ O.room m.new + 16 }
+    ensures fixed { O.fixed m.new ≡ O.fixed m.old }
 {
     let nil = page(m, r, PageObject::NilObject);
     return_unless_nil(m, r, context, answer, nil, context.same(nil))
@@ -135,6 +141,7 @@ pub fn return_to_sender<O: Objects>(
     requires room { 16 ≤ O.room m.old }
     ensures does { Does (return_to_sender O.names (word answer)) end_of (row_state (O.table m.old) (O.head m.old) r.old) result (row_state (O.table m.new) (O.head m.new) r.new) }
     ensures room { O.room m.old ≤ O.room m.new + 16 }
+    ensures fixed { O.fixed m.new ≡ O.fixed m.old }
 {
     let context = home(m, r);
     let sender = fetch_field(m, r, context, 0)?;
@@ -151,6 +158,7 @@ pub fn return_to_caller<O: Objects>(
     requires room { 16 ≤ O.room m.old }
     ensures does { Does (return_to_caller O.names (word answer)) end_of (row_state (O.table m.old) (O.head m.old) r.old) result (row_state (O.table m.new) (O.head m.new) r.new) }
     ensures room { O.room m.old ≤ O.room m.new + 16 }
+    ensures fixed { O.fixed m.new ≡ O.fixed m.old }
 {
     let context = active(m, r);
     let caller = fetch_field(m, r, context, 0)?;

@@ -36,6 +36,7 @@ fn execute_not_understood<O: Objects>(
     requires room { 14 ≤ O.room m.old }
     ensures does { Does (execute_not_understood O.names (word selector) n (found_word method)) end_of (row_state (O.table m.old) (O.head m.old) r.old) result (row_state (O.table m.new) (O.head m.new) r.new) }
     ensures room { O.room m.old ≤ O.room m.new + 14 }
+    ensures fixed { O.fixed m.new ≡ O.fixed m.old }
 {
     match method {
         Some(method) => {
@@ -59,6 +60,7 @@ fn not_understood<O: Objects>(
     requires room { 14 ≤ O.room m.old }
     ensures does { Does (not_understood O.names (word class) (word selector) n) end_of (row_state (O.table m.old) (O.head m.old) r.old) result (row_state (O.table m.new) (O.head m.new) r.new) }
     ensures room { O.room m.old ≤ O.room m.new + 14 }
+    ensures fixed { O.fixed m.new ≡ O.fixed m.old }
 {
     let understand = page(m, r, PageObject::NotUnderstood);
     let method = find(m, r, class, understand)?;
@@ -79,6 +81,7 @@ fn execute_found<O: Objects>(
     requires room { 14 ≤ O.room m.old }
     ensures does { Does (execute_found O.names (word class) (word selector) n (found_word method)) end_of (row_state (O.table m.old) (O.head m.old) r.old) result (row_state (O.table m.new) (O.head m.new) r.new) }
     ensures room { O.room m.old ≤ O.room m.new + 14 }
+    ensures fixed { O.fixed m.new ≡ O.fixed m.old }
 {
     match method {
         Some(method) => execute(m, r, method, n),
@@ -99,6 +102,7 @@ fn send_from<O: Objects>(
     requires room { 14 ≤ O.room m.old }
     ensures does { Does (send_from O.names (word class) (word selector) n) end_of (row_state (O.table m.old) (O.head m.old) r.old) result (row_state (O.table m.new) (O.head m.new) r.new) }
     ensures room { O.room m.old ≤ O.room m.new + 14 }
+    ensures fixed { O.fixed m.new ≡ O.fixed m.old }
 {
     let method = find(m, r, class, selector)?;
     execute_found(m, r, class, selector, n, method)
@@ -116,6 +120,7 @@ pub fn send<O: Objects>(
     requires room { 14 ≤ O.room m.old }
     ensures does { Does (send O.names (word selector) n) end_of (row_state (O.table m.old) (O.head m.old) r.old) result (row_state (O.table m.new) (O.head m.new) r.new) }
     ensures room { O.room m.old ≤ O.room m.new + 14 }
+    ensures fixed { O.fixed m.new ≡ O.fixed m.old }
 {
     let receiver = under(m, r, n)?;
     let class = class_of(m, r, receiver)?;
@@ -145,6 +150,7 @@ pub fn send_to_super<O: Objects>(
     requires room { 14 ≤ O.room m.old }
     ensures does { Does (send_to_super O.names (word selector) n) end_of (row_state (O.table m.old) (O.head m.old) r.old) result (row_state (O.table m.new) (O.head m.new) r.new) }
     ensures room { O.room m.old ≤ O.room m.new + 14 }
+    ensures fixed { O.fixed m.new ≡ O.fixed m.old }
 {
     under(m, r, n)?;
     let class = class_above(m, r)?;
@@ -162,6 +168,7 @@ pub fn special_send<O: Objects>(
     requires room { 14 ≤ O.room m.old }
     ensures does { Does (special_send O.names k) end_of (row_state (O.table m.old) (O.head m.old) r.old) result (row_state (O.table m.new) (O.head m.new) r.new) }
     ensures room { O.room m.old ≤ O.room m.new + 14 }
+    ensures fixed { O.fixed m.new ≡ O.fixed m.old }
 {
     let selectors = page(m, r, PageObject::Selectors);
     let selector = fetch_field(m, r, selectors, 2 * k)?;
@@ -184,6 +191,7 @@ fn arithmetic_by<O: Objects>(
     requires room { 14 ≤ O.room m.old }
     ensures does { Does (arithmetic_by O.names k (word receiver)) end_of (row_state (O.table m.old) (O.head m.old) r.old) result (row_state (O.table m.new) (O.head m.new) r.new) }
     ensures room { O.room m.old ≤ O.room m.new + 14 }
+    ensures fixed { O.fixed m.new ≡ O.fixed m.old }
 {
     if receiver.is_small() {
         Ok(None)
@@ -203,6 +211,7 @@ pub fn arithmetic_send<O: Objects>(
     requires room { 14 ≤ O.room m.old }
     ensures does { Does (arithmetic_send O.names k) end_of (row_state (O.table m.old) (O.head m.old) r.old) result (row_state (O.table m.new) (O.head m.new) r.new) }
     ensures room { O.room m.old ≤ O.room m.new + 14 }
+    ensures fixed { O.fixed m.new ≡ O.fixed m.old }
 {
     let receiver = under(m, r, 1)?;
     arithmetic_by(m, r, k, receiver)

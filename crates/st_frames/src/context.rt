@@ -171,6 +171,7 @@ fn store_context_registers<O: Objects>(m: &mut O, r: &Registers) -> Result<(), D
     requires room { 2 ≤ O.room m.old }
     ensures does { Does (store_context_registers O.names) itself (row_state (O.table m.old) (O.head m.old) r.now) result (row_state (O.table m.new) (O.head m.new) r.now) }
     ensures room { O.room m.old ≤ O.room m.new + 2 }
+    ensures fixed { O.fixed m.new ≡ O.fixed m.old }
 {
     let context = active(m, r);
     let ip = stored_instruction_pointer(r);
@@ -185,6 +186,7 @@ pub fn switch<O: Objects>(m: &mut O, r: &mut Registers, context: Word) -> Result
     requires room { 2 ≤ O.room m.old }
     ensures does { Does (switch O.names (word context)) itself (row_state (O.table m.old) (O.head m.old) r.old) result (row_state (O.table m.new) (O.head m.new) r.new) }
     ensures room { O.room m.old ≤ O.room m.new + 2 }
+    ensures fixed { O.fixed m.new ≡ O.fixed m.old }
 {
     store_context_registers(m, r)?;
     fetch_context_registers(m, r, context)

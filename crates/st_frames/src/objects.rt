@@ -49,6 +49,7 @@ pub fn store_field<O: Objects>(
     requires room { 1 ≤ O.room m.old }
     ensures does { Does (store_field O.names (word o) i (word x)) itself (row_state (O.table m.old) (O.head m.old) r.now) result (row_state (O.table m.new) (O.head m.new) r.now) }
     ensures room { O.room m.old ≤ O.room m.new + 1 }
+    ensures fixed { O.fixed m.new ≡ O.fixed m.old }
 {
     m.store_field(o, i, x)
 }
@@ -67,6 +68,7 @@ pub fn transfer<O: Objects>(
     requires room { 1 ≤ O.room m.old }
     ensures does { Does (transfer O.names n (word source) from (word target) to) itself (row_state (O.table m.old) (O.head m.old) r.now) result (row_state (O.table m.new) (O.head m.new) r.now) }
     ensures room { O.room m.old ≤ O.room m.new + 1 }
+    ensures fixed { O.fixed m.new ≡ O.fixed m.old }
 {
     m.transfer(n, source, from, target, to)
 }
@@ -79,6 +81,7 @@ pub fn new_object<O: Objects>(m: &mut O, r: &Registers, class: Word, n: u32) -> 
     requires small { n ≤ 65533 }
     ensures does { Does (new_object O.names (word class) n) word (row_state (O.table m.old) (O.head m.old) r.now) result (row_state (O.table m.new) (O.head m.new) r.now) }
     ensures room { O.room m.old ≤ O.room m.new + 1 }
+    ensures fixed { O.fixed m.new ≡ O.fixed m.old }
 {
     m.new_object(class, n)
 }

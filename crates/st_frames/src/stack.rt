@@ -17,6 +17,7 @@ fn put<O: Objects>(m: &mut O, r: &Registers, context: Word, at: u32, x: Word) ->
     ensures does { Does (put O.names (word context) at (word x)) itself (row_state (O.table m.old) (O.head m.old) r.now) result (row_state (O.table m.new) (O.head m.new) r.now) }
     ensures high { OnOk result (at ≤ 16388) }
     ensures room { O.room m.old ≤ O.room m.new + 1 }
+    ensures fixed { O.fixed m.new ≡ O.fixed m.old }
 {
     let fields = count_fields(m, r, context)?;
     if fields <= at {
@@ -34,6 +35,7 @@ pub fn push<O: Objects>(m: &mut O, r: &mut Registers, x: Word) -> Result<(), Dea
     requires room { 1 ≤ O.room m.old }
     ensures does { Does (push O.names (word x)) itself (row_state (O.table m.old) (O.head m.old) r.old) result (row_state (O.table m.new) (O.head m.new) r.new) }
     ensures room { O.room m.old ≤ O.room m.new + 1 }
+    ensures fixed { O.fixed m.new ≡ O.fixed m.old }
 {
     let context = active(m, r);
     let sp = stack_pointer(m, r);

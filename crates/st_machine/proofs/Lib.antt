@@ -1,3 +1,5 @@
-pub mod Closed
 mod Settled
+mod Going
+mod Endings
+mod Foreseeing
 mod Runs

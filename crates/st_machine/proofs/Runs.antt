@@ -1,150 +1,121 @@
--- Cycles of the code are cycles over the table, and so a run shows the run over the births.
-use Rattle.std.proofs.Common.{◌≡◌, ℕ, zero, suc, ◌+◌, ◌-◌, ◌<◌, refl, ap, sym, ◌∙◌, subst, arith, add-one}
+-- Cycles over a table, one after the other, show the run over the births.
+use Rattle.std.proofs.Common.{◌≡◌, ℕ, zero, suc, ◌+◌, ◌-◌, ◌<◌, false, Ok, Err, refl, ap, sym, ◌∙◌, subst, arith}
+use Rattle.std.specs.Prelude.{length, Result, Some, None}
 use Rattle.st_model.specs.declared.dead.Dead.{Dead}
-use Rattle.st_model.specs.declared.outcome.Outcome.{Outcome}
-use Rattle.st_model.specs.declared.outcome.Outcome.TheVariants as outcome
-use Rattle.st_model.specs.Machine.{ObjectMemory, State, Transition, Died, Went}
-use Rattle.st_model.specs.Bytecodes.{step}
-use Rattle.st_model.specs.Births.{Births, births}
-use Rattle.st_model.specs.Table.{Table, table}
-use Rattle.st_model.specs.Settled.{reclaim}
-use Rattle.st_model.specs.Cycles.{ended, cycle, run, finished, counted, and_on, EndsShown}
-use Rattle.st_model.specs.Show.{Shows, IsClosed}
-use Rattle.st_model.specs.View.{View, SettlesTo, no_devices}
+use Rattle.st_model.specs.Outcomes.{Outcome, Ending, With, IsLiveOutcome, renamed_ending}
+use Rattle.st_model.specs.Outcomes as outcome
+use Rattle.st_model.specs.Machine.{State, Transition, Died, Went}
+use Rattle.st_model.specs.Births.{Births, births, pointer_of}
+use Rattle.st_model.specs.Table.{Table}
+use Rattle.st_model.specs.Cycles.{cycle, run, run_of, finished, finished_of}
+use Rattle.st_model.specs.Show.{Shows, IsUsed}
+use Rattle.st_model.specs.Foreseen.{foreseen_cycle, IsSound, EndsShown}
+use Rattle.st_model.specs.Calls.{transition_of}
 use Rattle.st_model.proofs.CyclesShown.{cycle_shown}
-use Rattle.st_frames.specs.declared.frame.Frame.{Frame}
-use Rattle.st_frames.specs.Shown.{shown, IsFrame}
-use Rattle.st_machine.specs.declared.ending.RunEnd.TheVariants as ending
-use Rattle.st_machine.specs.Runs.{EndsAs}
-use Rattle.st_machine.proofs.Settled.{settled_same}
-
-pub cycle_died : (s : State Table) (cause : Dead) → (step table).run s ≡ Died cause → cycle table s ≡ Died cause
-unfolding cycle
-cycle_died s cause e = ap (ended table s) e
-
-pub cycle_unbuilt : (s t : State Table) (code : ℕ) → (step table).run s ≡ Went (outcome.Unbuilt code) t → cycle table s ≡ Went (outcome.Unbuilt code) s
-unfolding cycle
-cycle_unbuilt s t code e = ap (ended table s) e
-
-pub cycle_went : (s : State Table) (u w : View) (f : Frame) → (step table).run s ≡ Went outcome.Went (shown u f) → IsFrame u f → u.held.devices ≡ no_devices
-    → SettlesTo u w → cycle table s ≡ Went outcome.Went (shown w f)
-unfolding cycle
-cycle_went s u w f e frame quiet r = ap (ended table s) e ∙ ap (Went outcome.Went) (settled_same u w f frame quiet r)
-
-module _ {H : Type 0} (m : ObjectMemory H) where
-  -- a run is a run of its first cycles and then one of the others
-  run_split : (k j : ℕ) (s : State H) → run m (k + j) s ≡ and_on (run m k s) (λ t. run m j t)
-  unfolding run
-  run_split zero j s = let e : 0 + j ≡ j = omega arith in ap (λ n. run m n s) e
-  run_split (suc k) j s = let e : suc k + j ≡ suc (k + j) = omega arith in ap (λ n. run m n s) e ∙ over (cycle m s) (λ t. run_split k j t)
-    where
-      over : (o : Transition (State H) Outcome) → ((t : State H) → run m (k + j) t ≡ and_on (run m k t) (λ u. run m j u))
-          → and_on o (λ t. run m (k + j) t) ≡ and_on (and_on o (λ t. run m k t)) (λ t. run m j t)
-      over (Died cause) f = refl
-      over (Went outcome.Went t) f = f t
-      over (Went (outcome.Unbuilt b) t) f = refl
-
-  run_on : (k j : ℕ) (s t : State H) → run m k s ≡ Went outcome.Went t → run m (k + j) s ≡ run m j t
-  run_on k j s t e = run_split k j s ∙ ap (λ o. and_on o (λ u. run m j u)) e
-
-  finished_on : (k j : ℕ) (s t : State H) → run m k s ≡ Went outcome.Went t → finished m (k + j) s ≡ k + finished m j t
-  unfolding run finished
-  finished_on zero j s t e = let q : s ≡ t = cc in let z : 0 + j ≡ j = omega arith in rw (z, q) (omega arith)
-  finished_on (suc k) j s t e = let z : suc k + j ≡ suc (k + j) = omega arith in ap (λ n. finished m n s) z ∙ over (cycle m s) e (λ u h. finished_on k j u t h)
-    where
-      over : (o : Transition (State H) Outcome) → and_on o (λ u. run m k u) ≡ Went outcome.Went t → ((u : State H) → run m k u ≡ Went outcome.Went t → finished m (k + j) u ≡ k + finished m j t)
-          → counted o (λ u. finished m (k + j) u) ≡ suc k + finished m j t
-      over (Died cause) h f = cc
-      over (Went outcome.Went u) h f = let a = f u h in omega (arith, a)
-      over (Went (outcome.Unbuilt b) u) h f = cc
-
-  run_one : (s : State H) → run m 1 s ≡ cycle m s
-  unfolding run
-  run_one s = one (cycle m s)
-    where
-      one : (o : Transition (State H) Outcome) → and_on o (λ t. Went outcome.Went t) ≡ o
-      one (Died cause) = refl
-      one (Went outcome.Went t) = refl
-      one (Went (outcome.Unbuilt b) t) = refl
-
-  -- a run whose first cycle ends it
-  run_ends : (j : ℕ) (s : State H) (o : Transition (State H) Outcome) → cycle m s ≡ o → ((f : State H → Transition (State H) Outcome) → and_on o f ≡ o) → run m (suc j) s ≡ o
-  unfolding run
-  run_ends j s o e stays = ap (λ x. and_on x (λ t. run m j t)) e ∙ stays (λ t. run m j t)
-
-  none_finished : (j : ℕ) (s : State H) (o : Transition (State H) Outcome) → cycle m s ≡ o → ((f : State H → ℕ) → counted o f ≡ 0) → finished m (suc j) s ≡ 0
-  unfolding finished
-  none_finished j s o e stays = ap (λ x. counted x (λ t. finished m j t)) e ∙ stays (λ t. finished m j t)
+use Rattle.st_machine.specs.declared.cycling.CycleEnd.{CycleEnd}
+use Rattle.st_machine.specs.declared.ending.RunEnd.{RunEnd}
+use Rattle.st_machine.specs.declared.ending.RunEnd.TheVariants as run_ends
+use Rattle.st_machine.specs.Runs.{EndsAs, ending_of, run_end, transition_at, cycles_of}
+use Rattle.st_machine.proofs.Endings.{goes_on, cycles_in, renamed_goes, renamed_cycles, run_on, finished_on, run_stops, run_dies, finished_stops, finished_dies, Stops, StopsOrDies, run_end_stops, run_end_goes}
+use Rattle.st_machine.proofs.Foreseeing.{only_went}
 
 -- the births' run so far went, and what it left is shown
 pub record SoFar (k : ℕ) (s : State Births) (c : State Table) : Type 0 where
   pub state : State Births
-  pub ran : run births k s ≡ Went outcome.Went state
+  pub ran : run births k s ≡ Went (With outcome.Went) state
   pub shows : Shows c state
 
 pub none_so_far : (s : State Births) (c : State Table) → Shows c s → SoFar 0 s c
-unfolding run
+unfolding run run_of
 none_so_far s c h = record { state = s; ran = refl; shows = h }
 
-module _ (k : ℕ) (s : State Births) (c : State Table) (far : SoFar k s c) where
+module _ (k : ℕ) (s : State Births) (c : State Table) (places : length c.memory ≡ 32768) (far : SoFar k s c) where
   -- the births' next cycle is shown by the table's
-  shown_next : ((d : State Table) → cycle table c ≡ Went outcome.Went d → IsClosed d) → EndsShown (cycle table c) (cycle births far.state)
-  shown_next closed = cycle_shown c far.state far.shows closed
+  shown_next : (o : Transition (State Table) Ending) → foreseen_cycle c ≡ o → ((e : Outcome) (x : State Table) → o ≡ Went (With e) x → IsSound x) → EndsShown o (cycle births far.state)
+  shown_next o e sound =
+      subst (λ x. EndsShown x (cycle births far.state)) e
+      (cycle_shown c far.state far.shows places (λ p x q. (sound p x (sym e ∙ q), subst (λ y. IsLiveOutcome (IsUsed x.memory) y) (sym (only_went c p x q)) tt)))
 
-  went_shown : (d : State Table) (o : Transition (State Births) Outcome) → EndsShown (Went outcome.Went d) o → (u : State Births) × (o ≡ Went outcome.Went u) × Shows d u
-  went_shown d (Died b) h = absurd h
-  went_shown d (Went outcome.Went u) h = (u, refl, h.1)
-  went_shown d (Went (outcome.Unbuilt b) u) h = let e = h.0 in cc
+  sound_of : (a : Ending) (d : State Table) → IsSound d → (e : Outcome) (x : State Table) → Went a d ≡ Went (With e) x → IsSound x
+  sound_of a d sound e x q = let same : d ≡ x = cc in subst (λ y. IsSound y) same sound
 
-  pub one_more : (d : State Table) → cycle table c ≡ Went outcome.Went d → IsClosed d → SoFar (k + 1) s d
-  one_more d e closed =
-      let only : (x : State Table) → cycle table c ≡ Went outcome.Went x → IsClosed x = λ x q. let same : d ≡ x = cc in subst (λ y. IsClosed y) same closed in
-      let next = went_shown d (cycle births far.state) (subst (λ x. EndsShown x (cycle births far.state)) e (shown_next only)) in
-      record { state = next.0; ran = run_on births k 1 s far.state far.ran ∙ (run_one births far.state ∙ next.1); shows = next.2 }
+  ended_shown : (a : Ending) (d : State Table) (o : Transition (State Births) Ending) → EndsShown (Went a d) o
+      → (b : Ending) × (u : State Births) × (o ≡ Went b u) × (a ≡ renamed_ending (pointer_of u.memory) b) × Shows d u
+  ended_shown a d (Died cause) h = absurd h
+  ended_shown a d (Went b u) h = (b, u, refl, h.0, h.1)
 
-  died_shown : (cause : Dead) (o : Transition (State Births) Outcome) → EndsShown (Died cause) o → o ≡ Died cause
-  died_shown cause (Died b) h = ap (λ x. Died x) (sym h)
-  died_shown cause (Went a u) h = absurd h
+  only_goes : (f : ℕ → ℕ) (b : Ending) → With outcome.Went ≡ renamed_ending f b → b ≡ With outcome.Went
+  only_goes f (With outcome.Went) e = refl
+  only_goes f (With outcome.Snapshot) e = cc
+  only_goes f (With outcome.Quit) e = cc
+  only_goes f (With outcome.Debugger) e = cc
+  only_goes f (With (outcome.Say v)) e = cc
+  only_goes f (outcome.Space demand left) e = cc
+  only_goes f (outcome.Unbuilt code) e = cc
+
+  one_cycle : (u : State Births) → cycle births far.state ≡ Went (With outcome.Went) u → run_of (cycle births) 1 far.state ≡ Went (With outcome.Went) u
+  unfolding run_of
+  one_cycle u e = rw e refl
+
+  one_more : (d : State Table) → foreseen_cycle c ≡ Went (With outcome.Went) d → IsSound d → SoFar (k + 1) s d
+  unfolding run
+  one_more d e sound =
+      let next = ended_shown (With outcome.Went) d (cycle births far.state) (shown_next (Went (With outcome.Went) d) e (sound_of (With outcome.Went) d sound)) in
+      let went : cycle births far.state ≡ Went (With outcome.Went) next.1 = next.2 ∙ ap (λ x. Went x next.1) (only_goes (pointer_of next.1.memory) next.0 next.3) in
+      record { state = next.1; ran = run_on (cycle births) k 1 s far.state far.ran ∙ one_cycle next.1 went; shows = next.4 }
 
   split : (n : ℕ) → k < n → n ≡ k + suc (n - suc k)
   split n l = omega arith
 
-  pub dies : (n : ℕ) (cause : Dead) (d : State Table) → k < n → cycle table c ≡ Died cause → EndsAs n s (ending.Dead k cause) d
+  stops : (n : ℕ) (x : Result CycleEnd Dead) (e : RunEnd) (a : Ending) (d : State Table) → k < n → foreseen_cycle c ≡ transition_of ending_of x d → Stops x k e d a → IsSound d → EndsAs n s e d
+  unfolding run finished
+  stops n x e a d l q t sound =
+      let r = q ∙ t.ended in
+      let next = ended_shown a d (cycle births far.state) (shown_next (Went a d) r (sound_of a d sound)) in
+      let b = next.0 in
+      let u = next.1 in
+      let goes : goes_on b ≡ false = sym (renamed_goes (pointer_of u.memory) b) ∙ (sym (ap goes_on next.3) ∙ t.goes) in
+      let cycles : cycles_in b ≡ cycles_in a = sym (renamed_cycles (pointer_of u.memory) b) ∙ sym (ap cycles_in next.3) in
+      let j = n - suc k in
+      let last : run_of (cycle births) (k + suc j) s ≡ Went b u = run_on (cycle births) k (suc j) s far.state far.ran ∙ run_stops (cycle births) j far.state u b next.2 goes in
+      let count : finished_of (cycle births) (k + suc j) s ≡ k + cycles_in a =
+      finished_on (cycle births) k (suc j) s far.state far.ran ∙ ap (λ i. k + i) (finished_stops (cycle births) j far.state u b next.2 goes ∙ cycles) in
+      let shown : EndsShown (transition_at e d) (Went b u) = subst (λ y. EndsShown y (Went b u)) (sym t.same) (next.3, next.4) in
+      record {
+        ends = subst (λ y. EndsShown (transition_at e d) y) (sym (ap (λ i. run_of (cycle births) i s) (split n l) ∙ last)) shown;
+        count = ap (λ i. finished_of (cycle births) i s) (split n l) ∙ (count ∙ sym (t.count n));
+      }
+
+  died_shown : (cause : Dead) (o : Transition (State Births) Ending) → EndsShown (Died cause) o → o ≡ Died cause
+  died_shown cause (Died b) h = ap (λ x. Died x) (sym h)
+  died_shown cause (Went a u) h = absurd h
+
+  dies : (n : ℕ) (cause : Dead) (d : State Table) → k < n → foreseen_cycle c ≡ Died cause → EndsAs n s (run_ends.Dead k cause) d
+  unfolding run finished
   dies n cause d l e =
-      let only : (x : State Table) → cycle table c ≡ Went outcome.Went x → IsClosed x = λ x q. absurd (cc) in
-      let died = died_shown cause (cycle births far.state) (subst (λ x. EndsShown x (cycle births far.state)) e (shown_next only)) in
+      let died = died_shown cause (cycle births far.state) (shown_next (Died cause) e (λ p x q. absurd (cc))) in
       let j = n - suc k in
-      let last = run_on births k (suc j) s far.state far.ran ∙ run_ends births j far.state (Died cause) died (λ f. refl) in
-      let none = none_finished births j far.state (Died cause) died (λ f. refl) in
-      let count = finished_on births k (suc j) s far.state far.ran in
+      let last : run_of (cycle births) (k + suc j) s ≡ Died cause = run_on (cycle births) k (suc j) s far.state far.ran ∙ run_dies (cycle births) j far.state cause died in
+      let none = finished_dies (cycle births) j far.state cause died in
+      let count : finished_of (cycle births) (k + suc j) s ≡ k + finished_of (cycle births) (suc j) far.state = finished_on (cycle births) k (suc j) s far.state far.ran in
       record {
-        ends = subst (λ o. EndsShown (Died cause) o) (sym (ap (λ x. run births x s) (split n l) ∙ last)) refl;
-        count = ap (λ x. finished births x s) (split n l) ∙ (count ∙ omega (arith, none));
+        ends = subst (λ o. EndsShown (Died cause) o) (sym (ap (λ i. run_of (cycle births) i s) (split n l) ∙ last)) refl;
+        count = ap (λ i. finished_of (cycle births) i s) (split n l) ∙ (count ∙ omega (arith, none));
       }
 
-  unbuilt_shown : (code : ℕ) (d : State Table) (o : Transition (State Births) Outcome) → EndsShown (Went (outcome.Unbuilt code) d) o → (u : State Births) × (o ≡ Went (outcome.Unbuilt code) u) × Shows d u
-  unbuilt_shown code d (Died b) h = absurd h
-  unbuilt_shown code d (Went a u) h = (u, ap (λ x. Went x u) (sym h.0), h.1)
+  pub ends_here : (n : ℕ) (x : Result CycleEnd Dead) (e : RunEnd) (d : State Table) → k < n → foreseen_cycle c ≡ transition_of ending_of x d → run_end x k ≡ Some e → IsSound d → EndsAs n s e d
+  ends_here n (Ok end) e d l q h sound = stops n (Ok end) e (ending_of end) d l q (run_end_stops k d (Ok end) e h) sound
+  ends_here n (Err cause) e d l q h sound = subst (λ y. EndsAs n s y d) (sym (run_end_stops k d (Err cause) e h)) (dies n cause d l q)
 
-  pub stops : (n code : ℕ) (d : State Table) → k < n → cycle table c ≡ Went (outcome.Unbuilt code) d → EndsAs n s (ending.Unbuilt k code) d
-  stops n code d l e =
-      let only : (x : State Table) → cycle table c ≡ Went outcome.Went x → IsClosed x = λ x q. absurd (cc) in
-      let next = unbuilt_shown code d (cycle births far.state) (subst (λ x. EndsShown x (cycle births far.state)) e (shown_next only)) in
-      let j = n - suc k in
-      let last = run_on births k (suc j) s far.state far.ran ∙ run_ends births j far.state (Went (outcome.Unbuilt code) next.0) next.1 (λ f. refl) in
-      let none = none_finished births j far.state (Went (outcome.Unbuilt code) next.0) next.1 (λ f. refl) in
-      let count = finished_on births k (suc j) s far.state far.ran in
-      record {
-        ends = subst (λ o. EndsShown (Went (outcome.Unbuilt code) d) o) (sym (ap (λ x. run births x s) (split n l) ∙ last)) (refl, next.2);
-        count = ap (λ x. finished births x s) (split n l) ∙ (count ∙ omega (arith, none));
-      }
+  pub goes_further : (x : Result CycleEnd Dead) (d : State Table) → foreseen_cycle c ≡ transition_of ending_of x d → run_end x k ≡ None → IsSound d → SoFar (k + 1) s d
+  goes_further x d q h sound = one_more d (q ∙ run_end_goes k d x h) sound
 
-  pub ran_all : EndsAs k s ending.Ran c
-  unfolding finished
-  ran_all =
-      let z : k + 0 ≡ k = omega arith in
-      let count = finished_on births k 0 s far.state far.ran in
-      record {
-        ends = subst (λ o. EndsShown (Went outcome.Went c) o) (sym far.ran) (refl, far.shows);
-        count = ap (λ x. finished births x s) (sym z) ∙ (count ∙ omega arith);
-      }
+pub ran_all : (k : ℕ) (s : State Births) (c : State Table) → SoFar k s c → EndsAs k s run_ends.Ran c
+unfolding run finished finished_of
+ran_all k s c far =
+    let z : k + 0 ≡ k = omega arith in
+    let count = finished_on (cycle births) k 0 s far.state far.ran in
+    record {
+      ends = subst (λ o. EndsShown (Went (With outcome.Went) c) o) (sym far.ran) (refl, far.shows);
+      count = ap (λ i. finished_of (cycle births) i s) (sym z) ∙ (count ∙ omega arith);
+    }

@@ -1,33 +1,61 @@
 -- What a run of the code stands for.
-use Rattle.std.specs.Prelude.{◌≡◌, ℕ, ⊤}
-use Rattle.st_model.specs.declared.outcome.Outcome.{Outcome}
-use Rattle.st_model.specs.declared.outcome.Outcome.TheVariants as outcome
+use Rattle.std.specs.Prelude.{◌≡◌, ℕ, ◌+◌, Result, Ok, Err, Option, Some, None, suc}
+use Rattle.st_model.specs.declared.dead.Dead.{Dead}
+use Rattle.st_model.specs.declared.outcome.Outcome.TheVariants as code_outcome
+use Rattle.st_model.specs.Values.{value}
+use Rattle.st_model.specs.Outcomes.{Ending, With, Space, Unbuilt, outcome_of}
+use Rattle.st_model.specs.Outcomes as outcome
 use Rattle.st_model.specs.Machine.{State, Transition, Died, Went}
 use Rattle.st_model.specs.Births.{Births, births}
 use Rattle.st_model.specs.Table.{Table}
-use Rattle.st_model.specs.Cycles.{run, finished, EndsShown}
+use Rattle.st_model.specs.Cycles.{run, finished}
+use Rattle.st_model.specs.Foreseen.{EndsShown}
+use Rattle.st_machine.specs.declared.cycling.CycleEnd.{CycleEnd}
+use Rattle.st_machine.specs.declared.cycling.CycleEnd.TheVariants as cycle_end
 use Rattle.st_machine.specs.declared.ending.RunEnd.{RunEnd}
-use Rattle.st_machine.specs.declared.ending.RunEnd.TheVariants.{Ran, Dead, Unbuilt}
+use Rattle.st_machine.specs.declared.ending.RunEnd.TheVariants as run_ends
+
+-- the ending that the end of a cycle stands for
+abbrev pub ending_of : CycleEnd → Ending
+ending_of (cycle_end.With o) = With (outcome_of o)
+ending_of (cycle_end.Space demand left) = Space demand left
+ending_of (cycle_end.Unbuilt code) = Unbuilt code
+
+-- The end of a run after a cycle that ended so, where the run doesn't go on. The cycles before it are counted, and a cycle
+-- that asks for something besides counts too.
+abbrev pub run_end : Result CycleEnd Dead → ℕ → Option RunEnd
+run_end (Ok (cycle_end.With code_outcome.Went)) done = None
+run_end (Ok (cycle_end.With code_outcome.Snapshot)) done = Some (run_ends.Snapshot (done + 1))
+run_end (Ok (cycle_end.With (code_outcome.Say o))) done = Some (run_ends.Say (done + 1) o)
+run_end (Ok (cycle_end.With code_outcome.Quit)) done = Some (run_ends.Quit (done + 1))
+run_end (Ok (cycle_end.With code_outcome.Debugger)) done = Some (run_ends.Debugger (done + 1))
+run_end (Ok (cycle_end.Space demand left)) done = Some (run_ends.Space done demand left.entries left.words)
+run_end (Ok (cycle_end.Unbuilt code)) done = Some (run_ends.Unbuilt done code)
+run_end (Err cause) done = Some (run_ends.Dead done cause)
 
 -- the transition that a run's end stands for, with the state that is shown then
-abbrev pub transition_at : RunEnd → State Table → Transition (State Table) Outcome
-transition_at Ran c = Went outcome.Went c
-transition_at (Dead done cause) c = Died cause
-transition_at (Unbuilt done code) c = Went (outcome.Unbuilt code) c
+abbrev pub transition_at : RunEnd → State Table → Transition (State Table) Ending
+transition_at run_ends.Ran c = Went (With outcome.Went) c
+transition_at (run_ends.Space done demand entries words) c = Went (Space demand (record { entries = entries; words = words })) c
+transition_at (run_ends.Snapshot done) c = Went (With outcome.Snapshot) c
+transition_at (run_ends.Say done o) c = Went (With (outcome.Say (value o))) c
+transition_at (run_ends.Quit done) c = Went (With outcome.Quit) c
+transition_at (run_ends.Debugger done) c = Went (With outcome.Debugger) c
+transition_at (run_ends.Dead done cause) c = Died cause
+transition_at (run_ends.Unbuilt done code) c = Went (Unbuilt code) c
 
 -- of n cycles, those that the end says are finished
 abbrev pub cycles_of : ℕ → RunEnd → ℕ
-cycles_of n Ran = n
-cycles_of n (Dead done cause) = done
-cycles_of n (Unbuilt done code) = done
+cycles_of n run_ends.Ran = n
+cycles_of n (run_ends.Space done demand entries words) = done
+cycles_of n (run_ends.Snapshot done) = done
+cycles_of n (run_ends.Say done o) = done
+cycles_of n (run_ends.Quit done) = done
+cycles_of n (run_ends.Debugger done) = done
+cycles_of n (run_ends.Dead done cause) = done
+cycles_of n (run_ends.Unbuilt done code) = done
 
 -- n cycles of the book's machine from s end so, with as many finished
 pub record EndsAs (n : ℕ) (s : State Births) (e : RunEnd) (c : State Table) : Type 0 where
   pub ends : EndsShown (transition_at e c) (run births n s)
   pub count : finished births n s ≡ cycles_of n e
-
--- the fact holds where the machine isn't dead
-abbrev pub OnAlive : RunEnd → Type 0 → Type 0
-OnAlive Ran fact = fact
-OnAlive (Dead done cause) fact = ⊤
-OnAlive (Unbuilt done code) fact = fact

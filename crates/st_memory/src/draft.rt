@@ -37,6 +37,7 @@ impl<'a, M: Memory> Draft<'a, M> {
     pub fn new(base: &'a M) -> Draft<'a, M>
         ensures table { draft_table (M.view result.base.now).objects result.made result.made_count result.changes result.count ≡ (M.view base.now).objects }
         ensures head { (M.view result.base.now).head ≡ (M.view base.now).head }
+        ensures fixed { M.view result.base.now ≡ M.view base.now }
         ensures room { 24 - (result.made_count + result.count) ≡ 24 }
     {
         let none = Made {
@@ -191,6 +192,7 @@ impl<'a, M: Memory> Draft<'a, M> {
         requires closed { AllThere (after_change (draft_table (M.view self.old.base.now).objects self.old.made self.old.made_count self.old.changes self.old.count) change) }
         ensures table { draft_table (M.view self.new.base.now).objects self.new.made self.new.made_count self.new.changes self.new.count ≡ after_change (draft_table (M.view self.old.base.now).objects self.old.made self.old.made_count self.old.changes self.old.count) change }
         ensures head { (M.view self.new.base.now).head ≡ (M.view self.old.base.now).head }
+        ensures fixed { M.view self.new.base.now ≡ M.view self.old.base.now }
         ensures room { self.new.made_count + self.new.count ≡ self.old.made_count + self.old.count + 1 }
     {
         self.changes[self.count as usize] = change;
@@ -238,6 +240,8 @@ impl<'a, M: Memory> Objects for Draft<'a, M> {
     ghost table = { λ d. draft_table (M.view d.base.now).objects d.made d.made_count d.changes d.count };
 
     ghost head = { λ d. (M.view d.base.now).head };
+
+    ghost fixed = { λ d. M.view d.base.now };
 
     ghost room = { λ d. 24 - (d.made_count + d.count) };
 

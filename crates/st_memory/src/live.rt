@@ -1,4 +1,4 @@
-ghost use Rattle.std.specs.Prelude.{◌≡◌, ◌+◌, ◌≤◌, ℕ, true, false, IfOk, IfErr, IfSome, IfNone};
+ghost use Rattle.std.specs.Prelude.{◌≡◌, ◌+◌, ◌≤◌, ℕ, [], true, false, IfOk, IfErr, IfSome, IfNone};
 ghost use Rattle.st_model.specs.Values.{value, word};
 ghost use Rattle.st_model.specs.Table.{table, bounded_table};
 ghost use Rattle.st_model.specs.Machine.{is_there};
@@ -83,6 +83,8 @@ impl<M: Memory> Objects for M {
     ghost table = { λ m. (M.view m).objects };
 
     ghost head = { λ m. (M.view m).head };
+
+    ghost fixed = { λ m. record { objects = []; held = (M.view m).held; head = (M.view m).head } };
 
     ghost room = { λ m. 24 };
 

@@ -8,6 +8,7 @@ ghost use Rattle.st_model.specs.Steps.{fetch_field, count_fields, class_of, lite
 ghost use Rattle.st_model.specs.Methods.{method_header, literal_from_last};
 ghost use Rattle.st_model.specs.Lookup.{half_word};
 ghost use Rattle.st_model.specs.Calls.{Reads, Changes, itself};
+ghost use Rattle.st_model.specs.View.{View};
 
 use st_model::{Dead, Word};
 
@@ -22,6 +23,9 @@ pub trait Objects {
 
     /// The capacities, and the tables of names.
     ghost head: { Self → Head };
+
+    /// What stays as it is: what a memory has besides its objects, or the whole memory that a draft stands over.
+    ghost fixed: { Self → View };
 
     /// How many more changes it can take.
     ghost room: { Self → ℕ };
@@ -69,7 +73,8 @@ pub trait Objects {
         requires { 1 ≤ room self.old }
         ensures stores { Changes (store_field names (word o) i (word x)) itself (table self.old) (head self.old) result (table self.new) }
         ensures head { head self.new ≡ head self.old }
-        ensures room { room self.old ≤ room self.new + 1 };
+        ensures room { room self.old ≤ room self.new + 1 }
+        ensures fixed { fixed self.new ≡ fixed self.old };
 
     /// Stores n fields of one object in fields of another, once all of them are fetched.
     fn transfer(
@@ -83,7 +88,8 @@ pub trait Objects {
         requires { 1 ≤ room self.old }
         ensures transfers { Changes (transfer names n (word source) from (word target) to) itself (table self.old) (head self.old) result (table self.new) }
         ensures head { head self.new ≡ head self.old }
-        ensures room { room self.old ≤ room self.new + 1 };
+        ensures room { room self.old ≤ room self.new + 1 }
+        ensures fixed { fixed self.new ≡ fixed self.old };
 
     /// A new object of kind Pointers with n fields of nil. Its class isn't CompiledMethod.
     fn new_object(&mut self, class: Word, n: u32) -> Result<Word, Dead>
@@ -92,7 +98,8 @@ pub trait Objects {
         requires small { n ≤ 65533 }
         ensures makes { Changes (new_object names (word class) n) word (table self.old) (head self.old) result (table self.new) }
         ensures head { head self.new ≡ head self.old }
-        ensures room { room self.old ≤ room self.new + 1 };
+        ensures room { room self.old ≤ room self.new + 1 }
+        ensures fixed { fixed self.new ≡ fixed self.old };
 
     /// It reads and changes objects as a table does.
     ghost tabular: { IsTabular names };

@@ -1,11 +1,12 @@
 -- What a plan of the next bytecode says.
-use Rattle.std.specs.Prelude.{◌≡◌, ◌+◌, Option, Some, None, Result, Ok, Err}
+use Rattle.std.specs.Prelude.{◌≡◌, ◌+◌, Option, Some, None, Result, Ok, Err, ⊤, false}
 use Rattle.st_model.specs.declared.demand.Demand.{Demand}
 use Rattle.st_model.specs.declared.halt.Halt.{Halt}
 use Rattle.st_model.specs.declared.halt.Halt.TheVariants as halt
 use Rattle.st_model.specs.Outcomes.{Outcome}
-use Rattle.st_model.specs.Machine.{State, Transition, Died, Went, used}
+use Rattle.st_model.specs.Machine.{State, Transition, Died, Went, used, is_over}
 use Rattle.st_model.specs.Table.{Table, apart}
+use Rattle.st_model.specs.Bytecodes.{step}
 
 abbrev pub plus : Demand → Demand → Demand
 plus d e = record { entries = d.entries + e.entries; words = d.words + e.words }
@@ -21,3 +22,10 @@ Plans before (Went None c) (Err (halt.Dead b)) = ⊥
 Plans before (Went None c) (Ok d) = ⊥
 Plans before (Went (Some o) c) (Ok d) = used apart c.memory ≡ plus before d
 Plans before (Went (Some o) c) (Err h) = ⊥
+
+-- The next bytecode was foreseen from this state, and the capacities have room for what it makes.
+pub record IsForeseen (c : State Table) : Type 0 where
+  pub outcome : Outcome
+  pub after : State Table
+  pub goes : (step apart).run c ≡ Went (Some outcome) after
+  pub fits : is_over (used apart after.memory) c.head ≡ false

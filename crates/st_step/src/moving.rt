@@ -17,6 +17,7 @@ pub fn push_operand<O: Objects>(m: &mut O, r: &mut Registers, operand: Operand) 
     requires room { 1 ≤ O.room m.old }
     ensures does { Does (push_operand O.names operand) itself (row_state (O.table m.old) (O.head m.old) r.old) result (row_state (O.table m.new) (O.head m.new) r.new) }
     ensures room { O.room m.old ≤ O.room m.new + 1 }
+    ensures fixed { O.fixed m.new ≡ O.fixed m.old }
 {
     let x = fetch_operand(m, r, operand)?;
     push(m, r, x)
@@ -29,6 +30,7 @@ pub fn store_and_pop<O: Objects>(m: &mut O, r: &mut Registers, operand: Operand)
     requires room { 1 ≤ O.room m.old }
     ensures does { Does (store_and_pop O.names operand) itself (row_state (O.table m.old) (O.head m.old) r.old) result (row_state (O.table m.new) (O.head m.new) r.new) }
     ensures room { O.room m.old ≤ O.room m.new + 1 }
+    ensures fixed { O.fixed m.new ≡ O.fixed m.old }
 {
     let x = pop(m, r)?;
     store_operand(m, r, operand, x)
@@ -40,6 +42,7 @@ pub fn push_receiver<O: Objects>(m: &mut O, r: &mut Registers) -> Result<(), Dea
     requires room { 1 ≤ O.room m.old }
     ensures does { Does (push_receiver O.names) itself (row_state (O.table m.old) (O.head m.old) r.old) result (row_state (O.table m.new) (O.head m.new) r.new) }
     ensures room { O.room m.old ≤ O.room m.new + 1 }
+    ensures fixed { O.fixed m.new ≡ O.fixed m.old }
 {
     let x = receiver(m, r);
     push(m, r, x)
@@ -47,10 +50,15 @@ pub fn push_receiver<O: Objects>(m: &mut O, r: &mut Registers) -> Result<(), Dea
 
 /// Pushes a constant.
 #[tactic(auto, using(st_frames::proofs::Doing::rows), unfolding(st_model::specs::Bytecodes::push_constant))]
-pub fn push_constant<O: Objects>(m: &mut O, r: &mut Registers, constant: Constant) -> Result<(), Dead>
+pub fn push_constant<O: Objects>(
+    m: &mut O,
+    r: &mut Registers,
+    constant: Constant,
+) -> Result<(), Dead>
     requires room { 1 ≤ O.room m.old }
     ensures does { Does (push_constant O.names constant) itself (row_state (O.table m.old) (O.head m.old) r.old) result (row_state (O.table m.new) (O.head m.new) r.new) }
     ensures room { O.room m.old ≤ O.room m.new + 1 }
+    ensures fixed { O.fixed m.new ≡ O.fixed m.old }
 {
     let x = constant_value(m, r, constant);
     push(m, r, x)
@@ -62,6 +70,7 @@ pub fn extended_push<O: Objects>(m: &mut O, r: &mut Registers) -> Result<(), Dea
     requires room { 1 ≤ O.room m.old }
     ensures does { Does (extended_push O.names) itself (row_state (O.table m.old) (O.head m.old) r.old) result (row_state (O.table m.new) (O.head m.new) r.new) }
     ensures room { O.room m.old ≤ O.room m.new + 1 }
+    ensures fixed { O.fixed m.new ≡ O.fixed m.old }
 {
     let byte = next_byte(m, r)?;
     push_operand(m, r, extended_operand(byte))
@@ -73,6 +82,7 @@ pub fn extended_store<O: Objects>(m: &mut O, r: &mut Registers) -> Result<(), De
     requires room { 1 ≤ O.room m.old }
     ensures does { Does (extended_store O.names) itself (row_state (O.table m.old) (O.head m.old) r.old) result (row_state (O.table m.new) (O.head m.new) r.new) }
     ensures room { O.room m.old ≤ O.room m.new + 1 }
+    ensures fixed { O.fixed m.new ≡ O.fixed m.old }
 {
     let byte = next_byte(m, r)?;
     let x = top(m, r)?;
@@ -85,6 +95,7 @@ pub fn extended_store_and_pop<O: Objects>(m: &mut O, r: &mut Registers) -> Resul
     requires room { 1 ≤ O.room m.old }
     ensures does { Does (extended_store_and_pop O.names) itself (row_state (O.table m.old) (O.head m.old) r.old) result (row_state (O.table m.new) (O.head m.new) r.new) }
     ensures room { O.room m.old ≤ O.room m.new + 1 }
+    ensures fixed { O.fixed m.new ≡ O.fixed m.old }
 {
     let byte = next_byte(m, r)?;
     store_and_pop(m, r, extended_operand(byte))
@@ -105,6 +116,7 @@ pub fn duplicate_top<O: Objects>(m: &mut O, r: &mut Registers) -> Result<(), Dea
     requires room { 1 ≤ O.room m.old }
     ensures does { Does (duplicate_top O.names) itself (row_state (O.table m.old) (O.head m.old) r.old) result (row_state (O.table m.new) (O.head m.new) r.new) }
     ensures room { O.room m.old ≤ O.room m.new + 1 }
+    ensures fixed { O.fixed m.new ≡ O.fixed m.old }
 {
     let x = top(m, r)?;
     push(m, r, x)
@@ -116,6 +128,7 @@ pub fn push_active_context<O: Objects>(m: &mut O, r: &mut Registers) -> Result<(
     requires room { 1 ≤ O.room m.old }
     ensures does { Does (push_active_context O.names) itself (row_state (O.table m.old) (O.head m.old) r.old) result (row_state (O.table m.new) (O.head m.new) r.new) }
     ensures room { O.room m.old ≤ O.room m.new + 1 }
+    ensures fixed { O.fixed m.new ≡ O.fixed m.old }
 {
     let context = active(m, r);
     push(m, r, context)
@@ -149,4 +162,3 @@ pub fn long_unconditional_jump<O: Objects>(m: &O, r: &mut Registers, i: u8) -> R
     let byte = next_byte(m, r)?;
     jump(m, r, long_offset(i, byte))
 }
-

@@ -5,7 +5,9 @@ ghost use Rattle.st_model.specs.Bytecodes.{fetch_receiver_variable, fetch_tempor
 ghost use Rattle.st_model.specs.Calls.{Does, itself};
 ghost use Rattle.st_frames.specs.Rows.{row_state};
 
-use st_frames::{Registers, fetch_field, home, literal, method, page, receiver, small, store_field};
+use st_frames::{
+    Registers, fetch_field, home, literal, method, page, receiver, small, store_field,
+};
 use st_memory::Objects;
 use st_model::{Constant, Dead, Operand, PageObject, Word};
 
@@ -62,10 +64,16 @@ pub fn fetch_operand<O: Objects>(m: &O, r: &Registers, operand: Operand) -> Resu
 
 /// Stores x in field i of the receiver.
 #[tactic(auto, using(st_frames::proofs::Doing::rows), unfolding(st_model::specs::Bytecodes::store_receiver_variable))]
-fn store_receiver_variable<O: Objects>(m: &mut O, r: &Registers, i: u32, x: Word) -> Result<(), Dead>
+fn store_receiver_variable<O: Objects>(
+    m: &mut O,
+    r: &Registers,
+    i: u32,
+    x: Word,
+) -> Result<(), Dead>
     requires room { 1 ≤ O.room m.old }
     ensures does { Does (store_receiver_variable O.names i (word x)) itself (row_state (O.table m.old) (O.head m.old) r.now) result (row_state (O.table m.new) (O.head m.new) r.now) }
     ensures room { O.room m.old ≤ O.room m.new + 1 }
+    ensures fixed { O.fixed m.new ≡ O.fixed m.old }
 {
     let object = receiver(m, r);
     store_field(m, r, object, i, x)
@@ -73,11 +81,17 @@ fn store_receiver_variable<O: Objects>(m: &mut O, r: &Registers, i: u32, x: Word
 
 /// Stores x in temporary variable i of the home context.
 #[tactic(auto, using(st_frames::proofs::Doing::rows), unfolding(st_model::specs::Bytecodes::store_temporary_variable))]
-fn store_temporary_variable<O: Objects>(m: &mut O, r: &Registers, i: u32, x: Word) -> Result<(), Dead>
+fn store_temporary_variable<O: Objects>(
+    m: &mut O,
+    r: &Registers,
+    i: u32,
+    x: Word,
+) -> Result<(), Dead>
     requires number { i < 64 }
     requires room { 1 ≤ O.room m.old }
     ensures does { Does (store_temporary_variable O.names i (word x)) itself (row_state (O.table m.old) (O.head m.old) r.now) result (row_state (O.table m.new) (O.head m.new) r.now) }
     ensures room { O.room m.old ≤ O.room m.new + 1 }
+    ensures fixed { O.fixed m.new ≡ O.fixed m.old }
 {
     let context = home(m, r);
     store_field(m, r, context, 6 + i, x)
@@ -89,6 +103,7 @@ fn store_literal_variable<O: Objects>(m: &mut O, r: &Registers, i: u32, x: Word)
     requires room { 1 ≤ O.room m.old }
     ensures does { Does (store_literal_variable O.names i (word x)) itself (row_state (O.table m.old) (O.head m.old) r.now) result (row_state (O.table m.new) (O.head m.new) r.now) }
     ensures room { O.room m.old ≤ O.room m.new + 1 }
+    ensures fixed { O.fixed m.new ≡ O.fixed m.old }
 {
     let association = fetch_literal_constant(m, r, i)?;
     store_field(m, r, association, 1, x)
@@ -96,11 +111,17 @@ fn store_literal_variable<O: Objects>(m: &mut O, r: &Registers, i: u32, x: Word)
 
 /// Stores x in what an operand names. Dead of an unused code where that is a literal constant.
 #[tactic(auto, using(st_frames::proofs::Doing::rows), unfolding(st_model::specs::Bytecodes::store_operand))]
-pub fn store_operand<O: Objects>(m: &mut O, r: &Registers, operand: Operand, x: Word) -> Result<(), Dead>
+pub fn store_operand<O: Objects>(
+    m: &mut O,
+    r: &Registers,
+    operand: Operand,
+    x: Word,
+) -> Result<(), Dead>
     requires numbered { IsNumberedOperand operand }
     requires room { 1 ≤ O.room m.old }
     ensures does { Does (store_operand O.names operand (word x)) itself (row_state (O.table m.old) (O.head m.old) r.now) result (row_state (O.table m.new) (O.head m.new) r.now) }
     ensures room { O.room m.old ≤ O.room m.new + 1 }
+    ensures fixed { O.fixed m.new ≡ O.fixed m.old }
 {
     match operand {
         Operand::ReceiverVariable(i) => store_receiver_variable(m, r, u32::from(i), x),

@@ -6,8 +6,16 @@ ghost use Rattle.st_model.specs.Bytecodes.{bytecode, step};
 ghost use Rattle.st_model.specs.Calls.{Does};
 ghost use Rattle.st_frames.specs.Rows.{row_state};
 
-use crate::moving::{duplicate_top, extended_push, extended_store, extended_store_and_pop, long_unconditional_jump, pop_stack, push_active_context, push_constant, push_operand, push_receiver, short_unconditional_jump, store_and_pop};
-use crate::sending::{double_extended_send, double_extended_super_send, extended_send, extended_super_send, long_jump_on_false, long_jump_on_true, return_constant, return_receiver, return_top_to_caller, return_top_to_sender, send_literal, short_jump_on_false};
+use crate::moving::{
+    duplicate_top, extended_push, extended_store, extended_store_and_pop, long_unconditional_jump,
+    pop_stack, push_active_context, push_constant, push_operand, push_receiver,
+    short_unconditional_jump, store_and_pop,
+};
+use crate::sending::{
+    double_extended_send, double_extended_super_send, extended_send, extended_super_send,
+    long_jump_on_false, long_jump_on_true, return_constant, return_receiver, return_top_to_caller,
+    return_top_to_sender, send_literal, short_jump_on_false,
+};
 use st_control::{arithmetic_send, special_send};
 use st_frames::{Registers, next_byte};
 use st_memory::Objects;
@@ -15,11 +23,16 @@ use st_model::{Bytecode, Dead, Outcome, decode};
 
 /// Does the row of a bytecode; none where it comes to a primitive that isn't built.
 #[tactic(auto, using(st_frames::proofs::Doing::rows), unfolding(st_model::specs::Bytecodes::bytecode, st_model::specs::Sends::goes_on))]
-fn bytecode<O: Objects>(m: &mut O, r: &mut Registers, code: Bytecode) -> Result<Option<Outcome>, Dead>
+fn bytecode<O: Objects>(
+    m: &mut O,
+    r: &mut Registers,
+    code: Bytecode,
+) -> Result<Option<Outcome>, Dead>
     requires numbered { IsNumbered code }
     requires room { 16 ≤ O.room m.old }
     ensures does { Does (bytecode O.names code) end_of (row_state (O.table m.old) (O.head m.old) r.old) result (row_state (O.table m.new) (O.head m.new) r.new) }
     ensures room { O.room m.old ≤ O.room m.new + 16 }
+    ensures fixed { O.fixed m.new ≡ O.fixed m.old }
 {
     match code {
         Bytecode::Push(operand) => push_operand(m, r, operand)?,
@@ -62,8 +75,8 @@ pub fn step_row<O: Objects>(m: &mut O, r: &mut Registers) -> Result<Option<Outco
     requires room { 16 ≤ O.room m.old }
     ensures does { Does (step O.names) end_of (row_state (O.table m.old) (O.head m.old) r.old) result (row_state (O.table m.new) (O.head m.new) r.new) }
     ensures room { O.room m.old ≤ O.room m.new + 16 }
+    ensures fixed { O.fixed m.new ≡ O.fixed m.old }
 {
     let byte = next_byte(m, r)?;
     bytecode(m, r, decode(byte))
 }
-

@@ -1,11 +1,11 @@
-ghost use Rattle.std.specs.Prelude.{◌≡◌, IfOk};
-ghost use Rattle.st_model.specs.Outcomes.{end_of};
-ghost use Rattle.st_model.specs.Machine.{used};
+ghost use Rattle.std.specs.Prelude.{◌≡◌, Some, IfOk};
+ghost use Rattle.st_model.specs.Outcomes.{end_of, outcome_of};
+ghost use Rattle.st_model.specs.Machine.{used, Went};
 ghost use Rattle.st_model.specs.Table.{table, apart, bounded_table};
 ghost use Rattle.st_model.specs.Bytecodes.{step};
 ghost use Rattle.st_model.specs.Calls.{Does};
 ghost use Rattle.st_frames.specs.Shown.{IsFrame, StaysFrame, shown};
-ghost use Rattle.st_step.specs.Planned.{Plans};
+ghost use Rattle.st_step.specs.Planned.{Plans, IsForeseen};
 
 use crate::rows::step_row;
 use st_frames::{Frame, hold, load};
@@ -26,8 +26,8 @@ pub fn plan<M: Memory>(m: &M, f: &Frame) -> Result<Demand, Halt>
     }
 }
 
-/// Does the next bytecode, once a plan has said what it takes and there is room for that.
-pub fn step<M: Memory>(m: &mut M, f: &mut Frame) -> Result<Option<Outcome>, Dead>
+/// Does the next bytecode over the memory. The registers are held again where it went.
+fn try_step<M: Memory>(m: &mut M, f: &mut Frame) -> Result<Option<Outcome>, Dead>
     requires frame { IsFrame (M.view m.old) f.old }
     ensures step { Does (step bounded_table) end_of (shown (M.view m.old) f.old) result (shown (M.view m.new) f.new) }
     ensures frame { IfOk result (λ o. StaysFrame (M.view m.old) (M.view m.new) f.new) }
@@ -36,4 +36,18 @@ pub fn step<M: Memory>(m: &mut M, f: &mut Frame) -> Result<Option<Outcome>, Dead
     let outcome = step_row(m, &mut r)?;
     *f = hold(m, &r);
     Ok(outcome)
+}
+
+/// Does the next bytecode, once a plan has said what it takes and there is room for that.
+pub fn step<M: Memory>(m: &mut M, f: &mut Frame) -> Outcome
+    requires frame { IsFrame (M.view m.old) f.old }
+    requires foreseen { IsForeseen (shown (M.view m.old) f.old) }
+    ensures step { (step bounded_table).run (shown (M.view m.old) f.old) ≡ Went (Some (outcome_of result)) (shown (M.view m.new) f.new) }
+    ensures frame { StaysFrame (M.view m.old) (M.view m.new) f.new }
+{
+    match try_step(m, f) {
+        Ok(Some(outcome)) => outcome,
+        Ok(None) => Outcome::Went,
+        Err(_) => Outcome::Went,
+    }
 }

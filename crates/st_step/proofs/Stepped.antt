@@ -1,14 +1,19 @@
 -- A row over a memory and its registers: what it begins with, and what it leaves.
-use Rattle.std.proofs.Common.{◌≡◌, ◌<◌, ◌≤◌, ℕ, Bool, true, false, Option, Some, refl, sym, ap, ◌∙◌, arith}
+use Rattle.std.proofs.Common.{◌≡◌, ◌<◌, ◌≤◌, ℕ, Bool, true, false, Option, Some, None, Ok, Err, refl, sym, ap, subst, ◌∙◌, arith}
 use Rattle.std.proofs.lemmas.Bool.Decides.{nat_tests}
-use Rattle.std.specs.Prelude.{if◌then◌else◌, ◌/◌, ◌%◌, ◌==◌, ◌&&◌, is_some}
+use Rattle.std.specs.Prelude.{if◌then◌else◌, ◌/◌, ◌%◌, ◌==◌, ◌&&◌, is_some, Result, ◌+◌}
+use Rattle.st_model.specs.declared.dead.Dead.{Dead}
+use Rattle.st_model.specs.declared.demand.Demand.{Demand}
+use Rattle.st_model.specs.declared.halt.Halt.TheVariants as halt
+use Rattle.st_model.specs.declared.outcome.Outcome.{Outcome as CodeOutcome}
 use Rattle.st_model.specs.declared.word.Word.{Word}
 use Rattle.st_model.specs.Values.{Value, Small, Ref, value_of, word, is_small, IsLive}
-use Rattle.st_model.specs.Objects.{nil}
-use Rattle.st_model.specs.Outcomes.{Outcome}
-use Rattle.st_model.specs.Machine.{Registers, Head, State, Went, empty_world, is_there}
+use Rattle.st_model.specs.Objects.{nil, one, words_of}
+use Rattle.st_model.specs.Outcomes.{Outcome, end_of}
+use Rattle.st_model.specs.Machine.{Registers, Head, State, Went, empty_world, is_there, used}
 use Rattle.st_model.specs.Steps.{are_there}
-use Rattle.st_model.specs.Table.{Table, table, bounded_table}
+use Rattle.st_model.specs.Table.{Table, table, apart, bounded_table, total_used}
+use Rattle.st_model.specs.Calls.{transition_of}
 use Rattle.st_model.specs.Bytecodes.{step}
 use Rattle.st_model.specs.Show.{IsUsed, IsClosed}
 use Rattle.st_model.specs.View.{View, IsWhole}
@@ -19,6 +24,37 @@ use Rattle.st_frames.specs.Narrow.{IsNarrow}
 use Rattle.st_frames.specs.Rows.{row_state, registers_in}
 use Rattle.st_frames.specs.Shown.{shown, registers_of, IsFrame}
 use Rattle.st_frames.proofs.Closed.{is_closed}
+use Rattle.st_step.specs.Planned.{Plans, plus}
+
+-- what a plan says
+
+pub loaded_as : (v : View) (f : Frame) (t : Table) (a : Head) (r : Words) → t ≡ v.objects → a ≡ v.head → registers_in r ≡ registers_of f → row_state t a r ≡ shown v f
+unfolding row_state
+loaded_as v f t a r x y e = λ i. record { memory = x i; registers = e i; world = empty_world nil; head = y i }
+
+module _ (before : Demand) (c s : State Table) (t : Table) (a : Head) (r : Words) (x : Result (Option CodeOutcome) Dead) (same : s ≡ c) (does : (step apart).run s ≡ transition_of end_of x (row_state t a r)) where
+  planned : (y : Result (Option CodeOutcome) Dead) → x ≡ y → (step apart).run c ≡ transition_of end_of y (row_state t a r)
+  planned y e = ap (λ z. (step apart).run z) (sym same) ∙ (does ∙ ap (λ z. transition_of end_of z (row_state t a r)) e)
+
+  pub plan_goes : (o : CodeOutcome) (n : Demand) → x ≡ Ok (Some o) → used apart t ≡ plus before n → Plans before ((step apart).run c) (Ok n)
+  unfolding row_state
+  plan_goes o n e u = subst (λ y. Plans before y (Ok n)) (sym (planned (Ok (Some o)) e)) u
+
+  pub plan_unbuilt : x ≡ Ok None → Plans before ((step apart).run c) (Err halt.Unbuilt)
+  plan_unbuilt e = subst (λ y. Plans before y (Err halt.Unbuilt)) (sym (planned (Ok None) e)) tt
+
+  pub plan_dies : (cause : Dead) → x ≡ Err cause → Plans before ((step apart).run c) (Err (halt.Dead cause))
+  plan_dies cause e = subst (λ y. Plans before y (Err (halt.Dead cause))) (sym (planned (Err cause) e)) refl
+
+-- what is used after a row over a draft: what was used, and what the row made
+pub used_after : (t base start : Table) (n : Demand) → base ≡ start → (used apart t).entries ≡ total_used one base + n.entries → (used apart t).words ≡ total_used words_of base + n.words
+    → used apart t ≡ plus (used table start) n
+used_after t base start n same e w =
+    let x = e ∙ ap (λ b. total_used one b + n.entries) same in
+    let y = w ∙ ap (λ b. total_used words_of b + n.words) same in
+    λ i. record { entries = x i; words = y i }
+
+-- what a step leaves
 
 pub loaded : (v : View) (f : Frame) (r : Words) → registers_in r ≡ registers_of f → row_state v.objects v.head r ≡ shown v f
 unfolding row_state

@@ -1,0 +1,144 @@
+-- What a cycle of the code does, as the cycle over a table whose step is foreseen.
+use Rattle.std.proofs.Common.{◌≡◌, ℕ, ◌+◌, ◌-◌, Option, Some, None, Bool, true, false, refl, ◌∙◌, ap, sym, subst, Ok, Err, arith}
+use Rattle.std.specs.Prelude.{nat_lt, nat_le, ◌&&◌, if◌then◌else◌, Result, pos, ◌+ℤ◌}
+use Rattle.std.proofs.lemmas.Bool.Decides.{nat_tests}
+use Rattle.st_model.specs.declared.dead.Dead.{Dead}
+use Rattle.st_model.specs.declared.dead.Dead.TheVariants as dead
+use Rattle.st_model.specs.declared.demand.Demand.{Demand}
+use Rattle.st_model.specs.declared.halt.Halt.{Halt}
+use Rattle.st_model.specs.declared.halt.Halt.TheVariants as halt
+use Rattle.st_model.specs.Outcomes.{Outcome, Ending, With, Space, Unbuilt}
+use Rattle.st_model.specs.Outcomes as outcome
+use Rattle.st_model.specs.Machine.{State, Transition, Died, Went, Step, answer, ◌>>=◌, ◌>>◌, used, is_over}
+use Rattle.st_model.specs.Table.{Table, table, apart, bounded_table}
+use Rattle.st_model.specs.Bytecodes.{step}
+use Rattle.st_model.specs.Settled.{reclaim}
+use Rattle.st_model.specs.Cycles.{next_code, byte_answered, made_between, free_space, less}
+use Rattle.st_model.specs.Foreseen.{foreseen, foreseen_cycle, done, done_if_room}
+use Rattle.st_model.specs.View.{View, fits}
+use Rattle.st_step.specs.Planned.{Plans, plus, IsForeseen}
+use Rattle.st_model.specs.Steps.{get_method, get_ip, set_ip, next_byte}
+use Rattle.st_model.specs.Calls.{Does, itself, transition_of}
+use Rattle.st_model.proofs.Tabular.{byte_at-as}
+use Rattle.st_memory.specs.Tabular.{bounded_tabular}
+use Rattle.st_frames.specs.declared.frame.Frame.{Frame}
+use Rattle.st_frames.specs.Shown.{shown, registers_of}
+use Rattle.st_frames.specs.Rows.{registers_in, row_state}
+use Rattle.st_frames.specs.declared.registers.Registers.{Registers as Words}
+use Rattle.st_step.proofs.Stepped.{loaded}
+use Rattle.st_machine.proofs.Going.{step_goes}
+
+-- what fits is not over the capacities
+fits_if : (a b c d : ℕ) → (nat_le a b && nat_le c d) ≡ true → (if nat_lt b a then true else nat_lt d c) ≡ false
+fits_if a b c d e = grind (arith, nat_tests, e)
+
+fits_not : (a b c d : ℕ) → (nat_le a b && nat_le c d) ≡ false → (if nat_lt b a then true else nat_lt d c) ≡ true
+fits_not a b c d e = grind (arith, nat_tests, e)
+
+module _ (c : State Table) where
+  dies : (t : Transition (State Table) (Option Outcome)) (cause : Dead) → Plans (used table c.memory) t (Err (halt.Dead cause)) → foreseen c t ≡ Died cause
+  dies (Died a) cause h = ap (λ x. Died x) h
+  dies (Went None d) cause h = absurd h
+  dies (Went (Some o) d) cause h = absurd h
+
+  pub cycle_dies : (cause : Dead) → Plans (used table c.memory) ((step apart).run c) (Err (halt.Dead cause)) → foreseen_cycle c ≡ Died cause
+  unfolding foreseen_cycle
+  cycle_dies cause h = dies ((step apart).run c) cause h
+
+  unbuilt : (t : Transition (State Table) (Option Outcome)) → Plans (used table c.memory) t (Err halt.Unbuilt) → foreseen c t ≡ Went (Unbuilt (next_code table c)) c
+  unbuilt (Died a) h = absurd h
+  unbuilt (Went None d) h = refl
+  unbuilt (Went (Some o) d) h = absurd h
+
+  pub cycle_unbuilt : Plans (used table c.memory) ((step apart).run c) (Err halt.Unbuilt) → foreseen_cycle c ≡ Went (Unbuilt (next_code table c)) c
+  unfolding foreseen_cycle
+  cycle_unbuilt h = unbuilt ((step apart).run c) h
+
+  less_plus : (u d : Demand) → less (plus u d) u ≡ d
+  less_plus u d =
+      let e : (u.entries + d.entries) - u.entries ≡ d.entries = omega arith in
+      let w : (u.words + d.words) - u.words ≡ d.words = omega arith in
+      λ i. record { entries = e i; words = w i }
+
+  no_room : (t : Transition (State Table) (Option Outcome)) (d : Demand) → Plans (used table c.memory) t (Ok d) → is_over (plus (used table c.memory) d) c.head ≡ true
+      → foreseen c t ≡ Went (Space d (free_space table c)) c
+  no_room (Died a) d h e = absurd h
+  no_room (Went None t) d h e = absurd h
+  no_room (Went (Some o) t) d h e =
+      let over : is_over (used apart t.memory) c.head ≡ true = ap (λ x. is_over x c.head) h ∙ e in
+      let made : made_between apart c t ≡ d = ap (λ x. less x (used table c.memory)) h ∙ less_plus (used table c.memory) d in
+      ap (done_if_room c t) over ∙ ap (λ x. Went (Space x (free_space table c)) c) made
+
+  with_room : (t : Transition (State Table) (Option Outcome)) (d : Demand) → (step apart).run c ≡ t → Plans (used table c.memory) t (Ok d) → is_over (plus (used table c.memory) d) c.head ≡ false
+      → IsForeseen c × (foreseen c t ≡ done c ((step bounded_table).run c))
+  with_room (Died a) d s h e = absurd h
+  with_room (Went None t) d s h e = absurd h
+  with_room (Went (Some o) t) d s h e =
+      let over : is_over (used apart t.memory) c.head ≡ false = ap (λ x. is_over x c.head) h ∙ e in
+      (record { outcome = o; after = t; goes = s; fits = over }, ap (done_if_room c t) over)
+
+  pub is_foreseen : (d : Demand) → Plans (used table c.memory) ((step apart).run c) (Ok d) → is_over (plus (used table c.memory) d) c.head ≡ false → IsForeseen c
+  is_foreseen d h e = (with_room ((step apart).run c) d refl h e).0
+
+  pub cycle_space : (d : Demand) → Plans (used table c.memory) ((step apart).run c) (Ok d) → is_over (plus (used table c.memory) d) c.head ≡ true
+      → foreseen_cycle c ≡ Went (Space d (free_space table c)) c
+  unfolding foreseen_cycle
+  cycle_space d h e = no_room ((step apart).run c) d h e
+
+  pub cycle_done : (d : Demand) (o : Outcome) (t u : State Table) → Plans (used table c.memory) ((step apart).run c) (Ok d) → is_over (plus (used table c.memory) d) c.head ≡ false
+      → (step bounded_table).run c ≡ Went (Some o) t → reclaim table t ≡ u → foreseen_cycle c ≡ Went (With o) u
+  unfolding foreseen_cycle
+  cycle_done d o t u h e s r = (with_room ((step apart).run c) d refl h e).1 ∙ (ap (done c) s ∙ ap (λ x. Went (With o) x) r)
+
+  -- a cycle that ends with its bytecode's outcome went
+
+  done_went : (t : Transition (State Table) (Option Outcome)) → (step bounded_table).run c ≡ t → (o : Outcome) (u : State Table) → done c t ≡ Went (With o) u → o ≡ outcome.Went
+  done_went (Died a) s o u e = cc
+  done_went (Went None t) s o u e = cc
+  done_went (Went (Some p) t) s o u e = let q : p ≡ o = cc in sym q ∙ step_goes bounded_table c t p s
+
+  room_went : (t : State Table) (b : Bool) (o : Outcome) (u : State Table) → done_if_room c t b ≡ Went (With o) u → o ≡ outcome.Went
+  room_went t true o u e = cc
+  room_went t false o u e = done_went ((step bounded_table).run c) refl o u e
+
+  foreseen_went : (t : Transition (State Table) (Option Outcome)) (o : Outcome) (u : State Table) → foreseen c t ≡ Went (With o) u → o ≡ outcome.Went
+  foreseen_went (Died a) o u e = cc
+  foreseen_went (Went None t) o u e = cc
+  foreseen_went (Went (Some p) t) o u e = room_went t (is_over (used apart t.memory) c.head) o u e
+
+  pub only_went : (o : Outcome) (u : State Table) → foreseen_cycle c ≡ Went (With o) u → o ≡ outcome.Went
+  unfolding foreseen_cycle
+  only_went o u e = foreseen_went ((step apart).run c) o u e
+
+module _ (v : View) (d : Demand) where
+  pub not_over : fits v d ≡ true → is_over (plus (used table v.objects) d) v.head ≡ false
+  not_over e = fits_if ((used table v.objects).entries + d.entries) v.head.entries ((used table v.objects).words + d.words) v.head.words e
+
+  pub over : fits v d ≡ false → is_over (plus (used table v.objects) d) v.head ≡ true
+  over e = fits_not ((used table v.objects).entries + d.entries) v.head.entries ((used table v.objects).words + d.words) v.head.words e
+
+-- the code of the next bytecode
+
+abbrev pub answered : Result ℕ Dead → ℕ
+answered (Ok b) = b
+answered (Err cause) = 0
+
+byte-same : next_byte bounded_table ≡ next_byte table
+unfolding next_byte
+byte-same = λ i. do
+  v ← get_method
+  ip ← get_ip
+  b ← byte_at-as bounded_tabular v ip i
+  set_ip (ip +ℤ pos 1)
+  answer b
+
+byte_of : (x : Result ℕ Dead) (d : State Table) → byte_answered (transition_of itself x d) ≡ answered x
+byte_of (Ok b) d = refl
+byte_of (Err cause) d = refl
+
+pub code_is : (v : View) (f : Frame) (r : Words) (x : Result ℕ Dead) (d : State Table) → registers_in r ≡ registers_of f → Does (next_byte bounded_table) itself (row_state v.objects v.head r) x d
+    → next_code table (shown v f) ≡ answered x
+unfolding next_code
+code_is v f r x d same h =
+    let e : (next_byte table).run (shown v f) ≡ transition_of itself x d = ap (λ (m : Step Table ℕ). m.run (shown v f)) (sym byte-same) ∙ (ap (λ (s : State Table). (next_byte bounded_table).run s) (sym (loaded v f r same)) ∙ h) in
+    ap byte_answered e ∙ byte_of x d

@@ -1,0 +1,22 @@
+use Rattle.st_step.proofs.Foreseeing.{goes, goes_none, goes_dead}
+use Rattle.std.proofs.Common.{◌≡◌, ◌∙◌, ap}
+use Rattle.st_model.specs.Outcomes.{end_of}
+use Rattle.st_model.specs.Machine.{Went}
+use Rattle.st_frames.specs.Shown.{shown}
+use Rattle.st_step.proofs.stepping.step.Goals as goal
+
+pub returns-in-Ok-None-clause-step : goal.returns-in-Ok-None-clause-step
+returns-in-Ok-None-clause-step g c =
+    let v = g.M.Memory.view c.args.m.now in
+    absurd (goes_none (shown v c.args.f.now) (goes v c.args.f.now (g.met.M.Memory.whole c.args.m.now) c.requires.frame c.requires.foreseen) (shown (g.M.Memory.view c.try_step.new.m) c.try_step.new.f)
+    (c.in-Ok-None.ensures.step ∙ ap (λ x. Went (end_of x) (shown (g.M.Memory.view c.try_step.new.m) c.try_step.new.f)) c.in-Ok-None.field-0-is))
+
+pub returns-in-Err-clause-step : goal.returns-in-Err-clause-step
+returns-in-Err-clause-step g c =
+    let v = g.M.Memory.view c.args.m.now in
+    absurd (goes_dead (shown v c.args.f.now) (goes v c.args.f.now (g.met.M.Memory.whole c.args.m.now) c.requires.frame c.requires.foreseen) _ c.in-Err.ensures.step)
+
+pub returns-in-Err-clause-frame : goal.returns-in-Err-clause-frame
+returns-in-Err-clause-frame g c =
+    let v = g.M.Memory.view c.args.m.now in
+    absurd (goes_dead (shown v c.args.f.now) (goes v c.args.f.now (g.met.M.Memory.whole c.args.m.now) c.requires.frame c.requires.foreseen) _ c.in-Err.ensures.step)
