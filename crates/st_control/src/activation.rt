@@ -5,13 +5,22 @@ ghost use Rattle.st_model.specs.Calls.{Does, itself};
 ghost use Rattle.st_frames.specs.Rows.{row_state};
 
 use crate::headers::{context_size, literals, temporaries};
-use st_frames::{Registers, active, drop_words, look_at_words, new_object, page, small, stack_pointer, store_field, switch, transfer};
+use st_frames::{
+    Registers, active, drop_words, look_at_words, new_object, page, small, stack_pointer,
+    store_field, switch, transfer,
+};
 use st_memory::Objects;
 use st_model::{Dead, PageObject, Word};
 
 /// Fills a new context of the method: the active context as its sender, the first bytecode, the temporary count, and the method.
 #[tactic(auto, using(st_frames::proofs::Doing::rows), unfolding(st_model::specs::Contexts::fill_context))]
-fn fill_context<O: Objects>(m: &mut O, r: &Registers, context: Word, method: Word, header: Word) -> Result<(), Dead>
+fn fill_context<O: Objects>(
+    m: &mut O,
+    r: &Registers,
+    context: Word,
+    method: Word,
+    header: Word,
+) -> Result<(), Dead>
     requires room { 4 ≤ O.room m.old }
     ensures does { Does (fill_context O.names (word context) (word method) (word header)) itself (row_state (O.table m.old) (O.head m.old) r.now) result (row_state (O.table m.new) (O.head m.new) r.now) }
     ensures room { O.room m.old ≤ O.room m.new + 4 }
@@ -26,7 +35,12 @@ fn fill_context<O: Objects>(m: &mut O, r: &Registers, context: Word, method: Wor
 
 /// A new context of the method.
 #[tactic(auto, using(st_frames::proofs::Doing::rows), unfolding(st_model::specs::Contexts::new_context))]
-fn new_context<O: Objects>(m: &mut O, r: &Registers, method: Word, header: Word) -> Result<Word, Dead>
+fn new_context<O: Objects>(
+    m: &mut O,
+    r: &Registers,
+    method: Word,
+    header: Word,
+) -> Result<Word, Dead>
     requires room { 5 ≤ O.room m.old }
     ensures does { Does (new_context O.names (word method) (word header)) word (row_state (O.table m.old) (O.head m.old) r.now) result (row_state (O.table m.new) (O.head m.new) r.now) }
     ensures room { O.room m.old ≤ O.room m.new + 5 }
@@ -55,7 +69,13 @@ fn pass_words<O: Objects>(m: &mut O, r: &mut Registers, context: Word, n: u32) -
 
 /// A new context of the method becomes the active one. Dead where it has no places for the arguments or the temporary variables.
 #[tactic(auto, using(st_frames::proofs::Doing::checks), unfolding(st_model::specs::Contexts::activate))]
-pub fn activate<O: Objects>(m: &mut O, r: &mut Registers, method: Word, header: Word, n: u32) -> Result<(), Dead>
+pub fn activate<O: Objects>(
+    m: &mut O,
+    r: &mut Registers,
+    method: Word,
+    header: Word,
+    n: u32,
+) -> Result<(), Dead>
     requires few { n < 16384 }
     requires room { 8 ≤ O.room m.old }
     ensures does { Does (activate O.names (word method) (word header) n) itself (row_state (O.table m.old) (O.head m.old) r.old) result (row_state (O.table m.new) (O.head m.new) r.new) }
@@ -74,4 +94,3 @@ pub fn activate<O: Objects>(m: &mut O, r: &mut Registers, method: Word, header: 
     pass_words(m, r, context, n)?;
     switch(m, r, context)
 }
-

@@ -48,7 +48,14 @@ fn method_primitive<O: Objects>(m: &O, r: &Registers, method: Word) -> Result<u3
 
 /// The method is activated where it has no primitive.
 #[tactic(auto, using(st_frames::proofs::Doing::rows), unfolding(st_model::specs::Sends::respond, st_model::specs::Sends::goes_on))]
-fn respond<O: Objects>(m: &mut O, r: &mut Registers, method: Word, header: Word, n: u32, primitive: u32) -> Result<Option<Outcome>, Dead>
+fn respond<O: Objects>(
+    m: &mut O,
+    r: &mut Registers,
+    method: Word,
+    header: Word,
+    n: u32,
+    primitive: u32,
+) -> Result<Option<Outcome>, Dead>
     requires few { n < 16384 }
     requires room { 8 ≤ O.room m.old }
     ensures does { Does (respond O.names (word method) (word header) n primitive) end_of (row_state (O.table m.old) (O.head m.old) r.old) result (row_state (O.table m.new) (O.head m.new) r.new) }
@@ -65,7 +72,13 @@ fn respond<O: Objects>(m: &mut O, r: &mut Registers, method: Word, header: Word,
 
 /// The method is executed by its header extension.
 #[tactic(auto, using(st_frames::proofs::Doing::rows), unfolding(st_model::specs::Sends::respond_by_extension))]
-fn respond_by_extension<O: Objects>(m: &mut O, r: &mut Registers, method: Word, header: Word, n: u32) -> Result<Option<Outcome>, Dead>
+fn respond_by_extension<O: Objects>(
+    m: &mut O,
+    r: &mut Registers,
+    method: Word,
+    header: Word,
+    n: u32,
+) -> Result<Option<Outcome>, Dead>
     requires few { n < 16384 }
     requires room { 8 ≤ O.room m.old }
     ensures does { Does (respond_by_extension O.names (word method) (word header) n) end_of (row_state (O.table m.old) (O.head m.old) r.old) result (row_state (O.table m.new) (O.head m.new) r.new) }
@@ -78,7 +91,14 @@ fn respond_by_extension<O: Objects>(m: &mut O, r: &mut Registers, method: Word, 
 
 /// The method is executed by its flag.
 #[tactic(auto, using(st_frames::proofs::Doing::rows), unfolding(st_model::specs::Sends::execute_by, st_model::specs::Sends::goes_on))]
-fn execute_by<O: Objects>(m: &mut O, r: &mut Registers, method: Word, header: Word, n: u32, flag: u32) -> Result<Option<Outcome>, Dead>
+fn execute_by<O: Objects>(
+    m: &mut O,
+    r: &mut Registers,
+    method: Word,
+    header: Word,
+    n: u32,
+    flag: u32,
+) -> Result<Option<Outcome>, Dead>
     requires few { n < 16384 }
     requires room { 8 ≤ O.room m.old }
     ensures does { Does (execute_by O.names (word method) (word header) n flag) end_of (row_state (O.table m.old) (O.head m.old) r.old) result (row_state (O.table m.new) (O.head m.new) r.new) }
@@ -101,7 +121,12 @@ fn execute_by<O: Objects>(m: &mut O, r: &mut Registers, method: Word, header: Wo
 
 /// Executes a method with n arguments, or answers none where it comes to a primitive that isn't built.
 #[tactic(auto, using(st_frames::proofs::Doing::rows), unfolding(st_model::specs::Sends::execute))]
-pub fn execute<O: Objects>(m: &mut O, r: &mut Registers, method: Word, n: u32) -> Result<Option<Outcome>, Dead>
+pub fn execute<O: Objects>(
+    m: &mut O,
+    r: &mut Registers,
+    method: Word,
+    n: u32,
+) -> Result<Option<Outcome>, Dead>
     requires few { n < 16384 }
     requires room { 8 ≤ O.room m.old }
     ensures does { Does (execute O.names (word method) n) end_of (row_state (O.table m.old) (O.head m.old) r.old) result (row_state (O.table m.new) (O.head m.new) r.new) }
@@ -111,4 +136,3 @@ pub fn execute<O: Objects>(m: &mut O, r: &mut Registers, method: Word, n: u32) -
     let header = method_header(m, r, method)?;
     execute_by(m, r, method, header, n, flag(header))
 }
-

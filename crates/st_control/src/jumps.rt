@@ -12,7 +12,11 @@ use st_model::{Dead, Outcome, PageObject, Word};
 
 /// Puts the word back, and sends mustBeBoolean to it.
 #[tactic(auto, using(st_frames::proofs::Doing::rows), unfolding(st_model::specs::Returns::must_be_boolean))]
-fn must_be_boolean<O: Objects>(m: &mut O, r: &mut Registers, x: Word) -> Result<Option<Outcome>, Dead>
+fn must_be_boolean<O: Objects>(
+    m: &mut O,
+    r: &mut Registers,
+    x: Word,
+) -> Result<Option<Outcome>, Dead>
     requires room { 15 ≤ O.room m.old }
     ensures does { Does (must_be_boolean O.names (word x)) end_of (row_state (O.table m.old) (O.head m.old) r.old) result (row_state (O.table m.new) (O.head m.new) r.new) }
     ensures room { O.room m.old ≤ O.room m.new + 15 }
@@ -25,7 +29,14 @@ fn must_be_boolean<O: Objects>(m: &mut O, r: &mut Registers, x: Word) -> Result<
 
 /// Jumps forward where the word is the wanted boolean.
 #[tactic(auto, using(st_frames::proofs::Doing::rows), unfolding(st_model::specs::Returns::jump_if, st_model::specs::Sends::goes_on))]
-fn jump_if<O: Objects>(m: &mut O, r: &mut Registers, x: Word, d: u32, is_wanted: bool, is_other: bool) -> Result<Option<Outcome>, Dead>
+fn jump_if<O: Objects>(
+    m: &mut O,
+    r: &mut Registers,
+    x: Word,
+    d: u32,
+    is_wanted: bool,
+    is_other: bool,
+) -> Result<Option<Outcome>, Dead>
     requires short { d ≤ 1023 }
     requires room { 15 ≤ O.room m.old }
     ensures does { Does (jump_if O.names (word x) (pos d) is_wanted is_other) end_of (row_state (O.table m.old) (O.head m.old) r.old) result (row_state (O.table m.new) (O.head m.new) r.new) }
@@ -44,7 +55,13 @@ fn jump_if<O: Objects>(m: &mut O, r: &mut Registers, x: Word, d: u32, is_wanted:
 
 /// Pops, and jumps forward where the word is the wanted boolean.
 #[tactic(auto, using(st_frames::proofs::Doing::rows), unfolding(st_model::specs::Returns::jump_on))]
-pub fn jump_on<O: Objects>(m: &mut O, r: &mut Registers, wanted: PageObject, other: PageObject, d: u32) -> Result<Option<Outcome>, Dead>
+pub fn jump_on<O: Objects>(
+    m: &mut O,
+    r: &mut Registers,
+    wanted: PageObject,
+    other: PageObject,
+    d: u32,
+) -> Result<Option<Outcome>, Dead>
     requires short { d ≤ 1023 }
     requires room { 15 ≤ O.room m.old }
     ensures does { Does (jump_on O.names wanted other (pos d)) end_of (row_state (O.table m.old) (O.head m.old) r.old) result (row_state (O.table m.new) (O.head m.new) r.new) }
@@ -56,4 +73,3 @@ pub fn jump_on<O: Objects>(m: &mut O, r: &mut Registers, wanted: PageObject, oth
     let b = page(m, r, other);
     jump_if(m, r, x, d, x.same(a), x.same(b))
 }
-

@@ -4,7 +4,9 @@ ghost use Rattle.st_model.specs.Sends.{copy_arguments, argument_array, new_messa
 ghost use Rattle.st_model.specs.Calls.{Does, itself};
 ghost use Rattle.st_frames.specs.Rows.{row_state};
 
-use st_frames::{Registers, active, drop_words, new_object, page, push, stack_pointer, store_field, transfer};
+use st_frames::{
+    Registers, active, drop_words, new_object, page, push, stack_pointer, store_field, transfer,
+};
 use st_memory::Objects;
 use st_model::{Dead, PageObject, Word};
 
@@ -39,7 +41,12 @@ fn argument_array<O: Objects>(m: &mut O, r: &Registers, n: u32) -> Result<Word, 
 
 /// A new Message of a selector and an Array of arguments.
 #[tactic(auto, using(st_frames::proofs::Doing::rows), unfolding(st_model::specs::Sends::new_message))]
-fn new_message<O: Objects>(m: &mut O, r: &Registers, selector: Word, array: Word) -> Result<Word, Dead>
+fn new_message<O: Objects>(
+    m: &mut O,
+    r: &Registers,
+    selector: Word,
+    array: Word,
+) -> Result<Word, Dead>
     requires room { 3 ≤ O.room m.old }
     ensures does { Does (new_message O.names (word selector) (word array)) word (row_state (O.table m.old) (O.head m.old) r.now) result (row_state (O.table m.new) (O.head m.new) r.now) }
     ensures room { O.room m.old ≤ O.room m.new + 3 }
@@ -54,7 +61,12 @@ fn new_message<O: Objects>(m: &mut O, r: &Registers, selector: Word, array: Word
 
 /// A Message takes the place of the n arguments.
 #[tactic(auto, using(st_frames::proofs::Doing::rows), unfolding(st_model::specs::Sends::replace_by_message))]
-pub fn replace_by_message<O: Objects>(m: &mut O, r: &mut Registers, selector: Word, n: u32) -> Result<(), Dead>
+pub fn replace_by_message<O: Objects>(
+    m: &mut O,
+    r: &mut Registers,
+    selector: Word,
+    n: u32,
+) -> Result<(), Dead>
     requires few { n < 16384 }
     requires room { 6 ≤ O.room m.old }
     ensures does { Does (replace_by_message O.names (word selector) n) itself (row_state (O.table m.old) (O.head m.old) r.old) result (row_state (O.table m.new) (O.head m.new) r.new) }
@@ -66,4 +78,3 @@ pub fn replace_by_message<O: Objects>(m: &mut O, r: &mut Registers, selector: Wo
     drop_words(m, r, n)?;
     push(m, r, message)
 }
-

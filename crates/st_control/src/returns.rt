@@ -6,13 +6,19 @@ ghost use Rattle.st_model.specs.Calls.{Does, itself};
 ghost use Rattle.st_frames.specs.Rows.{row_state};
 
 use crate::sends::send;
-use st_frames::{Registers, active, fetch_context_registers, fetch_field, home, page, push, store_field};
+use st_frames::{
+    Registers, active, fetch_context_registers, fetch_field, home, page, push, store_field,
+};
 use st_memory::Objects;
 use st_model::{Dead, Outcome, PageObject, Word};
 
 /// Sends cannotReturn: to the active context.
 #[tactic(auto, using(st_frames::proofs::Doing::rows), unfolding(st_model::specs::Returns::cannot_return))]
-fn cannot_return<O: Objects>(m: &mut O, r: &mut Registers, answer: Word) -> Result<Option<Outcome>, Dead>
+fn cannot_return<O: Objects>(
+    m: &mut O,
+    r: &mut Registers,
+    answer: Word,
+) -> Result<Option<Outcome>, Dead>
     requires room { 16 ≤ O.room m.old }
     ensures does { Does (cannot_return O.names (word answer)) end_of (row_state (O.table m.old) (O.head m.old) r.old) result (row_state (O.table m.new) (O.head m.new) r.new) }
     ensures room { O.room m.old ≤ O.room m.new + 16 }
@@ -27,7 +33,12 @@ fn cannot_return<O: Objects>(m: &mut O, r: &mut Registers, answer: Word) -> Resu
 
 /// Leaves the active context for good, and pushes the answer in another.
 #[tactic(auto, using(st_frames::proofs::Doing::rows), unfolding(st_model::specs::Returns::return_into))]
-fn return_into<O: Objects>(m: &mut O, r: &mut Registers, context: Word, answer: Word) -> Result<(), Dead>
+fn return_into<O: Objects>(
+    m: &mut O,
+    r: &mut Registers,
+    context: Word,
+    answer: Word,
+) -> Result<(), Dead>
     requires room { 3 ≤ O.room m.old }
     ensures does { Does (return_into O.names (word context) (word answer)) itself (row_state (O.table m.old) (O.head m.old) r.old) result (row_state (O.table m.new) (O.head m.new) r.new) }
     ensures room { O.room m.old ≤ O.room m.new + 3 }
@@ -43,7 +54,13 @@ fn return_into<O: Objects>(m: &mut O, r: &mut Registers, context: Word, answer: 
 
 /// Returns the answer to a context, unless that was left for good.
 #[tactic(auto, using(st_frames::proofs::Doing::rows), unfolding(st_model::specs::Returns::return_unless, st_model::specs::Sends::goes_on))]
-fn return_unless<O: Objects>(m: &mut O, r: &mut Registers, context: Word, answer: Word, is_left: bool) -> Result<Option<Outcome>, Dead>
+fn return_unless<O: Objects>(
+    m: &mut O,
+    r: &mut Registers,
+    context: Word,
+    answer: Word,
+    is_left: bool,
+) -> Result<Option<Outcome>, Dead>
     requires room { 16 ≤ O.room m.old }
     ensures does { Does (return_unless O.names (word context) (word answer) is_left) end_of (row_state (O.table m.old) (O.head m.old) r.old) result (row_state (O.table m.new) (O.head m.new) r.new) }
     ensures room { O.room m.old ≤ O.room m.new + 16 }
@@ -59,7 +76,13 @@ fn return_unless<O: Objects>(m: &mut O, r: &mut Registers, context: Word, answer
 
 /// Returns the answer to a context, which isn't nil.
 #[tactic(auto, using(st_frames::proofs::Doing::rows), unfolding(st_model::specs::Returns::return_to_context))]
-fn return_to_context<O: Objects>(m: &mut O, r: &mut Registers, context: Word, answer: Word, nil: Word) -> Result<Option<Outcome>, Dead>
+fn return_to_context<O: Objects>(
+    m: &mut O,
+    r: &mut Registers,
+    context: Word,
+    answer: Word,
+    nil: Word,
+) -> Result<Option<Outcome>, Dead>
     requires room { 16 ≤ O.room m.old }
     ensures does { Does (return_to_context O.names (word context) (word answer) (word nil)) end_of (row_state (O.table m.old) (O.head m.old) r.old) result (row_state (O.table m.new) (O.head m.new) r.new) }
     ensures room { O.room m.old ≤ O.room m.new + 16 }
@@ -71,7 +94,14 @@ fn return_to_context<O: Objects>(m: &mut O, r: &mut Registers, context: Word, an
 
 /// Returns the answer to a context, unless that is nil.
 #[tactic(auto, using(st_frames::proofs::Doing::rows), unfolding(st_model::specs::Returns::return_unless_nil))]
-fn return_unless_nil<O: Objects>(m: &mut O, r: &mut Registers, context: Word, answer: Word, nil: Word, is_nil: bool) -> Result<Option<Outcome>, Dead>
+fn return_unless_nil<O: Objects>(
+    m: &mut O,
+    r: &mut Registers,
+    context: Word,
+    answer: Word,
+    nil: Word,
+    is_nil: bool,
+) -> Result<Option<Outcome>, Dead>
     requires room { 16 ≤ O.room m.old }
     ensures does { Does (return_unless_nil O.names (word context) (word answer) (word nil) is_nil) end_of (row_state (O.table m.old) (O.head m.old) r.old) result (row_state (O.table m.new) (O.head m.new) r.new) }
     ensures room { O.room m.old ≤ O.room m.new + 16 }
@@ -86,7 +116,12 @@ fn return_unless_nil<O: Objects>(m: &mut O, r: &mut Registers, context: Word, an
 
 /// Returns the answer to a context.
 #[tactic(auto, using(st_frames::proofs::Doing::rows), unfolding(st_model::specs::Returns::return_to))]
-fn return_to<O: Objects>(m: &mut O, r: &mut Registers, context: Word, answer: Word) -> Result<Option<Outcome>, Dead>
+fn return_to<O: Objects>(
+    m: &mut O,
+    r: &mut Registers,
+    context: Word,
+    answer: Word,
+) -> Result<Option<Outcome>, Dead>
     requires room { 16 ≤ O.room m.old }
     ensures does { Does (return_to O.names (word context) (word answer)) end_of (row_state (O.table m.old) (O.head m.old) r.old) result (row_state (O.table m.new) (O.head m.new) r.new) }
     ensures room { O.room m.old ≤ O.room m.new + 16 }
@@ -98,7 +133,11 @@ fn return_to<O: Objects>(m: &mut O, r: &mut Registers, context: Word, answer: Wo
 
 /// Returns the answer to the sender.
 #[tactic(auto, using(st_frames::proofs::Doing::rows), unfolding(st_model::specs::Returns::return_to_sender))]
-pub fn return_to_sender<O: Objects>(m: &mut O, r: &mut Registers, answer: Word) -> Result<Option<Outcome>, Dead>
+pub fn return_to_sender<O: Objects>(
+    m: &mut O,
+    r: &mut Registers,
+    answer: Word,
+) -> Result<Option<Outcome>, Dead>
     requires room { 16 ≤ O.room m.old }
     ensures does { Does (return_to_sender O.names (word answer)) end_of (row_state (O.table m.old) (O.head m.old) r.old) result (row_state (O.table m.new) (O.head m.new) r.new) }
     ensures room { O.room m.old ≤ O.room m.new + 16 }
@@ -111,7 +150,11 @@ pub fn return_to_sender<O: Objects>(m: &mut O, r: &mut Registers, answer: Word) 
 
 /// Returns the answer to the caller.
 #[tactic(auto, using(st_frames::proofs::Doing::rows), unfolding(st_model::specs::Returns::return_to_caller))]
-pub fn return_to_caller<O: Objects>(m: &mut O, r: &mut Registers, answer: Word) -> Result<Option<Outcome>, Dead>
+pub fn return_to_caller<O: Objects>(
+    m: &mut O,
+    r: &mut Registers,
+    answer: Word,
+) -> Result<Option<Outcome>, Dead>
     requires room { 16 ≤ O.room m.old }
     ensures does { Does (return_to_caller O.names (word answer)) end_of (row_state (O.table m.old) (O.head m.old) r.old) result (row_state (O.table m.new) (O.head m.new) r.new) }
     ensures room { O.room m.old ≤ O.room m.new + 16 }
@@ -121,4 +164,3 @@ pub fn return_to_caller<O: Objects>(m: &mut O, r: &mut Registers, answer: Word) 
     let caller = fetch_field(m, r, context, 0)?;
     return_to(m, r, caller, answer)
 }
-

@@ -9,7 +9,9 @@ ghost use Rattle.st_frames.specs.Rows.{row_state};
 
 use crate::executing::execute;
 use crate::messages::replace_by_message;
-use st_frames::{Registers, class_of, fetch_field, fetch_integer, literal_from_last, method, page, under};
+use st_frames::{
+    Registers, class_of, fetch_field, fetch_integer, literal_from_last, method, page, under,
+};
 use st_memory::Objects;
 use st_model::{Dead, Outcome, PageObject, Word};
 
@@ -23,7 +25,13 @@ fn find<O: Objects>(m: &O, r: &Registers, class: Word, selector: Word) -> Result
 
 /// The method for doesNotUnderstand: is executed, if there is one.
 #[tactic(auto, using(st_frames::proofs::Doing::rows), unfolding(st_model::specs::Sends::execute_not_understood))]
-fn execute_not_understood<O: Objects>(m: &mut O, r: &mut Registers, selector: Word, n: u32, method: Option<Word>) -> Result<Option<Outcome>, Dead>
+fn execute_not_understood<O: Objects>(
+    m: &mut O,
+    r: &mut Registers,
+    selector: Word,
+    n: u32,
+    method: Option<Word>,
+) -> Result<Option<Outcome>, Dead>
     requires few { n < 16384 }
     requires room { 14 ≤ O.room m.old }
     ensures does { Does (execute_not_understood O.names (word selector) n (found_word method)) end_of (row_state (O.table m.old) (O.head m.old) r.old) result (row_state (O.table m.new) (O.head m.new) r.new) }
@@ -41,7 +49,13 @@ fn execute_not_understood<O: Objects>(m: &mut O, r: &mut Registers, selector: Wo
 
 /// The selector isn't understood.
 #[tactic(auto, using(st_frames::proofs::Doing::rows), unfolding(st_model::specs::Sends::not_understood))]
-fn not_understood<O: Objects>(m: &mut O, r: &mut Registers, class: Word, selector: Word, n: u32) -> Result<Option<Outcome>, Dead>
+fn not_understood<O: Objects>(
+    m: &mut O,
+    r: &mut Registers,
+    class: Word,
+    selector: Word,
+    n: u32,
+) -> Result<Option<Outcome>, Dead>
     requires few { n < 16384 }
     requires room { 14 ≤ O.room m.old }
     ensures does { Does (not_understood O.names (word class) (word selector) n) end_of (row_state (O.table m.old) (O.head m.old) r.old) result (row_state (O.table m.new) (O.head m.new) r.new) }
@@ -55,7 +69,14 @@ fn not_understood<O: Objects>(m: &mut O, r: &mut Registers, class: Word, selecto
 
 /// The method is executed, if there is one.
 #[tactic(auto, using(st_frames::proofs::Doing::rows), unfolding(st_model::specs::Sends::execute_found))]
-fn execute_found<O: Objects>(m: &mut O, r: &mut Registers, class: Word, selector: Word, n: u32, method: Option<Word>) -> Result<Option<Outcome>, Dead>
+fn execute_found<O: Objects>(
+    m: &mut O,
+    r: &mut Registers,
+    class: Word,
+    selector: Word,
+    n: u32,
+    method: Option<Word>,
+) -> Result<Option<Outcome>, Dead>
     requires few { n < 16384 }
     requires room { 14 ≤ O.room m.old }
     ensures does { Does (execute_found O.names (word class) (word selector) n (found_word method)) end_of (row_state (O.table m.old) (O.head m.old) r.old) result (row_state (O.table m.new) (O.head m.new) r.new) }
@@ -70,7 +91,13 @@ fn execute_found<O: Objects>(m: &mut O, r: &mut Registers, class: Word, selector
 
 /// Sends the selector, where the search begins in this class.
 #[tactic(auto, using(st_frames::proofs::Doing::rows), unfolding(st_model::specs::Sends::send_from))]
-fn send_from<O: Objects>(m: &mut O, r: &mut Registers, class: Word, selector: Word, n: u32) -> Result<Option<Outcome>, Dead>
+fn send_from<O: Objects>(
+    m: &mut O,
+    r: &mut Registers,
+    class: Word,
+    selector: Word,
+    n: u32,
+) -> Result<Option<Outcome>, Dead>
     requires few { n < 16384 }
     requires room { 14 ≤ O.room m.old }
     ensures does { Does (send_from O.names (word class) (word selector) n) end_of (row_state (O.table m.old) (O.head m.old) r.old) result (row_state (O.table m.new) (O.head m.new) r.new) }
@@ -83,7 +110,12 @@ fn send_from<O: Objects>(m: &mut O, r: &mut Registers, class: Word, selector: Wo
 
 /// Sends the selector with n arguments to the word n words below the top.
 #[tactic(auto, using(st_frames::proofs::Doing::rows), unfolding(st_model::specs::Sends::send))]
-pub fn send<O: Objects>(m: &mut O, r: &mut Registers, selector: Word, n: u32) -> Result<Option<Outcome>, Dead>
+pub fn send<O: Objects>(
+    m: &mut O,
+    r: &mut Registers,
+    selector: Word,
+    n: u32,
+) -> Result<Option<Outcome>, Dead>
     requires few { n < 16384 }
     requires room { 14 ≤ O.room m.old }
     ensures does { Does (send O.names (word selector) n) end_of (row_state (O.table m.old) (O.head m.old) r.old) result (row_state (O.table m.new) (O.head m.new) r.new) }
@@ -108,7 +140,12 @@ fn class_above<O: Objects>(m: &O, r: &Registers) -> Result<Word, Dead>
 
 /// Sends the selector with n arguments to super.
 #[tactic(auto, using(st_frames::proofs::Doing::rows), unfolding(st_model::specs::Sends::send_to_super))]
-pub fn send_to_super<O: Objects>(m: &mut O, r: &mut Registers, selector: Word, n: u32) -> Result<Option<Outcome>, Dead>
+pub fn send_to_super<O: Objects>(
+    m: &mut O,
+    r: &mut Registers,
+    selector: Word,
+    n: u32,
+) -> Result<Option<Outcome>, Dead>
     requires few { n < 16384 }
     requires room { 14 ≤ O.room m.old }
     ensures does { Does (send_to_super O.names (word selector) n) end_of (row_state (O.table m.old) (O.head m.old) r.old) result (row_state (O.table m.new) (O.head m.new) r.new) }
@@ -122,7 +159,11 @@ pub fn send_to_super<O: Objects>(m: &mut O, r: &mut Registers, selector: Word, n
 
 /// Sends the special selector of this number.
 #[tactic(auto, using(st_frames::proofs::Doing::rows), unfolding(st_model::specs::Sends::special_send, st_model::specs::Sends::argument_count))]
-pub fn special_send<O: Objects>(m: &mut O, r: &mut Registers, k: u32) -> Result<Option<Outcome>, Dead>
+pub fn special_send<O: Objects>(
+    m: &mut O,
+    r: &mut Registers,
+    k: u32,
+) -> Result<Option<Outcome>, Dead>
     requires number { k < 32 }
     requires room { 14 ≤ O.room m.old }
     ensures does { Does (special_send O.names k) end_of (row_state (O.table m.old) (O.head m.old) r.old) result (row_state (O.table m.new) (O.head m.new) r.new) }
@@ -140,7 +181,12 @@ pub fn special_send<O: Objects>(m: &mut O, r: &mut Registers, k: u32) -> Result<
 
 /// A primitive is tried first where the receiver is a SmallInteger.
 #[tactic(auto, using(crate::proofs::Bits::arithmetic))]
-fn arithmetic_by<O: Objects>(m: &mut O, r: &mut Registers, k: u32, receiver: Word) -> Result<Option<Outcome>, Dead>
+fn arithmetic_by<O: Objects>(
+    m: &mut O,
+    r: &mut Registers,
+    k: u32,
+    receiver: Word,
+) -> Result<Option<Outcome>, Dead>
     requires number { k < 32 }
     requires room { 14 ≤ O.room m.old }
     ensures does { Does (arithmetic_by O.names k (word receiver)) end_of (row_state (O.table m.old) (O.head m.old) r.old) result (row_state (O.table m.new) (O.head m.new) r.new) }
@@ -156,7 +202,11 @@ fn arithmetic_by<O: Objects>(m: &mut O, r: &mut Registers, k: u32, receiver: Wor
 
 /// Sends the special selector of this number, for which arithmetic is tried first.
 #[tactic(auto, using(st_frames::proofs::Doing::rows), unfolding(st_model::specs::Sends::arithmetic_send))]
-pub fn arithmetic_send<O: Objects>(m: &mut O, r: &mut Registers, k: u32) -> Result<Option<Outcome>, Dead>
+pub fn arithmetic_send<O: Objects>(
+    m: &mut O,
+    r: &mut Registers,
+    k: u32,
+) -> Result<Option<Outcome>, Dead>
     requires number { k < 32 }
     requires room { 14 ≤ O.room m.old }
     ensures does { Does (arithmetic_send O.names k) end_of (row_state (O.table m.old) (O.head m.old) r.old) result (row_state (O.table m.new) (O.head m.new) r.new) }
@@ -166,4 +216,3 @@ pub fn arithmetic_send<O: Objects>(m: &mut O, r: &mut Registers, k: u32) -> Resu
     let receiver = under(m, r, 1)?;
     arithmetic_by(m, r, k, receiver)
 }
-
