@@ -1,14 +1,13 @@
 -- A step that was foreseen, and for which there is room, is done.
-use Rattle.std.proofs.Common.{◌≡◌, ℕ, Option, Some, None, true, false, refl, ◌∙◌, ap, sym, Ok}
-use Rattle.std.specs.Prelude.{length, is_some, ◌&&◌}
+use Rattle.std.proofs.Common.{◌≡◌, Option, Some, None, false, refl, ◌∙◌, ap, sym}
+use Rattle.std.specs.Prelude.{length}
 use Rattle.st_model.specs.declared.dead.Dead.{Dead}
-use Rattle.st_model.specs.declared.demand.Demand.{Demand}
 use Rattle.st_model.specs.Outcomes.{Outcome}
 use Rattle.st_model.specs.Machine.{State, Head, Transition, Died, Went, used, is_over}
 use Rattle.st_model.specs.Births.{Births, births}
-use Rattle.st_model.specs.Table.{Table, table, apart, bounded_table}
+use Rattle.st_model.specs.Table.{Table, apart, bounded_table}
 use Rattle.st_model.specs.Bytecodes.{step}
-use Rattle.st_model.specs.Show.{Shows, IsClosed, raised}
+use Rattle.st_model.specs.Show.{Shows, raised}
 use Rattle.st_model.specs.Foreseen.{Foretells}
 use Rattle.st_model.specs.View.{View, IsWhole}
 use Rattle.st_model.proofs.Raised.{raised_shown}
@@ -16,7 +15,7 @@ use Rattle.st_model.proofs.CyclesShown.{foretells, does_as_births}
 use Rattle.st_frames.specs.declared.frame.Frame.{Frame}
 use Rattle.st_frames.specs.Shown.{shown, IsFrame}
 use Rattle.st_frames.proofs.Closed.{is_closed}
-use Rattle.st_step.specs.Planned.{Plans, plus, IsForeseen}
+use Rattle.st_step.specs.Planned.{IsForeseen}
 
 abbrev pub Goes : State Table → Type 0
 Goes c = (o : Outcome) × (d : State Table) × ((step bounded_table).run c ≡ Went (Some o) d)

@@ -1,5 +1,5 @@
 -- A row over a memory and its registers: what it begins with, and what it leaves.
-use Rattle.std.proofs.Common.{◌≡◌, ◌<◌, ◌≤◌, ℕ, Bool, true, false, Option, Some, None, Ok, Err, refl, sym, ap, subst, ◌∙◌, arith}
+use Rattle.std.proofs.Common.{◌≡◌, ◌<◌, ℕ, Bool, true, false, Option, Some, None, Ok, Err, refl, sym, ap, subst, ◌∙◌, arith}
 use Rattle.std.proofs.lemmas.Bool.Decides.{nat_tests}
 use Rattle.std.specs.Prelude.{if◌then◌else◌, ◌/◌, ◌%◌, ◌==◌, ◌&&◌, is_some, Result, ◌+◌}
 use Rattle.st_model.specs.declared.dead.Dead.{Dead}
@@ -7,7 +7,7 @@ use Rattle.st_model.specs.declared.demand.Demand.{Demand}
 use Rattle.st_model.specs.declared.halt.Halt.TheVariants as halt
 use Rattle.st_model.specs.declared.outcome.Outcome.{Outcome as CodeOutcome}
 use Rattle.st_model.specs.declared.word.Word.{Word}
-use Rattle.st_model.specs.Values.{Value, Small, Ref, value_of, word, is_small, IsLive}
+use Rattle.st_model.specs.Values.{Small, Ref, value_of, word, is_small, IsLive}
 use Rattle.st_model.specs.Objects.{nil, one, words_of}
 use Rattle.st_model.specs.Outcomes.{Outcome, end_of}
 use Rattle.st_model.specs.Machine.{Registers, Head, State, Went, empty_world, is_there, used}
@@ -15,7 +15,7 @@ use Rattle.st_model.specs.Steps.{are_there}
 use Rattle.st_model.specs.Table.{Table, table, apart, bounded_table, total_used}
 use Rattle.st_model.specs.Calls.{transition_of}
 use Rattle.st_model.specs.Bytecodes.{step}
-use Rattle.st_model.specs.Show.{IsUsed, IsClosed}
+use Rattle.st_model.specs.Show.{IsUsed}
 use Rattle.st_model.specs.View.{View, IsWhole}
 use Rattle.st_model.proofs.Closed.{step_closed}
 use Rattle.st_frames.specs.declared.frame.Frame.{Frame}

@@ -1,8 +1,6 @@
-use Rattle.std.proofs.Common.{◌≡◌, Ok, Err, Some, None, sym, subst, ap, ◌∙◌, ℕ, ◌+◌}
-use Rattle.st_model.specs.declared.demand.Demand.{Demand}
-use Rattle.st_model.specs.Objects.{one, words_of}
+use Rattle.std.proofs.Common.{Ok, ap, ◌∙◌}
 use Rattle.st_model.specs.Machine.{used}
-use Rattle.st_model.specs.Table.{Table, table, apart, total_used}
+use Rattle.st_model.specs.Table.{table}
 use Rattle.st_model.specs.View.{View}
 use Rattle.st_memory.specs.Drafts.{draft_table}
 use Rattle.st_frames.specs.Shown.{shown}

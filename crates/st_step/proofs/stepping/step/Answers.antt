@@ -1,5 +1,5 @@
 use Rattle.st_step.proofs.Foreseeing.{goes, goes_none, goes_dead}
-use Rattle.std.proofs.Common.{◌≡◌, ◌∙◌, ap}
+use Rattle.std.proofs.Common.{◌∙◌, ap}
 use Rattle.st_model.specs.Outcomes.{end_of}
 use Rattle.st_model.specs.Machine.{Went}
 use Rattle.st_frames.specs.Shown.{shown}

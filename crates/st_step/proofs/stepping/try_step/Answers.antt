@@ -1,5 +1,5 @@
-use Rattle.std.proofs.Common.{rules, ◌≡◌, Ok, Err, sym, subst, ap, ◌∙◌}
-use Rattle.st_model.specs.Outcomes.{Outcome, end_of}
+use Rattle.std.proofs.Common.{rules, ◌≡◌, Err, sym, subst, ap, ◌∙◌}
+use Rattle.st_model.specs.Outcomes.{end_of}
 use Rattle.st_model.specs.Machine.{State, Went}
 use Rattle.st_model.specs.Table.{Table, bounded_table}
 use Rattle.st_model.specs.Bytecodes.{step}
