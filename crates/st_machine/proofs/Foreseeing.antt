@@ -1,11 +1,9 @@
 -- What a cycle of the code does, as the cycle over a table whose step is foreseen.
-use Rattle.std.proofs.Common.{◌≡◌, ℕ, ◌+◌, ◌-◌, Option, Some, None, Bool, true, false, refl, ◌∙◌, ap, sym, subst, Ok, Err, arith}
+use Rattle.std.proofs.Common.{◌≡◌, ℕ, ◌+◌, ◌-◌, Option, Some, None, Bool, true, false, refl, ◌∙◌, ap, sym, Ok, Err, arith}
 use Rattle.std.specs.Prelude.{nat_lt, nat_le, ◌&&◌, if◌then◌else◌, Result, pos, ◌+ℤ◌}
 use Rattle.std.proofs.lemmas.Bool.Decides.{nat_tests}
 use Rattle.st_model.specs.declared.dead.Dead.{Dead}
-use Rattle.st_model.specs.declared.dead.Dead.TheVariants as dead
 use Rattle.st_model.specs.declared.demand.Demand.{Demand}
-use Rattle.st_model.specs.declared.halt.Halt.{Halt}
 use Rattle.st_model.specs.declared.halt.Halt.TheVariants as halt
 use Rattle.st_model.specs.Outcomes.{Outcome, Ending, With, Space, Unbuilt}
 use Rattle.st_model.specs.Outcomes as outcome

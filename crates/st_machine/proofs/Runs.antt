@@ -1,5 +1,5 @@
 -- Cycles over a table, one after the other, show the run over the births.
-use Rattle.std.proofs.Common.{◌≡◌, ℕ, zero, suc, ◌+◌, ◌-◌, ◌<◌, false, Ok, Err, refl, ap, sym, ◌∙◌, subst, arith}
+use Rattle.std.proofs.Common.{◌≡◌, ℕ, suc, ◌+◌, ◌-◌, ◌<◌, false, Ok, Err, refl, ap, sym, ◌∙◌, subst, arith}
 use Rattle.std.specs.Prelude.{length, Result, Some, None}
 use Rattle.st_model.specs.declared.dead.Dead.{Dead}
 use Rattle.st_model.specs.Outcomes.{Outcome, Ending, With, IsLiveOutcome, renamed_ending}
@@ -18,8 +18,8 @@ use Rattle.st_machine.specs.declared.cycling.CycleEnd.{CycleEnd}
 use Rattle.st_machine.specs.declared.cycling.CycleEnd.TheVariants as cycle_end
 use Rattle.st_machine.specs.declared.ending.RunEnd.{RunEnd}
 use Rattle.st_machine.specs.declared.ending.RunEnd.TheVariants as run_ends
-use Rattle.st_machine.specs.Runs.{EndsAs, AsksNothing, ending_of, run_end, transition_at, cycles_of}
-use Rattle.st_machine.proofs.Endings.{goes_on, cycles_in, renamed_goes, renamed_cycles, run_on, finished_on, run_stops, run_dies, finished_stops, finished_dies, Stops, StopsOrDies, run_end_stops, run_end_goes}
+use Rattle.st_machine.specs.Runs.{EndsAs, AsksNothing, ending_of, run_end, transition_at}
+use Rattle.st_machine.proofs.Endings.{goes_on, cycles_in, renamed_goes, renamed_cycles, run_on, finished_on, run_stops, run_dies, finished_stops, finished_dies, Stops, run_end_stops, run_end_goes}
 use Rattle.st_machine.proofs.Foreseeing.{only_went}
 
 -- the births' run so far went, and what it left is shown

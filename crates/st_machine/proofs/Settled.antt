@@ -1,10 +1,9 @@
 -- What the memory's settling leaves is what the definition reclaims, where no device holds anything.
-use Rattle.std.proofs.Common.{◌≡◌, ℕ, List, [], ◌∷◌, ◌++◌, refl, sym, ap, ◌∙◌, subst, inl, inr, ◌⊎◌}
-use Rattle.std.specs.Prelude.{replicate}
+use Rattle.std.proofs.Common.{◌≡◌, ℕ, List, ◌∷◌, ◌++◌, sym, ap, ◌∙◌, subst, inl, inr}
 use mathlib.Core.Path.{fun_ext}
 use Rattle.st_model.specs.Values.{Value, value}
 use Rattle.st_model.specs.Objects.{nil}
-use Rattle.st_model.specs.Machine.{State, Devices, Head, head_roots, device_roots, empty_world, roots_of}
+use Rattle.st_model.specs.Machine.{Devices, Head, head_roots, device_roots, empty_world, roots_of}
 use Rattle.st_model.specs.Table.{Table, table, settled_table}
 use Rattle.st_model.specs.Settled.{AnyRefTo, IsRefTo, IsSettled, settled_set, reclaim}
 use Rattle.st_model.specs.View.{View, SettlesTo, view_roots, idle_devices, no_devices}

@@ -1,4 +1,4 @@
-use Rattle.std.proofs.Common.{◌≡◌, Err, sym, subst, ap, ◌∙◌}
+use Rattle.std.proofs.Common.{Err, sym, subst, ap, ◌∙◌}
 use Rattle.st_model.specs.declared.demand.Demand.{Demand}
 use Rattle.st_model.specs.Outcomes.{Space, Unbuilt, outcome_of}
 use Rattle.st_model.specs.Machine.{Went, used}
@@ -7,7 +7,7 @@ use Rattle.st_model.specs.Bytecodes.{step}
 use Rattle.st_frames.specs.Shown.{shown}
 use Rattle.st_step.specs.Planned.{Plans}
 use Rattle.st_machine.proofs.Settled.{settled_same}
-use Rattle.st_machine.proofs.Foreseeing.{cycle_dies, cycle_unbuilt, cycle_space, cycle_done, is_foreseen, not_over, over}
+use Rattle.st_machine.proofs.Foreseeing.{cycle_dies, cycle_unbuilt, cycle_space, cycle_done, not_over, over}
 use Rattle.st_machine.proofs.cycling.cycle.Goals as goal
 
 pub returns-in-Err-Dead-clause-cycle : goal.returns-in-Err-Dead-clause-cycle

@@ -1,4 +1,4 @@
-use Rattle.std.proofs.Common.{◌≡◌, ◌<◌, ◌∙◌, refl, sym, ap, subst, arith}
+use Rattle.std.proofs.Common.{◌≡◌, ◌∙◌, refl, sym, subst, arith}
 use Rattle.st_model.specs.Foreseen.{IsSound}
 use Rattle.st_frames.specs.Shown.{shown}
 use Rattle.st_frames.proofs.Closed.{is_closed}

@@ -1,8 +1,6 @@
-use Rattle.std.proofs.Common.{◌≡◌}
 use Rattle.st_model.specs.Machine.{State}
 use Rattle.st_model.specs.Births.{Births}
 use Rattle.st_model.specs.Show.{Shows}
-use Rattle.st_model.specs.View.{no_devices}
 use Rattle.st_frames.specs.Shown.{shown, StaysFrame}
 use Rattle.st_machine.proofs.Runs.{SoFar}
 use Rattle.st_machine.proofs.running.run.Given as goal
