@@ -1,6 +1,5 @@
 -- What is said of a run of the code is what is said of the book's machine.
-use Rattle.std.proofs.Common.{◌≡◌, ℕ, zero, suc, ◌+◌, ◌-◌, List, [], ◌++◌, length, refl, sym, ap, subst, ◌∙◌, append-nil, arith}
-use Rattle.st_model.specs.declared.dead.Dead.{Dead}
+use Rattle.std.proofs.Common.{◌≡◌, ℕ, zero, suc, ◌+◌, ◌-◌, List, ◌++◌, length, refl, sym, ap, ◌∙◌, append-nil, arith}
 use Rattle.st_model.specs.declared.demand.Demand.{Demand}
 use Rattle.st_model.specs.Outcomes.{Ending, With, Space, Unbuilt, renamed_ending}
 use Rattle.st_model.specs.Outcomes as outcome
