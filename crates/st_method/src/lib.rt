@@ -3,8 +3,8 @@
 
 mod parts;
 
-pub use st_model::literals;
 pub use parts::{byte_at, literal};
+pub use st_model::literals;
 
 #[cfg(test)]
 mod tests;
