@@ -1,9 +1,9 @@
 -- What a memory says of itself makes the state that it shows closed.
-use Rattle.std.proofs.Common.{◌≡◌, ℕ, List, [], ◌∷◌, ◌++◌, Option, Some, None, Bool, true, false, refl, sym, subst, is_some}
+use Rattle.std.proofs.Common.{◌≡◌, ℕ, List, [], ◌∷◌, ◌++◌, Option, Some, None, true, refl, is_some}
 use Rattle.st_model.specs.Values.{Value, Small, Ref, value, AllLive, IsLive}
 use Rattle.st_model.specs.Objects.{Object, nil, place_of}
 use Rattle.st_model.specs.declared.page.PageObject.TheVariants.{NilObject}
-use Rattle.st_model.specs.Machine.{State, Head, table_root, head_roots, device_roots, empty_world, roots_of}
+use Rattle.st_model.specs.Machine.{table_root, head_roots, device_roots, empty_world}
 use Rattle.st_model.specs.Table.{Table, entry}
 use Rattle.st_model.specs.Show.{IsUsed, IsClosed}
 use Rattle.st_model.specs.View.{View, is_live, IsKnown, IsWhole}

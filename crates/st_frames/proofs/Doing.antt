@@ -1,12 +1,10 @@
 -- Steps one after the other, as the calls of a row.
-use Rattle.std.proofs.Common.{◌≡◌, ℕ, ◌<◌, ◌≤◌, Bool, true, false, refl, sym, ap, arith}
-use Rattle.std.specs.Prelude.{nat_lt, nat_le, ℤ, pos, negsuc, ◌+ℤ◌, ◌≤ℤ◌, int_le}
-use Rattle.std.proofs.lemmas.Bool.Decides.{nat_tests}
+use Rattle.std.proofs.Common.{◌≡◌, true, refl, sym, ap, arith}
+use Rattle.std.specs.Prelude.{ℤ, pos, negsuc, ◌+ℤ◌, ◌≤ℤ◌, int_le}
 use Rattle.std.proofs.lemmas.Int.{ints}
-use Rattle.st_model.specs.declared.dead.Dead.{Dead}
 use Rattle.st_model.specs.declared.dead.Dead.TheVariants as dead
-use Rattle.st_model.specs.Machine.{Head, State, Transition, Died, Went, Step, ◌>>=◌, ◌>>◌}
-use Rattle.st_model.specs.Steps.{check, get_ip, set_ip, jump}
+use Rattle.st_model.specs.Machine.{Head, Went}
+use Rattle.st_model.specs.Steps.{get_ip, jump}
 use Rattle.st_model.specs.Table.{Table}
 use Rattle.st_model.proofs.Runs.{tests, run-set_ip, run-then, run-next, after-went, after-died, run-answer, run-die, run-passed, run-failed}
 use Rattle.st_frames.specs.declared.registers.Registers.{Registers as Words}

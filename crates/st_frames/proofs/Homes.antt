@@ -1,15 +1,15 @@
 -- Home contexts, and registers that are set and stored.
-use Rattle.std.proofs.Common.{◌≡◌, ◌<◌, ◌≤◌, ℕ, Bool, true, false, refl, subst, ap, ◌∙◌, arith}
+use Rattle.std.proofs.Common.{◌≡◌, ◌<◌, ℕ, Bool, true, false, refl, subst, ap, ◌∙◌, arith}
 use Rattle.std.proofs.lemmas.Bool.Decides.{nat_tests}
-use Rattle.std.specs.Prelude.{ℤ, pos, ◌+ℤ◌, ◌&&◌, if◌then◌else◌, ◌/◌, ◌%◌, ◌==◌}
+use Rattle.std.specs.Prelude.{◌&&◌, if◌then◌else◌, ◌/◌, ◌%◌, ◌==◌}
 use Rattle.st_model.specs.declared.word.Word.{Word}
 use Rattle.st_model.specs.Values.{Value, Small, Ref, is_small, word, value_of}
 use Rattle.st_model.specs.declared.dead.Dead.TheVariants as dead
 use Rattle.st_model.specs.Machine.{ObjectMemory, Registers, Head, State, Died, Went, is_there}
-use Rattle.st_model.specs.Steps.{fetch_field, registers_set, set_registers, are_there, get_ip}
+use Rattle.st_model.specs.Steps.{fetch_field, registers_set, set_registers, are_there}
 use Rattle.st_model.specs.Contexts.{home_by}
 use Rattle.st_model.specs.Table.{Table}
-use Rattle.st_model.proofs.Runs.{run-then, run-next, after-went, after-died, run-answer}
+use Rattle.st_model.proofs.Runs.{run-answer}
 use Rattle.st_frames.specs.declared.registers.Registers.{Registers as Words}
 use Rattle.st_frames.specs.Rows.{row_state, registers_in, fetched_in}
 use Rattle.st_frames.specs.Narrow.{IsNarrow}

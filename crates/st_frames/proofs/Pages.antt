@@ -1,6 +1,6 @@
 -- Objects of the root page, over a memory that names them as the table does.
 use Rattle.std.proofs.Common.{◌≡◌, refl}
-use Rattle.st_model.specs.Values.{Value, Ref}
+use Rattle.st_model.specs.Values.{Ref}
 use Rattle.st_model.specs.Objects.{place_of}
 use Rattle.st_model.specs.declared.page.PageObject.{PageObject}
 use Rattle.st_model.specs.Machine.{ObjectMemory, State, Went}

@@ -1,12 +1,8 @@
 -- Words of SmallIntegers, of the page, and words that are the same.
-use Rattle.std.proofs.Common.{◌≡◌, ◌<◌, ◌≤◌, ℕ, Bool, true, false, refl, arith}
-use Rattle.std.specs.Prelude.{if◌then◌else◌, ◌+◌, ◌*◌, ◌-◌, ◌/◌, ◌%◌, ◌==◌, ℤ, pos, negsuc}
+use Rattle.std.proofs.Common.{◌≡◌, ℕ, true, refl, arith}
+use Rattle.std.specs.Prelude.{◌+◌, ◌*◌, ◌/◌, ◌%◌, ◌==◌}
 use Rattle.std.proofs.lemmas.Bool.Decides.{nat_tests}
-use Rattle.st_model.specs.declared.dead.Dead.TheVariants as dead
-use Rattle.st_model.specs.Values.{Value, Small, Ref, value_of, is_small, integer, integer_of}
-use Rattle.st_model.specs.Machine.{State, Died, Went}
-use Rattle.st_model.specs.Steps.{integer_or_die}
-use Rattle.st_model.specs.Table.{Table}
+use Rattle.st_model.specs.Values.{Small, value_of}
 use Rattle.st_model.proofs.Runs.{run-integer, run-no_integer}
 
 pub value_of-odd : (n : ℕ) → value_of (2 * n + 1) ≡ Small n

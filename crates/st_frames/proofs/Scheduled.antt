@@ -1,16 +1,16 @@
 -- Registers that are fetched from the scheduled context.
 use Rattle.std.proofs.Common.{◌≡◌, Ok, Err, refl, sym, subst, Bool, true, false}
-use Rattle.std.specs.Prelude.{ℕ, ◌+◌, ◌-ℤ◌, ◌+ℤ◌, ℤ, pos, negsuc, Result, nat_le, nat_lt}
+use Rattle.std.specs.Prelude.{ℕ, ◌-ℤ◌, ◌+ℤ◌, ℤ, pos, negsuc, Result}
 use Rattle.st_model.specs.declared.dead.Dead.{Dead}
 use Rattle.st_model.specs.declared.dead.Dead.TheVariants as dead
 use Rattle.st_model.specs.declared.word.Word.{Word}
 use Rattle.st_model.specs.declared.page.PageObject.TheVariants.{SchedulerAssociation}
 use Rattle.st_model.specs.Values.{Value, Small, Ref, word}
 use Rattle.st_model.specs.Objects.{nil}
-use Rattle.st_model.specs.Machine.{Registers, State, Died, Went, Step, answer, ◌>>=◌, ◌>>◌, empty_world}
+use Rattle.st_model.specs.Machine.{Registers, State, Died, Went, answer, ◌>>=◌, empty_world}
 use Rattle.st_model.specs.Contexts.{home_by, home_of, stack_place, fetch_stack_pointer, context_registers, fetch_context_registers, scheduled_context, fetch_scheduled_registers}
 use Rattle.st_model.specs.Table.{Table, table, bounded_table}
-use Rattle.st_model.specs.Steps.{are_there, fetch_integer, integer_or_die, check, set_registers, registers_set}
+use Rattle.st_model.specs.Steps.{are_there, fetch_integer, integer_or_die, set_registers, registers_set}
 use Rattle.st_model.specs.Calls.{Reads}
 use Rattle.st_model.specs.View.{View}
 use Rattle.st_model.proofs.Runs.{run-then, after-went, after-died, run-set_registers}
@@ -19,7 +19,7 @@ use Rattle.st_memory.specs.Tabular.{bounded_tabular}
 use Rattle.st_frames.specs.declared.frame.Frame.{Frame}
 use Rattle.st_frames.specs.declared.fetched.Fetched.{Fetched}
 use Rattle.st_frames.specs.Rows.{fetched_in}
-use Rattle.st_frames.specs.Shown.{shown, registers_of, with_registers, FetchesFrame}
+use Rattle.st_frames.specs.Shown.{registers_of, with_registers, FetchesFrame}
 
 -- A bounded table gives the registers that a table gives: nothing is made.
 

@@ -2,7 +2,7 @@
 use Rattle.std.proofs.Common.{◌≡◌, ℕ, refl}
 use Rattle.std.specs.Prelude.{ℤ}
 use Rattle.st_model.specs.Values.{value}
-use Rattle.st_model.specs.Machine.{Registers, State, Went, empty_world}
+use Rattle.st_model.specs.Machine.{Went, empty_world}
 use Rattle.st_model.specs.Objects.{nil}
 use Rattle.st_model.specs.Steps.{get_active, get_home, get_method, get_receiver, get_ip, get_sp, set_ip, set_sp}
 use Rattle.st_model.proofs.Runs.{run-then, run-next, after-went, after-died, run-answer, run-die, run-passed, run-failed}

@@ -1,5 +1,5 @@
 -- The state over the table that a memory and the registers show, and what holds of the registers at each call.
-use Rattle.std.specs.Prelude.{◌≡◌, ◌≤◌, Result, Ok, Err, ℤ, pos, negsuc, ◌≤ℤ◌}
+use Rattle.std.specs.Prelude.{◌≡◌, ◌≤◌, Result, Ok, Err, pos, negsuc, ◌≤ℤ◌}
 use Rattle.st_model.specs.declared.dead.Dead.{Dead}
 use Rattle.st_model.specs.Values.{value}
 use Rattle.st_model.specs.Objects.{nil}

@@ -1,9 +1,7 @@
 -- Objects that are made behind a table.
-use Rattle.std.proofs.Common.{◌≡◌, ◌≢◌, ℕ, ◌+◌, ◌-◌, ◌*◌, ◌/◌, ◌<◌, ◌≤◌, inl, inr, zero, suc, true, false, Bool, List, [], ◌∷◌, ◌++◌, length, map, take, drop, set, max, refl, sym, ap, ◌∙◌, subst, arith, get_or-set_same, append_assoc, length-set}
+use Rattle.std.proofs.Common.{◌≡◌, ℕ, ◌+◌, ◌-◌, ◌*◌, ◌/◌, ◌<◌, ◌≤◌, zero, suc, true, false, Bool, List, [], ◌∷◌, ◌++◌, length, take, drop, set, refl, sym, ap, ◌∙◌, subst, arith, append_assoc}
 use Rattle.std.specs.Prelude.{slice_index_or, unwrap_or, Option, Some, None, if◌then◌else◌}
-use Rattle.std.proofs.lemmas.Bool.{cases_lt}
 use Rattle.std.proofs.lemmas.List.{length-take, length-map, length-append, length-replicate}
-use Rattle.st_model.specs.declared.word.Word.{Word}
 use Rattle.st_model.specs.Values.{Value, Small, Ref, word, value_of, is_small}
 use Rattle.st_model.specs.Objects.{Object, is_pointers, with_field, nil, one, words_of}
 use Rattle.st_model.specs.Table.{Table, entry, changed, joined, total_used}

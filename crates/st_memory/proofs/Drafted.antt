@@ -1,18 +1,17 @@
 -- What the calls of a draft that only read come to.
-use Rattle.std.proofs.Common.{◌≡◌, ◌≢◌, ℕ, ◌+◌, ◌*◌, ◌/◌, ◌<◌, ◌≤◌, zero, suc, Bool, true, false, List, [], ◌∷◌, length, replicate, Result, Ok, Err, refl, sym, ap, ◌∙◌, subst, arith, is_some}
+use Rattle.std.proofs.Common.{◌≡◌, ℕ, ◌+◌, ◌*◌, ◌/◌, ◌<◌, ◌≤◌, zero, suc, Bool, true, false, List, [], ◌∷◌, length, replicate, Result, Ok, Err, refl, sym, ap, ◌∙◌, subst, arith, is_some}
 use Rattle.std.specs.Prelude.{ℤ, slice_get, unwrap_or, Option, Some, None, IfSome, IfNone}
 use Rattle.std.specs.Result.{is_ok}
 use Rattle.std.proofs.lemmas.List.{length-replicate}
 use Rattle.st_model.specs.declared.dead.Dead.{Dead}
 use Rattle.st_model.specs.declared.dead.Dead.TheVariants as dead
 use Rattle.st_model.specs.declared.kind.Kind.{Kind}
-use Rattle.st_model.specs.declared.kind.Kind.TheVariants as kind
 use Rattle.st_model.specs.declared.word.Word.{Word}
 use Rattle.st_model.specs.Values.{Value, Small, Ref, word, value_of}
 use Rattle.st_model.specs.Objects.{Object, is_pointers, is_method, nil}
 use Rattle.st_model.specs.Machine.{Step, Died, Went, is_there}
-use Rattle.st_model.specs.Steps.{fetch_field, count_fields, class_of, literal, byte_at, code_byte}
-use Rattle.st_model.specs.Methods.{method_header, literal_from_last, from_last}
+use Rattle.st_model.specs.Steps.{fetch_field, count_fields, class_of, literal, byte_at}
+use Rattle.st_model.specs.Methods.{method_header, literal_from_last}
 use Rattle.st_model.specs.Table.{Table, table, bounded_table, apart, entry}
 use Rattle.st_model.specs.View.{nothing, is_live, object_of, Has, Lacks, SmallInteger, Gone, OtherKind, TooFew}
 use Rattle.st_model.specs.Calls.{Reads, itself}
@@ -21,8 +20,8 @@ use Rattle.st_model.proofs.Tabular.{fetch_field-as, count_fields-as, class_of-as
 use Rattle.st_memory.specs.declared.change.Made.{Made}
 use Rattle.st_memory.specs.declared.change.Change.{Change}
 use Rattle.st_memory.specs.Tabular.{apart_tabular, bounded_tabular}
-use Rattle.st_memory.specs.Drafts.{made_object, with_made, field_value, replayed, draft_table, HasField, IsLike, AreLike, named_object}
-use Rattle.st_memory.proofs.Looking.{Got, here, result_got, Looks, reads_got, got_reads, reads_moved, or_got, checked, looked, look_at, fetch_looks, count_looks, header_looks, literal_looks, last_looks, byte_looks, class_in, class_look, class_looks, look_same, look_alike, method_same, count_same, class_look_alike, class_look_same, counted, uncounted, fetch_died, fetch_is}
+use Rattle.st_memory.specs.Drafts.{made_object, with_made, field_value, draft_table, HasField, IsLike, AreLike, named_object}
+use Rattle.st_memory.proofs.Looking.{Got, result_got, Looks, reads_got, got_reads, reads_moved, or_got, checked, looked, look_at, fetch_looks, count_looks, header_looks, literal_looks, last_looks, byte_looks, class_in, class_look, class_looks, look_same, look_alike, method_same, count_same, class_look_alike, class_look_same, counted, uncounted, fetch_died, fetch_is}
 use Rattle.st_memory.proofs.Writing.{field_like}
 use Rattle.st_memory.proofs.Replaying.{replayed_like}
 

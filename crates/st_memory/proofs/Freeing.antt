@@ -1,12 +1,12 @@
 -- The free places of a table, counted, and the half of a word over a draft.
-use Rattle.std.proofs.Common.{◌≡◌, ℕ, ◌+◌, ◌*◌, ◌-◌, ◌<◌, ◌≤◌, inl, inr, zero, suc, true, false, Bool, List, [], ◌∷◌, length, take, drop, Ok, refl, sym, ap, ◌∙◌, subst, arith, is_some}
+use Rattle.std.proofs.Common.{◌≡◌, ℕ, ◌+◌, ◌*◌, ◌-◌, ◌<◌, ◌≤◌, inl, inr, zero, suc, true, false, List, [], ◌∷◌, length, take, drop, Ok, refl, sym, ap, ◌∙◌, arith, is_some}
 use Rattle.std.specs.Prelude.{nat_lt, Option, Some, None, if◌then◌else◌}
 use Rattle.std.proofs.lemmas.Bool.{cases_lt}
 use Rattle.std.proofs.lemmas.Bool.Decides.{nat_tests}
 use Rattle.std.proofs.lemmas.List.{length-take}
 use Rattle.st_model.specs.Values.{Value, Small, Ref, value_of}
 use Rattle.st_model.specs.Objects.{Object}
-use Rattle.st_model.specs.Machine.{State, Went, answer}
+use Rattle.st_model.specs.Machine.{Went, answer}
 use Rattle.st_model.specs.Lookup.{half_word, pointer_if}
 use Rattle.st_model.specs.Table.{Table, entry, apart, bounded_table, free_place, without_first, pointer_apart}
 use Rattle.st_model.specs.View.{is_live}

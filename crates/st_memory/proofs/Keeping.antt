@@ -1,5 +1,5 @@
 -- What stands in fields is there, and stays there whatever is changed or made.
-use Rattle.std.proofs.Common.{◌≡◌, ◌≢◌, ℕ, ◌+◌, ◌<◌, ◌≤◌, ◌⊎◌, inl, inr, zero, suc, true, false, Bool, List, [], ◌∷◌, ◌++◌, length, take, drop, replicate, refl, sym, ap, ◌∙◌, subst, arith, is_some}
+use Rattle.std.proofs.Common.{◌≡◌, ℕ, ◌+◌, ◌<◌, ◌≤◌, ◌⊎◌, inl, inr, zero, suc, true, false, Bool, List, [], ◌∷◌, length, take, drop, replicate, refl, sym, ap, ◌∙◌, subst, arith, is_some}
 use Rattle.std.specs.Prelude.{slice_get, unwrap_or, Option, Some, None, if◌then◌else◌}
 use Rattle.std.proofs.lemmas.Bool.{cases_eq, cases_lt}
 use Rattle.std.proofs.lemmas.List.{append-nil}
@@ -17,7 +17,7 @@ use Rattle.st_memory.specs.declared.change.Change.{Change}
 use Rattle.st_memory.specs.declared.change.Change.TheVariants.{Field, Fields}
 use Rattle.st_memory.specs.Drafts.{AllThere, AreLike, HasField, made_object, with_made, field_value, written, all_written, pointer_fields, after_change, replayed, draft_table}
 use Rattle.st_memory.proofs.Writing.{written_like, written_here, written_else}
-use Rattle.st_memory.proofs.Replaying.{got_take, got_drop, after_like, replayed_like}
+use Rattle.st_memory.proofs.Replaying.{got_take, got_drop, replayed_like}
 use Rattle.st_memory.proofs.Behind.{entry_past, entry_joined, base_entry}
 
 got_below : {A : Type 0} (xs : List A) (i : ℕ) (x : A) → slice_get xs i ≡ Some x → i < length xs

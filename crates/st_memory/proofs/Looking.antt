@@ -1,6 +1,6 @@
 -- Steps that only look at one object.
-use Rattle.std.proofs.Common.{◌≡◌, ℕ, ◌+◌, ◌<◌, Bool, true, false, length, Result, Ok, Err, refl, sym, ap, ◌∙◌, subst, arith, is_some}
-use Rattle.std.specs.Prelude.{ℤ, pos, slice_get, unwrap_or, Option, Some, None, if◌then◌else◌}
+use Rattle.std.proofs.Common.{◌≡◌, ℕ, ◌+◌, ◌<◌, Bool, true, false, length, Result, Ok, Err, refl, sym, ap, ◌∙◌, arith, is_some}
+use Rattle.std.specs.Prelude.{ℤ, pos, slice_get, unwrap_or, Option, Some, None}
 use Rattle.st_model.specs.declared.dead.Dead.{Dead}
 use Rattle.st_model.specs.declared.dead.Dead.TheVariants as dead
 use Rattle.st_model.specs.declared.kind.Kind.{Kind}
@@ -13,7 +13,7 @@ use Rattle.st_model.specs.Steps.{object, object_named, found, check, or_die, of_
 use Rattle.st_model.specs.Methods.{method_header, literal_from_last, from_last}
 use Rattle.st_model.specs.Table.{Table, table, entry}
 use Rattle.st_model.specs.View.{nothing, is_live, object_of}
-use Rattle.st_model.specs.Calls.{Reads, transition_of, itself}
+use Rattle.st_model.specs.Calls.{Reads, transition_of}
 use Rattle.st_memory.specs.Drafts.{HasField, IsLike, AreLike, field_value, named_object}
 
 -- what a step gives that leaves the state as it is

@@ -1,21 +1,17 @@
 -- The table of a draft: objects made behind it, changes noted one after the other, and fields read from the last change back.
-use Rattle.std.proofs.Common.{◌≡◌, ◌≢◌, ℕ, ◌+◌, ◌-◌, ◌*◌, ◌/◌, ◌%◌, ◌<◌, ◌≤◌, ◌⊎◌, inl, inr, zero, suc, true, false, Bool, List, [], ◌∷◌, ◌++◌, length, map, take, drop, set, max, refl, sym, ap, ◌∙◌, subst, arith, is_some, get_or-set_same, get_or-set_other}
-use Rattle.std.specs.Prelude.{◌==◌, slice_get, slice_index_or, unwrap_or, Option, Some, None, if◌then◌else◌}
+use Rattle.std.proofs.Common.{◌≡◌, ◌≢◌, ℕ, ◌+◌, ◌-◌, ◌*◌, ◌/◌, ◌%◌, ◌<◌, ◌≤◌, ◌⊎◌, inl, inr, zero, suc, true, false, Bool, List, [], ◌∷◌, length, take, drop, set, refl, sym, ap, ◌∙◌, subst, arith, get_or-set_same, get_or-set_other}
+use Rattle.std.specs.Prelude.{◌==◌, slice_get, slice_index_or, Some, if◌then◌else◌}
 use Rattle.std.proofs.lemmas.Bool.{cases_lt}
 use Rattle.std.proofs.lemmas.Bool.Decides.{nat_tests}
-use Rattle.std.proofs.lemmas.List.{length-take, length-drop, length-map, length-append}
+use Rattle.std.proofs.lemmas.List.{length-take, length-drop}
 use Rattle.st_model.specs.declared.word.Word.{Word}
-use Rattle.st_model.specs.Values.{Value, Small, Ref, word, value_of, is_small}
-use Rattle.st_model.specs.Objects.{Object, is_pointers, with_field, one, words_of}
-use Rattle.st_model.specs.Table.{Table, entry, changed, joined, total_used}
-use Rattle.st_model.specs.View.{nothing, is_live, object_of, with_stored}
-use Rattle.st_model.proofs.Pointers.{value_of-even}
-use Rattle.st_model.proofs.WholeLemmas.{length-changed, total_used-changed}
-use Rattle.st_model.proofs.FormedLemmas.{words_of-with_field}
-use Rattle.st_memory.specs.declared.change.Made.{Made}
+use Rattle.st_model.specs.Values.{Value, Small, Ref, word, value_of}
+use Rattle.st_model.specs.Objects.{is_pointers}
+use Rattle.st_model.specs.Table.{Table}
+use Rattle.st_model.specs.View.{object_of}
 use Rattle.st_memory.specs.declared.change.Change.{Change}
 use Rattle.st_memory.specs.declared.change.Change.TheVariants.{Field, Fields}
-use Rattle.st_memory.specs.Drafts.{made_object, with_made, field_value, written, all_written, pointer_fields, after_change, no_change, replayed, HasField, IsLike, AreLike, named_object, highest}
+use Rattle.st_memory.specs.Drafts.{field_value, written, all_written, pointer_fields, after_change, no_change, replayed, HasField, AreLike}
 use Rattle.st_memory.proofs.Writing.{likes_self, likes_through, written_like, all_written_like, field_like, written_here, written_else, all_written_else, all_written_here}
 
 -- what changes leave of objects

@@ -1,5 +1,5 @@
 -- What the calls of a draft that change something come to.
-use Rattle.std.proofs.Common.{◌≡◌, ℕ, ◌+◌, ◌*◌, ◌/◌, ◌<◌, ◌≤◌, inl, inr, zero, suc, Bool, true, false, ◌≢◌, List, [], ◌∷◌, length, take, drop, replicate, get_or, Result, Ok, Err, refl, sym, ap, ◌∙◌, subst, arith, is_some}
+use Rattle.std.proofs.Common.{◌≡◌, ℕ, ◌+◌, ◌*◌, ◌/◌, ◌<◌, ◌≤◌, inl, inr, zero, suc, true, false, ◌≢◌, List, [], ◌∷◌, length, take, drop, replicate, get_or, Ok, Err, refl, sym, ap, ◌∙◌, subst, arith, is_some}
 use Rattle.std.specs.Prelude.{nat_lt, slice_get, Option, Some, None, if◌then◌else◌}
 use Rattle.std.proofs.lemmas.Bool.{cases_lt}
 use Rattle.std.proofs.lemmas.Bool.Decides.{nat_tests}
@@ -8,23 +8,23 @@ use Rattle.st_model.specs.declared.dead.Dead.{Dead}
 use Rattle.st_model.specs.declared.dead.Dead.TheVariants as dead
 use Rattle.st_model.specs.declared.kind.Kind.TheVariants as kind
 use Rattle.st_model.specs.declared.word.Word.{Word}
-use Rattle.st_model.specs.Values.{Value, Small, Ref, word, value_of, is_small}
-use Rattle.st_model.specs.Objects.{Object, is_pointers, with_field, nil, one, words_of}
-use Rattle.st_model.specs.Machine.{Head, State, Step, Died, Went, is_there, after, die, answer, ◌>>=◌, ◌>>◌}
+use Rattle.st_model.specs.Values.{Value, Small, Ref, word, is_small}
+use Rattle.st_model.specs.Objects.{Object, is_pointers, nil}
+use Rattle.st_model.specs.Machine.{Head, State, Died, Went, is_there, die}
 use Rattle.st_model.specs.Formed.{IsWord}
-use Rattle.st_model.specs.Steps.{transfer, store_field, set_field, store_at, stored_at, object, object_named, found, check, count_fields, new_object, make, make_named, made, new_of}
-use Rattle.st_model.specs.Table.{Table, table, apart, entry, joined, total_used}
+use Rattle.st_model.specs.Steps.{transfer, store_field, set_field, store_at, stored_at, new_object, make, make_named, made, new_of}
+use Rattle.st_model.specs.Table.{Table, table, apart, entry, joined}
 use Rattle.st_model.specs.View.{IsKnown, is_live, object_of, with_stored, with_fields, field_of, fields_from, Has, Lacks, SmallInteger, Gone, OtherKind, TooFew}
-use Rattle.st_model.specs.Calls.{Reads, Changes, transition_of, itself}
-use Rattle.st_model.proofs.Pointers.{value_of-even, value_of-pointer}
+use Rattle.st_model.specs.Calls.{Changes, itself}
+use Rattle.st_model.proofs.Pointers.{value_of-even}
 use Rattle.st_model.proofs.Runs.{run-then, run-next, after-went, after-died, run-small, run-gone, run-live, run-passed, run-failed, run-set_field}
 use Rattle.st_model.proofs.Copies.{AreKnown, run-transfer_none, run-transfer, run-transfer_unread, run-transfer_unwritten}
 use Rattle.st_model.proofs.Tabular.{store_field-as, transfer-as}
 use Rattle.st_memory.specs.declared.change.Made.{Made}
 use Rattle.st_memory.specs.declared.change.Change.{Change}
-use Rattle.st_memory.specs.declared.change.Change.TheVariants.{Field, Fields}
+use Rattle.st_memory.specs.declared.change.Change.TheVariants.{Fields}
 use Rattle.st_memory.specs.Tabular.{apart_tabular}
-use Rattle.st_memory.specs.Drafts.{AllThere, made_object, with_made, draft_table, written, all_written, after_change, pointer_fields, field_value}
+use Rattle.st_memory.specs.Drafts.{AllThere, made_object, with_made, draft_table, written, all_written, after_change}
 use Rattle.st_memory.proofs.Writing.{written_like}
 use Rattle.st_memory.proofs.Behind.{entry_past, length_replayed, length-with_made}
 use Rattle.st_memory.proofs.Replaying.{back, back_value}

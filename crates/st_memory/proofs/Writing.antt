@@ -1,6 +1,6 @@
 -- Reading a field after fields were written, and what a written field leaves of objects.
-use Rattle.std.proofs.Common.{◌≡◌, ◌≢◌, ℕ, ◌+◌, ◌<◌, ◌≤◌, ◌⊎◌, inl, inr, zero, suc, true, false, Bool, List, [], ◌∷◌, length, set, refl, sym, ap, ◌∙◌, subst, arith, length-set, is_some}
-use Rattle.std.specs.Prelude.{slice_get, slice_set, unwrap_or, Option, Some, None, if◌then◌else◌}
+use Rattle.std.proofs.Common.{◌≡◌, ◌≢◌, ℕ, ◌+◌, ◌<◌, ◌⊎◌, inl, inr, zero, suc, true, false, Bool, List, [], ◌∷◌, length, set, refl, sym, ap, ◌∙◌, subst, arith, length-set, is_some}
+use Rattle.std.specs.Prelude.{slice_get, unwrap_or, Option, Some, None, if◌then◌else◌}
 use Rattle.std.proofs.lemmas.Bool.{cases_eq}
 use Rattle.st_model.specs.Values.{Value, Small, Ref}
 use Rattle.st_model.specs.Objects.{Object, is_pointers, with_field}

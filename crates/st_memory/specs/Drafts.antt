@@ -1,6 +1,6 @@
 -- What a draft says: the objects of a table, those that a row makes behind them, and the changes of fields, one after the
 -- other.
-use Rattle.std.specs.Prelude.{◌≡◌, ℕ, zero, suc, ◌<◌, ◌/◌, Bool, true, false, List, [], ◌∷◌, ◌++◌, map, take, drop, length, replicate, max, slice_get, slice_index_or, Option, Some, None, if◌then◌else◌}
+use Rattle.std.specs.Prelude.{◌≡◌, ℕ, zero, suc, ◌<◌, ◌/◌, true, false, List, [], ◌∷◌, ◌++◌, map, take, drop, length, replicate, max, slice_get, slice_index_or, Option, Some, None, if◌then◌else◌}
 use Rattle.st_model.specs.declared.kind.Kind.TheVariants as kind
 use Rattle.st_model.specs.Values.{Value, Small, Ref, word}
 use Rattle.st_model.specs.Objects.{Object, nil, is_pointers}

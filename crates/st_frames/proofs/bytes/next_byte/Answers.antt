@@ -1,5 +1,5 @@
-use Rattle.std.proofs.Common.{rules, ◌≡◌, Err, w32, arith, subst, to_z, of_z}
-use Rattle.std.specs.Prelude.{ℤ, pos, ◌+ℤ◌, FitsSigned}
+use Rattle.std.proofs.Common.{rules, ◌≡◌, Err, w32, arith, subst}
+use Rattle.std.specs.Prelude.{ℤ, FitsSigned}
 use Rattle.std.proofs.lemmas.Int.{ints, to_z-of_z}
 use Rattle.st_model.specs.Values.{word}
 use Rattle.st_model.specs.Machine.{State, Died, Went}

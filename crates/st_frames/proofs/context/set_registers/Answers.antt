@@ -1,5 +1,4 @@
-use Rattle.std.proofs.Common.{rules, ◌≡◌, true, arith}
-use Rattle.std.proofs.lemmas.Int.{ints}
+use Rattle.std.proofs.Common.{rules, ◌≡◌, true}
 use Rattle.st_model.specs.Steps.{are_there}
 use Rattle.st_frames.specs.Rows.{fetched_in}
 use Rattle.st_frames.proofs.Homes.{active-narrow, home-narrow, method-narrow, receiver-narrow}

@@ -1,4 +1,4 @@
-use Rattle.std.proofs.Common.{◌≤◌, ◌+◌, ◌≡◌, length, ap, sym, ◌∙◌, arith}
+use Rattle.std.proofs.Common.{◌≤◌, ◌+◌, length, ap, sym, ◌∙◌, arith}
 use Rattle.st_model.specs.Objects.{one, words_of}
 use Rattle.st_model.specs.Table.{total_used}
 use Rattle.st_memory.proofs.Behind.{used_entries, used_words, total_made}

@@ -1,7 +1,6 @@
 use Rattle.std.proofs.Common.{◌≡◌, ◌≤◌, length, false, sym, ◌∙◌, arith}
-use Rattle.std.proofs.lemmas.Grind.{common_steps}
 use Rattle.st_model.specs.Values.{word, is_small}
-use Rattle.st_memory.proofs.Behind.{same_small, same_low, same_high, named_is}
+use Rattle.st_memory.proofs.Behind.{same_low, same_high, named_is}
 use Rattle.st_memory.proofs.draft.Draft.find_number.Goals as goal
 
 pub returns-then-o-lt65536-clause-none : goal.returns-then-o-lt65536-clause-none

@@ -1,4 +1,4 @@
-use Rattle.std.proofs.Common.{◌≡◌, true, false, is_some, sym, ap, ◌∙◌}
+use Rattle.std.proofs.Common.{◌≡◌, sym, ap, ◌∙◌}
 use Rattle.std.specs.Prelude.{Some}
 use Rattle.st_model.specs.Values.{word}
 use Rattle.st_memory.proofs.Drafted.{made_if, base_if, made_field, base_field, ok_of, ok_same, nil_is}

@@ -1,5 +1,5 @@
-use Rattle.std.proofs.Common.{◌≡◌, ◌+◌, ◌≤◌, ◌<◌, length, drop, suc, zero, false, true, is_some, sym, ap, ◌∙◌, subst, arith}
-use Rattle.st_model.specs.Table.{entry, free_place, without_first}
+use Rattle.std.proofs.Common.{◌≡◌, ◌+◌, ◌<◌, length, drop, suc, false, true, is_some, sym, ap, ◌∙◌, arith}
+use Rattle.st_model.specs.Table.{entry, free_place}
 use Rattle.st_memory.proofs.Freeing.{free_past, free_next, free_here, free_end, first_dropped, live_place}
 use Rattle.st_memory.proofs.draft.Draft.free_place.Goals as goal
 use Rattle.st_memory.proofs.draft.Draft.free_place.Goals.{then-not-live+else-left-eq0, else-not-live}

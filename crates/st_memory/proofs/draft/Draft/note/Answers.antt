@@ -1,9 +1,7 @@
-use Rattle.std.proofs.Common.{◌≡◌, ◌+◌, ◌<◌, ◌≤◌, inl, inr, ℕ, length, sym, ap, ◌∙◌, subst, arith, length-set, get_or-set_same, get_or-set_other}
+use Rattle.std.proofs.Common.{◌+◌, ◌<◌, inl, inr, length, sym, ap, ◌∙◌, subst, arith, length-set, get_or-set_same, get_or-set_other}
 use Rattle.std.specs.Prelude.{◌*◌, slice_set, slice_index_or}
 use Rattle.std.proofs.lemmas.Bool.{cases_eq}
 use Rattle.st_memory.specs.Drafts.{AllThere, with_made, no_change, highest}
-use Rattle.st_memory.proofs.Keeping.{closed_field}
-use Rattle.st_memory.proofs.Storing.{stores}
 use Rattle.st_memory.proofs.Replaying.{replayed_more}
 use Rattle.st_memory.proofs.draft.Draft.note.Goals as goal
 

@@ -1,4 +1,4 @@
-use Rattle.std.proofs.Common.{◌≡◌, ◌≤◌, length, arith}
+use Rattle.std.proofs.Common.{◌≤◌, length, arith}
 use Rattle.st_model.specs.Values.{word}
 use Rattle.st_memory.proofs.Freeing.{half_made, half_base}
 use Rattle.st_memory.proofs.draft.DraftObjects.half_word.Goals as goal

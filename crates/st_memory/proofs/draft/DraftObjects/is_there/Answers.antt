@@ -1,4 +1,4 @@
-use Rattle.std.proofs.Common.{◌≡◌, true, false, is_some, sym, ◌∙◌}
+use Rattle.std.proofs.Common.{sym, ◌∙◌}
 use Rattle.st_model.specs.Values.{word}
 use Rattle.st_memory.proofs.Drafted.{there_if, there_else}
 use Rattle.st_memory.proofs.draft.DraftObjects.is_there.Goals as goal

@@ -1,7 +1,6 @@
 use Rattle.std.proofs.Common.{◌≡◌, ◌+◌, ◌<◌, ◌≤◌, inl, inr, false, length, sym, ap, ◌∙◌, subst, arith, length-set, get_or-set_same, get_or-set_other}
 use Rattle.std.specs.Prelude.{◌*◌, slice_set, slice_index_or}
 use Rattle.std.proofs.lemmas.Bool.{cases_eq}
-use Rattle.st_model.specs.declared.word.Word.{Word}
 use Rattle.st_model.specs.Values.{word, is_small, Ref}
 use Rattle.st_memory.specs.declared.change.Made.{Made}
 use Rattle.st_memory.specs.Drafts.{AllThere, draft_table, no_made}

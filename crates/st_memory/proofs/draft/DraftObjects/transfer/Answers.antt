@@ -1,7 +1,6 @@
-use Rattle.std.proofs.Common.{◌≡◌, ◌+◌, ◌<◌, ◌≤◌, length, refl, arith}
+use Rattle.std.proofs.Common.{◌+◌, ◌<◌, ◌≤◌, length, refl, arith}
 use Rattle.std.specs.Prelude.{◌*◌}
 use Rattle.std.proofs.lemmas.Result.{err_from_is_err_and}
-use Rattle.st_model.specs.Values.{word}
 use Rattle.st_memory.specs.Drafts.{draft_table}
 use Rattle.st_memory.proofs.Keeping.{closed_fields}
 use Rattle.st_memory.proofs.Storing.{below_draft, copies_none, copies_unread, copies_unwritten, copies}
