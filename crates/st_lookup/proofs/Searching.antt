@@ -1,12 +1,11 @@
 -- The search through a dictionary, place by place.
-use Rattle.std.proofs.Common.{◌≡◌, ℕ, ◌+◌, ◌-◌, zero, suc, ◌<◌, ◌≤◌, Bool, true, false, Option, Some, None, Result, Ok, Err, refl, sym, ◌∙◌, ap, arith}
-use Rattle.std.specs.Option.{option_map}
+use Rattle.std.proofs.Common.{◌≡◌, ℕ, ◌+◌, ◌-◌, zero, suc, ◌<◌, ◌≤◌, Bool, true, false, Option, None, Result, Ok, Err, refl, sym, ◌∙◌, ap, arith}
 use Rattle.st_model.specs.declared.dead.Dead.{Dead}
 use Rattle.st_model.specs.declared.word.Word.{Word}
 use Rattle.st_model.specs.declared.page.PageObject.TheVariants.{NilObject}
 use Rattle.st_model.specs.Values.{Value, Ref, word}
 use Rattle.st_model.specs.Objects.{place_of}
-use Rattle.st_model.specs.Machine.{ObjectMemory, State, Transition, Died, Went, Step, answer}
+use Rattle.st_model.specs.Machine.{ObjectMemory, State, Went, Step, answer}
 use Rattle.st_model.specs.Steps.{fetch_field, of_page, same_value}
 use Rattle.st_model.specs.Lookup.{method_at, place_says, look_at_place, look_at_places, search_from}
 use Rattle.st_model.specs.Table.{Table, IsTabular}

@@ -1,12 +1,12 @@
 -- Each bytecode over births does the same over pointers.
-use Rattle.std.proofs.Common.{◌≡◌, ℕ, Option, Some, None, refl}
+use Rattle.std.proofs.Common.{◌≡◌, ℕ}
 use Rattle.st_model.specs.declared.bytecode.Operand.{Operand}
 use Rattle.st_model.specs.declared.bytecode.Operand.TheVariants.{ReceiverVariable, TemporaryVariable, LiteralConstant, LiteralVariable}
 use Rattle.st_model.specs.declared.bytecode.Constant.{Constant}
 use Rattle.st_model.specs.declared.bytecode.Constant.TheVariants as constant
 use Rattle.st_model.specs.declared.bytecode.Bytecode.{Bytecode}
 use Rattle.st_model.specs.declared.bytecode.Bytecode.TheVariants as code
-use Rattle.st_model.specs.Values.{Value, Small, Ref, renamed, IsLive}
+use Rattle.st_model.specs.Values.{Value, renamed, IsLive}
 use Rattle.st_model.specs.Machine.{ObjectMemory}
 use Rattle.st_model.specs.Calls.{itself}
 use Rattle.st_model.specs.Bytecodes.{fetch_receiver_variable, fetch_temporary_variable, fetch_literal_constant, fetch_literal_variable, fetch_operand, store_receiver_variable, store_temporary_variable, store_literal_variable, store_operand, push_operand, store_and_pop, push_receiver, constant_value, push_constant, extended_push, extended_store, extended_store_and_pop, pop_stack, duplicate_top, push_active_context, short_unconditional_jump, long_unconditional_jump, send_literal, send_literal_to_super, extended_send, double_extended_send, extended_super_send, double_extended_super_send, return_receiver, return_constant, return_top_to_sender, return_top_to_caller, short_jump_on_false, long_jump_on_true, long_jump_on_false, bytecode, step}

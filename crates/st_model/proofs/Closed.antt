@@ -1,5 +1,5 @@
 -- A step leaves a table in which nothing dangles closed: what it keeps, it has found there.
-use Rattle.std.proofs.Common.{◌≡◌, ◌≢◌, ℕ, List, [], ◌∷◌, zero, suc, Option, Some, None, Bool, true, false, refl, sym, ◌∙◌, ap, subst, inl, inr, ◌⊎◌, is_some}
+use Rattle.std.proofs.Common.{◌≡◌, ◌≢◌, ℕ, List, zero, suc, Option, Some, None, Bool, true, false, refl, sym, ◌∙◌, subst, inl, inr, is_some}
 use Rattle.std.specs.Prelude.{◌&&◌, replicate}
 use Rattle.st_model.specs.declared.kind.Kind.{Kind}
 use Rattle.st_model.specs.declared.kind.Kind.TheVariants as kind
@@ -12,9 +12,9 @@ use Rattle.st_model.specs.Table.{Table, table, bounded_table, entry, changed, pl
 use Rattle.st_model.specs.Steps.{new_of, are_there}
 use Rattle.st_model.specs.Bytecodes.{step}
 use Rattle.st_model.specs.Show.{IsUsed, IsClosed, renamed_head}
-use Rattle.st_model.proofs.Same.{OptionSame, Simulation, StateSame, TransitionSame, Same, stored_is_live, register_roots}
+use Rattle.st_model.proofs.Same.{Simulation, StateSame, TransitionSame, Same, stored_is_live, register_roots}
 use Rattle.st_model.proofs.BytecodesSame.{step-same}
-use Rattle.st_model.proofs.TableLemmas.{changed-some, changed-other, changed-from, placed-first, placed-other, first_free-none}
+use Rattle.st_model.proofs.TableLemmas.{changed-some, changed-other, placed-first, placed-other, first_free-none}
 use Rattle.st_model.proofs.HeapsSame.{number_cases}
 use Rattle.st_model.proofs.Names.{map_all, map_object}
 use Rattle.st_model.proofs.Bounded.{AnyName, same_name, read_same, object-itself, registers-itself, world-itself, head-itself, any_values}

@@ -1,15 +1,15 @@
 -- Each step on headers and contexts over births does the same over pointers.
-use Rattle.std.proofs.Common.{◌≡◌, ℕ, ◌-◌, ◌/◌, ◌%◌, Option, Some, None, Bool, true, false, refl, ap, inr, length}
-use Rattle.std.specs.Prelude.{◌+◌, ◌==◌, ℤ, pos, negsuc, slice_get, nat_lt, if◌then◌else◌}
+use Rattle.std.proofs.Common.{◌≡◌, ℕ, ◌-◌, ◌/◌, ◌%◌, Option, Some, None, Bool, true, false, refl, ap, length}
+use Rattle.std.specs.Prelude.{◌+◌, ◌==◌, ℤ, pos, negsuc, nat_lt, if◌then◌else◌}
 use Rattle.st_model.specs.Values.{Value, Small, Ref, renamed, small_integer, IsLive}
 use Rattle.st_model.specs.Objects.{Object, renamed_object, IsLiveObject}
-use Rattle.st_model.specs.Machine.{ObjectMemory, Registers, State, roots_of}
+use Rattle.st_model.specs.Machine.{ObjectMemory}
 use Rattle.st_model.specs.Calls.{itself}
-use Rattle.st_model.specs.Steps.{or_die, set_registers}
-use Rattle.st_model.specs.Methods.{bits_of, flag_of, temporary_count, is_large, literal_count, context_size, from_last, method_header, literal_from_last, primitive_number, method_primitive}
+use Rattle.st_model.specs.Steps.{or_die}
+use Rattle.st_model.specs.Methods.{bits_of, flag_of, temporary_count, literal_count, context_size, from_last, method_header, literal_from_last, primitive_number, method_primitive}
 use Rattle.st_model.specs.Contexts.{home_by, home_of, stack_place, fetch_stack_pointer, context_registers, fetch_context_registers, store_context_registers, switch, fill_context, new_context, pass_words, activate}
 use Rattle.st_model.specs.Show.{renamed_registers, renamed_option}
-use Rattle.st_model.proofs.Same.{Simulation, StateSame, Same, Anything, IsLiveRegisters, steps_same, length-renamed, get-renamed, get_is_live, IsLiveOption, then_value-same}
+use Rattle.st_model.proofs.Same.{Simulation, Same, Anything, IsLiveRegisters, steps_same, length-renamed, get-renamed, get_is_live, IsLiveOption}
 use Rattle.st_model.proofs.StepsSame.{memory_same, parts_same, set_registers-same}
 
 module _ {H K : Type 0} {M : ObjectMemory H} {N : ObjectMemory K} (sim : Simulation M N) where

@@ -1,19 +1,19 @@
 -- The copying of several fields over the table: all of them are there and are copied, or a check fails.
-use Rattle.std.proofs.Common.{◌≡◌, ◌≢◌, ℕ, zero, suc, ◌+◌, ◌<◌, ◌≤◌, List, [], ◌∷◌, length, Bool, true, false, Option, Some, None, refl, sym, ◌∙◌, ap, arith, get_or, ◌⊎◌, inl, inr}
-use Rattle.std.proofs.lemmas.Bool.{cases_eq, cases_lt}
+use Rattle.std.proofs.Common.{◌≡◌, ℕ, zero, suc, ◌+◌, ◌<◌, ◌≤◌, List, [], ◌∷◌, length, true, false, refl, ◌∙◌, ap, arith, inl, inr}
+use Rattle.std.proofs.lemmas.Bool.{cases_lt}
 use Rattle.std.proofs.lemmas.Bool.Decides.{nat_tests}
 use Rattle.std.proofs.lemmas.Option.{slice_get-get_or, slice_get_past}
-use Rattle.std.specs.Prelude.{slice_get, nat_lt, nat_le}
+use Rattle.std.specs.Prelude.{nat_lt}
 use Rattle.st_model.specs.declared.dead.Dead.{Dead}
 use Rattle.st_model.specs.declared.dead.Dead.TheVariants as dead
-use Rattle.st_model.specs.Values.{Value, Small, Ref, is_small}
-use Rattle.st_model.specs.Objects.{Object, is_pointers, nil}
-use Rattle.st_model.specs.Machine.{State, Transition, Died, Went, Step, after, answer, die, ◌>>=◌, ◌>>◌}
-use Rattle.st_model.specs.Steps.{object, check, or_die, fetch_field, store_field, fetch_fields, store_fields, transfer}
+use Rattle.st_model.specs.Values.{Value}
+use Rattle.st_model.specs.Objects.{is_pointers, nil}
+use Rattle.st_model.specs.Machine.{State, Died, Went}
+use Rattle.st_model.specs.Steps.{object, fetch_field, store_field, fetch_fields, store_fields, transfer}
 use Rattle.st_model.specs.Table.{Table, table}
 use Rattle.st_model.specs.Formed.{IsWord}
 use Rattle.st_model.specs.View.{Has, Lacks, SmallInteger, Gone, OtherKind, TooFew, IsKnown, is_live, object_of, with_stored, with_fields, field_of, fields_from}
-use Rattle.st_model.proofs.Runs.{run-then, run-next, after-went, after-died, run-answer, run-die, run-passed, run-failed, run-some, run-none, run-small, run-live, run-gone, run-store}
+use Rattle.st_model.proofs.Runs.{run-then, run-next, after-went, after-died, run-answer, run-passed, run-failed, run-some, run-none, run-small, run-live, run-gone, run-store}
 use Rattle.st_model.proofs.Transfers.{live_stored, count_stored, kind_stored, fields_from-length}
 
 -- fetching

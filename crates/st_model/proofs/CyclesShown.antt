@@ -1,6 +1,6 @@
 -- A running machine over a table does, cycle by cycle, what the births do that its table shows.
-use Rattle.std.proofs.Common.{◌≡◌, ℕ, zero, suc, ◌<◌, [], ◌∷◌, Option, Some, None, Bool, true, false, refl, sym, ◌∙◌, ap, subst, arith, length, inl, inr, is_some}
-use Rattle.std.specs.Prelude.{IsTrue, nat_lt, if◌then◌else◌}
+use Rattle.std.proofs.Common.{◌≡◌, ℕ, zero, suc, ◌<◌, Option, Some, None, Bool, true, false, refl, sym, ◌∙◌, ap, subst, length, inl, inr, is_some}
+use Rattle.std.specs.Prelude.{IsTrue}
 use mathlib.Core.Path.{fun_ext}
 use Rattle.st_model.specs.declared.demand.Demand.{Demand}
 use Rattle.st_model.specs.Values.{Value, Small, Ref, renamed, IsLive}
@@ -10,7 +10,7 @@ use Rattle.st_model.specs.Machine.{Head, State, Transition, Died, Went, used, is
 use Rattle.st_model.specs.Steps.{next_byte}
 use Rattle.st_model.specs.Bytecodes.{step}
 use Rattle.st_model.specs.Births.{Births, births, borne, settled_births, pointer_of}
-use Rattle.st_model.specs.Table.{Table, table, apart, bounded_table, entry}
+use Rattle.st_model.specs.Table.{Table, table, apart, entry}
 use Rattle.st_model.specs.Show.{Shows, IsClosed, IsUsed}
 use Rattle.st_model.specs.Settled.{Reclaimed, with_memory, settled_set, reclaim}
 use Rattle.st_model.specs.Calls.{itself}

@@ -1,11 +1,11 @@
 -- Births, and a table where new objects stand apart, stay the same through one step that is foreseen.
-use Rattle.std.proofs.Common.{◌≡◌, ◌≢◌, ℕ, ◌+◌, ◌-◌, ◌<◌, ◌≤◌, suc, Option, Some, None, true, false, refl, sym, ◌∙◌, ap, subst, arith, length, inl, inr, ◌⊎◌, nat_lt}
+use Rattle.std.proofs.Common.{◌≡◌, ℕ, ◌+◌, ◌-◌, ◌<◌, ◌≤◌, Option, Some, None, true, false, refl, sym, ◌∙◌, ap, arith, length, inl, inr, nat_lt}
 use Rattle.std.specs.Prelude.{if◌then◌else◌, take}
 use Rattle.std.proofs.lemmas.Bool.Decides.{nat_tests}
 use Rattle.st_model.specs.Objects.{Object, PageObject, place_of, renamed_object, IsLiveObject, one, words_of, with_field}
 use Rattle.st_model.specs.Steps.{new_of}
 use Rattle.st_model.specs.Machine.{State, roots_of, used}
-use Rattle.st_model.specs.Births.{Birth, Births, births, object_born, replaced, bearer, least_free, born, borne, pointer_of, total_kept}
+use Rattle.st_model.specs.Births.{Birth, Births, births, object_born, replaced, bearer, least_free, born, pointer_of, total_kept}
 use Rattle.st_model.specs.Table.{Table, table, apart, entry, changed, placed, joined, free_place, without_first, pointer_apart, total_used}
 use Rattle.st_model.specs.Show.{IsKept, Shows}
 use Rattle.st_model.proofs.Same.{OptionSame, Simulation, StateSame}

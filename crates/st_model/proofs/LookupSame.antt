@@ -1,13 +1,12 @@
 -- The search for a method over births does the same over pointers.
 use Rattle.std.proofs.Common.{◌≡◌, ℕ, ◌-◌, zero, suc, Option, Some, None, Bool, true, false, refl, inr}
-use Rattle.std.specs.Prelude.{nat_lt, bit_and}
 use Rattle.st_model.specs.Values.{Value, Small, Ref, renamed, IsLive}
-use Rattle.st_model.specs.Objects.{Object, renamed_object}
-use Rattle.st_model.specs.Machine.{ObjectMemory, State, Step}
+use Rattle.st_model.specs.Objects.{Object}
+use Rattle.st_model.specs.Machine.{ObjectMemory, Step}
 use Rattle.st_model.specs.Calls.{itself}
 use Rattle.st_model.specs.Lookup.{pointer_if, half_word, checked_method, method_at, place_says, look_at_place, look_at_places, search_from, search_dictionary, or_above, method_in_class, look_in_class, unless_nil, end_at_nil, find_within, find}
 use Rattle.st_model.specs.Show.{renamed_option}
-use Rattle.st_model.proofs.Same.{OptionSame, Simulation, StateSame, Same, Anything, IsLiveOption, steps_same}
+use Rattle.st_model.proofs.Same.{OptionSame, Simulation, Same, Anything, IsLiveOption, steps_same}
 use Rattle.st_model.proofs.StepsSame.{memory_same, parts_same}
 use Rattle.st_model.proofs.ContextsSame.{method_header-same}
 

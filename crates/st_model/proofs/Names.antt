@@ -3,7 +3,7 @@ use Rattle.std.proofs.Common.{◌≡◌, ℕ, List, [], ◌∷◌, refl, ap, inl
 use Rattle.std.specs.Prelude.{Option, Some, None, ◌++◌}
 use Rattle.st_model.specs.Values.{Value, Small, Ref, renamed, renamed_all, IsLive, AllLive}
 use Rattle.st_model.specs.Objects.{Object, renamed_object, IsLiveObject}
-use Rattle.st_model.specs.Machine.{Registers, Devices, World, Head, State, table_root, head_roots, device_roots, roots_of}
+use Rattle.st_model.specs.Machine.{Registers, World, Head, table_root, head_roots, device_roots}
 use Rattle.st_model.specs.Settled.{IsRefTo, AnyRefTo, Refers}
 use Rattle.st_model.specs.Show.{renamed_registers, renamed_world, renamed_option, renamed_head}
 

@@ -1,9 +1,9 @@
 -- A closed state over a table shows the births that it begins with.
 use Rattle.std.proofs.Common.{◌≡◌, ℕ, ◌+◌, List, [], ◌∷◌, zero, suc, Option, Some, None, refl, sym, ◌∙◌, ap, subst, arith}
 use Rattle.st_model.specs.Values.{Value, Small, Ref, renamed, renamed_all, IsLive, AllLive}
-use Rattle.st_model.specs.Objects.{Object, PageObject, place_of, renamed_object, IsLiveObject}
-use Rattle.st_model.specs.Machine.{State, Registers, Devices, World, Head, table_root, head_roots, device_roots, roots_of}
-use Rattle.st_model.specs.Births.{Births, object_born, borne, bearer}
+use Rattle.st_model.specs.Objects.{Object, place_of, renamed_object, IsLiveObject}
+use Rattle.st_model.specs.Machine.{State, Registers, World, Head, table_root, head_roots, device_roots, roots_of}
+use Rattle.st_model.specs.Births.{Births, object_born, borne}
 use Rattle.st_model.specs.Table.{Table, entry}
 use Rattle.st_model.specs.Show.{renamed_registers, renamed_world, renamed_head, renamed_option, pointer_of, IsKept, IsUsed, Shows, IsClosed, rank, births_from, raised}
 use Rattle.st_model.proofs.BirthLemmas.{pointer_of-borne}

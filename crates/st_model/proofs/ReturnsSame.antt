@@ -1,13 +1,13 @@
 -- Each return, and each jump with a condition, over births does the same over pointers.
-use Rattle.std.proofs.Common.{◌≡◌, ℕ, Option, Some, None, Bool, true, false, refl}
+use Rattle.std.proofs.Common.{◌≡◌, Bool, true, false}
 use Rattle.std.specs.Prelude.{ℤ}
 use Rattle.st_model.specs.Values.{Value, renamed, IsLive}
 use Rattle.st_model.specs.Objects.{PageObject}
-use Rattle.st_model.specs.Machine.{ObjectMemory, Step}
+use Rattle.st_model.specs.Machine.{ObjectMemory}
 use Rattle.st_model.specs.Calls.{itself}
 use Rattle.st_model.specs.Returns.{cannot_return, return_into, return_unless, return_to_context, return_unless_nil, return_to, return_to_sender, return_to_caller, must_be_boolean, jump_if, jump_on}
 use Rattle.st_model.proofs.Same.{Simulation, Same, Anything, IsLiveEnd, renamed_end, steps_same}
-use Rattle.st_model.proofs.StepsSame.{memory_same, parts_same}
+use Rattle.st_model.proofs.StepsSame.{parts_same}
 use Rattle.st_model.proofs.ContextsSame.{fetch_context_registers-same}
 use Rattle.st_model.proofs.SendsSame.{ends_same, goes_on-same, send-same}
 

@@ -1,9 +1,8 @@
 -- What is settled depends on which roots there are, and not on their order or number.
-use Rattle.std.proofs.Common.{◌≡◌, ℕ, List, [], ◌∷◌, ◌++◌, zero, suc, Bool, inl, inr, ◌⊎◌, replicate}
-use Rattle.std.specs.Prelude.{IsTrue}
+use Rattle.std.proofs.Common.{ℕ, List, [], ◌∷◌, ◌++◌, zero, suc, Bool, inl, inr, ◌⊎◌, replicate}
 use Rattle.st_model.specs.Values.{Value}
 use Rattle.st_model.specs.Machine.{ObjectMemory}
-use Rattle.st_model.specs.Settled.{IsRefTo, AnyRefTo, IsRoot, held_root, page_root, IsReferredFrom, SupportsItself, IsSettled}
+use Rattle.st_model.specs.Settled.{IsRefTo, AnyRefTo, IsRoot, held_root, page_root, SupportsItself, IsSettled}
 
 pub any_either : (n : ℕ) (xs ys : List Value) → AnyRefTo n (xs ++ ys) → AnyRefTo n xs ⊎ AnyRefTo n ys
 any_either n [] ys h = inr h

@@ -3,13 +3,13 @@
 -- The second may be bounded, and then doesn't make what the first makes beyond the capacities. From there on nothing is
 -- said of the second, and of the first that it stays beyond them, since no step drops anything.
 use Rattle.std.proofs.Common.{◌≡◌, ℕ, List, [], ◌∷◌, zero, suc, Option, Some, None, Bool, true, false, refl, ap, arith, length, is_some, ◌⊎◌, inl, inr}
-use Rattle.std.specs.Prelude.{if◌then◌else◌, slice_get, slice_set, ◌==◌, nat_lt, ℤ, pos, negsuc, ◌-◌}
+use Rattle.std.specs.Prelude.{if◌then◌else◌, slice_get, slice_set, ◌==◌, ℤ, pos, negsuc}
 use Rattle.std.proofs.lemmas.Bool.Decides.{nat_tests}
 use Rattle.std.specs.Option.{option_map}
 use Rattle.st_model.specs.declared.dead.Dead.{Dead}
 use Rattle.st_model.specs.declared.kind.Kind.{Kind}
 use Rattle.st_model.specs.Values.{Value, Small, Ref, renamed, renamed_all, IsLive, AllLive}
-use Rattle.st_model.specs.Objects.{Object, PageObject, renamed_object, IsLiveObject, first_unit, words_of, with_field}
+use Rattle.st_model.specs.Objects.{Object, PageObject, renamed_object, IsLiveObject, words_of, with_field}
 use Rattle.st_model.specs.Outcomes.{Outcome, renamed_outcome, IsLiveOutcome}
 use Rattle.st_model.specs.Steps.{code_byte, same_value, new_of, are_there}
 use Rattle.st_model.specs.Calls.{itself}

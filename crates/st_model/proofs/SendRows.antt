@@ -1,7 +1,7 @@
 -- Worked rows of sends and returns, computed from the definitions: an image of 28 objects on a table of 37 places. Its
 -- method pushes the literal 16383 and 1, and sends the selector 66 with one argument. The class of SmallIntegers has the
 -- dictionary 68, in which the method 72 stands for that selector, or else for doesNotUnderstand:. It answers the receiver.
-use Rattle.std.proofs.Common.{◌≡◌, ℕ, List, [], ◌∷◌, ◌++◌, Some, None, Option, refl}
+use Rattle.std.proofs.Common.{◌≡◌, ℕ, List, [], ◌∷◌, Some, None, Option, refl}
 use Rattle.std.specs.Prelude.{ℤ, pos, replicate}
 use Rattle.st_model.specs.declared.kind.Kind.TheVariants as kind
 use Rattle.st_model.specs.Values.{Value, Small, Ref}

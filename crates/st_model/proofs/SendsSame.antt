@@ -1,6 +1,6 @@
 -- Each step of a send over births does the same over pointers.
-use Rattle.std.proofs.Common.{◌≡◌, ℕ, Option, Some, None, Bool, true, false, refl, ap}
-use Rattle.std.specs.Prelude.{ℤ, pos, negsuc, ◌==◌, if◌then◌else◌}
+use Rattle.std.proofs.Common.{◌≡◌, ℕ, Option, Some, None}
+use Rattle.std.specs.Prelude.{ℤ, pos, negsuc}
 use Rattle.st_model.specs.Values.{Value, Small, Ref, renamed, IsLive}
 use Rattle.st_model.specs.Machine.{ObjectMemory, Step}
 use Rattle.st_model.specs.Calls.{itself}
@@ -9,8 +9,8 @@ use Rattle.st_model.specs.Outcomes as outcome
 use Rattle.st_model.specs.Sends.{goes_on, answer_field, respond, respond_by_extension, execute_by, execute, copy_arguments, argument_array, new_message, replace_by_message, execute_not_understood, not_understood, execute_found, send_from, send, class_above, send_to_super, argument_count, special_send, arithmetic_by, arithmetic_send}
 use Rattle.st_model.specs.Show.{renamed_option}
 use Rattle.st_model.proofs.Same.{Simulation, Same, Anything, IsLiveOption, IsLiveEnd, renamed_end, steps_same}
-use Rattle.st_model.proofs.StepsSame.{memory_same, parts_same}
-use Rattle.st_model.proofs.ContextsSame.{headers_same, activate-same, flag_of-renamed, temporary_count-renamed}
+use Rattle.st_model.proofs.StepsSame.{parts_same}
+use Rattle.st_model.proofs.ContextsSame.{headers_same, activate-same, temporary_count-renamed}
 use Rattle.st_model.proofs.LookupSame.{find-same}
 
 module _ {H K : Type 0} {M : ObjectMemory H} {N : ObjectMemory K} (sim : Simulation M N) where

@@ -1,5 +1,5 @@
 -- Each step on registers, fields, the stack and methods over births does the same over pointers.
-use Rattle.std.proofs.Common.{◌≡◌, ℕ, List, [], ◌∷◌, zero, suc, Option, Some, None, Bool, true, false, refl, ap, ◌∙◌, ◌⊎◌, inl, inr, length}
+use Rattle.std.proofs.Common.{◌≡◌, ℕ, List, [], ◌∷◌, zero, suc, Option, Some, None, Bool, true, false, refl, ap, ◌∙◌, ◌⊎◌, inl, inr}
 use Rattle.std.proofs.Math.ListN.{length-set}
 use Rattle.std.specs.Prelude.{◌+◌, ◌-◌, ◌*◌, ◌++◌, slice_get, replicate, ℤ}
 use Rattle.st_model.specs.declared.dead.Dead.{Dead}

@@ -4,8 +4,8 @@ use mathlib.Core.Path.{fun_ext}
 use Rattle.std.specs.Prelude.{ℤ}
 use Rattle.st_model.specs.Values.{Value, Small, Ref}
 use Rattle.st_model.specs.Objects.{PageObject, SmallIntegerClass}
-use Rattle.st_model.specs.Machine.{ObjectMemory, ◌>>=◌, ◌>>◌}
-use Rattle.st_model.specs.Steps.{of_page, found, object_named, object, store_at, stored_at, set_field, class_of, fetch_field, store_field, count_fields, fetch_fields, store_fields, transfer, literal, byte_at}
+use Rattle.st_model.specs.Machine.{ObjectMemory}
+use Rattle.st_model.specs.Steps.{of_page, object_named, object, store_at, stored_at, set_field, class_of, fetch_field, store_field, count_fields, fetch_fields, store_fields, transfer, literal, byte_at}
 use Rattle.st_model.specs.Methods.{method_header, literal_from_last}
 use Rattle.st_model.specs.Table.{Table, table, IsTabular}
 

@@ -2,7 +2,7 @@
 use Rattle.std.proofs.Common.{◌≡◌, ◌≢◌, ℕ, ◌+◌, [], ◌∷◌, zero, suc, Option, Some, None, Bool, true, false, refl, sym, ◌∙◌, ap, subst, arith, inl, inr, ◌⊎◌}
 use Rattle.std.specs.Prelude.{if◌then◌else◌}
 use Rattle.st_model.specs.Objects.{Object, renamed_object, words_of}
-use Rattle.st_model.specs.Births.{Birth, Births, object_born, borne, kept_pointer, total_kept}
+use Rattle.st_model.specs.Births.{Birth, Births, object_born, kept_pointer, total_kept}
 use Rattle.st_model.specs.Show.{IsKept}
 use Rattle.st_model.specs.Table.{Table, entry, total_used}
 use Rattle.st_model.proofs.Same.{length-renamed}

@@ -1,13 +1,13 @@
 -- Fields of a table after some of them were stored, and what the copying of several comes to.
-use Rattle.std.proofs.Common.{◌≡◌, ◌≢◌, ℕ, zero, suc, ◌+◌, ◌<◌, ◌≤◌, List, [], ◌∷◌, ◌++◌, length, Bool, true, false, Option, Some, None, refl, sym, ◌∙◌, ap, subst, arith, is_some, get_or, set, length-set, ◌⊎◌, inl, inr}
+use Rattle.std.proofs.Common.{◌≡◌, ◌≢◌, ℕ, zero, suc, ◌+◌, ◌<◌, ◌≤◌, List, [], ◌∷◌, ◌++◌, length, Bool, true, false, Some, None, refl, sym, ◌∙◌, ap, subst, arith, is_some, set, length-set, ◌⊎◌, inl, inr}
 use Rattle.std.proofs.lemmas.List.{get_or-set_same, get_or-set_other}
-use Rattle.std.proofs.lemmas.Bool.{cases_eq, cases_lt, false≢true}
-use Rattle.std.specs.Prelude.{unwrap_or, slice_get}
+use Rattle.std.proofs.lemmas.Bool.{cases_eq, false≢true}
+use Rattle.std.specs.Prelude.{unwrap_or}
 use Rattle.st_model.specs.Values.{Value, Small, Ref}
 use Rattle.st_model.specs.Objects.{Object, with_field, nil}
 use Rattle.st_model.specs.Table.{Table, entry, changed}
 use Rattle.st_model.specs.View.{is_live, object_of, with_stored, with_fields, field_of, fields_from, nothing}
-use Rattle.st_model.proofs.TableLemmas.{changed-some, changed-none, changed-other}
+use Rattle.st_model.proofs.TableLemmas.{changed-some, changed-other}
 use Rattle.st_model.proofs.WholeLemmas.{named}
 
 some_changed : (t : Table) (n k : ℕ) (o : Object) → is_some (entry (changed t k o) n) ≡ is_some (entry t n)

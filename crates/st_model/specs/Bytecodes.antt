@@ -11,7 +11,7 @@ use Rattle.st_model.specs.Values.{Value, Small}
 use Rattle.st_model.specs.Objects.{NilObject, FalseObject, TrueObject}
 use Rattle.st_model.specs.Outcomes.{Outcome}
 use Rattle.st_model.specs.Decoded.{decoded, operand_of, selector_of, arguments_of}
-use Rattle.st_model.specs.Machine.{ObjectMemory, Step, answer, die, ◌>>=◌, ◌>>◌}
+use Rattle.st_model.specs.Machine.{ObjectMemory, Step, answer, die, ◌>>=◌}
 use Rattle.st_model.specs.Steps.{get_active, get_home, get_method, get_receiver, fetch_field, store_field, of_page, push, top, pop, literal, next_byte, jump}
 use Rattle.st_model.specs.Sends.{goes_on, send, send_to_super, special_send, arithmetic_send}
 use Rattle.st_model.specs.Returns.{return_to_sender, return_to_caller, jump_on}

@@ -4,7 +4,7 @@ use Rattle.st_model.specs.declared.dead.Dead.TheVariants as dead
 use Rattle.st_model.specs.Values.{Value, Small, Ref, small_integer}
 use Rattle.st_model.specs.Objects.{SchedulerAssociation, MethodContextClass}
 use Rattle.st_model.specs.Machine.{ObjectMemory, Registers, Step, answer, die, ◌>>=◌, ◌>>◌}
-use Rattle.st_model.specs.Steps.{check, of_page, new_object, count_fields, fetch_field, store_field, fetch_integer, transfer, get_active, get_ip, get_sp, set_sp, set_registers, look_at_words, drop_words}
+use Rattle.st_model.specs.Steps.{check, of_page, new_object, count_fields, fetch_field, store_field, fetch_integer, transfer, get_active, get_ip, get_sp, set_registers, look_at_words, drop_words}
 use Rattle.st_model.specs.Methods.{literal_count, temporary_count, context_size}
 
 -- Field 3 of a method context is its method; that of a block context is an argument count, and its home is field 5.

@@ -1,7 +1,7 @@
 -- What the header of a method says (chapter 27). A header is a SmallInteger. Of its word bits 0 to 2 are the flag,
 -- bits 3 to 7 the temporary count, which includes the arguments, bit 8 the large-context flag, and bits 9 to 14 the
 -- literal count.
-use Rattle.std.specs.Prelude.{ℕ, ◌+◌, ◌-◌, ◌*◌, ◌/◌, ◌%◌, ◌==◌, length, Option, Some, None, Bool, slice_get, nat_lt, if◌then◌else◌}
+use Rattle.std.specs.Prelude.{ℕ, ◌+◌, ◌-◌, ◌/◌, ◌%◌, ◌==◌, length, Option, None, Bool, slice_get, nat_lt, if◌then◌else◌}
 use Rattle.st_model.specs.declared.dead.Dead.TheVariants as dead
 use Rattle.st_model.specs.Values.{Value, Small, Ref}
 use Rattle.st_model.specs.Objects.{Object, is_method}

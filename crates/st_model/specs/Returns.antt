@@ -1,5 +1,5 @@
 -- Returns, and jumps with a condition (chapter 28).
-use Rattle.std.specs.Prelude.{ℕ, Option, Some, Bool, true, false, ℤ}
+use Rattle.std.specs.Prelude.{Option, Some, Bool, true, false, ℤ}
 use Rattle.st_model.specs.Values.{Value}
 use Rattle.st_model.specs.Objects.{PageObject, NilObject, CannotReturn, MustBeBoolean}
 use Rattle.st_model.specs.Machine.{ObjectMemory, Step, answer, ◌>>=◌, ◌>>◌}

@@ -1,9 +1,9 @@
 -- How a table shows births: each kept object under the pointer that it bears, with references written as pointers.
 -- Names of the table are halved pointers.
-use Rattle.std.specs.Prelude.{◌≡◌, ℕ, [], ◌∷◌, zero, suc, Some, None, Option, List, true, if◌then◌else◌}
+use Rattle.std.specs.Prelude.{◌≡◌, ℕ, [], ◌∷◌, zero, suc, Some, None, Option, true, if◌then◌else◌}
 use Rattle.std.specs.Option.{option_map}
 use Rattle.st_model.specs.Lists.{made}
-use Rattle.st_model.specs.Values.{Value, renamed, renamed_all, IsLive, AllLive}
+use Rattle.st_model.specs.Values.{Value, renamed, renamed_all, AllLive}
 use Rattle.st_model.specs.Objects.{Object, PageObject, place_of, renamed_object, IsLiveObject}
 use Rattle.st_model.specs.Machine.{State, Registers, Devices, World, Head, roots_of}
 pub use Rattle.st_model.specs.Births.{pointer_of}

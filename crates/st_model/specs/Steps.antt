@@ -1,6 +1,6 @@
 -- Registers, fields, the stack, new objects and the bytes of methods, over any memory (chapters 27 and 28). The checks of a
 -- step stand in the order in which it makes them: the first that fails gives the cause of death.
-use Rattle.std.specs.Prelude.{ℕ, zero, suc, ◌+◌, ◌-◌, ◌==◌, List, [], ◌∷◌, Option, Some, None, Bool, true, false, ◌&&◌, slice_get, is_some, nat_lt, nat_le, length, if◌then◌else◌, ℤ, pos, negsuc, ◌+ℤ◌, int_le}
+use Rattle.std.specs.Prelude.{ℕ, zero, suc, ◌+◌, ◌-◌, ◌==◌, List, [], ◌∷◌, Option, Some, None, Bool, true, false, ◌&&◌, slice_get, nat_lt, nat_le, length, if◌then◌else◌, ℤ, pos, negsuc, ◌+ℤ◌, int_le}
 use Rattle.st_model.specs.declared.dead.Dead.{Dead}
 use Rattle.st_model.specs.declared.dead.Dead.TheVariants as dead
 use Rattle.st_model.specs.declared.kind.Kind.{Kind}

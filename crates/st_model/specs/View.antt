@@ -1,5 +1,5 @@
 -- What a memory of the code contains, and what it says of itself at all times.
-use Rattle.std.specs.Prelude.{◌≡◌, ℕ, ◌+◌, ◌/◌, ◌%◌, ◌==◌, ◌-◌, ◌*◌, ◌<◌, ◌≤◌, replicate, Bool, true, false, List, [], ◌∷◌, ◌++◌, length, is_some, slice_get, slice_set, slice_index_or, unwrap_or, Option, Some, None, IsTrue, if◌then◌else◌, ⊤, nat_le, ◌&&◌, suc, zero, get_or}
+use Rattle.std.specs.Prelude.{◌≡◌, ℕ, ◌+◌, ◌==◌, ◌<◌, ◌≤◌, replicate, Bool, true, false, List, [], ◌∷◌, ◌++◌, length, is_some, slice_set, slice_index_or, unwrap_or, Option, Some, None, if◌then◌else◌, ⊤, nat_le, ◌&&◌, suc, zero, get_or}
 use Rattle.st_model.specs.declared.dead.Dead.{Dead}
 use Rattle.st_model.specs.declared.dead.Dead.TheVariants as dead
 use Rattle.st_model.specs.declared.place.RootPlace.{RootPlace}
@@ -7,7 +7,7 @@ use Rattle.st_model.specs.declared.place.RootPlace.TheVariants as place
 use Rattle.st_model.specs.declared.kind.Kind.TheVariants as kind
 use Rattle.st_model.specs.declared.oop.Oop.{Oop}
 use Rattle.st_model.specs.declared.demand.Demand.{Demand}
-use Rattle.st_model.specs.Values.{Value, Small, Ref, value, value_of, is_small}
+use Rattle.st_model.specs.Values.{Value, Small, Ref, value_of, is_small}
 use Rattle.st_model.specs.Objects.{Object, PageObject, nil, place_of, one, with_field, object_with_unit, words_of, IsLiveObject, is_pointers}
 use Rattle.st_model.specs.Formed.{IsFormed}
 use Rattle.st_model.specs.Machine.{Devices, Head, head_roots, device_roots}

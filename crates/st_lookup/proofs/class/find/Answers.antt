@@ -1,4 +1,4 @@
-use Rattle.std.proofs.Common.{◌≡◌, ◌-◌, ◌∙◌, sym, true, false, Option, Some, None, Ok, Err, arith, subst, rules}
+use Rattle.std.proofs.Common.{◌≡◌, ◌-◌, ◌∙◌, sym, Option, Ok, Err, arith, subst, rules}
 use Rattle.st_model.specs.declared.word.Word.{Word}
 use Rattle.st_model.specs.Values.{word}
 use Rattle.st_model.specs.Lookup.{method_in_class}

@@ -1,6 +1,5 @@
-use Rattle.std.proofs.Common.{◌≡◌, ◌∙◌, sym, true, false, rules, Err}
+use Rattle.std.proofs.Common.{◌≡◌, ◌∙◌, sym, rules, Err}
 use Rattle.st_model.specs.Values.{word}
-use Rattle.st_model.specs.Steps.{same_value}
 use Rattle.st_lookup.proofs.Searching.{look_died, look_found, look_found_died, look_nil, look_on}
 use Rattle.st_lookup.proofs.places.look_at_place.Goals as goal
 
