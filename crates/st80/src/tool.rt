@@ -27,6 +27,7 @@ pub fn tool<H: Host, S: Source>(
     ensures once { (n : ℕ) → once_of (map string_bytes words.now) ≡ Some n → OnceEnds H.Host.own (bytes_of (H.files host.old (word (map string_bytes words.now) 1))) n host.old host.new result }
     ensures cause { StatusHasCause H.Host.own host.old host.new result }
     ensures reads { (text : List ℕ) × ReadsAndSays H.Host.own text host.old host.new }
+    ensures script { _script.new ≡ _script.old }
 {
     match read_once(words) {
         Some(cycles) => once::<H, PlainLoader>(alloc, host, image_name(words), cycles),

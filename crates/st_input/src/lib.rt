@@ -3,4 +3,5 @@
 
 mod world;
 
+pub use st_model::Outcome;
 pub use world::World;

@@ -1,4 +1,4 @@
-//! The search for a method: through the method dictionaries of a class and of its superclasses (chapter 28).
+//! The search for a method: through the method dictionaries of a class and of its superclasses (chapter 27).
 #![tactic(auto)]
 
 mod class;

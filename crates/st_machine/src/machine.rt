@@ -2,7 +2,7 @@ ghost use Rattle.std.specs.Prelude.{◌≡◌, Some, None};
 ghost use Rattle.st_model.specs.Objects.{nil};
 ghost use Rattle.st_model.specs.Machine.{State, empty_world};
 ghost use Rattle.st_model.specs.Births.{Births};
-ghost use Rattle.st_model.specs.Show.{Shows};
+ghost use Rattle.st_model.specs.Show.{Shows, raised};
 ghost use Rattle.st_model.specs.View.{no_devices};
 ghost use Rattle.st_frames.specs.Shown.{IsFrame, shown};
 ghost use Rattle.st_machine.specs.Runs.{EndsAs, AsksNothing, death_of};
@@ -16,7 +16,7 @@ use st_memory::Memory;
 use st_model::Dead;
 
 /// A machine: its objects with the registers held among them, the registers, and what lies round it; and, once it is dead,
-/// the cause. Its objects and registers stay as they were before the bytecode of which it died.
+/// the cause.
 #[derive(Drop)]
 pub struct Machine<M: Memory> {
     memory: M,
@@ -29,7 +29,7 @@ pub struct Machine<M: Memory> {
 }
 
 impl<M: Memory> Machine<M> {
-    /// A machine over a memory with registers, in a new world.
+    /// A machine over a memory with registers, in a new world. It shows births: its objects, by rising pointer.
     pub fn boot(loaded: Loaded<M>, world: World) -> Machine<M>
         requires frame { IsFrame (M.view loaded.memory) loaded.frame }
         requires quiet { (M.view loaded.memory).held.devices ≡ no_devices }
@@ -37,6 +37,7 @@ impl<M: Memory> Machine<M> {
         ensures memory { M.view result.memory ≡ M.view loaded.memory }
         ensures frame { result.frame ≡ loaded.frame }
         ensures alive { result.death ≡ None }
+        ensures shows { Shows (shown (M.view result.memory) result.frame) (raised (shown (M.view result.memory) result.frame)) }
     {
         Machine {
             memory: loaded.memory,

@@ -1,4 +1,4 @@
--- Contexts and the registers that are fetched from them (chapter 27).
+-- Contexts and the registers that are fetched from them (chapter 27), and the activation of a method (chapter 28).
 use Rattle.std.specs.Prelude.{ℕ, ◌+◌, ◌-◌, ◌*◌, ℤ, pos, negsuc, ◌+ℤ◌, ◌-ℤ◌, nat_lt, nat_le}
 use Rattle.st_model.specs.declared.dead.Dead.TheVariants as dead
 use Rattle.st_model.specs.Values.{Value, Small, Ref, small_integer}

@@ -1,4 +1,4 @@
--- The search for a method (chapter 28): through the method dictionaries of a class and of its superclasses.
+-- The search for a method (chapter 27): through the method dictionaries of a class and of its superclasses.
 -- Of a class field 0 is the superclass and field 1 the method dictionary. Of a dictionary field 1 is an Array of
 -- methods, and from field 2 on stand the places for selectors; the method for the selector at place k is field k of
 -- that Array.
