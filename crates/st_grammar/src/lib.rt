@@ -1,0 +1,9 @@
+//! The grammar of methods' texts, as definitions; its laws; the tokens as it sees them, and what stops a reader.
+#![tactic(auto)]
+
+pub mod leaf;
+pub mod read;
+
+mod laws;
+
+pub use laws::{one_fault, one_tree};
