@@ -14,6 +14,7 @@ pub mod Loops
 pub mod Methods
 pub mod Readers
 pub mod Repeats
+pub mod Rows
 pub mod Shorter
 pub mod Theorems
 pub mod Unquoting
