@@ -1,5 +1,5 @@
 -- Worked texts, by the definitions alone: their pieces, their phrases, and the trees that they mean.
-use Rattle.std.proofs.Common.{◌≡◌, ℕ, ◌≤◌, Bool, true, false, List, [], ◌∷◌, refl, arith, None}
+use Rattle.std.proofs.Common.{ℕ, ◌+◌, Bool, true, false, List, [], ◌∷◌, refl, arith, None}
 use Rattle.std.specs.Prelude.{codes}
 use Rattle.st_tree.specs.declared.token.Token.{Token}
 use Rattle.st_tree.specs.declared.token.Sort.{Sort}
