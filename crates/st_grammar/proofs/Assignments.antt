@@ -1,21 +1,20 @@
 -- What is read of expressions: names with assignments, and a cascade.
-use Rattle.std.proofs.Common.{◌≡◌, ℕ, zero, suc, ◌<◌, ◌≤◌, Bool, true, false, cond, ◌||◌, ◌&&◌, List, [], ◌∷◌, ◌++◌, ◌⊎◌, inl, inr, length, Result, Ok, Err, refl, sym, ap, ◌∙◌, subst, append_assoc, length-append, arith}
+use Rattle.std.proofs.Common.{◌≡◌, ℕ, ◌<◌, ◌≤◌, Bool, true, false, ◌||◌, ◌&&◌, List, [], ◌∷◌, ◌++◌, inl, inr, length, Ok, Err, refl, sym, ap, ◌∙◌, subst, arith}
 use Rattle.std.proofs.lemmas.Bool.{cases_Bool, and_parts, and_from}
-use Rattle.st_tree.specs.declared.fault.Cause.TheVariants.{Expected}
 use Rattle.st_tree.specs.Views.{NameView, ExpressionView}
 use Rattle.st_tree.specs.Views as views
 use Rattle.st_grammar.specs.declared.leaf.Leaf.{Leaf}
 use Rattle.st_grammar.specs.declared.leaf.Kind.{Kind}
 use Rattle.st_grammar.specs.declared.leaf.Kind.TheVariants.{Opening, Assign, Semicolon, Open, OpenBlock}
 use Rattle.st_grammar.specs.Leaves.{among, keywords, operators}
-use Rattle.st_grammar.specs.Phrases.{One, names, constants, ones_text, Literal, constant, array, Target, Primary, name, literal, block, group, Unary, unary, Binary, binary, Operations, no_operations, operation, Keyworded, keyworded, Parts, no_parts, part, Cascade, cascade, Messages, no_messages, message, Message, unary_message, binary_message, keyword_message, Expression, expression, operations_text, parts_text, messages_text, primary_text, cascade_text, targets_text, expression_text}
-use Rattle.st_grammar.specs.Trees.{name_at, assigned, cascade_tree, expression_tree, CascadeFits, ExpressionFits}
-use Rattle.st_grammar.specs.Reading.{Stop, Read, stop, ◌>>=◌, first, primary_starts, message_starts, is_target, array_at, bracket_at, cascade_at, targets_at, assigned_to, expression_at}
+use Rattle.st_grammar.specs.Phrases.{names, constants, constant, array, Target, name, literal, block, group, unary, binary, no_operations, operation, keyworded, no_parts, part, Cascade, cascade, Messages, no_messages, message, Message, unary_message, binary_message, keyword_message, Expression, expression, messages_text, cascade_text, targets_text, expression_text}
+use Rattle.st_grammar.specs.Trees.{name_at, assigned, cascade_tree, expression_tree, CascadeFits}
+use Rattle.st_grammar.specs.Reading.{Read, ◌>>=◌, first, primary_starts, message_starts, is_target, array_at, bracket_at, cascade_at, targets_at, assigned_to, expression_at}
 use Rattle.st_grammar.specs.Faults.{height, highest}
 use Rattle.st_grammar.proofs.Heights.{IsBalanced, balanced_nil, behind_balanced}
 use Rattle.st_grammar.proofs.KindSets.{apart, within, neutral, are_apart}
-use Rattle.st_grammar.proofs.Balanced.{expression_balanced, one_and, targets_balanced}
-use Rattle.st_grammar.proofs.Readers.{Alike, Reads, Told, ToldOk, ToldErr, Reason, IsStuck, IsDeep, or_left, or_right, or_neither, is_nil, first_into}
+use Rattle.st_grammar.proofs.Balanced.{expression_balanced, one_and}
+use Rattle.st_grammar.proofs.Readers.{Alike, Reads, Told, ToldOk, Reason, or_left, or_right, or_neither, is_nil}
 use Rattle.st_grammar.proofs.Expressions.{Inner, FitExpression}
 use Rattle.st_grammar.proofs.Cascades.{FitCascade, tail_goes, message_goes, messages_last, cascade_goes, cascade_reads}
 

@@ -1,9 +1,8 @@
 -- Each phrase closes what it opens.
-use Rattle.std.proofs.Common.{◌≡◌, true, false, List, [], ◌∷◌, ◌++◌, refl, sym, subst}
-use Rattle.std.proofs.lemmas.List.{append-nil}
+use Rattle.std.proofs.Common.{◌≡◌, true, false, List, [], ◌∷◌, ◌++◌, refl}
 use Rattle.st_grammar.specs.declared.leaf.Leaf.{Leaf}
 use Rattle.st_grammar.specs.declared.leaf.Kind.{Kind}
-use Rattle.st_grammar.specs.declared.leaf.Kind.TheVariants.{Name, Joined, Primitive, Bar, Less, Greater, Number, Opening, Return, Period, Semicolon, Colon, Assign, Open, Close, OpenBlock, CloseBlock}
+use Rattle.st_grammar.specs.declared.leaf.Kind.TheVariants.{Joined, Bar, Opening, Return, Period, Semicolon, Colon, Assign, Open, Close, OpenBlock, CloseBlock}
 use Rattle.st_grammar.specs.Leaves.{among, keywords, operators, openings, closings}
 use Rattle.st_grammar.specs.Phrases.{One, names, constants, plain_elements, first_keywords, Element, plain, keyword_symbol, nested, Elements, no_elements, element, Literal, constant, array, Parameter, Target, Primary, name, literal, block, group, Block, plain_block, full_block, empty_block, Unary, unary, Binary, binary, Operations, no_operations, operation, Keyworded, keyworded, Parts, no_parts, part, Cascade, cascade, Messages, no_messages, message, Message, unary_message, binary_message, keyword_message, Expression, expression, Statements, no_statements, last, next, returned, returned_ended, KeywordName, ones_text, element_text, elements_text, literal_text, parameters_text, targets_text, primary_text, block_text, unary_text, binary_text, operations_text, keyworded_text, parts_text, cascade_text, messages_text, message_text, expression_text, statements_text, keyword_names_text}
 use Rattle.st_grammar.proofs.Heights.{IsBalanced, balanced_nil, balanced_one, balanced_append, balanced_bracket}

@@ -1,5 +1,5 @@
 -- What is read of blocks, and of everything in brackets.
-use Rattle.std.proofs.Common.{◌≡◌, ℕ, zero, suc, ◌<◌, ◌≤◌, Bool, true, false, cond, ◌||◌, ◌&&◌, List, [], ◌∷◌, ◌++◌, ◌⊎◌, inl, inr, length, Ok, Err, refl, sym, ap, ◌∙◌, subst, append_assoc, length-append, arith}
+use Rattle.std.proofs.Common.{◌≡◌, ℕ, zero, suc, ◌≤◌, Bool, true, false, ◌||◌, ◌&&◌, List, [], ◌∷◌, ◌++◌, ◌⊎◌, inl, inr, Ok, refl, sym, ap, ◌∙◌, append_assoc, arith}
 use Rattle.std.proofs.lemmas.List.{append-nil}
 use Rattle.st_tree.specs.Views.{NameView, ExpressionView, StatementsView}
 use Rattle.st_tree.specs.Views as views
@@ -7,16 +7,15 @@ use Rattle.st_grammar.specs.declared.leaf.Leaf.{Leaf}
 use Rattle.st_grammar.specs.declared.leaf.Kind.{Kind}
 use Rattle.st_grammar.specs.declared.leaf.Kind.TheVariants.{Bar, Return, Period, Colon, Open, Close, OpenBlock, CloseBlock}
 use Rattle.st_grammar.specs.Leaves.{among, openings, closings}
-use Rattle.st_grammar.specs.Phrases.{One, names, one_text, Parameter, Block, plain_block, full_block, empty_block, Expression, expression, Statements, no_statements, last, next, returned, returned_ended, parameters_text, block_text, expression_text, statements_text}
-use Rattle.st_grammar.specs.Trees.{name_at, parameters_tree, block_tree, expression_tree, statements_tree, BlockFits}
-use Rattle.st_grammar.specs.Reading.{Stop, Read, stop, ◌>>=◌, first, token_at, many, primary_starts, statement_starts, array_at, expression_at, statements_at, parameters_step, parameters_at, argument_body_at, argument_block_at, plain_block_at, block_at, bracket_at, block_primary_at, group_primary_at}
-use Rattle.st_grammar.proofs.Heights.{IsBalanced}
+use Rattle.st_grammar.specs.Phrases.{One, names, one_text, Parameter, plain_block, full_block, empty_block, Expression, Statements, no_statements, last, next, returned, returned_ended, parameters_text, block_text, expression_text, statements_text}
+use Rattle.st_grammar.specs.Trees.{name_at, parameters_tree, block_tree, expression_tree, statements_tree}
+use Rattle.st_grammar.specs.Reading.{Read, ◌>>=◌, first, token_at, primary_starts, statement_starts, array_at, expression_at, statements_at, parameters_step, parameters_at, argument_body_at, argument_block_at, plain_block_at, block_at, bracket_at, block_primary_at, group_primary_at}
 use Rattle.st_grammar.proofs.KindSets.{apart, within, neutral, sample, one_name}
-use Rattle.st_grammar.proofs.Balanced.{parameters_balanced, statements_balanced, block_balanced, expression_balanced, closes, closes_block}
-use Rattle.st_grammar.proofs.Readers.{Reads, nothing, first_nothing, is_nil, mapped, renamed, token_reads, both, either, anyway, pure, weaker, text_both, goes_both, text_either, tree_either, goes_either, or_neither}
+use Rattle.st_grammar.proofs.Balanced.{parameters_balanced, block_balanced, expression_balanced}
+use Rattle.st_grammar.proofs.Readers.{Reads, nothing, first_nothing, is_nil, mapped, renamed, token_reads, both, either, anyway, pure, text_both, goes_both, text_either, tree_either, goes_either, or_neither}
 use Rattle.st_grammar.proofs.Repeats.{IsRepeat, IsMore, repeated}
 use Rattle.st_grammar.proofs.Bracketed.{bracket_zero_zero, bracket_zero_suc, bracket_suc_suc}
-use Rattle.st_grammar.proofs.Lists.{and_false, or_false, or_and_false}
+use Rattle.st_grammar.proofs.Lists.{and_false, or_false}
 use Rattle.st_grammar.proofs.Expressions.{Inner, FitBlock, FitExpression, BlockBracket, GroupBracket, block_bracket_text, group_bracket_text}
 use Rattle.st_grammar.proofs.Assignments.{expression_goes, expression_reads, expression_not, foreign, IsForeign}
 use Rattle.st_grammar.proofs.Bodies.{FitStatements, statements_goes, statements_last, stays, statements_reads, one_expression, expression_begins, into_statements}

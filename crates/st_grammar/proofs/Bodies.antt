@@ -1,5 +1,5 @@
 -- What is read of statements.
-use Rattle.std.proofs.Common.{◌≡◌, ℕ, zero, suc, ◌<◌, ◌≤◌, Bool, true, false, cond, ◌||◌, ◌&&◌, List, [], ◌∷◌, ◌++◌, ◌⊎◌, inl, inr, length, Ok, Err, refl, sym, ap, ◌∙◌, subst, append_assoc, length-append, arith}
+use Rattle.std.proofs.Common.{◌≡◌, ℕ, ◌<◌, ◌≤◌, Bool, true, false, cond, ◌||◌, ◌&&◌, List, [], ◌∷◌, ◌++◌, ◌⊎◌, inl, inr, length, Ok, refl, sym, ap, ◌∙◌, append_assoc, length-append, arith}
 use Rattle.std.proofs.lemmas.List.{append-nil}
 use Rattle.std.proofs.lemmas.Bool.{and_parts}
 use Rattle.st_tree.specs.Views.{NameView, ExpressionView, StatementsView, with_statement}
@@ -8,16 +8,15 @@ use Rattle.st_grammar.specs.declared.leaf.Leaf.{Leaf}
 use Rattle.st_grammar.specs.declared.leaf.Kind.{Kind}
 use Rattle.st_grammar.specs.declared.leaf.Kind.TheVariants.{Opening, Return, Period, Open, OpenBlock}
 use Rattle.st_grammar.specs.Leaves.{among}
-use Rattle.st_grammar.specs.Phrases.{One, names, constants, one_text, Literal, constant, array, Target, Primary, name, literal, block, group, Unary, unary, Binary, binary, no_operations, Keyworded, keyworded, no_parts, Cascade, cascade, no_messages, Expression, expression, Statements, no_statements, last, next, returned, returned_ended, primary_text, ones_text, operations_text, parts_text, messages_text, cascade_text, expression_text, statements_text}
-use Rattle.st_grammar.specs.Trees.{expression_tree, statements_tree, ExpressionFits, StatementsFit}
-use Rattle.st_grammar.specs.Reading.{Stop, Read, stop, ◌>>=◌, first, token_at, many, primary_starts, statement_starts, BodyView, period_at, array_at, bracket_at, expression_at, returned_at, plain_at, statement_step, statement_looks, body_at, statements_at}
-use Rattle.st_grammar.proofs.Heights.{IsBalanced, balanced_nil}
+use Rattle.st_grammar.specs.Phrases.{One, names, constants, one_text, constant, array, name, literal, block, group, unary, binary, no_operations, keyworded, no_parts, cascade, no_messages, Expression, expression, Statements, no_statements, last, next, returned, returned_ended, expression_text, statements_text}
+use Rattle.st_grammar.specs.Trees.{expression_tree, statements_tree, StatementsFit}
+use Rattle.st_grammar.specs.Reading.{Read, ◌>>=◌, first, token_at, primary_starts, statement_starts, BodyView, period_at, array_at, bracket_at, expression_at, returned_at, plain_at, statement_step, statement_looks, body_at, statements_at}
 use Rattle.st_grammar.proofs.KindSets.{apart, within, neutral, covered, sample, one_name}
-use Rattle.st_grammar.proofs.Balanced.{statements_balanced, one_balanced}
-use Rattle.st_grammar.proofs.Readers.{Reads, ToldOk, Told, nothing, first_nothing, is_nil, mapped, renamed, token_reads, both, either, anyway, pure, weaker, agreeing, text_both, goes_both, text_either, tree_either, goes_either}
+use Rattle.st_grammar.proofs.Balanced.{statements_balanced}
+use Rattle.st_grammar.proofs.Readers.{Reads, nothing, first_nothing, is_nil, mapped, renamed, token_reads, both, either, anyway, pure, weaker, agreeing, text_both, goes_both, text_either, tree_either, goes_either}
 use Rattle.st_grammar.proofs.Repeats.{IsRepeat, IsMore, repeated}
-use Rattle.st_grammar.proofs.Lists.{and_false, or_false, or_and_false}
-use Rattle.st_grammar.proofs.Expressions.{Inner, FitExpression, primary_some}
+use Rattle.st_grammar.proofs.Lists.{or_false, or_and_false}
+use Rattle.st_grammar.proofs.Expressions.{Inner, FitExpression}
 use Rattle.st_grammar.proofs.Assignments.{expression_goes, expression_reads, expression_not, foreign}
 
 abbrev period : List Kind

@@ -1,15 +1,14 @@
 -- A reader of brackets: an opening leaf, what is inside, where one bracket fewer may be open, and a closing leaf.
-use Rattle.std.proofs.Common.{◌≡◌, ℕ, zero, suc, ◌+◌, ◌<◌, ◌≤◌, Bool, true, false, cond, List, [], ◌∷◌, ◌++◌, inl, inr, length, Ok, Err, refl, sym, ap, ◌∙◌, subst, append_assoc, length-append, arith}
-use Rattle.std.proofs.lemmas.List.{append-nil}
+use Rattle.std.proofs.Common.{◌≡◌, ℕ, zero, suc, ◌+◌, ◌≤◌, Bool, true, false, List, [], ◌∷◌, ◌++◌, inl, inr, length, Ok, Err, refl, sym, ap, ◌∙◌, subst, append_assoc, arith}
 use Rattle.st_tree.specs.declared.fault.Cause.TheVariants.{Expected, Deep}
 use Rattle.st_grammar.specs.declared.leaf.Leaf.{Leaf}
 use Rattle.st_grammar.specs.declared.leaf.Kind.{Kind}
 use Rattle.st_grammar.specs.Leaves.{among, openings, closings}
 use Rattle.st_grammar.specs.Phrases.{One}
-use Rattle.st_grammar.specs.Reading.{Stop, Read, stop, ◌>>=◌, first, token_at}
-use Rattle.st_grammar.specs.Faults.{height, highest}
+use Rattle.st_grammar.specs.Reading.{Read, stop, ◌>>=◌, first, token_at}
+use Rattle.st_grammar.specs.Faults.{highest}
 use Rattle.st_grammar.proofs.Heights.{IsBalanced, highest_bracket, balanced_bracket, highest_inside, height_inside, highest_up}
-use Rattle.st_grammar.proofs.Readers.{Alike, first_alike, alike_behind, ToldOk, ToldErr, Told, Reads, Reason, IsStuck, IsDeep, nothing, first_nothing}
+use Rattle.st_grammar.proofs.Readers.{first_alike, ToldOk, ToldErr, Told, Reads, Reason, nothing, first_nothing}
 
 module _ {P A B : Type 0} (opens closes : List Kind) (some_open : One opens) (some : P) (some_close : One closes)
     (opening : (x : Leaf) → among opens x ≡ true → among openings x ≡ true) (closing : (x : Leaf) → among closes x ≡ true → (among openings x ≡ false) × (among closings x ≡ true))

@@ -1,22 +1,20 @@
 -- What is read of primaries, and of unary and binary expressions.
-use Rattle.std.proofs.Common.{◌≡◌, ℕ, zero, suc, ◌<◌, ◌≤◌, Bool, true, false, ◌||◌, ◌&&◌, List, [], ◌∷◌, ◌++◌, ◌⊎◌, inl, inr, length, Ok, Err, refl, sym, ap, ◌∙◌, subst, append_assoc, length-append, arith}
+use Rattle.std.proofs.Common.{◌≡◌, ℕ, ◌<◌, ◌≤◌, Bool, true, false, ◌||◌, ◌&&◌, List, [], ◌∷◌, ◌++◌, ◌⊎◌, inl, inr, length, Ok, refl, sym, ap, ◌∙◌, append_assoc, length-append, arith}
 use Rattle.std.proofs.lemmas.List.{append-nil}
-use Rattle.std.proofs.lemmas.Bool.{cases_Bool}
 use Rattle.st_tree.specs.Views.{NameView, ElementView, ExpressionView}
 use Rattle.st_tree.specs.Views as views
 use Rattle.st_grammar.specs.declared.leaf.Leaf.{Leaf}
 use Rattle.st_grammar.specs.declared.leaf.Kind.{Kind}
 use Rattle.st_grammar.specs.declared.leaf.Kind.TheVariants.{Opening, Open, Close, OpenBlock, CloseBlock}
-use Rattle.st_grammar.specs.Leaves.{among, keywords, operators}
-use Rattle.st_grammar.specs.Phrases.{One, names, constants, one_text, ones_text, Literal, constant, array, Primary, name, literal, block, group, Block, Expression, Unary, unary, Binary, binary, Operations, no_operations, operation, elements_text, primary_text, block_text, expression_text, unary_text, binary_text, operations_text}
+use Rattle.st_grammar.specs.Leaves.{among, operators}
+use Rattle.st_grammar.specs.Phrases.{One, names, constants, one_text, ones_text, constant, array, Primary, name, literal, block, group, Block, Expression, Unary, unary, Binary, binary, Operations, no_operations, operation, primary_text, block_text, expression_text, unary_text, binary_text, operations_text}
 use Rattle.st_grammar.specs.Trees.{bytes, name_at, constant_at, is_super, sent, primary_tree, block_tree, expression_tree, after_names, unary_tree, binary_tree, after_operations, PrimaryFits, BlockFits, ExpressionFits, UnaryFits, BinaryFits, OperationsFit}
-use Rattle.st_grammar.specs.Reading.{Stop, Read, ◌>>=◌, first, token_at, many, primary_starts, name_primary_at, constant_primary_at, constant_element_at, array_primary_at, nested_at, array_at, block_primary_at, group_primary_at, primary_at, bracket_at, names_step, names_at, any_unary_at, unary_at, checked_at, operations_step, operations_at, any_binary_at, binary_at}
-use Rattle.st_grammar.proofs.Heights.{IsBalanced}
-use Rattle.st_grammar.proofs.KindSets.{apart, within, covered, neutral, are_neutral, sample, one_name, one_constant, one_operator}
+use Rattle.st_grammar.specs.Reading.{◌>>=◌, first, token_at, primary_starts, name_primary_at, constant_primary_at, array_primary_at, array_at, block_primary_at, group_primary_at, primary_at, bracket_at, names_step, names_at, any_unary_at, unary_at, operations_step, operations_at, any_binary_at, binary_at}
+use Rattle.st_grammar.proofs.KindSets.{apart, covered, neutral, one_name, one_constant, one_operator}
 use Rattle.st_grammar.proofs.Balanced.{operations_balanced}
 use Rattle.st_grammar.proofs.Readers.{Reads, nothing, first_nothing, is_nil, mapped, renamed, token_reads, both, either, anyway, tested, text_both, goes_both, text_either, tree_either, goes_either}
 use Rattle.st_grammar.proofs.Repeats.{IsRepeat, IsMore, repeated}
-use Rattle.st_grammar.proofs.Lists.{and_false, or_false, or_and_false, ones_reads}
+use Rattle.st_grammar.proofs.Lists.{or_false, or_and_false, ones_reads}
 use Rattle.st_grammar.proofs.Literals.{Array, array_text, array_tree, constant_reads, array_reads, hash_open}
 
 pub primary_some : (p : Primary) → 0 < length (primary_text p)

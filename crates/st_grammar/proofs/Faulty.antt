@@ -1,15 +1,13 @@
 -- A text has one tree or one fault.
-use Rattle.std.proofs.Common.{◌≡◌, ℕ, ◌+◌, ◌-◌, ◌≤◌, List, [], ◌∷◌, ◌++◌, inl, inr, length, drop, Option, Some, None, refl, sym, ap, ◌∙◌, subst, arith}
-use Rattle.st_tree.specs.declared.token.Token.{Token}
+use Rattle.std.proofs.Common.{◌≡◌, ℕ, ◌-◌, ◌≤◌, List, length, drop, Option, Some, None, refl, sym, ap, ◌∙◌, subst}
 use Rattle.st_tree.specs.declared.fault.Fault.{Fault}
 use Rattle.st_tree.specs.declared.fault.Cause.{Cause}
 use Rattle.st_tree.specs.Faults.{cause_number}
 use Rattle.st_tree.specs.Views.{MethodView}
-use Rattle.st_scan.specs.Scans.{ScansTo, HasTokens}
 use Rattle.st_scan.proofs.One.{one}
 use Rattle.st_grammar.specs.declared.leaf.Leaf.{Leaf}
 use Rattle.st_grammar.specs.Leaves.{leaves_of}
-use Rattle.st_grammar.specs.Faults.{highest, most, IsMethod, IsMethodOf, FaultAt}
+use Rattle.st_grammar.specs.Faults.{highest, most, IsMethod, IsMethodOf}
 use Rattle.st_grammar.specs.Texts.{Means, words, place_at, GrammarFinds, first_fault, HasFirst, HasFault}
 use Rattle.st_grammar.proofs.Theorems.{one_tree, one_fault, method_no_fault}
 

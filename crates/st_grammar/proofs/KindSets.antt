@@ -5,7 +5,7 @@ use Rattle.std.proofs.lemmas.Bool.{and_parts, or_cases, not-true, eqb-true}
 use Rattle.st_tree.specs.declared.token.Sort.TheVariants as sorts
 use Rattle.st_grammar.specs.declared.leaf.Leaf.{Leaf}
 use Rattle.st_grammar.specs.declared.leaf.Kind.{Kind}
-use Rattle.st_grammar.specs.declared.leaf.Kind.TheVariants.{Name, Keyword, Joined, Primitive, Operator, Bar, Less, Greater, Number, Constant, Opening, Return, Period, Semicolon, Colon, Assign, Open, Close, OpenBlock, CloseBlock}
+use Rattle.st_grammar.specs.declared.leaf.Kind.TheVariants.{Name, Keyword, Operator, Constant}
 use Rattle.st_grammar.specs.Leaves.{kind_number, among, keywords, operators, openings, closings}
 use Rattle.st_grammar.specs.Phrases.{One, names, constants, plain_elements, first_keywords}
 

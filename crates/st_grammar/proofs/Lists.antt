@@ -1,15 +1,14 @@
 -- Readers of lists of leaves, and small laws of tests.
-use Rattle.std.proofs.Common.{◌≡◌, ℕ, ◌<◌, ◌≤◌, Bool, true, false, ◌||◌, ◌&&◌, List, [], ◌∷◌, ◌++◌, ◌⊎◌, inl, inr, length, refl, sym, ap, ◌∙◌, arith}
+use Rattle.std.proofs.Common.{◌≡◌, ℕ, ◌≤◌, Bool, true, false, ◌||◌, ◌&&◌, List, [], ◌∷◌, ◌⊎◌, inl, inr, length, refl, sym, ap, ◌∙◌, arith}
 use Rattle.st_grammar.specs.declared.leaf.Leaf.{Leaf}
 use Rattle.st_grammar.specs.declared.leaf.Kind.{Kind}
 use Rattle.st_grammar.specs.Leaves.{among}
 use Rattle.st_grammar.specs.Phrases.{One, one_text, ones_text}
-use Rattle.st_grammar.specs.Reading.{Read, first, token_at, many}
-use Rattle.st_grammar.proofs.Heights.{IsBalanced}
-use Rattle.st_grammar.proofs.KindSets.{are_neutral, neutral}
+use Rattle.st_grammar.specs.Reading.{Read, many}
+use Rattle.st_grammar.proofs.KindSets.{are_neutral}
 use Rattle.st_grammar.proofs.Balanced.{ones_balanced}
-use Rattle.st_grammar.proofs.Readers.{Reads, nothing, is_nil, renamed, token_reads}
-use Rattle.st_grammar.proofs.Repeats.{IsRepeat, IsMore, repeated, goes_on}
+use Rattle.st_grammar.proofs.Readers.{Reads, nothing, is_nil, renamed}
+use Rattle.st_grammar.proofs.Repeats.{IsRepeat, IsMore, repeated}
 
 pub and_false : (b : Bool) → (b && false) ≡ false
 and_false true = refl

@@ -1,5 +1,5 @@
 -- What is read of literals and arrays.
-use Rattle.std.proofs.Common.{◌≡◌, ℕ, zero, suc, ◌<◌, ◌≤◌, Bool, true, false, ◌||◌, ◌&&◌, List, [], ◌∷◌, ◌++◌, ◌⊎◌, inl, inr, length, Ok, refl, sym, ap, ◌∙◌, subst, append_assoc, arith}
+use Rattle.std.proofs.Common.{◌≡◌, ℕ, zero, suc, ◌<◌, ◌≤◌, Bool, true, false, ◌||◌, ◌&&◌, List, [], ◌∷◌, ◌++◌, ◌⊎◌, inl, inr, length, Ok, refl, sym, ap, ◌∙◌, append_assoc, arith}
 use Rattle.std.proofs.lemmas.List.{append-nil}
 use Rattle.st_tree.specs.Views.{ElementView, ElementsView, with_element}
 use Rattle.st_tree.specs.Views as views
@@ -7,12 +7,11 @@ use Rattle.st_grammar.specs.declared.leaf.Leaf.{Leaf}
 use Rattle.st_grammar.specs.declared.leaf.Kind.{Kind}
 use Rattle.st_grammar.specs.declared.leaf.Kind.TheVariants.{Joined, Opening, Open, Close}
 use Rattle.st_grammar.specs.Leaves.{among, openings, closings}
-use Rattle.st_grammar.specs.Phrases.{One, constants, plain_elements, first_keywords, Element, plain, keyword_symbol, nested, Elements, no_elements, element, one_text, ones_text, element_text, elements_text}
+use Rattle.st_grammar.specs.Phrases.{One, plain_elements, first_keywords, Element, plain, keyword_symbol, nested, Elements, no_elements, element, one_text, ones_text, element_text, elements_text}
 use Rattle.st_grammar.specs.Trees.{bytes, joined_bytes, constant_at, element_tree, elements_tree}
-use Rattle.st_grammar.specs.Reading.{Read, ◌>>=◌, first, token_at, many, element_starts, joined_step, joined_at, keyword_symbol_at, constant_element_at, nested_at, element_at, elements_step, elements_at, array_at}
-use Rattle.st_grammar.proofs.Heights.{IsBalanced}
-use Rattle.st_grammar.proofs.KindSets.{apart, within, neutral, are_neutral, are_apart, are_within, covered, sample, one_plain, one_first_keyword}
-use Rattle.st_grammar.proofs.Balanced.{elements_balanced, element_balanced}
+use Rattle.st_grammar.specs.Reading.{◌>>=◌, first, token_at, element_starts, joined_step, joined_at, keyword_symbol_at, constant_element_at, nested_at, element_at, elements_step, elements_at, array_at}
+use Rattle.st_grammar.proofs.KindSets.{apart, within, neutral, are_neutral, are_apart, covered, sample, one_plain, one_first_keyword}
+use Rattle.st_grammar.proofs.Balanced.{elements_balanced}
 use Rattle.st_grammar.proofs.Readers.{Reads, nothing, first_nothing, is_nil, mapped, renamed, token_reads, both, either, anyway, text_both, goes_both, text_either, tree_either, goes_either}
 use Rattle.st_grammar.proofs.Repeats.{IsRepeat, IsMore, repeated}
 use Rattle.st_grammar.proofs.Bracketed.{bracket_zero_zero, bracket_zero_suc, bracket_suc_suc}

@@ -1,17 +1,16 @@
 -- What is read of methods.
-use Rattle.std.proofs.Common.{◌≡◌, ℕ, zero, suc, ◌<◌, ◌≤◌, Bool, true, false, cond, ◌||◌, ◌&&◌, List, [], ◌∷◌, ◌++◌, ◌⊎◌, inl, inr, length, Option, Some, None, Ok, Err, refl, sym, ap, ◌∙◌, subst, append_assoc, length-append, arith}
+use Rattle.std.proofs.Common.{◌≡◌, ℕ, Bool, true, false, cond, ◌||◌, ◌&&◌, List, [], ◌∷◌, ◌++◌, ◌⊎◌, inl, inr, Option, Some, None, Ok, refl, sym, ap, ◌∙◌, append_assoc, arith}
 use Rattle.std.proofs.lemmas.List.{append-nil}
 use Rattle.st_tree.specs.declared.token.Signed.{Signed}
-use Rattle.st_tree.specs.Views.{NameView, StatementsView, MethodView}
-use Rattle.st_tree.specs.Views as views
+use Rattle.st_tree.specs.Views.{NameView, MethodView}
 use Rattle.st_grammar.specs.declared.leaf.Leaf.{Leaf}
 use Rattle.st_grammar.specs.declared.leaf.Kind.{Kind}
 use Rattle.st_grammar.specs.declared.leaf.Kind.TheVariants.{Primitive, Bar, Less, Greater, Number}
 use Rattle.st_grammar.specs.Leaves.{among, keywords, operators}
 use Rattle.st_grammar.specs.Phrases.{One, names, one_text, ones_text, KeywordName, Pattern, unary_pattern, binary_pattern, keyword_pattern, Temporaries, Primitive', Options, no_options, with_temporaries, with_primitive, temporaries_first, primitive_first, Method, method, Statements, no_statements, keyword_names_text, pattern_text, temporaries_text, primitive_text, options_text, statements_text, method_text}
 use Rattle.st_grammar.specs.Trees.{bytes, name_at, names_of, number_of, keyword_selector, keyword_arguments, pattern_selector, pattern_arguments, primitive_number, options_temporaries, options_primitive, statements_tree, method_tree, MethodFits}
-use Rattle.st_grammar.specs.Reading.{Stop, Read, ◌>>=◌, first, token_at, many, statement_starts, PatternView, OptionsView, array_at, bracket_at, statements_at, pattern_step, keyword_names_at, unary_pattern_at, binary_pattern_at, keyword_pattern_at, pattern_at, name_step, name_list_at, temporaries_at, primitive_at, temporaries_first_at, primitive_first_at, options_at, method_at}
-use Rattle.st_grammar.proofs.KindSets.{apart, within, neutral, sample, one_name, one_operator, one_keyword}
+use Rattle.st_grammar.specs.Reading.{◌>>=◌, first, token_at, statement_starts, PatternView, OptionsView, array_at, bracket_at, statements_at, pattern_step, keyword_names_at, unary_pattern_at, binary_pattern_at, keyword_pattern_at, pattern_at, name_step, name_list_at, temporaries_at, primitive_at, temporaries_first_at, primitive_first_at, options_at, method_at}
+use Rattle.st_grammar.proofs.KindSets.{apart, neutral, sample, one_name, one_operator, one_keyword}
 use Rattle.st_grammar.proofs.Balanced.{keyword_names_balanced}
 use Rattle.st_grammar.proofs.Readers.{Reads, nothing, first_nothing, is_nil, mapped, renamed, token_reads, both, either, anyway, pure, weaker, text_both, goes_both, text_either, tree_either, goes_either, or_neither}
 use Rattle.st_grammar.proofs.Repeats.{IsRepeat, IsMore, repeated}

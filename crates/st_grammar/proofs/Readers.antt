@@ -1,5 +1,5 @@
 -- What a reader does by the phrases that it reads, and how readers are put together.
-use Rattle.std.proofs.Common.{◌≡◌, ℕ, zero, suc, ◌+◌, ◌<◌, ◌≤◌, max, Bool, true, false, cond, ◌||◌, ◌&&◌, List, [], ◌∷◌, ◌++◌, ◌⊎◌, inl, inr, length, Result, Ok, Err, refl, sym, ap, ◌∙◌, subst, append_assoc, length-append, arith}
+use Rattle.std.proofs.Common.{◌≡◌, ℕ, ◌+◌, ◌<◌, ◌≤◌, Bool, true, false, cond, ◌||◌, ◌&&◌, List, [], ◌∷◌, ◌++◌, ◌⊎◌, inl, inr, length, Ok, Err, refl, sym, ap, ◌∙◌, subst, append_assoc, arith}
 use Rattle.std.proofs.lemmas.List.{append-nil}
 use Rattle.std.proofs.lemmas.Bool.{cases_Bool}
 use Rattle.st_tree.specs.declared.fault.Cause.{Cause}
@@ -8,10 +8,9 @@ use Rattle.st_grammar.specs.declared.leaf.Leaf.{Leaf}
 use Rattle.st_grammar.specs.declared.leaf.Kind.{Kind}
 use Rattle.st_grammar.specs.Leaves.{among, openings, closings}
 use Rattle.st_grammar.specs.Phrases.{One, one_text}
-use Rattle.st_grammar.specs.Reading.{Stop, Read, stop, ◌>>=◌, first, token_at, many}
+use Rattle.st_grammar.specs.Reading.{Stop, Read, stop, ◌>>=◌, first, token_at}
 use Rattle.st_grammar.specs.Faults.{height, highest}
-use Rattle.st_grammar.proofs.Heights.{IsBalanced, balanced_nil, balanced_one, balanced_append, flat_height, behind_balanced}
-use Rattle.st_grammar.proofs.Loops.{many_stop, many_step}
+use Rattle.st_grammar.proofs.Heights.{IsBalanced, balanced_nil, balanced_one, balanced_append, behind_balanced}
 
 -- l ends here, or begins as rest does
 abbrev pub Alike : List Leaf → List Leaf → Type 0

@@ -1,13 +1,13 @@
 -- A loop of a reader, by the list of phrases that it reads.
-use Rattle.std.proofs.Common.{◌≡◌, ℕ, zero, suc, ◌+◌, ◌<◌, ◌≤◌, max, Bool, true, false, cond, ◌||◌, ◌&&◌, List, [], ◌∷◌, ◌++◌, ◌⊎◌, inl, inr, length, Result, Ok, Err, refl, sym, ap, ◌∙◌, subst, append_assoc, length-append, arith}
+use Rattle.std.proofs.Common.{◌≡◌, ℕ, zero, suc, ◌<◌, ◌≤◌, Bool, true, false, cond, ◌||◌, ◌&&◌, List, [], ◌∷◌, ◌++◌, ◌⊎◌, inl, inr, length, Ok, Err, refl, sym, ap, ◌∙◌, subst, append_assoc, length-append, arith}
 use Rattle.std.proofs.lemmas.List.{append-nil}
 use Rattle.st_tree.specs.declared.fault.Cause.TheVariants.{Expected, Deep}
 use Rattle.st_grammar.specs.declared.leaf.Leaf.{Leaf}
 use Rattle.st_grammar.specs.Reading.{Stop, Read, stop, ◌>>=◌, first, many}
-use Rattle.st_grammar.specs.Faults.{height, highest}
+use Rattle.st_grammar.specs.Faults.{highest}
 use Rattle.st_grammar.proofs.Heights.{IsBalanced, behind_balanced}
 use Rattle.st_grammar.proofs.Loops.{many_stop, many_step}
-use Rattle.st_grammar.proofs.Readers.{Alike, first_alike, alike_behind, first_same, ToldOk, ToldErr, Told, Reads, IsStuck, IsDeep, Reason, is_nil, or_left, or_right, or_neither}
+use Rattle.st_grammar.proofs.Readers.{Alike, first_alike, alike_behind, first_same, ToldOk, ToldErr, Told, Reads, IsDeep, Reason, is_nil, or_left, or_right, or_neither}
 
 module _ {A P L : Type 0} (looks : A → Leaf → Bool) (text : P → List Leaf) (after : P → A → A) (goes : P → Leaf → Bool) (Valid : A → L → Type 0) (texts : L → List Leaf) (afters : L → A → A) (last : L → Leaf → Bool) where
   -- a list that is a phrase and another list

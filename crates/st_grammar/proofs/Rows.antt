@@ -64,17 +64,17 @@ all_messages = record {
   };
   method = (
     phrases.method
-      (phrases.unary_pattern (the_name 0 3))
-      phrases.no_options
-      (phrases.returned
+        (phrases.unary_pattern (the_name 0 3))
+        phrases.no_options
+        (phrases.returned
         (record { leaf = leaf kinds.Return sorts.Mark 4 5; fits = refl })
         (phrases.expression [] (phrases.cascade
-          (phrases.keyworded
-            (phrases.binary
-              (phrases.unary (phrases.name (the_name 5 6)) (the_name 7 8 ∷ []))
-              (phrases.operation (record { leaf = leaf kinds.Operator sorts.Operator 9 10; fits = refl }) (alone 11 12) phrases.no_operations))
-            (phrases.part (record { leaf = leaf kinds.Keyword sorts.Keyword 13 15; fits = refl }) (simple 16 17) phrases.no_parts))
-          phrases.no_messages))),
+        (phrases.keyworded
+        (phrases.binary
+        (phrases.unary (phrases.name (the_name 5 6)) (the_name 7 8 ∷ []))
+        (phrases.operation (record { leaf = leaf kinds.Operator sorts.Operator 9 10; fits = refl }) (alone 11 12) phrases.no_operations))
+        (phrases.part (record { leaf = leaf kinds.Keyword sorts.Keyword 13 15; fits = refl }) (simple 16 17) phrases.no_parts))
+        phrases.no_messages))),
     (tt, ((tt, refl), tt), ((tt, tt, refl), tt), tt, refl, tt),
     refl,
     refl,
@@ -96,14 +96,14 @@ a_cascade = record {
   };
   method = (
     phrases.method
-      (phrases.unary_pattern (the_name 0 3))
-      phrases.no_options
-      (phrases.last (phrases.expression [] (phrases.cascade
+        (phrases.unary_pattern (the_name 0 3))
+        phrases.no_options
+        (phrases.last (phrases.expression [] (phrases.cascade
         (phrases.keyworded (phrases.binary (phrases.unary (phrases.name (the_name 4 5)) (the_name 6 7 ∷ [])) phrases.no_operations) phrases.no_parts)
         (phrases.message
-          (record { leaf = leaf kinds.Semicolon sorts.Mark 7 8; fits = refl })
-          (phrases.binary_message (record { leaf = leaf kinds.Operator sorts.Operator 9 10; fits = refl }) (alone 11 12))
-          phrases.no_messages)))),
+        (record { leaf = leaf kinds.Semicolon sorts.Mark 7 8; fits = refl })
+        (phrases.binary_message (record { leaf = leaf kinds.Operator sorts.Operator 9 10; fits = refl }) (alone 11 12))
+        phrases.no_messages)))),
     (tt, tt, tt, ((tt, refl), tt), refl, refl),
     refl,
     refl,
@@ -125,12 +125,12 @@ assignments = record {
   };
   method = (
     phrases.method
-      (phrases.unary_pattern (the_name 0 3))
-      phrases.no_options
-      (phrases.last (phrases.expression
+        (phrases.unary_pattern (the_name 0 3))
+        phrases.no_options
+        (phrases.last (phrases.expression
         (record { name = the_name 4 5; assign = record { leaf = leaf kinds.Assign sorts.Mark 6 7; fits = refl } }
-          ∷ record { name = the_name 8 9; assign = record { leaf = leaf kinds.Assign sorts.Mark 10 12; fits = refl } }
-          ∷ [])
+        ∷ record { name = the_name 8 9; assign = record { leaf = leaf kinds.Assign sorts.Mark 10 12; fits = refl } }
+        ∷ [])
         (phrases.cascade (phrases.keyworded (simple 13 14) phrases.no_parts) phrases.no_messages))),
     (tt, tt, tt, tt, refl, tt),
     refl,

@@ -1,5 +1,5 @@
 -- A step of a loop takes a leaf or more.
-use Rattle.std.proofs.Common.{◌≡◌, ℕ, ◌<◌, ◌≤◌, Bool, List, [], ◌∷◌, ◌++◌, length, Ok, refl, sym, ap, ◌∙◌, subst, length-append, arith}
+use Rattle.std.proofs.Common.{◌≡◌, ℕ, ◌<◌, Bool, List, [], ◌∷◌, ◌++◌, length, Ok, refl, ap, subst, length-append, arith}
 use Rattle.st_tree.specs.Views.{NameView, ElementsView, ExpressionView}
 use Rattle.st_tree.specs.Views as views
 use Rattle.st_grammar.specs.declared.leaf.Leaf.{Leaf}
@@ -9,7 +9,7 @@ use Rattle.st_grammar.specs.Phrases.{names}
 use Rattle.st_grammar.specs.Reading.{Read, PartsView, BodyView, PatternView, array_at, bracket_at, joined_step, elements_step, names_step, operations_step, parts_step, cascade_step, statement_step, parameters_step, pattern_step, name_step}
 use Rattle.st_grammar.proofs.KindSets.{neutral, sample, one_name}
 use Rattle.st_grammar.proofs.Readers.{Reads, Told, ToldOk, mapped, token_reads}
-use Rattle.st_grammar.proofs.Literals.{any_open, nested_reads, elements_step_reads, element_some}
+use Rattle.st_grammar.proofs.Literals.{nested_reads, elements_step_reads, element_some}
 use Rattle.st_grammar.proofs.Expressions.{Inner, operation_reads}
 use Rattle.st_grammar.proofs.Cascades.{part_reads, cascade_step_reads}
 use Rattle.st_grammar.proofs.Bodies.{step_reads, step_some}

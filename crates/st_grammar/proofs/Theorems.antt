@@ -1,5 +1,5 @@
 -- What reading says of the grammar.
-use Rattle.std.proofs.Common.{◌≡◌, ℕ, zero, suc, ◌+◌, ◌-◌, ◌<◌, ◌≤◌, max, Bool, true, false, List, [], ◌∷◌, ◌++◌, ◌⊎◌, inl, inr, length, Result, Ok, Err, refl, sym, ap, ◌∙◌, subst, append_assoc, length-append, arith}
+use Rattle.std.proofs.Common.{◌≡◌, ℕ, ◌+◌, ◌<◌, ◌≤◌, max, true, List, [], ◌∷◌, ◌++◌, inl, inr, length, Ok, Err, refl, sym, ap, ◌∙◌, subst, append_assoc, length-append, arith}
 use Rattle.std.proofs.lemmas.List.{append-nil, append_cancel_left}
 use Rattle.std.proofs.lemmas.Bool.{cases_lt}
 use Rattle.st_tree.specs.declared.fault.Cause.{Cause}
@@ -7,12 +7,12 @@ use Rattle.st_tree.specs.declared.fault.Cause.TheVariants.{Expected, Deep, Trail
 use Rattle.st_tree.specs.Views.{MethodView}
 use Rattle.st_grammar.specs.declared.leaf.Leaf.{Leaf}
 use Rattle.st_grammar.specs.Leaves.{among, openings}
-use Rattle.st_grammar.specs.Phrases.{Method, method_text}
-use Rattle.st_grammar.specs.Trees.{method_tree, MethodFits}
-use Rattle.st_grammar.specs.Reading.{Stop, Read, stop, ◌>>=◌, first, method_at, end_at, whole_at}
+use Rattle.st_grammar.specs.Phrases.{method_text}
+use Rattle.st_grammar.specs.Trees.{method_tree}
+use Rattle.st_grammar.specs.Reading.{Stop, Read, stop, ◌>>=◌, method_at, end_at, whole_at}
 use Rattle.st_grammar.specs.Faults.{level, height, highest, most, IsMethod, IsMethodOf, Begins, CannotStand, IsTooDeep, Why, FaultAt}
-use Rattle.st_grammar.proofs.Heights.{from_start, height_append, highest_append}
-use Rattle.st_grammar.proofs.Readers.{Alike, Reads, Told, ToldOk, ToldErr, Reason, nothing, first_nothing}
+use Rattle.st_grammar.proofs.Heights.{from_start, highest_append}
+use Rattle.st_grammar.proofs.Readers.{Alike, Reads, Told, ToldOk, ToldErr, Reason, nothing}
 use Rattle.st_grammar.proofs.Blocks.{inner_reads}
 use Rattle.st_grammar.proofs.Methods.{FitMethod, method_goes, method_reads}
 

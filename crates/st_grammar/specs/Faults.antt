@@ -1,5 +1,5 @@
 -- When leaves are a method, and where the first one stands that cannot stand there.
-use Rattle.std.specs.Prelude.{◌≡◌, ℕ, ◌+◌, ◌-◌, ◌≤◌, max, Bool, if◌then◌else◌, List, [], ◌∷◌, ◌++◌, length, ◌⊎◌, IsTrue}
+use Rattle.std.specs.Prelude.{◌≡◌, ℕ, ◌+◌, ◌-◌, ◌≤◌, max, if◌then◌else◌, List, [], ◌∷◌, ◌++◌, length, ◌⊎◌, IsTrue}
 use Rattle.st_tree.specs.declared.fault.Cause.{Cause}
 use Rattle.st_tree.specs.declared.fault.Cause.TheVariants.{Expected, Deep, Trailing}
 use Rattle.st_tree.specs.Views.{MethodView}

@@ -2,7 +2,7 @@
 use Rattle.std.specs.Prelude.{List, [], ◌∷◌, ◌++◌, IsTrue}
 use Rattle.st_grammar.specs.declared.leaf.Leaf.{Leaf}
 use Rattle.st_grammar.specs.declared.leaf.Kind.{Kind}
-use Rattle.st_grammar.specs.declared.leaf.Kind.TheVariants.{Name, Keyword, Joined, Primitive, Operator, Bar, Less, Greater, Number, Constant, Opening, Return, Period, Semicolon, Colon, Assign, Open, Close, OpenBlock, CloseBlock}
+use Rattle.st_grammar.specs.declared.leaf.Kind.TheVariants.{Name, Keyword, Joined, Primitive, Bar, Less, Greater, Number, Constant, Opening, Return, Period, Semicolon, Colon, Assign, Open, Close, OpenBlock, CloseBlock}
 use Rattle.st_grammar.specs.Leaves.{among, keywords, operators}
 
 -- a leaf of one of these kinds

@@ -1,5 +1,5 @@
 -- What phrases mean: the tree of each, in a text. And which of them fit: the conditions that no form of a row has.
-use Rattle.std.specs.Prelude.{ℕ, ◌-◌, Bool, true, false, ◌==◌, not, List, [], ◌∷◌, ◌++◌, length, take, drop, if◌then◌else◌, Option, Some, None, IsTrue, IsFalse, codes, bytes_eq}
+use Rattle.std.specs.Prelude.{ℕ, ◌-◌, Bool, true, false, ◌==◌, List, [], ◌∷◌, ◌++◌, length, take, drop, if◌then◌else◌, Option, Some, None, IsTrue, IsFalse, codes, bytes_eq}
 use Rattle.std.specs.Str.{byte}
 use Rattle.st_tree.specs.declared.token.Signed.{Signed}
 use Rattle.st_tree.specs.declared.token.Sort.{Sort}
@@ -9,7 +9,7 @@ use Rattle.st_tree.specs.Views as views
 use Rattle.st_grammar.specs.declared.leaf.Leaf.{Leaf}
 use Rattle.st_grammar.specs.declared.leaf.Kind.{Kind}
 use Rattle.st_grammar.specs.Leaves.{bytes_of}
-use Rattle.st_grammar.specs.Phrases.{One, Element, plain, keyword_symbol, nested, Elements, no_elements, element, Literal, constant, array, Parameter, Target, Primary, name, literal, block, group, Block, plain_block, full_block, empty_block, Unary, unary, Binary, binary, Operations, no_operations, operation, Keyworded, keyworded, Parts, no_parts, part, Cascade, cascade, Messages, no_messages, message, Message, unary_message, binary_message, keyword_message, Expression, expression, Statements, no_statements, last, next, returned, returned_ended, KeywordName, Pattern, unary_pattern, binary_pattern, keyword_pattern, Temporaries, Primitive', Options, no_options, with_temporaries, with_primitive, temporaries_first, primitive_first, Method, method, names}
+use Rattle.st_grammar.specs.Phrases.{One, Element, plain, keyword_symbol, nested, Elements, no_elements, element, Literal, constant, array, Parameter, Target, Primary, name, literal, block, group, Block, plain_block, full_block, empty_block, Unary, unary, Binary, binary, Operations, no_operations, operation, Keyworded, keyworded, Parts, no_parts, part, Cascade, cascade, Messages, no_messages, message, Message, unary_message, binary_message, keyword_message, Expression, expression, Statements, no_statements, last, next, returned, returned_ended, KeywordName, Pattern, unary_pattern, binary_pattern, keyword_pattern, Primitive', Options, no_options, with_temporaries, with_primitive, temporaries_first, primitive_first, Method, method, names}
 
 -- a string's bytes, where each doubled quote is one; `second` says whether a first one stands before them
 abbrev pub undoubled : (second : Bool) → List ℕ → List ℕ

@@ -12,8 +12,8 @@ use Rattle.std.specs.Prelude.{IfOk, IfErr}
 use Rattle.st_scan.specs.Scans.{ScansTo}
 use Rattle.st_grammar.specs.declared.leaf.Leaf.{Leaf}
 use Rattle.st_grammar.specs.Faults.{highest, most, IsMethodOf}
-use Rattle.st_grammar.specs.Reading.{Stop, whole_at}
-use Rattle.st_grammar.specs.Texts.{Means, words, place_at, GrammarFinds, first_fault, HasFirst, HasFault, IsFaultOf, IsOnly}
+use Rattle.st_grammar.specs.Reading.{whole_at}
+use Rattle.st_grammar.specs.Texts.{Means, words, place_at, GrammarFinds, first_fault, HasFirst, IsFaultOf, IsOnly}
 use Rattle.st_grammar.proofs.Theorems.{whole_method, whole_fault}
 use Rattle.st_grammar.proofs.Faulty.{tree_determined, tree_or_fault}
 

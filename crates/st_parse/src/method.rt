@@ -7,9 +7,9 @@ ghost use Rattle.st_grammar.specs.Trees.{number_of};
 ghost use Rattle.st_grammar.specs.Reading.{Gives, Fails, pattern_step, keyword_names_at, pattern_at, unary_pattern_at, binary_pattern_at, keyword_pattern_at, name_step, name_list_at, temporaries_at, primitive_at, options_at, temporaries_first_at, primitive_first_at, method_at, whole_at, end_at};
 ghost use Rattle.st_parse.specs.Parsed.{pattern_view, options_view};
 
-use st_readers::{KEYWORDS, NAMES, OPERATORS, name_of, statements};
 use st_grammar::leaf::{Kind, Leaf, bytes_of};
 use st_grammar::read::{ReadError, starts, token};
+use st_readers::{KEYWORDS, NAMES, OPERATORS, name_of, statements};
 use st_tree::{Cause, MethodTree, NameList, Signed, Sort, Text};
 use std::alloc::Global;
 

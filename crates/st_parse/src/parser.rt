@@ -5,8 +5,8 @@ ghost use Rattle.st_scan.specs.Scans.{AreSpans};
 ghost use Rattle.st_tree.specs.Views.{MethodView, method_view};
 ghost use Rattle.st_grammar.specs.Texts.{Means, IsFaultOf, IsOnly, bad_number, words, place_at, is_before, first_fault};
 
-use st_grammar::leaf::{Kind, Leaf, leaves_of};
 use crate::method::whole;
+use st_grammar::leaf::{Kind, Leaf, leaves_of};
 use st_grammar::read::ReadError;
 use st_scan::{Scanned, scan};
 use st_tree::{Cause, Fault, MethodTree, Sort, SyntaxFault, Token};

@@ -10,8 +10,8 @@ ghost use Rattle.st_grammar.specs.Leaves.{among};
 ghost use Rattle.st_grammar.specs.Reading.{first, message_starts, statement_looks};
 ghost use Rattle.st_readers.specs.Parsed.{parts_view, body_view, NoTarget, BeginsWithTarget};
 
-use st_grammar::leaf::{Kind, Leaf, bytes_of};
 use crate::literal::{constant_element, nested};
+use st_grammar::leaf::{Kind, Leaf, bytes_of};
 use st_grammar::read::{ReadError, is_among, starts, token};
 use st_tree::{
     Expression, ExpressionList, Message, MessageList, Name, NameList, Statement, StatementList,

@@ -1,7 +1,5 @@
 use Rattle.std.proofs.Common.{length}
-use Rattle.st_tree.specs.Views.{names_view}
 use Rattle.st_grammar.specs.Leaves.{among, keywords}
-use Rattle.st_grammar.specs.Phrases.{names}
 use Rattle.st_parse.specs.Parsed.{pattern_view}
 use Rattle.st_grammar.specs.Reading.{pattern_step, keyword_names_at}
 use Rattle.st_grammar.proofs.Loops.{Going}

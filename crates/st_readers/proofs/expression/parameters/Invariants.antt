@@ -1,8 +1,7 @@
 use Rattle.std.proofs.Common.{◌∷◌, [], length}
-use Rattle.st_tree.specs.Views.{expression_view, names_view}
+use Rattle.st_tree.specs.Views.{names_view}
 use Rattle.st_grammar.specs.declared.leaf.Kind.TheVariants.{Colon}
-use Rattle.st_grammar.specs.Leaves.{among, keywords}
-use Rattle.st_grammar.specs.Phrases.{names}
+use Rattle.st_grammar.specs.Leaves.{among}
 use Rattle.st_grammar.specs.Reading.{parameters_step, parameters_at}
 use Rattle.st_grammar.proofs.Loops.{Going}
 use Rattle.st_readers.proofs.expression.parameters.Given as goal

@@ -1,6 +1,6 @@
-use Rattle.std.proofs.Common.{◌∷◌, [], length}
-use Rattle.st_tree.specs.Views.{expression_view, names_view}
-use Rattle.st_grammar.specs.Leaves.{among, keywords}
+use Rattle.std.proofs.Common.{length}
+use Rattle.st_tree.specs.Views.{expression_view}
+use Rattle.st_grammar.specs.Leaves.{among}
 use Rattle.st_grammar.specs.Phrases.{names}
 use Rattle.st_grammar.specs.Reading.{names_step, names_at}
 use Rattle.st_grammar.proofs.Loops.{Going}
