@@ -10,12 +10,12 @@ use Rattle.st_tree.specs.Faults.{cause_number}
 use Rattle.st_tree.specs.Views.{MethodView, method_view}
 use Rattle.std.specs.Prelude.{IfOk, IfErr}
 use Rattle.st_scan.specs.Scans.{ScansTo}
-use Rattle.st_parse.specs.declared.leaf.Leaf.{Leaf}
-use Rattle.st_parse.specs.Faults.{highest, most, IsMethodOf}
-use Rattle.st_parse.specs.Reading.{Stop, whole_at}
-use Rattle.st_parse.specs.Texts.{Means, words, place_at, GrammarFinds, first_fault, HasFirst, HasFault, IsFaultOf, IsOnly}
-use Rattle.st_parse.proofs.Theorems.{whole_method, whole_fault}
-use Rattle.st_parse.proofs.Faulty.{tree_determined, tree_or_fault}
+use Rattle.st_grammar.specs.declared.leaf.Leaf.{Leaf}
+use Rattle.st_grammar.specs.Faults.{highest, most, IsMethodOf}
+use Rattle.st_grammar.specs.Reading.{whole_at}
+use Rattle.st_grammar.specs.Texts.{Means, words, place_at, GrammarFinds, first_fault, HasFirst, IsFaultOf, IsOnly}
+use Rattle.st_grammar.proofs.Theorems.{whole_method, whole_fault}
+use Rattle.st_grammar.proofs.Faulty.{tree_determined, tree_or_fault}
 
 pub is_tree : (text : List ℕ) (tokens : List Token) (scanner : Option Fault) (ws : List Leaf) (t : MethodView) → ScansTo text tokens scanner → scanner ≡ None → ws ≡ words text tokens scanner → whole_at text most ws ≡ Ok t → Means text t
 is_tree text tokens scanner ws t scan none is read =

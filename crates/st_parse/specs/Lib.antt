@@ -1,7 +1,1 @@
-pub mod Faults
-pub mod Leaves
 pub mod Parsed
-pub mod Phrases
-pub mod Reading
-pub mod Texts
-pub mod Trees

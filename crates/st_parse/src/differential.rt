@@ -230,35 +230,69 @@ fn joined(ends: &[u8], first: usize, second: usize, place: usize) -> u8 {
     found
 }
 
-/// Whether the symbols of tokens, 5 at most, are a method.
-fn is_method(alloc: Global, tokens: &[usize]) -> Result<bool, AllocError> {
+/// A table in which nothing is known.
+fn empty_table(alloc: Global) -> Result<Vec<u8>, AllocError> {
     let mut ends = Vec::new(alloc);
     for _ in 0..SYMBOLS * 8 {
         ends.push(0u8)?;
     }
+    Ok(ends)
+}
+
+/// Adds that nothing stands from each place up to the same place.
+fn add_nothing(ends: &mut [u8]) {
     for place in 0..8u8 {
-        let _new = add_ends(&mut ends, NOTHING, usize::from(place), 1 << place);
+        let _new = add_ends(ends, NOTHING, usize::from(place), 1 << place);
     }
+}
+
+/// Adds tokens one after the other, and answers the bit of the place behind them.
+fn add_tokens(ends: &mut [u8], tokens: &[usize]) -> u8 {
     let mut bit = 1u8;
     let mut place = 0usize;
     for token in tokens {
         bit = bit.wrapping_shl(1);
-        let _new = add_ends(&mut ends, *token, place, bit);
+        let _new = add_ends(ends, *token, place, bit);
         place = place.wrapping_add(1);
     }
-    // A pass adds what is joined of what stands already, until there is nothing new.
+    bit
+}
+
+/// Adds what a rule says at each place, and answers whether any is new.
+fn apply(ends: &mut [u8], rule: (usize, usize, usize)) -> bool {
+    let (part, first, second) = rule;
+    let mut new = false;
+    for place in 0..6 {
+        let more = joined(ends, first, second, place);
+        new = add_ends(ends, part, place, more) || new;
+    }
+    new
+}
+
+/// Adds what each rule says, and answers whether any is new.
+fn apply_all(ends: &mut [u8]) -> bool {
+    let mut new = false;
+    for rule in RULES {
+        new = apply(ends, rule) || new;
+    }
+    new
+}
+
+/// Applies the rules until there is nothing new.
+fn close(ends: &mut [u8]) {
     for _ in 0..200 {
-        let mut new = false;
-        for (part, first, second) in RULES {
-            for place in 0..6 {
-                let more = joined(&ends, first, second, place);
-                new = add_ends(&mut ends, part, place, more) || new;
-            }
-        }
-        if !new {
+        if !apply_all(ends) {
             break;
         }
     }
+}
+
+/// Whether the symbols of tokens, 5 at most, are a method.
+fn is_method(alloc: Global, tokens: &[usize]) -> Result<bool, AllocError> {
+    let mut ends = empty_table(alloc)?;
+    add_nothing(&mut ends);
+    let bit = add_tokens(&mut ends, tokens);
+    close(&mut ends);
     Ok(ends_at(&ends, METHOD, 0) & bit != 0)
 }
 
@@ -272,6 +306,23 @@ fn text_of(alloc: Global, tokens: &[usize]) -> Result<Vec<u8>, AllocError> {
     Ok(text)
 }
 
+/// So many tokens of an alphabet, by a code below their number of choices.
+fn tokens_of(
+    alloc: Global,
+    alphabet: &[usize],
+    length: u32,
+    code: u32,
+) -> Result<Vec<usize>, AllocError> {
+    let mut tokens = Vec::new(alloc);
+    let mut rest = code as usize;
+    for _ in 0..length {
+        let size = alphabet.len().max(1);
+        tokens.push(alphabet.get(rest % size).copied().unwrap_or(NOTHING))?;
+        rest /= size;
+    }
+    Ok(tokens)
+}
+
 /// Compares all texts of so many tokens of an alphabet, and answers how many are methods.
 fn compare(
     rt: &impl Abort,
@@ -282,13 +333,7 @@ fn compare(
 ) -> Result<u32, AllocError> {
     let mut methods = 0u32;
     for code in 0..count {
-        let mut tokens = Vec::new(alloc);
-        let mut rest = code as usize;
-        for _ in 0..length {
-            let size = alphabet.len().max(1);
-            tokens.push(alphabet.get(rest % size).copied().unwrap_or(NOTHING))?;
-            rest /= size;
-        }
+        let tokens = tokens_of(alloc, alphabet, length, code)?;
         let text = text_of(alloc, &tokens)?;
         assert!(rt; text.len() < 1000);
         let parsed = parse(alloc, &text).is_ok();
@@ -301,7 +346,7 @@ fn compare(
     Ok(methods)
 }
 
-/// All tokens, and those of messages.
+/// All tokens, and those of some parts.
 const ALL: [usize; 15] = [
     NAME,
     SUPER,
@@ -326,18 +371,31 @@ const STATEMENTS_ALONE: [usize; 5] = [NAME, ASSIGN, PERIOD, RETURN, BAR];
 
 const BRACKETS: [usize; 5] = [NAME, OPEN, CLOSE, OPEN_BLOCK, CLOSE_BLOCK];
 
+const BLOCKS: [usize; 4] = [NAME, COLON, OPEN_BLOCK, CLOSE_BLOCK];
+
+const BINARY_CASCADES: [usize; 3] = [NAME, PLUS, SEMICOLON];
+
+const KEYWORD_CASCADES: [usize; 3] = [NAME, KEYWORD, SEMICOLON];
+
+/// An alphabet, a number of tokens, how many texts of so many there are, and how many of them are methods, as another
+/// count says, by a recursion over places.
+const CASES: [(&[usize], u32, u32, u32); 9] = [
+    (&ALL, 0, 1, 0),
+    (&ALL, 1, 15, 2),
+    (&ALL, 2, 225, 10),
+    (&MESSAGES, 4, 625, 44),
+    (&STATEMENTS_ALONE, 4, 625, 13),
+    (&BRACKETS, 4, 625, 4),
+    (&BLOCKS, 5, 1024, 6),
+    (&BINARY_CASCADES, 5, 243, 6),
+    (&KEYWORD_CASCADES, 5, 243, 7),
+];
+
 #[test]
 fn short_texts_are_methods_as_a_plain_grammar_says(rt: HostRuntime) -> Result<(), Fail> {
-    let mut methods = 0u32;
-    for (length, count) in [(0, 1), (1, 15), (2, 225)] {
-        methods = methods.wrapping_add(compare(&rt, rt.alloc(), &ALL, length, count)?);
+    for (alphabet, length, count, methods) in CASES {
+        let found = compare(&rt, rt.alloc(), alphabet, length, count)?;
+        assert_eq!(rt; found, methods, "of {count} texts of {length} tokens");
     }
-    for alphabet in [MESSAGES, STATEMENTS_ALONE, BRACKETS] {
-        for (length, count) in [(3, 125), (4, 625)] {
-            methods = methods.wrapping_add(compare(&rt, rt.alloc(), &alphabet, length, count)?);
-        }
-    }
-    // As another count of the same texts says, by a recursion over places.
-    assert_eq!(rt; methods, 92);
     Ok(())
 }

@@ -1,16 +1,11 @@
 //! The parser: from the bytes of a method's text to its tree, or its first fault.
 #![tactic(auto)]
 
-mod expression;
-mod laws;
-mod leaf;
-mod literal;
 mod method;
 mod parser;
-mod read;
 
-pub use laws::{one_fault, one_tree};
 pub use parser::parse;
+pub use st_grammar::{one_fault, one_tree};
 
 #[cfg(test)]
 mod differential;

@@ -2,14 +2,14 @@
 
 ghost use Rattle.std.specs.Prelude.{◌≡◌, ◌∷◌, [], Some, None};
 ghost use Rattle.st_tree.specs.Views.{names_view, method_view};
-ghost use Rattle.st_parse.specs.Faults.{most};
-ghost use Rattle.st_parse.specs.Trees.{number_of};
-ghost use Rattle.st_parse.specs.Reading.{Gives, Fails, pattern_step, keyword_names_at, pattern_at, unary_pattern_at, binary_pattern_at, keyword_pattern_at, name_step, name_list_at, temporaries_at, primitive_at, options_at, temporaries_first_at, primitive_first_at, method_at, whole_at, end_at};
+ghost use Rattle.st_grammar.specs.Faults.{most};
+ghost use Rattle.st_grammar.specs.Trees.{number_of};
+ghost use Rattle.st_grammar.specs.Reading.{Gives, Fails, pattern_step, keyword_names_at, pattern_at, unary_pattern_at, binary_pattern_at, keyword_pattern_at, name_step, name_list_at, temporaries_at, primitive_at, options_at, temporaries_first_at, primitive_first_at, method_at, whole_at, end_at};
 ghost use Rattle.st_parse.specs.Parsed.{pattern_view, options_view};
 
-use crate::expression::{KEYWORDS, NAMES, OPERATORS, name_of, statements};
-use crate::leaf::{Kind, Leaf, bytes_of};
-use crate::read::{ReadError, starts, token};
+use st_grammar::leaf::{Kind, Leaf, bytes_of};
+use st_grammar::read::{ReadError, starts, token};
+use st_readers::{KEYWORDS, NAMES, OPERATORS, name_of, statements};
 use st_tree::{Cause, MethodTree, NameList, Signed, Sort, Text};
 use std::alloc::Global;
 
@@ -31,7 +31,7 @@ struct Options {
 }
 
 /// A pattern with one more keyword and the name of its argument.
-#[tactic(auto, unfolding(crate::specs::Reading::pattern_step))]
+#[tactic(auto, unfolding(st_grammar::specs::Reading::pattern_step))]
 fn keyword_name<'a>(
     alloc: Global,
     text: &[u8],
@@ -54,7 +54,7 @@ fn keyword_name<'a>(
 }
 
 /// A pattern with all keywords that follow.
-#[tactic(auto, unfolding(crate::specs::Reading::keyword_names_at))]
+#[tactic(auto, unfolding(st_grammar::specs::Reading::keyword_names_at))]
 fn keyword_names<'a>(
     alloc: Global,
     text: &[u8],
@@ -74,7 +74,7 @@ fn keyword_names<'a>(
 }
 
 /// A pattern of one name.
-#[tactic(auto, unfolding(crate::specs::Reading::unary_pattern_at))]
+#[tactic(auto, unfolding(st_grammar::specs::Reading::unary_pattern_at))]
 fn unary_pattern<'a>(
     alloc: Global,
     text: &[u8],
@@ -93,7 +93,7 @@ fn unary_pattern<'a>(
 }
 
 /// A pattern of an operator and a name.
-#[tactic(auto, unfolding(crate::specs::Reading::binary_pattern_at))]
+#[tactic(auto, unfolding(st_grammar::specs::Reading::binary_pattern_at))]
 fn binary_pattern<'a>(
     alloc: Global,
     text: &[u8],
@@ -114,7 +114,7 @@ fn binary_pattern<'a>(
 }
 
 /// A pattern of keywords and names.
-#[tactic(auto, unfolding(crate::specs::Reading::keyword_pattern_at))]
+#[tactic(auto, unfolding(st_grammar::specs::Reading::keyword_pattern_at))]
 fn keyword_pattern<'a>(
     alloc: Global,
     text: &[u8],
@@ -131,7 +131,7 @@ fn keyword_pattern<'a>(
 }
 
 /// A pattern.
-#[tactic(auto, unfolding(crate::specs::Reading::pattern_at))]
+#[tactic(auto, unfolding(st_grammar::specs::Reading::pattern_at))]
 fn any_pattern<'a>(
     alloc: Global,
     text: &[u8],
@@ -149,7 +149,7 @@ fn any_pattern<'a>(
 }
 
 /// Names with one more.
-#[tactic(auto, unfolding(crate::specs::Reading::name_step))]
+#[tactic(auto, unfolding(st_grammar::specs::Reading::name_step))]
 fn one_name<'a>(
     alloc: Global,
     text: &[u8],
@@ -164,7 +164,7 @@ fn one_name<'a>(
 }
 
 /// Names with all that follow.
-#[tactic(auto, unfolding(crate::specs::Reading::name_list_at))]
+#[tactic(auto, unfolding(st_grammar::specs::Reading::name_list_at))]
 fn all_names<'a>(
     alloc: Global,
     text: &[u8],
@@ -184,7 +184,7 @@ fn all_names<'a>(
 }
 
 /// Temporaries.
-#[tactic(auto, unfolding(crate::specs::Reading::temporaries_at))]
+#[tactic(auto, unfolding(st_grammar::specs::Reading::temporaries_at))]
 fn temporaries<'a>(
     alloc: Global,
     text: &[u8],
@@ -212,7 +212,7 @@ fn number_of(sort: Sort) -> Signed
 }
 
 /// The number of a primitive.
-#[tactic(auto, unfolding(crate::specs::Reading::primitive_at))]
+#[tactic(auto, unfolding(st_grammar::specs::Reading::primitive_at))]
 fn primitive(leaves: &[Leaf]) -> Result<(Signed, &[Leaf]), ReadError>
     ensures { Gives (λ x. (x.0, x.1.now)) result (primitive_at leaves.now) }
 {
@@ -224,7 +224,7 @@ fn primitive(leaves: &[Leaf]) -> Result<(Signed, &[Leaf]), ReadError>
 }
 
 /// Temporaries, and a primitive if one follows.
-#[tactic(auto, unfolding(crate::specs::Reading::temporaries_first_at))]
+#[tactic(auto, unfolding(st_grammar::specs::Reading::temporaries_first_at))]
 fn temporaries_first<'a>(
     alloc: Global,
     text: &[u8],
@@ -256,7 +256,7 @@ fn temporaries_first<'a>(
 }
 
 /// A primitive, and temporaries if they follow.
-#[tactic(auto, unfolding(crate::specs::Reading::primitive_first_at))]
+#[tactic(auto, unfolding(st_grammar::specs::Reading::primitive_first_at))]
 fn primitive_first<'a>(
     alloc: Global,
     text: &[u8],
@@ -288,7 +288,7 @@ fn primitive_first<'a>(
 }
 
 /// Temporaries and a primitive, each optional, in either order.
-#[tactic(auto, unfolding(crate::specs::Reading::options_at))]
+#[tactic(auto, unfolding(st_grammar::specs::Reading::options_at))]
 fn any_options<'a>(
     alloc: Global,
     text: &[u8],
@@ -314,7 +314,7 @@ fn any_options<'a>(
 }
 
 /// A method, and the leaves behind it.
-#[tactic(auto, unfolding(crate::specs::Reading::method_at))]
+#[tactic(auto, unfolding(st_grammar::specs::Reading::method_at))]
 fn method<'a>(
     alloc: Global,
     text: &[u8],
@@ -336,7 +336,7 @@ fn method<'a>(
 }
 
 /// The method that the leaves are, all of them.
-#[tactic(auto, unfolding(crate::specs::Reading::whole_at))]
+#[tactic(auto, unfolding(st_grammar::specs::Reading::whole_at))]
 pub fn whole(alloc: Global, text: &[u8], leaves: &[Leaf]) -> Result<MethodTree, ReadError>
     ensures { Gives (λ t. method_view t) result (whole_at text.now most leaves.now) }
 {

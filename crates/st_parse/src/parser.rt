@@ -3,11 +3,11 @@
 ghost use Rattle.std.specs.Prelude.{◌≡◌, ◌<◌, ◌≤◌, ◌-◌, ◌^◌, IfOk, IfErr, Some, length, drop};
 ghost use Rattle.st_scan.specs.Scans.{AreSpans};
 ghost use Rattle.st_tree.specs.Views.{MethodView, method_view};
-ghost use Rattle.st_parse.specs.Texts.{Means, IsFaultOf, IsOnly, bad_number, words, place_at, is_before, first_fault};
+ghost use Rattle.st_grammar.specs.Texts.{Means, IsFaultOf, IsOnly, bad_number, words, place_at, is_before, first_fault};
 
-use crate::leaf::{Kind, Leaf, leaves_of};
 use crate::method::whole;
-use crate::read::ReadError;
+use st_grammar::leaf::{Kind, Leaf, leaves_of};
+use st_grammar::read::ReadError;
 use st_scan::{Scanned, scan};
 use st_tree::{Cause, Fault, MethodTree, Sort, SyntaxFault, Token};
 use std::alloc::{AllocError, Global};

@@ -201,6 +201,23 @@ foo #a b: #(1 2) => foo 0 0 1
 foo $a + 'b' => foo 0 0 1
 foo "a" x "b" y "c" => foo 0 0 1
 "only" => syntax 7 3
+foo => foo 0 0 0
+foo x => foo 0 0 1
+foo ^2 => foo 0 0 1
+x ^x => x 0 0 1
+count "Done!!" | n | n _ 0. [n < 3] whileTrue: [n _ n + 1]. ^n => count 0 1 3
+max: a ^self > a ifTrue: [self] ifFalse: [a] => max: 1 0 1
+inc: b ^[:e | e + 1] value: b => inc: 1 0 1
+at: a put: b | c d | <primitive: 60> x _ y := a foo: b; + c; d. ^[:e | e]. => at:put: 2 2 2 <60>
+at: a put: b <primitive: 60> | c d | ^b. => at:put: 2 2 1 <60>
+- x | | <primitive: 0> => - 1 0 0 <0>
+foo x a; + b c; d: e + f g: h i => foo 0 0 1
+foo ^[:a :b | a] value: 1 value: 2 => foo 0 0 1
+foo ^16rFF - 2r101 => foo 0 0 1
+foo ^#a:b: => foo 0 0 1
+foo ^#+ => foo 0 0 1
+foo ^'it''s' => foo 0 0 1
+foo ^$' => foo 0 0 1
 "#;
 
 #[test]
@@ -217,7 +234,7 @@ fn texts_have_their_trees_and_faults(rt: HostRuntime) -> Result<(), Fail> {
         rows = rows.wrapping_add(1);
     }
     assert_eq!(rt; wrong.as_str(), "");
-    assert_eq!(rt; rows, 170);
+    assert_eq!(rt; rows, 187);
     Ok(())
 }
 

@@ -1,10 +1,9 @@
 use Rattle.std.proofs.Common.{length}
 use Rattle.st_tree.specs.Views.{names_view}
-use Rattle.st_parse.specs.Leaves.{among, keywords}
-use Rattle.st_parse.specs.Phrases.{names}
-use Rattle.st_parse.specs.Parsed.{pattern_view}
-use Rattle.st_parse.specs.Reading.{name_step, name_list_at}
-use Rattle.st_parse.proofs.Loops.{Going}
+use Rattle.st_grammar.specs.Leaves.{among}
+use Rattle.st_grammar.specs.Phrases.{names}
+use Rattle.st_grammar.specs.Reading.{name_step, name_list_at}
+use Rattle.st_grammar.proofs.Loops.{Going}
 use Rattle.st_parse.proofs.method.all_names.Given as goal
 
 abbrev pub invariant-loop-alloc : goal.invariant-loop-alloc

@@ -1,7 +1,7 @@
 use Rattle.std.proofs.Common.{sym, ◌∙◌}
 use Rattle.std.proofs.lemmas.Result.{err_from_is_err_and}
-use Rattle.st_parse.proofs.Loops.{go_on, go_wrong, end}
-use Rattle.st_parse.proofs.Shorter.{pattern_shorter}
+use Rattle.st_grammar.proofs.Loops.{go_on, go_wrong, end}
+use Rattle.st_grammar.proofs.Shorter.{pattern_shorter}
 use Rattle.st_parse.proofs.method.keyword_names.Goals as goal
 
 pub returns-in_err-longer : goal.returns-in_err-longer

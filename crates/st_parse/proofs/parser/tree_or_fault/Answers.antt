@@ -1,8 +1,8 @@
 use Rattle.std.proofs.Common.{◌≡◌, ◌-◌, List, length, drop, sym, ap, subst, ◌∙◌}
-use Rattle.st_parse.specs.declared.leaf.Leaf.{Leaf}
-use Rattle.st_parse.specs.Faults.{most}
-use Rattle.st_parse.specs.Reading.{Fails, whole_at}
-use Rattle.st_parse.specs.Texts.{place_at}
+use Rattle.st_grammar.specs.declared.leaf.Leaf.{Leaf}
+use Rattle.st_grammar.specs.Faults.{most}
+use Rattle.st_grammar.specs.Reading.{Fails, whole_at}
+use Rattle.st_grammar.specs.Texts.{place_at}
 use Rattle.st_parse.proofs.Parsing.{is_tree, scanner_fault, grammar_fault}
 use Rattle.st_parse.proofs.parser.tree_or_fault.Goals as goal
 

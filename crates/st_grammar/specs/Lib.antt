@@ -1,0 +1,6 @@
+pub mod Faults
+pub mod Leaves
+pub mod Phrases
+pub mod Reading
+pub mod Texts
+pub mod Trees

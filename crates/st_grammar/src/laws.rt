@@ -1,0 +1,16 @@
+//! Laws of the definition.
+
+ghost use Rattle.std.specs.Prelude.{◌≡◌, ℕ, List};
+ghost use Rattle.st_tree.specs.Views.{MethodView};
+ghost use Rattle.st_grammar.specs.Texts.{Means, HasFault};
+
+/// A text has at most one tree.
+pub fn one_tree()
+    ensures { (text : List ℕ) (t u : MethodView) → Means text t → Means text u → t ≡ u }
+{}
+
+/// A text has at most one first fault: its place and its cause are determined. And none where it means a tree.
+pub fn one_fault()
+    ensures one { (text : List ℕ) (place other cause reason : ℕ) → HasFault text place cause → HasFault text other reason → (place ≡ other) × (cause ≡ reason) }
+    ensures none { (text : List ℕ) (t : MethodView) (place cause : ℕ) → Means text t → HasFault text place cause → ⊥ }
+{}

@@ -1,0 +1,8 @@
+//! The grammar of methods' texts, as definitions; its laws; the tokens as it sees them, and what stops a reader.
+#![tactic(auto)]
+
+mod laws;
+pub mod leaf;
+pub mod read;
+
+pub use laws::{one_fault, one_tree};
