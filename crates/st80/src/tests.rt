@@ -89,28 +89,38 @@ fn pad(bytes: &mut Vec<u8>, length: usize) -> Result<(), AllocError> {
     Ok(())
 }
 
+/// The objects of an image and its table, with how many words each has.
+#[derive(Clone, Copy)]
+struct Parts<'a> {
+    objects: &'a [u16],
+    objects_length: u16,
+    table: &'a [u16],
+    table_length: u16,
+}
+
 /// An image of these objects and this table, with so many entries.
-fn image_of(
-    alloc: Global,
-    entries: u16,
-    objects: &[u16],
-    table: &[u16],
-) -> Result<Vec<u8>, AllocError> {
+fn image_of(alloc: Global, entries: u16, parts: &Parts<'_>) -> Result<Vec<u8>, AllocError> {
     let mut bytes = Vec::new(alloc);
-    let lengths = [0, objects.len() as u16, 0, table.len() as u16];
+    let lengths = [0, parts.objects_length, 0, parts.table_length];
     push_words(&mut bytes, &lengths)?;
     push_words(&mut bytes, &[0x5354, 0x3830, 0, 1])?;
     push_words(&mut bytes, &[0, entries, 16, 0, 0, 0, 0, 0])?;
     pad(&mut bytes, 512)?;
-    push_words(&mut bytes, objects)?;
+    push_words(&mut bytes, parts.objects)?;
     pad(&mut bytes, 1024)?;
-    push_words(&mut bytes, table)?;
+    push_words(&mut bytes, parts.table)?;
     Ok(bytes)
 }
 
 /// Image B with these bytecodes in front of those of its method.
 fn image(alloc: Global, bytecodes: &[u8]) -> Result<Vec<u8>, AllocError> {
-    let mut bytes = image_of(alloc, 32767, &OBJECTS, &TABLE)?;
+    let parts = Parts {
+        objects: &OBJECTS,
+        objects_length: 78,
+        table: &TABLE,
+        table_length: 66,
+    };
+    let mut bytes = image_of(alloc, 32767, &parts)?;
     for (i, code) in bytecodes.iter().enumerate() {
         if let Some(byte) = bytes.get_mut(BYTECODES + i) {
             *byte = *code;
@@ -219,7 +229,13 @@ object 60 @12 p @2 @62 4 @2
 fn sending_image(alloc: Global, entries: u16, selector: u16) -> Result<Vec<u8>, AllocError> {
     let mut objects = SENDING_OBJECTS;
     objects[SELECTOR] = selector;
-    image_of(alloc, entries, &objects, &SENDING_TABLE)
+    let parts = Parts {
+        objects: &objects,
+        objects_length: 99,
+        table: &SENDING_TABLE,
+        table_length: 74,
+    };
+    image_of(alloc, entries, &parts)
 }
 
 #[test]
