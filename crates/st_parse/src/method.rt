@@ -9,7 +9,8 @@ ghost use Rattle.st_parse.specs.Parsed.{pattern_view, options_view};
 
 use st_grammar::leaf::{Kind, Leaf, bytes_of};
 use st_grammar::read::{ReadError, starts, token};
-use st_readers::{KEYWORDS, NAMES, OPERATORS, name_of, statements};
+use st_phrases::{KEYWORDS, NAMES, OPERATORS, name_of};
+use st_readers::statements;
 use st_tree::{Cause, MethodTree, NameList, Signed, Sort, Text};
 use std::alloc::Global;
 

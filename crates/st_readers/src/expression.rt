@@ -8,129 +8,20 @@ ghost use Rattle.st_grammar.specs.Trees.{name_at, is_super, sent, sent_if};
 ghost use Rattle.st_grammar.specs.Reading.{Gives, Fails, stop, checked_at, period_at, assigned_to, array_at, bracket_at, name_primary_at, constant_primary_at, array_primary_at, block_primary_at, group_primary_at, primary_at, names_step, names_at, any_unary_at, unary_at, operations_step, operations_at, any_binary_at, binary_at, parts_step, parts_at, keyword_at, messages_at, unary_message_at, binary_message_at, keyword_message_at, message_at, cascade_step, cascades_at, sends_at, any_cascade_at, cascade_at, targets_at, expression_at, returned_at, plain_at, statement_step, body_at, statements_at, parameters_step, parameters_at, argument_body_at, argument_block_at, plain_block_at, block_at};
 ghost use Rattle.st_grammar.specs.Leaves.{among};
 ghost use Rattle.st_grammar.specs.Reading.{first, message_starts, statement_looks};
-ghost use Rattle.st_readers.specs.Parsed.{parts_view, body_view, NoTarget, BeginsWithTarget};
+ghost use Rattle.st_phrases.specs.Parsed.{parts_view, body_view};
 
-use crate::literal::{constant_element, nested};
-use st_grammar::leaf::{Kind, Leaf, bytes_of};
-use st_grammar::read::{ReadError, is_among, starts, token};
-use st_tree::{
-    Expression, ExpressionList, Message, MessageList, Name, NameList, Statement, StatementList,
-    Text,
+use st_grammar::leaf::{Kind, Leaf};
+use st_grammar::read::{ReadError, starts, token};
+use st_literals::{constant_element, nested};
+use st_phrases::{
+    Body, KEYWORDS, NAMES, OPERATORS, Parts, assigned, begins_message, checked, goes_on, name_of,
+    no_parts, no_statements, operation, parameter, parameters, period, send_if, targets,
+    unary_messages, with_operation, with_part, with_parts, with_return, with_unary, with_value,
 };
-use std::alloc::{AllocError, Global};
-
-pub const NAMES: [Kind; 1] = [Kind::Name];
+use st_tree::{Expression, NameList, StatementList};
+use std::alloc::Global;
 
 const CONSTANTS: [Kind; 2] = [Kind::Number, Kind::Constant];
-
-pub const KEYWORDS: [Kind; 3] = [Kind::Keyword, Kind::Joined, Kind::Primitive];
-
-pub const OPERATORS: [Kind; 4] = [Kind::Operator, Kind::Bar, Kind::Less, Kind::Greater];
-
-/// What a message begins with.
-const MESSAGE_STARTS: [Kind; 8] = [
-    Kind::Keyword,
-    Kind::Joined,
-    Kind::Primitive,
-    Kind::Operator,
-    Kind::Bar,
-    Kind::Less,
-    Kind::Greater,
-    Kind::Name,
-];
-
-/// What a statement begins with.
-const STATEMENT_STARTS: [Kind; 7] = [
-    Kind::Return,
-    Kind::Opening,
-    Kind::Open,
-    Kind::OpenBlock,
-    Kind::Number,
-    Kind::Constant,
-    Kind::Name,
-];
-
-/// A selector and its arguments, so far.
-#[derive(Debug, Drop)]
-struct Parts {
-    selector: Text,
-    arguments: ExpressionList,
-}
-
-/// Statements so far, and whether another one may follow.
-#[derive(Debug, Drop)]
-struct Body {
-    statements: StatementList,
-    goes_on: bool,
-}
-
-/// The name that a leaf is.
-pub fn name_of(alloc: Global, text: &[u8], leaf: Leaf) -> Result<Name, AllocError>
-    ensures { IfOk result (λ n. name_view n ≡ name_at text.now leaf) }
-{
-    let text = bytes_of(text, leaf.token).to_vec(alloc)?;
-    let place = leaf.place;
-    Ok(Name { text, place })
-}
-
-/// One message to a receiver.
-#[tactic(auto, using(st_tree::proofs::Views::views))]
-fn send(
-    alloc: Global,
-    receiver: Expression,
-    selector: Text,
-    arguments: ExpressionList,
-) -> Result<Expression, AllocError>
-    ensures { IfOk result (λ e. expression_view e ≡ sent (expression_view receiver) selector.items (expressions_view arguments.items)) }
-{
-    let mut messages: MessageList = Vec::new(alloc);
-    messages.push(Message {
-        selector,
-        arguments,
-    })?;
-    Expression::send(alloc, receiver, messages)
-}
-
-/// The same, where there are arguments.
-#[tactic(auto, using(st_tree::proofs::Views::views))]
-fn send_if(alloc: Global, receiver: Expression, parts: Parts) -> Result<Expression, AllocError>
-    ensures { IfOk result (λ e. expression_view e ≡ sent_if (expression_view receiver) parts.selector.items (expressions_view parts.arguments.items)) }
-{
-    if parts.arguments.is_empty() {
-        return Ok(receiver);
-    }
-    send(alloc, receiver, parts.selector, parts.arguments)
-}
-
-/// A list of one expression.
-fn one(alloc: Global, e: Expression) -> Result<ExpressionList, AllocError>
-    ensures { IfOk result (λ es. expressions_view es.items ≡ expression (expression_view e) no_expressions) }
-{
-    let mut list = Vec::new(alloc);
-    list.push(e)?;
-    Ok(list)
-}
-
-/// Whether this is a variable `super`, which stands only before a message.
-fn is_super(e: &Expression) -> bool
-    ensures { result ≡ is_super (expression_view e.now) }
-{
-    match e {
-        Expression::Variable(name) => name.text.as_slice() == b"super".as_slice(),
-        _ => false,
-    }
-}
-
-/// An expression that is no `super` without a message.
-#[tactic(auto, unfolding(st_grammar::specs::Reading::checked_at))]
-fn checked<'a>(e: Expression, leaves: &'a [Leaf]) -> Result<(Expression, &'a [Leaf]), ReadError>
-    ensures { Gives (λ x. (expression_view x.0, x.1.now)) result (checked_at (expression_view e) leaves.now) }
-{
-    if is_super(&e) {
-        return Err(ReadError::expected(leaves));
-    }
-    Ok((e, leaves))
-}
 
 /// Brackets in a primary that is an expression in parentheses.
 #[cycle(reading)]
@@ -201,41 +92,6 @@ fn primary<'a>(
     }
 }
 
-/// A receiver with one unary message.
-#[tactic(auto, unfolding(st_grammar::specs::Reading::names_step))]
-fn unary_message<'a>(
-    alloc: Global,
-    text: &[u8],
-    receiver: Expression,
-    leaves: &'a [Leaf],
-) -> Result<(Expression, &'a [Leaf]), ReadError>
-    ensures { Gives (λ x. (expression_view x.0, x.1.now)) result (names_step text.now (expression_view receiver) leaves.now) }
-{
-    let (leaf, rest) = token(&NAMES, leaves)?;
-    let selector = bytes_of(text, leaf.token).to_vec(alloc)?;
-    Ok((send(alloc, receiver, selector, Vec::new(alloc))?, rest))
-}
-
-/// A receiver with all unary messages that follow it.
-#[tactic(auto, unfolding(st_grammar::specs::Reading::names_at))]
-fn unary_messages<'a>(
-    alloc: Global,
-    text: &[u8],
-    first: Expression,
-    leaves: &'a [Leaf],
-) -> Result<(Expression, &'a [Leaf]), ReadError>
-    ensures { Gives (λ x. (expression_view x.0, x.1.now)) result (names_at text.now (expression_view first) leaves.now) }
-{
-    let mut receiver = first;
-    let mut rest = leaves;
-    while starts(&NAMES, rest) {
-        let (sent, after) = unary_message(alloc, text, receiver, rest)?;
-        receiver = sent;
-        rest = after;
-    }
-    Ok((receiver, rest))
-}
-
 /// A unary expression, as an argument.
 #[cycle(reading)]
 #[tactic(auto, unfolding(st_grammar::specs::Reading::unary_at, st_grammar::specs::Reading::any_unary_at))]
@@ -264,11 +120,9 @@ fn binary_message<'a>(
 ) -> Result<(Expression, &'a [Leaf]), ReadError>
     ensures { Gives (λ x. (expression_view x.0, x.1.now)) result (operations_step text.now (array_at text.now room) (bracket_at text.now room) (expression_view receiver) leaves.now) }
 {
-    let (leaf, rest) = token(&OPERATORS, leaves)?;
+    let (operator, rest) = token(&OPERATORS, leaves)?;
     let (argument, rest) = unary(alloc, text, room, rest)?;
-    let selector = bytes_of(text, leaf.token).to_vec(alloc)?;
-    let arguments = one(alloc, argument)?;
-    Ok((send(alloc, receiver, selector, arguments)?, rest))
+    Ok((operation(alloc, text, receiver, operator, argument)?, rest))
 }
 
 /// A receiver with all binary messages that follow it.
@@ -322,17 +176,9 @@ fn keyword_part<'a>(
 ) -> Result<(Parts, &'a [Leaf]), ReadError>
     ensures { Gives (λ x. (parts_view x.0, x.1.now)) result (parts_step text.now (array_at text.now room) (bracket_at text.now room) (parts_view parts) leaves.now) }
 {
-    let (leaf, rest) = token(&KEYWORDS, leaves)?;
+    let (keyword, rest) = token(&KEYWORDS, leaves)?;
     let (argument, rest) = binary(alloc, text, room, rest)?;
-    let mut selector = parts.selector;
-    let mut arguments = parts.arguments;
-    selector.extend_from_slice(bytes_of(text, leaf.token))?;
-    arguments.push(argument)?;
-    let parts = Parts {
-        selector,
-        arguments,
-    };
-    Ok((parts, rest))
+    Ok((with_part(text, parts, keyword, argument)?, rest))
 }
 
 /// Parts of a keyword message with all keywords that follow, and their arguments.
@@ -371,11 +217,7 @@ fn messages<'a>(
 {
     let (receiver, rest) = unary_messages(alloc, text, receiver, leaves)?;
     let (receiver, rest) = binary_messages(alloc, text, room, receiver, rest)?;
-    let none = Parts {
-        selector: Vec::new(alloc),
-        arguments: Vec::new(alloc),
-    };
-    let (parts, rest) = keyword_parts(alloc, text, room, none, rest)?;
+    let (parts, rest) = keyword_parts(alloc, text, room, no_parts(alloc), rest)?;
     Ok((send_if(alloc, receiver, parts)?, rest))
 }
 
@@ -392,40 +234,15 @@ fn message<'a>(
     ensures { Gives (λ x. (expression_view x.0, x.1.now)) result (message_at text.now (array_at text.now room) (bracket_at text.now room) (expression_view cascade) leaves.now) }
 {
     if starts(&NAMES, leaves) {
-        let (leaf, rest) = token(&NAMES, leaves)?;
-        let selector = bytes_of(text, leaf.token).to_vec(alloc)?;
-        let arguments = Vec::new(alloc);
-        Ok((
-            cascade.with_sent(Message {
-                selector,
-                arguments,
-            })?,
-            rest,
-        ))
+        with_unary(alloc, text, cascade, leaves)
     } else if starts(&OPERATORS, leaves) {
-        let (leaf, rest) = token(&OPERATORS, leaves)?;
+        let (operator, rest) = token(&OPERATORS, leaves)?;
         let (value, rest) = unary(alloc, text, room, rest)?;
-        let selector = bytes_of(text, leaf.token).to_vec(alloc)?;
-        let arguments = one(alloc, value)?;
-        Ok((
-            cascade.with_sent(Message {
-                selector,
-                arguments,
-            })?,
-            rest,
-        ))
+        Ok((with_operation(alloc, text, cascade, operator, value)?, rest))
     } else {
-        let none = Parts {
-            selector: Vec::new(alloc),
-            arguments: Vec::new(alloc),
-        };
-        let (first, rest) = keyword_part(alloc, text, room, none, leaves)?;
+        let (first, rest) = keyword_part(alloc, text, room, no_parts(alloc), leaves)?;
         let (parts, rest) = keyword_parts(alloc, text, room, first, rest)?;
-        let message = Message {
-            selector: parts.selector,
-            arguments: parts.arguments,
-        };
-        Ok((cascade.with_sent(message)?, rest))
+        Ok((with_parts(cascade, parts)?, rest))
     }
 }
 
@@ -467,13 +284,6 @@ fn next_messages<'a>(
     Ok((cascade, rest))
 }
 
-/// Whether a message stands first.
-fn begins_message(leaves: &[Leaf]) -> bool
-    ensures { result ≡ first (among message_starts) leaves.now }
-{
-    starts(&MESSAGE_STARTS, leaves)
-}
-
 /// A receiver with the messages and the cascade that follow it, if a message does.
 #[cycle(reading)]
 #[tactic(auto, unfolding(st_grammar::specs::Reading::sends_at))]
@@ -509,47 +319,6 @@ fn cascade<'a>(
     checked(sent, rest)
 }
 
-/// The names that are assigned to, and what is behind them.
-#[tactic(auto, unfolding(st_grammar::specs::Reading::targets_at))]
-fn targets<'a>(
-    alloc: Global,
-    text: &[u8],
-    leaves: &'a [Leaf],
-) -> Result<(NameList, &'a [Leaf]), AllocError>
-    ensures { IfOk result (λ x. (names_view x.0.items, x.1.now) ≡ targets_at text.now leaves.now) }
-{
-    let mut names = Vec::new(alloc);
-    let mut rest = leaves;
-    while let Some((name, after)) = target(rest) {
-        names.push(name_of(alloc, text, name)?)?;
-        rest = after;
-    }
-    Ok((names, rest))
-}
-
-/// The name that stands first with an assignment behind it, and what is behind both.
-fn target(leaves: &[Leaf]) -> Option<(Leaf, &[Leaf])>
-    ensures { MatchOption result (NoTarget leaves.now) (λ x. BeginsWithTarget leaves.now x.0 x.1.now) }
-{
-    match leaves {
-        [name, assign, rest @ ..]
-            if is_among(&NAMES, *name) && is_among(&[Kind::Assign], *assign) => Some((*name, rest)),
-        _ => None,
-    }
-}
-
-/// A value that is assigned to names, the last one first.
-fn assigned(alloc: Global, names: NameList, value: Expression) -> Result<Expression, AllocError>
-    ensures { IfOk result (λ e. expression_view e ≡ assigned_to (names_view names.items) (expression_view value)) }
-{
-    let mut names = names;
-    let mut value = value;
-    while let Some(name) = names.pop() {
-        value = Expression::assign(alloc, name, value)?;
-    }
-    Ok(value)
-}
-
 /// An expression: assignments and a cascade.
 #[cycle(reading)]
 #[tactic(auto, unfolding(st_grammar::specs::Reading::expression_at))]
@@ -566,16 +335,6 @@ fn expression<'a>(
     Ok((assigned(alloc, names, value)?, rest))
 }
 
-/// Whether a period stands first, and what is behind it.
-fn period(leaves: &[Leaf]) -> (bool, &[Leaf])
-    ensures { (result.0, result.1.now) ≡ period_at leaves.now }
-{
-    match leaves {
-        [leaf, rest @ ..] if is_among(&[Kind::Period], *leaf) => (true, rest),
-        _ => (false, leaves),
-    }
-}
-
 /// Statements with one more, and the period behind it.
 #[cycle(reading)]
 #[tactic(auto, unfolding(st_grammar::specs::Reading::statement_step, st_grammar::specs::Reading::returned_at, st_grammar::specs::Reading::plain_at), using(st_tree::proofs::Views::views))]
@@ -588,43 +347,15 @@ fn statement<'a>(
 ) -> Result<(Body, &'a [Leaf]), ReadError>
     ensures { Gives (λ x. (body_view x.0, x.1.now)) result (statement_step text.now (array_at text.now room) (bracket_at text.now room) (body_view body) leaves.now) }
 {
-    let mut statements = body.statements;
     if starts(&[Kind::Return], leaves) {
         let (_return, rest) = token(&[Kind::Return], leaves)?;
         let (value, rest) = expression(alloc, text, room, rest)?;
-        let returns = true;
-        statements.push(Statement { returns, value })?;
         let (_period, rest) = period(rest);
-        let goes_on = false;
-        Ok((
-            Body {
-                statements,
-                goes_on,
-            },
-            rest,
-        ))
+        Ok((with_return(body.statements, value)?, rest))
     } else {
         let (value, rest) = expression(alloc, text, room, leaves)?;
-        let returns = false;
-        statements.push(Statement { returns, value })?;
         let (goes_on, rest) = period(rest);
-        Ok((
-            Body {
-                statements,
-                goes_on,
-            },
-            rest,
-        ))
-    }
-}
-
-/// Whether another statement may follow, and begins.
-fn goes_on(body: &Body, leaves: &[Leaf]) -> bool
-    ensures { result ≡ first (statement_looks (body_view body.now)) leaves.now }
-{
-    match leaves {
-        [leaf, ..] => body.goes_on && is_among(&STATEMENT_STARTS, *leaf),
-        [] => false,
+        Ok((with_value(body.statements, value, goes_on)?, rest))
     }
 }
 
@@ -661,48 +392,8 @@ pub fn statements<'a>(
 ) -> Result<(StatementList, &'a [Leaf]), ReadError>
     ensures { Gives (λ x. (statements_view x.0.items, x.1.now)) result (statements_at text.now (array_at text.now room) (bracket_at text.now room) leaves.now) }
 {
-    let none = Body {
-        statements: Vec::new(alloc),
-        goes_on: true,
-    };
-    let (body, rest) = all_statements(alloc, text, room, none, leaves)?;
+    let (body, rest) = all_statements(alloc, text, room, no_statements(alloc), leaves)?;
     Ok((body.statements, rest))
-}
-
-/// A block's arguments with one more.
-#[tactic(auto, unfolding(st_grammar::specs::Reading::parameters_step))]
-fn parameter<'a>(
-    alloc: Global,
-    text: &[u8],
-    mut names: NameList,
-    leaves: &'a [Leaf],
-) -> Result<(NameList, &'a [Leaf]), ReadError>
-    ensures { Gives (λ x. (names_view x.0.items, x.1.now)) result (parameters_step text.now (names_view names.items) leaves.now) }
-{
-    let (_colon, rest) = token(&[Kind::Colon], leaves)?;
-    let (leaf, rest) = token(&NAMES, rest)?;
-    names.push(name_of(alloc, text, leaf)?)?;
-    Ok((names, rest))
-}
-
-/// A block's arguments with all that follow.
-#[tactic(auto, unfolding(st_grammar::specs::Reading::parameters_at))]
-fn parameters<'a>(
-    alloc: Global,
-    text: &[u8],
-    first: NameList,
-    leaves: &'a [Leaf],
-) -> Result<(NameList, &'a [Leaf]), ReadError>
-    ensures { Gives (λ x. (names_view x.0.items, x.1.now)) result (parameters_at text.now (names_view first.items) leaves.now) }
-{
-    let mut names = first;
-    let mut rest = leaves;
-    while starts(&[Kind::Colon], rest) {
-        let (longer, after) = parameter(alloc, text, names, rest)?;
-        names = longer;
-        rest = after;
-    }
-    Ok((names, rest))
 }
 
 /// A block behind its arguments.

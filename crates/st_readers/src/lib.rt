@@ -1,7 +1,6 @@
-//! The readers of literals, expressions, statements and blocks.
+//! The readers of expressions, statements and blocks.
 #![tactic(auto)]
 
 mod expression;
-mod literal;
 
-pub use expression::{KEYWORDS, NAMES, OPERATORS, name_of, statements};
+pub use expression::statements;

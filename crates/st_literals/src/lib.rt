@@ -1,0 +1,6 @@
+//! The readers of literals.
+#![tactic(auto)]
+
+mod literal;
+
+pub use literal::{constant_element, nested};
