@@ -8,7 +8,7 @@ use st_method::literals;
 use st_model::{Kind, Oop};
 
 /// How many fields an object has; of a Method header and literals.
-#[tactic(auto, using(crate::proofs::Bodies::bodies))]
+#[tactic(auto, using(crate::proofs::Bodies::bodies, st_method::proofs::Bits::counts))]
 pub fn count_fields<M: Memory>(m: &M, o: Oop) -> u32
     requires { is_live (M.view m.now).objects (value o) ≡ true }
     ensures { result ≡ length (object_of (M.view m.now).objects (value o)).fields }

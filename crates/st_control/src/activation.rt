@@ -4,12 +4,12 @@ ghost use Rattle.st_model.specs.Contexts.{fill_context, new_context, pass_words,
 ghost use Rattle.st_model.specs.Calls.{Does, itself};
 ghost use Rattle.st_frames.specs.Rows.{row_state};
 
-use crate::headers::{context_size, literals, temporaries};
 use st_frames::{
     Registers, active, drop_words, look_at_words, new_object, page, small, stack_pointer,
     store_field, switch, transfer,
 };
 use st_memory::Objects;
+use st_method::Header;
 use st_model::{Dead, PageObject, Word};
 
 /// Fills a new context of the method: the active context as its sender, the first bytecode, the temporary count, and the method.
@@ -19,17 +19,17 @@ fn fill_context<O: Objects>(
     r: &Registers,
     context: Word,
     method: Word,
-    header: Word,
+    header: Header,
 ) -> Result<(), Dead>
     requires room { 4 ≤ O.room m.old }
-    ensures does { Does (fill_context O.names (word context) (word method) (word header)) itself (row_state (O.table m.old) (O.head m.old) r.now) result (row_state (O.table m.new) (O.head m.new) r.now) }
+    ensures does { Does (fill_context O.names (word context) (word method) (word header.0)) itself (row_state (O.table m.old) (O.head m.old) r.now) result (row_state (O.table m.new) (O.head m.new) r.now) }
     ensures room { O.room m.old ≤ O.room m.new + 4 }
     ensures fixed { O.fixed m.new ≡ O.fixed m.old }
 {
     let sender = active(m, r);
     store_field(m, r, context, 0, sender)?;
-    store_field(m, r, context, 1, small(2 * literals(header) + 3))?;
-    store_field(m, r, context, 2, small(temporaries(header)))?;
+    store_field(m, r, context, 1, small(2 * header.literals() + 3))?;
+    store_field(m, r, context, 2, small(header.temporaries()))?;
     store_field(m, r, context, 3, method)
 }
 
@@ -39,15 +39,15 @@ fn new_context<O: Objects>(
     m: &mut O,
     r: &Registers,
     method: Word,
-    header: Word,
+    header: Header,
 ) -> Result<Word, Dead>
     requires room { 5 ≤ O.room m.old }
-    ensures does { Does (new_context O.names (word method) (word header)) word (row_state (O.table m.old) (O.head m.old) r.now) result (row_state (O.table m.new) (O.head m.new) r.now) }
+    ensures does { Does (new_context O.names (word method) (word header.0)) word (row_state (O.table m.old) (O.head m.old) r.now) result (row_state (O.table m.new) (O.head m.new) r.now) }
     ensures room { O.room m.old ≤ O.room m.new + 5 }
     ensures fixed { O.fixed m.new ≡ O.fixed m.old }
 {
     let class = page(m, r, PageObject::MethodContextClass);
-    let context = new_object(m, r, class, context_size(header))?;
+    let context = new_object(m, r, class, header.context_size())?;
     fill_context(m, r, context, method, header)?;
     Ok(context)
 }
@@ -73,21 +73,21 @@ pub fn activate<O: Objects>(
     m: &mut O,
     r: &mut Registers,
     method: Word,
-    header: Word,
+    header: Header,
     n: u32,
 ) -> Result<(), Dead>
     requires few { n < 16384 }
     requires room { 8 ≤ O.room m.old }
-    ensures does { Does (activate O.names (word method) (word header) n) itself (row_state (O.table m.old) (O.head m.old) r.old) result (row_state (O.table m.new) (O.head m.new) r.new) }
+    ensures does { Does (activate O.names (word method) (word header.0) n) itself (row_state (O.table m.old) (O.head m.old) r.old) result (row_state (O.table m.new) (O.head m.new) r.new) }
     ensures room { O.room m.old ≤ O.room m.new + 8 }
     ensures fixed { O.fixed m.new ≡ O.fixed m.old }
 {
     look_at_words(m, r, n)?;
-    let size = context_size(header);
+    let size = header.context_size();
     if size < 6 + n {
         return Err(Dead::Sp);
     }
-    if size < 6 + temporaries(header) {
+    if size < 6 + header.temporaries() {
         return Err(Dead::Sp);
     }
     let context = new_context(m, r, method, header)?;

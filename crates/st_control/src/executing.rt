@@ -7,9 +7,9 @@ ghost use Rattle.st_model.specs.Calls.{Does, itself};
 ghost use Rattle.st_frames.specs.Rows.{row_state};
 
 use crate::activation::activate;
-use crate::headers::{flag, temporaries};
 use st_frames::{Registers, fetch_field, literal_from_last, method_header, pop, push};
 use st_memory::Objects;
+use st_method::Header;
 use st_model::{Dead, Outcome, Word};
 
 /// A field of the word at the top takes its place.
@@ -26,7 +26,7 @@ fn answer_field<O: Objects>(m: &mut O, r: &mut Registers, i: u32) -> Result<(), 
 }
 
 /// The primitive that a header extension names.
-#[tactic(auto, using(crate::proofs::Bits::primitives), unfolding(st_model::specs::Methods::primitive_number))]
+#[tactic(auto, using(st_method::proofs::Bits::primitives), unfolding(st_model::specs::Methods::primitive_number))]
 fn primitive_number<O: Objects>(m: &O, r: &Registers, extension: Word) -> Result<u32, Dead>
     ensures does { Does (primitive_number (word extension)) itself (row_state (O.table m.now) (O.head m.now) r.now) result (row_state (O.table m.now) (O.head m.now) r.now) }
 {
@@ -52,13 +52,13 @@ fn respond<O: Objects>(
     m: &mut O,
     r: &mut Registers,
     method: Word,
-    header: Word,
+    header: Header,
     n: u32,
     primitive: u32,
 ) -> Result<Option<Outcome>, Dead>
     requires few { n < 16384 }
     requires room { 8 ≤ O.room m.old }
-    ensures does { Does (respond O.names (word method) (word header) n primitive) end_of (row_state (O.table m.old) (O.head m.old) r.old) result (row_state (O.table m.new) (O.head m.new) r.new) }
+    ensures does { Does (respond O.names (word method) (word header.0) n primitive) end_of (row_state (O.table m.old) (O.head m.old) r.old) result (row_state (O.table m.new) (O.head m.new) r.new) }
     ensures room { O.room m.old ≤ O.room m.new + 8 }
     ensures fixed { O.fixed m.new ≡ O.fixed m.old }
 {
@@ -76,12 +76,12 @@ fn respond_by_extension<O: Objects>(
     m: &mut O,
     r: &mut Registers,
     method: Word,
-    header: Word,
+    header: Header,
     n: u32,
 ) -> Result<Option<Outcome>, Dead>
     requires few { n < 16384 }
     requires room { 8 ≤ O.room m.old }
-    ensures does { Does (respond_by_extension O.names (word method) (word header) n) end_of (row_state (O.table m.old) (O.head m.old) r.old) result (row_state (O.table m.new) (O.head m.new) r.new) }
+    ensures does { Does (respond_by_extension O.names (word method) (word header.0) n) end_of (row_state (O.table m.old) (O.head m.old) r.old) result (row_state (O.table m.new) (O.head m.new) r.new) }
     ensures room { O.room m.old ≤ O.room m.new + 8 }
     ensures fixed { O.fixed m.new ≡ O.fixed m.old }
 {
@@ -95,20 +95,20 @@ fn execute_by<O: Objects>(
     m: &mut O,
     r: &mut Registers,
     method: Word,
-    header: Word,
+    header: Header,
     n: u32,
     flag: u32,
 ) -> Result<Option<Outcome>, Dead>
     requires few { n < 16384 }
     requires room { 8 ≤ O.room m.old }
-    ensures does { Does (execute_by O.names (word method) (word header) n flag) end_of (row_state (O.table m.old) (O.head m.old) r.old) result (row_state (O.table m.new) (O.head m.new) r.new) }
+    ensures does { Does (execute_by O.names (word method) (word header.0) n flag) end_of (row_state (O.table m.old) (O.head m.old) r.old) result (row_state (O.table m.new) (O.head m.new) r.new) }
     ensures room { O.room m.old ≤ O.room m.new + 8 }
     ensures fixed { O.fixed m.new ≡ O.fixed m.old }
 {
     match flag {
         5 => Ok(Some(Outcome::Went)),
         6 => {
-            answer_field(m, r, temporaries(header))?;
+            answer_field(m, r, header.temporaries())?;
             Ok(Some(Outcome::Went))
         }
         7 => respond_by_extension(m, r, method, header, n),
@@ -133,6 +133,6 @@ pub fn execute<O: Objects>(
     ensures room { O.room m.old ≤ O.room m.new + 8 }
     ensures fixed { O.fixed m.new ≡ O.fixed m.old }
 {
-    let header = method_header(m, r, method)?;
-    execute_by(m, r, method, header, n, flag(header))
+    let header = Header(method_header(m, r, method)?);
+    execute_by(m, r, method, header, n, header.flag())
 }

@@ -3,7 +3,6 @@
 
 mod activation;
 mod executing;
-mod headers;
 mod jumps;
 mod messages;
 mod returns;

@@ -180,7 +180,7 @@ pub fn special_send<O: Objects>(
 }
 
 /// A primitive is tried first where the receiver is a SmallInteger.
-#[tactic(auto, using(crate::proofs::Bits::arithmetic))]
+#[tactic(auto, using(crate::proofs::Arithmetic::arithmetic))]
 fn arithmetic_by<O: Objects>(
     m: &mut O,
     r: &mut Registers,

@@ -1,10 +1,13 @@
-//! The fields of a compiled method: its header, literals and bytecodes (chapter 27).
+//! The fields of a compiled method's header, and the primitive in its extension (chapter 27).
 #![tactic(auto)]
 
-mod parts;
+mod extension;
+mod fields;
+mod header;
 
-pub use parts::{byte_at, literal};
-pub use st_model::literals;
+pub use extension::primitive;
+pub use fields::{first_byte, flag, large, literals, temporaries};
+pub use header::Header;
 
 #[cfg(test)]
 mod tests;

@@ -1,11 +1,11 @@
--- The bits of a header's word.
-use Rattle.std.proofs.Common.{◌≡◌, ℕ, Bool, true, false, None, refl}
+-- The bits of a header's word, and of a header extension's.
+use Rattle.std.proofs.Common.{◌≡◌, ◌≤◌, ℕ, Bool, true, false, refl, arith}
 use Rattle.std.specs.Prelude.{if◌then◌else◌, ◌/◌, ◌%◌, ◌==◌}
 use Rattle.st_model.specs.Values.{Value, Small, Ref, value_of, is_small}
 use Rattle.st_model.specs.declared.dead.Dead.TheVariants as dead
-use Rattle.st_model.specs.Machine.{ObjectMemory, State, Died, Went, answer, die}
-use Rattle.st_model.specs.Methods.{bits_of, primitive_number}
-use Rattle.st_model.specs.Sends.{arithmetic_by, special_send}
+use Rattle.st_model.specs.Machine.{State, Died, Went, answer, die}
+use Rattle.st_model.specs.Formed.{literals_of}
+use Rattle.st_model.specs.Methods.{bits_of, literal_count, primitive_number}
 use Rattle.st_model.specs.Table.{Table}
 
 bits_small : (b : Bool) (n : ℕ) → is_small (if b then Small n else Ref n) ≡ true → bits_of (if b then Small n else Ref n) ≡ n
@@ -26,6 +26,24 @@ bits-large w e = bits_large (w % 2 == 1) (w / 2) e
 
 pub ruleset bits = (bits-small, bits-large)
 
+bits_most : (b : Bool) (n : ℕ) → bits_of (if b then Small n else Ref n) ≤ n
+bits_most true n = omega arith
+bits_most false n = omega arith
+
+-- a word of 16 bits has a header of 15
+pub bits-most : (w : ℕ) → bits_of (value_of w) ≤ w / 2
+unfolding value_of
+bits-most w = bits_most (w % 2 == 1) (w / 2)
+
+pub ruleset widths = (bits-most)
+
+-- a header of a Method counts its literals
+pub literal_count-small : (v : Value) → is_small v ≡ true → literal_count v ≡ literals_of v
+literal_count-small (Small n) e = refl
+literal_count-small (Ref n) e = cc
+
+pub ruleset counts = (literal_count-small)
+
 primitive_small : (b : Bool) (n : ℕ) (s : State Table) → is_small (if b then Small n else Ref n) ≡ true → (primitive_number (if b then Small n else Ref n)).run s ≡ Went (n % 256) s
 unfolding primitive_number answer
 primitive_small true n s e = refl
@@ -45,15 +63,3 @@ unfolding value_of
 primitive-large w s e = primitive_large (w % 2 == 1) (w / 2) s e
 
 pub ruleset primitives = (primitive-small, primitive-large)
-
-pub arithmetic-small : (m : ObjectMemory Table) (k : ℕ) (v : Value) (s : State Table) → is_small v ≡ true → (arithmetic_by m k v).run s ≡ Went None s
-unfolding arithmetic_by answer
-arithmetic-small m k (Small n) s e = refl
-arithmetic-small m k (Ref n) s e = cc
-
-pub arithmetic-object : (m : ObjectMemory Table) (k : ℕ) (v : Value) (s : State Table) → is_small v ≡ false → (arithmetic_by m k v).run s ≡ (special_send m k).run s
-unfolding arithmetic_by
-arithmetic-object m k (Small n) s e = cc
-arithmetic-object m k (Ref n) s e = refl
-
-pub ruleset arithmetic = (arithmetic-small, arithmetic-object)
