@@ -1,34 +1,15 @@
--- Lists of full length in which nothing stands yet.
-use Rattle.std.proofs.Common.{◌≡◌, ℕ, zero, suc, List, [], ◌∷◌, length, map, replicate, refl, arith}
-use Rattle.std.specs.Prelude.{slice_index_or, None}
-use Rattle.st_model.specs.declared.oop.Oop.{Oop}
-use Rattle.st_model.specs.Values.{value, value_of}
-use Rattle.st_model.specs.Objects.{nil}
+-- A table of full length in which nothing stands yet.
+use Rattle.std.proofs.Common.{◌≡◌, ℕ, zero, suc, [], ◌∷◌, length, replicate, refl, arith}
+use Rattle.std.specs.Prelude.{None}
 use Rattle.st_model.specs.Table.{Table, entry}
 use Rattle.st_model.specs.Machine.{Head}
-use Rattle.st_model.specs.View.{View, Held, nothing_held, no_devices, empty_view}
-use Rattle.st_plain.specs.Held.{held_words}
-use Rattle.st_plain.specs.Lists.{nil_word}
+use Rattle.st_model.specs.View.{View, Held, nothing_held, empty_view}
 
 pub all_none : (t : Table) (n : ℕ) → length t ≡ n → ((k : ℕ) → entry t k ≡ None) → t ≡ replicate n None
 all_none [] zero l f = refl
 all_none [] (suc n) l f = absurd (omega (arith, l))
 all_none (e ∷ t) zero l f = absurd (omega (arith, l))
 all_none (e ∷ t) (suc n) l f = λ i. f 0 i ∷ all_none t n (omega (arith, l)) (λ k. f (suc k)) i
-
-pub all_nil : (xs : List Oop) (n : ℕ) → length xs ≡ n → ((k : ℕ) → slice_index_or xs k nil_word ≡ nil_word) → map value xs ≡ replicate n nil
-unfolding value_of
-all_nil [] zero l f = refl
-all_nil [] (suc n) l f = absurd (omega (arith, l))
-all_nil (x ∷ xs) zero l f = absurd (omega (arith, l))
-all_nil (x ∷ xs) (suc n) l f = λ i. value (f 0 i) ∷ all_nil xs n (omega (arith, l)) (λ k. f (suc k)) i
-
-pub nothing_words : (xs : List Oop) → length xs ≡ 4096 → ((k : ℕ) → slice_index_or xs k nil_word ≡ nil_word)
-    → held_words (record { active = nil_word; home = nil_word; method = nil_word; receiver = nil_word; new_process = nil_word; display = nil_word; cursor = nil_word; input_semaphore = nil_word; timer = nil_word; low_space = nil_word }) xs ≡ nothing_held
-unfolding value_of nothing_held no_devices
-nothing_words xs long nils =
-    let pending = all_nil xs 4096 long nils in
-    λ i. record { active = nil; home = nil; method = nil; receiver = nil; devices = record { new_process = nil; display = nil; cursor = nil; input_semaphore = nil; timer = nil; low_space = nil; pending = pending i } }
 
 pub empty_is : (t : Table) (held : Held) (head : Head) → length t ≡ 32768 → ((k : ℕ) → entry t k ≡ None) → held ≡ nothing_held → ◌≡◌ {A = View} (record { objects = t; held = held; head = head }) (empty_view head)
 unfolding empty_view

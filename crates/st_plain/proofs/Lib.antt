@@ -1,16 +1,3 @@
-pub mod Beginning
-pub mod Closed
-pub mod Counting
-pub mod Filling
-pub mod Fresh
-pub mod Holding
-pub mod Looking
-pub mod Made
-pub mod Marking
-pub mod Needing
-pub mod Placing
-pub mod Referring
-pub mod Room
-pub mod Slots
-pub mod Stores
-pub mod Sweeping
+mod Beginning
+mod Needing
+mod Room

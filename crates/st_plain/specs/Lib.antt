@@ -1,4 +1,1 @@
-pub mod Held
-pub mod Lists
-pub mod Marked
 pub mod Plain

@@ -6,10 +6,8 @@ ghost use Rattle.st_model.specs.Table.{total_used, settled_table, first_free, pl
 ghost use Rattle.st_model.specs.Settled.{is_marked};
 ghost use Rattle.st_model.specs.View.{empty_view, head_of, fits, IsWhole};
 
-use crate::adding::{fields_of, units_of};
-use crate::marks::Marks;
-use crate::objects::Objects;
-use crate::roots::Roots;
+use st_lists::{Objects, fields_of, units_of};
+use st_marks::{Marks, Roots};
 use st_model::{Demand, Kind, Oop};
 use std::alloc::{AllocError, Global};
 use std::mem::swap;
@@ -36,7 +34,8 @@ pub struct Contents {
 }
 
 impl Contents {
-    ghost use Rattle.st_plain.specs.Plain.{plain_view, extent_of, unused, is_needed, AreLong};
+    ghost use Rattle.st_lists.specs.Plain.{extent_of, unused};
+    ghost use Rattle.st_plain.specs.Plain.{plain_view, is_needed, AreLong};
 
     /// No objects under a head, and nothing held.
     pub fn new(alloc: Global, head: Head) -> Result<Contents, AllocError>

@@ -6,8 +6,8 @@ ghost use Rattle.st_plain.specs.Plain.{plain_view};
 
 use crate::contents::Contents;
 use crate::loader::PlainLoader;
-use crate::marks::Marks;
 use crate::memory::PlainMemory;
+use st_marks::Marks;
 use st_memory::{Loader, Memory};
 use st_model::{Demand, Kind, Oop, RootPlace};
 use std::alloc::{AllocError, Global};

@@ -1,0 +1,30 @@
+use st_model::{Kind, Oop};
+
+/// Where an object's fields and units are in the two lists of a memory.
+#[derive(Clone, Copy)]
+pub struct Entry {
+    pub class: Oop,
+    pub kind: Kind,
+    pub fields_at: u32,
+    pub fields: u32,
+    pub units_at: u32,
+    pub units: u32,
+}
+
+impl Entry {
+    ghost use Rattle.std.specs.Prelude.{◌≡◌, ◌≤◌, ◌+◌, ◌*◌};
+    ghost use Rattle.st_lists.specs.Lists.{entry_words};
+
+    /// How many words the object has: those of its size, its class and its body.
+    pub fn words(&self) -> u32
+        requires { 2 * self.now.fields + self.now.units ≤ 131066 }
+        ensures words { result ≡ entry_words self.now }
+        ensures small { result ≤ 131068 }
+    {
+        if self.kind.is_words() {
+            2 + self.units
+        } else {
+            2 + self.fields + self.units.div_ceil(2)
+        }
+    }
+}

@@ -1,0 +1,3 @@
+mod Beginning
+pub mod Holding
+pub mod Marking

@@ -1,0 +1,20 @@
+ghost use Rattle.std.specs.Prelude.{◌≡◌, ℕ, length, IfOk, slice_index_or};
+ghost use Rattle.st_marks.specs.Words.{nil_word};
+
+use st_model::Oop;
+use std::alloc::{AllocError, Global};
+
+/// Words that are all nil.
+pub fn nil_words(alloc: Global, len: usize) -> Result<Vec<Oop>, AllocError>
+    ensures len { IfOk result (λ v. length v.items ≡ len) }
+    ensures nil { IfOk result (λ v. (k : ℕ) → slice_index_or v.items k nil_word ≡ nil_word) }
+{
+    vec![in alloc; Oop::NIL; len]
+}
+
+/// Marks that are all false.
+pub fn no_marks(alloc: Global, len: usize) -> Result<Vec<bool>, AllocError>
+    ensures { IfOk result (λ v. length v.items ≡ len) }
+{
+    vec![in alloc; false; len]
+}
