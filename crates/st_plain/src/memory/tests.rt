@@ -139,17 +139,27 @@ fn row<O: Objects>(rt: &impl Abort, o: &mut O) -> Result<(Word, Word), Dead>
     o.transfer(3, there, 0, there, 1)?;
     assert_eq!(rt; o.store_field(a, 3, b), Err(Dead::Field));
     assert_eq!(rt; o.store_field(b, 2, Word(200000)), Err(Dead::Kind));
+    Ok((a, b))
+}
+
+/// What stands in the two objects, and in the one that was there.
+fn stored<O: Objects>(rt: &impl Abort, o: &O, a: Word, b: Word) -> Result<(), Dead> {
+    let there = Word(60);
     assert_eq!(rt; three(o, a, 0)?, (b, Word(4), Word::NIL));
     assert_eq!(rt; three(o, b, 0)?, (Word::NIL, Word::NIL, Word(7)));
     assert_eq!(rt; three(o, there, 0)?, (a, a, Word(62)));
     assert_eq!(rt; three(o, there, 1)?, (a, Word(62), Word(9)));
+    Ok(())
+}
+
+/// What else is known of the two objects.
+fn known<O: Objects>(rt: &impl Abort, o: &O, a: Word, b: Word) {
     assert_eq!(rt; o.fetch_field(b, 3), Err(Dead::Field));
     assert_eq!(rt; o.count_fields(b), Ok(3));
-    assert_eq!(rt; o.fetch_class(b), Ok(class));
+    assert_eq!(rt; o.fetch_class(b), Ok(Word::SMALL_INTEGER));
     assert_eq!(rt; o.literal(b, 0), Err(Dead::Kind));
     assert!(rt; o.is_there(a) && o.is_there(b) && !o.is_there(Word(65540)));
     assert_eq!(rt; (o.half_word(a), o.half_word(b)), (5, 9));
-    Ok((a, b))
 }
 
 fn three<O: Objects>(o: &O, object: Word, at: u32) -> Result<(Word, Word, Word), Dead> {
@@ -160,19 +170,26 @@ fn three<O: Objects>(o: &O, object: Word, at: u32) -> Result<(Word, Word, Word),
     ))
 }
 
+/// The row with what it leaves.
+fn whole_row<O: Objects>(rt: &impl Abort, o: &mut O, a: Word, b: Word)
+    requires { 11 ≤ O.room o.old }
+{
+    assert_eq!(rt; row(rt, o), Ok((a, b)));
+    assert_eq!(rt; stored(rt, o, a, b), Ok(()));
+    known(rt, o, a, b);
+}
+
 /// A row over a draft answers as over the memory, which only the second changes.
 fn rehearses<M: Memory>(rt: &impl Abort, m: &mut M) {
     let mut draft = Draft::new(m);
-    let made = row(rt, &mut draft);
-    assert_eq!(rt; made, Ok((Word(65536), Word(65538))));
+    whole_row(rt, &mut draft, Word(65536), Word(65538));
     let demand = draft.demand();
     assert_eq!(rt; (demand.entries, demand.words), (2, 10));
     used(rt, m, 24, 78);
     assert!(rt; !m.live(Oop(10)));
     assert_eq!(rt; field(rt, m, 60, 0), 2);
     assert!(rt; m.room(demand));
-    let made = row(rt, m);
-    assert_eq!(rt; made, Ok((Word(10), Word(18))));
+    whole_row(rt, m, Word(10), Word(18));
     used(rt, m, 26, 88);
 }
 
