@@ -193,30 +193,17 @@ fn store_word(rt: &impl Abort, l: &mut PlainLoader, o: u16, at: u32, v: u16) {
     l.set_word(o, at, v);
 }
 
-/// The words of an object of kind Pointers.
-pub fn fields<M: Memory>(rt: &impl Abort, m: &M, alloc: Global, o: u16) -> Result<Vec<u16>, Fail> {
+/// A field of an object of kind Pointers.
+pub fn field<M: Memory>(rt: &impl Abort, m: &M, o: u16, at: u32) -> u16 {
     let o = Oop(o);
-    let mut words = Vec::new(alloc);
     assert!(rt; m.live(o));
     assert!(rt; m.kind(o).is_pointers());
-    for at in 0..m.size(o) {
-        words.push(m.pointer(o, at).0)?;
-    }
-    Ok(words)
+    assert!(rt; at < m.size(o));
+    m.pointer(o, at).0
 }
 
 pub fn used<M: Memory>(rt: &impl Abort, m: &M, entries: u32, words: u32) {
     assert_eq!(rt; m.used(), Demand { entries, words });
-}
-
-/// The first bytecode of a Method, which follows its literals.
-#[tactic(auto, using(st_model::proofs::Words::words))]
-fn first_byte<M: Memory>(rt: &impl Abort, m: &M, o: Oop) -> u8 {
-    assert!(rt; m.live(o));
-    assert!(rt; m.kind(o).is_method());
-    let first = 2 * u32::from(m.pointer(o, 0).0 / 2 % 64) + 2;
-    assert!(rt; first < m.size(o));
-    m.byte(o, first)
 }
 
 /// What stands in the image's method, and in the object that nothing names.
@@ -228,23 +215,19 @@ fn reads_bodies<M: Memory>(rt: &impl Abort, m: &M) {
     assert_eq!(rt; m.size(method), 7);
     assert!(rt; m.kind(method).is_method());
     assert_eq!(rt; m.pointer(method, 0), Oop(257));
-    assert_eq!(rt; first_byte(rt, m, method), 118);
     assert!(rt; m.kind(unnamed).is_words());
     assert_eq!(rt; m.size(unnamed), 3);
     assert_eq!(rt; m.word(unnamed, 2), 65535);
 }
 
 /// What stands in its other objects.
-fn reads_fields<M: Memory>(rt: &impl Abort, m: &M, alloc: Global) -> Result<(), Fail> {
-    assert_eq!(rt;
-        fields(rt, m, alloc, 60)?.as_slice(),
-        [2, 62, 9, 2].as_slice()
-    );
-    assert_eq!(rt; fields(rt, m, alloc, 70)?.as_slice(), [68].as_slice());
+fn reads_fields<M: Memory>(rt: &impl Abort, m: &M) {
+    assert_eq!(rt; (field(rt, m, 60, 0), field(rt, m, 60, 1)), (2, 62));
+    assert_eq!(rt; (field(rt, m, 60, 2), field(rt, m, 60, 3)), (9, 2));
+    assert_eq!(rt; (field(rt, m, 68, 0), field(rt, m, 70, 0)), (70, 68));
     assert_eq!(rt; m.next_live(56), Some(Oop(58)));
     assert_eq!(rt; m.next_live(70), None);
     assert_eq!(rt; (m.globals(), m.symbols()), (Oop(0), Oop(0)));
-    Ok(())
 }
 
 /// Stores into a field of an object of kind Pointers.
@@ -287,7 +270,7 @@ fn an_unnamed_object_goes_and_a_cycle_stays(rt: HostRuntime) -> Result<(), Fail>
     let mut m = image(&rt, rt.alloc())?;
     used(&rt, &m, 27, 89);
     reads_bodies(&rt, &m);
-    reads_fields(&rt, &m, rt.alloc())?;
+    reads_fields(&rt, &m);
     holds(&rt, &mut m, Oop(66));
     settles(&rt, &mut m, Oop(66));
     Ok(())

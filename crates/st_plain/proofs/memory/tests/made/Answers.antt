@@ -1,6 +1,6 @@
 use Rattle.std.proofs.Common.{◌≡◌}
 use Rattle.st_model.specs.Values.{Ref, value_of}
-use Rattle.st_plain.proofs.memory.tests.row.Goals as goal
+use Rattle.st_plain.proofs.memory.tests.made.Goals as goal
 
 other_class : value_of 12 ≡ Ref 17 → ⊥
 unfolding value_of
