@@ -14,7 +14,7 @@ use Rattle.st_model.proofs.Rounds.{KeepsNeeded, all_kept, settled_all, moved_roo
 use Rattle.st_marks.specs.Held.{register_roots, names_held}
 use Rattle.st_marks.specs.Marked.{is_of_page}
 use Rattle.st_lists.specs.Plain.{is_referred}
-use Rattle.st_plain.specs.Plain.{is_needed}
+use Rattle.st_contents.specs.Plain.{is_needed}
 use Rattle.st_marks.proofs.Marking.{any_names-append, or_step}
 use Rattle.st_marks.proofs.Holding.{twice}
 

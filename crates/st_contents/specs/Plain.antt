@@ -6,7 +6,7 @@ use Rattle.st_model.specs.Settled.{or, is_root}
 use Rattle.st_model.specs.View.{View, view_roots, head_of}
 use Rattle.st_marks.specs.Held.{held_of}
 use Rattle.st_lists.specs.Plain.{objects_of, extent_of, IsEnough, IsLong, is_referred}
-use Rattle.st_plain.specs.declared.contents.Contents.{Contents}
+use Rattle.st_contents.specs.declared.contents.Contents.{Contents}
 
 -- what a memory of these parts contains
 abbrev pub plain_view : Contents → View

@@ -1,8 +1,8 @@
 use Rattle.st_model.specs.View.{head_of}
 use Rattle.st_marks.specs.Held.{held_of}
 use Rattle.st_lists.specs.Plain.{objects_of}
-use Rattle.st_plain.proofs.Beginning.{empty_is}
-use Rattle.st_plain.proofs.contents.Contents.new.Goals as goal
+use Rattle.st_contents.proofs.Beginning.{empty_is}
+use Rattle.st_contents.proofs.contents.Contents.new.Goals as goal
 
 pub returns-clause-empty : goal.returns-clause-empty
 returns-clause-empty c =

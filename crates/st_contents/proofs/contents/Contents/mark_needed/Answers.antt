@@ -4,10 +4,10 @@ use Rattle.st_model.specs.Settled.{or, any_names}
 use Rattle.st_marks.specs.Held.{names_held}
 use Rattle.st_marks.specs.Marked.{is_of_page}
 use Rattle.st_lists.specs.Plain.{is_referred}
-use Rattle.st_plain.specs.Plain.{plain_view}
+use Rattle.st_contents.specs.Plain.{plain_view}
 use Rattle.st_marks.proofs.Marking.{or_false}
-use Rattle.st_plain.proofs.Needing.{needed_parts}
-use Rattle.st_plain.proofs.contents.Contents.mark_needed.Goals as goal
+use Rattle.st_contents.proofs.Needing.{needed_parts}
+use Rattle.st_contents.proofs.contents.Contents.mark_needed.Goals as goal
 
 pub returns-clause-marked : goal.returns-clause-marked
 returns-clause-marked c = λ n below.

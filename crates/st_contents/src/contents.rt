@@ -35,7 +35,7 @@ pub struct Contents {
 
 impl Contents {
     ghost use Rattle.st_lists.specs.Plain.{extent_of, unused};
-    ghost use Rattle.st_plain.specs.Plain.{plain_view, is_needed, AreLong};
+    ghost use Rattle.st_contents.specs.Plain.{plain_view, is_needed, AreLong};
 
     /// No objects under a head, and nothing held.
     pub fn new(alloc: Global, head: Head) -> Result<Contents, AllocError>

@@ -1,0 +1,3 @@
+mod Beginning
+pub mod Needing
+pub mod Room
