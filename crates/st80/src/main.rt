@@ -1,16 +1,9 @@
 //! The program: `st80 once IMAGE N` reads an image file, runs N cycles of its machine, and says what it shows then.
 #![tactic(auto)]
 
-mod image;
-mod last_line;
-mod once;
-mod refusal;
-mod report;
-mod status;
 #[cfg(test)]
 mod tests;
 mod tool;
-mod words;
 
 use crate::tool::tool;
 use st_host::{DirHost, StdinSource};

@@ -1,9 +1,9 @@
 //! Worked runs of the program over a host in memory.
-use crate::status::Status;
 use crate::tool::tool;
 use st_host::{Host, MemHost, MemSource, read_from};
 use st_image::{HeadValues, ReadImage, read, write};
 use st_model::ImageFault;
+use st_once::Status;
 use st_plain::PlainLoader;
 use std::alloc::{AllocError, Global};
 use std::process::Abort;

@@ -1,0 +1,143 @@
+-- How a call of the program ends: its status, and what it says and does.
+use Rattle.std.specs.Prelude.{◌≡◌, ℕ, ◌<◌, ◌≤◌, ◌^◌, List, [], ◌∷◌, length, ◌++◌, codes, IsTrue, ⊤}
+use Rattle.st_host.specs.Counts.{Rose}
+use Rattle.st_host.specs.Stops.{SaidPart}
+use Rattle.st_host.specs.declared.host.Host.{Ghosts}
+use Rattle.st_model.specs.declared.fault.ImageFault.{ImageFault}
+use Rattle.st_model.specs.declared.fault.ImageFault.TheVariants as fault
+use Rattle.st_model.specs.Machine.{State, Went}
+use Rattle.st_model.specs.Table.{Table}
+use Rattle.st_model.specs.Image.{image_head}
+use Rattle.st_model.specs.Faults.{IsImageFault, IsWellFormed}
+use Rattle.st_model.specs.Start.{start}
+use Rattle.st_model.specs.Show.{raised}
+use Rattle.st_model.specs.Text.{numbers_text, ran_text, dead_text, unbuilt_text, space_text, quit_text, debugger_text, state_text, run_text}
+use Rattle.st_machine.specs.declared.ending.RunEnd.{RunEnd}
+use Rattle.st_machine.specs.declared.ending.RunEnd.TheVariants as end
+use Rattle.st_once.specs.declared.refusal.Refusal.{Refusal}
+use Rattle.st_once.specs.declared.refusal.Refusal.TheVariants as refusal
+use Rattle.st_once.specs.declared.status.Status.{Status}
+use Rattle.st_once.specs.declared.status.Status.TheVariants.{Done, Usage, Image, SayFault, DiskFault, TooLarge, OutOfMemory}
+
+abbrev pub number_of : Status → ℕ
+number_of Done = 0
+number_of Usage = 1
+number_of (Image f) = 2
+number_of SayFault = 5
+number_of DiskFault = 6
+number_of TooLarge = 9
+number_of OutOfMemory = 10
+
+-- a fault's row, then its pointer, and its second pointer or its index
+abbrev pub fault_numbers : ImageFault → List ℕ
+fault_numbers fault.Short = 1 ∷ []
+fault_numbers fault.Lengths = 2 ∷ []
+fault_numbers fault.Capacity = 3 ∷ []
+fault_numbers (fault.Size p) = 4 ∷ p ∷ []
+fault_numbers (fault.Overlap p q) = 5 ∷ p ∷ q ∷ []
+fault_numbers (fault.Class p) = 6 ∷ p ∷ []
+fault_numbers (fault.Field p i) = 7 ∷ p ∷ i ∷ []
+fault_numbers (fault.Method p) = 8 ∷ p ∷ []
+fault_numbers (fault.Root p) = 9 ∷ p ∷ []
+fault_numbers fault.Scheduler = 10 ∷ []
+
+abbrev pub fault_line : ImageFault → List ℕ
+fault_line f = codes "image" ++ (numbers_text (fault_numbers f) ++ codes "\n")
+
+abbrev pub last_line : Status → List ℕ
+last_line Done = []
+last_line Usage = codes "usage\n"
+last_line (Image f) = fault_line f
+last_line SayFault = []
+last_line DiskFault = codes "disk fault\n"
+last_line TooLarge = codes "too large\n"
+last_line OutOfMemory = codes "out of memory\n"
+
+-- the status after a machine wasn't started
+abbrev pub status_of : Refusal → Status
+status_of (refusal.Image f) = Image f
+status_of refusal.TooLarge = TooLarge
+status_of refusal.DiskFault = DiskFault
+status_of refusal.OutOfMemory = OutOfMemory
+
+-- the bytes of an image that is read: they are at most 2^23, and well-formed
+pub record IsReadable (bytes : List ℕ) : Type 0 where
+  pub short : length bytes ≤ 2 ^ 23
+  pub formed : IsWellFormed (image_head bytes) bytes
+
+-- those of one that is refused for its fault
+pub record IsFaulty (bytes : List ℕ) (f : ImageFault) : Type 0 where
+  pub short : length bytes ≤ 2 ^ 23
+  pub fault : IsImageFault (image_head bytes) bytes f
+
+-- what a refusal says of the image's bytes
+abbrev pub IsRefusal : List ℕ → Refusal → Type 0
+IsRefusal bytes (refusal.Image f) = IsFaulty bytes f
+IsRefusal bytes refusal.TooLarge = 2 ^ 23 < length bytes
+IsRefusal bytes refusal.DiskFault = ⊤
+IsRefusal bytes refusal.OutOfMemory = ⊤
+
+-- What is said of n cycles of an image: how the book's machine ends that begins with the image's objects as births, and
+-- what it shows then.
+pub record IsReport (bytes : List ℕ) (n : ℕ) (text : List ℕ) : Type 0 where
+  pub state : State Table
+  pub starts : start (image_head bytes) bytes ≡ Went tt state
+  pub is : text ≡ run_text n (raised state)
+
+-- The line of a run's end, of so many cycles that were asked for. A snapshot, and bytes that are said, are no end.
+abbrev pub end_text : ℕ → RunEnd → List ℕ
+end_text n end.Ran = ran_text n
+end_text n (end.Space done demand entries words) = space_text done demand (record { entries = entries; words = words })
+end_text n (end.Snapshot done) = []
+end_text n (end.Say done o) = []
+end_text n (end.Quit done) = quit_text done
+end_text n (end.Debugger done) = debugger_text done
+end_text n (end.Dead done cause) = dead_text done cause
+end_text n (end.Unbuilt done code) = unbuilt_text done code
+
+-- what follows that line: what the machine shows, where it isn't dead
+abbrev pub rest_text : RunEnd → State Table → List ℕ
+rest_text end.Ran s = state_text s
+rest_text (end.Space done demand entries words) s = state_text s
+rest_text (end.Snapshot done) s = state_text s
+rest_text (end.Say done o) s = state_text s
+rest_text (end.Quit done) s = state_text s
+rest_text (end.Debugger done) s = state_text s
+rest_text (end.Dead done cause) s = []
+rest_text (end.Unbuilt done code) s = state_text s
+
+module _ {D : Type 0} (host : Ghosts D) where
+  -- Nothing but the last line was said. It may be cut or missing only where the count of say faults rose, or stands at
+  -- the last value that it has. Of a host that doesn't tell what was said nothing is claimed.
+  pub record SaysLastLine (status : Status) (old new : D) : Type 0 where
+    pub part : IsTrue host.is_told → SaidPart (host.said old) (last_line status) (host.said new)
+    pub whole : (Rose (host.say_faults old) (host.say_faults new) → ⊥) → IsTrue host.is_told → host.said new ≡ host.said old ++ last_line status
+
+  -- How the command once ends, over the bytes of its image, in each status that it can have. An absent file is read as
+  -- an empty one. These bytes are readable, or have one fault, or are too many, and never two of this.
+  abbrev pub OnceEnds : List ℕ → ℕ → D → D → Status → Type 0
+  OnceEnds bytes n old new Done = IsTrue host.is_told
+      → (text : List ℕ) × IsReadable bytes × IsReport bytes n text × (host.said new ≡ host.said old ++ text)
+  OnceEnds bytes n old new Usage = ⊥
+  OnceEnds bytes n old new (Image f) = (IsTrue host.is_told → IsFaulty bytes f) × SaysLastLine (Image f) old new
+  OnceEnds bytes n old new SayFault = IsTrue host.is_told
+      → (text : List ℕ) × IsReadable bytes × IsReport bytes n text × SaidPart (host.said old) text (host.said new)
+  OnceEnds bytes n old new DiskFault = SaysLastLine DiskFault old new
+  OnceEnds bytes n old new TooLarge = (IsTrue host.is_told → 2 ^ 23 < length bytes) × SaysLastLine TooLarge old new
+  OnceEnds bytes n old new OutOfMemory = SaysLastLine OutOfMemory old new
+
+  -- a fault's status comes only where its count rose in the call, or stands at the last value that it has
+  abbrev pub StatusHasCause : D → D → Status → Type 0
+  StatusHasCause old new Done = Unit {0}
+  StatusHasCause old new Usage = Unit {0}
+  StatusHasCause old new (Image f) = Unit {0}
+  StatusHasCause old new SayFault = Rose (host.say_faults old) (host.say_faults new)
+  StatusHasCause old new DiskFault = Rose (host.disk_faults old) (host.disk_faults new)
+  StatusHasCause old new TooLarge = Unit {0}
+  StatusHasCause old new OutOfMemory = Unit {0}
+
+  abbrev pub RefusalHasCause : D → D → Refusal → Type 0
+  RefusalHasCause old new (refusal.Image f) = Unit {0}
+  RefusalHasCause old new refusal.TooLarge = Unit {0}
+  RefusalHasCause old new refusal.DiskFault = Rose (host.disk_faults old) (host.disk_faults new)
+  RefusalHasCause old new refusal.OutOfMemory = Unit {0}

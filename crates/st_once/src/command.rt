@@ -1,0 +1,52 @@
+ghost use Rattle.std.specs.Prelude.{◌≡◌, ℕ, List, OnOk, None};
+ghost use Rattle.st_host.specs.Counts.{HasCause};
+ghost use Rattle.st_host.specs.Files.{bytes_of};
+ghost use Rattle.st_host.specs.Runs.{ReadsAndSays, SaysAll};
+ghost use Rattle.st_model.specs.Show.{raised};
+ghost use Rattle.st_model.specs.Text.{run_text};
+ghost use Rattle.st_frames.specs.Shown.{shown};
+ghost use Rattle.st_report.specs.Saying.{Says};
+ghost use Rattle.st_once.specs.Ends.{OnceEnds, StatusHasCause};
+
+use crate::image::start;
+use crate::last_line::refuse;
+use crate::report::say_run;
+use crate::status::Status;
+use st_host::{Host, SayFault};
+use st_machine::Machine;
+use st_memory::{Loader, Memory};
+use std::alloc::Global;
+
+/// Runs cycles of a machine that was just booted, and says how they end.
+fn run_and_report<H: Host, M: Memory>(
+    host: &mut H,
+    machine: &mut Machine<M>,
+    cycles: u32,
+) -> Result<(), SayFault>
+    requires alive { machine.old.death ≡ None }
+    ensures all { OnOk result (SaysAll H.Host.own (run_text cycles (raised (shown (M.view machine.old.memory) machine.old.frame))) host.old host.new) }
+    ensures says { Says H.Host.own (run_text cycles (raised (shown (M.view machine.old.memory) machine.old.frame))) host.old host.new }
+    ensures cause { HasCause (H.say_faults host.old) (H.say_faults host.new) result }
+{
+    let end = machine.run(cycles);
+    say_run(host, machine.memory(), &machine.frame(), cycles, end)
+}
+
+/// The command `once`: runs cycles of the machine of an image, and says what it shows then.
+pub fn once<H: Host, L: Loader>(alloc: Global, host: &mut H, image: &str, cycles: u32) -> Status
+    ensures ends { OnceEnds H.Host.own (bytes_of (H.files host.old image.now)) cycles host.old host.new result }
+    ensures cause { StatusHasCause H.Host.own host.old host.new result }
+    ensures reads { (text : List ℕ) × ReadsAndSays H.Host.own text host.old host.new }
+{
+    match start::<H, L>(alloc, host, image) {
+        Ok(mut machine) => match run_and_report(host, &mut machine, cycles) {
+            Ok(()) => Status::Done,
+            Err(SayFault) => Status::SayFault,
+        },
+        Err(refusal) => {
+            let status = refusal.status();
+            refuse(host, status);
+            status
+        }
+    }
+}
