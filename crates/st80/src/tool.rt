@@ -1,12 +1,12 @@
 ghost use Rattle.std.specs.Prelude.{◌≡◌, ℕ, List, map, Some, None};
 ghost use Rattle.std.specs.String.{string_bytes};
-ghost use Rattle.st_host.specs.Files.{bytes_of};
-ghost use Rattle.st_host.specs.Runs.{ReadsAndSays};
+ghost use Rattle.st_outside.specs.Files.{bytes_of};
+ghost use Rattle.st_outside.specs.Runs.{ReadsAndSays};
 ghost use Rattle.st_once.specs.Ends.{OnceEnds, SaysLastLine, StatusHasCause};
 ghost use Rattle.st_once.specs.Words.{once_of, word};
 ghost use Rattle.st_once.specs.declared.status.Status.TheVariants.{Usage};
 
-use st_host::{Host, Source};
+use st_outside::{Host, Source};
 use st_once::{Status, image_name, once, read_once, refuse};
 use st_plain::PlainLoader;
 use std::alloc::Global;

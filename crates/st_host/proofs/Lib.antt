@@ -1,6 +1,3 @@
-pub mod Rising
-pub mod Joining
-pub mod Touching
 pub mod Appending
 pub mod Walking
 pub mod Windows

@@ -1,8 +1,3 @@
-pub mod Counts
-pub mod Files
-pub mod Names
-pub mod Stops
-pub mod Runs
 pub mod Written
 pub mod Deeds
 pub mod HostState

@@ -2,7 +2,7 @@
 ghost use Rattle.std.specs.Prelude.{◌≡◌, ◌≤◌, false, None, [], length, IfOk};
 ghost use Rattle.st_host.specs.Untold.{untold};
 
-use crate::{Host, HostFault, SayFault};
+use st_outside::{Host, HostFault, SayFault};
 use std::fs::{OpenFile, OpenOptions};
 use std::io::{self, ErrorKind, Read, Seek, SeekFrom, Write};
 use std::rt::Files;

@@ -1,26 +1,20 @@
-//! The outside of the machine: files by name, bytes that are said, bytes that are read in.
+//! The outside of the machine, in memory and for real: hosts of files and output, and sources of input.
 #![tactic(auto)]
 
 mod dir;
-mod host;
 mod log;
 mod memory;
 mod memory_source;
-mod reads;
-mod says;
-mod source;
 mod stdin;
-mod writes;
 
 pub use dir::DirHost;
-pub use host::{Host, HostFault, SayFault};
 pub use memory::MemHost;
 pub use memory_source::MemSource;
-pub use reads::{file_length, read_from};
-pub use says::say_all;
-pub use source::{ReadFault, Source};
+pub use st_outside::{
+    Host, HostFault, ReadFault, SayFault, Source, cut_file, file_length, read_from, say_all,
+    sync_file, write_bytes, write_synced,
+};
 pub use stdin::StdinSource;
-pub use writes::{cut_file, sync_file, write_bytes, write_synced};
 
 #[cfg(test)]
 mod tests;

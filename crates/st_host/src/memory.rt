@@ -1,10 +1,10 @@
 // A host in memory. It keeps each deed, so that a stop may leave all that the contract of a host allows.
 ghost use Rattle.std.specs.Prelude.{◌≡◌, ◌⊎◌, ◌↔◌, ◌++◌, ◌∷◌, [], ◌+◌, ◌-◌, ◌<◌, ◌≤◌, ℕ, List, length, reverse, IsTrue, true, IfOk, OnOk, OnErr, IsErr, Option, Some, vec_len, vec_capacity};
-ghost use Rattle.st_host.specs.Counts.{one_more, Rose, HasCause};
-ghost use Rattle.st_host.specs.Files.{length_of, bytes_of, IsRead};
+ghost use Rattle.st_outside.specs.Counts.{one_more, Rose, HasCause};
+ghost use Rattle.st_outside.specs.Files.{length_of, bytes_of, IsRead};
 
 use crate::log::{Entry, Kind, append, append_file, append_said, window};
-use crate::{Host, HostFault, SayFault};
+use st_outside::{Host, HostFault, SayFault};
 use std::alloc::{AllocError, Global};
 use std::marker::Model;
 

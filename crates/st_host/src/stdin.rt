@@ -1,7 +1,7 @@
 // The source of the real program. It tells nothing of what it reads.
 ghost use Rattle.std.specs.Prelude.{◌≡◌, false, []};
 
-use crate::{ReadFault, Source};
+use st_outside::{ReadFault, Source};
 use std::io::Read;
 
 /// Standard input.

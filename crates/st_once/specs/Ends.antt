@@ -1,8 +1,8 @@
 -- How a call of the program ends: its status, and what it says and does.
 use Rattle.std.specs.Prelude.{◌≡◌, ℕ, ◌<◌, ◌≤◌, ◌^◌, List, [], ◌∷◌, length, ◌++◌, codes, IsTrue, ⊤}
-use Rattle.st_host.specs.Counts.{Rose}
-use Rattle.st_host.specs.Stops.{SaidPart}
-use Rattle.st_host.specs.declared.host.Host.{Ghosts}
+use Rattle.st_outside.specs.Counts.{Rose}
+use Rattle.st_outside.specs.Stops.{SaidPart}
+use Rattle.st_outside.specs.declared.host.Host.{Ghosts}
 use Rattle.st_model.specs.declared.fault.ImageFault.{ImageFault}
 use Rattle.st_model.specs.declared.fault.ImageFault.TheVariants as fault
 use Rattle.st_model.specs.Machine.{State, Went}

@@ -1,6 +1,6 @@
 ghost use Rattle.std.specs.Prelude.{◌≡◌, ◌≤◌, ◌^◌, length, IsTrue, IfOk, IfErr, None};
-ghost use Rattle.st_host.specs.Files.{bytes_of};
-ghost use Rattle.st_host.specs.Runs.{OnlyReads};
+ghost use Rattle.st_outside.specs.Files.{bytes_of};
+ghost use Rattle.st_outside.specs.Runs.{OnlyReads};
 ghost use Rattle.st_model.specs.Image.{image_head};
 ghost use Rattle.st_model.specs.View.{no_devices};
 ghost use Rattle.st_frames.specs.Shown.{IsFrame};
@@ -9,7 +9,7 @@ ghost use Rattle.st_once.specs.Ends.{IsReadable, IsRefusal, RefusalHasCause};
 
 use crate::refusal::Refusal;
 use st_frames::Loaded;
-use st_host::{Host, file_length, read_from};
+use st_outside::{Host, file_length, read_from};
 use st_image::{HeadValues, ReadImage, read};
 use st_input::World;
 use st_machine::Machine;

@@ -1,11 +1,11 @@
 ghost use Rattle.std.specs.Prelude.{◌≡◌, OnOk};
-ghost use Rattle.st_host.specs.Counts.{HasCause};
-ghost use Rattle.st_host.specs.Runs.{ReadsAndSays, SaysAll};
+ghost use Rattle.st_outside.specs.Counts.{HasCause};
+ghost use Rattle.st_outside.specs.Runs.{ReadsAndSays, SaysAll};
 ghost use Rattle.st_report.specs.Saying.{Says};
 ghost use Rattle.st_once.specs.Ends.{fault_line, last_line, SaysLastLine};
 
 use crate::status::Status;
-use st_host::{Host, SayFault};
+use st_outside::{Host, SayFault};
 use st_model::ImageFault;
 use st_report::say_line;
 

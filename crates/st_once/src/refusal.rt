@@ -2,7 +2,7 @@ ghost use Rattle.std.specs.Prelude.{◌≡◌};
 ghost use Rattle.st_once.specs.Ends.{status_of};
 
 use crate::status::Status;
-use st_host::HostFault;
+use st_outside::HostFault;
 use st_model::ImageFault;
 use std::alloc::AllocError;
 

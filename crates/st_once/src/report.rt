@@ -1,13 +1,13 @@
 ghost use Rattle.std.specs.Prelude.{◌≡◌, ◌++◌, OnOk};
-ghost use Rattle.st_host.specs.Counts.{HasCause};
-ghost use Rattle.st_host.specs.Runs.{SaysAll};
+ghost use Rattle.st_outside.specs.Counts.{HasCause};
+ghost use Rattle.st_outside.specs.Runs.{SaysAll};
 ghost use Rattle.st_model.specs.View.{no_devices};
 ghost use Rattle.st_frames.specs.Shown.{IsFrame, shown};
 ghost use Rattle.st_report.specs.Saying.{Says};
 ghost use Rattle.st_once.specs.Ends.{end_text, rest_text};
 
 use st_frames::Frame;
-use st_host::{Host, SayFault};
+use st_outside::{Host, SayFault};
 use st_machine::RunEnd;
 use st_memory::Memory;
 use st_report::{say_line, say_state};

@@ -1,12 +1,12 @@
 -- Runs of calls that add bytes follow each other.
 use Rattle.std.proofs.Common.{◌≡◌, ℕ, List, [], ◌++◌, IsTrue, refl, sym, subst, inl, arith, append_assoc, append-nil, length-append}
 use Rattle.std.specs.Prelude.{Result, Ok, Err, OnOk, IsErr}
-use Rattle.st_host.specs.Files.{Files, KeepsBelow}
-use Rattle.st_host.specs.Stops.{comes, Here}
-use Rattle.st_host.specs.Runs.{Touched, WritesAbove}
-use Rattle.st_host.specs.declared.host.Host.{Ghosts}
-use Rattle.st_host.proofs.Rising.{cause_after}
-use Rattle.st_host.proofs.Touching.{keeps_same, above_join}
+use Rattle.st_outside.specs.Files.{Files, KeepsBelow}
+use Rattle.st_outside.specs.Stops.{comes, Here}
+use Rattle.st_outside.specs.Runs.{Touched, WritesAbove}
+use Rattle.st_outside.specs.declared.host.Host.{Ghosts}
+use Rattle.st_outside.proofs.Rising.{cause_after}
+use Rattle.st_outside.proofs.Touching.{keeps_same, above_join}
 use Rattle.st_pieces.specs.Pieces.{Held, Holds, Adds, Pushes}
 
 module _ {D : Type 0} (host : Ghosts D) (name : List ℕ) where

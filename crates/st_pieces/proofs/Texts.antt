@@ -5,7 +5,7 @@ use Rattle.std.proofs.lemmas.List.{append-nil, get_or-take, get_or-drop, length-
 use Rattle.std.proofs.lemmas.Grind.{same_number_lists}
 use Rattle.std.proofs.Math.Seq.{take-add}
 use Rattle.std.proofs.Common.{length-drop}
-use Rattle.st_host.specs.Files.{bytes_of, IsWritten, IsCut}
+use Rattle.st_outside.specs.Files.{bytes_of, IsWritten, IsCut}
 use Rattle.st_pieces.specs.Pieces.{Holds}
 
 -- the file before the bytes that were written

@@ -1,9 +1,9 @@
 -- A file that is written from one place on, the last bytes of which are still held back.
 use Rattle.std.specs.Prelude.{◌≡◌, ℕ, ◌+◌, ◌≤◌, List, ◌++◌, length, take, Option, Result, IsTrue, OnOk}
-use Rattle.st_host.specs.Counts.{HasCause}
-use Rattle.st_host.specs.Files.{bytes_of}
-use Rattle.st_host.specs.Runs.{WritesAbove}
-use Rattle.st_host.specs.declared.host.Host.{Ghosts}
+use Rattle.st_outside.specs.Counts.{HasCause}
+use Rattle.st_outside.specs.Files.{bytes_of}
+use Rattle.st_outside.specs.Runs.{WritesAbove}
+use Rattle.st_outside.specs.declared.host.Host.{Ghosts}
 
 -- bytes that are still to be written to a file, and the place in it at which they begin
 pub record Held : Type 0 where

@@ -1,9 +1,9 @@
 ghost use Rattle.std.specs.Prelude.{◌≡◌, ◌+◌, ◌<◌, ◌≤◌, ◌^◌, ◌++◌, List, [], ℕ, length, IsTrue, IfOk, OnOk, Some};
-ghost use Rattle.st_host.specs.Counts.{HasCause};
-ghost use Rattle.st_host.specs.Runs.{WritesAbove, IsSynced};
+ghost use Rattle.st_outside.specs.Counts.{HasCause};
+ghost use Rattle.st_outside.specs.Runs.{WritesAbove, IsSynced};
 ghost use Rattle.st_pieces.specs.Pieces.{end_of, Holds, Pushes};
 
-use st_host::{Host, HostFault, cut_file, sync_file, write_bytes};
+use st_outside::{Host, HostFault, cut_file, sync_file, write_bytes};
 use std::marker::Model;
 
 /// Bytes that are still to be written to a file, at most 512, and the place in it at which they begin.

@@ -1,6 +1,7 @@
 // What no clause says: that calls succeed.
 use crate::Piece;
-use st_host::{Host, MemHost, read_from};
+use st_host::MemHost;
+use st_outside::{Host, read_from};
 use std::test::Fail;
 
 #[test]

@@ -3,9 +3,9 @@ use Rattle.std.proofs.Common.{◌≡◌, ◌<◌, ◌+◌, ℕ, zero, suc, List,
 use Rattle.std.specs.Prelude.{slice_get, Some, Result, Ok, Err, OnOk}
 use Rattle.std.specs.List.{flat_map}
 use Rattle.std.proofs.lemmas.List.Folds.{flat_map-map}
-use Rattle.st_host.specs.Runs.{SaysAll}
-use Rattle.st_host.specs.declared.host.Host.{Ghosts}
-use Rattle.st_host.proofs.Joining.{alike_join, says_join, says_more, all_join}
+use Rattle.st_outside.specs.Runs.{SaysAll}
+use Rattle.st_outside.specs.declared.host.Host.{Ghosts}
+use Rattle.st_outside.proofs.Joining.{alike_join, says_join, says_more, all_join}
 use Rattle.st_report.specs.Saying.{Says}
 
 module _ {D : Type 0} (host : Ghosts D) where

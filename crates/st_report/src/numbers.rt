@@ -1,12 +1,12 @@
 ghost use Rattle.std.specs.Prelude.{◌≡◌, ◌++◌, codes, map, OnOk};
-ghost use Rattle.st_host.specs.Counts.{HasCause};
-ghost use Rattle.st_host.specs.Runs.{SaysAll};
+ghost use Rattle.st_outside.specs.Counts.{HasCause};
+ghost use Rattle.st_outside.specs.Runs.{SaysAll};
 ghost use Rattle.st_model.specs.Values.{value};
 ghost use Rattle.st_model.specs.Text.{values_text, numbers_text};
 ghost use Rattle.st_report.specs.Saying.{Says};
 
 use crate::pieces::{say, say_number, say_value};
-use st_host::{Host, SayFault};
+use st_outside::{Host, SayFault};
 use st_model::Oop;
 
 /// Says each of the values after a space.

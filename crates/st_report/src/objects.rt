@@ -1,6 +1,6 @@
 ghost use Rattle.std.specs.Prelude.{◌≡◌, ◌+◌, ◌*◌, ◌/◌, ◌≤◌, ◌++◌, codes, length, slice_get, Some, OnOk, true, false};
-ghost use Rattle.st_host.specs.Counts.{HasCause};
-ghost use Rattle.st_host.specs.Runs.{SaysAll};
+ghost use Rattle.st_outside.specs.Counts.{HasCause};
+ghost use Rattle.st_outside.specs.Runs.{SaysAll};
 ghost use Rattle.st_model.specs.Values.{value};
 ghost use Rattle.st_model.specs.Objects.{is_pointers};
 ghost use Rattle.st_model.specs.View.{is_live, object_of};
@@ -9,7 +9,7 @@ ghost use Rattle.st_report.specs.Saying.{Says};
 
 use crate::pieces::{say, say_number, say_value};
 use st_bodies::{count_fields, count_units, unit_at};
-use st_host::{Host, SayFault};
+use st_outside::{Host, SayFault};
 use st_memory::Memory;
 use st_model::{Kind, Oop};
 

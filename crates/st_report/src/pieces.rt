@@ -1,13 +1,13 @@
 ghost use Rattle.std.specs.Prelude.{◌≡◌, ◌++◌, codes, decimal, OnOk};
 ghost use Rattle.std.specs.Fmt.{signed_decimal};
-ghost use Rattle.st_host.specs.Counts.{HasCause};
-ghost use Rattle.st_host.specs.Runs.{SaysAll};
+ghost use Rattle.st_outside.specs.Counts.{HasCause};
+ghost use Rattle.st_outside.specs.Runs.{SaysAll};
 ghost use Rattle.st_model.specs.Values.{value};
 ghost use Rattle.st_model.specs.Text.{value_text};
 ghost use Rattle.st_report.specs.Saying.{Says};
 
 use itoa::Buffer;
-use st_host::{Host, SayFault, say_all};
+use st_outside::{Host, SayFault, say_all};
 use st_model::Oop;
 
 /// Says bytes.

@@ -1,6 +1,6 @@
 ghost use Rattle.std.specs.Prelude.{◌≡◌, ◌++◌, codes, OnOk};
-ghost use Rattle.st_host.specs.Counts.{HasCause};
-ghost use Rattle.st_host.specs.Runs.{SaysAll};
+ghost use Rattle.st_outside.specs.Counts.{HasCause};
+ghost use Rattle.st_outside.specs.Runs.{SaysAll};
 ghost use Rattle.st_model.specs.Values.{value};
 ghost use Rattle.st_model.specs.Objects.{nil};
 ghost use Rattle.st_model.specs.Machine.{empty_world};
@@ -13,7 +13,7 @@ use crate::numbers::{say_line, say_values, say_values_line};
 use crate::objects::say_objects;
 use crate::pieces::{say, say_integer, say_number};
 use st_frames::Frame;
-use st_host::{Host, SayFault};
+use st_outside::{Host, SayFault};
 use st_memory::Memory;
 use st_model::RootPlace;
 

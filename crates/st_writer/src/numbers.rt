@@ -4,7 +4,7 @@ ghost use Rattle.st_pieces.specs.Pieces.{end_of, Pushes};
 ghost use Rattle.st_writer.specs.Written.{word_bytes, long_bytes, zeros};
 
 use byteorder::{BigEndian, ByteOrder};
-use st_host::{Host, HostFault};
+use st_outside::{Host, HostFault};
 use st_pieces::Piece;
 
 /// Adds a word, the higher byte first.

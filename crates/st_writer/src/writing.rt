@@ -1,13 +1,13 @@
 ghost use Rattle.std.specs.Prelude.{◌≡◌, ◌≤◌, length, IsTrue, IfOk, OnOk, Some};
-ghost use Rattle.st_host.specs.Counts.{HasCause};
-ghost use Rattle.st_host.specs.Runs.{WritesAbove, IsSynced};
+ghost use Rattle.st_outside.specs.Counts.{HasCause};
+ghost use Rattle.st_outside.specs.Runs.{WritesAbove, IsSynced};
 ghost use Rattle.st_pieces.specs.Pieces.{end_of, Pushes};
 ghost use Rattle.st_writer.specs.Written.{image_of, padding};
 
 use crate::head::push_head;
 use crate::numbers::push_zeros;
 use crate::table::{count_entries, push_entries, push_objects};
-use st_host::{Host, HostFault};
+use st_outside::{Host, HostFault};
 use st_memory::Memory;
 use st_pieces::Piece;
 

@@ -1,7 +1,7 @@
 use Rattle.std.proofs.Common.{◌≡◌, ℕ, List, Some, sym, subst, ◌∙◌, map}
 use Rattle.std.specs.Prelude.{Option}
 use Rattle.std.specs.String.{string_bytes}
-use Rattle.st_host.specs.Files.{bytes_of}
+use Rattle.st_outside.specs.Files.{bytes_of}
 use Rattle.st_once.specs.Words.{once_of, word}
 use Rattle.st_once.specs.Ends.{OnceEnds}
 use Rattle.st80.proofs.tool.tool.Goals as goal

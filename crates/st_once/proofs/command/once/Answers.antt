@@ -1,4 +1,4 @@
-use Rattle.st_host.proofs.Joining.{reads_first}
+use Rattle.st_outside.proofs.Joining.{reads_first}
 use Rattle.st_once.proofs.command.once.Goals as goal
 
 pub returns-in-Ok-run_and_report-clause-reads : goal.returns-in-Ok-run_and_report-clause-reads

@@ -1,5 +1,5 @@
 use Rattle.std.proofs.Common.{◌≤◌, take}
-use Rattle.st_host.specs.Runs.{SaysAll}
+use Rattle.st_outside.specs.Runs.{SaysAll}
 use Rattle.st_model.specs.Text.{numbers_text}
 use Rattle.st_report.specs.Saying.{Says}
 use Rattle.st_report.proofs.numbers.say_numbers.Given as goal

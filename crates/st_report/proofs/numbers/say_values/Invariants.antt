@@ -1,5 +1,5 @@
 use Rattle.std.proofs.Common.{◌≤◌, map, take}
-use Rattle.st_host.specs.Runs.{SaysAll}
+use Rattle.st_outside.specs.Runs.{SaysAll}
 use Rattle.st_model.specs.Values.{value}
 use Rattle.st_model.specs.Text.{values_text}
 use Rattle.st_report.specs.Saying.{Says}

@@ -3,7 +3,7 @@ use Rattle.std.specs.Prelude.{codes, ℕ, List}
 use Rattle.st_model.specs.Values.{value}
 use Rattle.st_model.specs.Text.{values_text, numbers_text, colon_text}
 use Rattle.st_model.specs.View.{object_of}
-use Rattle.st_host.specs.Runs.{SaysAll}
+use Rattle.st_outside.specs.Runs.{SaysAll}
 use Rattle.st_report.specs.Saying.{Says}
 use Rattle.st_report.proofs.Joined.{text_begun, text_then}
 use Rattle.st_report.proofs.objects.say_body.Goals as goal

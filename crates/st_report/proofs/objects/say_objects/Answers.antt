@@ -4,7 +4,7 @@ use Rattle.st_model.specs.Values.{value, value_of}
 use Rattle.st_model.specs.Table.{Table}
 use Rattle.st_model.specs.View.{is_live, object_of}
 use Rattle.st_model.specs.Text.{object_text, objects_text}
-use Rattle.st_host.specs.Runs.{SaysAll}
+use Rattle.st_outside.specs.Runs.{SaysAll}
 use Rattle.st_report.specs.Saying.{Says}
 use Rattle.st_report.proofs.Joined.{text_within, text_then, text_all}
 use Rattle.st_bodies.proofs.Bodies.{even_pointer}

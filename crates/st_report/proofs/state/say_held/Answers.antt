@@ -5,7 +5,7 @@ use Rattle.st_model.specs.Objects.{nil}
 use Rattle.st_model.specs.Machine.{Devices}
 use Rattle.st_model.specs.View.{no_devices}
 use Rattle.st_model.specs.Text.{values_text}
-use Rattle.st_host.specs.Runs.{SaysAll}
+use Rattle.st_outside.specs.Runs.{SaysAll}
 use Rattle.st_report.specs.Saying.{Says}
 use Rattle.st_report.proofs.state.say_held.Goals as goal
 

@@ -2,7 +2,7 @@ use Rattle.std.proofs.Common.{◌≡◌, ◌++◌, refl, subst, arith, w32, to_z
 use Rattle.std.specs.Prelude.{codes, ℤ}
 use Rattle.std.specs.Fmt.{decimal, signed_decimal}
 use Rattle.std.proofs.lemmas.Int.{to_z-of_z}
-use Rattle.st_host.specs.Runs.{SaysAll}
+use Rattle.st_outside.specs.Runs.{SaysAll}
 use Rattle.st_report.specs.Saying.{Says}
 use Rattle.st_report.proofs.Joined.{text_begun, text_then, text_all, on_ok_then}
 use Rattle.st_report.proofs.state.say_pointers.Goals as goal

@@ -3,7 +3,7 @@ use Rattle.std.specs.Prelude.{codes, ℤ, pos, ◌+ℤ◌}
 use Rattle.std.proofs.lemmas.Int.{to_z-of_z}
 use Rattle.st_model.specs.Values.{value}
 use Rattle.st_model.specs.Text.{values_text, pointers_text}
-use Rattle.st_host.specs.Runs.{SaysAll}
+use Rattle.st_outside.specs.Runs.{SaysAll}
 use Rattle.st_report.specs.Saying.{Says}
 use Rattle.st_report.proofs.Joined.{text_begun, text_then, text_all, on_ok_then}
 use Rattle.st_report.proofs.state.say_registers.Goals as goal

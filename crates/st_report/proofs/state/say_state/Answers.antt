@@ -3,7 +3,7 @@ use Rattle.st_model.specs.Objects.{nil}
 use Rattle.st_model.specs.Machine.{empty_world}
 use Rattle.st_model.specs.Text.{registers_text, input_text, held_text, used_text, objects_text, state_text}
 use Rattle.st_frames.specs.Shown.{registers_of}
-use Rattle.st_host.specs.Runs.{SaysAll}
+use Rattle.st_outside.specs.Runs.{SaysAll}
 use Rattle.st_report.proofs.Joined.{text_begun, text_then, text_all, on_ok_then}
 use Rattle.st_report.proofs.state.say_state.Goals as goal
 

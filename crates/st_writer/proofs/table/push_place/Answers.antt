@@ -1,5 +1,5 @@
 use Rattle.std.proofs.Common.{sym, ap, ◌∙◌, subst, ℕ, List, Ok}
-use Rattle.st_host.specs.declared.host.HostFault.{HostFault}
+use Rattle.st_outside.specs.declared.host.HostFault.{HostFault}
 use Rattle.st_model.specs.Values.{value}
 use Rattle.st_pieces.specs.Pieces.{Pushes}
 use Rattle.st_pieces.proofs.Pushing.{push_none}

@@ -1,5 +1,5 @@
 use Rattle.std.proofs.Common.{◌≡◌, ◌++◌, ℕ, Ok, Err, subst, refl, arith}
-use Rattle.st_host.specs.declared.host.HostFault.{HostFault}
+use Rattle.st_outside.specs.declared.host.HostFault.{HostFault}
 use Rattle.st_model.specs.Objects.{words_of}
 use Rattle.st_model.specs.Table.{total_used}
 use Rattle.st_pieces.specs.Pieces.{Pushes}

@@ -1,5 +1,5 @@
 use Rattle.std.proofs.Common.{◌≡◌, [], refl, sym, ap, subst, arith}
-use Rattle.st_host.proofs.Touching.{above_join}
+use Rattle.st_outside.proofs.Touching.{above_join}
 use Rattle.st_pieces.specs.Pieces.{Held, end_of, Holds}
 use Rattle.st_writer.specs.Written.{image_of}
 use Rattle.st_writer.proofs.Rows.{image_small}

@@ -1,5 +1,5 @@
 use Rattle.std.proofs.Common.{◌≡◌, ℕ, List, [], take, sym, ap, subst, ◌∙◌, arith}
-use Rattle.st_host.proofs.Touching.{cut_above, sync_above, above_join}
+use Rattle.st_outside.proofs.Touching.{cut_above, sync_above, above_join}
 use Rattle.st_pieces.specs.Pieces.{Held, Holds}
 use Rattle.st_pieces.proofs.Texts.{cut_whole}
 use Rattle.st_pieces.proofs.piece.Piece.finish.Goals as goal

@@ -1,6 +1,6 @@
 use Rattle.std.proofs.Common.{◌≡◌, ℕ, ◌+◌, [], length, take, sym, subst, arith}
 use Rattle.std.proofs.lemmas.List.{length-take-le}
-use Rattle.st_host.proofs.Touching.{write_above}
+use Rattle.st_outside.proofs.Touching.{write_above}
 use Rattle.st_pieces.specs.Pieces.{Held, Holds}
 use Rattle.st_pieces.proofs.Texts.{flushed}
 use Rattle.st_pieces.proofs.piece.Piece.flush.Goals as goal

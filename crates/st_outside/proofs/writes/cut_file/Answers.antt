@@ -1,8 +1,8 @@
 use Rattle.std.proofs.Common.{length}
-use Rattle.st_host.specs.Files.{bytes_of}
-use Rattle.st_host.specs.Stops.{TornByCut}
-use Rattle.st_host.proofs.Touching.{touches_once, torn_same}
-use Rattle.st_host.proofs.writes.cut_file.Goals as goal
+use Rattle.st_outside.specs.Files.{bytes_of}
+use Rattle.st_outside.specs.Stops.{TornByCut}
+use Rattle.st_outside.proofs.Touching.{touches_once, torn_same}
+use Rattle.st_outside.proofs.writes.cut_file.Goals as goal
 
 pub returns-in_err-cut-clause-cuts : goal.returns-in_err-cut-clause-cuts
 returns-in_err-cut-clause-cuts g c =

@@ -1,7 +1,7 @@
 // Runs of calls that only say.
 ghost use Rattle.std.specs.Prelude.{◌≡◌, OnOk};
-ghost use Rattle.st_host.specs.Counts.{HasCause};
-ghost use Rattle.st_host.specs.Runs.{ReadsAlike, ReadsAndSays, SaysAll};
+ghost use Rattle.st_outside.specs.Counts.{HasCause};
+ghost use Rattle.st_outside.specs.Runs.{ReadsAlike, ReadsAndSays, SaysAll};
 
 use crate::{Host, SayFault};
 

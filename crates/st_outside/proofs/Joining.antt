@@ -3,13 +3,13 @@ use Rattle.std.proofs.Common.{◌≡◌, ◌≢◌, ◌≤◌, inl, inr, ⊎_eli
 use Rattle.std.proofs.lemmas.List.{append-nil, take-append-le}
 use Rattle.std.proofs.Math.Seq.{take-append_seam}
 use Rattle.std.specs.Io.{StartsWith}
-use Rattle.st_host.specs.Counts.{Rose}
-use Rattle.st_host.specs.Files.{Files}
-use Rattle.st_host.specs.Stops.{SameStops, Here, SaidPart, WhileSaying, Elapses}
-use Rattle.st_host.specs.Names.{same_or_other}
-use Rattle.st_host.specs.Runs.{LeavesOnly, ReadsAlike, OnlyReads, Narrows, SaysAll, ReadsAndSays}
-use Rattle.st_host.specs.declared.host.Host.{Ghosts}
-use Rattle.st_host.proofs.Rising.{rose_first, rose_second}
+use Rattle.st_outside.specs.Counts.{Rose}
+use Rattle.st_outside.specs.Files.{Files}
+use Rattle.st_outside.specs.Stops.{SameStops, Here, SaidPart, WhileSaying, Elapses}
+use Rattle.st_outside.specs.Names.{same_or_other}
+use Rattle.st_outside.specs.Runs.{LeavesOnly, ReadsAlike, OnlyReads, Narrows, SaysAll, ReadsAndSays}
+use Rattle.st_outside.specs.declared.host.Host.{Ghosts}
+use Rattle.st_outside.proofs.Rising.{rose_first, rose_second}
 
 begins_more : (text more now : List ℕ) → StartsWith text now → StartsWith (text ++ more) now
 begins_more text more now begins =

@@ -1,8 +1,8 @@
 use Rattle.std.proofs.Common.{◌≡◌, refl}
-use Rattle.st_host.specs.Stops.{comes}
-use Rattle.st_host.proofs.Joining.{alike_once}
-use Rattle.st_host.proofs.Touching.{touches_once, syncs_narrow}
-use Rattle.st_host.proofs.writes.sync_file.Goals as goal
+use Rattle.st_outside.specs.Stops.{comes}
+use Rattle.st_outside.proofs.Joining.{alike_once}
+use Rattle.st_outside.proofs.Touching.{touches_once, syncs_narrow}
+use Rattle.st_outside.proofs.writes.sync_file.Goals as goal
 
 pub returns-in_err-sync-clause-syncs : goal.returns-in_err-sync-clause-syncs
 returns-in_err-sync-clause-syncs g c =

@@ -1,8 +1,8 @@
 // The host: files by name, and a place where bytes are said.
 ghost use Rattle.std.specs.Prelude.{◌≡◌, ◌≢◌, ◌≤◌, ◌++◌, ℕ, Bool, IsTrue, List, length, Option, IfOk, OnOk};
-ghost use Rattle.st_host.specs.Counts.{HasCause};
-ghost use Rattle.st_host.specs.Files.{Files, bytes_of, length_of, Reads, IsWritten, IsCut};
-ghost use Rattle.st_host.specs.Stops.{SameStops, Apart, Follows, TornByWrite, TornByCut, Here, SaidPart, WhileSaying, Elapses};
+ghost use Rattle.st_outside.specs.Counts.{HasCause};
+ghost use Rattle.st_outside.specs.Files.{Files, bytes_of, length_of, Reads, IsWritten, IsCut};
+ghost use Rattle.st_outside.specs.Stops.{SameStops, Apart, Follows, TornByWrite, TornByCut, Here, SaidPart, WhileSaying, Elapses};
 
 /// A call on a file failed.
 #[derive(Clone, Copy, Debug, PartialEq, Eq)]

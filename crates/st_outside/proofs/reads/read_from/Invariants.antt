@@ -1,7 +1,7 @@
 use Rattle.std.proofs.Common.{◌≡◌, ◌-◌, ◌≤◌, length, take, drop, IsTrue}
-use Rattle.st_host.specs.Files.{bytes_of}
-use Rattle.st_host.specs.Runs.{ReadsAlike, OnlyReads}
-use Rattle.st_host.proofs.reads.read_from.Given as goal
+use Rattle.st_outside.specs.Files.{bytes_of}
+use Rattle.st_outside.specs.Runs.{ReadsAlike, OnlyReads}
+use Rattle.st_outside.proofs.reads.read_from.Given as goal
 
 abbrev pub invariant-loop-done : goal.invariant-loop-done
 invariant-loop-done g l = record {

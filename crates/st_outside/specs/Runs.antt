@@ -1,9 +1,9 @@
 -- What holds at each moment of a run of calls.
 use Rattle.std.specs.Prelude.{◌≡◌, ◌≢◌, ◌⊎◌, ℕ, ◌≤◌, List, ◌++◌, Option, IsTrue}
-use Rattle.st_host.specs.Counts.{Rose}
-use Rattle.st_host.specs.Files.{Files, KeepsBelow}
-use Rattle.st_host.specs.Stops.{SameStops, Apart, Comes, Follows, TornByWrite, TornByCut, Here, SaidPart, WhileSaying}
-use Rattle.st_host.specs.declared.host.Host.{Ghosts}
+use Rattle.st_outside.specs.Counts.{Rose}
+use Rattle.st_outside.specs.Files.{Files, KeepsBelow}
+use Rattle.st_outside.specs.Stops.{SameStops, Apart, Comes, Follows, TornByWrite, TornByCut, Here, SaidPart, WhileSaying}
+use Rattle.st_outside.specs.declared.host.Host.{Ghosts}
 
 -- A stop at any moment of the run leaves files, with the bytes said by then, that have P.
 pub record LeavesOnly {D : Type 0} (host : Ghosts D) (old new : D) (P : Files → List ℕ → Type 0) : Type 0 where

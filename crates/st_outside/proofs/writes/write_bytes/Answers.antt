@@ -1,8 +1,8 @@
 use Rattle.std.proofs.Common.{◌+◌, max, length}
-use Rattle.st_host.specs.Files.{bytes_of}
-use Rattle.st_host.specs.Stops.{TornByWrite}
-use Rattle.st_host.proofs.Touching.{touches_once, torn_same}
-use Rattle.st_host.proofs.writes.write_bytes.Goals as goal
+use Rattle.st_outside.specs.Files.{bytes_of}
+use Rattle.st_outside.specs.Stops.{TornByWrite}
+use Rattle.st_outside.proofs.Touching.{touches_once, torn_same}
+use Rattle.st_outside.proofs.writes.write_bytes.Goals as goal
 
 pub returns-in_err-write_at-clause-writes : goal.returns-in_err-write_at-clause-writes
 returns-in_err-write_at-clause-writes g c =

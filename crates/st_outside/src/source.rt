@@ -1,6 +1,6 @@
 // The source: bytes that are read in.
 ghost use Rattle.std.specs.Prelude.{◌≡◌, ◌≤◌, ◌⊎◌, ◌++◌, [], ℕ, Bool, IsTrue, List, length, take, IfOk};
-ghost use Rattle.st_host.specs.Counts.{HasCause};
+ghost use Rattle.st_outside.specs.Counts.{HasCause};
 
 /// A call of `take` failed.
 #[derive(Clone, Copy, Debug, PartialEq, Eq)]

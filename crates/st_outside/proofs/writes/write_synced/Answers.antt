@@ -1,6 +1,6 @@
 use Rattle.std.proofs.Common.{rules}
-use Rattle.st_host.proofs.Touching.{sync_write}
-use Rattle.st_host.proofs.writes.write_synced.Goals as goal
+use Rattle.st_outside.proofs.Touching.{sync_write}
+use Rattle.st_outside.proofs.writes.write_synced.Goals as goal
 
 pub returns-in_err-sync_file-clause-writes : goal.returns-in_err-sync_file-clause-writes
 returns-in_err-sync_file-clause-writes g c = search (rules, sync_write)

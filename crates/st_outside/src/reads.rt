@@ -1,8 +1,8 @@
 // Runs of calls that only read. No other crate calls a host's methods on files.
 ghost use Rattle.std.specs.Prelude.{◌≡◌, ◌≤◌, ◌<◌, ◌+◌, ◌^◌, IsTrue, length, IfOk, OnOk};
-ghost use Rattle.st_host.specs.Counts.{HasCause};
-ghost use Rattle.st_host.specs.Files.{bytes_of, length_of, Reads, IsRead};
-ghost use Rattle.st_host.specs.Runs.{OnlyReads, ReadsAlike};
+ghost use Rattle.st_outside.specs.Counts.{HasCause};
+ghost use Rattle.st_outside.specs.Files.{bytes_of, length_of, Reads, IsRead};
+ghost use Rattle.st_outside.specs.Runs.{OnlyReads, ReadsAlike};
 
 use crate::{Host, HostFault};
 

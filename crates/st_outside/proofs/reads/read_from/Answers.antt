@@ -1,9 +1,9 @@
 use Rattle.std.proofs.Common.{◌≡◌, ℕ, ◌+◌, ◌-◌, ◌≤◌, List, ◌++◌, length, take, drop, IsTrue, sym, subst, ap, ◌∙◌, arith, length-take, length-drop, length-append}
 use Rattle.std.proofs.lemmas.List.{take-append-le, drop-drop, length-take-le}
 use Rattle.std.proofs.Math.Seq.{take-add, take-append-add}
-use Rattle.st_host.specs.Files.{bytes_of, Reads}
-use Rattle.st_host.proofs.Joining.{reads_join, alike_join}
-use Rattle.st_host.proofs.reads.read_from.Goals as goal
+use Rattle.st_outside.specs.Files.{bytes_of, Reads}
+use Rattle.st_outside.proofs.Joining.{reads_join, alike_join}
+use Rattle.st_outside.proofs.reads.read_from.Goals as goal
 
 -- what stands in the slice after one read more
 more : (at done k : ℕ) (file into part tail : List ℕ) → done ≤ length into → k ≤ length part

@@ -1,7 +1,7 @@
 -- A count that rose in a part of a run rose in the whole.
 use Rattle.std.proofs.Common.{ℕ, ◌≤◌, Result, inl, inr, ⊎_elim, arith}
 use Rattle.std.proofs.lemmas.Bool.{cases_lt}
-use Rattle.st_host.specs.Counts.{Rose, HasCause}
+use Rattle.st_outside.specs.Counts.{Rose, HasCause}
 
 pub rose_first : (a b c : ℕ) → a ≤ b → b ≤ c → Rose a b → Rose a c
 rose_first a b c low high (inl less) = inl (omega arith)

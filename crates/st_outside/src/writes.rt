@@ -1,8 +1,8 @@
 // Runs of calls that change one file.
 ghost use Rattle.std.specs.Prelude.{◌≡◌, ◌≤◌, ℕ, IsTrue, length, OnOk};
-ghost use Rattle.st_host.specs.Counts.{HasCause};
-ghost use Rattle.st_host.specs.Files.{bytes_of, IsWritten, IsCut};
-ghost use Rattle.st_host.specs.Runs.{ReadsAlike, Narrows, Writes, Cuts, Syncs, IsSynced};
+ghost use Rattle.st_outside.specs.Counts.{HasCause};
+ghost use Rattle.st_outside.specs.Files.{bytes_of, IsWritten, IsCut};
+ghost use Rattle.st_outside.specs.Runs.{ReadsAlike, Narrows, Writes, Cuts, Syncs, IsSynced};
 
 use crate::{Host, HostFault};
 

@@ -1,12 +1,12 @@
 -- Runs of calls that change one file.
 use Rattle.std.proofs.Common.{◌≡◌, inl, inr, ⊎_elim, ℕ, ◌≤◌, List, length, Option, Result, IsTrue, refl, sym, subst, ◌∙◌, arith}
-use Rattle.st_host.specs.Counts.{Rose, HasCause}
-use Rattle.st_host.specs.Files.{Files, bytes_of, KeepsBelow}
-use Rattle.st_host.specs.Stops.{Apart, Comes, comes, Follows, Torn, TornByWrite, TornByCut, Here, Elapses}
-use Rattle.st_host.specs.Names.{same_or_other}
-use Rattle.st_host.specs.Runs.{ReadsAlike, Narrows, Touched, Touches, Writes, Cuts, Syncs, WritesAbove}
-use Rattle.st_host.specs.declared.host.Host.{Ghosts}
-use Rattle.st_host.proofs.Joining.{weaker, moments_join, moments_once}
+use Rattle.st_outside.specs.Counts.{Rose, HasCause}
+use Rattle.st_outside.specs.Files.{Files, bytes_of, KeepsBelow}
+use Rattle.st_outside.specs.Stops.{Apart, Comes, comes, Follows, Torn, TornByWrite, TornByCut, Here, Elapses}
+use Rattle.st_outside.specs.Names.{same_or_other}
+use Rattle.st_outside.specs.Runs.{ReadsAlike, Narrows, Touched, Touches, Writes, Cuts, Syncs, WritesAbove}
+use Rattle.st_outside.specs.declared.host.Host.{Ghosts}
+use Rattle.st_outside.proofs.Joining.{weaker, moments_join, moments_once}
 
 pub torn_same : (end at n len : ℕ) (file : Option (List ℕ)) → Torn end at n len file file
 torn_same end at n len file = record { absent = λ is. is; shortest = omega arith; longest = omega arith; same = λ i new was read out. refl }

@@ -1,7 +1,7 @@
 -- What a stop may leave of the files, and how that goes on with time.
 use Rattle.std.specs.Prelude.{◌≡◌, ◌≢◌, ◌⊎◌, ℕ, ◌+◌, ◌<◌, ◌≤◌, min, max, List, ◌++◌, length, slice_index, Option, None}
 use Rattle.std.specs.Io.{StartsWith}
-use Rattle.st_host.specs.Files.{Files, bytes_of}
+use Rattle.st_outside.specs.Files.{Files, bytes_of}
 
 -- Of each file a stop may leave just what it could leave before.
 pub record SameStops (could can : List ℕ → Option (List ℕ) → Type 0) : Type 0 where

@@ -1,0 +1,5 @@
+pub mod Counts
+pub mod Files
+pub mod Names
+pub mod Stops
+pub mod Runs
