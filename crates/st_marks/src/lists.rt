@@ -1,4 +1,5 @@
-ghost use Rattle.std.specs.Prelude.{◌≡◌, ℕ, length, IfOk, slice_index_or};
+ghost use Rattle.std.specs.Prelude.{◌≡◌, ℕ, length, IfOk, slice_index_or, false};
+ghost use Rattle.st_model.specs.Settled.{is_marked};
 ghost use Rattle.st_marks.specs.Words.{nil_word};
 
 use st_model::Oop;
@@ -14,7 +15,8 @@ pub fn nil_words(alloc: Global, len: usize) -> Result<Vec<Oop>, AllocError>
 
 /// Marks that are all false.
 pub fn no_marks(alloc: Global, len: usize) -> Result<Vec<bool>, AllocError>
-    ensures { IfOk result (λ v. length v.items ≡ len) }
+    ensures len { IfOk result (λ v. length v.items ≡ len) }
+    ensures none { IfOk result (λ v. (n : ℕ) → is_marked v.items n ≡ false) }
 {
     vec![in alloc; false; len]
 }

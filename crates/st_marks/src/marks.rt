@@ -1,4 +1,4 @@
-ghost use Rattle.std.specs.Prelude.{◌≡◌, ◌<◌, ◌≤◌, ℕ, length, map, false};
+ghost use Rattle.std.specs.Prelude.{◌≡◌, ◌<◌, ◌≤◌, ℕ, length, map, false, IfOk};
 ghost use Rattle.st_model.specs.declared.oop.Oop.{Oop};
 ghost use Rattle.st_model.specs.Values.{value};
 ghost use Rattle.st_model.specs.Machine.{table_root};
@@ -42,8 +42,10 @@ pub struct Marks {
 }
 
 impl Marks {
-    /// Marks for all names.
-    pub fn new(alloc: Global) -> Result<Marks, AllocError> {
+    /// Marks for all names, none of which is marked.
+    pub fn new(alloc: Global) -> Result<Marks, AllocError>
+        ensures { IfOk result (λ marks. (n : ℕ) → is_marked marks.names.items n ≡ false) }
+    {
         Ok(Marks {
             names: no_marks(alloc, 32768)?,
         })

@@ -1,8 +1,6 @@
 //! The bytecodes: a call for each row of the book's table, and the step that does the next one (chapter 28).
 #![tactic(auto)]
 
-mod moving;
-mod operands;
 mod rows;
 mod sending;
 mod stepping;

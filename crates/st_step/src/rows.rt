@@ -6,11 +6,6 @@ ghost use Rattle.st_model.specs.Bytecodes.{bytecode, step};
 ghost use Rattle.st_model.specs.Calls.{Does};
 ghost use Rattle.st_frames.specs.Rows.{row_state};
 
-use crate::moving::{
-    duplicate_top, extended_push, extended_store, extended_store_and_pop, long_unconditional_jump,
-    pop_stack, push_active_context, push_constant, push_operand, push_receiver,
-    short_unconditional_jump, store_and_pop,
-};
 use crate::sending::{
     double_extended_send, double_extended_super_send, extended_send, extended_super_send,
     long_jump_on_false, long_jump_on_true, return_constant, return_receiver, return_top_to_caller,
@@ -20,6 +15,11 @@ use st_control::{arithmetic_send, special_send};
 use st_frames::{Registers, next_byte};
 use st_memory::Objects;
 use st_model::{Bytecode, Dead, Outcome, decode};
+use st_moves::{
+    duplicate_top, extended_push, extended_store, extended_store_and_pop, long_unconditional_jump,
+    pop_stack, push_active_context, push_constant, push_operand, push_receiver,
+    short_unconditional_jump, store_and_pop,
+};
 
 /// Does the row of a bytecode; none where it comes to a primitive that isn't built.
 #[tactic(auto, using(st_frames::proofs::Doing::rows), unfolding(st_model::specs::Bytecodes::bytecode, st_model::specs::Sends::goes_on))]

@@ -5,11 +5,11 @@ ghost use Rattle.st_model.specs.Bytecodes.{send_literal, send_literal_to_super, 
 ghost use Rattle.st_model.specs.Calls.{Does};
 ghost use Rattle.st_frames.specs.Rows.{row_state};
 
-use crate::operands::{constant_value, fetch_literal_constant};
 use st_control::{jump_on, return_to_caller, return_to_sender, send, send_to_super};
 use st_frames::{Registers, next_byte, pop, receiver};
 use st_memory::Objects;
 use st_model::{Constant, Dead, Outcome, PageObject};
+use st_moves::{constant_value, fetch_literal_constant};
 
 /// Sends literal i with n arguments.
 #[tactic(auto, using(st_frames::proofs::Doing::rows), unfolding(st_model::specs::Bytecodes::send_literal))]
