@@ -2,9 +2,9 @@ ghost use Rattle.std.specs.Prelude.{◌≡◌, ◌<◌, ◌≤◌, ◌+◌};
 ghost use Rattle.st_model.specs.Values.{word};
 ghost use Rattle.st_model.specs.Contexts.{fill_context, new_context, pass_words, activate};
 ghost use Rattle.st_model.specs.Calls.{Does, itself};
-ghost use Rattle.st_frames.specs.Rows.{row_state};
+ghost use Rattle.st_registers.specs.Rows.{row_state};
 
-use st_frames::{
+use st_registers::{
     Registers, active, drop_words, look_at_words, new_object, page, small, stack_pointer,
     store_field, switch, transfer,
 };
@@ -13,7 +13,7 @@ use st_method::Header;
 use st_model::{Dead, PageObject, Word};
 
 /// Fills a new context of the method: the active context as its sender, the first bytecode, the temporary count, and the method.
-#[tactic(auto, using(st_frames::proofs::Doing::rows), unfolding(st_model::specs::Contexts::fill_context))]
+#[tactic(auto, using(st_registers::proofs::Doing::rows), unfolding(st_model::specs::Contexts::fill_context))]
 fn fill_context<O: Objects>(
     m: &mut O,
     r: &Registers,
@@ -34,7 +34,7 @@ fn fill_context<O: Objects>(
 }
 
 /// A new context of the method.
-#[tactic(auto, using(st_frames::proofs::Doing::rows), unfolding(st_model::specs::Contexts::new_context))]
+#[tactic(auto, using(st_registers::proofs::Doing::rows), unfolding(st_model::specs::Contexts::new_context))]
 fn new_context<O: Objects>(
     m: &mut O,
     r: &Registers,
@@ -53,7 +53,7 @@ fn new_context<O: Objects>(
 }
 
 /// Receiver and n arguments go from the stack to fields 5 and on of the context.
-#[tactic(auto, using(st_frames::proofs::Doing::rows), unfolding(st_model::specs::Contexts::pass_words))]
+#[tactic(auto, using(st_registers::proofs::Doing::rows), unfolding(st_model::specs::Contexts::pass_words))]
 fn pass_words<O: Objects>(m: &mut O, r: &mut Registers, context: Word, n: u32) -> Result<(), Dead>
     requires few { n < 16384 }
     requires room { 1 ≤ O.room m.old }
@@ -68,7 +68,7 @@ fn pass_words<O: Objects>(m: &mut O, r: &mut Registers, context: Word, n: u32) -
 }
 
 /// A new context of the method becomes the active one. Dead where it has no places for the arguments or the temporary variables.
-#[tactic(auto, using(st_frames::proofs::Doing::checks), unfolding(st_model::specs::Contexts::activate))]
+#[tactic(auto, using(st_registers::proofs::Doing::checks), unfolding(st_model::specs::Contexts::activate))]
 pub fn activate<O: Objects>(
     m: &mut O,
     r: &mut Registers,

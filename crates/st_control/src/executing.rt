@@ -4,16 +4,16 @@ ghost use Rattle.st_model.specs.Outcomes.{end_of};
 ghost use Rattle.st_model.specs.Sends.{answer_field, respond, respond_by_extension, execute_by, execute};
 ghost use Rattle.st_model.specs.Methods.{primitive_number, method_primitive, method_header};
 ghost use Rattle.st_model.specs.Calls.{Does, itself};
-ghost use Rattle.st_frames.specs.Rows.{row_state};
+ghost use Rattle.st_registers.specs.Rows.{row_state};
 
 use crate::activation::activate;
-use st_frames::{Registers, fetch_field, literal_from_last, method_header, pop, push};
+use st_registers::{Registers, fetch_field, literal_from_last, method_header, pop, push};
 use st_memory::Objects;
 use st_method::Header;
 use st_model::{Dead, Outcome, Word};
 
 /// A field of the word at the top takes its place.
-#[tactic(auto, using(st_frames::proofs::Doing::rows), unfolding(st_model::specs::Sends::answer_field))]
+#[tactic(auto, using(st_registers::proofs::Doing::rows), unfolding(st_model::specs::Sends::answer_field))]
 fn answer_field<O: Objects>(m: &mut O, r: &mut Registers, i: u32) -> Result<(), Dead>
     requires room { 1 ≤ O.room m.old }
     ensures does { Does (answer_field O.names i) itself (row_state (O.table m.old) (O.head m.old) r.old) result (row_state (O.table m.new) (O.head m.new) r.new) }
@@ -38,7 +38,7 @@ fn primitive_number<O: Objects>(m: &O, r: &Registers, extension: Word) -> Result
 }
 
 /// The primitive of a method.
-#[tactic(auto, using(st_frames::proofs::Doing::rows), unfolding(st_model::specs::Methods::method_primitive))]
+#[tactic(auto, using(st_registers::proofs::Doing::rows), unfolding(st_model::specs::Methods::method_primitive))]
 fn method_primitive<O: Objects>(m: &O, r: &Registers, method: Word) -> Result<u32, Dead>
     ensures does { Does (method_primitive O.names (word method)) itself (row_state (O.table m.now) (O.head m.now) r.now) result (row_state (O.table m.now) (O.head m.now) r.now) }
 {
@@ -47,7 +47,7 @@ fn method_primitive<O: Objects>(m: &O, r: &Registers, method: Word) -> Result<u3
 }
 
 /// The method is activated where it has no primitive.
-#[tactic(auto, using(st_frames::proofs::Doing::rows), unfolding(st_model::specs::Sends::respond, st_model::specs::Sends::goes_on))]
+#[tactic(auto, using(st_registers::proofs::Doing::rows), unfolding(st_model::specs::Sends::respond, st_model::specs::Sends::goes_on))]
 fn respond<O: Objects>(
     m: &mut O,
     r: &mut Registers,
@@ -71,7 +71,7 @@ fn respond<O: Objects>(
 }
 
 /// The method is executed by its header extension.
-#[tactic(auto, using(st_frames::proofs::Doing::rows), unfolding(st_model::specs::Sends::respond_by_extension))]
+#[tactic(auto, using(st_registers::proofs::Doing::rows), unfolding(st_model::specs::Sends::respond_by_extension))]
 fn respond_by_extension<O: Objects>(
     m: &mut O,
     r: &mut Registers,
@@ -90,7 +90,7 @@ fn respond_by_extension<O: Objects>(
 }
 
 /// The method is executed by its flag.
-#[tactic(auto, using(st_frames::proofs::Doing::rows), unfolding(st_model::specs::Sends::execute_by, st_model::specs::Sends::goes_on))]
+#[tactic(auto, using(st_registers::proofs::Doing::rows), unfolding(st_model::specs::Sends::execute_by, st_model::specs::Sends::goes_on))]
 fn execute_by<O: Objects>(
     m: &mut O,
     r: &mut Registers,
@@ -120,7 +120,7 @@ fn execute_by<O: Objects>(
 }
 
 /// Executes a method with n arguments, or answers none where it comes to a primitive that isn't built.
-#[tactic(auto, using(st_frames::proofs::Doing::rows), unfolding(st_model::specs::Sends::execute))]
+#[tactic(auto, using(st_registers::proofs::Doing::rows), unfolding(st_model::specs::Sends::execute))]
 pub fn execute<O: Objects>(
     m: &mut O,
     r: &mut Registers,

@@ -3,15 +3,15 @@ ghost use Rattle.st_model.specs.Values.{word};
 ghost use Rattle.st_model.specs.Outcomes.{end_of};
 ghost use Rattle.st_model.specs.Returns.{must_be_boolean, jump_if, jump_on};
 ghost use Rattle.st_model.specs.Calls.{Does, itself};
-ghost use Rattle.st_frames.specs.Rows.{row_state};
+ghost use Rattle.st_registers.specs.Rows.{row_state};
 
 use crate::sends::send;
-use st_frames::{Registers, jump, page, pop, push};
+use st_registers::{Registers, jump, page, pop, push};
 use st_memory::Objects;
 use st_model::{Dead, Outcome, PageObject, Word};
 
 /// Puts the word back, and sends mustBeBoolean to it.
-#[tactic(auto, using(st_frames::proofs::Doing::rows), unfolding(st_model::specs::Returns::must_be_boolean))]
+#[tactic(auto, using(st_registers::proofs::Doing::rows), unfolding(st_model::specs::Returns::must_be_boolean))]
 fn must_be_boolean<O: Objects>(
     m: &mut O,
     r: &mut Registers,
@@ -28,7 +28,7 @@ fn must_be_boolean<O: Objects>(
 }
 
 /// Jumps forward where the word is the wanted boolean.
-#[tactic(auto, using(st_frames::proofs::Doing::rows), unfolding(st_model::specs::Returns::jump_if, st_model::specs::Sends::goes_on))]
+#[tactic(auto, using(st_registers::proofs::Doing::rows), unfolding(st_model::specs::Returns::jump_if, st_model::specs::Sends::goes_on))]
 fn jump_if<O: Objects>(
     m: &mut O,
     r: &mut Registers,
@@ -54,7 +54,7 @@ fn jump_if<O: Objects>(
 }
 
 /// Pops, and jumps forward where the word is the wanted boolean.
-#[tactic(auto, using(st_frames::proofs::Doing::rows), unfolding(st_model::specs::Returns::jump_on))]
+#[tactic(auto, using(st_registers::proofs::Doing::rows), unfolding(st_model::specs::Returns::jump_on))]
 pub fn jump_on<O: Objects>(
     m: &mut O,
     r: &mut Registers,

@@ -2,16 +2,16 @@ ghost use Rattle.std.specs.Prelude.{◌≡◌, ◌<◌, ◌≤◌, ◌+◌};
 ghost use Rattle.st_model.specs.Values.{word};
 ghost use Rattle.st_model.specs.Sends.{copy_arguments, argument_array, new_message, replace_by_message};
 ghost use Rattle.st_model.specs.Calls.{Does, itself};
-ghost use Rattle.st_frames.specs.Rows.{row_state};
+ghost use Rattle.st_registers.specs.Rows.{row_state};
 
-use st_frames::{
+use st_registers::{
     Registers, active, drop_words, new_object, page, push, stack_pointer, store_field, transfer,
 };
 use st_memory::Objects;
 use st_model::{Dead, PageObject, Word};
 
 /// The n words at the top of the stack go into an Array, the lowest first.
-#[tactic(auto, using(st_frames::proofs::Doing::rows), unfolding(st_model::specs::Sends::copy_arguments))]
+#[tactic(auto, using(st_registers::proofs::Doing::rows), unfolding(st_model::specs::Sends::copy_arguments))]
 fn copy_arguments<O: Objects>(m: &mut O, r: &Registers, array: Word, n: u32) -> Result<(), Dead>
     requires few { n < 16384 }
     requires room { 1 ≤ O.room m.old }
@@ -25,7 +25,7 @@ fn copy_arguments<O: Objects>(m: &mut O, r: &Registers, array: Word, n: u32) -> 
 }
 
 /// A new Array of the n words at the top of the stack.
-#[tactic(auto, using(st_frames::proofs::Doing::rows), unfolding(st_model::specs::Sends::argument_array))]
+#[tactic(auto, using(st_registers::proofs::Doing::rows), unfolding(st_model::specs::Sends::argument_array))]
 fn argument_array<O: Objects>(m: &mut O, r: &Registers, n: u32) -> Result<Word, Dead>
     requires few { n < 16384 }
     requires room { 2 ≤ O.room m.old }
@@ -40,7 +40,7 @@ fn argument_array<O: Objects>(m: &mut O, r: &Registers, n: u32) -> Result<Word, 
 }
 
 /// A new Message of a selector and an Array of arguments.
-#[tactic(auto, using(st_frames::proofs::Doing::rows), unfolding(st_model::specs::Sends::new_message))]
+#[tactic(auto, using(st_registers::proofs::Doing::rows), unfolding(st_model::specs::Sends::new_message))]
 fn new_message<O: Objects>(
     m: &mut O,
     r: &Registers,
@@ -60,7 +60,7 @@ fn new_message<O: Objects>(
 }
 
 /// A Message takes the place of the n arguments.
-#[tactic(auto, using(st_frames::proofs::Doing::rows), unfolding(st_model::specs::Sends::replace_by_message))]
+#[tactic(auto, using(st_registers::proofs::Doing::rows), unfolding(st_model::specs::Sends::replace_by_message))]
 pub fn replace_by_message<O: Objects>(
     m: &mut O,
     r: &mut Registers,

@@ -3,17 +3,17 @@ ghost use Rattle.st_model.specs.Values.{word};
 ghost use Rattle.st_model.specs.Outcomes.{end_of};
 ghost use Rattle.st_model.specs.Returns.{cannot_return, return_into, return_unless, return_to_context, return_unless_nil, return_to, return_to_sender, return_to_caller};
 ghost use Rattle.st_model.specs.Calls.{Does, itself};
-ghost use Rattle.st_frames.specs.Rows.{row_state};
+ghost use Rattle.st_registers.specs.Rows.{row_state};
 
 use crate::sends::send;
-use st_frames::{
+use st_registers::{
     Registers, active, fetch_context_registers, fetch_field, home, page, push, store_field,
 };
 use st_memory::Objects;
 use st_model::{Dead, Outcome, PageObject, Word};
 
 /// Sends cannotReturn: to the active context.
-#[tactic(auto, using(st_frames::proofs::Doing::rows), unfolding(st_model::specs::Returns::cannot_return))]
+#[tactic(auto, using(st_registers::proofs::Doing::rows), unfolding(st_model::specs::Returns::cannot_return))]
 fn cannot_return<O: Objects>(
     m: &mut O,
     r: &mut Registers,
@@ -32,7 +32,7 @@ fn cannot_return<O: Objects>(
 }
 
 /// Leaves the active context for good, and pushes the answer in another.
-#[tactic(auto, using(st_frames::proofs::Doing::rows), unfolding(st_model::specs::Returns::return_into))]
+#[tactic(auto, using(st_registers::proofs::Doing::rows), unfolding(st_model::specs::Returns::return_into))]
 fn return_into<O: Objects>(
     m: &mut O,
     r: &mut Registers,
@@ -53,7 +53,7 @@ fn return_into<O: Objects>(
 }
 
 /// Returns the answer to a context, unless that was left for good.
-#[tactic(auto, using(st_frames::proofs::Doing::rows), unfolding(st_model::specs::Returns::return_unless, st_model::specs::Sends::goes_on))]
+#[tactic(auto, using(st_registers::proofs::Doing::rows), unfolding(st_model::specs::Returns::return_unless, st_model::specs::Sends::goes_on))]
 fn return_unless<O: Objects>(
     m: &mut O,
     r: &mut Registers,
@@ -75,7 +75,7 @@ fn return_unless<O: Objects>(
 }
 
 /// Returns the answer to a context, which isn't nil.
-#[tactic(auto, using(st_frames::proofs::Doing::rows), unfolding(st_model::specs::Returns::return_to_context))]
+#[tactic(auto, using(st_registers::proofs::Doing::rows), unfolding(st_model::specs::Returns::return_to_context))]
 fn return_to_context<O: Objects>(
     m: &mut O,
     r: &mut Registers,
@@ -93,7 +93,7 @@ fn return_to_context<O: Objects>(
 }
 
 /// Returns the answer to a context, unless that is nil.
-#[tactic(auto, using(st_frames::proofs::Doing::rows), unfolding(st_model::specs::Returns::return_unless_nil))]
+#[tactic(auto, using(st_registers::proofs::Doing::rows), unfolding(st_model::specs::Returns::return_unless_nil))]
 fn return_unless_nil<O: Objects>(
     m: &mut O,
     r: &mut Registers,
@@ -115,7 +115,7 @@ fn return_unless_nil<O: Objects>(
 }
 
 /// Returns the answer to a context.
-#[tactic(auto, using(st_frames::proofs::Doing::rows), unfolding(st_model::specs::Returns::return_to))]
+#[tactic(auto, using(st_registers::proofs::Doing::rows), unfolding(st_model::specs::Returns::return_to))]
 fn return_to<O: Objects>(
     m: &mut O,
     r: &mut Registers,
@@ -132,7 +132,7 @@ fn return_to<O: Objects>(
 }
 
 /// Returns the answer to the sender.
-#[tactic(auto, using(st_frames::proofs::Doing::rows), unfolding(st_model::specs::Returns::return_to_sender))]
+#[tactic(auto, using(st_registers::proofs::Doing::rows), unfolding(st_model::specs::Returns::return_to_sender))]
 pub fn return_to_sender<O: Objects>(
     m: &mut O,
     r: &mut Registers,
@@ -149,7 +149,7 @@ pub fn return_to_sender<O: Objects>(
 }
 
 /// Returns the answer to the caller.
-#[tactic(auto, using(st_frames::proofs::Doing::rows), unfolding(st_model::specs::Returns::return_to_caller))]
+#[tactic(auto, using(st_registers::proofs::Doing::rows), unfolding(st_model::specs::Returns::return_to_caller))]
 pub fn return_to_caller<O: Objects>(
     m: &mut O,
     r: &mut Registers,

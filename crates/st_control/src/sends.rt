@@ -5,18 +5,18 @@ ghost use Rattle.st_model.specs.Lookup.{find};
 ghost use Rattle.st_model.specs.Sends.{execute_not_understood, not_understood, execute_found, send_from, send, class_above, send_to_super, special_send, arithmetic_by, arithmetic_send};
 ghost use Rattle.st_model.specs.Calls.{Does, itself};
 ghost use Rattle.st_lookup.specs.Places.{found_word};
-ghost use Rattle.st_frames.specs.Rows.{row_state};
+ghost use Rattle.st_registers.specs.Rows.{row_state};
 
 use crate::executing::execute;
 use crate::messages::replace_by_message;
-use st_frames::{
+use st_registers::{
     Registers, class_of, fetch_field, fetch_integer, literal_from_last, method, page, under,
 };
 use st_memory::Objects;
 use st_model::{Dead, Outcome, PageObject, Word};
 
 /// The method for the selector in the class or above it.
-#[tactic(auto, using(st_frames::proofs::Doing::states))]
+#[tactic(auto, using(st_registers::proofs::Doing::states))]
 fn find<O: Objects>(m: &O, r: &Registers, class: Word, selector: Word) -> Result<Option<Word>, Dead>
     ensures does { Does (find O.names (word class) (word selector)) found_word (row_state (O.table m.now) (O.head m.now) r.now) result (row_state (O.table m.now) (O.head m.now) r.now) }
 {
@@ -24,7 +24,7 @@ fn find<O: Objects>(m: &O, r: &Registers, class: Word, selector: Word) -> Result
 }
 
 /// The method for doesNotUnderstand: is executed, if there is one.
-#[tactic(auto, using(st_frames::proofs::Doing::rows), unfolding(st_model::specs::Sends::execute_not_understood))]
+#[tactic(auto, using(st_registers::proofs::Doing::rows), unfolding(st_model::specs::Sends::execute_not_understood))]
 fn execute_not_understood<O: Objects>(
     m: &mut O,
     r: &mut Registers,
@@ -48,7 +48,7 @@ fn execute_not_understood<O: Objects>(
 }
 
 /// The selector isn't understood.
-#[tactic(auto, using(st_frames::proofs::Doing::rows), unfolding(st_model::specs::Sends::not_understood))]
+#[tactic(auto, using(st_registers::proofs::Doing::rows), unfolding(st_model::specs::Sends::not_understood))]
 fn not_understood<O: Objects>(
     m: &mut O,
     r: &mut Registers,
@@ -68,7 +68,7 @@ fn not_understood<O: Objects>(
 }
 
 /// The method is executed, if there is one.
-#[tactic(auto, using(st_frames::proofs::Doing::rows), unfolding(st_model::specs::Sends::execute_found))]
+#[tactic(auto, using(st_registers::proofs::Doing::rows), unfolding(st_model::specs::Sends::execute_found))]
 fn execute_found<O: Objects>(
     m: &mut O,
     r: &mut Registers,
@@ -90,7 +90,7 @@ fn execute_found<O: Objects>(
 }
 
 /// Sends the selector, where the search begins in this class.
-#[tactic(auto, using(st_frames::proofs::Doing::rows), unfolding(st_model::specs::Sends::send_from))]
+#[tactic(auto, using(st_registers::proofs::Doing::rows), unfolding(st_model::specs::Sends::send_from))]
 fn send_from<O: Objects>(
     m: &mut O,
     r: &mut Registers,
@@ -109,7 +109,7 @@ fn send_from<O: Objects>(
 }
 
 /// Sends the selector with n arguments to the word n words below the top.
-#[tactic(auto, using(st_frames::proofs::Doing::rows), unfolding(st_model::specs::Sends::send))]
+#[tactic(auto, using(st_registers::proofs::Doing::rows), unfolding(st_model::specs::Sends::send))]
 pub fn send<O: Objects>(
     m: &mut O,
     r: &mut Registers,
@@ -128,7 +128,7 @@ pub fn send<O: Objects>(
 }
 
 /// The superclass of the class of the method that runs.
-#[tactic(auto, using(st_frames::proofs::Doing::rows), unfolding(st_model::specs::Sends::class_above))]
+#[tactic(auto, using(st_registers::proofs::Doing::rows), unfolding(st_model::specs::Sends::class_above))]
 fn class_above<O: Objects>(m: &O, r: &Registers) -> Result<Word, Dead>
     ensures does { Does (class_above O.names) word (row_state (O.table m.now) (O.head m.now) r.now) result (row_state (O.table m.now) (O.head m.now) r.now) }
 {
@@ -139,7 +139,7 @@ fn class_above<O: Objects>(m: &O, r: &Registers) -> Result<Word, Dead>
 }
 
 /// Sends the selector with n arguments to super.
-#[tactic(auto, using(st_frames::proofs::Doing::rows), unfolding(st_model::specs::Sends::send_to_super))]
+#[tactic(auto, using(st_registers::proofs::Doing::rows), unfolding(st_model::specs::Sends::send_to_super))]
 pub fn send_to_super<O: Objects>(
     m: &mut O,
     r: &mut Registers,
@@ -158,7 +158,7 @@ pub fn send_to_super<O: Objects>(
 }
 
 /// Sends the special selector of this number.
-#[tactic(auto, using(st_frames::proofs::Doing::rows), unfolding(st_model::specs::Sends::special_send, st_model::specs::Sends::argument_count))]
+#[tactic(auto, using(st_registers::proofs::Doing::rows), unfolding(st_model::specs::Sends::special_send, st_model::specs::Sends::argument_count))]
 pub fn special_send<O: Objects>(
     m: &mut O,
     r: &mut Registers,
@@ -201,7 +201,7 @@ fn arithmetic_by<O: Objects>(
 }
 
 /// Sends the special selector of this number, for which arithmetic is tried first.
-#[tactic(auto, using(st_frames::proofs::Doing::rows), unfolding(st_model::specs::Sends::arithmetic_send))]
+#[tactic(auto, using(st_registers::proofs::Doing::rows), unfolding(st_model::specs::Sends::arithmetic_send))]
 pub fn arithmetic_send<O: Objects>(
     m: &mut O,
     r: &mut Registers,

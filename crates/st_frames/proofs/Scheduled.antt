@@ -17,8 +17,8 @@ use Rattle.st_model.proofs.Runs.{run-then, after-went, after-died, run-set_regis
 use Rattle.st_model.proofs.Tabular.{of_page-as, fetch_field-as, count_fields-as}
 use Rattle.st_memory.specs.Tabular.{bounded_tabular}
 use Rattle.st_frames.specs.declared.frame.Frame.{Frame}
-use Rattle.st_frames.specs.declared.fetched.Fetched.{Fetched}
-use Rattle.st_frames.specs.Rows.{fetched_in}
+use Rattle.st_registers.specs.declared.fetched.Fetched.{Fetched}
+use Rattle.st_registers.specs.Rows.{fetched_in}
 use Rattle.st_frames.specs.Shown.{registers_of, with_registers, FetchesFrame}
 
 -- A bounded table gives the registers that a table gives: nothing is made.
@@ -67,22 +67,13 @@ context-same = λ i. do
   process ← fetch_field-as bounded_tabular scheduler 1 i
   fetch_field-as bounded_tabular process 1 i
 
-scheduled-same : fetch_scheduled_registers bounded_table ≡ fetch_scheduled_registers table
-unfolding fetch_scheduled_registers
-scheduled-same = λ i. context-same i >>= (λ c. fetch-same c i)
-
 module _ (v w : View) where
-  of_table : (x : Result Frame Dead) → FetchesFrame (fetch_scheduled_registers bounded_table) v x w → FetchesFrame (fetch_scheduled_registers table) v x w
-  of_table x h = subst (λ step. FetchesFrame step v x w) scheduled-same h
+  of_table : (c : Value) (x : Result Frame Dead) → FetchesFrame (fetch_context_registers bounded_table c) v x w → FetchesFrame (fetch_context_registers table c) v x w
+  of_table c x h = subst (λ step. FetchesFrame step v x w) (fetch-same c) h
 
-  no_context : (cause : Dead) → Reads (scheduled_context bounded_table) word v.objects (Err cause) → FetchesFrame (fetch_scheduled_registers bounded_table) v (Err cause) w
-  unfolding fetch_scheduled_registers
-  no_context cause h = λ r. simp (run-then, h (with_registers v r) refl, after-died) refl
-
-  no_registers : (c : Word) (cause : Dead) → Reads (scheduled_context bounded_table) word v.objects (Ok c) → Reads (context_registers bounded_table (word c)) fetched_in v.objects (Err cause)
-      → FetchesFrame (fetch_scheduled_registers bounded_table) v (Err cause) w
-  unfolding fetch_scheduled_registers fetch_context_registers
-  no_registers c cause h k = λ r. simp (run-then, h (with_registers v r) refl, after-went, k (with_registers v r) refl, after-died) refl
+  no_registers : (c : Value) (cause : Dead) → Reads (context_registers bounded_table c) fetched_in v.objects (Err cause) → FetchesFrame (fetch_context_registers bounded_table c) v (Err cause) w
+  unfolding fetch_context_registers
+  no_registers c cause k = λ r. simp (run-then, k (with_registers v r) refl, after-died) refl
 
   unset : (q : Registers) (s : State Table) (b : Bool) → b ≡ false → registers_set q s b ≡ Died dead.Kind
   unfolding registers_set
@@ -93,31 +84,41 @@ module _ (v w : View) where
   unfolding set_registers
   unset_at q s e = unset q s (are_there bounded_table s.memory q) e
 
-  not_there : (c : Word) (q : Fetched) → Reads (scheduled_context bounded_table) word v.objects (Ok c) → Reads (context_registers bounded_table (word c)) fetched_in v.objects (Ok q)
-      → are_there bounded_table v.objects (fetched_in q) ≡ false → FetchesFrame (fetch_scheduled_registers bounded_table) v (Err dead.Kind) w
-  unfolding fetch_scheduled_registers fetch_context_registers
-  not_there c q h k e = λ r. simp (run-then, h (with_registers v r) refl, after-went, k (with_registers v r) refl, unset_at (fetched_in q) (with_registers v r) e) refl
+  not_there : (c : Value) (q : Fetched) → Reads (context_registers bounded_table c) fetched_in v.objects (Ok q)
+      → are_there bounded_table v.objects (fetched_in q) ≡ false → FetchesFrame (fetch_context_registers bounded_table c) v (Err dead.Kind) w
+  unfolding fetch_context_registers
+  not_there c q k e = λ r. simp (run-then, k (with_registers v r) refl, after-went, unset_at (fetched_in q) (with_registers v r) e) refl
 
-  all_there : (c : Word) (q : Fetched) (f : Frame) → Reads (scheduled_context bounded_table) word v.objects (Ok c) → Reads (context_registers bounded_table (word c)) fetched_in v.objects (Ok q)
+  all_there : (c : Value) (q : Fetched) (f : Frame) → Reads (context_registers bounded_table c) fetched_in v.objects (Ok q)
       → are_there bounded_table v.objects (fetched_in q) ≡ true → registers_of f ≡ fetched_in q → w.objects ≡ v.objects → w.head ≡ v.head
-      → FetchesFrame (fetch_scheduled_registers bounded_table) v (Ok f) w
-  unfolding fetch_scheduled_registers fetch_context_registers
-  all_there c q f h k e same o a = λ r.
-      simp (run-then, h (with_registers v r) refl, after-went, k (with_registers v r) refl, run-set_registers bounded_table (fetched_in q) (with_registers v r) e)
+      → FetchesFrame (fetch_context_registers bounded_table c) v (Ok f) w
+  unfolding fetch_context_registers
+  all_there c q f k e same o a = λ r.
+      simp (run-then, k (with_registers v r) refl, after-went, run-set_registers bounded_table (fetched_in q) (with_registers v r) e)
       (λ i. Went tt (record { memory = sym o i; registers = sym same i; world = empty_world nil; head = sym a i }))
 
-  pub dead-context : (cause : Dead) → Reads (scheduled_context bounded_table) word v.objects (Err cause) → FetchesFrame (fetch_scheduled_registers table) v (Err cause) w
-  dead-context cause h = of_table (Err cause) (no_context cause h)
+  pub dead-registers : (c : Value) (cause : Dead) → Reads (context_registers bounded_table c) fetched_in v.objects (Err cause) → FetchesFrame (fetch_context_registers table c) v (Err cause) w
+  dead-registers c cause k = of_table c (Err cause) (no_registers c cause k)
 
-  pub dead-registers : (c : Word) (cause : Dead) → Reads (scheduled_context bounded_table) word v.objects (Ok c) → Reads (context_registers bounded_table (word c)) fetched_in v.objects (Err cause)
-      → FetchesFrame (fetch_scheduled_registers table) v (Err cause) w
-  dead-registers c cause h k = of_table (Err cause) (no_registers c cause h k)
+  pub dead-there : (c : Value) (q : Fetched) → Reads (context_registers bounded_table c) fetched_in v.objects (Ok q)
+      → are_there bounded_table v.objects (fetched_in q) ≡ false → FetchesFrame (fetch_context_registers table c) v (Err dead.Kind) w
+  dead-there c q k e = of_table c (Err dead.Kind) (not_there c q k e)
 
-  pub dead-there : (c : Word) (q : Fetched) → Reads (scheduled_context bounded_table) word v.objects (Ok c) → Reads (context_registers bounded_table (word c)) fetched_in v.objects (Ok q)
-      → are_there bounded_table v.objects (fetched_in q) ≡ false → FetchesFrame (fetch_scheduled_registers table) v (Err dead.Kind) w
-  dead-there c q h k e = of_table (Err dead.Kind) (not_there c q h k e)
-
-  pub fetched-frame : (c : Word) (q : Fetched) (f : Frame) → Reads (scheduled_context bounded_table) word v.objects (Ok c) → Reads (context_registers bounded_table (word c)) fetched_in v.objects (Ok q)
+  pub fetched-frame : (c : Value) (q : Fetched) (f : Frame) → Reads (context_registers bounded_table c) fetched_in v.objects (Ok q)
       → are_there bounded_table v.objects (fetched_in q) ≡ true → registers_of f ≡ fetched_in q → w.objects ≡ v.objects → w.head ≡ v.head
-      → FetchesFrame (fetch_scheduled_registers table) v (Ok f) w
-  fetched-frame c q f h k e same o a = of_table (Ok f) (all_there c q f h k e same o a)
+      → FetchesFrame (fetch_context_registers table c) v (Ok f) w
+  fetched-frame c q f k e same o a = of_table c (Ok f) (all_there c q f k e same o a)
+
+  -- the scheduled context, over the table
+  context_read : (x : Result Word Dead) → Reads (scheduled_context bounded_table) word v.objects x → Reads (scheduled_context table) word v.objects x
+  context_read x h = subst (λ step. Reads step word v.objects x) context-same h
+
+  pub dead-context : (cause : Dead) → Reads (scheduled_context bounded_table) word v.objects (Err cause) → FetchesFrame (fetch_scheduled_registers table) v (Err cause) w
+  unfolding fetch_scheduled_registers
+  dead-context cause h = λ r. simp (run-then, context_read (Err cause) h (with_registers v r) refl, after-died) refl
+
+  pub scheduled-fetched : (c : Word) (x : Result Frame Dead) → Reads (scheduled_context bounded_table) word v.objects (Ok c)
+      → FetchesFrame (fetch_context_registers table (word c)) v x w → FetchesFrame (fetch_scheduled_registers table) v x w
+  unfolding fetch_scheduled_registers
+  scheduled-fetched c (Ok f) h k = λ r. simp (run-then, context_read (Ok c) h (with_registers v r) refl, after-went) (k r)
+  scheduled-fetched c (Err cause) h k = λ r. simp (run-then, context_read (Ok c) h (with_registers v r) refl, after-went) (k r)

@@ -1,26 +1,10 @@
-//! The registers, the contexts that they are fetched from, and the stack (chapter 27).
+//! The registers between bytecodes, and what is done with them over a memory (chapter 27).
 #![tactic(auto)]
 
-mod access;
-mod bytes;
-mod context;
-mod fetched;
+mod fields;
 mod frame;
 mod holding;
-mod objects;
-mod registers;
 mod stack;
-mod words;
 
-pub use access::{active, home, method, receiver, set_stack_pointer, stack_pointer};
-pub use bytes::next_byte;
-pub use context::{fetch_context_registers, fetch_scheduled_registers, switch};
 pub use frame::{Frame, Loaded};
-pub use holding::{fetch_scheduled, hold, load};
-pub use objects::{
-    class_of, count_fields, fetch_field, fetch_integer, literal, literal_from_last, method_header,
-    new_object, page, store_field, transfer,
-};
-pub use registers::Registers;
-pub use stack::{drop_words, jump, look_at_words, pop, push, top, under};
-pub use words::{small, small_integer};
+pub use holding::{fetch, fetch_scheduled, hold, load};

@@ -1,127 +1,100 @@
-ghost use Rattle.std.specs.Prelude.{◌≡◌, ◌<◌, ◌≤◌, ◌+◌, ◌≤ℤ◌, pos, negsuc, OnOk};
-ghost use Rattle.st_model.specs.Values.{word};
-ghost use Rattle.st_model.specs.Steps.{put, push, top, pop, under, look_at_words, drop_words, jump};
+ghost use Rattle.std.specs.Prelude.{◌≡◌, ◌≤◌, IfOk, OnOk};
+ghost use Rattle.st_model.specs.Values.{value};
+ghost use Rattle.st_model.specs.View.{IsKnown};
+ghost use Rattle.st_model.specs.Table.{table};
+ghost use Rattle.st_model.specs.Steps.{put, push, pop, top, under};
+ghost use Rattle.st_model.specs.Contexts.{store_context_registers};
 ghost use Rattle.st_model.specs.Calls.{Does, itself};
-ghost use Rattle.st_frames.specs.Rows.{row_state};
+ghost use Rattle.st_frames.specs.Shown.{IsFrame, StaysFrame, shown};
 
-use crate::access::{active, set_stack_pointer, stack_pointer};
-use crate::objects::{count_fields, fetch_field, store_field};
-use crate::registers::Registers;
-use st_memory::Objects;
-use st_model::{Dead, Word};
+use crate::fields::{count_fields, fetch_field, store_field};
+use crate::frame::Frame;
+use crate::holding::load;
+use st_memory::Memory;
+use st_model::{Dead, Oop};
+use st_registers::store_context_registers;
 
 /// Puts x in a place of a context's stack: within its fields, and at most 16388.
-#[tactic(auto, using(crate::proofs::Doing::checks), unfolding(st_model::specs::Steps::put))]
-fn put<O: Objects>(m: &mut O, r: &Registers, context: Word, at: u32, x: Word) -> Result<(), Dead>
-    requires room { 1 ≤ O.room m.old }
-    ensures does { Does (put O.names (word context) at (word x)) itself (row_state (O.table m.old) (O.head m.old) r.now) result (row_state (O.table m.new) (O.head m.new) r.now) }
-    ensures high { OnOk result (at ≤ 16388) }
-    ensures room { O.room m.old ≤ O.room m.new + 1 }
-    ensures fixed { O.fixed m.new ≡ O.fixed m.old }
+#[tactic(auto, using(st_model::proofs::Runs::runs), unfolding(st_model::specs::Steps::put))]
+fn put<M: Memory>(m: &mut M, f: &Frame, context: Oop, at: u32, x: Oop) -> Result<(), Dead>
+    requires object { IsKnown (M.view m.old).objects (value context) }
+    requires known { IsKnown (M.view m.old).objects (value x) }
+    ensures puts { Does (put table (value context) at (value x)) itself (shown (M.view m.old) f.now) result (shown (M.view m.new) f.now) }
+    ensures held { (M.view m.new).held ≡ (M.view m.old).held }
+    ensures small { OnOk result (at ≤ 16388) }
 {
-    let fields = count_fields(m, r, context)?;
+    let fields = count_fields(m, context)?;
     if fields <= at {
         return Err(Dead::Sp);
     }
     if 16388 < at {
         return Err(Dead::Sp);
     }
-    store_field(m, r, context, at, x)
-}
-
-/// Pushes x on the active context's stack.
-#[tactic(auto, using(crate::proofs::Doing::rows), unfolding(st_model::specs::Steps::push))]
-pub fn push<O: Objects>(m: &mut O, r: &mut Registers, x: Word) -> Result<(), Dead>
-    requires room { 1 ≤ O.room m.old }
-    ensures does { Does (push O.names (word x)) itself (row_state (O.table m.old) (O.head m.old) r.old) result (row_state (O.table m.new) (O.head m.new) r.new) }
-    ensures room { O.room m.old ≤ O.room m.new + 1 }
-    ensures fixed { O.fixed m.new ≡ O.fixed m.old }
-{
-    let context = active(m, r);
-    let sp = stack_pointer(m, r);
-    put(m, r, context, sp + 1, x)?;
-    set_stack_pointer(m, r, sp + 1);
-    Ok(())
+    store_field(m, f, context, at, x)
 }
 
 /// The word at the top of the stack.
-#[tactic(auto, using(crate::proofs::Doing::checks), unfolding(st_model::specs::Steps::top))]
-pub fn top<O: Objects>(m: &O, r: &Registers) -> Result<Word, Dead>
-    ensures does { Does (top O.names) word (row_state (O.table m.now) (O.head m.now) r.now) result (row_state (O.table m.now) (O.head m.now) r.now) }
-    ensures above { OnOk result (6 ≤ r.now.sp) }
+#[tactic(auto, using(crate::proofs::Shown::shows, crate::proofs::Known::registers), unfolding(st_model::specs::Steps::top))]
+fn top<M: Memory>(m: &M, f: &Frame) -> Result<Oop, Dead>
+    requires { IsFrame (M.view m.now) f.now }
+    ensures top { Does (top table) value (shown (M.view m.now) f.now) result (shown (M.view m.now) f.now) }
+    ensures known { IfOk result (λ x. IsKnown (M.view m.now).objects (value x)) }
+    ensures above { OnOk result (6 ≤ f.now.sp) }
 {
-    let sp = stack_pointer(m, r);
-    if sp < 6 {
+    if f.sp < 6 {
         return Err(Dead::Sp);
     }
-    let context = active(m, r);
-    fetch_field(m, r, context, sp)
+    fetch_field(m, f.active, f.sp)
 }
 
-/// The word k words below the top of the stack.
-#[tactic(auto, using(crate::proofs::Doing::checks), unfolding(st_model::specs::Steps::under))]
-pub fn under<O: Objects>(m: &O, r: &Registers, k: u32) -> Result<Word, Dead>
-    requires few { k < 32768 }
-    ensures does { Does (under O.names k) word (row_state (O.table m.now) (O.head m.now) r.now) result (row_state (O.table m.now) (O.head m.now) r.now) }
-{
-    let sp = stack_pointer(m, r);
-    if sp <= 5 + k {
-        return Err(Dead::Sp);
+impl Frame {
+    /// Stores the instruction pointer plus 1 and the stack pointer less 5 in the active context. Dead where that lacks
+    /// the fields.
+    pub fn store<M: Memory>(&self, m: &mut M) -> Result<(), Dead>
+        requires frame { IsFrame (M.view m.old) self.now }
+        ensures stores { Does (store_context_registers table) itself (shown (M.view m.old) self.now) result (shown (M.view m.new) self.now) }
+        ensures frame { OnOk result (StaysFrame (M.view m.old) (M.view m.new) self.now) }
+    {
+        let r = load(m, self);
+        store_context_registers(m, &r)
     }
-    let context = active(m, r);
-    fetch_field(m, r, context, sp - k)
-}
 
-/// Looks at the top word and the n words below it.
-#[tactic(auto, using(crate::proofs::Doing::rows), unfolding(st_model::specs::Steps::look_at_words))]
-pub fn look_at_words<O: Objects>(m: &O, r: &Registers, n: u32) -> Result<(), Dead>
-    requires few { n < 32768 }
-    ensures does { Does (look_at_words O.names n) itself (row_state (O.table m.now) (O.head m.now) r.now) result (row_state (O.table m.now) (O.head m.now) r.now) }
-{
-    under(m, r, n)?;
-    top(m, r)?;
-    Ok(())
-}
-
-/// Pops n words that were looked at.
-#[tactic(auto, using(crate::proofs::Doing::checks), unfolding(st_model::specs::Steps::drop_words))]
-pub fn drop_words<O: Objects>(m: &O, r: &mut Registers, n: u32) -> Result<(), Dead>
-    requires few { n < 32768 }
-    ensures does { Does (drop_words n) itself (row_state (O.table m.now) (O.head m.now) r.old) result (row_state (O.table m.now) (O.head m.now) r.new) }
-{
-    let sp = stack_pointer(m, r);
-    if sp < 5 + n {
-        return Err(Dead::Sp);
+    /// Pushes v on the active context's stack. Dead, with nothing stored, where the context has no place for it.
+    #[tactic(auto, using(crate::proofs::Shown::shows, crate::proofs::Known::registers), unfolding(st_model::specs::Steps::push))]
+    pub fn push<M: Memory>(&mut self, m: &mut M, v: Oop) -> Result<(), Dead>
+        requires frame { IsFrame (M.view m.old) self.old }
+        requires known { IsKnown (M.view m.old).objects (value v) }
+        ensures pushes { Does (push table (value v)) itself (shown (M.view m.old) self.old) result (shown (M.view m.new) self.new) }
+        ensures frame { OnOk result (StaysFrame (M.view m.old) (M.view m.new) self.new) }
+    {
+        put(m, self, self.active, self.sp + 1, v)?;
+        self.sp += 1;
+        Ok(())
     }
-    set_stack_pointer(m, r, sp - n);
-    Ok(())
-}
 
-/// Pops the word at the top of the stack, which stays in its field.
-#[tactic(auto, using(crate::proofs::Doing::rows), unfolding(st_model::specs::Steps::pop))]
-pub fn pop<O: Objects>(m: &O, r: &mut Registers) -> Result<Word, Dead>
-    ensures does { Does (pop O.names) word (row_state (O.table m.now) (O.head m.now) r.old) result (row_state (O.table m.now) (O.head m.now) r.new) }
-{
-    let x = top(m, r)?;
-    let sp = stack_pointer(m, r);
-    set_stack_pointer(m, r, sp - 1);
-    Ok(x)
-}
+    /// Pops the word at the top of the stack, which stays in its field. Dead where the stack is empty.
+    #[tactic(auto, using(crate::proofs::Shown::shows), unfolding(st_model::specs::Steps::pop))]
+    pub fn pop<M: Memory>(&mut self, m: &M) -> Result<Oop, Dead>
+        requires frame { IsFrame (M.view m.now) self.old }
+        ensures pops { Does (pop table) value (shown (M.view m.now) self.old) result (shown (M.view m.now) self.new) }
+        ensures known { IfOk result (λ x. IsKnown (M.view m.now).objects (value x)) }
+        ensures frame { OnOk result (IsFrame (M.view m.now) self.new) }
+    {
+        let x = top(m, self)?;
+        self.sp -= 1;
+        Ok(x)
+    }
 
-/// Moves the instruction pointer by d, to a place from 0 to 16382.
-#[tactic(auto, using(crate::proofs::Doing::jumps), unfolding(st_model::specs::Steps::jump, crate::specs::Rows::row_state))]
-pub fn jump<O: Objects>(m: &O, r: &mut Registers, d: i32) -> Result<(), Dead>
-    requires low { negsuc 1023 ≤ℤ d }
-    requires high { d ≤ℤ pos 1023 }
-    ensures does { Does (jump d) itself (row_state (O.table m.now) (O.head m.now) r.old) result (row_state (O.table m.now) (O.head m.now) r.new) }
-{
-    let ip = r.ip + d;
-    if ip < 0 {
-        return Err(Dead::Ip);
+    /// The word k words below the top of the stack. Dead where that lies below the stack.
+    #[tactic(auto, using(crate::proofs::Shown::shows, crate::proofs::Known::registers), unfolding(st_model::specs::Steps::under))]
+    pub fn under<M: Memory>(&self, m: &M, k: u32) -> Result<Oop, Dead>
+        requires frame { IsFrame (M.view m.now) self.now }
+        ensures under { Does (under table k) value (shown (M.view m.now) self.now) result (shown (M.view m.now) self.now) }
+        ensures known { IfOk result (λ x. IsKnown (M.view m.now).objects (value x)) }
+    {
+        if self.sp - 5 <= k {
+            return Err(Dead::Sp);
+        }
+        fetch_field(m, self.active, self.sp - k)
     }
-    if 16382 < ip {
-        return Err(Dead::Ip);
-    }
-    r.ip = ip;
-    Ok(())
 }

@@ -3,15 +3,15 @@ ghost use Rattle.st_model.specs.Values.{word};
 ghost use Rattle.st_model.specs.Decoded.{IsNumberedOperand};
 ghost use Rattle.st_model.specs.Bytecodes.{push_operand, store_and_pop, push_receiver, push_constant, extended_push, extended_store, extended_store_and_pop, pop_stack, duplicate_top, push_active_context, short_unconditional_jump, long_offset, long_unconditional_jump};
 ghost use Rattle.st_model.specs.Calls.{Does, itself};
-ghost use Rattle.st_frames.specs.Rows.{row_state};
+ghost use Rattle.st_registers.specs.Rows.{row_state};
 
 use crate::operands::{constant_value, fetch_operand, store_operand};
-use st_frames::{Registers, active, jump, next_byte, pop, push, receiver, top};
+use st_registers::{Registers, active, jump, next_byte, pop, push, receiver, top};
 use st_memory::Objects;
 use st_model::{Constant, Dead, Operand, Word, extended_operand};
 
 /// Pushes what the operand names.
-#[tactic(auto, using(st_frames::proofs::Doing::rows), unfolding(st_model::specs::Bytecodes::push_operand))]
+#[tactic(auto, using(st_registers::proofs::Doing::rows), unfolding(st_model::specs::Bytecodes::push_operand))]
 pub fn push_operand<O: Objects>(m: &mut O, r: &mut Registers, operand: Operand) -> Result<(), Dead>
     requires numbered { IsNumberedOperand operand }
     requires room { 1 ≤ O.room m.old }
@@ -24,7 +24,7 @@ pub fn push_operand<O: Objects>(m: &mut O, r: &mut Registers, operand: Operand) 
 }
 
 /// Pops into what the operand names.
-#[tactic(auto, using(st_frames::proofs::Doing::rows), unfolding(st_model::specs::Bytecodes::store_and_pop))]
+#[tactic(auto, using(st_registers::proofs::Doing::rows), unfolding(st_model::specs::Bytecodes::store_and_pop))]
 pub fn store_and_pop<O: Objects>(m: &mut O, r: &mut Registers, operand: Operand) -> Result<(), Dead>
     requires numbered { IsNumberedOperand operand }
     requires room { 1 ≤ O.room m.old }
@@ -37,7 +37,7 @@ pub fn store_and_pop<O: Objects>(m: &mut O, r: &mut Registers, operand: Operand)
 }
 
 /// Pushes the receiver.
-#[tactic(auto, using(st_frames::proofs::Doing::rows), unfolding(st_model::specs::Bytecodes::push_receiver))]
+#[tactic(auto, using(st_registers::proofs::Doing::rows), unfolding(st_model::specs::Bytecodes::push_receiver))]
 pub fn push_receiver<O: Objects>(m: &mut O, r: &mut Registers) -> Result<(), Dead>
     requires room { 1 ≤ O.room m.old }
     ensures does { Does (push_receiver O.names) itself (row_state (O.table m.old) (O.head m.old) r.old) result (row_state (O.table m.new) (O.head m.new) r.new) }
@@ -49,7 +49,7 @@ pub fn push_receiver<O: Objects>(m: &mut O, r: &mut Registers) -> Result<(), Dea
 }
 
 /// Pushes a constant.
-#[tactic(auto, using(st_frames::proofs::Doing::rows), unfolding(st_model::specs::Bytecodes::push_constant))]
+#[tactic(auto, using(st_registers::proofs::Doing::rows), unfolding(st_model::specs::Bytecodes::push_constant))]
 pub fn push_constant<O: Objects>(
     m: &mut O,
     r: &mut Registers,
@@ -65,7 +65,7 @@ pub fn push_constant<O: Objects>(
 }
 
 /// Pushes what the next byte names.
-#[tactic(auto, using(st_frames::proofs::Doing::rows), unfolding(st_model::specs::Bytecodes::extended_push))]
+#[tactic(auto, using(st_registers::proofs::Doing::rows), unfolding(st_model::specs::Bytecodes::extended_push))]
 pub fn extended_push<O: Objects>(m: &mut O, r: &mut Registers) -> Result<(), Dead>
     requires room { 1 ≤ O.room m.old }
     ensures does { Does (extended_push O.names) itself (row_state (O.table m.old) (O.head m.old) r.old) result (row_state (O.table m.new) (O.head m.new) r.new) }
@@ -77,7 +77,7 @@ pub fn extended_push<O: Objects>(m: &mut O, r: &mut Registers) -> Result<(), Dea
 }
 
 /// Stores the top, which stays, in what the next byte names.
-#[tactic(auto, using(st_frames::proofs::Doing::rows), unfolding(st_model::specs::Bytecodes::extended_store))]
+#[tactic(auto, using(st_registers::proofs::Doing::rows), unfolding(st_model::specs::Bytecodes::extended_store))]
 pub fn extended_store<O: Objects>(m: &mut O, r: &mut Registers) -> Result<(), Dead>
     requires room { 1 ≤ O.room m.old }
     ensures does { Does (extended_store O.names) itself (row_state (O.table m.old) (O.head m.old) r.old) result (row_state (O.table m.new) (O.head m.new) r.new) }
@@ -90,7 +90,7 @@ pub fn extended_store<O: Objects>(m: &mut O, r: &mut Registers) -> Result<(), De
 }
 
 /// Pops into what the next byte names.
-#[tactic(auto, using(st_frames::proofs::Doing::rows), unfolding(st_model::specs::Bytecodes::extended_store_and_pop))]
+#[tactic(auto, using(st_registers::proofs::Doing::rows), unfolding(st_model::specs::Bytecodes::extended_store_and_pop))]
 pub fn extended_store_and_pop<O: Objects>(m: &mut O, r: &mut Registers) -> Result<(), Dead>
     requires room { 1 ≤ O.room m.old }
     ensures does { Does (extended_store_and_pop O.names) itself (row_state (O.table m.old) (O.head m.old) r.old) result (row_state (O.table m.new) (O.head m.new) r.new) }
@@ -102,7 +102,7 @@ pub fn extended_store_and_pop<O: Objects>(m: &mut O, r: &mut Registers) -> Resul
 }
 
 /// Pops.
-#[tactic(auto, using(st_frames::proofs::Doing::rows), unfolding(st_model::specs::Bytecodes::pop_stack))]
+#[tactic(auto, using(st_registers::proofs::Doing::rows), unfolding(st_model::specs::Bytecodes::pop_stack))]
 pub fn pop_stack<O: Objects>(m: &O, r: &mut Registers) -> Result<(), Dead>
     ensures does { Does (pop_stack O.names) itself (row_state (O.table m.now) (O.head m.now) r.old) result (row_state (O.table m.now) (O.head m.now) r.new) }
 {
@@ -111,7 +111,7 @@ pub fn pop_stack<O: Objects>(m: &O, r: &mut Registers) -> Result<(), Dead>
 }
 
 /// Pushes the top again.
-#[tactic(auto, using(st_frames::proofs::Doing::rows), unfolding(st_model::specs::Bytecodes::duplicate_top))]
+#[tactic(auto, using(st_registers::proofs::Doing::rows), unfolding(st_model::specs::Bytecodes::duplicate_top))]
 pub fn duplicate_top<O: Objects>(m: &mut O, r: &mut Registers) -> Result<(), Dead>
     requires room { 1 ≤ O.room m.old }
     ensures does { Does (duplicate_top O.names) itself (row_state (O.table m.old) (O.head m.old) r.old) result (row_state (O.table m.new) (O.head m.new) r.new) }
@@ -123,7 +123,7 @@ pub fn duplicate_top<O: Objects>(m: &mut O, r: &mut Registers) -> Result<(), Dea
 }
 
 /// Pushes the active context.
-#[tactic(auto, using(st_frames::proofs::Doing::rows), unfolding(st_model::specs::Bytecodes::push_active_context))]
+#[tactic(auto, using(st_registers::proofs::Doing::rows), unfolding(st_model::specs::Bytecodes::push_active_context))]
 pub fn push_active_context<O: Objects>(m: &mut O, r: &mut Registers) -> Result<(), Dead>
     requires room { 1 ≤ O.room m.old }
     ensures does { Does (push_active_context O.names) itself (row_state (O.table m.old) (O.head m.old) r.old) result (row_state (O.table m.new) (O.head m.new) r.new) }
@@ -135,7 +135,7 @@ pub fn push_active_context<O: Objects>(m: &mut O, r: &mut Registers) -> Result<(
 }
 
 /// Jumps by i plus 1.
-#[tactic(auto, using(st_frames::proofs::Doing::rows), unfolding(st_model::specs::Bytecodes::short_unconditional_jump))]
+#[tactic(auto, using(st_registers::proofs::Doing::rows), unfolding(st_model::specs::Bytecodes::short_unconditional_jump))]
 pub fn short_unconditional_jump<O: Objects>(m: &O, r: &mut Registers, i: u8) -> Result<(), Dead>
     requires number { i < 8 }
     ensures does { Does (short_unconditional_jump i) itself (row_state (O.table m.now) (O.head m.now) r.old) result (row_state (O.table m.now) (O.head m.now) r.new) }
@@ -154,7 +154,7 @@ fn long_offset(i: u8, low: u8) -> i32
 }
 
 /// Jumps as far as i and the next byte say.
-#[tactic(auto, using(st_frames::proofs::Doing::rows), unfolding(st_model::specs::Bytecodes::long_unconditional_jump))]
+#[tactic(auto, using(st_registers::proofs::Doing::rows), unfolding(st_model::specs::Bytecodes::long_unconditional_jump))]
 pub fn long_unconditional_jump<O: Objects>(m: &O, r: &mut Registers, i: u8) -> Result<(), Dead>
     requires number { i < 8 }
     ensures does { Does (long_unconditional_jump O.names i) itself (row_state (O.table m.now) (O.head m.now) r.old) result (row_state (O.table m.now) (O.head m.now) r.new) }

@@ -3,16 +3,16 @@ ghost use Rattle.st_model.specs.Values.{word};
 ghost use Rattle.st_model.specs.Decoded.{IsNumberedOperand};
 ghost use Rattle.st_model.specs.Bytecodes.{fetch_receiver_variable, fetch_temporary_variable, fetch_literal_constant, fetch_literal_variable, fetch_operand, store_receiver_variable, store_temporary_variable, store_literal_variable, store_operand, constant_value};
 ghost use Rattle.st_model.specs.Calls.{Does, itself};
-ghost use Rattle.st_frames.specs.Rows.{row_state};
+ghost use Rattle.st_registers.specs.Rows.{row_state};
 
-use st_frames::{
+use st_registers::{
     Registers, fetch_field, home, literal, method, page, receiver, small, store_field,
 };
 use st_memory::Objects;
 use st_model::{Constant, Dead, Operand, PageObject, Word};
 
 /// Field i of the receiver.
-#[tactic(auto, using(st_frames::proofs::Doing::rows), unfolding(st_model::specs::Bytecodes::fetch_receiver_variable))]
+#[tactic(auto, using(st_registers::proofs::Doing::rows), unfolding(st_model::specs::Bytecodes::fetch_receiver_variable))]
 fn fetch_receiver_variable<O: Objects>(m: &O, r: &Registers, i: u32) -> Result<Word, Dead>
     ensures does { Does (fetch_receiver_variable O.names i) word (row_state (O.table m.now) (O.head m.now) r.now) result (row_state (O.table m.now) (O.head m.now) r.now) }
 {
@@ -21,7 +21,7 @@ fn fetch_receiver_variable<O: Objects>(m: &O, r: &Registers, i: u32) -> Result<W
 }
 
 /// Temporary variable i of the home context.
-#[tactic(auto, using(st_frames::proofs::Doing::rows), unfolding(st_model::specs::Bytecodes::fetch_temporary_variable))]
+#[tactic(auto, using(st_registers::proofs::Doing::rows), unfolding(st_model::specs::Bytecodes::fetch_temporary_variable))]
 fn fetch_temporary_variable<O: Objects>(m: &O, r: &Registers, i: u32) -> Result<Word, Dead>
     requires number { i < 64 }
     ensures does { Does (fetch_temporary_variable O.names i) word (row_state (O.table m.now) (O.head m.now) r.now) result (row_state (O.table m.now) (O.head m.now) r.now) }
@@ -31,7 +31,7 @@ fn fetch_temporary_variable<O: Objects>(m: &O, r: &Registers, i: u32) -> Result<
 }
 
 /// Literal i of the method.
-#[tactic(auto, using(st_frames::proofs::Doing::rows), unfolding(st_model::specs::Bytecodes::fetch_literal_constant))]
+#[tactic(auto, using(st_registers::proofs::Doing::rows), unfolding(st_model::specs::Bytecodes::fetch_literal_constant))]
 pub fn fetch_literal_constant<O: Objects>(m: &O, r: &Registers, i: u32) -> Result<Word, Dead>
     ensures does { Does (fetch_literal_constant O.names i) word (row_state (O.table m.now) (O.head m.now) r.now) result (row_state (O.table m.now) (O.head m.now) r.now) }
 {
@@ -40,7 +40,7 @@ pub fn fetch_literal_constant<O: Objects>(m: &O, r: &Registers, i: u32) -> Resul
 }
 
 /// The value of the association that is literal i of the method.
-#[tactic(auto, using(st_frames::proofs::Doing::rows), unfolding(st_model::specs::Bytecodes::fetch_literal_variable))]
+#[tactic(auto, using(st_registers::proofs::Doing::rows), unfolding(st_model::specs::Bytecodes::fetch_literal_variable))]
 fn fetch_literal_variable<O: Objects>(m: &O, r: &Registers, i: u32) -> Result<Word, Dead>
     ensures does { Does (fetch_literal_variable O.names i) word (row_state (O.table m.now) (O.head m.now) r.now) result (row_state (O.table m.now) (O.head m.now) r.now) }
 {
@@ -49,7 +49,7 @@ fn fetch_literal_variable<O: Objects>(m: &O, r: &Registers, i: u32) -> Result<Wo
 }
 
 /// What an operand names.
-#[tactic(auto, using(st_frames::proofs::Doing::rows), unfolding(st_model::specs::Bytecodes::fetch_operand))]
+#[tactic(auto, using(st_registers::proofs::Doing::rows), unfolding(st_model::specs::Bytecodes::fetch_operand))]
 pub fn fetch_operand<O: Objects>(m: &O, r: &Registers, operand: Operand) -> Result<Word, Dead>
     requires numbered { IsNumberedOperand operand }
     ensures does { Does (fetch_operand O.names operand) word (row_state (O.table m.now) (O.head m.now) r.now) result (row_state (O.table m.now) (O.head m.now) r.now) }
@@ -63,7 +63,7 @@ pub fn fetch_operand<O: Objects>(m: &O, r: &Registers, operand: Operand) -> Resu
 }
 
 /// Stores x in field i of the receiver.
-#[tactic(auto, using(st_frames::proofs::Doing::rows), unfolding(st_model::specs::Bytecodes::store_receiver_variable))]
+#[tactic(auto, using(st_registers::proofs::Doing::rows), unfolding(st_model::specs::Bytecodes::store_receiver_variable))]
 fn store_receiver_variable<O: Objects>(
     m: &mut O,
     r: &Registers,
@@ -80,7 +80,7 @@ fn store_receiver_variable<O: Objects>(
 }
 
 /// Stores x in temporary variable i of the home context.
-#[tactic(auto, using(st_frames::proofs::Doing::rows), unfolding(st_model::specs::Bytecodes::store_temporary_variable))]
+#[tactic(auto, using(st_registers::proofs::Doing::rows), unfolding(st_model::specs::Bytecodes::store_temporary_variable))]
 fn store_temporary_variable<O: Objects>(
     m: &mut O,
     r: &Registers,
@@ -98,7 +98,7 @@ fn store_temporary_variable<O: Objects>(
 }
 
 /// Stores x as the value of the association that is literal i of the method.
-#[tactic(auto, using(st_frames::proofs::Doing::rows), unfolding(st_model::specs::Bytecodes::store_literal_variable))]
+#[tactic(auto, using(st_registers::proofs::Doing::rows), unfolding(st_model::specs::Bytecodes::store_literal_variable))]
 fn store_literal_variable<O: Objects>(m: &mut O, r: &Registers, i: u32, x: Word) -> Result<(), Dead>
     requires room { 1 ≤ O.room m.old }
     ensures does { Does (store_literal_variable O.names i (word x)) itself (row_state (O.table m.old) (O.head m.old) r.now) result (row_state (O.table m.new) (O.head m.new) r.now) }
@@ -110,7 +110,7 @@ fn store_literal_variable<O: Objects>(m: &mut O, r: &Registers, i: u32, x: Word)
 }
 
 /// Stores x in what an operand names. Dead of an unused code where that is a literal constant.
-#[tactic(auto, using(st_frames::proofs::Doing::rows), unfolding(st_model::specs::Bytecodes::store_operand))]
+#[tactic(auto, using(st_registers::proofs::Doing::rows), unfolding(st_model::specs::Bytecodes::store_operand))]
 pub fn store_operand<O: Objects>(
     m: &mut O,
     r: &Registers,
@@ -132,7 +132,7 @@ pub fn store_operand<O: Objects>(
 }
 
 /// The word of a constant.
-#[tactic(auto, using(st_frames::proofs::Doing::rows), unfolding(st_model::specs::Bytecodes::constant_value))]
+#[tactic(auto, using(st_registers::proofs::Doing::rows), unfolding(st_model::specs::Bytecodes::constant_value))]
 pub fn constant_value<O: Objects>(m: &O, r: &Registers, constant: Constant) -> Word
     ensures does { Does (constant_value O.names constant) word (row_state (O.table m.now) (O.head m.now) r.now) (Ok result) (row_state (O.table m.now) (O.head m.now) r.now) }
 {

@@ -19,9 +19,9 @@ use Rattle.st_model.specs.Show.{IsUsed}
 use Rattle.st_model.specs.View.{View, IsWhole}
 use Rattle.st_model.proofs.Closed.{step_closed}
 use Rattle.st_frames.specs.declared.frame.Frame.{Frame}
-use Rattle.st_frames.specs.declared.registers.Registers.{Registers as Words}
-use Rattle.st_frames.specs.Narrow.{IsNarrow}
-use Rattle.st_frames.specs.Rows.{row_state, registers_in}
+use Rattle.st_registers.specs.declared.registers.Registers.{Registers as Words}
+use Rattle.st_registers.specs.Narrow.{IsNarrow}
+use Rattle.st_registers.specs.Rows.{row_state, registers_in}
 use Rattle.st_frames.specs.Shown.{shown, registers_of, IsFrame}
 use Rattle.st_frames.proofs.Closed.{is_closed}
 use Rattle.st_step.specs.Planned.{Plans, plus}
@@ -55,10 +55,6 @@ used_after t base start n same e w =
     λ i. record { entries = x i; words = y i }
 
 -- what a step leaves
-
-pub loaded : (v : View) (f : Frame) (r : Words) → registers_in r ≡ registers_of f → row_state v.objects v.head r ≡ shown v f
-unfolding row_state
-loaded v f r e = ap (λ (x : Registers). record { memory = v.objects; registers = x; world = empty_world nil; head = v.head }) e
 
 pub held_again : (v w : View) (f : Frame) (r : Words) → registers_of f ≡ registers_in r → w.objects ≡ v.objects → w.head ≡ v.head → row_state v.objects v.head r ≡ shown w f
 unfolding row_state

@@ -4,7 +4,7 @@ ghost use Rattle.st_model.specs.Outcomes.{end_of};
 ghost use Rattle.st_model.specs.Decoded.{IsNumbered};
 ghost use Rattle.st_model.specs.Bytecodes.{bytecode, step};
 ghost use Rattle.st_model.specs.Calls.{Does};
-ghost use Rattle.st_frames.specs.Rows.{row_state};
+ghost use Rattle.st_registers.specs.Rows.{row_state};
 
 use crate::sending::{
     double_extended_send, double_extended_super_send, extended_send, extended_super_send,
@@ -12,7 +12,7 @@ use crate::sending::{
     return_top_to_sender, send_literal, short_jump_on_false,
 };
 use st_control::{arithmetic_send, special_send};
-use st_frames::{Registers, next_byte};
+use st_registers::{Registers, next_byte};
 use st_memory::Objects;
 use st_model::{Bytecode, Dead, Outcome, decode};
 use st_moves::{
@@ -22,7 +22,7 @@ use st_moves::{
 };
 
 /// Does the row of a bytecode; none where it comes to a primitive that isn't built.
-#[tactic(auto, using(st_frames::proofs::Doing::rows), unfolding(st_model::specs::Bytecodes::bytecode, st_model::specs::Sends::goes_on))]
+#[tactic(auto, using(st_registers::proofs::Doing::rows), unfolding(st_model::specs::Bytecodes::bytecode, st_model::specs::Sends::goes_on))]
 fn bytecode<O: Objects>(
     m: &mut O,
     r: &mut Registers,
@@ -70,7 +70,7 @@ fn bytecode<O: Objects>(
 }
 
 /// Does the next bytecode; none where it comes to a primitive that isn't built.
-#[tactic(auto, using(st_frames::proofs::Doing::rows), unfolding(st_model::specs::Bytecodes::step))]
+#[tactic(auto, using(st_registers::proofs::Doing::rows), unfolding(st_model::specs::Bytecodes::step))]
 pub fn step_row<O: Objects>(m: &mut O, r: &mut Registers) -> Result<Option<Outcome>, Dead>
     requires room { 16 ≤ O.room m.old }
     ensures does { Does (step O.names) end_of (row_state (O.table m.old) (O.head m.old) r.old) result (row_state (O.table m.new) (O.head m.new) r.new) }

@@ -3,16 +3,16 @@ ghost use Rattle.st_model.specs.Values.{word};
 ghost use Rattle.st_model.specs.Outcomes.{end_of};
 ghost use Rattle.st_model.specs.Bytecodes.{send_literal, send_literal_to_super, extended_send, double_extended_send, extended_super_send, double_extended_super_send, return_receiver, return_constant, return_top_to_sender, return_top_to_caller, short_jump_on_false, long_jump_on_true, long_jump_on_false};
 ghost use Rattle.st_model.specs.Calls.{Does};
-ghost use Rattle.st_frames.specs.Rows.{row_state};
+ghost use Rattle.st_registers.specs.Rows.{row_state};
 
 use st_control::{jump_on, return_to_caller, return_to_sender, send, send_to_super};
-use st_frames::{Registers, next_byte, pop, receiver};
+use st_registers::{Registers, next_byte, pop, receiver};
 use st_memory::Objects;
 use st_model::{Constant, Dead, Outcome, PageObject};
 use st_moves::{constant_value, fetch_literal_constant};
 
 /// Sends literal i with n arguments.
-#[tactic(auto, using(st_frames::proofs::Doing::rows), unfolding(st_model::specs::Bytecodes::send_literal))]
+#[tactic(auto, using(st_registers::proofs::Doing::rows), unfolding(st_model::specs::Bytecodes::send_literal))]
 pub fn send_literal<O: Objects>(
     m: &mut O,
     r: &mut Registers,
@@ -30,7 +30,7 @@ pub fn send_literal<O: Objects>(
 }
 
 /// Sends literal i with n arguments to super.
-#[tactic(auto, using(st_frames::proofs::Doing::rows), unfolding(st_model::specs::Bytecodes::send_literal_to_super))]
+#[tactic(auto, using(st_registers::proofs::Doing::rows), unfolding(st_model::specs::Bytecodes::send_literal_to_super))]
 fn send_literal_to_super<O: Objects>(
     m: &mut O,
     r: &mut Registers,
@@ -48,7 +48,7 @@ fn send_literal_to_super<O: Objects>(
 }
 
 /// Sends the literal that the next byte names, with as many arguments as it says.
-#[tactic(auto, using(st_frames::proofs::Doing::rows), unfolding(st_model::specs::Bytecodes::extended_send))]
+#[tactic(auto, using(st_registers::proofs::Doing::rows), unfolding(st_model::specs::Bytecodes::extended_send))]
 pub fn extended_send<O: Objects>(m: &mut O, r: &mut Registers) -> Result<Option<Outcome>, Dead>
     requires room { 14 ≤ O.room m.old }
     ensures does { Does (extended_send O.names) end_of (row_state (O.table m.old) (O.head m.old) r.old) result (row_state (O.table m.new) (O.head m.new) r.new) }
@@ -60,7 +60,7 @@ pub fn extended_send<O: Objects>(m: &mut O, r: &mut Registers) -> Result<Option<
 }
 
 /// Sends the literal of the second byte with as many arguments as the first says.
-#[tactic(auto, using(st_frames::proofs::Doing::rows), unfolding(st_model::specs::Bytecodes::double_extended_send))]
+#[tactic(auto, using(st_registers::proofs::Doing::rows), unfolding(st_model::specs::Bytecodes::double_extended_send))]
 pub fn double_extended_send<O: Objects>(
     m: &mut O,
     r: &mut Registers,
@@ -76,7 +76,7 @@ pub fn double_extended_send<O: Objects>(
 }
 
 /// Sends the literal that the next byte names to super, with as many arguments as it says.
-#[tactic(auto, using(st_frames::proofs::Doing::rows), unfolding(st_model::specs::Bytecodes::extended_super_send))]
+#[tactic(auto, using(st_registers::proofs::Doing::rows), unfolding(st_model::specs::Bytecodes::extended_super_send))]
 pub fn extended_super_send<O: Objects>(
     m: &mut O,
     r: &mut Registers,
@@ -91,7 +91,7 @@ pub fn extended_super_send<O: Objects>(
 }
 
 /// Sends the literal of the second byte to super, with as many arguments as the first says.
-#[tactic(auto, using(st_frames::proofs::Doing::rows), unfolding(st_model::specs::Bytecodes::double_extended_super_send))]
+#[tactic(auto, using(st_registers::proofs::Doing::rows), unfolding(st_model::specs::Bytecodes::double_extended_super_send))]
 pub fn double_extended_super_send<O: Objects>(
     m: &mut O,
     r: &mut Registers,
@@ -107,7 +107,7 @@ pub fn double_extended_super_send<O: Objects>(
 }
 
 /// Returns the receiver to the sender.
-#[tactic(auto, using(st_frames::proofs::Doing::rows), unfolding(st_model::specs::Bytecodes::return_receiver))]
+#[tactic(auto, using(st_registers::proofs::Doing::rows), unfolding(st_model::specs::Bytecodes::return_receiver))]
 pub fn return_receiver<O: Objects>(m: &mut O, r: &mut Registers) -> Result<Option<Outcome>, Dead>
     requires room { 16 ≤ O.room m.old }
     ensures does { Does (return_receiver O.names) end_of (row_state (O.table m.old) (O.head m.old) r.old) result (row_state (O.table m.new) (O.head m.new) r.new) }
@@ -119,7 +119,7 @@ pub fn return_receiver<O: Objects>(m: &mut O, r: &mut Registers) -> Result<Optio
 }
 
 /// Returns a constant to the sender.
-#[tactic(auto, using(st_frames::proofs::Doing::rows), unfolding(st_model::specs::Bytecodes::return_constant))]
+#[tactic(auto, using(st_registers::proofs::Doing::rows), unfolding(st_model::specs::Bytecodes::return_constant))]
 pub fn return_constant<O: Objects>(
     m: &mut O,
     r: &mut Registers,
@@ -135,7 +135,7 @@ pub fn return_constant<O: Objects>(
 }
 
 /// Pops, and returns the word to the sender.
-#[tactic(auto, using(st_frames::proofs::Doing::rows), unfolding(st_model::specs::Bytecodes::return_top_to_sender))]
+#[tactic(auto, using(st_registers::proofs::Doing::rows), unfolding(st_model::specs::Bytecodes::return_top_to_sender))]
 pub fn return_top_to_sender<O: Objects>(
     m: &mut O,
     r: &mut Registers,
@@ -150,7 +150,7 @@ pub fn return_top_to_sender<O: Objects>(
 }
 
 /// Pops, and returns the word to the caller.
-#[tactic(auto, using(st_frames::proofs::Doing::rows), unfolding(st_model::specs::Bytecodes::return_top_to_caller))]
+#[tactic(auto, using(st_registers::proofs::Doing::rows), unfolding(st_model::specs::Bytecodes::return_top_to_caller))]
 pub fn return_top_to_caller<O: Objects>(
     m: &mut O,
     r: &mut Registers,
@@ -165,7 +165,7 @@ pub fn return_top_to_caller<O: Objects>(
 }
 
 /// Pops, and jumps on false by i plus 1.
-#[tactic(auto, using(st_frames::proofs::Doing::rows), unfolding(st_model::specs::Bytecodes::short_jump_on_false))]
+#[tactic(auto, using(st_registers::proofs::Doing::rows), unfolding(st_model::specs::Bytecodes::short_jump_on_false))]
 pub fn short_jump_on_false<O: Objects>(
     m: &mut O,
     r: &mut Registers,
@@ -187,7 +187,7 @@ pub fn short_jump_on_false<O: Objects>(
 }
 
 /// Pops, and jumps on true by i times 256 plus the next byte.
-#[tactic(auto, using(st_frames::proofs::Doing::rows), unfolding(st_model::specs::Bytecodes::long_jump_on_true))]
+#[tactic(auto, using(st_registers::proofs::Doing::rows), unfolding(st_model::specs::Bytecodes::long_jump_on_true))]
 pub fn long_jump_on_true<O: Objects>(
     m: &mut O,
     r: &mut Registers,
@@ -210,7 +210,7 @@ pub fn long_jump_on_true<O: Objects>(
 }
 
 /// Pops, and jumps on false by i times 256 plus the next byte.
-#[tactic(auto, using(st_frames::proofs::Doing::rows), unfolding(st_model::specs::Bytecodes::long_jump_on_false))]
+#[tactic(auto, using(st_registers::proofs::Doing::rows), unfolding(st_model::specs::Bytecodes::long_jump_on_false))]
 pub fn long_jump_on_false<O: Objects>(
     m: &mut O,
     r: &mut Registers,

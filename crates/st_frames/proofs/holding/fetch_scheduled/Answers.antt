@@ -2,7 +2,7 @@ use Rattle.std.proofs.Common.{rules, ◌≡◌, Err, sym, subst}
 use Rattle.st_model.specs.Contexts.{fetch_scheduled_registers}
 use Rattle.st_model.specs.Table.{table}
 use Rattle.st_frames.specs.Shown.{FetchesFrame}
-use Rattle.st_frames.proofs.Scheduled.{dead-context, dead-registers, dead-there, fetched-frame}
+use Rattle.st_frames.proofs.Scheduled.{dead-context, scheduled-fetched}
 use Rattle.st_frames.proofs.holding.fetch_scheduled.Goals as goal
 
 pub returns-in_err-context-clause-registers : goal.returns-in_err-context-clause-registers
@@ -11,21 +11,8 @@ returns-in_err-context-clause-registers g c =
     let e : c.from_residual.result ≡ Err c.in_err-context.field-0.0 = search rules in
     subst (λ x. FetchesFrame (fetch_scheduled_registers table) v x v) (sym e) (dead-context v v c.in_err-context.field-0.0 c.in_err-context.ensures)
 
-pub returns-in_err-new-clause-registers : goal.returns-in_err-new-clause-registers
-returns-in_err-new-clause-registers g c =
-    let v = g.M.Memory.view c.args.m.now in
-    let e : c.from_residual-in_err-new.result ≡ Err c.in_err-new.field-0.0 = search rules in
-    subst (λ x. FetchesFrame (fetch_scheduled_registers table) v x v) (sym e)
-    (dead-registers v v c.in_ok-context.context c.in_err-new.field-0.0 c.in_ok-context.ensures c.in_err-new.ensures)
-
-pub returns-then-not-are_there-clause-registers : goal.returns-then-not-are_there-clause-registers
-returns-then-not-are_there-clause-registers g c =
-    let v = g.M.Memory.view c.args.m.now in
-    dead-there v v c.in_ok-context.context c.in_ok-new.new c.in_ok-context.ensures c.in_ok-new.ensures (sym c.if-not-are_there.ensures)
-
 pub returns-clause-registers : goal.returns-clause-registers
 returns-clause-registers g c =
     let v = g.M.Memory.view c.args.m.now in
-    let w = g.M.Memory.view c.hold_fetched.new.m in
-    let held = c.hold_fetched.ensures in
-    fetched-frame v w c.in_ok-context.context c.in_ok-new.new c.hold_fetched.result c.in_ok-context.ensures c.in_ok-new.ensures (sym c.if-not-are_there.ensures) held.same held.objects held.head
+    let w = g.M.Memory.view c.fetch_word.new.m in
+    scheduled-fetched v w c.in_ok-context.context c.fetch_word.result c.in_ok-context.ensures c.fetch_word.ensures.registers

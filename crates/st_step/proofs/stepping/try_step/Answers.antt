@@ -6,7 +6,8 @@ use Rattle.st_model.specs.Bytecodes.{step}
 use Rattle.st_model.specs.Calls.{Does}
 use Rattle.st_model.specs.View.{View}
 use Rattle.st_frames.specs.Shown.{shown}
-use Rattle.st_step.proofs.Stepped.{loaded, held_again, there_after}
+use Rattle.st_frames.proofs.Stored.{loaded}
+use Rattle.st_step.proofs.Stepped.{held_again, there_after}
 use Rattle.st_step.proofs.stepping.try_step.Goals as goal
 
 pub returns-in_err-outcome-clause-step : goal.returns-in_err-outcome-clause-step

@@ -7,7 +7,7 @@ ghost use Rattle.st_model.specs.Methods.{method_header, literal_from_last};
 ghost use Rattle.st_model.specs.Calls.{Does, Reads, itself};
 ghost use Rattle.st_model.specs.Machine.{State};
 ghost use Rattle.st_model.specs.Table.{Table};
-ghost use Rattle.st_frames.specs.Rows.{row_state};
+ghost use Rattle.st_registers.specs.Rows.{row_state};
 
 use crate::registers::Registers;
 use st_memory::Objects;

@@ -11,9 +11,9 @@ use Rattle.st_model.specs.Machine.{ObjectMemory, Head, State, Transition, Died, 
 use Rattle.st_model.specs.Steps.{get_method, object, check, or_die, code_byte, byte_at, next_byte}
 use Rattle.st_model.specs.Table.{Table}
 use Rattle.st_model.proofs.Runs.{run-then, run-next, after-went, after-died, run-answer, run-set_ip}
-use Rattle.st_frames.specs.declared.registers.Registers.{Registers as Words}
-use Rattle.st_frames.specs.Rows.{row_state, registers_in}
-use Rattle.st_frames.proofs.Doing.{run-ip}
+use Rattle.st_registers.specs.declared.registers.Registers.{Registers as Words}
+use Rattle.st_registers.specs.Rows.{row_state, registers_in}
+use Rattle.st_registers.proofs.Doing.{run-ip}
 
 pub record IsCodePlace (ip : ℤ) : Type 0 where
   pub low : pos 0 ≤ℤ ip

@@ -10,11 +10,11 @@ use Rattle.st_model.specs.Steps.{fetch_field, registers_set, set_registers, are_
 use Rattle.st_model.specs.Contexts.{home_by}
 use Rattle.st_model.specs.Table.{Table}
 use Rattle.st_model.proofs.Runs.{run-answer}
-use Rattle.st_frames.specs.declared.registers.Registers.{Registers as Words}
-use Rattle.st_frames.specs.Rows.{row_state, registers_in, fetched_in}
-use Rattle.st_frames.specs.Narrow.{IsNarrow}
-use Rattle.st_frames.specs.declared.fetched.Fetched.{Fetched}
-use Rattle.st_frames.proofs.Doing.{run-ip}
+use Rattle.st_registers.specs.declared.registers.Registers.{Registers as Words}
+use Rattle.st_registers.specs.Rows.{row_state, registers_in, fetched_in}
+use Rattle.st_registers.specs.Narrow.{IsNarrow}
+use Rattle.st_registers.specs.declared.fetched.Fetched.{Fetched}
+use Rattle.st_registers.proofs.Doing.{run-ip}
 
 pub home-block : (m : ObjectMemory Table) (c v : Value) (s : State Table) → is_small v ≡ true → (home_by m c v).run s ≡ (fetch_field m c 5).run s
 unfolding home_by

@@ -7,8 +7,8 @@ use Rattle.st_model.specs.Machine.{Head, Went}
 use Rattle.st_model.specs.Steps.{get_ip, jump}
 use Rattle.st_model.specs.Table.{Table}
 use Rattle.st_model.proofs.Runs.{tests, run-set_ip, run-then, run-next, after-went, after-died, run-answer, run-die, run-passed, run-failed}
-use Rattle.st_frames.specs.declared.registers.Registers.{Registers as Words}
-use Rattle.st_frames.specs.Rows.{row_state, registers_in}
+use Rattle.st_registers.specs.declared.registers.Registers.{Registers as Words}
+use Rattle.st_registers.specs.Rows.{row_state, registers_in}
 
 pub row-memory : (t : Table) (a : Head) (r : Words) → (row_state t a r).memory ≡ t
 unfolding row_state

@@ -1,8 +1,8 @@
 use Rattle.std.proofs.Common.{arith}
 use Rattle.std.proofs.lemmas.Int.{ints}
-use Rattle.st_frames.specs.Rows.{row_state}
-use Rattle.st_frames.proofs.Doing.{jump-went}
-use Rattle.st_frames.proofs.stack.jump.Goals as goal
+use Rattle.st_registers.specs.Rows.{row_state}
+use Rattle.st_registers.proofs.Doing.{jump-went}
+use Rattle.st_registers.proofs.stack.jump.Goals as goal
 
 pub returns : goal.returns
 unfolding row_state

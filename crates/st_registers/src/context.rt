@@ -1,9 +1,9 @@
 ghost use Rattle.std.specs.Prelude.{◌≡◌, ◌<◌, ◌≤◌, ◌+◌, ◌≤ℤ◌, pos, negsuc, ◌+ℤ◌, IfOk};
 ghost use Rattle.st_model.specs.Values.{word, small_integer};
 ghost use Rattle.st_model.specs.Steps.{set_registers, are_there};
-ghost use Rattle.st_model.specs.Contexts.{home_by, home_of, stack_place, fetch_stack_pointer, context_registers, fetch_context_registers, scheduled_context, fetch_scheduled_registers, store_context_registers, switch};
+ghost use Rattle.st_model.specs.Contexts.{home_by, home_of, stack_place, fetch_stack_pointer, context_registers, fetch_context_registers, scheduled_context, store_context_registers, switch};
 ghost use Rattle.st_model.specs.Calls.{Does, Reads, itself};
-ghost use Rattle.st_frames.specs.Rows.{row_state, fetched_in};
+ghost use Rattle.st_registers.specs.Rows.{row_state, fetched_in};
 
 use crate::access::{active, stack_pointer};
 use crate::fetched::Fetched;
@@ -140,23 +140,6 @@ pub fn read_scheduled_context<O: Objects>(m: &O) -> Result<Word, Dead>
     m.fetch_field(process, 1)
 }
 
-/// The context of the scheduler's active process.
-#[tactic(auto, using(crate::proofs::Doing::states))]
-fn scheduled_context<O: Objects>(m: &O, r: &Registers) -> Result<Word, Dead>
-    ensures does { Does (scheduled_context O.names) word (row_state (O.table m.now) (O.head m.now) r.now) result (row_state (O.table m.now) (O.head m.now) r.now) }
-{
-    read_scheduled_context(m)
-}
-
-/// Fetches the registers from the context of the scheduler's active process.
-#[tactic(auto, using(crate::proofs::Doing::rows), unfolding(st_model::specs::Contexts::fetch_scheduled_registers))]
-pub fn fetch_scheduled_registers<O: Objects>(m: &O, r: &mut Registers) -> Result<(), Dead>
-    ensures does { Does (fetch_scheduled_registers O.names) itself (row_state (O.table m.now) (O.head m.now) r.old) result (row_state (O.table m.now) (O.head m.now) r.new) }
-{
-    let context = scheduled_context(m, r)?;
-    fetch_context_registers(m, r, context)
-}
-
 /// The stored instruction pointer: plus 1.
 #[tactic(auto, using(crate::proofs::Homes::stored), unfolding(crate::specs::Rows::row_state))]
 fn stored_instruction_pointer(r: &Registers) -> Word
@@ -167,7 +150,7 @@ fn stored_instruction_pointer(r: &Registers) -> Word
 
 /// Stores the instruction pointer plus 1 and the stack pointer less 5 in the active context.
 #[tactic(auto, using(crate::proofs::Doing::rows, crate::proofs::Homes::stored), unfolding(st_model::specs::Contexts::store_context_registers))]
-fn store_context_registers<O: Objects>(m: &mut O, r: &Registers) -> Result<(), Dead>
+pub fn store_context_registers<O: Objects>(m: &mut O, r: &Registers) -> Result<(), Dead>
     requires room { 2 ≤ O.room m.old }
     ensures does { Does (store_context_registers O.names) itself (row_state (O.table m.old) (O.head m.old) r.now) result (row_state (O.table m.new) (O.head m.new) r.now) }
     ensures room { O.room m.old ≤ O.room m.new + 2 }

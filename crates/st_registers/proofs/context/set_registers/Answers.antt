@@ -1,8 +1,8 @@
 use Rattle.std.proofs.Common.{rules, ◌≡◌, true}
 use Rattle.st_model.specs.Steps.{are_there}
-use Rattle.st_frames.specs.Rows.{fetched_in}
-use Rattle.st_frames.proofs.Homes.{active-narrow, home-narrow, method-narrow, receiver-narrow}
-use Rattle.st_frames.proofs.context.set_registers.Goals as goal
+use Rattle.st_registers.specs.Rows.{fetched_in}
+use Rattle.st_registers.proofs.Homes.{active-narrow, home-narrow, method-narrow, receiver-narrow}
+use Rattle.st_registers.proofs.context.set_registers.Goals as goal
 
 pub invariant_of-r : goal.invariant_of-r
 invariant_of-r g c =

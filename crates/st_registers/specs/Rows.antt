@@ -3,8 +3,8 @@ use Rattle.st_model.specs.Values.{word}
 use Rattle.st_model.specs.Objects.{nil}
 use Rattle.st_model.specs.Machine.{Registers, Head, State, empty_world}
 use Rattle.st_model.specs.Table.{Table}
-use Rattle.st_frames.specs.declared.registers.Registers.{Registers as Words}
-use Rattle.st_frames.specs.declared.fetched.Fetched.{Fetched}
+use Rattle.st_registers.specs.declared.registers.Registers.{Registers as Words}
+use Rattle.st_registers.specs.declared.fetched.Fetched.{Fetched}
 
 abbrev pub registers_in : Words → Registers
 registers_in r = record { active = word r.active; home = word r.home; method = word r.method; receiver = word r.receiver; ip = r.ip; sp = r.sp }
