@@ -15,6 +15,7 @@ use std::mem::swap;
 /// What the head of an image says.
 #[derive(Clone, Copy)]
 pub struct Head {
+    /// How many objects there can be, and how many words they can have.
     pub capacity: Demand,
     /// The pointer of the global name table, or 0.
     pub globals: Oop,
@@ -25,11 +26,15 @@ pub struct Head {
 /// What a memory consists of, whole or not yet.
 #[derive(Drop)]
 pub struct Contents {
+    /// The objects.
     pub objects: Objects,
     /// Room for the same objects, which they are copied to where their free fields or units are used up.
     pub spare: Objects,
+    /// What is held.
     pub roots: Roots,
+    /// What the head of the image said.
     pub head: Head,
+    /// Room for the marks of a search for what is needed.
     pub marks: Marks,
 }
 

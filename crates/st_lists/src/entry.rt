@@ -3,11 +3,17 @@ use st_model::{Kind, Oop};
 /// Where an object's fields and units are in the two lists of a memory.
 #[derive(Clone, Copy)]
 pub struct Entry {
+    /// The object's class.
     pub class: Oop,
+    /// What its body consists of.
     pub kind: Kind,
+    /// Where its fields begin in the list of pointers.
     pub fields_at: u32,
+    /// How many fields it has; of a method its header and literals.
     pub fields: u32,
+    /// Where its units begin in the list of units.
     pub units_at: u32,
+    /// How many words or bytes it has.
     pub units: u32,
 }
 

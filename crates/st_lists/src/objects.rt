@@ -16,7 +16,9 @@ use std::alloc::{AllocError, Global};
 /// The objects of a memory. Entry k is that of pointer 2k; the fields and units of all objects stand in a list each.
 #[derive(Drop)]
 pub struct Objects {
+    /// An entry for each place that has an object.
     pub entries: Vec<Option<Entry>>,
+    /// A field of an object in each.
     pub pointers: Vec<Oop>,
     /// A word, or a byte, of an object in each.
     pub units: Vec<u16>,

@@ -37,6 +37,7 @@ const PAGE: [Oop; 20] = [
 /// A mark for each name, true where something refers to it.
 #[derive(Drop)]
 pub struct Marks {
+    /// The mark of each name, by half its pointer.
     pub names: Vec<bool>,
     pub ghost long: { length names.items ≡ 32768 },
 }

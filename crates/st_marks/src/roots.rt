@@ -14,21 +14,32 @@ use std::alloc::{AllocError, Global};
 /// What is held, but for the pending signals.
 #[derive(Clone, Copy)]
 pub struct Places {
+    /// The active context.
     pub active: Oop,
+    /// The home context.
     pub home: Oop,
+    /// The method that runs.
     pub method: Oop,
+    /// The receiver.
     pub receiver: Oop,
+    /// The process that waits to become active.
     pub new_process: Oop,
+    /// The Form that is the display.
     pub display: Oop,
+    /// The Form that is the cursor.
     pub cursor: Oop,
+    /// The semaphore that an input word signals.
     pub input_semaphore: Oop,
+    /// The semaphore that the clock signals.
     pub timer: Oop,
+    /// The semaphore that want of space signals.
     pub low_space: Oop,
 }
 
 /// What is held.
 #[derive(Drop)]
 pub struct Roots {
+    /// What is held at the places that hold one object each.
     pub places: Places,
     /// The semaphores of the pending signals.
     pub pending: Vec<Oop>,

@@ -291,13 +291,10 @@ module _ {H K : Type 0} {M : ObjectMemory H} {N : ObjectMemory K} (sim : Simulat
   unfolding new_object
   new_object-same v w n h e = make-same v w kind.Pointers n 0 h e
 
-  ref_is_live : (n : ℕ) → sim.live n → IsLive sim.live (Ref n)
-  ref_is_live n h = h
-
   class_of_one-same : (v : Value) → IsLive sim.live v → Same sim (IsLive sim.live) (renamed sim.name) (class_of M v) (class_of N (renamed sim.name v))
   unfolding class_of
   class_of_one-same (Small n) h = search memory_same depth 16 fits 4000
-  class_of_one-same (Ref n) h = search (memory_same, object_named-same, ref_is_live) depth 16 fits 4000
+  class_of_one-same (Ref n) h = search (memory_same, object_named-same) depth 16 fits 4000
 
   pub class_of-same : (v w : Value) → IsLive sim.live v → w ≡ renamed sim.name v → Same sim (IsLive sim.live) (renamed sim.name) (class_of M v) (class_of N w)
   class_of-same v w h e = rw e (class_of_one-same v h)

@@ -37,12 +37,12 @@ pub record IsFormed (o : Object) : Type 0 where
   pub units : (i u : ℕ) → slice_get o.units i ≡ Some u → u < unit_limit o.kind
   pub size : words_of o ≤ 65535
 
--- a new object of a class: fields are nil, units are 0, and a Method's header has the literal count and else zeros
+-- a new object of a class: fields are this value, units are 0, and a Method's header has the literal count and else zeros
 abbrev pub fresh_with : Value → ℕ → Kind → ℕ → ℕ → Object
-fresh_with nil class kind.Pointers size literals = record { class = class; kind = kind.Pointers; fields = replicate size nil; units = [] }
-fresh_with nil class kind.Words size literals = record { class = class; kind = kind.Words; fields = []; units = replicate size 0 }
-fresh_with nil class kind.Bytes size literals = record { class = class; kind = kind.Bytes; fields = []; units = replicate size 0 }
-fresh_with nil class kind.Method size literals = record { class = class; kind = kind.Method; fields = Small literals ∷ replicate literals nil; units = replicate (size - 2 * (literals + 1)) 0 }
+fresh_with filler class kind.Pointers size literals = record { class = class; kind = kind.Pointers; fields = replicate size filler; units = [] }
+fresh_with filler class kind.Words size literals = record { class = class; kind = kind.Words; fields = []; units = replicate size 0 }
+fresh_with filler class kind.Bytes size literals = record { class = class; kind = kind.Bytes; fields = []; units = replicate size 0 }
+fresh_with filler class kind.Method size literals = record { class = class; kind = kind.Method; fields = Small literals ∷ replicate literals filler; units = replicate (size - 2 * (literals + 1)) 0 }
 
 -- with nil of the table
 abbrev pub fresh : ℕ → Kind → ℕ → ℕ → Object

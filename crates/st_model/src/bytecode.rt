@@ -1,4 +1,4 @@
-ghost use Rattle.std.specs.Prelude.{◌≡◌};
+ghost use Rattle.std.specs.Prelude.{◌≡◌, ◌<◌, ◌≤◌};
 ghost use Rattle.st_model.specs.Decoded.{decoded, operand_of, IsNumbered, IsNumberedOperand};
 
 /// A variable or constant that a bytecode names.
@@ -17,12 +17,19 @@ pub enum Operand {
 /// A constant that a bytecode pushes.
 #[derive(Clone, Copy, Debug, PartialEq, Eq)]
 pub enum Constant {
+    /// true.
     True,
+    /// false.
     False,
+    /// nil.
     Nil,
+    /// The SmallInteger -1.
     MinusOne,
+    /// The SmallInteger 0.
     Zero,
+    /// The SmallInteger 1.
     One,
+    /// The SmallInteger 2.
     Two,
 }
 
@@ -101,8 +108,9 @@ pub fn extended_operand(byte: u8) -> Operand
     }
 }
 
-/// What the first byte of a bytecode means.
-pub fn decode(byte: u8) -> Bytecode
+/// What a first byte below 128 means: what pushes, stores and pops, or returns.
+fn decode_below_128(byte: u8) -> Bytecode
+    requires { byte < 128 }
     ensures code { result ≡ decoded byte }
     ensures numbered { IsNumbered result }
 {
@@ -127,8 +135,19 @@ pub fn decode(byte: u8) -> Bytecode
         123 => Bytecode::ReturnConstant(Constant::Nil),
         124 => Bytecode::ReturnTopToSender,
         125 => Bytecode::ReturnTopToCaller,
-        126 | 127 | 138..=143 => Bytecode::Unused,
-        128 => Bytecode::ExtendedPush,
+        126.. => Bytecode::Unused,
+    }
+}
+
+/// What a first byte from 128 to 175 means: what goes on with another byte, moves the top, or jumps.
+fn decode_below_176(byte: u8) -> Bytecode
+    requires low { 128 ≤ byte }
+    requires high { byte < 176 }
+    ensures code { result ≡ decoded byte }
+    ensures numbered { IsNumbered result }
+{
+    match byte {
+        ..=128 => Bytecode::ExtendedPush,
         129 => Bytecode::ExtendedStore,
         130 => Bytecode::ExtendedStoreAndPop,
         131 => Bytecode::ExtendedSend,
@@ -138,12 +157,23 @@ pub fn decode(byte: u8) -> Bytecode
         135 => Bytecode::PopStack,
         136 => Bytecode::DuplicateTop,
         137 => Bytecode::PushActiveContext,
+        138..=143 => Bytecode::Unused,
         144..=151 => Bytecode::ShortUnconditionalJump(byte - 144),
         152..=159 => Bytecode::ShortJumpOnFalse(byte - 152),
         160..=167 => Bytecode::LongUnconditionalJump(byte - 160),
         168..=171 => Bytecode::LongJumpOnTrue(byte - 168),
-        172..=175 => Bytecode::LongJumpOnFalse(byte - 172),
-        176..=191 => Bytecode::ArithmeticSend(byte - 176),
+        172.. => Bytecode::LongJumpOnFalse(byte - 172),
+    }
+}
+
+/// What a first byte from 176 on means: a send.
+fn decode_send(byte: u8) -> Bytecode
+    requires { 176 ≤ byte }
+    ensures code { result ≡ decoded byte }
+    ensures numbered { IsNumbered result }
+{
+    match byte {
+        ..=191 => Bytecode::ArithmeticSend(byte - 176),
         192..=197 | 203..=207 => Bytecode::SpecialSend(byte - 176),
         198..=202 => Bytecode::PrimitiveSend(byte - 176),
         208..=223 => Bytecode::LiteralSend {
@@ -158,5 +188,17 @@ pub fn decode(byte: u8) -> Bytecode
             literal: byte - 240,
             arguments: 2,
         },
+    }
+}
+
+/// What the first byte of a bytecode means.
+pub fn decode(byte: u8) -> Bytecode
+    ensures code { result ≡ decoded byte }
+    ensures numbered { IsNumbered result }
+{
+    match byte {
+        0..=127 => decode_below_128(byte),
+        128..=175 => decode_below_176(byte),
+        176..=255 => decode_send(byte),
     }
 }

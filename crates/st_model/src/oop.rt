@@ -15,9 +15,6 @@ impl Oop {
     /// The pointer of true.
     pub const TRUE: Oop = Oop(6);
 
-    /// The pointer of the association whose value is the scheduler.
-    pub const SCHEDULER: Oop = Oop(8);
-
     /// Whether it is a SmallInteger.
     pub fn is_small(self) -> bool
         ensures { result ≡ is_small (value self) }
