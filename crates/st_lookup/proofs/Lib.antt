@@ -1,2 +1,5 @@
 pub mod Searching
-pub mod Finding
+pub mod Chain
+mod Unbounded
+mod Live
+mod Pointers
