@@ -3,3 +3,4 @@ pub mod Chain
 mod Unbounded
 mod Live
 mod Pointers
+mod SearchRows
