@@ -98,6 +98,11 @@ small_selector : Finds (with_places (nil ∷ nil ∷ nil ∷ Small 7 ∷ []) (ni
 unfolding opened
 small_selector = refl
 
+-- a selector that names no object begins at place 0
+selector_gone : Finds (with_places (Ref 15 ∷ nil ∷ nil ∷ nil ∷ []) (Ref 8 ∷ nil ∷ nil ∷ nil ∷ [])) (Ref 2) (Ref 15) (Some (Ref 8))
+unfolding opened
+selector_gone = refl
+
 -- nil as a selector is met at the first empty place
 nil_selector : Finds (with_places (nil ∷ nil ∷ nil ∷ nil ∷ []) (Ref 8 ∷ Ref 9 ∷ Ref 8 ∷ Ref 8 ∷ [])) (Ref 2) nil (Some (Ref 9))
 unfolding opened
