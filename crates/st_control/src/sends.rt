@@ -20,7 +20,7 @@ use st_model::{Dead, Outcome, PageObject, Word};
 fn find<O: Objects>(m: &O, r: &Registers, class: Word, selector: Word) -> Result<Option<Word>, Dead>
     ensures does { Does (find O.names (word class) (word selector)) found_word (row_state (O.table m.now) (O.head m.now) r.now) result (row_state (O.table m.now) (O.head m.now) r.now) }
 {
-    st_lookup::find(m, class, selector)
+    st_lookup::look_up(m, class, selector)
 }
 
 /// The method for doesNotUnderstand: is executed, if there is one.

@@ -1,2 +1,6 @@
 pub mod Searching
-pub mod Finding
+pub mod Chain
+mod Unbounded
+mod Live
+mod Pointers
+mod SearchRows

@@ -2,8 +2,9 @@
 use Rattle.std.specs.Prelude.{◌≡◌, ℕ, Option, Result, Ok, Err}
 use Rattle.std.specs.Option.{option_map}
 use Rattle.st_model.specs.declared.dead.Dead.{Dead}
+use Rattle.st_model.specs.declared.oop.Oop.{Oop}
 use Rattle.st_model.specs.declared.word.Word.{Word}
-use Rattle.st_model.specs.Values.{Value, word}
+use Rattle.st_model.specs.Values.{Value, value, word}
 use Rattle.st_model.specs.Machine.{ObjectMemory, State, Transition, Died, Went, Step}
 use Rattle.st_model.specs.Lookup.{look_at_place, look_at_places}
 use Rattle.st_model.specs.Table.{Table}
@@ -12,6 +13,9 @@ use Rattle.st_lookup.specs.declared.places.Search.TheVariants.{Ends, GoesOn}
 
 abbrev pub found_word : Option Word → Option Value
 found_word x = option_map word x
+
+abbrev pub found : Option Oop → Option Value
+found x = option_map value x
 
 -- where the search goes on, it comes to what the rest of it does
 abbrev pub search_of : Result Search Dead → Step Table (Option Value) → State Table → Transition (State Table) (Option Value)

@@ -23,8 +23,9 @@ fn method_in_class<O: Objects>(m: &O, class: Word, selector: Word) -> Result<Opt
 
 /// The method for the selector in the class, or in the nearest superclass that has one; none where the chain ends in nil
 /// without one. Dead where a class or a dictionary isn't what it should be, where a dictionary has no places, where what
-/// was found is no method, and at the class of number 32768.
-pub fn find<O: Objects>(m: &O, class: Word, selector: Word) -> Result<Option<Word>, Dead>
+/// was found is no method, and at the class of number 32768. It serves rows of bytecodes, which run over a memory or a
+/// draft; `find` is for all others.
+pub fn look_up<O: Objects>(m: &O, class: Word, selector: Word) -> Result<Option<Word>, Dead>
     ensures { Reads (find O.names (word class) (word selector)) found_word (O.table m.now) result }
 {
     let nil = PageObject::NilObject.word();

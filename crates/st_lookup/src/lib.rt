@@ -2,6 +2,8 @@
 #![tactic(auto)]
 
 mod class;
+mod finding;
 mod places;
 
-pub use class::find;
+pub use class::look_up;
+pub use finding::find;

@@ -1,6 +1,6 @@
 use Rattle.st_model.specs.Values.{word}
-use Rattle.st_lookup.proofs.Finding.{LeftClasses}
-use Rattle.st_lookup.proofs.class.find.Given as goal
+use Rattle.st_lookup.proofs.Chain.{LeftClasses}
+use Rattle.st_lookup.proofs.class.look_up.Given as goal
 
 abbrev pub invariant-loop-selector : goal.invariant-loop-selector
 invariant-loop-selector g l = LeftClasses g.O.Objects.names (word l.selector) (word l.fn.class) l.left (word l.class) (g.O.Objects.table l.m)

@@ -4,8 +4,8 @@ use Rattle.st_model.specs.Values.{word}
 use Rattle.st_model.specs.Lookup.{method_in_class}
 use Rattle.st_model.specs.Calls.{Reads}
 use Rattle.st_lookup.specs.Places.{found_word}
-use Rattle.st_lookup.proofs.Finding.{LeftClasses, some_left, all_classes, chain_ends, chain_dies, class_dies, class_has, above_dies, above_left}
-use Rattle.st_lookup.proofs.class.find.Goals as goal
+use Rattle.st_lookup.proofs.Chain.{LeftClasses, some_left, all_classes, chain_ends, chain_dies, class_dies, class_has, above_dies, above_left}
+use Rattle.st_lookup.proofs.class.look_up.Goals as goal
 
 pub loop-selector-init : goal.loop-selector-init
 loop-selector-init g c = all_classes g.met.O.Objects.tabular (word c.args.selector) (g.O.Objects.table c.args.m.now) (word c.args.class)
