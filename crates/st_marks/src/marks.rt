@@ -55,7 +55,8 @@ impl Marks {
     /// Takes the marks of the names below `end` away.
     pub fn clear(&mut self, end: usize)
         requires { end ≤ 32768 }
-        ensures { (n : ℕ) → n < end → is_marked self.new.names.items n ≡ false }
+        ensures cleared { (n : ℕ) → n < end → is_marked self.new.names.items n ≡ false }
+        ensures others { (n : ℕ) → end ≤ n → is_marked self.new.names.items n ≡ is_marked self.old.names.items n }
     {
         for k in 0..end {
             self.names[k] = false;
