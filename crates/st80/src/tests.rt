@@ -1,10 +1,10 @@
 //! Worked runs of the program over a host in memory.
 use crate::tool::tool;
 use st_host::{MemHost, MemSource};
-use st_outside::{Host, read_from};
 use st_image::{HeadValues, ReadImage, read, write};
 use st_model::ImageFault;
 use st_once::Status;
+use st_outside::{Host, read_from};
 use st_plain::PlainLoader;
 use std::alloc::{AllocError, Global};
 use std::process::Abort;

@@ -6,8 +6,8 @@ ghost use Rattle.st_once.specs.Ends.{OnceEnds, SaysLastLine, StatusHasCause};
 ghost use Rattle.st_once.specs.Words.{once_of, word};
 ghost use Rattle.st_once.specs.declared.status.Status.TheVariants.{Usage};
 
-use st_outside::{Host, Source};
 use st_once::{Status, image_name, once, read_once, refuse};
+use st_outside::{Host, Source};
 use st_plain::PlainLoader;
 use std::alloc::Global;
 

@@ -4,13 +4,13 @@ ghost use Rattle.st_model.specs.Contexts.{fill_context, new_context, pass_words,
 ghost use Rattle.st_model.specs.Calls.{Does, itself};
 ghost use Rattle.st_registers.specs.Rows.{row_state};
 
+use st_memory::Objects;
+use st_method::Header;
+use st_model::{Dead, PageObject, Word};
 use st_registers::{
     Registers, active, drop_words, look_at_words, new_object, page, small, stack_pointer,
     store_field, switch, transfer,
 };
-use st_memory::Objects;
-use st_method::Header;
-use st_model::{Dead, PageObject, Word};
 
 /// Fills a new context of the method: the active context as its sender, the first bytecode, the temporary count, and the method.
 #[tactic(auto, using(st_registers::proofs::Doing::rows), unfolding(st_model::specs::Contexts::fill_context))]

@@ -7,10 +7,10 @@ ghost use Rattle.st_model.specs.Calls.{Does, itself};
 ghost use Rattle.st_registers.specs.Rows.{row_state};
 
 use crate::activation::activate;
-use st_registers::{Registers, fetch_field, literal_from_last, method_header, pop, push};
 use st_memory::Objects;
 use st_method::Header;
 use st_model::{Dead, Outcome, Word};
+use st_registers::{Registers, fetch_field, literal_from_last, method_header, pop, push};
 
 /// A field of the word at the top takes its place.
 #[tactic(auto, using(st_registers::proofs::Doing::rows), unfolding(st_model::specs::Sends::answer_field))]

@@ -6,9 +6,9 @@ ghost use Rattle.st_model.specs.Calls.{Does, itself};
 ghost use Rattle.st_registers.specs.Rows.{row_state};
 
 use crate::sends::send;
-use st_registers::{Registers, jump, page, pop, push};
 use st_memory::Objects;
 use st_model::{Dead, Outcome, PageObject, Word};
+use st_registers::{Registers, jump, page, pop, push};
 
 /// Puts the word back, and sends mustBeBoolean to it.
 #[tactic(auto, using(st_registers::proofs::Doing::rows), unfolding(st_model::specs::Returns::must_be_boolean))]

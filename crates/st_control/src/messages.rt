@@ -4,11 +4,11 @@ ghost use Rattle.st_model.specs.Sends.{copy_arguments, argument_array, new_messa
 ghost use Rattle.st_model.specs.Calls.{Does, itself};
 ghost use Rattle.st_registers.specs.Rows.{row_state};
 
+use st_memory::Objects;
+use st_model::{Dead, PageObject, Word};
 use st_registers::{
     Registers, active, drop_words, new_object, page, push, stack_pointer, store_field, transfer,
 };
-use st_memory::Objects;
-use st_model::{Dead, PageObject, Word};
 
 /// The n words at the top of the stack go into an Array, the lowest first.
 #[tactic(auto, using(st_registers::proofs::Doing::rows), unfolding(st_model::specs::Sends::copy_arguments))]

@@ -6,11 +6,11 @@ ghost use Rattle.st_model.specs.Calls.{Does, itself};
 ghost use Rattle.st_registers.specs.Rows.{row_state};
 
 use crate::sends::send;
+use st_memory::Objects;
+use st_model::{Dead, Outcome, PageObject, Word};
 use st_registers::{
     Registers, active, fetch_context_registers, fetch_field, home, page, push, store_field,
 };
-use st_memory::Objects;
-use st_model::{Dead, Outcome, PageObject, Word};
 
 /// Sends cannotReturn: to the active context.
 #[tactic(auto, using(st_registers::proofs::Doing::rows), unfolding(st_model::specs::Returns::cannot_return))]

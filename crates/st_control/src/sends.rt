@@ -9,11 +9,11 @@ ghost use Rattle.st_registers.specs.Rows.{row_state};
 
 use crate::executing::execute;
 use crate::messages::replace_by_message;
+use st_memory::Objects;
+use st_model::{Dead, Outcome, PageObject, Word};
 use st_registers::{
     Registers, class_of, fetch_field, fetch_integer, literal_from_last, method, page, under,
 };
-use st_memory::Objects;
-use st_model::{Dead, Outcome, PageObject, Word};
 
 /// The method for the selector in the class or above it.
 #[tactic(auto, using(st_registers::proofs::Doing::states))]

@@ -6,9 +6,9 @@ ghost use Rattle.st_model.specs.Calls.{Does, itself};
 ghost use Rattle.st_registers.specs.Rows.{row_state};
 
 use crate::operands::{constant_value, fetch_operand, store_operand};
-use st_registers::{Registers, active, jump, next_byte, pop, push, receiver, top};
 use st_memory::Objects;
 use st_model::{Constant, Dead, Operand, Word, extended_operand};
+use st_registers::{Registers, active, jump, next_byte, pop, push, receiver, top};
 
 /// Pushes what the operand names.
 #[tactic(auto, using(st_registers::proofs::Doing::rows), unfolding(st_model::specs::Bytecodes::push_operand))]

@@ -5,11 +5,11 @@ ghost use Rattle.st_model.specs.Bytecodes.{fetch_receiver_variable, fetch_tempor
 ghost use Rattle.st_model.specs.Calls.{Does, itself};
 ghost use Rattle.st_registers.specs.Rows.{row_state};
 
+use st_memory::Objects;
+use st_model::{Constant, Dead, Operand, PageObject, Word};
 use st_registers::{
     Registers, fetch_field, home, literal, method, page, receiver, small, store_field,
 };
-use st_memory::Objects;
-use st_model::{Constant, Dead, Operand, PageObject, Word};
 
 /// Field i of the receiver.
 #[tactic(auto, using(st_registers::proofs::Doing::rows), unfolding(st_model::specs::Bytecodes::fetch_receiver_variable))]

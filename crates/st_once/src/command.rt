@@ -12,9 +12,9 @@ use crate::image::start;
 use crate::last_line::refuse;
 use crate::report::say_run;
 use crate::status::Status;
-use st_outside::{Host, SayFault};
 use st_machine::Machine;
 use st_memory::{Loader, Memory};
+use st_outside::{Host, SayFault};
 use std::alloc::Global;
 
 /// Runs cycles of a machine that was just booted, and says how they end.

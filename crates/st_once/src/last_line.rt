@@ -5,8 +5,8 @@ ghost use Rattle.st_report.specs.Saying.{Says};
 ghost use Rattle.st_once.specs.Ends.{fault_line, last_line, SaysLastLine};
 
 use crate::status::Status;
-use st_outside::{Host, SayFault};
 use st_model::ImageFault;
+use st_outside::{Host, SayFault};
 use st_report::say_line;
 
 /// Says the line of an image's fault: its row, then its pointer, and its second pointer or its index.

@@ -2,8 +2,8 @@ ghost use Rattle.std.specs.Prelude.{◌≡◌};
 ghost use Rattle.st_once.specs.Ends.{status_of};
 
 use crate::status::Status;
-use st_outside::HostFault;
 use st_model::ImageFault;
+use st_outside::HostFault;
 use std::alloc::AllocError;
 
 /// Why a machine wasn't started.

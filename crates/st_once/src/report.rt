@@ -7,9 +7,9 @@ ghost use Rattle.st_report.specs.Saying.{Says};
 ghost use Rattle.st_once.specs.Ends.{end_text, rest_text};
 
 use st_frames::Frame;
-use st_outside::{Host, SayFault};
 use st_machine::RunEnd;
 use st_memory::Memory;
+use st_outside::{Host, SayFault};
 use st_report::{say_line, say_state};
 
 /// Says the line of a run's end, with the number of finished cycles. A snapshot, and bytes that are said, have none.

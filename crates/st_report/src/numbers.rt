@@ -6,8 +6,8 @@ ghost use Rattle.st_model.specs.Text.{values_text, numbers_text};
 ghost use Rattle.st_report.specs.Saying.{Says};
 
 use crate::pieces::{say, say_number, say_value};
-use st_outside::{Host, SayFault};
 use st_model::Oop;
+use st_outside::{Host, SayFault};
 
 /// Says each of the values after a space.
 pub fn say_values<H: Host>(host: &mut H, values: &[Oop]) -> Result<(), SayFault>

@@ -9,9 +9,9 @@ ghost use Rattle.st_report.specs.Saying.{Says};
 
 use crate::pieces::{say, say_number, say_value};
 use st_bodies::{count_fields, count_units, unit_at};
-use st_outside::{Host, SayFault};
 use st_memory::Memory;
 use st_model::{Kind, Oop};
+use st_outside::{Host, SayFault};
 
 /// Says the fields of an object.
 fn say_fields<H: Host, M: Memory>(host: &mut H, m: &M, o: Oop, fields: u32) -> Result<(), SayFault>

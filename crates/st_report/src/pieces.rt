@@ -7,8 +7,8 @@ ghost use Rattle.st_model.specs.Text.{value_text};
 ghost use Rattle.st_report.specs.Saying.{Says};
 
 use itoa::Buffer;
-use st_outside::{Host, SayFault, say_all};
 use st_model::Oop;
+use st_outside::{Host, SayFault, say_all};
 
 /// Says bytes.
 pub fn say<H: Host>(host: &mut H, bytes: &[u8]) -> Result<(), SayFault>

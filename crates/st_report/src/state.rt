@@ -13,9 +13,9 @@ use crate::numbers::{say_line, say_values, say_values_line};
 use crate::objects::say_objects;
 use crate::pieces::{say, say_integer, say_number};
 use st_frames::Frame;
-use st_outside::{Host, SayFault};
 use st_memory::Memory;
 use st_model::RootPlace;
+use st_outside::{Host, SayFault};
 
 /// Says an instruction pointer and a stack pointer, and the line's end.
 fn say_pointers<H: Host>(host: &mut H, ip: i32, sp: u32) -> Result<(), SayFault>

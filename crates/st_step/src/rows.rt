@@ -12,7 +12,6 @@ use crate::sending::{
     return_top_to_sender, send_literal, short_jump_on_false,
 };
 use st_control::{arithmetic_send, special_send};
-use st_registers::{Registers, next_byte};
 use st_memory::Objects;
 use st_model::{Bytecode, Dead, Outcome, decode};
 use st_moves::{
@@ -20,6 +19,7 @@ use st_moves::{
     pop_stack, push_active_context, push_constant, push_operand, push_receiver,
     short_unconditional_jump, store_and_pop,
 };
+use st_registers::{Registers, next_byte};
 
 /// Does the row of a bytecode; none where it comes to a primitive that isn't built.
 #[tactic(auto, using(st_registers::proofs::Doing::rows), unfolding(st_model::specs::Bytecodes::bytecode, st_model::specs::Sends::goes_on))]

@@ -6,10 +6,10 @@ ghost use Rattle.st_model.specs.Calls.{Does};
 ghost use Rattle.st_registers.specs.Rows.{row_state};
 
 use st_control::{jump_on, return_to_caller, return_to_sender, send, send_to_super};
-use st_registers::{Registers, next_byte, pop, receiver};
 use st_memory::Objects;
 use st_model::{Constant, Dead, Outcome, PageObject};
 use st_moves::{constant_value, fetch_literal_constant};
+use st_registers::{Registers, next_byte, pop, receiver};
 
 /// Sends literal i with n arguments.
 #[tactic(auto, using(st_registers::proofs::Doing::rows), unfolding(st_model::specs::Bytecodes::send_literal))]

@@ -3,8 +3,8 @@ ghost use Rattle.st_pieces.specs.Pieces.{end_of, Pushes};
 ghost use Rattle.st_writer.specs.Written.{head_bytes};
 
 use crate::numbers::push_longs;
-use st_outside::{Host, HostFault};
 use st_memory::Memory;
+use st_outside::{Host, HostFault};
 use st_pieces::Piece;
 
 /// The letters `ST80`, as a number.

@@ -6,9 +6,9 @@ ghost use Rattle.st_writer.specs.Written.{bytes_at, words_at, entry_bytes, space
 
 use crate::numbers::push_word;
 use crate::object::{count_words, marks_of, push_object};
-use st_outside::{Host, HostFault};
 use st_memory::Memory;
 use st_model::Oop;
+use st_outside::{Host, HostFault};
 use st_pieces::Piece;
 
 /// The pointer of a place of the table.

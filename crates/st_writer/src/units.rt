@@ -8,9 +8,9 @@ ghost use Rattle.st_writer.specs.Written.{word_bytes, word_of, filler, unit_byte
 
 use crate::numbers::push_word;
 use st_bodies::{count_fields, count_units};
-use st_outside::{Host, HostFault};
 use st_memory::Memory;
 use st_model::{Kind, Oop};
+use st_outside::{Host, HostFault};
 use st_pieces::Piece;
 
 /// Adds the fields of an object.

@@ -7,8 +7,8 @@ ghost use Rattle.st_writer.specs.Written.{image_of, padding};
 use crate::head::push_head;
 use crate::numbers::push_zeros;
 use crate::table::{count_entries, push_entries, push_objects};
-use st_outside::{Host, HostFault};
 use st_memory::Memory;
+use st_outside::{Host, HostFault};
 use st_pieces::Piece;
 
 /// How many bytes are missing from so many words to a multiple of 512 bytes.
