@@ -10,7 +10,7 @@ use Rattle.st_model.specs.declared.word.Word.{Word}
 use Rattle.st_model.specs.Values.{Small, Ref, value_of, word, is_small, IsLive}
 use Rattle.st_model.specs.Objects.{nil, one, words_of}
 use Rattle.st_model.specs.Outcomes.{Outcome, end_of}
-use Rattle.st_model.specs.Machine.{Registers, Head, State, Went, empty_world, is_there, used}
+use Rattle.st_model.specs.Machine.{Head, State, Went, empty_world, is_there, used}
 use Rattle.st_model.specs.Steps.{are_there}
 use Rattle.st_model.specs.Table.{Table, table, apart, bounded_table, total_used}
 use Rattle.st_model.specs.Calls.{transition_of}
