@@ -1,8 +1,13 @@
-//! Worked runs of the program over a host in memory.
+//! Worked runs of the program over a host in memory, and calls over a plain memory that the program doesn't make yet.
+ghost use Rattle.st_frames.specs.Shown.{IsFrame};
+
 use crate::tool::tool;
+use st_frames::{Frame, fetch};
 use st_host::{MemHost, MemSource};
 use st_image::{HeadValues, ReadImage, read, write};
-use st_model::ImageFault;
+use st_lookup::find;
+use st_memory::Memory;
+use st_model::{Dead, ImageFault, Oop};
 use st_once::Status;
 use st_outside::{Host, read_from};
 use st_plain::PlainLoader;
@@ -512,5 +517,53 @@ fn an_image_is_written_as_it_was(rt: HostRuntime) -> Result<(), Fail> {
     let mut written = vec![in alloc; 0; 1156]?;
     assert_eq!(rt; read_from(&mut host, "B", 0, &mut written)?, 1156);
     assert_eq!(rt; written.as_slice(), bytes.as_slice());
+    Ok(())
+}
+
+/// Works the stack of the sending image's context, and stores its registers.
+fn check_stack<M: Memory>(rt: &impl Abort, m: &mut M, frame: &mut Frame)
+    requires { IsFrame (M.view m.old) frame.old }
+{
+    let selector = Oop(66);
+    assert!(rt; m.live(selector));
+    frame.push(m, selector).expect(rt, "a place for a word");
+    assert_eq!(rt; frame.under(m, 0), Ok(selector));
+    assert_eq!(rt; frame.under(m, 1), Err(Dead::Sp));
+    frame.store(m).expect(rt, "a context");
+    assert_eq!(rt; frame.pop(m), Ok(selector));
+}
+
+/// Fetches the registers that were stored, and none from an object that is no context.
+fn check_fetch<M: Memory>(rt: &impl Abort, m: &mut M) {
+    let stored = Frame {
+        active: Oop(62),
+        home: Oop(62),
+        method: Oop(64),
+        receiver: Oop::NIL,
+        ip: 6,
+        sp: 6,
+    };
+    assert_eq!(rt; fetch(m, Oop(66)), Err(Dead::Kind));
+    assert_eq!(rt; fetch(m, Oop(62)), Ok(stored));
+}
+
+/// Finds the sending image's one method, and none for another selector or in an object that is no class.
+fn check_find<M: Memory>(rt: &impl Abort, m: &M) {
+    assert_eq!(rt; find(m, Oop(12), Oop(66)), Ok(Some(Oop(72))));
+    assert_eq!(rt; find(m, Oop(12), Oop(42)), Ok(None));
+    assert_eq!(rt; find(m, Oop(4), Oop(66)), Err(Dead::Field));
+}
+
+#[test]
+fn registers_and_methods_are_reached_over_a_memory(rt: HostRuntime) -> Result<(), Fail> {
+    let image = sending_image(rt.alloc(), 32767, 66)?;
+    match read::<PlainLoader>(rt.alloc(), &image, &HeadValues::NONE) {
+        Ok(mut loaded) => {
+            check_find(&rt, &loaded.memory);
+            check_stack(&rt, &mut loaded.memory, &mut loaded.frame);
+            check_fetch(&rt, &mut loaded.memory);
+        }
+        Err(ReadImage::Fault(_)) | Err(ReadImage::OutOfMemory) => return Err(AllocError.into()),
+    }
     Ok(())
 }
