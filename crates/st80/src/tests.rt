@@ -9,7 +9,7 @@ use st_lookup::find;
 use st_memory::Memory;
 use st_model::{Dead, ImageFault, Oop};
 use st_once::Status;
-use st_outside::{Host, read_from};
+use st_outside::{Host, file_length, read_from};
 use st_plain::PlainLoader;
 use std::alloc::{AllocError, Global};
 use std::process::Abort;
@@ -468,38 +468,46 @@ fn an_image_of_the_greatest_length_is_read(rt: HostRuntime) -> Result<(), Fail> 
     )
 }
 
+/// Checks the program over a host whose call of this number fails.
+fn check_failing(
+    rt: &(impl Abort + AllocGlobal),
+    call: u64,
+    words: &[&str],
+    status: Status,
+    wanted: &[&str],
+) -> Result<(), Fail> {
+    let mut host = host_with(rt.alloc(), &image(rt.alloc(), &[126])?)?;
+    host.fail(rt.alloc(), &[call])?;
+    check(rt, &mut host, words, status, wanted)
+}
+
 #[test]
 fn faults_of_the_host_are_told(rt: HostRuntime) -> Result<(), Fail> {
-    let alloc = rt.alloc();
     let words = ["once", "B", "4"];
-    let bytes = image(alloc, &[126])?;
-    let mut at_length = host_with(alloc, &bytes)?;
-    at_length.fail(alloc, &[1])?;
-    check(
-        &rt,
-        &mut at_length,
-        &words,
-        Status::DiskFault,
-        &["disk fault\n"],
-    )?;
-    let mut at_read = host_with(alloc, &bytes)?;
-    at_read.fail(alloc, &[2])?;
-    check(
-        &rt,
-        &mut at_read,
-        &words,
-        Status::DiskFault,
-        &["disk fault\n"],
-    )?;
-    let mut at_word = host_with(alloc, &bytes)?;
-    at_word.fail(alloc, &[3])?;
-    check(&rt, &mut at_word, &words, Status::SayFault, &[])?;
-    let mut at_number = host_with(alloc, &bytes)?;
-    at_number.fail(alloc, &[5])?;
-    check(&rt, &mut at_number, &words, Status::SayFault, &["dead "])?;
-    let mut at_last_line = host_with(alloc, &bytes)?;
-    at_last_line.fail(alloc, &[1])?;
-    check(&rt, &mut at_last_line, &["once"], Status::Usage, &[])
+    let rows: [(u64, Status, &[&str]); 4] = [
+        (1, Status::DiskFault, &["disk fault\n"]),
+        (2, Status::DiskFault, &["disk fault\n"]),
+        (3, Status::SayFault, &[]),
+        (5, Status::SayFault, &["dead "]),
+    ];
+    for (call, status, wanted) in rows {
+        check_failing(&rt, call, &words, status, wanted)?;
+    }
+    check_failing(&rt, 1, &["once"], Status::Usage, &[])
+}
+
+/// Writes image B over a longer file.
+fn check_written<M: Memory, H: Host>(rt: &impl Abort, m: &M, host: &mut H) {
+    assert_eq!(rt; write(m, host, "B"), Ok(1156));
+    assert_eq!(rt; file_length(host, "B"), Ok(Some(1156)));
+}
+
+/// Checks that the file has these bytes first.
+fn check_bytes<H: Host>(rt: &impl Abort, host: &mut H, into: &mut [u8], wanted: &[u8]) {
+    if into.len() == 1156 {
+        assert_eq!(rt; read_from(host, "B", 0, into), Ok(1156));
+    }
+    assert_eq!(rt; &*into, wanted);
 }
 
 #[test]
@@ -510,13 +518,11 @@ fn an_image_is_written_as_it_was(rt: HostRuntime) -> Result<(), Fail> {
     host.put(alloc, "B", &[9; 1200])?;
     host.room_for(alloc, 2000, 10)?;
     match read::<PlainLoader>(alloc, &bytes, &HeadValues::NONE) {
-        Ok(loaded) => assert_eq!(rt; write(&loaded.memory, &mut host, "B")?, 1156),
+        Ok(loaded) => check_written(&rt, &loaded.memory, &mut host),
         Err(ReadImage::Fault(_)) | Err(ReadImage::OutOfMemory) => return Err(AllocError.into()),
     }
-    assert_eq!(rt; host.length("B"), Ok(Some(1156)));
     let mut written = vec![in alloc; 0; 1156]?;
-    assert_eq!(rt; read_from(&mut host, "B", 0, &mut written)?, 1156);
-    assert_eq!(rt; written.as_slice(), bytes.as_slice());
+    check_bytes(&rt, &mut host, &mut written, &bytes);
     Ok(())
 }
 
