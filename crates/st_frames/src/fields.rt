@@ -1,4 +1,4 @@
-ghost use Rattle.std.specs.Prelude.{◌≡◌, ◌≤◌, IfOk};
+ghost use Rattle.std.specs.Prelude.{◌≡◌, ◌≤◌, IfOk, OnErr};
 ghost use Rattle.st_model.specs.Values.{value};
 ghost use Rattle.st_model.specs.View.{IsKnown};
 ghost use Rattle.st_model.specs.Table.{table};
@@ -37,6 +37,7 @@ pub fn store_field<M: Memory>(m: &mut M, f: &Frame, o: Oop, i: u32, x: Oop) -> R
     requires known { IsKnown (M.view m.old).objects (value x) }
     ensures stores { Does (store_field table (value o) i (value x)) itself (shown (M.view m.old) f.now) result (shown (M.view m.new) f.now) }
     ensures held { (M.view m.new).held ≡ (M.view m.old).held }
+    ensures err { OnErr result (M.view m.new ≡ M.view m.old) }
 {
     if o.is_small() {
         return Err(Dead::Small);

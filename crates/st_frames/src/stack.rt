@@ -1,4 +1,4 @@
-ghost use Rattle.std.specs.Prelude.{◌≡◌, ◌≤◌, IfOk, OnOk};
+ghost use Rattle.std.specs.Prelude.{◌≡◌, ◌≤◌, IfOk, OnOk, OnErr};
 ghost use Rattle.st_model.specs.Values.{value};
 ghost use Rattle.st_model.specs.View.{IsKnown};
 ghost use Rattle.st_model.specs.Table.{table};
@@ -21,6 +21,7 @@ fn put<M: Memory>(m: &mut M, f: &Frame, context: Oop, at: u32, x: Oop) -> Result
     requires known { IsKnown (M.view m.old).objects (value x) }
     ensures puts { Does (put table (value context) at (value x)) itself (shown (M.view m.old) f.now) result (shown (M.view m.new) f.now) }
     ensures held { (M.view m.new).held ≡ (M.view m.old).held }
+    ensures err { OnErr result (M.view m.new ≡ M.view m.old) }
     ensures small { OnOk result (at ≤ 16388) }
 {
     let fields = count_fields(m, context)?;
@@ -49,11 +50,13 @@ fn top<M: Memory>(m: &M, f: &Frame) -> Result<Oop, Dead>
 
 impl Frame {
     /// Stores the instruction pointer plus 1 and the stack pointer less 5 in the active context. Dead where that lacks
-    /// the fields.
+    /// one of the fields; the first may be stored then.
     pub fn store<M: Memory>(&self, m: &mut M) -> Result<(), Dead>
         requires frame { IsFrame (M.view m.old) self.now }
         ensures stores { Does (store_context_registers table) itself (shown (M.view m.old) self.now) result (shown (M.view m.new) self.now) }
         ensures frame { OnOk result (StaysFrame (M.view m.old) (M.view m.new) self.now) }
+        ensures held { (M.view m.new).held ≡ (M.view m.old).held }
+        ensures head { (M.view m.new).head ≡ (M.view m.old).head }
     {
         let r = load(m, self);
         store_context_registers(m, &r)
@@ -66,6 +69,8 @@ impl Frame {
         requires known { IsKnown (M.view m.old).objects (value v) }
         ensures pushes { Does (push table (value v)) itself (shown (M.view m.old) self.old) result (shown (M.view m.new) self.new) }
         ensures frame { OnOk result (StaysFrame (M.view m.old) (M.view m.new) self.new) }
+        ensures memory_stays { OnErr result (M.view m.new ≡ M.view m.old) }
+        ensures registers_stay { OnErr result (self.new ≡ self.old) }
     {
         put(m, self, self.active, self.sp + 1, v)?;
         self.sp += 1;
@@ -79,6 +84,7 @@ impl Frame {
         ensures pops { Does (pop table) value (shown (M.view m.now) self.old) result (shown (M.view m.now) self.new) }
         ensures known { IfOk result (λ x. IsKnown (M.view m.now).objects (value x)) }
         ensures frame { OnOk result (IsFrame (M.view m.now) self.new) }
+        ensures registers_stay { OnErr result (self.new ≡ self.old) }
     {
         let x = top(m, self)?;
         self.sp -= 1;
