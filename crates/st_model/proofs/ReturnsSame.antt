@@ -5,7 +5,7 @@ use Rattle.st_model.specs.Values.{Value, renamed, IsLive}
 use Rattle.st_model.specs.Objects.{PageObject}
 use Rattle.st_model.specs.Machine.{ObjectMemory}
 use Rattle.st_model.specs.Calls.{itself}
-use Rattle.st_model.specs.Returns.{cannot_return, return_into, return_unless, return_to_context, return_unless_nil, return_to, return_to_sender, return_to_caller, must_be_boolean, jump_if, jump_on}
+use Rattle.st_model.specs.Returns.{cannot_return, return_into, return_to_context, return_to, return_to_sender, return_to_caller, must_be_boolean, jump_on}
 use Rattle.st_model.proofs.Same.{Simulation, Same, Anything, IsLiveEnd, renamed_end, steps_same}
 use Rattle.st_model.proofs.StepsSame.{parts_same}
 use Rattle.st_model.proofs.ContextsSame.{fetch_context_registers-same}
@@ -20,26 +20,14 @@ module _ {H K : Type 0} {M : ObjectMemory H} {N : ObjectMemory K} (sim : Simulat
   unfolding return_into
   return_into_one-same c v h k = search (parts_same, fetch_context_registers-same) depth 24 fits 4000
 
-  return_unless-same : (c v : Value) (a b : Bool) → IsLive sim.live c → IsLive sim.live v → b ≡ a
-      → Same sim (IsLiveEnd sim.live) (renamed_end sim.name) (return_unless M c v a) (return_unless N (renamed sim.name c) (renamed sim.name v) b)
-  unfolding return_unless
-  return_unless-same c v true b h k e = rw e (cannot_return_one-same v k)
-  return_unless-same c v false b h k e = rw e (goes_on-same sim _ _ (return_into_one-same c v h k))
-
   return_to_context_one-same : (c v nil : Value) → IsLive sim.live c → IsLive sim.live v → IsLive sim.live nil
       → Same sim (IsLiveEnd sim.live) (renamed_end sim.name) (return_to_context M c v nil) (return_to_context N (renamed sim.name c) (renamed sim.name v) (renamed sim.name nil))
   unfolding return_to_context
-  return_to_context_one-same c v nil h k l = search (parts_same, return_unless-same) depth 16 fits 4000
-
-  return_unless_nil-same : (c v nil : Value) (a b : Bool) → IsLive sim.live c → IsLive sim.live v → IsLive sim.live nil → b ≡ a
-      → Same sim (IsLiveEnd sim.live) (renamed_end sim.name) (return_unless_nil M c v nil a) (return_unless_nil N (renamed sim.name c) (renamed sim.name v) (renamed sim.name nil) b)
-  unfolding return_unless_nil
-  return_unless_nil-same c v nil true b h k l e = rw e (cannot_return_one-same v k)
-  return_unless_nil-same c v nil false b h k l e = rw e (return_to_context_one-same c v nil h k l)
+  return_to_context_one-same c v nil h k l = search (parts_same, cannot_return_one-same, goes_on-same, return_into_one-same) depth 20 fits 4000
 
   return_to_one-same : (c v : Value) → IsLive sim.live c → IsLive sim.live v → Same sim (IsLiveEnd sim.live) (renamed_end sim.name) (return_to M c v) (return_to N (renamed sim.name c) (renamed sim.name v))
   unfolding return_to
-  return_to_one-same c v h k = search (parts_same, return_unless_nil-same) depth 16 fits 4000
+  return_to_one-same c v h k = search (parts_same, cannot_return_one-same, return_to_context_one-same) depth 20 fits 4000
 
   return_to-same : (c d v w : Value) → IsLive sim.live c → IsLive sim.live v → d ≡ renamed sim.name c → w ≡ renamed sim.name v
       → Same sim (IsLiveEnd sim.live) (renamed_end sim.name) (return_to M c v) (return_to N d w)
@@ -63,13 +51,6 @@ module _ {H K : Type 0} {M : ObjectMemory H} {N : ObjectMemory K} (sim : Simulat
   unfolding must_be_boolean
   must_be_boolean_one-same x h = search (parts_same, send-same) depth 16 fits 4000
 
-  jump_if-same : (x : Value) (d : ℤ) (a b a' b' : Bool) → IsLive sim.live x → a' ≡ a → b' ≡ b
-      → Same sim (IsLiveEnd sim.live) (renamed_end sim.name) (jump_if M x d a b) (jump_if N (renamed sim.name x) d a' b')
-  unfolding jump_if
-  jump_if-same x d true b a' b' h e f = rw e (search (parts_same, goes_on-same) depth 16 fits 4000)
-  jump_if-same x d false true a' b' h e f = rw (e, f) (search (steps_same, ends_same))
-  jump_if-same x d false false a' b' h e f = rw (e, f) (must_be_boolean_one-same x h)
-
   pub jump_on-same : (p q : PageObject) (d : ℤ) → Same sim (IsLiveEnd sim.live) (renamed_end sim.name) (jump_on M p q d) (jump_on N p q d)
   unfolding jump_on
-  jump_on-same p q d = search (parts_same, jump_if-same) depth 20 fits 4000
+  jump_on-same p q d = search (parts_same, ends_same, goes_on-same, must_be_boolean_one-same) depth 24 fits 4000
