@@ -35,6 +35,6 @@ pub mod Showing
 pub mod Made
 pub mod Making
 mod ImageRows
-mod Opened
+pub mod Opened
 mod Rows
 mod SendRows

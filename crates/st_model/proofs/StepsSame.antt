@@ -1,7 +1,7 @@
 -- Each step on registers, fields, the stack and methods over births does the same over pointers.
 use Rattle.std.proofs.Common.{◌≡◌, ℕ, List, [], ◌∷◌, zero, suc, Option, Some, None, Bool, true, false, refl, ap, ◌∙◌, ◌⊎◌, inl, inr}
 use Rattle.std.proofs.Math.ListN.{length-set}
-use Rattle.std.specs.Prelude.{◌+◌, ◌-◌, ◌*◌, ◌++◌, slice_get, replicate, ℤ}
+use Rattle.std.specs.Prelude.{◌+◌, ◌-◌, ◌*◌, ◌++◌, replicate, ℤ}
 use Rattle.st_model.specs.declared.dead.Dead.{Dead}
 use Rattle.st_model.specs.declared.kind.Kind.{Kind}
 use Rattle.st_model.specs.declared.kind.Kind.TheVariants as kind
@@ -12,41 +12,41 @@ use Rattle.st_model.specs.Formed.{fresh_with}
 use Rattle.st_model.specs.Show.{renamed_registers}
 use Rattle.st_model.specs.Steps.{get_active, get_home, get_method, get_receiver, get_ip, get_sp, set_ip, set_sp, found, object_named, object, stored_at, store_at, set_field, made, make_named, make, registers_set, set_registers, new_of, are_there, of_page, new_object, class_of, or_die, check, fetch_field, store_field, integer_or_die, fetch_integer, count_fields, fetch_fields, store_fields, transfer, put, push, under, look_at_words, drop_words, top, pop, literal, byte_at, next_byte, jump}
 use Rattle.st_model.specs.Calls.{itself}
-use Rattle.st_model.proofs.Same.{OptionSame, Simulation, StateSame, TransitionSame, StaysOver, Same, Anything, IsLiveRegisters, is_there-renamed, steps_same, then_unit-same, over_value, over_object, with_field-renamed, stored_is_live}
+use Rattle.st_model.proofs.Same.{OptionSame, Simulation, StateSame, TransitionSame, StaysOver, Anything, IsLiveRegisters, ValueSame, ValuesSame, OptionalSame, RegistersSame, SameValue, SameValues, SameObject, SameAnswer, is_there-renamed, steps_same, then_unit-same, over_value, over_object, with_field-renamed, stored_is_live}
 
 module _ {H K : Type 0} {M : ObjectMemory H} {N : ObjectMemory K} (sim : Simulation M N) where
-  pub get_active-same : Same sim (IsLive sim.live) (renamed sim.name) get_active get_active
+  pub get_active-same : SameValue sim get_active get_active
   unfolding get_active
   get_active-same = record { go = λ s t st. inr (st.roots.0, ap (λ r. r.active) st.registers, st); stay = λ s o. (over_value sim s.memory o s.registers.active, o) }
 
-  pub get_home-same : Same sim (IsLive sim.live) (renamed sim.name) get_home get_home
+  pub get_home-same : SameValue sim get_home get_home
   unfolding get_home
   get_home-same = record { go = λ s t st. inr (st.roots.1.0, ap (λ r. r.home) st.registers, st); stay = λ s o. (over_value sim s.memory o s.registers.home, o) }
 
-  pub get_method-same : Same sim (IsLive sim.live) (renamed sim.name) get_method get_method
+  pub get_method-same : SameValue sim get_method get_method
   unfolding get_method
   get_method-same = record { go = λ s t st. inr (st.roots.1.1.0, ap (λ r. r.method) st.registers, st); stay = λ s o. (over_value sim s.memory o s.registers.method, o) }
 
-  pub get_receiver-same : Same sim (IsLive sim.live) (renamed sim.name) get_receiver get_receiver
+  pub get_receiver-same : SameValue sim get_receiver get_receiver
   unfolding get_receiver
   get_receiver-same = record { go = λ s t st. inr (st.roots.1.1.1.0, ap (λ r. r.receiver) st.registers, st); stay = λ s o. (over_value sim s.memory o s.registers.receiver, o) }
 
-  pub get_ip-same : Same sim Anything itself get_ip get_ip
+  pub get_ip-same : SameAnswer sim get_ip get_ip
   unfolding get_ip
   get_ip-same = record { go = λ s t st. inr (tt, ap (λ r. r.ip) st.registers, st); stay = λ s o. (tt, o) }
 
-  pub get_sp-same : Same sim Anything itself get_sp get_sp
+  pub get_sp-same : SameAnswer sim get_sp get_sp
   unfolding get_sp
   get_sp-same = record { go = λ s t st. inr (tt, ap (λ r. r.sp) st.registers, st); stay = λ s o. (tt, o) }
 
-  pub set_sp-same : (n : ℕ) → Same sim Anything itself (set_sp n) (set_sp n)
+  pub set_sp-same : (n : ℕ) → SameAnswer sim (set_sp n) (set_sp n)
   unfolding set_sp
   set_sp-same n = record {
     go = λ s t st. inr (tt, refl, record { memory = st.memory; limits = st.limits; keeps = st.keeps; roots = st.roots; registers = ap (λ (r : Registers). record r { sp = n }) st.registers; world = st.world; head = st.head });
     stay = λ s o. (tt, o);
   }
 
-  pub set_ip-same : (n : ℤ) → Same sim Anything itself (set_ip n) (set_ip n)
+  pub set_ip-same : (n : ℤ) → SameAnswer sim (set_ip n) (set_ip n)
   unfolding set_ip
   set_ip-same n = record {
     go = λ s t st. inr (tt, refl, record { memory = st.memory; limits = st.limits; keeps = st.keeps; roots = st.roots; registers = ap (λ (r : Registers). record r { ip = n }) st.registers; world = st.world; head = st.head });
@@ -54,7 +54,7 @@ module _ {H K : Type 0} {M : ObjectMemory H} {N : ObjectMemory K} (sim : Simulat
   }
 
   pub found-same : (a b : Option Object) → OptionSame sim.live sim.name a b
-      → Same sim (IsLiveObject sim.live) (renamed_object sim.name) (found a) (found b)
+      → SameObject sim (found a) (found b)
   unfolding found
   found-same None b h = rw h (search steps_same)
   found-same (Some a) b h = rw h.1 (search steps_same)
@@ -65,7 +65,7 @@ module _ {H K : Type 0} {M : ObjectMemory H} {N : ObjectMemory K} (sim : Simulat
   found_over (Some a) s o = (over_object sim s.memory o a, o)
 
   pub object_named-same : (n : ℕ) → sim.live n
-      → Same sim (IsLiveObject sim.live) (renamed_object sim.name) (object_named M n) (object_named N (sim.name n))
+      → SameObject sim (object_named M n) (object_named N (sim.name n))
   unfolding object_named
   object_named-same n h = record {
     go = λ s t st.
@@ -73,15 +73,10 @@ module _ {H K : Type 0} {M : ObjectMemory H} {N : ObjectMemory K} (sim : Simulat
     stay = λ s o. found_over (M.read s.memory n) s o;
   }
 
-  object_one-same : (v : Value) → IsLive sim.live v
-      → Same sim (IsLiveObject sim.live) (renamed_object sim.name) (object M v) (object N (renamed sim.name v))
+  pub object-same : (v w : Value) → ValueSame sim v w → SameObject sim (object M v) (object N w)
   unfolding object
-  object_one-same (Small n) h = search steps_same
-  object_one-same (Ref n) h = object_named-same n h
-
-  pub object-same : (v w : Value) → IsLive sim.live v → w ≡ renamed sim.name v
-      → Same sim (IsLiveObject sim.live) (renamed_object sim.name) (object M v) (object N w)
-  object-same v w h e = rw e (object_one-same v h)
+  object-same (Small n) w h = rw h.is (search steps_same)
+  object-same (Ref n) w h = rw h.is (object_named-same n h.live)
 
   words-with_field : (o : Object) (i : ℕ) (x : Value) → words_of (with_field o i x) ≡ words_of o
   words-with_field o i x = rw (length-set o.fields i x) refl
@@ -112,7 +107,7 @@ module _ {H K : Type 0} {M : ObjectMemory H} {N : ObjectMemory K} (sim : Simulat
   stored_over n i x s (Some a) false e o = tt
   stored_over n i x s (Some a) true e o = (tt, sim.over_replace s.memory n a (with_field a i x) o e (words-with_field a i x))
 
-  pub store_at-same : (n i : ℕ) (x : Value) → sim.live n → IsLive sim.live x → Same sim Anything itself (store_at M n i x) (store_at N (sim.name n) i (renamed sim.name x))
+  pub store_at-same : (n i : ℕ) (x : Value) → sim.live n → IsLive sim.live x → SameAnswer sim (store_at M n i x) (store_at N (sim.name n) i (renamed sim.name x))
   unfolding store_at
   store_at-same n i x l k = record {
     go = λ s t st.
@@ -121,15 +116,10 @@ module _ {H K : Type 0} {M : ObjectMemory H} {N : ObjectMemory K} (sim : Simulat
     stay = λ s o. stored_over n i x s (M.read s.memory n) (is_there M s.memory x) refl o;
   }
 
-  set_field_one-same : (v : Value) (i : ℕ) (x : Value) → IsLive sim.live v → IsLive sim.live x
-      → Same sim Anything itself (set_field M v i x) (set_field N (renamed sim.name v) i (renamed sim.name x))
+  pub set_field-same : (v w : Value) (i : ℕ) (x y : Value) → ValueSame sim v w → ValueSame sim x y → SameAnswer sim (set_field M v i x) (set_field N w i y)
   unfolding set_field
-  set_field_one-same (Small n) i x h l = search steps_same
-  set_field_one-same (Ref n) i x h l = store_at-same n i x h l
-
-  pub set_field-same : (v w : Value) (i : ℕ) (x y : Value) → IsLive sim.live v → IsLive sim.live x → w ≡ renamed sim.name v → y ≡ renamed sim.name x
-      → Same sim Anything itself (set_field M v i x) (set_field N w i y)
-  set_field-same v w i x y h l e f = rw (e, f) (set_field_one-same v i x h l)
+  set_field-same (Small n) w i x y h l = rw h.is (search steps_same)
+  set_field-same (Ref n) w i x y h l = rw (h.is, l.is) (store_at-same n i x h.live l.live)
 
   live_replicate : (v : Value) (n : ℕ) → IsLive sim.live v → AllLive sim.live (replicate n v)
   live_replicate v zero h = tt
@@ -192,7 +182,7 @@ module _ {H K : Type 0} {M : ObjectMemory H} {N : ObjectMemory K} (sim : Simulat
     made_over s true true o = (sim.over_live s.memory (M.next s.memory) o, sim.over_append s.memory (new_of M s.memory c kind size literals) o)
     made_over s true false o = (sim.over_live s.memory (M.named s.memory NilObject) o, o)
 
-    make_named-same : sim.live c → Same sim (IsLive sim.live) (renamed sim.name) (make_named M c kind size literals) (make_named N (sim.name c) kind size literals)
+    make_named-same : sim.live c → SameValue sim (make_named M c kind size literals) (make_named N (sim.name c) kind size literals)
     unfolding make_named
     make_named-same l = record {
       go = λ s t st.
@@ -203,15 +193,10 @@ module _ {H K : Type 0} {M : ObjectMemory H} {N : ObjectMemory K} (sim : Simulat
       stay = λ s o. made_over s (is_there M s.memory (Ref c)) (has_room M s.head s.memory (new_of M s.memory c kind size literals)) o;
     }
 
-  make_one-same : (v : Value) (kind : Kind) (size literals : ℕ) → IsLive sim.live v
-      → Same sim (IsLive sim.live) (renamed sim.name) (make M v kind size literals) (make N (renamed sim.name v) kind size literals)
+  pub make-same : (v w : Value) (kind : Kind) (size literals : ℕ) → ValueSame sim v w → SameValue sim (make M v kind size literals) (make N w kind size literals)
   unfolding make
-  make_one-same (Small n) kind size literals h = search steps_same
-  make_one-same (Ref n) kind size literals h = make_named-same n kind size literals h
-
-  pub make-same : (v w : Value) (kind : Kind) (size literals : ℕ) → IsLive sim.live v → w ≡ renamed sim.name v
-      → Same sim (IsLive sim.live) (renamed sim.name) (make M v kind size literals) (make N w kind size literals)
-  make-same v w kind size literals h e = rw e (make_one-same v kind size literals h)
+  make-same (Small n) w kind size literals h = rw h.is (search steps_same)
+  make-same (Ref n) w kind size literals h = rw h.is (make_named-same n kind size literals h.live)
 
   four_there : (s : State H) (t : State K) (r : Registers) → StateSame sim s t → IsLiveRegisters sim.live r → are_there N t.memory (renamed_registers sim.name r) ≡ are_there M s.memory r
   four_there s t r st l =
@@ -244,187 +229,139 @@ module _ {H K : Type 0} {M : ObjectMemory H} {N : ObjectMemory K} (sim : Simulat
   registers_set_over r s false o = tt
   registers_set_over r s true o = (tt, o)
 
-  set_registers_one-same : (r : Registers) → IsLiveRegisters sim.live r → Same sim Anything itself (set_registers M r) (set_registers N (renamed_registers sim.name r))
+  set_registers_one-same : (r : Registers) → IsLiveRegisters sim.live r → SameAnswer sim (set_registers M r) (set_registers N (renamed_registers sim.name r))
   unfolding set_registers
   set_registers_one-same r h = record {
     go = λ s t st. rw (four_there s t r st h) (registers_set-same r s t (are_there M s.memory r) h st refl);
     stay = λ s o. registers_set_over r s (are_there M s.memory r) o;
   }
 
-  pub set_registers-same : (r q : Registers) → IsLiveRegisters sim.live r → q ≡ renamed_registers sim.name r → Same sim Anything itself (set_registers M r) (set_registers N q)
-  set_registers-same r q h e = rw e (set_registers_one-same r h)
+  pub set_registers-same : (r q : Registers) → RegistersSame sim r q → SameAnswer sim (set_registers M r) (set_registers N q)
+  set_registers-same r q h = rw h.is (set_registers_one-same r h.live)
 
-  pub of_page-same : (p : PageObject) → Same sim (IsLive sim.live) (renamed sim.name) (of_page M p) (of_page N p)
+  pub of_page-same : (p : PageObject) → SameValue sim (of_page M p) (of_page N p)
   unfolding of_page
   of_page-same p = record {
     go = λ s t st. inr (sim.named_live s.memory t.memory p st.memory, ap Ref (sim.named s.memory t.memory p st.memory), st);
     stay = λ s o. (sim.over_live s.memory (M.named s.memory p) o, o);
   }
 
-  check_one-same : (cause : Dead) (b : Bool) → Same sim Anything itself (check cause b) (check cause b)
+  pub check-same : (cause : Dead) (b c : Bool) → c ≡ b → SameAnswer sim (check cause b) (check cause c)
   unfolding check
-  check_one-same cause true = search steps_same
-  check_one-same cause false = search steps_same
+  check-same cause true c e = rw e (search steps_same)
+  check-same cause false c e = rw e (search steps_same)
 
-  pub check-same : (cause : Dead) (b c : Bool) → c ≡ b → Same sim Anything itself (check cause b) (check cause c)
-  check-same cause b c e = rw e (check_one-same cause b)
-
-  pub value_or_die-same : (cause : Dead) (fields : List Value) (i : ℕ) → AllLive sim.live fields
-      → Same sim (IsLive sim.live) (renamed sim.name) (or_die cause (slice_get fields i)) (or_die cause (slice_get (renamed_all sim.name fields) i))
+  pub value_or_die-same : (cause : Dead) (x y : Option Value) → OptionalSame sim x y → SameValue sim (or_die cause x) (or_die cause y)
   unfolding or_die
-  value_or_die-same cause [] i h = search steps_same
-  value_or_die-same cause (v ∷ vs) zero h = search steps_same
-  value_or_die-same cause (v ∷ vs) (suc i) h = value_or_die-same cause vs i h.1
+  value_or_die-same cause None y h = rw h.is (search steps_same)
+  value_or_die-same cause (Some v) y h = let k : ValueSame sim v (renamed sim.name v) = record { live = h.live; is = refl } in rw h.is (search steps_same)
 
-  fetch_field_one-same : (v : Value) (i : ℕ) → IsLive sim.live v
-      → Same sim (IsLive sim.live) (renamed sim.name) (fetch_field M v i) (fetch_field N (renamed sim.name v) i)
-  unfolding fetch_field
-  fetch_field_one-same v i h = search (steps_same, object-same, check-same, value_or_die-same) depth 16 fits 4000
+  pub itself_or_die-same : {A : Type 0} (cause : Dead) (x y : Option A) → y ≡ x → SameAnswer sim (or_die cause x) (or_die cause y)
+  unfolding or_die
+  itself_or_die-same cause None y e = rw e (search steps_same)
+  itself_or_die-same cause (Some a) y e = rw e (search steps_same)
 
-  pub fetch_field-same : (v w : Value) (i : ℕ) → IsLive sim.live v → w ≡ renamed sim.name v
-      → Same sim (IsLive sim.live) (renamed sim.name) (fetch_field M v i) (fetch_field N w i)
-  fetch_field-same v w i h e = rw e (fetch_field_one-same v i h)
-
-  pub ruleset memory_same = (steps_same, get_active-same, get_home-same, get_method-same, get_receiver-same, get_ip-same, get_sp-same, set_ip-same, set_sp-same, object-same, set_field-same, make-same, of_page-same, check-same, value_or_die-same, fetch_field-same)
-
-  pub new_object-same : (v w : Value) (n : ℕ) → IsLive sim.live v → w ≡ renamed sim.name v → Same sim (IsLive sim.live) (renamed sim.name) (new_object M v n) (new_object N w n)
-  unfolding new_object
-  new_object-same v w n h e = make-same v w kind.Pointers n 0 h e
-
-  class_of_one-same : (v : Value) → IsLive sim.live v → Same sim (IsLive sim.live) (renamed sim.name) (class_of M v) (class_of N (renamed sim.name v))
-  unfolding class_of
-  class_of_one-same (Small n) h = search memory_same depth 16 fits 4000
-  class_of_one-same (Ref n) h = search (memory_same, object_named-same) depth 16 fits 4000
-
-  pub class_of-same : (v w : Value) → IsLive sim.live v → w ≡ renamed sim.name v → Same sim (IsLive sim.live) (renamed sim.name) (class_of M v) (class_of N w)
-  class_of-same v w h e = rw e (class_of_one-same v h)
-
-  integer_or_die_one-same : (v : Value) → Same sim Anything itself (integer_or_die v) (integer_or_die (renamed sim.name v))
+  pub integer_or_die-same : (v w : Value) → ValueSame sim v w → SameAnswer sim (integer_or_die v) (integer_or_die w)
   unfolding integer_or_die
-  integer_or_die_one-same (Small n) = search steps_same
-  integer_or_die_one-same (Ref n) = search steps_same
+  integer_or_die-same (Small n) w h = rw h.is (search steps_same)
+  integer_or_die-same (Ref n) w h = rw h.is (search steps_same)
 
-  pub integer_or_die-same : (v w : Value) → w ≡ renamed sim.name v → Same sim Anything itself (integer_or_die v) (integer_or_die w)
-  integer_or_die-same v w e = rw e (integer_or_die_one-same v)
+  pub ruleset memory_same = (steps_same, get_active-same, get_home-same, get_method-same, get_receiver-same, get_ip-same, get_sp-same, set_ip-same, set_sp-same, object-same, set_field-same, make-same, set_registers-same, of_page-same, check-same, value_or_die-same, itself_or_die-same, integer_or_die-same)
 
-  fetch_integer_one-same : (v : Value) (i : ℕ) → IsLive sim.live v → Same sim Anything itself (fetch_integer M v i) (fetch_integer N (renamed sim.name v) i)
-  unfolding fetch_integer
-  fetch_integer_one-same v i h = search (memory_same, integer_or_die-same) depth 16 fits 4000
+  -- fields
 
-  pub fetch_integer-same : (v w : Value) (i : ℕ) → IsLive sim.live v → w ≡ renamed sim.name v → Same sim Anything itself (fetch_integer M v i) (fetch_integer N w i)
-  fetch_integer-same v w i h e = rw e (fetch_integer_one-same v i h)
+  pub fetch_field-same : (v w : Value) (i : ℕ) → ValueSame sim v w → SameValue sim (fetch_field M v i) (fetch_field N w i)
+  unfolding fetch_field
+  fetch_field-same v w i h = search memory_same depth 16 fits 4000
 
-  store_field_one-same : (v : Value) (i : ℕ) (x : Value) → IsLive sim.live v → IsLive sim.live x
-      → Same sim Anything itself (store_field M v i x) (store_field N (renamed sim.name v) i (renamed sim.name x))
+  pub store_field-same : (v w : Value) (i : ℕ) (x y : Value) → ValueSame sim v w → ValueSame sim x y → SameAnswer sim (store_field M v i x) (store_field N w i y)
   unfolding store_field
-  store_field_one-same v i x h k = search memory_same depth 20 fits 4000
+  store_field-same v w i x y h k = search memory_same depth 20 fits 4000
 
-  pub store_field-same : (v w : Value) (i : ℕ) (x y : Value) → IsLive sim.live v → IsLive sim.live x → w ≡ renamed sim.name v → y ≡ renamed sim.name x
-      → Same sim Anything itself (store_field M v i x) (store_field N w i y)
-  store_field-same v w i x y h k e f = rw (e, f) (store_field_one-same v i x h k)
-
-  count_fields_one-same : (v : Value) → IsLive sim.live v → Same sim Anything itself (count_fields M v) (count_fields N (renamed sim.name v))
+  pub count_fields-same : (v w : Value) → ValueSame sim v w → SameAnswer sim (count_fields M v) (count_fields N w)
   unfolding count_fields
-  count_fields_one-same v h = search memory_same depth 20 fits 4000
+  count_fields-same v w h = search memory_same depth 20 fits 4000
 
-  pub count_fields-same : (v w : Value) → IsLive sim.live v → w ≡ renamed sim.name v → Same sim Anything itself (count_fields M v) (count_fields N w)
-  count_fields-same v w h e = rw e (count_fields_one-same v h)
+  pub new_object-same : (v w : Value) (n : ℕ) → ValueSame sim v w → SameValue sim (new_object M v n) (new_object N w n)
+  unfolding new_object
+  new_object-same v w n h = make-same v w kind.Pointers n 0 h
 
-  fetch_fields_one-same : (v : Value) (from n : ℕ) → IsLive sim.live v
-      → Same sim (AllLive sim.live) (renamed_all sim.name) (fetch_fields M v from n) (fetch_fields N (renamed sim.name v) from n)
+  pub class_of-same : (v w : Value) → ValueSame sim v w → SameValue sim (class_of M v) (class_of N w)
+  unfolding class_of
+  class_of-same (Small n) w h = rw h.is (search memory_same)
+  class_of-same (Ref n) w h = let l : sim.live n = h.live in rw h.is (search (memory_same, object_named-same) depth 16 fits 4000)
+
+  pub ruleset fields_same = (memory_same, fetch_field-same, store_field-same, count_fields-same, new_object-same, class_of-same)
+
+  pub fetch_integer-same : (v w : Value) (i : ℕ) → ValueSame sim v w → SameAnswer sim (fetch_integer M v i) (fetch_integer N w i)
+  unfolding fetch_integer
+  fetch_integer-same v w i h = search fields_same depth 16 fits 4000
+
+  fetch_fields-same : (v w : Value) (from n : ℕ) → ValueSame sim v w → SameValues sim (fetch_fields M v from n) (fetch_fields N w from n)
   unfolding fetch_fields
-  fetch_fields_one-same v from zero h = search memory_same depth 16 fits 4000
-  fetch_fields_one-same v from (suc n) h = search (memory_same, fetch_fields_one-same v (suc from) n) depth 16 fits 4000
+  fetch_fields-same v w from zero h = search fields_same depth 16 fits 4000
+  fetch_fields-same v w from (suc n) h = search (fields_same, fetch_fields-same v w (suc from) n) depth 16 fits 4000
 
-  pub fetch_fields-same : (v w : Value) (from n : ℕ) → IsLive sim.live v → w ≡ renamed sim.name v
-      → Same sim (AllLive sim.live) (renamed_all sim.name) (fetch_fields M v from n) (fetch_fields N w from n)
-  fetch_fields-same v w from n h e = rw e (fetch_fields_one-same v from n h)
-
-  store_fields_one-same : (v : Value) (to : ℕ) (xs : List Value) → IsLive sim.live v → AllLive sim.live xs
-      → Same sim Anything itself (store_fields M v to xs) (store_fields N (renamed sim.name v) to (renamed_all sim.name xs))
+  store_fields_one-same : (v w : Value) (to : ℕ) (xs : List Value) → ValueSame sim v w → AllLive sim.live xs → SameAnswer sim (store_fields M v to xs) (store_fields N w to (renamed_all sim.name xs))
   unfolding store_fields
-  store_fields_one-same v to [] h k = search memory_same depth 16 fits 4000
-  store_fields_one-same v to (x ∷ xs) h k = then_unit-same sim _ _ _ _ _ _ (store_field_one-same v to x h k.0) (store_fields_one-same v (suc to) xs h k.1)
+  store_fields_one-same v w to [] h k = search fields_same depth 16 fits 4000
+  store_fields_one-same v w to (x ∷ xs) h k =
+      let l : ValueSame sim x (renamed sim.name x) = record { live = k.0; is = refl } in
+      then_unit-same sim _ _ _ _ _ _ (store_field-same v w to x _ h l) (store_fields_one-same v w (suc to) xs h k.1)
 
-  pub store_fields-same : (v w : Value) (to : ℕ) (xs ys : List Value) → IsLive sim.live v → AllLive sim.live xs → w ≡ renamed sim.name v → ys ≡ renamed_all sim.name xs
-      → Same sim Anything itself (store_fields M v to xs) (store_fields N w to ys)
-  store_fields-same v w to xs ys h k e f = rw (e, f) (store_fields_one-same v to xs h k)
+  store_fields-same : (v w : Value) (to : ℕ) (xs ys : List Value) → ValueSame sim v w → ValuesSame sim xs ys → SameAnswer sim (store_fields M v to xs) (store_fields N w to ys)
+  store_fields-same v w to xs ys h k = rw k.is (store_fields_one-same v w to xs h k.live)
 
-  transfer_one-same : (n : ℕ) (v : Value) (from : ℕ) (w : Value) (to : ℕ) → IsLive sim.live v → IsLive sim.live w
-      → Same sim Anything itself (transfer M n v from w to) (transfer N n (renamed sim.name v) from (renamed sim.name w) to)
+  pub transfer-same : (n : ℕ) (v w : Value) (from : ℕ) (x y : Value) (to : ℕ) → ValueSame sim v w → ValueSame sim x y → SameAnswer sim (transfer M n v from x to) (transfer N n w from y to)
   unfolding transfer
-  transfer_one-same n v from w to h k = search (memory_same, fetch_fields-same, store_fields-same) depth 16 fits 4000
+  transfer-same n v w from x y to h k = search (fields_same, fetch_fields-same, store_fields-same) depth 16 fits 4000
 
-  pub transfer-same : (n : ℕ) (v v' : Value) (from : ℕ) (w w' : Value) (to : ℕ) → IsLive sim.live v → IsLive sim.live w → v' ≡ renamed sim.name v → w' ≡ renamed sim.name w
-      → Same sim Anything itself (transfer M n v from w to) (transfer N n v' from w' to)
-  transfer-same n v v' from w w' to h k e f = rw (e, f) (transfer_one-same n v from w to h k)
+  -- the stack
 
-  put_one-same : (c : Value) (at : ℕ) (x : Value) → IsLive sim.live c → IsLive sim.live x
-      → Same sim Anything itself (put M c at x) (put N (renamed sim.name c) at (renamed sim.name x))
+  put-same : (c d : Value) (at : ℕ) (x y : Value) → ValueSame sim c d → ValueSame sim x y → SameAnswer sim (put M c at x) (put N d at y)
   unfolding put
-  put_one-same c at x h k = search (memory_same, count_fields-same, store_field-same) depth 20 fits 4000
+  put-same c d at x y h k = search fields_same depth 20 fits 4000
 
-  pub put-same : (c d : Value) (at : ℕ) (x y : Value) → IsLive sim.live c → IsLive sim.live x → d ≡ renamed sim.name c → y ≡ renamed sim.name x
-      → Same sim Anything itself (put M c at x) (put N d at y)
-  put-same c d at x y h k e f = rw (e, f) (put_one-same c at x h k)
-
-  push_one-same : (v : Value) → IsLive sim.live v → Same sim Anything itself (push M v) (push N (renamed sim.name v))
+  pub push-same : (v w : Value) → ValueSame sim v w → SameAnswer sim (push M v) (push N w)
   unfolding push
-  push_one-same v h = search (memory_same, put-same) depth 20 fits 4000
+  push-same v w h = search (fields_same, put-same) depth 20 fits 4000
 
-  pub push-same : (v w : Value) → IsLive sim.live v → w ≡ renamed sim.name v → Same sim Anything itself (push M v) (push N w)
-  push-same v w h e = rw e (push_one-same v h)
-
-  pub top-same : Same sim (IsLive sim.live) (renamed sim.name) (top M) (top N)
+  pub top-same : SameValue sim (top M) (top N)
   unfolding top
-  top-same = search memory_same depth 16 fits 4000
+  top-same = search fields_same depth 16 fits 4000
 
-  pub under-same : (k : ℕ) → Same sim (IsLive sim.live) (renamed sim.name) (under M k) (under N k)
+  pub under-same : (k : ℕ) → SameValue sim (under M k) (under N k)
   unfolding under
-  under-same k = search memory_same depth 16 fits 4000
+  under-same k = search fields_same depth 16 fits 4000
 
-  pub look_at_words-same : (n : ℕ) → Same sim Anything itself (look_at_words M n) (look_at_words N n)
+  pub look_at_words-same : (n : ℕ) → SameAnswer sim (look_at_words M n) (look_at_words N n)
   unfolding look_at_words
-  look_at_words-same n = search (memory_same, under-same, top-same) depth 16 fits 4000
+  look_at_words-same n = search (fields_same, under-same, top-same) depth 16 fits 4000
 
-  pub drop_words-same : (n : ℕ) → Same sim Anything itself (drop_words n) (drop_words n)
+  pub drop_words-same : (n : ℕ) → SameAnswer sim (drop_words n) (drop_words n)
   unfolding drop_words
-  drop_words-same n = search memory_same depth 16 fits 4000
+  drop_words-same n = search fields_same depth 16 fits 4000
 
-  pub pop-same : Same sim (IsLive sim.live) (renamed sim.name) (pop M) (pop N)
+  pub pop-same : SameValue sim (pop M) (pop N)
   unfolding pop
-  pop-same = search (memory_same, top-same) depth 16 fits 4000
+  pop-same = search (fields_same, top-same) depth 16 fits 4000
 
-  literal_one-same : (v : Value) (i : ℕ) → IsLive sim.live v
-      → Same sim (IsLive sim.live) (renamed sim.name) (literal M v i) (literal N (renamed sim.name v) i)
+  -- methods
+
+  pub literal-same : (v w : Value) (i : ℕ) → ValueSame sim v w → SameValue sim (literal M v i) (literal N w i)
   unfolding literal
-  literal_one-same v i h = search memory_same depth 16 fits 4000
+  literal-same v w i h = search fields_same depth 16 fits 4000
 
-  pub literal-same : (v w : Value) (i : ℕ) → IsLive sim.live v → w ≡ renamed sim.name v
-      → Same sim (IsLive sim.live) (renamed sim.name) (literal M v i) (literal N w i)
-  literal-same v w i h e = rw e (literal_one-same v i h)
-
-  number_or_die_one-same : (cause : Dead) (n : Option ℕ) → Same sim Anything itself (or_die cause n) (or_die cause n)
-  unfolding or_die
-  number_or_die_one-same cause None = search steps_same
-  number_or_die_one-same cause (Some n) = search steps_same
-
-  pub number_or_die-same : (cause : Dead) (n k : Option ℕ) → k ≡ n → Same sim Anything itself (or_die cause n) (or_die cause k)
-  number_or_die-same cause n k e = rw e (number_or_die_one-same cause n)
-
-  byte_at_one-same : (v : Value) (ip : ℤ) → IsLive sim.live v → Same sim Anything itself (byte_at M v ip) (byte_at N (renamed sim.name v) ip)
+  byte_at-same : (v w : Value) (ip : ℤ) → ValueSame sim v w → SameAnswer sim (byte_at M v ip) (byte_at N w ip)
   unfolding byte_at
-  byte_at_one-same v ip h = search (memory_same, number_or_die-same) depth 16 fits 4000
+  byte_at-same v w ip h = search fields_same depth 16 fits 4000
 
-  pub byte_at-same : (v w : Value) (ip : ℤ) → IsLive sim.live v → w ≡ renamed sim.name v → Same sim Anything itself (byte_at M v ip) (byte_at N w ip)
-  byte_at-same v w ip h e = rw e (byte_at_one-same v ip h)
-
-  pub next_byte-same : Same sim Anything itself (next_byte M) (next_byte N)
+  pub next_byte-same : SameAnswer sim (next_byte M) (next_byte N)
   unfolding next_byte
-  next_byte-same = search (memory_same, byte_at-same) depth 24 fits 4000
+  next_byte-same = search (fields_same, byte_at-same) depth 24 fits 4000
 
-  pub jump-same : (d : ℤ) → Same sim Anything itself (jump d) (jump d)
+  pub jump-same : (d : ℤ) → SameAnswer sim (jump d) (jump d)
   unfolding jump
-  jump-same d = search memory_same depth 16 fits 4000
+  jump-same d = search fields_same depth 16 fits 4000
 
-  pub ruleset parts_same = (memory_same, new_object-same, class_of-same, fetch_integer-same, count_fields-same, transfer-same, store_field-same, push-same, under-same, look_at_words-same, drop_words-same, top-same, pop-same, literal-same, next_byte-same, jump-same, number_or_die-same, integer_or_die-same)
+  pub ruleset parts_same = (fields_same, fetch_integer-same, transfer-same, push-same, under-same, look_at_words-same, drop_words-same, top-same, pop-same, literal-same, next_byte-same, jump-same)
