@@ -10,20 +10,12 @@ use Rattle.st_model.specs.declared.kind.Kind.TheVariants as kind
 use Rattle.st_model.specs.Values.{Value, Small, Ref}
 use Rattle.st_model.specs.Objects.{Object, nil}
 use Rattle.st_model.specs.Outcomes as outcome
-use Rattle.st_model.specs.Machine.{State, empty_world, Died, Went, answer, die, after, ◌>>=◌, ◌>>◌}
+use Rattle.st_model.specs.Machine.{State, empty_world, Died, Went}
 use Rattle.st_model.specs.Table.{Table, table}
-use Rattle.st_model.specs.Steps.{get_active, get_home, get_method, get_receiver, get_ip, get_sp, set_ip, set_sp, found, object_named, object, stored_at, store_at, set_field, made, make_named, make, new_object, registers_set, set_registers, of_page, class_of, or_die, check, fetch_field, store_field, integer_or_die, fetch_integer, count_fields, fetch_fields, store_fields, transfer, put, push, top, under, look_at_words, drop_words, pop, literal, byte_at, next_byte, jump}
-use Rattle.st_model.specs.Methods.{method_header, literal_from_last}
-use Rattle.st_model.specs.Contexts.{home_by, home_of, stack_place, fetch_stack_pointer, context_registers, fetch_context_registers, store_context_registers, switch, fill_context, new_context, pass_words, activate}
-use Rattle.st_model.specs.Lookup.{half_word, checked_method, method_at, place_says, look_at_place, look_at_places, search_from, search_dictionary, or_above, method_in_class, look_in_class, unless_nil, end_at_nil, find_within, find}
-use Rattle.st_model.specs.Sends.{goes_on, execute_by, execute, execute_not_understood, not_understood, execute_found, send_from, send, class_above, send_to_super}
-use Rattle.st_model.specs.Returns.{cannot_return, return_into, return_unless, return_to_context, return_unless_nil, return_to, return_to_sender, must_be_boolean, jump_if, jump_on}
-use Rattle.st_model.specs.Bytecodes.{fetch_literal_constant, constant_value, send_literal, send_literal_to_super, extended_super_send, return_constant, short_jump_on_false, long_jump_on_true, bytecode, step}
-
--- opens the definitions of these steps
-opened : Unit {0}
-unfolding answer die after ◌>>=◌ ◌>>◌ get_active get_home get_method get_receiver get_ip get_sp set_ip set_sp found object_named object stored_at store_at set_field made make_named make new_object registers_set set_registers of_page class_of or_die check fetch_field store_field integer_or_die fetch_integer count_fields fetch_fields store_fields transfer put push top under look_at_words drop_words pop literal byte_at next_byte jump method_header literal_from_last home_by home_of stack_place fetch_stack_pointer context_registers fetch_context_registers store_context_registers switch fill_context new_context pass_words activate half_word checked_method method_at place_says look_at_place look_at_places search_from search_dictionary or_above method_in_class look_in_class unless_nil end_at_nil find_within find goes_on execute_by execute execute_not_understood not_understood execute_found send_from send class_above send_to_super cannot_return return_into return_unless return_to_context return_unless_nil return_to return_to_sender must_be_boolean jump_if jump_on fetch_literal_constant constant_value send_literal send_literal_to_super extended_super_send return_constant short_jump_on_false long_jump_on_true bytecode step
-opened = tt
+use Rattle.st_model.specs.Contexts.{activate}
+use Rattle.st_model.specs.Sends.{send_to_super}
+use Rattle.st_model.specs.Bytecodes.{step}
+use Rattle.st_model.proofs.Opened.{opened}
 
 -- an object of kind Pointers, by half the pointer of its class
 pointers : ℕ → List Value → Option Object

@@ -1,30 +1,20 @@
 ghost use Rattle.std.specs.Prelude.{◌≡◌, ◌<◌, ◌≤◌, ◌+◌};
 ghost use Rattle.st_model.specs.Values.{word};
 ghost use Rattle.st_model.specs.Outcomes.{end_of};
-ghost use Rattle.st_model.specs.Lookup.{find};
 ghost use Rattle.st_model.specs.Sends.{execute_not_understood, not_understood, execute_found, send_from, send, class_above, send_to_super, special_send, arithmetic_by, arithmetic_send};
-ghost use Rattle.st_model.specs.Calls.{Does, itself};
+ghost use Rattle.st_model.specs.Calls.{itself};
 ghost use Rattle.st_lookup.specs.Places.{found_word};
-ghost use Rattle.st_registers.specs.Rows.{row_state};
+ghost use Rattle.st_frames.specs.Rows.{RowReads, RowMoves, RowDoes, Takes, activation_changes, send_changes, jump_changes, return_changes};
 
 use crate::executing::execute;
 use crate::messages::replace_by_message;
+use st_frames::{Registers, fetch_integer, page, under};
+use st_lookup::look_up;
 use st_memory::Objects;
 use st_model::{Dead, Outcome, PageObject, Word};
-use st_registers::{
-    Registers, class_of, fetch_field, fetch_integer, literal_from_last, method, page, under,
-};
-
-/// The method for the selector in the class or above it.
-#[tactic(auto, using(st_registers::proofs::Doing::states))]
-fn find<O: Objects>(m: &O, r: &Registers, class: Word, selector: Word) -> Result<Option<Word>, Dead>
-    ensures does { Does (find O.names (word class) (word selector)) found_word (row_state (O.table m.now) (O.head m.now) r.now) result (row_state (O.table m.now) (O.head m.now) r.now) }
-{
-    st_lookup::look_up(m, class, selector)
-}
 
 /// The method for doesNotUnderstand: is executed, if there is one.
-#[tactic(auto, using(st_registers::proofs::Doing::rows), unfolding(st_model::specs::Sends::execute_not_understood))]
+#[tactic(auto, using(st_frames::proofs::Doing::rows), unfolding(st_model::specs::Sends::execute_not_understood))]
 fn execute_not_understood<O: Objects>(
     m: &mut O,
     r: &mut Registers,
@@ -33,10 +23,9 @@ fn execute_not_understood<O: Objects>(
     method: Option<Word>,
 ) -> Result<Option<Outcome>, Dead>
     requires few { n < 16384 }
-    requires room { 14 ≤ O.room m.old }
-    ensures does { Does (execute_not_understood O.names (word selector) n (found_word method)) end_of (row_state (O.table m.old) (O.head m.old) r.old) result (row_state (O.table m.new) (O.head m.new) r.new) }
-    ensures room { O.room m.old ≤ O.room m.new + 14 }
-    ensures fixed { O.fixed m.new ≡ O.fixed m.old }
+    requires room { send_changes ≤ O.room m.old }
+    ensures does { RowDoes O.Objects.own (execute_not_understood O.names (word selector) n (found_word method)) end_of m.old r.old result m.new r.new }
+    ensures takes { Takes O.Objects.own send_changes m.old m.new }
 {
     match method {
         Some(method) => {
@@ -48,7 +37,7 @@ fn execute_not_understood<O: Objects>(
 }
 
 /// The selector isn't understood.
-#[tactic(auto, using(st_registers::proofs::Doing::rows), unfolding(st_model::specs::Sends::not_understood))]
+#[tactic(auto, using(st_frames::proofs::Doing::rows), unfolding(st_model::specs::Sends::not_understood))]
 fn not_understood<O: Objects>(
     m: &mut O,
     r: &mut Registers,
@@ -57,18 +46,18 @@ fn not_understood<O: Objects>(
     n: u32,
 ) -> Result<Option<Outcome>, Dead>
     requires few { n < 16384 }
-    requires room { 14 ≤ O.room m.old }
-    ensures does { Does (not_understood O.names (word class) (word selector) n) end_of (row_state (O.table m.old) (O.head m.old) r.old) result (row_state (O.table m.new) (O.head m.new) r.new) }
-    ensures room { O.room m.old ≤ O.room m.new + 14 }
-    ensures fixed { O.fixed m.new ≡ O.fixed m.old }
+    requires room { send_changes ≤ O.room m.old }
+    ensures does { RowDoes O.Objects.own (not_understood O.names (word class) (word selector) n)
+        end_of m.old r.old result m.new r.new }
+    ensures takes { Takes O.Objects.own send_changes m.old m.new }
 {
-    let understand = page(m, r, PageObject::NotUnderstood);
-    let method = find(m, r, class, understand)?;
+    let understand = page(m, PageObject::NotUnderstood);
+    let method = look_up(m, class, understand)?;
     execute_not_understood(m, r, selector, n, method)
 }
 
 /// The method is executed, if there is one.
-#[tactic(auto, using(st_registers::proofs::Doing::rows), unfolding(st_model::specs::Sends::execute_found))]
+#[tactic(auto, using(st_frames::proofs::Doing::rows), unfolding(st_model::specs::Sends::execute_found))]
 fn execute_found<O: Objects>(
     m: &mut O,
     r: &mut Registers,
@@ -78,10 +67,9 @@ fn execute_found<O: Objects>(
     method: Option<Word>,
 ) -> Result<Option<Outcome>, Dead>
     requires few { n < 16384 }
-    requires room { 14 ≤ O.room m.old }
-    ensures does { Does (execute_found O.names (word class) (word selector) n (found_word method)) end_of (row_state (O.table m.old) (O.head m.old) r.old) result (row_state (O.table m.new) (O.head m.new) r.new) }
-    ensures room { O.room m.old ≤ O.room m.new + 14 }
-    ensures fixed { O.fixed m.new ≡ O.fixed m.old }
+    requires room { send_changes ≤ O.room m.old }
+    ensures does { RowDoes O.Objects.own (execute_found O.names (word class) (word selector) n (found_word method)) end_of m.old r.old result m.new r.new }
+    ensures takes { Takes O.Objects.own send_changes m.old m.new }
 {
     match method {
         Some(method) => execute(m, r, method, n),
@@ -90,7 +78,7 @@ fn execute_found<O: Objects>(
 }
 
 /// Sends the selector, where the search begins in this class.
-#[tactic(auto, using(st_registers::proofs::Doing::rows), unfolding(st_model::specs::Sends::send_from))]
+#[tactic(auto, using(st_frames::proofs::Doing::rows), unfolding(st_model::specs::Sends::send_from))]
 fn send_from<O: Objects>(
     m: &mut O,
     r: &mut Registers,
@@ -99,17 +87,17 @@ fn send_from<O: Objects>(
     n: u32,
 ) -> Result<Option<Outcome>, Dead>
     requires few { n < 16384 }
-    requires room { 14 ≤ O.room m.old }
-    ensures does { Does (send_from O.names (word class) (word selector) n) end_of (row_state (O.table m.old) (O.head m.old) r.old) result (row_state (O.table m.new) (O.head m.new) r.new) }
-    ensures room { O.room m.old ≤ O.room m.new + 14 }
-    ensures fixed { O.fixed m.new ≡ O.fixed m.old }
+    requires room { send_changes ≤ O.room m.old }
+    ensures does { RowDoes O.Objects.own (send_from O.names (word class) (word selector) n)
+        end_of m.old r.old result m.new r.new }
+    ensures takes { Takes O.Objects.own send_changes m.old m.new }
 {
-    let method = find(m, r, class, selector)?;
+    let method = look_up(m, class, selector)?;
     execute_found(m, r, class, selector, n, method)
 }
 
 /// Sends the selector with n arguments to the word n words below the top.
-#[tactic(auto, using(st_registers::proofs::Doing::rows), unfolding(st_model::specs::Sends::send))]
+#[tactic(auto, using(st_frames::proofs::Doing::rows), unfolding(st_model::specs::Sends::send))]
 pub fn send<O: Objects>(
     m: &mut O,
     r: &mut Registers,
@@ -117,29 +105,28 @@ pub fn send<O: Objects>(
     n: u32,
 ) -> Result<Option<Outcome>, Dead>
     requires few { n < 16384 }
-    requires room { 14 ≤ O.room m.old }
-    ensures does { Does (send O.names (word selector) n) end_of (row_state (O.table m.old) (O.head m.old) r.old) result (row_state (O.table m.new) (O.head m.new) r.new) }
-    ensures room { O.room m.old ≤ O.room m.new + 14 }
-    ensures fixed { O.fixed m.new ≡ O.fixed m.old }
+    requires room { send_changes ≤ O.room m.old }
+    ensures does { RowDoes O.Objects.own (send O.names (word selector) n)
+        end_of m.old r.old result m.new r.new }
+    ensures takes { Takes O.Objects.own send_changes m.old m.new }
 {
     let receiver = under(m, r, n)?;
-    let class = class_of(m, r, receiver)?;
+    let class = m.fetch_class(receiver)?;
     send_from(m, r, class, selector, n)
 }
 
 /// The superclass of the class of the method that runs.
-#[tactic(auto, using(st_registers::proofs::Doing::rows), unfolding(st_model::specs::Sends::class_above))]
+#[tactic(auto, using(st_frames::proofs::Doing::rows), unfolding(st_model::specs::Sends::class_above))]
 fn class_above<O: Objects>(m: &O, r: &Registers) -> Result<Word, Dead>
-    ensures does { Does (class_above O.names) word (row_state (O.table m.now) (O.head m.now) r.now) result (row_state (O.table m.now) (O.head m.now) r.now) }
+    ensures does { RowReads O.Objects.own (class_above O.names) word m.now r.now result }
 {
-    let running = method(m, r);
-    let association = literal_from_last(m, r, running, 0)?;
-    let class = fetch_field(m, r, association, 1)?;
-    fetch_field(m, r, class, 0)
+    let association = m.literal_from_last(r.method, 0)?;
+    let class = m.fetch_field(association, 1)?;
+    m.fetch_field(class, 0)
 }
 
 /// Sends the selector with n arguments to super.
-#[tactic(auto, using(st_registers::proofs::Doing::rows), unfolding(st_model::specs::Sends::send_to_super))]
+#[tactic(auto, using(st_frames::proofs::Doing::rows), unfolding(st_model::specs::Sends::send_to_super))]
 pub fn send_to_super<O: Objects>(
     m: &mut O,
     r: &mut Registers,
@@ -147,10 +134,10 @@ pub fn send_to_super<O: Objects>(
     n: u32,
 ) -> Result<Option<Outcome>, Dead>
     requires few { n < 16384 }
-    requires room { 14 ≤ O.room m.old }
-    ensures does { Does (send_to_super O.names (word selector) n) end_of (row_state (O.table m.old) (O.head m.old) r.old) result (row_state (O.table m.new) (O.head m.new) r.new) }
-    ensures room { O.room m.old ≤ O.room m.new + 14 }
-    ensures fixed { O.fixed m.new ≡ O.fixed m.old }
+    requires room { send_changes ≤ O.room m.old }
+    ensures does { RowDoes O.Objects.own (send_to_super O.names (word selector) n)
+        end_of m.old r.old result m.new r.new }
+    ensures takes { Takes O.Objects.own send_changes m.old m.new }
 {
     under(m, r, n)?;
     let class = class_above(m, r)?;
@@ -158,21 +145,20 @@ pub fn send_to_super<O: Objects>(
 }
 
 /// Sends the special selector of this number.
-#[tactic(auto, using(st_registers::proofs::Doing::rows), unfolding(st_model::specs::Sends::special_send, st_model::specs::Sends::argument_count))]
+#[tactic(auto, using(st_frames::proofs::Doing::rows), unfolding(st_model::specs::Sends::special_send, st_model::specs::Sends::argument_count))]
 pub fn special_send<O: Objects>(
     m: &mut O,
     r: &mut Registers,
     k: u32,
 ) -> Result<Option<Outcome>, Dead>
     requires number { k < 32 }
-    requires room { 14 ≤ O.room m.old }
-    ensures does { Does (special_send O.names k) end_of (row_state (O.table m.old) (O.head m.old) r.old) result (row_state (O.table m.new) (O.head m.new) r.new) }
-    ensures room { O.room m.old ≤ O.room m.new + 14 }
-    ensures fixed { O.fixed m.new ≡ O.fixed m.old }
+    requires room { send_changes ≤ O.room m.old }
+    ensures does { RowDoes O.Objects.own (special_send O.names k) end_of m.old r.old result m.new r.new }
+    ensures takes { Takes O.Objects.own send_changes m.old m.new }
 {
-    let selectors = page(m, r, PageObject::Selectors);
-    let selector = fetch_field(m, r, selectors, 2 * k)?;
-    let count = fetch_integer(m, r, selectors, 2 * k + 1)?;
+    let selectors = page(m, PageObject::Selectors);
+    let selector = m.fetch_field(selectors, 2 * k)?;
+    let count = fetch_integer(m, selectors, 2 * k + 1)?;
     if count < 0 {
         return Err(Dead::Field);
     }
@@ -188,10 +174,10 @@ fn arithmetic_by<O: Objects>(
     receiver: Word,
 ) -> Result<Option<Outcome>, Dead>
     requires number { k < 32 }
-    requires room { 14 ≤ O.room m.old }
-    ensures does { Does (arithmetic_by O.names k (word receiver)) end_of (row_state (O.table m.old) (O.head m.old) r.old) result (row_state (O.table m.new) (O.head m.new) r.new) }
-    ensures room { O.room m.old ≤ O.room m.new + 14 }
-    ensures fixed { O.fixed m.new ≡ O.fixed m.old }
+    requires room { send_changes ≤ O.room m.old }
+    ensures does { RowDoes O.Objects.own (arithmetic_by O.names k (word receiver))
+        end_of m.old r.old result m.new r.new }
+    ensures takes { Takes O.Objects.own send_changes m.old m.new }
 {
     if receiver.is_small() {
         Ok(None)
@@ -201,17 +187,16 @@ fn arithmetic_by<O: Objects>(
 }
 
 /// Sends the special selector of this number, for which arithmetic is tried first.
-#[tactic(auto, using(st_registers::proofs::Doing::rows), unfolding(st_model::specs::Sends::arithmetic_send))]
+#[tactic(auto, using(st_frames::proofs::Doing::rows), unfolding(st_model::specs::Sends::arithmetic_send))]
 pub fn arithmetic_send<O: Objects>(
     m: &mut O,
     r: &mut Registers,
     k: u32,
 ) -> Result<Option<Outcome>, Dead>
     requires number { k < 32 }
-    requires room { 14 ≤ O.room m.old }
-    ensures does { Does (arithmetic_send O.names k) end_of (row_state (O.table m.old) (O.head m.old) r.old) result (row_state (O.table m.new) (O.head m.new) r.new) }
-    ensures room { O.room m.old ≤ O.room m.new + 14 }
-    ensures fixed { O.fixed m.new ≡ O.fixed m.old }
+    requires room { send_changes ≤ O.room m.old }
+    ensures does { RowDoes O.Objects.own (arithmetic_send O.names k) end_of m.old r.old result m.new r.new }
+    ensures takes { Takes O.Objects.own send_changes m.old m.new }
 {
     let receiver = under(m, r, 1)?;
     arithmetic_by(m, r, k, receiver)

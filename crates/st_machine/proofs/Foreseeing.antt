@@ -21,8 +21,8 @@ use Rattle.st_model.proofs.Tabular.{byte_at-as}
 use Rattle.st_memory.specs.Tabular.{bounded_tabular}
 use Rattle.st_frames.specs.declared.frame.Frame.{Frame}
 use Rattle.st_frames.specs.Shown.{shown, registers_of}
-use Rattle.st_registers.specs.Rows.{registers_in, row_state}
-use Rattle.st_registers.specs.declared.registers.Registers.{Registers as Words}
+use Rattle.st_frames.specs.Rows.{registers_in, row_state}
+use Rattle.st_frames.specs.declared.registers.Registers.{Registers as Words}
 use Rattle.st_frames.proofs.Stored.{loaded}
 use Rattle.st_machine.proofs.Going.{step_goes}
 

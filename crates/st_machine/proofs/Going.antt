@@ -16,7 +16,7 @@ use Rattle.st_model.specs.Methods.{flag_of, temporary_count, method_header, meth
 use Rattle.st_model.specs.Contexts.{activate}
 use Rattle.st_model.specs.Lookup.{find}
 use Rattle.st_model.specs.Sends.{goes_on, answer_field, respond, respond_by_extension, execute_by, execute, replace_by_message, execute_not_understood, not_understood, execute_found, send_from, send, class_above, send_to_super, argument_count, special_send, arithmetic_by, arithmetic_send}
-use Rattle.st_model.specs.Returns.{cannot_return, return_into, return_unless, return_to_context, return_unless_nil, return_to, return_to_sender, return_to_caller, must_be_boolean, jump_if, jump_on}
+use Rattle.st_model.specs.Returns.{cannot_return, return_into, return_to_context, return_to, return_to_sender, return_to_caller, must_be_boolean, jump_on}
 use Rattle.st_model.specs.Bytecodes.{fetch_literal_constant, constant_value, push_operand, store_and_pop, push_receiver, push_constant, extended_push, extended_store, extended_store_and_pop, pop_stack, duplicate_top, push_active_context, short_unconditional_jump, long_unconditional_jump, send_literal, send_literal_to_super, extended_send, double_extended_send, extended_super_send, double_extended_super_send, return_receiver, return_constant, return_top_to_sender, return_top_to_caller, short_jump_on_false, long_jump_on_true, long_jump_on_false, bytecode, step}
 
 module _ {H : Type 0} where
@@ -133,23 +133,17 @@ module _ {H : Type 0} where
     unfolding cannot_return
     cannot_goes v = then_goes get_active _ (λ c. next_goes (push m c) _ (next_goes (push m v) _ (then_goes (of_page m CannotReturn) (λ selector. send m selector 1) (λ selector. send_goes selector 1))))
 
-    unless_goes : (c v : Value) (b : Bool) → OnlyGoes (return_unless m c v b)
-    unfolding return_unless
-    unless_goes c v true = cannot_goes v
-    unless_goes c v false = on_goes (return_into m c v)
-
     context_goes : (c v nil : Value) → OnlyGoes (return_to_context m c v nil)
     unfolding return_to_context
-    context_goes c v nil = then_goes (fetch_field m c 1) (λ ip. return_unless m c v (same_value ip nil)) (λ ip. unless_goes c v (same_value ip nil))
-
-    unless_nil_goes : (c v nil : Value) (b : Bool) → OnlyGoes (return_unless_nil m c v nil b)
-    unfolding return_unless_nil
-    unless_nil_goes c v nil true = cannot_goes v
-    unless_nil_goes c v nil false = context_goes c v nil
+    context_goes c v nil =
+        then_goes (fetch_field m c 1) (λ ip. if same_value ip nil then cannot_return m v else goes_on (return_into m c v))
+        (λ ip. if_goes (same_value ip nil) (cannot_return m v) (goes_on (return_into m c v)) (cannot_goes v) (on_goes (return_into m c v)))
 
     return_goes : (c v : Value) → OnlyGoes (return_to m c v)
     unfolding return_to
-    return_goes c v = then_goes (of_page m NilObject) (λ nil. return_unless_nil m c v nil (same_value c nil)) (λ nil. unless_nil_goes c v nil (same_value c nil))
+    return_goes c v =
+        then_goes (of_page m NilObject) (λ nil. if same_value c nil then cannot_return m v else return_to_context m c v nil)
+        (λ nil. if_goes (same_value c nil) (cannot_return m v) (return_to_context m c v nil) (cannot_goes v) (context_goes c v nil))
 
     sender_goes : (v : Value) → OnlyGoes (return_to_sender m v)
     unfolding return_to_sender
@@ -163,16 +157,11 @@ module _ {H : Type 0} where
     unfolding must_be_boolean
     boolean_goes x = next_goes (push m x) _ (then_goes (of_page m MustBeBoolean) (λ selector. send m selector 0) (λ selector. send_goes selector 0))
 
-    jump_if_goes : (x : Value) (d : ℤ) (a b : Bool) → OnlyGoes (jump_if m x d a b)
-    unfolding jump_if
-    jump_if_goes x d true b = on_goes (jump d)
-    jump_if_goes x d false true = some_goes
-    jump_if_goes x d false false = boolean_goes x
-
     jump_goes : (wanted other : PageObject) (d : ℤ) → OnlyGoes (jump_on m wanted other d)
     unfolding jump_on
     jump_goes wanted other d =
-        then_goes (pop m) _ (λ x. then_goes (of_page m wanted) _ (λ a. then_goes (of_page m other) (λ b. jump_if m x d (same_value x a) (same_value x b)) (λ b. jump_if_goes x d (same_value x a) (same_value x b))))
+        then_goes (pop m) _ (λ x. then_goes (of_page m wanted) _ (λ a. then_goes (of_page m other) (λ b. if same_value x a then goes_on (jump d) else if same_value x b then answer (Some outcome.Went) else must_be_boolean m x)
+        (λ b. if_goes (same_value x a) (goes_on (jump d)) (if same_value x b then answer (Some outcome.Went) else must_be_boolean m x) (on_goes (jump d)) (if_goes (same_value x b) (answer (Some outcome.Went)) (must_be_boolean m x) some_goes (boolean_goes x)))))
 
     -- bytecodes
 

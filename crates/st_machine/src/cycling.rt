@@ -8,10 +8,9 @@ ghost use Rattle.st_model.specs.Calls.{transition_of};
 ghost use Rattle.st_frames.specs.Shown.{IsFrame, StaysFrame, shown};
 ghost use Rattle.st_machine.specs.Runs.{ending_of};
 
-use st_frames::{Frame, load};
+use st_frames::{Frame, load, next_byte};
 use st_memory::Memory;
 use st_model::{Dead, Demand, Halt, Outcome};
-use st_registers::next_byte;
 use st_step::{plan, step};
 
 /// How a cycle ended in which the machine didn't die.

@@ -19,9 +19,9 @@ use Rattle.st_model.specs.Show.{IsUsed}
 use Rattle.st_model.specs.View.{View, IsWhole}
 use Rattle.st_model.proofs.Closed.{step_closed}
 use Rattle.st_frames.specs.declared.frame.Frame.{Frame}
-use Rattle.st_registers.specs.declared.registers.Registers.{Registers as Words}
-use Rattle.st_registers.specs.Narrow.{IsNarrow}
-use Rattle.st_registers.specs.Rows.{row_state, registers_in}
+use Rattle.st_frames.specs.declared.registers.Registers.{Registers as Words}
+use Rattle.st_frames.specs.Narrow.{IsNarrow}
+use Rattle.st_frames.specs.Rows.{row_state, registers_in}
 use Rattle.st_frames.specs.Shown.{shown, registers_of, IsFrame}
 use Rattle.st_frames.proofs.Closed.{is_closed}
 use Rattle.st_step.specs.Planned.{Plans, plus}

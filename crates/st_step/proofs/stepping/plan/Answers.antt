@@ -13,7 +13,7 @@ returns-in-Ok-Some g c =
     let new = c.new-draft.ensures in
     let same = loaded_as v c.args.f.now _ _ c.load-r.result new.table (new.head) c.load-r.ensures in
     let demand = c.demand.ensures in
-    let base = ap (λ (x : View). x.objects) (c.step_row.ensures.fixed ∙ new.fixed) in
+    let base = ap (λ (x : View). x.objects) (c.step_row.ensures.takes.fixed ∙ new.fixed) in
     record {
       plans = plan_goes (used table v.objects) (shown v c.args.f.now) _ _ _ _ c.step_row.result same c.step_row.ensures.does c.in-Ok-Some.field-0-0 c.demand.result (c.in-Ok-Some.is ∙ ap (λ x. Ok x) c.in-Ok-Some.field-0-is)
           (used_after (draft_table (g.M.Memory.view c.step_row.new.m.base.now).objects c.step_row.new.m.made c.step_row.new.m.made_count c.step_row.new.m.changes c.step_row.new.m.count) (g.M.Memory.view c.step_row.new.m.base.now).objects v.objects c.demand.result base demand.entries demand.words);

@@ -38,4 +38,4 @@ returns-clause-step g c =
 pub returns-clause-frame : goal.returns-clause-frame
 returns-clause-frame g c =
     let stays = c.hold.ensures.frame in
-    record { frame = stays.frame; devices = stays.devices ∙ ap (λ (v : View). v.held.devices) c.in_ok-outcome.ensures.fixed }
+    record { frame = stays.frame; devices = stays.devices ∙ ap (λ (v : View). v.held.devices) c.in_ok-outcome.ensures.takes.fixed }
