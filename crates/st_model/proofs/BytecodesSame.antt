@@ -13,7 +13,7 @@ use Rattle.st_model.proofs.StepsSame.{parts_same}
 use Rattle.st_model.proofs.SendsSame.{goes_on-same, send-same, send_to_super-same, special_send-same, arithmetic_send-same}
 use Rattle.st_model.proofs.ReturnsSame.{return_to_sender-same, return_to_caller-same, jump_on-same}
 
-module _ {H K : Type 0} {M : ObjectMemory H} {N : ObjectMemory K} (sim : Simulation M N) where
+module _ {H K : Type 0} {M : ObjectMemory H} {N : ObjectMemory K} (sim : Simulation M N) (makes : sim.makes) where
   fetch_operand-same : (o : Operand) → SameValue sim (fetch_operand M o) (fetch_operand N o)
   unfolding fetch_operand fetch_receiver_variable fetch_temporary_variable fetch_literal_variable fetch_literal_constant
   fetch_operand-same (ReceiverVariable i) = search parts_same depth 16 fits 4000

@@ -9,7 +9,7 @@ use Rattle.st_model.proofs.StepsSame.{parts_same}
 use Rattle.st_model.proofs.ContextsSame.{fetch_context_registers-same}
 use Rattle.st_model.proofs.SendsSame.{goes_on-same, send-same}
 
-module _ {H K : Type 0} {M : ObjectMemory H} {N : ObjectMemory K} (sim : Simulation M N) where
+module _ {H K : Type 0} {M : ObjectMemory H} {N : ObjectMemory K} (sim : Simulation M N) (makes : sim.makes) where
   cannot_return-same : (v w : Value) → ValueSame sim v w → SameEnd sim (cannot_return M v) (cannot_return N w)
   unfolding cannot_return
   cannot_return-same v w h = search (parts_same, send-same) depth 20 fits 4000

@@ -9,7 +9,7 @@ use Rattle.st_model.proofs.StepsSame.{parts_same}
 use Rattle.st_model.proofs.ContextsSame.{headers_same, activate-same, temporary_count-same}
 use Rattle.st_model.proofs.LookupSame.{find-same}
 
-module _ {H K : Type 0} {M : ObjectMemory H} {N : ObjectMemory K} (sim : Simulation M N) where
+module _ {H K : Type 0} {M : ObjectMemory H} {N : ObjectMemory K} (sim : Simulation M N) (makes : sim.makes) where
   -- executing
 
   pub goes_on-same : (m : Step H Unit) (n : Step K Unit) → SameAnswer sim m n → SameEnd sim (goes_on m) (goes_on n)
