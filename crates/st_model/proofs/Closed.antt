@@ -6,7 +6,7 @@ use Rattle.st_model.specs.declared.kind.Kind.TheVariants as kind
 use Rattle.st_model.specs.Values.{Value, Small, Ref, IsLive, AllLive}
 use Rattle.st_model.specs.Objects.{Object, PageObject, NilObject, place_of, renamed_object, IsLiveObject, with_field}
 use Rattle.st_model.specs.Formed.{fresh_with}
-use Rattle.st_model.specs.Outcomes.{Outcome}
+use Rattle.st_model.specs.Outcomes.{StepEnd}
 use Rattle.st_model.specs.Machine.{Registers, Head, State, Transition, Died, Went, Step, is_there, has_room, roots_of}
 use Rattle.st_model.specs.Table.{Table, table, bounded_table, entry, changed, exchanged, placed, first_free}
 use Rattle.st_model.specs.Steps.{new_of, are_there}
@@ -140,5 +140,5 @@ stays_closed P r m same c d a k e =
     let h = same.go c c (states_closed c k) in
     closed_after P r a d (m.run c) (subst (λ o. TransitionSame closed_simulation P r o (m.run c)) e h)
 
-pub step_closed : (c d : State Table) (o : Option Outcome) → IsClosed c → (step bounded_table).run c ≡ Went o d → IsClosed d
+pub step_closed : (c d : State Table) (o : StepEnd) → IsClosed c → (step bounded_table).run c ≡ Went o d → IsClosed d
 step_closed c d o k e = stays_closed _ _ (step bounded_table) (step-same closed_simulation tt) c d o k e

@@ -4,7 +4,7 @@ use Rattle.std.specs.Prelude.{IsTrue}
 use mathlib.Core.Path.{fun_ext}
 use Rattle.st_model.specs.declared.demand.Demand.{Demand}
 use Rattle.st_model.specs.Values.{Value, Small, Ref, renamed, IsLive}
-use Rattle.st_model.specs.Outcomes.{Outcome, Ending, With, Space, Unbuilt, renamed_outcome, renamed_ending, IsLiveOutcome}
+use Rattle.st_model.specs.Outcomes.{Outcome, StepEnd, Did, NotBuilt, is_built, Ending, With, Space, Unbuilt, renamed_outcome, renamed_ending, IsLiveOutcome}
 use Rattle.st_model.specs.Outcomes as outcome
 use Rattle.st_model.specs.Machine.{Head, State, Transition, Died, Went, used, is_over, roots_of}
 use Rattle.st_model.specs.Steps.{next_byte}
@@ -75,18 +75,18 @@ went_step w d u o same live closed used =
 module _ (c : State Table) (s : State Births) (w : Shows c s) (places : length c.memory ≡ 32768) where
   -- foreseeing
 
-  foretold : (o : Transition (State Births) (Option Outcome)) (p : Transition (State Table) (Option Outcome))
+  foretold : (o : Transition (State Births) StepEnd) (p : Transition (State Table) StepEnd)
       → TransitionSame (apart_simulation c s w places) (IsLiveEnd (naming c s w).live) (renamed_end (apart_simulation c s w places).name) o p → Foretells p o
   foretold (Died a) (Died b) (inl h) = h
   foretold (Died a) (Died b) (inr h) = absurd h
   foretold (Died a) (Went b t) h = absurd h
   foretold (Went a u) (Died b) h = absurd h.1
   foretold (Went a u) (Went b d) (inl h) = absurd h.1
-  foretold (Went a u) (Went b d) (inr h) = (some_renamed a b h.1, used_apart c s w places u.memory d.memory h.2.memory)
+  foretold (Went a u) (Went b d) (inr h) = (built_renamed a b h.1, used_apart c s w places u.memory d.memory h.2.memory)
     where
-      some_renamed : (a b : Option Outcome) → b ≡ renamed_end (apart_simulation c s w places).name a → is_some b ≡ is_some a
-      some_renamed None b e = rw e refl
-      some_renamed (Some o) b e = rw e refl
+      built_renamed : (a b : StepEnd) → b ≡ renamed_end (apart_simulation c s w places).name a → is_built b ≡ is_built a
+      built_renamed (Did o) b e = rw e refl
+      built_renamed NotBuilt b e = rw e refl
 
   pub foretells : Foretells ((step apart).run c) ((step births).run s)
   foretells = foretold ((step births).run s) ((step apart).run c) ((step-same (apart_simulation c s w places) tt).go s c (states_apart c s w places))
@@ -96,23 +96,23 @@ module _ (c : State Table) (s : State Births) (w : Shows c s) (places : length c
   heads_alike : (d : Demand) → is_over d c.head ≡ is_over d s.head
   heads_alike d = ap (λ (a : Head). is_over d a) w.head
 
-  done_within : (o : Outcome) (u : State Births) (p : Transition (State Table) (Option Outcome)) → (step table).run c ≡ p
-      → TransitionSame (cycle_simulation (naming c s w)) (IsLiveEnd (naming c s w).live) (renamed_end (naming c s w).name) (Went (Some o) u) p
+  done_within : (o : Outcome) (u : State Births) (p : Transition (State Table) StepEnd) → (step table).run c ≡ p
+      → TransitionSame (cycle_simulation (naming c s w)) (IsLiveEnd (naming c s w).live) (renamed_end (naming c s w).name) (Went (Did o) u) p
       → is_over (used births u.memory) s.head ≡ false → DoesAsBirths c o u
   done_within o u (Died k) e h f = absurd h.1
   done_within o u (Went p d) e (inl h) f = absurd h.1
   done_within o u (Went p d) e (inr h) f =
       let q = used_same c s w places u.memory d.memory h.2.memory in
       let r : is_over (used table d.memory) c.head ≡ false = ap (λ x. is_over x c.head) q ∙ (heads_alike (used births u.memory) ∙ f) in
-      let g : (step table).run c ≡ Went (Some (renamed_outcome (naming c s w).name o)) d = e ∙ ap (λ x. Went x d) h.1 in
+      let g : (step table).run c ≡ Went (Did (renamed_outcome (naming c s w).name o)) d = e ∙ ap (λ x. Went x d) h.1 in
       record {
         outcome = renamed_outcome (naming c s w).name o;
         state = d;
-        does = bounded_same c d (Some (renamed_outcome (naming c s w).name o)) g r;
+        does = bounded_same c d (Did (renamed_outcome (naming c s w).name o)) g r;
         shows = λ closed live. went_step (naming c s w) d u o h.2 h.0 closed live;
       }
 
-  pub does_as_births : (o : Outcome) (u : State Births) → (step births).run s ≡ Went (Some o) u → is_over (used births u.memory) s.head ≡ false → DoesAsBirths c o u
+  pub does_as_births : (o : Outcome) (u : State Births) → (step births).run s ≡ Went (Did o) u → is_over (used births u.memory) s.head ≡ false → DoesAsBirths c o u
   does_as_births o u e f =
       let h = (step-same (cycle_simulation (naming c s w)) tt).go s c (states_start c s w) in
       done_within o u ((step table).run c) refl (rw e at h) f
@@ -146,7 +146,7 @@ module _ (c : State Table) (s : State Births) (w : Shows c s) (places : length c
       let m : made_between apart c d ≡ made_between births s u = ap (λ x. less x (used table c.memory)) e ∙ ap (λ x. less (used births u.memory) x) f in
       (ap (λ x. Space x (free_space table c)) m ∙ ap (λ x. Space (made_between births s u) x) g, w)
 
-  within_space : (o : Outcome) (d : State Table) (u : State Births) → (step births).run s ≡ Went (Some o) u → is_over (used births u.memory) s.head ≡ false
+  within_space : (o : Outcome) (d : State Table) (u : State Births) → (step births).run s ≡ Went (Did o) u → is_over (used births u.memory) s.head ≡ false
       → ((e : Outcome) (x : State Table) → done_if_room c d false ≡ Went (With e) x → IsSound x × IsLiveOutcome (IsUsed x.memory) e)
       → EndsShown (done_if_room c d false) (done_or_not births s o u false)
   within_space o d u e f k =
@@ -156,23 +156,23 @@ module _ (c : State Table) (s : State Births) (w : Shows c s) (places : length c
       let shown = does.shows sound.0.closed sound.1 in
       rw q (ap (λ x. With x) shown.0, shown.1)
 
-  with_room : (o : Outcome) (d : State Table) (u : State Births) (b : Bool) → (step births).run s ≡ Went (Some o) u → used apart d.memory ≡ used births u.memory
+  with_room : (o : Outcome) (d : State Table) (u : State Births) (b : Bool) → (step births).run s ≡ Went (Did o) u → used apart d.memory ≡ used births u.memory
       → is_over (used births u.memory) s.head ≡ b
       → ((e : Outcome) (x : State Table) → done_if_room c d b ≡ Went (With e) x → IsSound x × IsLiveOutcome (IsUsed x.memory) e)
       → EndsShown (done_if_room c d b) (done_or_not births s o u b)
   with_room o d u true e q f k = no_space d u q
   with_room o d u false e q f k = within_space o d u e f k
 
-  cycle_ends : (o : Transition (State Births) (Option Outcome)) (p : Transition (State Table) (Option Outcome)) → (step births).run s ≡ o → Foretells p o
+  cycle_ends : (o : Transition (State Births) StepEnd) (p : Transition (State Table) StepEnd) → (step births).run s ≡ o → Foretells p o
       → ((e : Outcome) (x : State Table) → foreseen c p ≡ Went (With e) x → IsSound x × IsLiveOutcome (IsUsed x.memory) e)
       → EndsShown (foreseen c p) (ended births s o)
   cycle_ends (Died a) (Died b) e h k = h
   cycle_ends (Died a) (Went p d) e h k = absurd h
   cycle_ends (Went o u) (Died b) e h k = absurd h
-  cycle_ends (Went None u) (Went None d) e h k = (ap (λ x. Unbuilt x) same_code, w)
-  cycle_ends (Went None u) (Went (Some p) d) e h k = let q = h.0 in absurd (cc)
-  cycle_ends (Went (Some o) u) (Went None d) e h k = let q = h.0 in absurd (cc)
-  cycle_ends (Went (Some o) u) (Went (Some p) d) e h k =
+  cycle_ends (Went NotBuilt u) (Went NotBuilt d) e h k = (ap (λ x. Unbuilt x) same_code, w)
+  cycle_ends (Went NotBuilt u) (Went (Did p) d) e h k = let q = h.0 in absurd (cc)
+  cycle_ends (Went (Did o) u) (Went NotBuilt d) e h k = let q = h.0 in absurd (cc)
+  cycle_ends (Went (Did o) u) (Went (Did p) d) e h k =
       let t : is_over (used apart d.memory) c.head ≡ is_over (used births u.memory) s.head = ap (λ x. is_over x c.head) h.1 ∙ heads_alike (used births u.memory) in
       subst (λ b. EndsShown (done_if_room c d b) (done_or_not births s o u (is_over (used births u.memory) s.head))) (sym t)
       (with_room o d u (is_over (used births u.memory) s.head) e h.1 refl (λ x y z. k x y (ap (done_if_room c d) t ∙ z)))

@@ -4,6 +4,7 @@ pub mod StepsSame
 pub mod ContextsSame
 pub mod LookupSame
 pub mod SendsSame
+pub mod ExecutingSame
 pub mod ReturnsSame
 pub mod BytecodesSame
 pub mod TableLemmas

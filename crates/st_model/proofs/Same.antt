@@ -10,7 +10,8 @@ use Rattle.st_model.specs.declared.dead.Dead.{Dead}
 use Rattle.st_model.specs.declared.kind.Kind.{Kind}
 use Rattle.st_model.specs.Values.{Value, Small, Ref, small_integer, renamed, renamed_all, IsLive, AllLive}
 use Rattle.st_model.specs.Objects.{Object, PageObject, renamed_object, IsLiveObject, words_of, with_field}
-use Rattle.st_model.specs.Outcomes.{Outcome, renamed_outcome, IsLiveOutcome}
+use Rattle.st_model.specs.Outcomes.{StepEnd, Did, NotBuilt, renamed_outcome, IsLiveOutcome}
+use Rattle.st_model.specs.Sends.{Call}
 use Rattle.st_model.specs.Outcomes as outcome
 use Rattle.st_model.specs.Steps.{code_byte, same_value, new_of, are_there}
 use Rattle.st_model.specs.Calls.{itself}
@@ -235,16 +236,44 @@ pub record WorldNamed (lives : ℕ → Type 0) (f : ℕ → ℕ) (w u : World) :
 abbrev pub WorldSame : {H K : Type 0} {M : ObjectMemory H} {N : ObjectMemory K} → Simulation M N → World → World → Type 0
 WorldSame sim w u = WorldNamed sim.live sim.name w u
 
--- how a bytecode ends, if it doesn't come to a primitive that isn't built
-abbrev pub IsLiveEnd : (ℕ → Type 0) → Option Outcome → Type 0
-IsLiveEnd live None = Unit {0}
-IsLiveEnd live (Some o) = IsLiveOutcome live o
+abbrev pub IsLiveCall : (ℕ → Type 0) → Call → Type 0
+IsLiveCall live c = IsLive live c.method
 
-abbrev pub renamed_end : (ℕ → ℕ) → Option Outcome → Option Outcome
-renamed_end f o = option_map (renamed_outcome f) o
+abbrev pub renamed_call : (ℕ → ℕ) → Call → Call
+renamed_call f c = record { method = renamed f c.method; arguments = c.arguments }
 
--- steps that do the same, by what they answer: a value, values, a value or none, registers, an object; something that
--- stays as it is; or how a bytecode ends
+pub record CallNamed (lives : ℕ → Type 0) (f : ℕ → ℕ) (c d : Call) : Type 0 where
+  pub live : IsLiveCall lives c
+  pub is : d ≡ renamed_call f c
+
+abbrev pub CallSame : {H K : Type 0} {M : ObjectMemory H} {N : ObjectMemory K} → Simulation M N → Call → Call → Type 0
+CallSame sim c d = CallNamed sim.live sim.name c d
+
+abbrev pub IsLiveAnyCall : (ℕ → Type 0) → Option Call → Type 0
+IsLiveAnyCall live None = Unit {0}
+IsLiveAnyCall live (Some c) = IsLiveCall live c
+
+abbrev pub renamed_any_call : (ℕ → ℕ) → Option Call → Option Call
+renamed_any_call f c = option_map (renamed_call f) c
+
+pub record AnyCallNamed (lives : ℕ → Type 0) (f : ℕ → ℕ) (c d : Option Call) : Type 0 where
+  pub live : IsLiveAnyCall lives c
+  pub is : d ≡ renamed_any_call f c
+
+abbrev pub AnyCallSame : {H K : Type 0} {M : ObjectMemory H} {N : ObjectMemory K} → Simulation M N → Option Call → Option Call → Type 0
+AnyCallSame sim c d = AnyCallNamed sim.live sim.name c d
+
+-- how a bytecode ends
+abbrev pub IsLiveEnd : (ℕ → Type 0) → StepEnd → Type 0
+IsLiveEnd live (Did o) = IsLiveOutcome live o
+IsLiveEnd live NotBuilt = Unit {0}
+
+abbrev pub renamed_end : (ℕ → ℕ) → StepEnd → StepEnd
+renamed_end f (Did o) = Did (renamed_outcome f o)
+renamed_end f NotBuilt = NotBuilt
+
+-- steps that do the same, by what they answer: a value, values, a value or none, registers, the world, an object; something
+-- that stays as it is; a call, or none; or how a bytecode ends
 
 abbrev pub SameValue : {H K : Type 0} {M : ObjectMemory H} {N : ObjectMemory K} → Simulation M N → Step H Value → Step K Value → Type 0
 SameValue sim m n = Same sim (IsLive sim.live) (renamed sim.name) m n
@@ -267,7 +296,13 @@ SameObject sim m n = Same sim (IsLiveObject sim.live) (renamed_object sim.name) 
 abbrev pub SameAnswer : {H K A : Type 0} {M : ObjectMemory H} {N : ObjectMemory K} → Simulation M N → Step H A → Step K A → Type 0
 SameAnswer sim m n = Same sim Anything itself m n
 
-abbrev pub SameEnd : {H K : Type 0} {M : ObjectMemory H} {N : ObjectMemory K} → Simulation M N → Step H (Option Outcome) → Step K (Option Outcome) → Type 0
+abbrev pub SameCall : {H K : Type 0} {M : ObjectMemory H} {N : ObjectMemory K} → Simulation M N → Step H Call → Step K Call → Type 0
+SameCall sim m n = Same sim (IsLiveCall sim.live) (renamed_call sim.name) m n
+
+abbrev pub SameAnyCall : {H K : Type 0} {M : ObjectMemory H} {N : ObjectMemory K} → Simulation M N → Step H (Option Call) → Step K (Option Call) → Type 0
+SameAnyCall sim m n = Same sim (IsLiveAnyCall sim.live) (renamed_any_call sim.name) m n
+
+abbrev pub SameEnd : {H K : Type 0} {M : ObjectMemory H} {N : ObjectMemory K} → Simulation M N → Step H StepEnd → Step K StepEnd → Type 0
 SameEnd sim m n = Same sim (IsLiveEnd sim.live) (renamed_end sim.name) m n
 
 -- one rule for each sort of answer, so that a search need not guess it
@@ -291,6 +326,14 @@ module _ {H K A B : Type 0} {M : ObjectMemory H} {N : ObjectMemory K} (sim : Sim
   pub then_world-same : (m : Step H World) (n : Step K World) (f : World → Step H A) (g : World → Step K B)
       → SameWorld sim m n → ((a b : World) → WorldSame sim a b → Same sim Q q (f a) (g b)) → Same sim Q q (m >>= f) (n >>= g)
   then_world-same m n f g h k = then-same sim _ _ Q q m n f g h (λ a l. k a (renamed_world sim.name a) (record { live = l; is = refl }))
+
+  pub then_call-same : (m : Step H Call) (n : Step K Call) (f : Call → Step H A) (g : Call → Step K B)
+      → SameCall sim m n → ((a b : Call) → CallSame sim a b → Same sim Q q (f a) (g b)) → Same sim Q q (m >>= f) (n >>= g)
+  then_call-same m n f g h k = then-same sim _ _ Q q m n f g h (λ a l. k a (renamed_call sim.name a) (record { live = l; is = refl }))
+
+  pub then_any_call-same : (m : Step H (Option Call)) (n : Step K (Option Call)) (f : Option Call → Step H A) (g : Option Call → Step K B)
+      → SameAnyCall sim m n → ((a b : Option Call) → AnyCallSame sim a b → Same sim Q q (f a) (g b)) → Same sim Q q (m >>= f) (n >>= g)
+  then_any_call-same m n f g h k = then-same sim _ _ Q q m n f g h (λ a l. k a (renamed_any_call sim.name a) (record { live = l; is = refl }))
 
   pub then_object-same : (m : Step H Object) (n : Step K Object) (f : Object → Step H A) (g : Object → Step K B)
       → SameObject sim m n → ((a : Object) → IsLiveObject sim.live a → Same sim Q q (f a) (g (renamed_object sim.name a))) → Same sim Q q (m >>= f) (n >>= g)
@@ -427,11 +470,20 @@ module _ {H K : Type 0} {M : ObjectMemory H} {N : ObjectMemory K} (sim : Simulat
   pub answer_itself-same : {A : Type 0} (a : A) → SameAnswer sim (answer a) (answer a)
   answer_itself-same a = answer-same sim _ _ a a tt refl
 
-  pub went-same : SameEnd sim (answer (Some outcome.Went)) (answer (Some outcome.Went))
+  pub answer_call-same : (v w : Value) (n : ℕ) → ValueSame sim v w → SameCall sim (answer (record { method = v; arguments = n })) (answer (record { method = w; arguments = n }))
+  answer_call-same v w n h = answer-same sim _ _ _ _ h.live (λ i. record { method = h.is i; arguments = n })
+
+  pub answer_some_call-same : (c d : Call) → CallSame sim c d → SameAnyCall sim (answer (Some c)) (answer (Some d))
+  answer_some_call-same c d h = answer-same sim _ _ _ _ h.live (ap (λ x. Some x) h.is)
+
+  pub answer_no_call-same : SameAnyCall sim (answer None) (answer None)
+  answer_no_call-same = answer-same sim _ _ _ _ tt refl
+
+  pub went-same : SameEnd sim (answer (Did outcome.Went)) (answer (Did outcome.Went))
   went-same = answer-same sim _ _ _ _ tt refl
 
-  pub unbuilt-same : SameEnd sim (answer None) (answer None)
-  unbuilt-same = answer-same sim _ _ _ _ tt refl
+  pub not_built-same : SameEnd sim (answer NotBuilt) (answer NotBuilt)
+  not_built-same = answer-same sim _ _ _ _ tt refl
 
 -- A step that is only tried, and makes nothing. Of a value it answers a value or none, of anything else that or none.
 
@@ -470,4 +522,4 @@ module _ {H K : Type 0} {M : ObjectMemory H} {N : ObjectMemory K} (sim : Simulat
   tried_itself-same m n h k = tried-same _ _ _ _ (tt, refl) (λ a l. (tt, refl)) m n h k
 
 -- what a search of steps that do the same goes by
-pub ruleset steps_same = (then_value-same, then_values-same, then_object-same, then_answer-same, then_option-same, then_registers-same, then_world-same, then_unit-same, if-same, tried_value-same, tried_itself-same, die-same, answer_value-same, answer_values-same, answer_option-same, answer_registers-same, answer_object-same, answer_itself-same, went-same, unbuilt-same, same_value-same, small-same, small_integer-same, class-same, no_values-same, values-same, none-same, some-same, field-same, registers-same, length-renamed, code_byte-renamed)
+pub ruleset steps_same = (then_value-same, then_values-same, then_object-same, then_answer-same, then_option-same, then_registers-same, then_world-same, then_call-same, then_any_call-same, then_unit-same, if-same, tried_value-same, tried_itself-same, die-same, answer_value-same, answer_values-same, answer_option-same, answer_registers-same, answer_object-same, answer_itself-same, answer_call-same, answer_some_call-same, answer_no_call-same, went-same, not_built-same, same_value-same, small-same, small_integer-same, class-same, no_values-same, values-same, none-same, some-same, field-same, registers-same, length-renamed, code_byte-renamed)

@@ -14,6 +14,7 @@ ghost use Rattle.st_model.specs.Show.{Shows};
 ghost use Rattle.st_model.specs.Foreseen.{foreseen_cycle, IsSound, StaysSound, EndsShown, Foretells, DoesWithin, KeepsClosed};
 
 mod bytecode;
+mod call;
 mod dead;
 mod demand;
 mod fault;
@@ -28,6 +29,7 @@ mod place;
 mod word;
 
 pub use bytecode::{Bytecode, Constant, Operand, decode, extended_operand};
+pub use call::{Call, Performing};
 pub use dead::Dead;
 pub use demand::Demand;
 pub use fault::ImageFault;
@@ -36,7 +38,7 @@ pub use head::ImageHead;
 pub use header::literals;
 pub use kind::Kind;
 pub use oop::Oop;
-pub use outcome::Outcome;
+pub use outcome::{Outcome, StepEnd};
 pub use page::PageObject;
 pub use place::RootPlace;
 pub use word::Word;
