@@ -4,12 +4,12 @@ ghost use Rattle.st_model.specs.Objects.{one, words_of};
 ghost use Rattle.st_model.specs.Table.{entry, total_used};
 ghost use Rattle.st_model.specs.Settled.{object_names};
 ghost use Rattle.st_model.specs.View.{is_live, object_of, with_stored, with_unit};
-ghost use Rattle.st_marks.specs.Marked.{AddsMarks};
+ghost use Rattle.st_lists.specs.Marked.{AddsMarks};
 ghost use Rattle.st_lists.specs.Lists.{IsLaidOut, IsCounted, IsFull, IsPlaced, slot, entry_of, entry_object};
 
 use crate::entry::Entry;
-use crate::lists::{empty_places, zero_units};
-use st_marks::{Marks, nil_words};
+use crate::lists::{empty_places, nil_words, zero_units};
+use crate::marks::Marks;
 use st_model::{Demand, Oop};
 use std::alloc::{AllocError, Global};
 

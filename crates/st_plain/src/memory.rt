@@ -1,9 +1,9 @@
 ghost use Rattle.std.specs.Prelude.{◌≡◌};
 ghost use Rattle.st_model.specs.View.{IsWhole};
-ghost use Rattle.st_contents.specs.Plain.{plain_view, AreLong};
+ghost use Rattle.st_plain.specs.Plain.{plain_view, AreLong};
 ghost use Rattle.st_model.specs.Props.{IsWhole-prop};
 
-use st_contents::Contents;
+use crate::contents::Contents;
 use st_memory::Memory;
 use st_model::{Demand, Kind, Oop, RootPlace};
 
