@@ -1,6 +1,7 @@
 mod Beginning
 mod Closed
 mod Counting
+mod Exchanging
 mod Filling
 pub mod Fresh
 pub mod Holding

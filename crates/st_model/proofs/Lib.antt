@@ -29,6 +29,7 @@ pub mod FormedLemmas
 pub mod WholeLemmas
 pub mod Rounds
 pub mod LoadingLemmas
+pub mod Exchanging
 pub mod Roots
 pub mod Raised
 pub mod Showing

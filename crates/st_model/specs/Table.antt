@@ -18,6 +18,15 @@ changed (None ∷ t) zero o = None ∷ t
 changed (Some a ∷ t) zero o = Some o ∷ t
 changed (e ∷ t) (suc k) o = e ∷ changed t k o
 
+abbrev pub exchanged_objects : Table → ℕ → ℕ → Option Object → Option Object → Table
+exchanged_objects t a b None p = t
+exchanged_objects t a b (Some o) None = t
+exchanged_objects t a b (Some o) (Some p) = changed (changed t a p) b o
+
+-- the table in which two names have exchanged their objects
+abbrev pub exchanged : Table → ℕ → ℕ → Table
+exchanged t a b = exchanged_objects t a b (entry t a) (entry t b)
+
 -- the least place without an object
 abbrev pub first_none : Table → ℕ
 first_none [] = 0
