@@ -89,7 +89,7 @@ module _ (c : State Table) (s : State Births) (w : Shows c s) (places : length c
       some_renamed (Some o) b e = rw e refl
 
   pub foretells : Foretells ((step apart).run c) ((step births).run s)
-  foretells = foretold ((step births).run s) ((step apart).run c) ((step-same (apart_simulation c s w places)).go s c (states_apart c s w places))
+  foretells = foretold ((step births).run s) ((step apart).run c) ((step-same (apart_simulation c s w places) tt).go s c (states_apart c s w places))
 
   -- doing
 
@@ -114,7 +114,7 @@ module _ (c : State Table) (s : State Births) (w : Shows c s) (places : length c
 
   pub does_as_births : (o : Outcome) (u : State Births) → (step births).run s ≡ Went (Some o) u → is_over (used births u.memory) s.head ≡ false → DoesAsBirths c o u
   does_as_births o u e f =
-      let h = (step-same (cycle_simulation (naming c s w))).go s c (states_start c s w) in
+      let h = (step-same (cycle_simulation (naming c s w)) tt).go s c (states_start c s w) in
       done_within o u ((step table).run c) refl (rw e at h) f
 
   -- the code at which both stop

@@ -30,12 +30,14 @@ pub mod WholeLemmas
 pub mod Rounds
 pub mod LoadingLemmas
 pub mod Exchanging
+pub mod Instances
 pub mod Roots
 pub mod Raised
 pub mod Showing
 pub mod Made
 pub mod Making
 mod ImageRows
-mod Opened
+mod OperationRows
+pub mod Opened
 mod Rows
 mod SendRows

@@ -228,6 +228,11 @@ long_jump_on_false m i = do
   b ← next_byte m
   jump_on m FalseObject TrueObject (pos (i * 256 + b))
 
+-- opens the rows
+unfoldable pub rows : Unit {0}
+unfolding push_operand store_and_pop push_receiver push_constant extended_push extended_store extended_store_and_pop pop_stack duplicate_top push_active_context short_unconditional_jump long_unconditional_jump send_literal send_literal_to_super extended_send double_extended_send extended_super_send double_extended_super_send return_receiver return_constant return_top_to_sender return_top_to_caller short_jump_on_false long_jump_on_true long_jump_on_false
+rows = tt
+
 -- the row of a bytecode; none where it comes to a primitive that isn't built
 unfoldable pub bytecode : {H : Type 0} → ObjectMemory H → Bytecode → Step H (Option Outcome)
 bytecode m (code.Push operand) = goes_on (push_operand m operand)

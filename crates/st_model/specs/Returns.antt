@@ -1,5 +1,5 @@
 -- Returns, and jumps with a condition (chapter 28).
-use Rattle.std.specs.Prelude.{Option, Some, Bool, true, false, ℤ}
+use Rattle.std.specs.Prelude.{Option, Some, ℤ, if◌then◌else◌}
 use Rattle.st_model.specs.Values.{Value}
 use Rattle.st_model.specs.Objects.{PageObject, NilObject, CannotReturn, MustBeBoolean}
 use Rattle.st_model.specs.Machine.{ObjectMemory, Step, answer, ◌>>=◌, ◌>>◌}
@@ -28,25 +28,17 @@ return_into m c v = do
   fetch_context_registers m c
   push m v
 
-unfoldable pub return_unless : {H : Type 0} → ObjectMemory H → Value → Value → Bool → Step H (Option Outcome)
-return_unless m c v true = cannot_return m v
-return_unless m c v false = goes_on (return_into m c v)
-
 -- a context was left for good where its instruction pointer is nil
 unfoldable pub return_to_context : {H : Type 0} → ObjectMemory H → Value → Value → Value → Step H (Option Outcome)
 return_to_context m c v nil = do
   ip ← fetch_field m c 1
-  return_unless m c v (same_value ip nil)
-
-unfoldable pub return_unless_nil : {H : Type 0} → ObjectMemory H → Value → Value → Value → Bool → Step H (Option Outcome)
-return_unless_nil m c v nil true = cannot_return m v
-return_unless_nil m c v nil false = return_to_context m c v nil
+  if same_value ip nil then cannot_return m v else goes_on (return_into m c v)
 
 -- v is returned to c
 unfoldable pub return_to : {H : Type 0} → ObjectMemory H → Value → Value → Step H (Option Outcome)
 return_to m c v = do
   nil ← of_page m NilObject
-  return_unless_nil m c v nil (same_value c nil)
+  if same_value c nil then cannot_return m v else return_to_context m c v nil
 
 -- the sender is field 0 of the home context
 unfoldable pub return_to_sender : {H : Type 0} → ObjectMemory H → Value → Step H (Option Outcome)
@@ -70,14 +62,10 @@ must_be_boolean m x = do
   send m selector 0
 
 -- the word is the wanted boolean, or else the other one, or neither
-unfoldable pub jump_if : {H : Type 0} → ObjectMemory H → Value → ℤ → Bool → Bool → Step H (Option Outcome)
-jump_if m x d true is_other = goes_on (jump d)
-jump_if m x d false true = answer (Some outcome.Went)
-jump_if m x d false false = must_be_boolean m x
-
 unfoldable pub jump_on : {H : Type 0} → ObjectMemory H → PageObject → PageObject → ℤ → Step H (Option Outcome)
 jump_on m wanted other d = do
   x ← pop m
   a ← of_page m wanted
   b ← of_page m other
-  jump_if m x d (same_value x a) (same_value x b)
+  if same_value x a then goes_on (jump d) else
+      if same_value x b then answer (Some outcome.Went) else must_be_boolean m x
