@@ -1,3 +1,5 @@
+ghost use Rattle.std.specs.Prelude.{◌<◌};
+
 use crate::word::Word;
 
 /// A method that is to be executed: its arguments, and below them the receiver, stand on top of the stack.
@@ -7,6 +9,7 @@ pub struct Call {
     pub method: Word,
     /// How many arguments it takes.
     pub arguments: u32,
+    pub ghost few: { arguments < 16384 },
 }
 
 /// Whether primitives 83 and 84, which perform a selector, may still be tried.
