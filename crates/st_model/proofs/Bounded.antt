@@ -170,7 +170,7 @@ module _ (a : Head) where
     read_there = λ t u n o e f. (tt, any_object o);
     replace = λ t u n o p e l f lp k. rw (e, object-itself p) refl;
     exchange = λ t u n m o p e l k f g. rw e refl;
-    append = λ t u o e lo k. rw (e, object-itself o) refl;
+    append = λ t u b o e l g lo k. rw (e, object-itself o) refl;
     next_live = λ t u e. tt;
     next = λ t u e. rw e refl;
     named_live = λ t u q e. (tt, tt);

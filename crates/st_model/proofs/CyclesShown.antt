@@ -1,5 +1,5 @@
 -- A running machine over a table does, cycle by cycle, what the births do that its table shows.
-use Rattle.std.proofs.Common.{◌≡◌, ℕ, zero, suc, ◌<◌, Option, Some, None, Bool, true, false, refl, sym, ◌∙◌, ap, subst, length, inl, inr, is_some}
+use Rattle.std.proofs.Common.{◌≡◌, ℕ, zero, suc, ◌<◌, ◌≤◌, Option, Some, None, Bool, true, false, refl, sym, ◌∙◌, ap, subst, length, inl, inr, is_some}
 use Rattle.std.specs.Prelude.{IsTrue}
 use mathlib.Core.Path.{fun_ext}
 use Rattle.st_model.specs.declared.demand.Demand.{Demand}
@@ -10,12 +10,12 @@ use Rattle.st_model.specs.Machine.{Head, State, Transition, Died, Went, used, is
 use Rattle.st_model.specs.Steps.{next_byte}
 use Rattle.st_model.specs.Bytecodes.{step}
 use Rattle.st_model.specs.Births.{Births, births, borne, settled_births, pointer_of}
-use Rattle.st_model.specs.Table.{Table, table, apart, entry}
+use Rattle.st_model.specs.Table.{Table, table, apart, bounded_table, entry}
 use Rattle.st_model.specs.Show.{Shows, IsClosed, IsUsed}
 use Rattle.st_model.specs.Settled.{Reclaimed, with_memory, settled_set, reclaim}
 use Rattle.st_model.specs.Calls.{itself}
 use Rattle.st_model.specs.Cycles.{less, capacity_of, free_space, made_between, byte_answered, next_code, ended, done_or_not, cycle, and_on, run_of, run, counted, finished_of, finished}
-use Rattle.st_model.specs.Foreseen.{done, done_if_room, foreseen, foreseen_cycle, IsSound, EndsShown, StaysSound, Foretells, DoesAsBirths}
+use Rattle.st_model.specs.Foreseen.{done, done_if_room, foreseen, foreseen_cycle, IsSound, EndsShown, Foretells, DoesAsBirths}
 use Rattle.st_model.proofs.Same.{StateSame, TransitionSame, Anything, IsLiveEnd, renamed_end}
 use Rattle.st_model.proofs.StepsSame.{next_byte-same}
 use Rattle.st_model.proofs.BytecodesSame.{step-same}
@@ -27,6 +27,9 @@ use Rattle.st_model.proofs.Started.{naming, states_start, heaps_start}
 use Rattle.st_model.proofs.Ended.{reclaimed}
 use Rattle.st_model.proofs.HeapsApart.{apart_simulation, states_apart, used_apart, used_same}
 use Rattle.st_model.proofs.Bounded.{bounded_same}
+use Rattle.st_model.proofs.Closed.{step_sound}
+use Rattle.st_model.proofs.Going.{step_goes}
+use Rattle.st_model.proofs.Reclaiming.{reclaim_sound, reclaim_head}
 use Rattle.st_model.proofs.SettledIs.{settled_is, settled_once}
 
 births_finite : (s : State Births) (n : ℕ) → IsTrue (births.kept s.memory n) → n < length s.memory
@@ -202,30 +205,45 @@ run_step n (Went a c) (Went b s) h f = rw h.0 (on_step b h f)
     on_step (Space demand left) h f = (refl, h.1)
     on_step (Unbuilt code) h f = (refl, h.1)
 
-next_run : (n : ℕ) (c d : State Table) → foreseen_cycle c ≡ Went (With outcome.Went) d → run_of foreseen_cycle (suc n) c ≡ run_of foreseen_cycle n d
-unfolding run_of
-next_run n c d e = rw e refl
+-- what a cycle leaves that was done is sound, as what it began with was
 
-one_cycle : (c : State Table) (o : Outcome) (d : State Table) → foreseen_cycle c ≡ Went (With o) d → run_of foreseen_cycle 1 c ≡ Went (With o) d
-unfolding run_of
-one_cycle c o d e = rw e (after_one o d)
-  where
-    after_one : (o : Outcome) (d : State Table) → and_on (Went (With o) d) (λ t. Went (With outcome.Went) t) ≡ Went (With o) d
-    after_one outcome.Went d = refl
-    after_one outcome.Snapshot d = refl
-    after_one outcome.Quit d = refl
-    after_one outcome.Debugger d = refl
-    after_one (outcome.Say v) d = refl
+sound_done : (c x : State Table) (o : Outcome) (q : Transition (State Table) StepEnd) → IsSound c → c.head.entries ≤ 32767 → (step bounded_table).run c ≡ q → done c q ≡ Went (With o) x
+    → IsSound x × (x.head ≡ c.head) × IsLiveOutcome (IsUsed x.memory) o
+sound_done c x o (Died k) p l e f = cc
+sound_done c x o (Went NotBuilt d) p l e f = cc
+sound_done c x o (Went (Did a) d) p l e f =
+    let r = step_sound c.head l c d (Did a) p refl e in
+    let w = (step_goes bounded_table).went c d a e in
+    let g : reclaim table d ≡ x = cc in
+    let h : o ≡ outcome.Went = cc in
+    (subst IsSound g (reclaim_sound d r.0), sym (ap (λ (y : State Table). y.head) g) ∙ (reclaim_head d ∙ r.1), rw h tt)
 
-sound_next : (c d : State Table) → StaysSound c → foreseen_cycle c ≡ Went (With outcome.Went) d → StaysSound d
-sound_next c d k e n o x q = k (suc n) o x (next_run n c d e ∙ q)
+sound_if_room : (c d x : State Table) (o : Outcome) (b : Bool) → IsSound c → c.head.entries ≤ 32767 → done_if_room c d b ≡ Went (With o) x → IsSound x × (x.head ≡ c.head) × IsLiveOutcome (IsUsed x.memory) o
+sound_if_room c d x o true p l e = cc
+sound_if_room c d x o false p l e = sound_done c x o ((step bounded_table).run c) p l refl e
 
-pub run_shown : (n : ℕ) (c : State Table) (s : State Births) → Shows c s → IsSound c → StaysSound c → EndsShown (run_of foreseen_cycle n c) (run births n s)
+sound_foreseen : (c x : State Table) (o : Outcome) (q : Transition (State Table) StepEnd) → IsSound c → c.head.entries ≤ 32767 → foreseen c q ≡ Went (With o) x
+    → IsSound x × (x.head ≡ c.head) × IsLiveOutcome (IsUsed x.memory) o
+sound_foreseen c x o (Died k) p l e = cc
+sound_foreseen c x o (Went NotBuilt d) p l e = cc
+sound_foreseen c x o (Went (Did a) d) p l e = sound_if_room c d x o (is_over (used apart d.memory) c.head) p l e
+
+sound_cycle : (c x : State Table) (o : Outcome) → IsSound c → c.head.entries ≤ 32767 → foreseen_cycle c ≡ Went (With o) x → IsSound x × (x.head ≡ c.head) × IsLiveOutcome (IsUsed x.memory) o
+unfolding foreseen_cycle
+sound_cycle c x o p l e = sound_foreseen c x o ((step apart).run c) p l e
+
+sound_shown : (c : State Table) (s : State Births) → Shows c s → IsSound c → c.head.entries ≤ 32767 → EndsShown (foreseen_cycle c) (cycle births s)
+sound_shown c s w p l = cycle_shown c s w p.places (λ o d e. let r = sound_cycle c d o p l e in (r.0, r.2))
+
+few_after : (c d : State Table) → IsSound c → c.head.entries ≤ 32767 → foreseen_cycle c ≡ Went (With outcome.Went) d → d.head.entries ≤ 32767
+few_after c d p l e = subst (λ (a : Head). a.entries ≤ 32767) (sym (sound_cycle c d outcome.Went p l e).1) l
+
+pub run_shown : (n : ℕ) (c : State Table) (s : State Births) → Shows c s → IsSound c → c.head.entries ≤ 32767 → EndsShown (run_of foreseen_cycle n c) (run births n s)
 unfolding run_of run
-run_shown zero c s w p k = (refl, w)
-run_shown (suc n) c s w p k =
-    run_step n (foreseen_cycle c) (cycle births s) (cycle_shown c s w p.places (λ o d e. k 1 o d (one_cycle c o d e)))
-    (λ d t e v. run_shown n d t v (k 1 outcome.Went d (one_cycle c outcome.Went d e)).0 (sound_next c d k e))
+run_shown zero c s w p l = (refl, w)
+run_shown (suc n) c s w p l =
+    run_step n (foreseen_cycle c) (cycle births s) (sound_shown c s w p l)
+    (λ d t e v. run_shown n d t v (sound_cycle c d outcome.Went p l e).0 (few_after c d p l e))
 
 -- as many cycles are finished
 
@@ -248,9 +266,9 @@ counted_step n (Went a c) (Went b s) h f = rw h.0 (on_step b h f)
     on_step (Space demand left) h f = refl
     on_step (Unbuilt code) h f = refl
 
-pub finished_shown : (n : ℕ) (c : State Table) (s : State Births) → Shows c s → IsSound c → StaysSound c → finished_of foreseen_cycle n c ≡ finished births n s
+pub finished_shown : (n : ℕ) (c : State Table) (s : State Births) → Shows c s → IsSound c → c.head.entries ≤ 32767 → finished_of foreseen_cycle n c ≡ finished births n s
 unfolding finished_of finished
-finished_shown zero c s w p k = refl
-finished_shown (suc n) c s w p k =
-    counted_step n (foreseen_cycle c) (cycle births s) (cycle_shown c s w p.places (λ o d e. k 1 o d (one_cycle c o d e)))
-    (λ d t e v. finished_shown n d t v (k 1 outcome.Went d (one_cycle c outcome.Went d e)).0 (sound_next c d k e))
+finished_shown zero c s w p l = refl
+finished_shown (suc n) c s w p l =
+    counted_step n (foreseen_cycle c) (cycle births s) (sound_shown c s w p l)
+    (λ d t e v. finished_shown n d t v (sound_cycle c d outcome.Went p l e).0 (few_after c d p l e))

@@ -335,7 +335,7 @@ module _ (c : State Table) (s : State Births) (w : Shows c s) (places : length c
     read_there = λ h t n o a e. (tt, any_object o);
     replace = λ h t n o p a l e lp k. replaced-apart h t a n p l lp;
     exchange = λ h t m n o p a l k e f. exchanged-apart h t a m n o p l k e f;
-    append = λ h t o a lo k. born-apart h t a o lo;
+    append = λ h t b o a l g lo k. born-apart h t a o lo;
     next_live = λ h t a. next_lives h t a;
     next = λ h t a. next_apart h t a;
     named_live = λ h t q a. ((a.same.page q).1, tt);

@@ -19,6 +19,8 @@ pub mod Ended
 pub mod HeapsApart
 pub mod Bounded
 pub mod Closed
+pub mod Going
+pub mod Reclaiming
 pub mod CyclesShown
 pub mod Runs
 pub mod Tabular

@@ -67,7 +67,7 @@ pub record Simulation {H K : Type 0} (M : ObjectMemory H) (N : ObjectMemory K) :
       → heaps (M.replace h n p) (N.replace k (name n) (renamed_object name p))
   pub exchange : (h : H) (k : K) (a b : ℕ) (o p : Object) → heaps h k → live a → live b → M.read h a ≡ Some o → M.read h b ≡ Some p
       → heaps (M.exchange h a b) (N.exchange k (name a) (name b))
-  pub append : (h : H) (k : K) (o : Object) → heaps h k → IsLiveObject live o → IsLiveObject (there h) o → heaps (M.append h o) (N.append k (renamed_object name o))
+  pub append : (h : H) (k : K) (a : Head) (o : Object) → heaps h k → limits a → has_room M a h o ≡ true → IsLiveObject live o → IsLiveObject (there h) o → heaps (M.append h o) (N.append k (renamed_object name o))
   pub next_live : (h : H) (k : K) → heaps h k → live (M.next h)
   pub next : (h : H) (k : K) → heaps h k → N.next k ≡ name (M.next h)
   pub named_live : (h : H) (k : K) (p : PageObject) → heaps h k → live (M.named h p) × there h (M.named h p)

@@ -247,16 +247,16 @@ module _ {H K : Type 0} {M : ObjectMemory H} {N : ObjectMemory K} (sim : Simulat
     nil s t st = sim.named_live s.memory t.memory NilObject st.memory
 
     made-same : (s : State H) (t : State K) (there room room' : Bool) → sim.live c → StateSame sim s t → is_there M s.memory (Ref c) ≡ there
-        → (room' ≡ room) ⊎ ((room ≡ true) × sim.over (M.append s.memory (new_of M s.memory c kind size literals)))
+        → has_room M s.head s.memory (new_of M s.memory c kind size literals) ≡ room → (room' ≡ room) ⊎ ((room ≡ true) × sim.over (M.append s.memory (new_of M s.memory c kind size literals)))
         → TransitionSame sim (IsLive sim.live) (renamed sim.name) (made M (new_of M s.memory c kind size literals) s there room)
         (made N (renamed_object sim.name (new_of M s.memory c kind size literals)) t there room')
     unfolding made
-    made-same s t false room room' l st e r = inl refl
-    made-same s t true true true l st e r = inr (
+    made-same s t false room room' l st e g r = inl refl
+    made-same s t true true true l st e g r = inr (
       sim.next_live s.memory t.memory st.memory,
       ap Ref (sim.next s.memory t.memory st.memory),
       record {
-        memory = sim.append s.memory t.memory (new_of M s.memory c kind size literals) st.memory (fresh_live sim.live _ c kind size literals (nil s t st).0 l)
+        memory = sim.append s.memory t.memory s.head (new_of M s.memory c kind size literals) st.memory st.limits g (fresh_live sim.live _ c kind size literals (nil s t st).0 l)
             (fresh_live (sim.there s.memory) _ c kind size literals (nil s t st).1 (value_there sim s.memory t.memory (Ref c) st.memory e));
         limits = st.limits;
         there = map_all _ _ (λ m x. sim.there_append s.memory m (new_of M s.memory c kind size literals) x) (roots_of s) st.there;
@@ -266,11 +266,11 @@ module _ {H K : Type 0} {M : ObjectMemory H} {N : ObjectMemory K} (sim : Simulat
         head = st.head;
       },
     )
-    made-same s t true true false l st e (inl r) = absurd (cc)
-    made-same s t true true false l st e (inr r) = inl (sim.next_live s.memory t.memory st.memory, r.1)
-    made-same s t true false true l st e (inl r) = absurd (cc)
-    made-same s t true false true l st e (inr r) = let q = r.0 in absurd (cc)
-    made-same s t true false false l st e r = inr ((nil s t st).0, ap Ref (sim.named s.memory t.memory NilObject st.memory), st)
+    made-same s t true true false l st e g (inl r) = absurd (cc)
+    made-same s t true true false l st e g (inr r) = inl (sim.next_live s.memory t.memory st.memory, r.1)
+    made-same s t true false true l st e g (inl r) = absurd (cc)
+    made-same s t true false true l st e g (inr r) = let q = r.0 in absurd (cc)
+    made-same s t true false false l st e g r = inr ((nil s t st).0, ap Ref (sim.named s.memory t.memory NilObject st.memory), st)
 
     made_over : (s : State H) (there room : Bool) → sim.over s.memory → StaysOver sim (IsLive sim.live) (made M (new_of M s.memory c kind size literals) s there room)
     unfolding made
@@ -284,7 +284,7 @@ module _ {H K : Type 0} {M : ObjectMemory H} {N : ObjectMemory K} (sim : Simulat
       go = λ s t st.
           let o = new_of M s.memory c kind size literals in
           rw (new_of-renamed s.memory t.memory c kind size literals st.memory, is_there-renamed sim s.memory t.memory (Ref c) st.memory l)
-          (made-same s t (is_there M s.memory (Ref c)) (has_room M s.head s.memory o) (has_room N t.head t.memory (renamed_object sim.name o)) l st refl
+          (made-same s t (is_there M s.memory (Ref c)) (has_room M s.head s.memory o) (has_room N t.head t.memory (renamed_object sim.name o)) l st refl refl
           (sim.rooms s.memory t.memory s.head t.head o m st.memory st.limits st.head));
       stay = λ s o. made_over s (is_there M s.memory (Ref c)) (has_room M s.head s.memory (new_of M s.memory c kind size literals)) o;
     }

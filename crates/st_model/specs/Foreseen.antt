@@ -41,10 +41,6 @@ EndsShown (Died a) (Went b s) = ⊥
 EndsShown (Went a c) (Died b) = ⊥
 EndsShown (Went a c) (Went b s) = (a ≡ renamed_ending (pointer_of s.memory) b) × Shows c s
 
--- no run of cycles leaves a memory that isn't sound, or an outcome of something that isn't there
-abbrev pub StaysSound : State Table → Type 0
-StaysSound c = (n : ℕ) (o : Outcome) (d : State Table) → run_of foreseen_cycle n c ≡ Went (With o) d → IsSound d × IsLiveOutcome (IsUsed d.memory) o
-
 -- A step that is foreseen from c dies of the cause of which the births die from s; or both come to a primitive that isn't
 -- built; or both go on, with as many entries and words used.
 abbrev pub Foretells : Transition (State Table) StepEnd → Transition (State Births) StepEnd → Type 0
