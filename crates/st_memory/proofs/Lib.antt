@@ -1,4 +1,5 @@
 pub mod Behind
+pub mod Bodies
 mod Copying
 pub mod Drafted
 pub mod Freeing

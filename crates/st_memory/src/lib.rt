@@ -1,6 +1,7 @@
 //! What an object memory promises, however it keeps its objects, and what the rows of bytecodes do with one.
 #![tactic(auto)]
 
+mod body;
 mod change;
 mod draft;
 mod live;
@@ -9,6 +10,7 @@ mod memory;
 mod objects;
 mod transfer;
 
+pub use body::{count_fields, count_units, unit_at};
 pub use draft::Draft;
 pub use live::live_value;
 pub use loader::Loader;

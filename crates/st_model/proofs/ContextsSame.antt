@@ -94,14 +94,14 @@ module _ {H K : Type 0} {M : ObjectMemory H} {N : ObjectMemory K} (sim : Simulat
   unfolding fill_context
   fill_context-same c d m n header other h k l = rw (literal_count-same header other l, temporary_count-same header other l) (search parts_same depth 20 fits 4000)
 
-  new_context-same : (m n header other : Value) → ValueSame sim m n → ValueSame sim header other → SameValue sim (new_context M m header) (new_context N n other)
+  new_context-same : (m n header other : Value) → sim.makes → ValueSame sim m n → ValueSame sim header other → SameValue sim (new_context M m header) (new_context N n other)
   unfolding new_context
-  new_context-same m n header other h k = rw (context_size-same header other k) (search (parts_same, fill_context-same) depth 20 fits 4000)
+  new_context-same m n header other makes h k = rw (context_size-same header other k) (search (parts_same, fill_context-same) depth 20 fits 4000)
 
   pass_words-same : (c d : Value) (n : ℕ) → ValueSame sim c d → SameAnswer sim (pass_words M c n) (pass_words N d n)
   unfolding pass_words
   pass_words-same c d n h = search parts_same depth 20 fits 4000
 
-  pub activate-same : (m k header other : Value) (n : ℕ) → ValueSame sim m k → ValueSame sim header other → SameAnswer sim (activate M m header n) (activate N k other n)
+  pub activate-same : (m k header other : Value) (n : ℕ) → sim.makes → ValueSame sim m k → ValueSame sim header other → SameAnswer sim (activate M m header n) (activate N k other n)
   unfolding activate
-  activate-same m k header other n h l = rw (context_size-same header other l, temporary_count-same header other l) (search (parts_same, new_context-same, pass_words-same, switch-same) depth 24 fits 4000)
+  activate-same m k header other n makes h l = rw (context_size-same header other l, temporary_count-same header other l) (search (parts_same, new_context-same, pass_words-same, switch-same) depth 24 fits 4000)

@@ -4,16 +4,17 @@
 //! The book is Goldberg and Robson, "Smalltalk-80: The Language and its Implementation" (1983).
 #![tactic(auto)]
 
-ghost use Rattle.std.specs.Prelude.{◌≡◌, ℕ, length};
+ghost use Rattle.std.specs.Prelude.{◌≡◌, ◌≤◌, ℕ, length};
 ghost use Rattle.st_model.specs.Machine.{State};
 ghost use Rattle.st_model.specs.Births.{Births, births};
 ghost use Rattle.st_model.specs.Table.{Table, apart, bounded_table};
 ghost use Rattle.st_model.specs.Bytecodes.{step};
 ghost use Rattle.st_model.specs.Cycles.{run, run_of, finished, finished_of};
 ghost use Rattle.st_model.specs.Show.{Shows};
-ghost use Rattle.st_model.specs.Foreseen.{foreseen_cycle, IsSound, StaysSound, EndsShown, Foretells, DoesWithin, KeepsClosed};
+ghost use Rattle.st_model.specs.Foreseen.{foreseen_cycle, IsSound, EndsShown, Foretells, DoesWithin, KeepsClosed};
 
 mod bytecode;
+mod call;
 mod dead;
 mod demand;
 mod fault;
@@ -28,6 +29,7 @@ mod place;
 mod word;
 
 pub use bytecode::{Bytecode, Constant, Operand, decode, extended_operand};
+pub use call::{Call, Performing};
 pub use dead::Dead;
 pub use demand::Demand;
 pub use fault::ImageFault;
@@ -36,7 +38,7 @@ pub use head::ImageHead;
 pub use header::literals;
 pub use kind::Kind;
 pub use oop::Oop;
-pub use outcome::Outcome;
+pub use outcome::{Outcome, StepEnd};
 pub use page::PageObject;
 pub use place::RootPlace;
 pub use word::Word;
@@ -60,10 +62,11 @@ pub fn bounded_stays_closed()
 {}
 
 /// So a running machine, which foresees each step and does it where there is room, shows the births after any number of
-/// cycles, or dies of the cause of which they die, as long as what it leaves is sound; and as many cycles are finished.
+/// cycles, or dies of the cause of which they die; and as many cycles are finished. It begins with a table of 32768 places in
+/// which nothing dangles, and has a capacity of at most 32767 entries.
 pub fn table_shows_births()
-    ensures ends { (n : ℕ) (c : State Table) (s : State Births) → Shows c s → IsSound c → StaysSound c → EndsShown (run_of foreseen_cycle n c) (run births n s) }
-    ensures count { (n : ℕ) (c : State Table) (s : State Births) → Shows c s → IsSound c → StaysSound c → finished_of foreseen_cycle n c ≡ finished births n s }
+    ensures ends { (n : ℕ) (c : State Table) (s : State Births) → Shows c s → IsSound c → c.head.entries ≤ 32767 → EndsShown (run_of foreseen_cycle n c) (run births n s) }
+    ensures count { (n : ℕ) (c : State Table) (s : State Births) → Shows c s → IsSound c → c.head.entries ≤ 32767 → finished_of foreseen_cycle n c ≡ finished births n s }
 {}
 
 #[cfg(test)]

@@ -8,8 +8,7 @@ ghost use Rattle.st_model.specs.Text.{values_text, numbers_text, kind_text, colo
 ghost use Rattle.st_report.specs.Saying.{Says};
 
 use crate::pieces::{say, say_number, say_value};
-use st_bodies::{count_fields, count_units, unit_at};
-use st_memory::Memory;
+use st_memory::{Memory, count_fields, count_units, unit_at};
 use st_model::{Kind, Oop};
 use st_outside::{Host, SayFault};
 
@@ -27,7 +26,7 @@ fn say_fields<H: Host, M: Memory>(host: &mut H, m: &M, o: Oop, fields: u32) -> R
     Ok(())
 }
 
-#[tactic(auto, using(st_bodies::proofs::Bodies::bodies))]
+#[tactic(auto, using(st_memory::proofs::Bodies::bodies))]
 /// Says the words or bytes of an object.
 fn say_units<H: Host, M: Memory>(host: &mut H, m: &M, o: Oop, fields: u32) -> Result<(), SayFault>
     requires live { is_live (M.view m.now).objects (value o) ≡ true }

@@ -7,8 +7,7 @@ ghost use Rattle.st_pieces.specs.Pieces.{end_of, Pushes};
 ghost use Rattle.st_writer.specs.Written.{word_bytes, word_of, filler, unit_bytes};
 
 use crate::numbers::push_word;
-use st_bodies::{count_fields, count_units};
-use st_memory::Memory;
+use st_memory::{Memory, count_fields, count_units};
 use st_model::{Kind, Oop};
 use st_outside::{Host, HostFault};
 use st_pieces::Piece;

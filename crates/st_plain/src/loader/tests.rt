@@ -2,12 +2,12 @@ ghost use Rattle.std.specs.Prelude.{◌≡◌, ◌/◌, ◌≤◌, true, IfOk};
 ghost use Rattle.st_model.specs.Formed.{IsMakeable, fresh};
 ghost use Rattle.st_model.specs.Objects.{words_of};
 ghost use Rattle.st_model.specs.View.{IsComplete};
-ghost use Rattle.st_contents.specs.Plain.{plain_view};
+ghost use Rattle.st_plain.specs.Plain.{plain_view};
 
+use crate::contents::Contents;
 use crate::loader::PlainLoader;
 use crate::memory::PlainMemory;
-use st_contents::Contents;
-use st_marks::Marks;
+use st_lists::Marks;
 use st_memory::{Loader, Memory};
 use st_model::{Demand, Kind, Oop, RootPlace};
 use std::alloc::{AllocError, Global};

@@ -5,7 +5,7 @@ use Rattle.st_model.specs.View.{object_of}
 use Rattle.st_model.specs.Objects.{Object}
 use Rattle.st_outside.specs.Runs.{SaysAll}
 use Rattle.st_report.specs.Saying.{Says}
-use Rattle.st_bodies.proofs.Bodies.{even_pointer}
+use Rattle.st_memory.proofs.Bodies.{even_pointer}
 use Rattle.st_report.proofs.objects.say_head.Goals as goal
 
 heading : (w p : ℕ) (class : Value) (letter : List ℕ) (o : Object) → w ≡ p → 2 * (p / 2) ≡ p → class ≡ Ref o.class → letter ≡ kind_text o.kind → heading_text w class letter ≡ object_head (p / 2) o

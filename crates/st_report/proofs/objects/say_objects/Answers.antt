@@ -7,7 +7,7 @@ use Rattle.st_model.specs.Text.{object_text, objects_text}
 use Rattle.st_outside.specs.Runs.{SaysAll}
 use Rattle.st_report.specs.Saying.{Says}
 use Rattle.st_report.proofs.Joined.{text_within, text_then, text_all}
-use Rattle.st_bodies.proofs.Bodies.{even_pointer}
+use Rattle.st_memory.proofs.Bodies.{even_pointer}
 use Rattle.st_report.proofs.Listing.{IsEmptyFrom, next_line, cut_lines, all_lines, live_entry, empty_from}
 use Rattle.st_report.proofs.objects.say_objects.Goals as goal
 

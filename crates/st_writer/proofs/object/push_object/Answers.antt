@@ -1,7 +1,7 @@
 use Rattle.std.proofs.Common.{◌*◌, ◌++◌, map, refl, arith}
 use Rattle.std.specs.List.{flat_map}
 use Rattle.std.proofs.lemmas.List.{length-map}
-use Rattle.st_bodies.proofs.Bodies.{most_units}
+use Rattle.st_memory.proofs.Bodies.{most_units}
 use Rattle.st_model.specs.Objects.{words_of}
 use Rattle.st_model.specs.Values.{value}
 use Rattle.st_model.specs.View.{object_of}
