@@ -1,6 +1,6 @@
 ghost use Rattle.std.specs.Prelude.{◌≡◌, ◌<◌, ◌≤◌, ◌+◌};
 ghost use Rattle.st_model.specs.Values.{word};
-ghost use Rattle.st_model.specs.Outcomes.{end_of};
+ghost use Rattle.st_model.specs.Sends.{call_of, call_if_any};
 ghost use Rattle.st_model.specs.Returns.{cannot_return, return_into, return_to_context, return_to, return_to_sender, return_to_caller};
 ghost use Rattle.st_model.specs.Calls.{itself};
 ghost use Rattle.st_frames.specs.Rows.{RowReads, RowMoves, RowDoes, Takes, activation_changes, send_changes, jump_changes, return_changes};
@@ -8,18 +8,14 @@ ghost use Rattle.st_frames.specs.Rows.{RowReads, RowMoves, RowDoes, Takes, activ
 use crate::sends::send;
 use st_frames::{Registers, fetch_context_registers, page, push};
 use st_memory::Objects;
-use st_model::{Dead, Outcome, PageObject, Word};
+use st_model::{Call, Dead, PageObject, Word};
 
 /// Sends cannotReturn: to the active context.
 #[tactic(auto, using(st_frames::proofs::Doing::rows), unfolding(st_model::specs::Returns::cannot_return))]
-fn cannot_return<O: Objects>(
-    m: &mut O,
-    r: &mut Registers,
-    answer: Word,
-) -> Result<Option<Outcome>, Dead>
+fn cannot_return<O: Objects>(m: &mut O, r: &mut Registers, answer: Word) -> Result<Call, Dead>
     requires room { return_changes ≤ O.room m.old }
     ensures does { RowDoes O.Objects.own (cannot_return O.names (word answer))
-        end_of m.old r.old result m.new r.new }
+        call_of m.old r.old result m.new r.new }
     ensures takes { Takes O.Objects.own return_changes m.old m.new }
 {
     push(m, r, r.active)?;
@@ -49,46 +45,45 @@ fn return_into<O: Objects>(
 }
 
 /// Returns the answer to a context, which isn't nil, unless that was left for good.
-#[tactic(auto, using(st_frames::proofs::Doing::rows), unfolding(st_model::specs::Returns::return_to_context, st_model::specs::Sends::goes_on))]
+#[tactic(auto, using(st_frames::proofs::Doing::rows), unfolding(st_model::specs::Returns::return_to_context, st_model::specs::Returns::calls, st_model::specs::Returns::calls_nothing))]
 fn return_to_context<O: Objects>(
     m: &mut O,
     r: &mut Registers,
     context: Word,
     answer: Word,
     nil: Word,
-) -> Result<Option<Outcome>, Dead>
+) -> Result<Option<Call>, Dead>
     requires room { return_changes ≤ O.room m.old }
     ensures does { RowDoes O.Objects.own (return_to_context O.names (word context) (word answer) (word nil))
-        end_of m.old r.old result m.new r.new }
+        call_if_any m.old r.old result m.new r.new }
     ensures takes { Takes O.Objects.own return_changes m.old m.new }
 {
     let ip = m.fetch_field(context, 1)?;
     if ip.same(nil) {
-        return cannot_return(m, r, answer);
+        return Ok(Some(cannot_return(m, r, answer)?));
     }
     return_into(m, r, context, answer)?;
-    Ok(Some(Outcome::Went))
+    Ok(None)
 }
 
 /// Returns the answer to a context.
-#[tactic(auto, using(st_frames::proofs::Doing::rows), unfolding(st_model::specs::Returns::return_to))]
+#[tactic(auto, using(st_frames::proofs::Doing::rows), unfolding(st_model::specs::Returns::return_to, st_model::specs::Returns::calls))]
 fn return_to<O: Objects>(
     m: &mut O,
     r: &mut Registers,
     context: Word,
     answer: Word,
-) -> Result<Option<Outcome>, Dead>
+) -> Result<Option<Call>, Dead>
     requires room { return_changes ≤ O.room m.old }
     ensures does { RowDoes O.Objects.own (return_to O.names (word context) (word answer))
-        end_of m.old r.old result m.new r.new }
+        call_if_any m.old r.old result m.new r.new }
     ensures takes { Takes O.Objects.own return_changes m.old m.new }
 {
     let nil = page(m, PageObject::NilObject);
     if context.same(nil) {
-        cannot_return(m, r, answer)
-    } else {
-        return_to_context(m, r, context, answer, nil)
+        return Ok(Some(cannot_return(m, r, answer)?));
     }
+    return_to_context(m, r, context, answer, nil)
 }
 
 /// Returns the answer to the sender.
@@ -97,10 +92,10 @@ pub fn return_to_sender<O: Objects>(
     m: &mut O,
     r: &mut Registers,
     answer: Word,
-) -> Result<Option<Outcome>, Dead>
+) -> Result<Option<Call>, Dead>
     requires room { return_changes ≤ O.room m.old }
     ensures does { RowDoes O.Objects.own (return_to_sender O.names (word answer))
-        end_of m.old r.old result m.new r.new }
+        call_if_any m.old r.old result m.new r.new }
     ensures takes { Takes O.Objects.own return_changes m.old m.new }
 {
     let sender = m.fetch_field(r.home, 0)?;
@@ -113,10 +108,10 @@ pub fn return_to_caller<O: Objects>(
     m: &mut O,
     r: &mut Registers,
     answer: Word,
-) -> Result<Option<Outcome>, Dead>
+) -> Result<Option<Call>, Dead>
     requires room { return_changes ≤ O.room m.old }
     ensures does { RowDoes O.Objects.own (return_to_caller O.names (word answer))
-        end_of m.old r.old result m.new r.new }
+        call_if_any m.old r.old result m.new r.new }
     ensures takes { Takes O.Objects.own return_changes m.old m.new }
 {
     let caller = m.fetch_field(r.active, 0)?;

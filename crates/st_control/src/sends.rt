@@ -1,36 +1,38 @@
 ghost use Rattle.std.specs.Prelude.{◌≡◌, ◌<◌, ◌≤◌, ◌+◌};
 ghost use Rattle.st_model.specs.Values.{word};
-ghost use Rattle.st_model.specs.Outcomes.{end_of};
-ghost use Rattle.st_model.specs.Sends.{execute_not_understood, not_understood, execute_found, send_from, send, class_above, send_to_super, special_send, arithmetic_by, arithmetic_send};
+ghost use Rattle.st_model.specs.Sends.{call_not_understood, not_understood, call_found, send_from, send, class_above, send_to_super, special_send, call_of};
 ghost use Rattle.st_model.specs.Calls.{itself};
 ghost use Rattle.st_lookup.specs.Places.{found_word};
 ghost use Rattle.st_frames.specs.Rows.{RowReads, RowMoves, RowDoes, Takes, activation_changes, send_changes, jump_changes, return_changes};
 
-use crate::executing::execute;
 use crate::messages::replace_by_message;
 use st_frames::{Registers, fetch_integer, page, under};
 use st_lookup::look_up;
 use st_memory::Objects;
-use st_model::{Dead, Outcome, PageObject, Word};
+use st_model::{Call, Dead, PageObject, Word};
 
-/// The method for doesNotUnderstand: is executed, if there is one.
-#[tactic(auto, using(st_frames::proofs::Doing::rows), unfolding(st_model::specs::Sends::execute_not_understood))]
-fn execute_not_understood<O: Objects>(
+/// The method for doesNotUnderstand: is called with the Message as its argument. Dead without one.
+#[tactic(auto, using(st_frames::proofs::Doing::rows), unfolding(st_model::specs::Sends::call_not_understood))]
+fn call_not_understood<O: Objects>(
     m: &mut O,
     r: &mut Registers,
     selector: Word,
     n: u32,
     method: Option<Word>,
-) -> Result<Option<Outcome>, Dead>
+) -> Result<Call, Dead>
     requires few { n < 16384 }
     requires room { send_changes ≤ O.room m.old }
-    ensures does { RowDoes O.Objects.own (execute_not_understood O.names (word selector) n (found_word method)) end_of m.old r.old result m.new r.new }
+    ensures does { RowDoes O.Objects.own (call_not_understood O.names (word selector) n (found_word method))
+        call_of m.old r.old result m.new r.new }
     ensures takes { Takes O.Objects.own send_changes m.old m.new }
 {
     match method {
         Some(method) => {
             replace_by_message(m, r, selector, n)?;
-            execute(m, r, method, 1)
+            Ok(Call {
+                method,
+                arguments: 1,
+            })
         }
         None => Err(Dead::Unanswered),
     }
@@ -44,35 +46,40 @@ fn not_understood<O: Objects>(
     class: Word,
     selector: Word,
     n: u32,
-) -> Result<Option<Outcome>, Dead>
+) -> Result<Call, Dead>
     requires few { n < 16384 }
     requires room { send_changes ≤ O.room m.old }
     ensures does { RowDoes O.Objects.own (not_understood O.names (word class) (word selector) n)
-        end_of m.old r.old result m.new r.new }
+        call_of m.old r.old result m.new r.new }
     ensures takes { Takes O.Objects.own send_changes m.old m.new }
 {
     let understand = page(m, PageObject::NotUnderstood);
     let method = look_up(m, class, understand)?;
-    execute_not_understood(m, r, selector, n, method)
+    call_not_understood(m, r, selector, n, method)
 }
 
-/// The method is executed, if there is one.
-#[tactic(auto, using(st_frames::proofs::Doing::rows), unfolding(st_model::specs::Sends::execute_found))]
-fn execute_found<O: Objects>(
+/// The method is called, if there is one.
+#[tactic(auto, using(st_frames::proofs::Doing::rows), unfolding(st_model::specs::Sends::call_found))]
+fn call_found<O: Objects>(
     m: &mut O,
     r: &mut Registers,
     class: Word,
     selector: Word,
     n: u32,
     method: Option<Word>,
-) -> Result<Option<Outcome>, Dead>
+) -> Result<Call, Dead>
     requires few { n < 16384 }
     requires room { send_changes ≤ O.room m.old }
-    ensures does { RowDoes O.Objects.own (execute_found O.names (word class) (word selector) n (found_word method)) end_of m.old r.old result m.new r.new }
+    ensures does { RowDoes O.Objects.own
+        (call_found O.names (word class) (word selector) n (found_word method))
+        call_of m.old r.old result m.new r.new }
     ensures takes { Takes O.Objects.own send_changes m.old m.new }
 {
     match method {
-        Some(method) => execute(m, r, method, n),
+        Some(method) => Ok(Call {
+            method,
+            arguments: n,
+        }),
         None => not_understood(m, r, class, selector, n),
     }
 }
@@ -85,29 +92,24 @@ fn send_from<O: Objects>(
     class: Word,
     selector: Word,
     n: u32,
-) -> Result<Option<Outcome>, Dead>
+) -> Result<Call, Dead>
     requires few { n < 16384 }
     requires room { send_changes ≤ O.room m.old }
     ensures does { RowDoes O.Objects.own (send_from O.names (word class) (word selector) n)
-        end_of m.old r.old result m.new r.new }
+        call_of m.old r.old result m.new r.new }
     ensures takes { Takes O.Objects.own send_changes m.old m.new }
 {
     let method = look_up(m, class, selector)?;
-    execute_found(m, r, class, selector, n, method)
+    call_found(m, r, class, selector, n, method)
 }
 
 /// Sends the selector with n arguments to the word n words below the top.
 #[tactic(auto, using(st_frames::proofs::Doing::rows), unfolding(st_model::specs::Sends::send))]
-pub fn send<O: Objects>(
-    m: &mut O,
-    r: &mut Registers,
-    selector: Word,
-    n: u32,
-) -> Result<Option<Outcome>, Dead>
+pub fn send<O: Objects>(m: &mut O, r: &mut Registers, selector: Word, n: u32) -> Result<Call, Dead>
     requires few { n < 16384 }
     requires room { send_changes ≤ O.room m.old }
     ensures does { RowDoes O.Objects.own (send O.names (word selector) n)
-        end_of m.old r.old result m.new r.new }
+        call_of m.old r.old result m.new r.new }
     ensures takes { Takes O.Objects.own send_changes m.old m.new }
 {
     let receiver = under(m, r, n)?;
@@ -132,11 +134,11 @@ pub fn send_to_super<O: Objects>(
     r: &mut Registers,
     selector: Word,
     n: u32,
-) -> Result<Option<Outcome>, Dead>
+) -> Result<Call, Dead>
     requires few { n < 16384 }
     requires room { send_changes ≤ O.room m.old }
     ensures does { RowDoes O.Objects.own (send_to_super O.names (word selector) n)
-        end_of m.old r.old result m.new r.new }
+        call_of m.old r.old result m.new r.new }
     ensures takes { Takes O.Objects.own send_changes m.old m.new }
 {
     under(m, r, n)?;
@@ -146,14 +148,10 @@ pub fn send_to_super<O: Objects>(
 
 /// Sends the special selector of this number.
 #[tactic(auto, using(st_frames::proofs::Doing::rows), unfolding(st_model::specs::Sends::special_send, st_model::specs::Sends::argument_count))]
-pub fn special_send<O: Objects>(
-    m: &mut O,
-    r: &mut Registers,
-    k: u32,
-) -> Result<Option<Outcome>, Dead>
+pub fn special_send<O: Objects>(m: &mut O, r: &mut Registers, k: u32) -> Result<Call, Dead>
     requires number { k < 32 }
     requires room { send_changes ≤ O.room m.old }
-    ensures does { RowDoes O.Objects.own (special_send O.names k) end_of m.old r.old result m.new r.new }
+    ensures does { RowDoes O.Objects.own (special_send O.names k) call_of m.old r.old result m.new r.new }
     ensures takes { Takes O.Objects.own send_changes m.old m.new }
 {
     let selectors = page(m, PageObject::Selectors);
@@ -163,41 +161,4 @@ pub fn special_send<O: Objects>(
         return Err(Dead::Field);
     }
     send(m, r, selector, count as u32)
-}
-
-/// A primitive is tried first where the receiver is a SmallInteger.
-#[tactic(auto, using(crate::proofs::Arithmetic::arithmetic))]
-fn arithmetic_by<O: Objects>(
-    m: &mut O,
-    r: &mut Registers,
-    k: u32,
-    receiver: Word,
-) -> Result<Option<Outcome>, Dead>
-    requires number { k < 32 }
-    requires room { send_changes ≤ O.room m.old }
-    ensures does { RowDoes O.Objects.own (arithmetic_by O.names k (word receiver))
-        end_of m.old r.old result m.new r.new }
-    ensures takes { Takes O.Objects.own send_changes m.old m.new }
-{
-    if receiver.is_small() {
-        Ok(None)
-    } else {
-        special_send(m, r, k)
-    }
-}
-
-/// Sends the special selector of this number, for which arithmetic is tried first.
-#[tactic(auto, using(st_frames::proofs::Doing::rows), unfolding(st_model::specs::Sends::arithmetic_send))]
-pub fn arithmetic_send<O: Objects>(
-    m: &mut O,
-    r: &mut Registers,
-    k: u32,
-) -> Result<Option<Outcome>, Dead>
-    requires number { k < 32 }
-    requires room { send_changes ≤ O.room m.old }
-    ensures does { RowDoes O.Objects.own (arithmetic_send O.names k) end_of m.old r.old result m.new r.new }
-    ensures takes { Takes O.Objects.own send_changes m.old m.new }
-{
-    let receiver = under(m, r, 1)?;
-    arithmetic_by(m, r, k, receiver)
 }

@@ -41,16 +41,19 @@ pub record Takes {M : Type 0} (o : Ghosts M) (most : ℕ) (old new : M) : Type 0
   pub room : o.room old ≤ o.room new + most
   pub fixed : o.fixed new ≡ o.fixed old
 
--- how many changes are made at most: by what activates a method, by a send, by a jump on a condition, and by a return
-
+-- how many changes are made at most: by what activates a method; by a send, which may make a Message; by a jump on a
+-- condition and by a return, which may send; and by a bytecode
 abbrev pub activation_changes : ℕ
 activation_changes = 8
 
 abbrev pub send_changes : ℕ
-send_changes = 14
+send_changes = 6
 
 abbrev pub jump_changes : ℕ
-jump_changes = 15
+jump_changes = 7
 
 abbrev pub return_changes : ℕ
-return_changes = 16
+return_changes = 8
+
+abbrev pub bytecode_changes : ℕ
+bytecode_changes = 16

@@ -91,7 +91,8 @@ pub fn are_there<O: Objects>(m: &O, new: &Fetched) -> bool
 /// Sets all registers, each of which must be there.
 #[tactic(auto, using(crate::proofs::Homes::sets))]
 fn set_registers<O: Objects>(m: &O, r: &mut Registers, new: &Fetched) -> Result<(), Dead>
-    ensures does { RowMoves O.Objects.own (set_registers O.names (fetched_in new.now)) itself m.now r.old result r.new }
+    ensures does { RowMoves O.Objects.own (set_registers O.names (fetched_in new.now))
+        itself m.now r.old result r.new }
 {
     if !are_there(m, new) {
         return Err(Dead::Kind);
@@ -114,7 +115,8 @@ pub fn fetch_context_registers<O: Objects>(
     r: &mut Registers,
     context: Word,
 ) -> Result<(), Dead>
-    ensures does { RowMoves O.Objects.own (fetch_context_registers O.names (word context)) itself m.now r.old result r.new }
+    ensures does { RowMoves O.Objects.own (fetch_context_registers O.names (word context))
+        itself m.now r.old result r.new }
 {
     let new = read_registers(m, context)?;
     set_registers(m, r, &new)
@@ -142,7 +144,8 @@ fn stored_instruction_pointer(r: &Registers) -> Word
 #[tactic(auto, using(crate::proofs::Doing::rows), unfolding(st_model::specs::Contexts::store_context_registers))]
 pub fn store_context_registers<O: Objects>(m: &mut O, r: &Registers) -> Result<(), Dead>
     requires room { 2 ≤ O.room m.old }
-    ensures does { RowDoes O.Objects.own (store_context_registers O.names) itself m.old r.now result m.new r.now }
+    ensures does { RowDoes O.Objects.own (store_context_registers O.names)
+        itself m.old r.now result m.new r.now }
     ensures takes { Takes O.Objects.own 2 m.old m.new }
 {
     m.store_field(r.active, 1, stored_instruction_pointer(r))?;
@@ -153,7 +156,8 @@ pub fn store_context_registers<O: Objects>(m: &mut O, r: &Registers) -> Result<(
 #[tactic(auto, using(crate::proofs::Doing::rows), unfolding(st_model::specs::Contexts::switch))]
 pub fn switch<O: Objects>(m: &mut O, r: &mut Registers, context: Word) -> Result<(), Dead>
     requires room { 2 ≤ O.room m.old }
-    ensures does { RowDoes O.Objects.own (switch O.names (word context)) itself m.old r.old result m.new r.new }
+    ensures does { RowDoes O.Objects.own (switch O.names (word context))
+        itself m.old r.old result m.new r.new }
     ensures takes { Takes O.Objects.own 2 m.old m.new }
 {
     store_context_registers(m, r)?;

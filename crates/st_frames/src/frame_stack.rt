@@ -19,7 +19,8 @@ use st_model::{Dead, Oop};
 fn put<M: Memory>(m: &mut M, f: &Frame, context: Oop, at: u32, x: Oop) -> Result<(), Dead>
     requires object { IsKnown (M.view m.old).objects (value context) }
     requires known { IsKnown (M.view m.old).objects (value x) }
-    ensures puts { Does (put table (value context) at (value x)) itself (shown (M.view m.old) f.now) result (shown (M.view m.new) f.now) }
+    ensures puts { Does (put table (value context) at (value x))
+        itself (shown (M.view m.old) f.now) result (shown (M.view m.new) f.now) }
     ensures held { (M.view m.new).held ≡ (M.view m.old).held }
     ensures err { OnErr result (M.view m.new ≡ M.view m.old) }
     ensures small { OnOk result (at ≤ 16388) }
@@ -53,7 +54,8 @@ impl Frame {
     /// one of the fields; the first may be stored then.
     pub fn store<M: Memory>(&self, m: &mut M) -> Result<(), Dead>
         requires frame { IsFrame (M.view m.old) self.now }
-        ensures stores { Does (store_context_registers table) itself (shown (M.view m.old) self.now) result (shown (M.view m.new) self.now) }
+        ensures stores { Does (store_context_registers table)
+            itself (shown (M.view m.old) self.now) result (shown (M.view m.new) self.now) }
         ensures frame { OnOk result (StaysFrame (M.view m.old) (M.view m.new) self.now) }
         ensures held { (M.view m.new).held ≡ (M.view m.old).held }
         ensures head { (M.view m.new).head ≡ (M.view m.old).head }
@@ -67,7 +69,8 @@ impl Frame {
     pub fn push<M: Memory>(&mut self, m: &mut M, v: Oop) -> Result<(), Dead>
         requires frame { IsFrame (M.view m.old) self.old }
         requires known { IsKnown (M.view m.old).objects (value v) }
-        ensures pushes { Does (push table (value v)) itself (shown (M.view m.old) self.old) result (shown (M.view m.new) self.new) }
+        ensures pushes { Does (push table (value v))
+            itself (shown (M.view m.old) self.old) result (shown (M.view m.new) self.new) }
         ensures frame { OnOk result (StaysFrame (M.view m.old) (M.view m.new) self.new) }
         ensures memory_stays { OnErr result (M.view m.new ≡ M.view m.old) }
         ensures registers_stay { OnErr result (self.new ≡ self.old) }
@@ -81,7 +84,8 @@ impl Frame {
     #[tactic(auto, using(crate::proofs::Shown::shows), unfolding(st_model::specs::Steps::pop))]
     pub fn pop<M: Memory>(&mut self, m: &M) -> Result<Oop, Dead>
         requires frame { IsFrame (M.view m.now) self.old }
-        ensures pops { Does (pop table) value (shown (M.view m.now) self.old) result (shown (M.view m.now) self.new) }
+        ensures pops { Does (pop table) value
+            (shown (M.view m.now) self.old) result (shown (M.view m.now) self.new) }
         ensures known { IfOk result (λ x. IsKnown (M.view m.now).objects (value x)) }
         ensures frame { OnOk result (IsFrame (M.view m.now) self.new) }
         ensures registers_stay { OnErr result (self.new ≡ self.old) }
@@ -95,7 +99,8 @@ impl Frame {
     #[tactic(auto, using(crate::proofs::Shown::shows, crate::proofs::Known::registers), unfolding(st_model::specs::Steps::under))]
     pub fn under<M: Memory>(&self, m: &M, k: u32) -> Result<Oop, Dead>
         requires frame { IsFrame (M.view m.now) self.now }
-        ensures under { Does (under table k) value (shown (M.view m.now) self.now) result (shown (M.view m.now) self.now) }
+        ensures under { Does (under table k)
+            value (shown (M.view m.now) self.now) result (shown (M.view m.now) self.now) }
         ensures known { IfOk result (λ x. IsKnown (M.view m.now).objects (value x)) }
     {
         if self.sp - 5 <= k {

@@ -101,7 +101,8 @@ fn hold_fetched<M: Memory>(m: &mut M, new: &Fetched) -> Frame
 
 /// Fetches the registers from a context of this word, and holds them at their places.
 fn fetch_word<M: Memory>(m: &mut M, context: Word) -> Result<Frame, Dead>
-    ensures registers { FetchesFrame (fetch_context_registers table (word context)) (M.view m.old) result (M.view m.new) }
+    ensures registers { FetchesFrame (fetch_context_registers table (word context))
+        (M.view m.old) result (M.view m.new) }
     ensures objects { (M.view m.new).objects ≡ (M.view m.old).objects }
     ensures head { (M.view m.new).head ≡ (M.view m.old).head }
     ensures frame { IfOk result (StaysFrame (M.view m.old) (M.view m.new)) }
@@ -117,7 +118,8 @@ fn fetch_word<M: Memory>(m: &mut M, context: Word) -> Result<Frame, Dead>
 /// Fetches the registers from a context, which becomes the active one, and holds them at their places. Dead, with
 /// nothing held, where the context lacks them or its stack pointer is none of its places.
 pub fn fetch<M: Memory>(m: &mut M, context: Oop) -> Result<Frame, Dead>
-    ensures registers { FetchesFrame (fetch_context_registers table (value context)) (M.view m.old) result (M.view m.new) }
+    ensures registers { FetchesFrame (fetch_context_registers table (value context))
+        (M.view m.old) result (M.view m.new) }
     ensures objects { (M.view m.new).objects ≡ (M.view m.old).objects }
     ensures head { (M.view m.new).head ≡ (M.view m.old).head }
     ensures frame { IfOk result (StaysFrame (M.view m.old) (M.view m.new)) }

@@ -12,7 +12,8 @@ use st_model::{Dead, Word};
 #[tactic(auto, using(crate::proofs::Doing::checks), unfolding(st_model::specs::Steps::put))]
 fn put<O: Objects>(m: &mut O, r: &Registers, context: Word, at: u32, x: Word) -> Result<(), Dead>
     requires room { 1 ≤ O.room m.old }
-    ensures does { RowDoes O.Objects.own (put O.names (word context) at (word x)) itself m.old r.now result m.new r.now }
+    ensures does { RowDoes O.Objects.own (put O.names (word context) at (word x))
+        itself m.old r.now result m.new r.now }
     ensures high { OnOk result (at ≤ 16388) }
     ensures takes { Takes O.Objects.own 1 m.old m.new }
 {

@@ -53,7 +53,8 @@ fn next_code<M: Memory>(m: &M, f: &Frame) -> u8
 pub fn cycle<M: Memory>(m: &mut M, f: &mut Frame) -> Result<CycleEnd, Dead>
     requires frame { IsFrame (M.view m.old) f.old }
     requires quiet { (M.view m.old).held.devices ≡ no_devices }
-    ensures cycle { foreseen_cycle (shown (M.view m.old) f.old) ≡ transition_of ending_of result (shown (M.view m.new) f.new) }
+    ensures cycle { foreseen_cycle (shown (M.view m.old) f.old)
+        ≡ transition_of ending_of result (shown (M.view m.new) f.new) }
     ensures frame { StaysFrame (M.view m.old) (M.view m.new) f.new }
 {
     let demand = match plan(m, f) {

@@ -6,6 +6,7 @@ ghost use Rattle.st_model.specs.View.{no_devices};
 ghost use Rattle.st_frames.specs.Shown.{IsFrame};
 ghost use Rattle.st_image.specs.Reading.{IsStart};
 ghost use Rattle.st_once.specs.Ends.{IsReadable, IsRefusal, RefusalHasCause};
+ghost use Rattle.st_machine.specs.Machines.{IsReady};
 
 use crate::refusal::Refusal;
 use st_frames::Loaded;
@@ -67,6 +68,7 @@ pub fn start<H: Host, L: Loader>(
 ) -> Result<Machine<L::Done>, Refusal>
     ensures readable { IfOk result (λ _. IsTrue H.is_told → IsReadable (bytes_of (H.files host.old name.now))) }
     ensures start { IfOk result (λ m. IsTrue H.is_told → let bytes = bytes_of (H.files host.old name.now) in IsStart (image_head bytes) bytes (L.Done.view m.memory) m.frame) }
+    ensures ready { IfOk result (λ m. IsReady (L.Done.view m.memory) m.frame m.world) }
     ensures alive { IfOk result (λ m. m.death ≡ None) }
     ensures refused { IfErr result (λ e. IsTrue H.is_told → IsRefusal (bytes_of (H.files host.old name.now)) e) }
     ensures cause { IfErr result (RefusalHasCause H.Host.own host.old host.new) }

@@ -2,6 +2,7 @@
 //! one (chapter 28).
 #![tactic(auto)]
 
+mod execute;
 mod jump;
 mod operands;
 mod returns;

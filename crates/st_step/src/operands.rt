@@ -66,7 +66,8 @@ fn store_receiver_variable<O: Objects>(
     x: Word,
 ) -> Result<(), Dead>
     requires room { 1 ≤ O.room m.old }
-    ensures does { RowDoes O.Objects.own (store_receiver_variable O.names i (word x)) itself m.old r.now result m.new r.now }
+    ensures does { RowDoes O.Objects.own (store_receiver_variable O.names i (word x))
+        itself m.old r.now result m.new r.now }
     ensures takes { Takes O.Objects.own 1 m.old m.new }
 {
     m.store_field(r.receiver, i, x)
@@ -82,7 +83,8 @@ fn store_temporary_variable<O: Objects>(
 ) -> Result<(), Dead>
     requires number { i < 64 }
     requires room { 1 ≤ O.room m.old }
-    ensures does { RowDoes O.Objects.own (store_temporary_variable O.names i (word x)) itself m.old r.now result m.new r.now }
+    ensures does { RowDoes O.Objects.own (store_temporary_variable O.names i (word x))
+        itself m.old r.now result m.new r.now }
     ensures takes { Takes O.Objects.own 1 m.old m.new }
 {
     m.store_field(r.home, 6 + i, x)
@@ -92,7 +94,8 @@ fn store_temporary_variable<O: Objects>(
 #[tactic(auto, using(st_frames::proofs::Doing::rows), unfolding(st_model::specs::Bytecodes::store_literal_variable))]
 fn store_literal_variable<O: Objects>(m: &mut O, r: &Registers, i: u32, x: Word) -> Result<(), Dead>
     requires room { 1 ≤ O.room m.old }
-    ensures does { RowDoes O.Objects.own (store_literal_variable O.names i (word x)) itself m.old r.now result m.new r.now }
+    ensures does { RowDoes O.Objects.own (store_literal_variable O.names i (word x))
+        itself m.old r.now result m.new r.now }
     ensures takes { Takes O.Objects.own 1 m.old m.new }
 {
     let association = fetch_literal_constant(m, r, i)?;
@@ -109,7 +112,8 @@ pub fn store_operand<O: Objects>(
 ) -> Result<(), Dead>
     requires numbered { IsNumberedOperand operand }
     requires room { 1 ≤ O.room m.old }
-    ensures does { RowDoes O.Objects.own (store_operand O.names operand (word x)) itself m.old r.now result m.new r.now }
+    ensures does { RowDoes O.Objects.own (store_operand O.names operand (word x))
+        itself m.old r.now result m.new r.now }
     ensures takes { Takes O.Objects.own 1 m.old m.new }
 {
     match operand {

@@ -15,7 +15,8 @@ use st_model::{Constant, Dead, Operand, Word, extended_operand};
 pub fn push_operand<O: Objects>(m: &mut O, r: &mut Registers, operand: Operand) -> Result<(), Dead>
     requires numbered { IsNumberedOperand operand }
     requires room { 1 ≤ O.room m.old }
-    ensures does { RowDoes O.Objects.own (push_operand O.names operand) itself m.old r.old result m.new r.new }
+    ensures does { RowDoes O.Objects.own (push_operand O.names operand)
+        itself m.old r.old result m.new r.new }
     ensures takes { Takes O.Objects.own 1 m.old m.new }
 {
     let x = fetch_operand(m, r, operand)?;
@@ -27,7 +28,8 @@ pub fn push_operand<O: Objects>(m: &mut O, r: &mut Registers, operand: Operand) 
 pub fn store_and_pop<O: Objects>(m: &mut O, r: &mut Registers, operand: Operand) -> Result<(), Dead>
     requires numbered { IsNumberedOperand operand }
     requires room { 1 ≤ O.room m.old }
-    ensures does { RowDoes O.Objects.own (store_and_pop O.names operand) itself m.old r.old result m.new r.new }
+    ensures does { RowDoes O.Objects.own (store_and_pop O.names operand)
+        itself m.old r.old result m.new r.new }
     ensures takes { Takes O.Objects.own 1 m.old m.new }
 {
     let x = pop(m, r)?;
@@ -52,7 +54,8 @@ pub fn push_constant<O: Objects>(
     constant: Constant,
 ) -> Result<(), Dead>
     requires room { 1 ≤ O.room m.old }
-    ensures does { RowDoes O.Objects.own (push_constant O.names constant) itself m.old r.old result m.new r.new }
+    ensures does { RowDoes O.Objects.own (push_constant O.names constant)
+        itself m.old r.old result m.new r.new }
     ensures takes { Takes O.Objects.own 1 m.old m.new }
 {
     let x = constant_value(m, r, constant);
@@ -86,7 +89,8 @@ pub fn extended_store<O: Objects>(m: &mut O, r: &mut Registers) -> Result<(), De
 #[tactic(auto, using(st_frames::proofs::Doing::rows), unfolding(st_model::specs::Bytecodes::extended_store_and_pop))]
 pub fn extended_store_and_pop<O: Objects>(m: &mut O, r: &mut Registers) -> Result<(), Dead>
     requires room { 1 ≤ O.room m.old }
-    ensures does { RowDoes O.Objects.own (extended_store_and_pop O.names) itself m.old r.old result m.new r.new }
+    ensures does { RowDoes O.Objects.own (extended_store_and_pop O.names)
+        itself m.old r.old result m.new r.new }
     ensures takes { Takes O.Objects.own 1 m.old m.new }
 {
     let byte = next_byte(m, r)?;

@@ -1,19 +1,20 @@
 ghost use Rattle.std.specs.Prelude.{◌≡◌, ◌<◌, ◌≤◌, ◌+◌};
 ghost use Rattle.st_model.specs.Values.{word};
 ghost use Rattle.st_model.specs.Outcomes.{end_of};
-ghost use Rattle.st_model.specs.Sends.{answer_field, respond, respond_by_extension, execute_by, execute};
+ghost use Rattle.st_model.specs.Sends.{call_of, call_if_any};
+ghost use Rattle.st_model.specs.Executing.{goes_on, answer_field, respond, respond_by_extension, execute_by, execute, execute_if_any};
 ghost use Rattle.st_model.specs.Methods.{primitive_number, method_primitive, method_header};
 ghost use Rattle.st_model.specs.Calls.{itself};
-ghost use Rattle.st_frames.specs.Rows.{RowReads, RowMoves, RowDoes, Takes, activation_changes, send_changes, jump_changes, return_changes};
+ghost use Rattle.st_frames.specs.Rows.{RowReads, RowDoes, Takes, activation_changes};
 
-use crate::activation::activate;
+use st_control::activate;
 use st_frames::{Registers, pop, push};
 use st_memory::Objects;
 use st_method::Header;
-use st_model::{Dead, Outcome, Word};
+use st_model::{Call, Dead, Outcome, Performing, StepEnd, Word};
 
 /// A field of the word at the top takes its place.
-#[tactic(auto, using(st_frames::proofs::Doing::rows), unfolding(st_model::specs::Sends::answer_field))]
+#[tactic(auto, using(st_frames::proofs::Doing::rows), unfolding(st_model::specs::Executing::answer_field))]
 fn answer_field<O: Objects>(m: &mut O, r: &mut Registers, i: u32) -> Result<(), Dead>
     requires room { 1 ≤ O.room m.old }
     ensures does { RowDoes O.Objects.own (answer_field O.names i) itself m.old r.old result m.new r.new }
@@ -46,92 +47,107 @@ fn method_primitive<O: Objects>(m: &O, r: &Registers, method: Word) -> Result<u3
 }
 
 /// The method is activated where it has no primitive.
-#[tactic(auto, using(st_frames::proofs::Doing::rows), unfolding(st_model::specs::Sends::respond, st_model::specs::Sends::goes_on))]
+#[tactic(auto, using(st_frames::proofs::Doing::rows), unfolding(st_model::specs::Executing::respond, st_model::specs::Executing::goes_on))]
 fn respond<O: Objects>(
     m: &mut O,
     r: &mut Registers,
-    method: Word,
+    performing: Performing,
+    call: Call,
     header: Header,
-    n: u32,
     primitive: u32,
-) -> Result<Option<Outcome>, Dead>
-    requires few { n < 16384 }
+) -> Result<StepEnd, Dead>
     requires room { activation_changes ≤ O.room m.old }
-    ensures does { RowDoes O.Objects.own (respond O.names (word method) (word header.0) n primitive)
+    ensures does { RowDoes O.Objects.own (respond O.names performing (call_of call) (word header.0) primitive)
         end_of m.old r.old result m.new r.new }
     ensures takes { Takes O.Objects.own activation_changes m.old m.new }
 {
     if primitive == 0 {
-        activate(m, r, method, header, n)?;
-        Ok(Some(Outcome::Went))
+        activate(m, r, call.method, header, call.arguments)?;
+        Ok(StepEnd::Did(Outcome::Went))
     } else {
-        Ok(None)
+        Ok(StepEnd::NotBuilt)
     }
 }
 
 /// The method is executed by its header extension.
-#[tactic(auto, using(st_frames::proofs::Doing::rows), unfolding(st_model::specs::Sends::respond_by_extension))]
+#[tactic(auto, using(st_frames::proofs::Doing::rows), unfolding(st_model::specs::Executing::respond_by_extension))]
 fn respond_by_extension<O: Objects>(
     m: &mut O,
     r: &mut Registers,
-    method: Word,
+    performing: Performing,
+    call: Call,
     header: Header,
-    n: u32,
-) -> Result<Option<Outcome>, Dead>
-    requires few { n < 16384 }
+) -> Result<StepEnd, Dead>
     requires room { activation_changes ≤ O.room m.old }
-    ensures does { RowDoes O.Objects.own (respond_by_extension O.names (word method) (word header.0) n)
+    ensures does { RowDoes O.Objects.own
+        (respond_by_extension O.names performing (call_of call) (word header.0))
         end_of m.old r.old result m.new r.new }
     ensures takes { Takes O.Objects.own activation_changes m.old m.new }
 {
-    let primitive = method_primitive(m, r, method)?;
-    respond(m, r, method, header, n, primitive)
+    let primitive = method_primitive(m, r, call.method)?;
+    respond(m, r, performing, call, header, primitive)
 }
 
 /// The method is executed by its flag.
-#[tactic(auto, using(st_frames::proofs::Doing::rows), unfolding(st_model::specs::Sends::execute_by, st_model::specs::Sends::goes_on))]
+#[tactic(auto, using(st_frames::proofs::Doing::rows), unfolding(st_model::specs::Executing::execute_by, st_model::specs::Executing::goes_on))]
 fn execute_by<O: Objects>(
     m: &mut O,
     r: &mut Registers,
-    method: Word,
+    performing: Performing,
+    call: Call,
     header: Header,
-    n: u32,
     flag: u32,
-) -> Result<Option<Outcome>, Dead>
-    requires few { n < 16384 }
+) -> Result<StepEnd, Dead>
     requires room { activation_changes ≤ O.room m.old }
-    ensures does { RowDoes O.Objects.own (execute_by O.names (word method) (word header.0) n flag)
+    ensures does { RowDoes O.Objects.own (execute_by O.names performing (call_of call) (word header.0) flag)
         end_of m.old r.old result m.new r.new }
     ensures takes { Takes O.Objects.own activation_changes m.old m.new }
 {
     match flag {
-        5 => Ok(Some(Outcome::Went)),
+        5 => Ok(StepEnd::Did(Outcome::Went)),
         6 => {
             answer_field(m, r, header.temporaries())?;
-            Ok(Some(Outcome::Went))
+            Ok(StepEnd::Did(Outcome::Went))
         }
-        7 => respond_by_extension(m, r, method, header, n),
+        7 => respond_by_extension(m, r, performing, call, header),
         _ => {
-            activate(m, r, method, header, n)?;
-            Ok(Some(Outcome::Went))
+            activate(m, r, call.method, header, call.arguments)?;
+            Ok(StepEnd::Did(Outcome::Went))
         }
     }
 }
 
-/// Executes a method with n arguments, or answers none where it comes to a primitive that isn't built.
-#[tactic(auto, using(st_frames::proofs::Doing::rows), unfolding(st_model::specs::Sends::execute))]
+/// Executes the method that was called. `performing` says whether primitives 83 and 84 may still be tried.
+#[tactic(auto, using(st_frames::proofs::Doing::rows), unfolding(st_model::specs::Executing::execute))]
 pub fn execute<O: Objects>(
     m: &mut O,
     r: &mut Registers,
-    method: Word,
-    n: u32,
-) -> Result<Option<Outcome>, Dead>
-    requires few { n < 16384 }
+    performing: Performing,
+    call: Call,
+) -> Result<StepEnd, Dead>
     requires room { activation_changes ≤ O.room m.old }
-    ensures does { RowDoes O.Objects.own (execute O.names (word method) n)
+    ensures does { RowDoes O.Objects.own (execute O.names performing (call_of call))
         end_of m.old r.old result m.new r.new }
     ensures takes { Takes O.Objects.own activation_changes m.old m.new }
 {
-    let header = Header(m.method_header(method)?);
-    execute_by(m, r, method, header, n, header.flag())
+    let header = Header(m.method_header(call.method)?);
+    execute_by(m, r, performing, call, header, header.flag())
+}
+
+/// Executes what was called, if anything was.
+#[tactic(auto, using(st_frames::proofs::Doing::rows), unfolding(st_model::specs::Executing::execute_if_any))]
+pub fn execute_if_any<O: Objects>(
+    m: &mut O,
+    r: &mut Registers,
+    call: Option<Call>,
+) -> Result<StepEnd, Dead>
+    requires room { activation_changes ≤ O.room m.old }
+    ensures does { RowDoes O.Objects.own (execute_if_any O.names (call_if_any call))
+        end_of m.old r.old result m.new r.new }
+    ensures takes { Takes O.Objects.own activation_changes m.old m.new }
+{
+    match call {
+        Some(call) => execute(m, r, Performing::Allowed, call),
+        None => Ok(StepEnd::Did(Outcome::Went)),
+    }
 }
