@@ -37,6 +37,8 @@ pub mod Instances
 pub mod Roots
 pub mod Raised
 pub mod Showing
+pub mod Texts
+pub mod Again
 pub mod Made
 pub mod Making
 mod ImageRows

@@ -41,6 +41,13 @@ EndsShown (Died a) (Went b s) = ⊥
 EndsShown (Went a c) (Died b) = ⊥
 EndsShown (Went a c) (Went b s) = (a ≡ renamed_ending (pointer_of s.memory) b) × Shows c s
 
+-- both died of one cause, or both went and the table shows the births
+abbrev pub ShownAgain : Transition (State Table) Unit → Transition (State Births) Unit → Type 0
+ShownAgain (Died a) (Died b) = a ≡ b
+ShownAgain (Died a) (Went x s) = ⊥
+ShownAgain (Went x c) (Died b) = ⊥
+ShownAgain (Went x c) (Went y s) = Shows c s × IsClosed c
+
 -- A step that is foreseen from c dies of the cause of which the births die from s; or both come to a primitive that isn't
 -- built; or both go on, with as many entries and words used.
 abbrev pub Foretells : Transition (State Table) StepEnd → Transition (State Births) StepEnd → Type 0

@@ -4,14 +4,16 @@
 //! The book is Goldberg and Robson, "Smalltalk-80: The Language and its Implementation" (1983).
 #![tactic(auto)]
 
-ghost use Rattle.std.specs.Prelude.{◌≡◌, ◌≤◌, ℕ, length};
+ghost use Rattle.std.specs.Prelude.{◌≡◌, ◌≤◌, ◌+◌, ◌-◌, ℕ, length};
 ghost use Rattle.st_model.specs.Machine.{State};
 ghost use Rattle.st_model.specs.Births.{Births, births};
-ghost use Rattle.st_model.specs.Table.{Table, apart, bounded_table};
+ghost use Rattle.st_model.specs.Table.{Table, table, apart, bounded_table};
 ghost use Rattle.st_model.specs.Bytecodes.{step};
 ghost use Rattle.st_model.specs.Cycles.{run, run_of, finished, finished_of};
-ghost use Rattle.st_model.specs.Show.{Shows};
-ghost use Rattle.st_model.specs.Foreseen.{foreseen_cycle, IsSound, EndsShown, Foretells, DoesWithin, KeepsClosed};
+ghost use Rattle.st_model.specs.Show.{Shows, IsClosed, raised};
+ghost use Rattle.st_model.specs.Contexts.{fetch_scheduled_registers};
+ghost use Rattle.st_model.specs.Text.{text_after, text_at};
+ghost use Rattle.st_model.specs.Foreseen.{foreseen_cycle, IsSound, EndsShown, ShownAgain, Foretells, DoesWithin, KeepsClosed};
 
 mod bytecode;
 mod call;
@@ -67,6 +69,17 @@ pub fn bounded_stays_closed()
 pub fn table_shows_births()
     ensures ends { (n : ℕ) (c : State Table) (s : State Births) → Shows c s → IsSound c → c.head.entries ≤ 32767 → EndsShown (run_of foreseen_cycle n c) (run births n s) }
     ensures count { (n : ℕ) (c : State Table) (s : State Births) → Shows c s → IsSound c → c.head.entries ≤ 32767 → finished_of foreseen_cycle n c ≡ finished births n s }
+{}
+
+/// The machine begins over births as it does over the table that they are raised from: the registers cannot be fetched, of one
+/// cause, or the table shows the births with the registers that are fetched, and nothing dangles in it.
+pub fn start_shows_births()
+    ensures { (c : State Table) → IsClosed c → ShownAgain ((fetch_scheduled_registers table).run c) ((fetch_scheduled_registers births).run (raised c)) }
+{}
+
+/// What is said of cycles, one after the other, is what is said where their run ends, by the number that are finished.
+pub fn run_is_said()
+    ensures { (k n : ℕ) (s : State Births) → text_after n k s ≡ text_at (n + finished births k s) (k - finished births k s) (run births k s) }
 {}
 
 #[cfg(test)]
