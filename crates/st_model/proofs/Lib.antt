@@ -43,6 +43,7 @@ pub mod Made
 pub mod Making
 mod ImageRows
 mod OperationRows
+mod DecodedRows
 pub mod Opened
 mod Rows
 mod SendRows

@@ -81,6 +81,3 @@ pub fn start_shows_births()
 pub fn run_is_said()
     ensures { (k n : ℕ) (s : State Births) → text_after n k s ≡ text_at (n + finished births k s) (k - finished births k s) (run births k s) }
 {}
-
-#[cfg(test)]
-mod tests;
