@@ -5,6 +5,8 @@
 #![tactic(auto)]
 
 ghost use Rattle.std.specs.Prelude.{◌≡◌, ◌≤◌, ◌+◌, ◌-◌, ℕ, length};
+ghost use Rattle.st_model.specs.Values.{Ref, value, word};
+ghost use Rattle.st_model.specs.Objects.{NilObject, FalseObject, TrueObject, SmallIntegerClass, place_of};
 ghost use Rattle.st_model.specs.Machine.{State};
 ghost use Rattle.st_model.specs.Births.{Births, births};
 ghost use Rattle.st_model.specs.Table.{Table, table, apart, bounded_table};
@@ -80,4 +82,14 @@ pub fn start_shows_births()
 /// What is said of cycles, one after the other, is what is said where their run ends, by the number that are finished.
 pub fn run_is_said()
     ensures { (k n : ℕ) (s : State Births) → text_after n k s ≡ text_at (n + finished births k s) (k - finished births k s) (run births k s) }
+{}
+
+/// The pointers of nil, false and true, and the words of nil and SmallInteger, are those of the root page.
+#[tactic(auto, unfolding(crate::specs::Values::value_of))]
+pub fn constants_are_of_the_page()
+    ensures nil { value Oop.NIL ≡ Ref (place_of NilObject) }
+    ensures no { value Oop.FALSE ≡ Ref (place_of FalseObject) }
+    ensures yes { value Oop.TRUE ≡ Ref (place_of TrueObject) }
+    ensures word { word Word.NIL ≡ Ref (place_of NilObject) }
+    ensures class { word Word.SMALL_INTEGER ≡ Ref (place_of SmallIntegerClass) }
 {}
