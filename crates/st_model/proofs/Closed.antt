@@ -2,15 +2,10 @@
 use Rattle.std.proofs.Common.{◌≡◌, ◌≢◌, ℕ, ◌+◌, ◌<◌, ◌≤◌, [], ◌∷◌, suc, length, Option, Some, None, Bool, true, false, refl, sym, ◌∙◌, ap, subst, arith, inl, inr, ◌⊎◌}
 use Rattle.std.specs.Prelude.{◌&&◌, nat_le}
 use Rattle.std.proofs.lemmas.Bool.Decides.{nat_tests}
-use Rattle.st_model.specs.declared.kind.Kind.{Kind}
-use Rattle.st_model.specs.declared.kind.Kind.TheVariants as kind
-use Rattle.st_model.specs.Values.{Value, Small, Ref, IsLive, AllLive}
 use Rattle.st_model.specs.Objects.{Object, PageObject, place_of, one, renamed_object, IsLiveObject}
-use Rattle.st_model.specs.Formed.{fresh_with}
 use Rattle.st_model.specs.Outcomes.{StepEnd}
-use Rattle.st_model.specs.Machine.{ObjectMemory, Registers, Head, State, Transition, Died, Went, Step, is_there, has_room, roots_of}
+use Rattle.st_model.specs.Machine.{ObjectMemory, Head, State, Transition, Died, Went, Step, has_room, roots_of}
 use Rattle.st_model.specs.Table.{Table, table, bounded_table, entry, changed, exchanged, placed, first_none, filled_first, first_free, total_used}
-use Rattle.st_model.specs.Steps.{new_of, are_there}
 use Rattle.st_model.specs.Bytecodes.{step}
 use Rattle.st_model.specs.Show.{IsUsed, IsClosed, renamed_head}
 use Rattle.st_model.specs.Foreseen.{IsSound}

@@ -1,14 +1,13 @@
 -- Each step on registers, fields, the stack and methods over births does the same over pointers.
 use Rattle.std.proofs.Common.{◌≡◌, ℕ, List, [], ◌∷◌, zero, suc, Option, Some, None, Bool, true, false, refl, ap, ◌∙◌, arith, length, ◌⊎◌, inl, inr}
 use Rattle.std.proofs.Math.ListN.{length-set}
-use Rattle.std.specs.Prelude.{◌+◌, ◌-◌, ◌*◌, ◌++◌, ◌&&◌, ◌==◌, if◌then◌else◌, replicate, ℤ}
+use Rattle.std.specs.Prelude.{◌+◌, ◌-◌, ◌*◌, ◌&&◌, ◌==◌, if◌then◌else◌, replicate, ℤ}
 use Rattle.st_model.specs.declared.dead.Dead.{Dead}
-use Rattle.st_model.specs.declared.dead.Dead.TheVariants as dead
 use Rattle.st_model.specs.declared.kind.Kind.{Kind}
 use Rattle.st_model.specs.declared.kind.Kind.TheVariants as kind
 use Rattle.st_model.specs.Values.{Value, Small, Ref, renamed, renamed_all, IsLive, AllLive}
 use Rattle.st_model.specs.Objects.{Object, PageObject, NilObject, renamed_object, IsLiveObject, words_of, with_field, with_units}
-use Rattle.st_model.specs.Machine.{ObjectMemory, Registers, World, State, Died, Went, is_there, all_there, is_of_class, names_instance, first_instance, next_of, has_room, head_roots, device_roots, roots_of, answer, die}
+use Rattle.st_model.specs.Machine.{ObjectMemory, Registers, World, State, is_there, all_there, is_of_class, names_instance, first_instance, next_of, has_room, head_roots, device_roots, roots_of, answer, die}
 use Rattle.st_model.specs.Formed.{fresh_with}
 use Rattle.st_model.specs.Show.{renamed_registers, renamed_world, renamed_option}
 use Rattle.std.specs.Option.{option_map}
