@@ -39,6 +39,8 @@ pub mod Raised
 pub mod Showing
 pub mod Texts
 pub mod Again
+pub mod Present
+pub mod PresentSteps
 pub mod Made
 pub mod Making
 mod ImageRows

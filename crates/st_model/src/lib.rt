@@ -6,9 +6,9 @@
 
 ghost use Rattle.std.specs.Prelude.{◌≡◌, ◌≤◌, ◌+◌, ◌-◌, ℕ, length};
 ghost use Rattle.st_model.specs.Values.{Ref, value, word};
-ghost use Rattle.st_model.specs.Objects.{NilObject, FalseObject, TrueObject, SmallIntegerClass, place_of};
+ghost use Rattle.st_model.specs.Objects.{Object, NilObject, FalseObject, TrueObject, SmallIntegerClass, place_of};
 ghost use Rattle.st_model.specs.Machine.{State};
-ghost use Rattle.st_model.specs.Births.{Births, births};
+ghost use Rattle.st_model.specs.Births.{Births, births, births_with};
 ghost use Rattle.st_model.specs.Table.{Table, table, apart, bounded_table};
 ghost use Rattle.st_model.specs.Bytecodes.{step};
 ghost use Rattle.st_model.specs.Cycles.{run, run_of, finished, finished_of};
@@ -63,6 +63,12 @@ pub fn bounded_does_as_births()
 /// What the bounded table's step keeps was there: it leaves a table closed in which nothing dangles.
 pub fn bounded_stays_closed()
     ensures { KeepsClosed (step bounded_table) }
+{}
+
+/// A step over births that some table shows meets no name without an object: whatever object stood for such a name, it would
+/// do the same.
+pub fn step_misses_nothing()
+    ensures { (o : Object) (c : State Table) (s : State Births) → Shows c s → (step (births_with o)).run s ≡ (step births).run s }
 {}
 
 /// So a running machine, which foresees each step and does it where there is room, shows the births after any number of
