@@ -1,21 +1,21 @@
 -- A step over births that some table shows meets no name without an object. Whatever object stood for such a name, each
 -- step would do the same: what it works on was born before it.
 use Rattle.std.proofs.Common.{◌≡◌, ◌≢◌, ℕ, ◌+◌, ◌<◌, ◌≤◌, List, [], ◌∷◌, ◌++◌, zero, suc, length, Option, Some, None, Bool, true, false, refl, sym, ◌∙◌, ap, subst, arith, is_some, inl, inr, ◌⊎◌}
-use Rattle.std.specs.Prelude.{◌&&◌, if◌then◌else◌, slice_get, ℤ, pos, negsuc}
+use Rattle.std.specs.Prelude.{◌-◌, ◌&&◌, if◌then◌else◌, slice_get, ℤ, pos, negsuc}
 use Rattle.st_model.specs.declared.dead.Dead.{Dead}
 use Rattle.st_model.specs.declared.kind.Kind.{Kind}
 use Rattle.st_model.specs.Values.{Value, Small, Ref, small_integer, IsLive, AllLive}
-use Rattle.st_model.specs.Objects.{Object, PageObject, NilObject, place_of, IsLiveObject, with_field}
+use Rattle.st_model.specs.Objects.{Object, PageObject, NilObject, place_of, IsLiveObject, with_field, with_units}
 use Rattle.st_model.specs.Outcomes.{StepEnd}
 use Rattle.st_model.specs.Sends.{Call}
-use Rattle.st_model.specs.Machine.{ObjectMemory, Registers, State, Transition, Died, Went, Step, is_there, head_roots, device_roots, roots_of, answer, die, after, ◌>>=◌, ◌>>◌}
-use Rattle.st_model.specs.Births.{Birth, Births, births, births_with, or_object, object_born, replaced, bearer, born, least_free}
-use Rattle.st_model.specs.Steps.{get_active, get_home, get_method, get_receiver, get_ip, get_sp, set_ip, set_sp, found, object_named, object, stored_at, store_at, set_field, new_of, made, make_named, make, are_there, registers_set, set_registers, of_page}
+use Rattle.st_model.specs.Machine.{ObjectMemory, Registers, World, State, Transition, Died, Went, Step, is_there, all_there, names_instance, first_instance, next_of, head_roots, device_roots, roots_of, answer, die, after, ◌>>=◌, ◌>>◌, or_left, tried}
+use Rattle.st_model.specs.Births.{Birth, Births, births, births_with, or_object, object_born, replaced, is_borne, bearer, borne, born, least_free}
+use Rattle.st_model.specs.Steps.{exchanged_there, exchange_named, exchange, fit_units, units_set, set_units_at, set_units, get_world, world_set, set_world, named_or_not, object_at, next_instance, get_active, get_home, get_method, get_receiver, get_ip, get_sp, set_ip, set_sp, found, object_named, object, stored_at, store_at, set_field, new_of, made, make_named, make, are_there, registers_set, set_registers, of_page}
 use Rattle.st_model.specs.Lookup.{pointer_if, half_word}
 use Rattle.st_model.proofs.Same.{stored_is_live}
 use Rattle.st_model.proofs.StepsSame.{fresh_live}
-use Rattle.st_model.proofs.Names.{map_live, map_all, map_object}
-use Rattle.st_model.proofs.BirthLemmas.{object_there, replaced-born, replaced-other, length-replaced, bearer-replaced, object_within, length-born, born-last, born-other, bearer-born}
+use Rattle.st_model.proofs.Names.{map_live, map_all, map_object, device_part, with_devices}
+use Rattle.st_model.proofs.BirthLemmas.{object_there, replaced-born, replaced-other, length-replaced, bearer-replaced, object_within, length-born, born-last, born-other, bearer-born, borne-replaced, borne-other, borne_before, borne-bearer}
 
 unfoldable pub bare : ObjectMemory Births
 bare = births
@@ -36,6 +36,7 @@ module _ (o : Object) (lives : ℕ → Type 0) where
     pub objects : (k : ℕ) (a : Object) → lives k → object_born s.memory k ≡ Some a → IsLiveObject (IsPresent (length s.memory)) a
     pub roots : AllLive (IsPresent (length s.memory)) (roots_of s)
     pub to_come : (k : ℕ) → length s.memory ≤ k → lives k
+    pub kept : (k p : ℕ) → borne s.memory k ≡ Some p → lives k
 
   -- n births are there, of which these are, or are what is named; and later there are as many or more
   pub record There (n : ℕ) (v : Value) : Type 0 where
@@ -289,11 +290,11 @@ module _ (o : Object) (lives : ℕ → Type 0) where
 
   pub set_ip-sure : (n : ℕ) (i : ℤ) → SureAnswer n (set_ip i) (set_ip i)
   unfolding set_ip
-  set_ip-sure n i = record { go = λ s l st. (refl, refl, omega arith, record { page = st.page; objects = st.objects; roots = st.roots; to_come = st.to_come }, tt) }
+  set_ip-sure n i = record { go = λ s l st. (refl, refl, omega arith, record { page = st.page; objects = st.objects; roots = st.roots; to_come = st.to_come; kept = st.kept }, tt) }
 
   pub set_sp-sure : (n i : ℕ) → SureAnswer n (set_sp i) (set_sp i)
   unfolding set_sp
-  set_sp-sure n i = record { go = λ s l st. (refl, refl, omega arith, record { page = st.page; objects = st.objects; roots = st.roots; to_come = st.to_come }, tt) }
+  set_sp-sure n i = record { go = λ s l st. (refl, refl, omega arith, record { page = st.page; objects = st.objects; roots = st.roots; to_come = st.to_come; kept = st.kept }, tt) }
 
   pub of_page-sure : (n : ℕ) (q : PageObject) → SureValue n (of_page bare q) (of_page (full o) q)
   unfolding of_page bare full
@@ -341,6 +342,7 @@ module _ (o : Object) (lives : ℕ → Type 0) where
         ];
         roots = map_all _ _ up (roots_of s) st.roots;
         to_come = λ j l. st.to_come j (omega (arith, q, l));
+        kept = λ j i f. st.kept j i (sym (borne-replaced s.memory k j p) ∙ f);
       }
     where
       number_cases : (m n : ℕ) → (m ≡ n) ⊎ (m ≢ n)
@@ -379,6 +381,10 @@ module _ (o : Object) (lives : ℕ → Type 0) where
         ];
         roots = map_all _ _ up (roots_of s) st.roots;
         to_come = λ j l. st.to_come j (omega (arith, q, l));
+        kept = λ j i f. elim (number_cases j (length s.memory)) [
+          | inl e ↦ st.to_come j (omega (arith, e))
+          | inr d ↦ st.kept j i (sym (borne-other s.memory b j d) ∙ f)
+        ];
       }
     where
       number_cases : (m n : ℕ) → (m ≡ n) ⊎ (m ≢ n)
@@ -417,7 +423,7 @@ module _ (o : Object) (lives : ℕ → Type 0) where
     refl,
     refl,
     omega arith,
-    record { page = st.page; objects = st.objects; roots = (h.active, (h.home, (h.method, (h.receiver, st.roots.1.1.1.1)))); to_come = st.to_come },
+    record { page = st.page; objects = st.objects; roots = (h.active, (h.home, (h.method, (h.receiver, st.roots.1.1.1.1)))); to_come = st.to_come; kept = st.kept },
     tt,
   )
 
@@ -439,3 +445,162 @@ module _ (o : Object) (lives : ℕ → Type 0) where
   unfolding half_word bare full
   half_word-sure n (Small i) h = answer_itself-sure n i
   half_word-sure n (Ref k) h = record { go = λ s l st. let a = here s.memory n k l h.live in (pointers_same s.memory k (object_born s.memory k) a.0 a.1, refl, omega arith, st, tt) }
+
+  -- an exchange
+
+  standing_exchanged : (s : State Births) (a b : ℕ) (x y : Object) → object_born s.memory a ≡ Some x → object_born s.memory b ≡ Some y → lives a → lives b → Stands s
+      → Stands (record s { memory = replaced (replaced s.memory a y) b x })
+  standing_exchanged s a b x y e f l k st =
+      let q = length-replaced s.memory a y in
+      let t : State Births = record s { memory = replaced s.memory a y } in
+      let first = standing_replaced s a x y st e (st.objects b y k f) in
+      let there = object_there t.memory b (omega (arith, q, object_within s.memory b y f)) in
+      standing_replaced t b there.0 x first there.1 (map_object (IsPresent (length s.memory)) (IsPresent (length t.memory)) (λ j p. (p.0, omega (arith, q, p.1))) x (st.objects a x l e))
+
+  exchanged_same : (s : State Births) (a b : ℕ) (x y : Object) (c d : Bool) → object_born s.memory a ≡ Some x → object_born s.memory b ≡ Some y → lives a → lives b → Stands s → c ≡ true → d ≡ true
+      → DoesSame Any s (exchanged_there births a b s c) (exchanged_there (births_with o) a b s d)
+  unfolding exchanged_there
+  exchanged_same s a b x y false d e f l k st g h = cc
+  exchanged_same s a b x y true false e f l k st g h = cc
+  exchanged_same s a b x y true true e f l k st g h =
+      rw (e, f) (refl, refl, omega (arith, length-replaced s.memory a y, length-replaced (replaced s.memory a y) b x), standing_exchanged s a b x y e f l k st, tt)
+
+  both_true : (c d : Bool) → c ≡ true → d ≡ true → (c && d) ≡ true
+  both_true true d e f = f
+  both_true false d e f = cc
+
+  pub exchange-sure : (n : ℕ) (v w : Value) → There n v → There n w → SureAnswer n (exchange bare v w) (exchange (full o) v w)
+  unfolding exchange exchange_named bare full
+  exchange-sure n (Small a) w h k = die-sure _ n _
+  exchange-sure n (Ref a) (Small b) h k = die-sure _ n _
+  exchange-sure n (Ref a) (Ref b) h k = record {
+    go = λ s l st.
+        let x = here s.memory n a l h.live in
+        let y = here s.memory n b l k.live in
+        exchanged_same s a b x.0 y.0 _ _ x.1 y.1 h.live.0 k.live.0 st (both_true _ _ (ap is_some x.1) (ap is_some y.1)) (both_true _ _ (some_full (object_born s.memory a)) (some_full (object_born s.memory b)));
+  }
+
+  -- words and bytes
+
+  units_same : (s : State Births) (k : ℕ) (us : List ℕ) (y : Option Object) (a : Object) (b : Bool) → object_born s.memory k ≡ y → y ≡ Some a → lives k → Stands s
+      → DoesSame Any s (units_set births k us s y b) (units_set (births_with o) k us s (or_object o y) b)
+  unfolding units_set
+  units_same s k us None a b f e l st = cc
+  units_same s k us (Some c) a false f e l st = refl
+  units_same s k us (Some c) a true f e l st =
+      let h = st.objects k c l f in
+      (refl, refl, omega (arith, length-replaced s.memory k (with_units c us)), standing_replaced s k c (with_units c us) st f (record { class = h.class; fields = h.fields }), tt)
+
+  fits_same : (us : List ℕ) (x : Option Object) (a : Object) → x ≡ Some a → fit_units us (or_object o x) ≡ fit_units us x
+  fits_same us None a e = cc
+  fits_same us (Some b) a e = refl
+
+  pub set_units-sure : (n : ℕ) (v : Value) (us : List ℕ) → There n v → SureAnswer n (set_units bare v us) (set_units (full o) v us)
+  unfolding set_units set_units_at bare full
+  set_units-sure n (Small k) us h = die-sure _ n _
+  set_units-sure n (Ref k) us h = record {
+    go = λ s l st.
+        let a = here s.memory n k l h.live in
+        rw (fits_same us (object_born s.memory k) a.0 a.1) (units_same s k us (object_born s.memory k) a.0 _ refl a.1 h.live.0 st);
+  }
+
+  -- the world
+
+  pub record WorldThere (n : ℕ) (w : World) : Type 0 where
+    pub live : AllLive (IsPresent n) (device_roots w.devices)
+
+  pub then_world-sure : {B : Type 0} (Q : ℕ → B → Type 0) (n : ℕ) (m m' : Step Births World) (f f' : World → Step Births B) → Sure n WorldThere m m'
+      → ((k : ℕ) → Later n k → (a : World) → WorldThere k a → Sure k Q (f a) (f' a)) → Sure n Q (m >>= f) (m' >>= f')
+  then_world-sure Q n m m' f f' h k = then-sure _ Q f f' n m m' h k
+
+  pub later_world : (n m : ℕ) (w : World) → Later n m → WorldThere n w → WorldThere m w
+  later_world n m w l h = record { live = map_all _ _ (more n m l.is) (device_roots w.devices) h.live }
+
+  pub get_world-sure : (n : ℕ) → Sure n WorldThere get_world get_world
+  unfolding get_world
+  get_world-sure n = record { go = λ s l st. (refl, refl, omega arith, st, record { live = device_part _ (head_roots s.head) _ st.roots.1.1.1.1 }) }
+
+  all_same : (h : Births) (n : ℕ) (vs : List Value) → n ≤ length h → AllLive (IsPresent n) vs → all_there births h vs ≡ all_there (births_with o) h vs
+  all_same h n [] l p = refl
+  all_same h n (v ∷ vs) l p = let a = there_same h n v l p.0 in let b = all_same h n vs l p.1 in λ i. a i && b i
+
+  world_same : (w : World) (s : State Births) (b : Bool) → Stands s → AllLive (IsPresent (length s.memory)) (device_roots w.devices) → DoesSame Any s (world_set w s b) (world_set w s b)
+  unfolding world_set
+  world_same w s false st h = refl
+  world_same w s true st h =
+      let r = st.roots in
+      (refl, refl, omega arith, record { page = st.page; objects = st.objects; roots = (r.0, (r.1.0, (r.1.1.0, (r.1.1.1.0, with_devices _ (head_roots s.head) _ _ r.1.1.1.1 h)))); to_come = st.to_come; kept = st.kept }, tt)
+
+  pub set_world-sure : (n : ℕ) (w : World) → WorldThere n w → SureAnswer n (set_world bare w) (set_world (full o) w)
+  unfolding set_world bare full
+  set_world-sure n w h = record {
+    go = λ s l st.
+        rw (← all_same s.memory n (device_roots w.devices) l h.live) (world_same w s _ st (map_all _ _ (more n (length s.memory) l) (device_roots w.devices) h.live));
+  }
+
+  -- pointers
+
+  named_there : (s : State Births) (x : Option ℕ) → ((n : ℕ) → x ≡ Some n → IsPresent (length s.memory) n) → ThereIfAny (length s.memory) (named_or_not x)
+  unfolding named_or_not
+  named_there s None f = record { live = tt }
+  named_there s (Some n) f = record { live = f n refl }
+
+  borne_present : (s : State Births) (k : ℕ) (b : Bool) (n : ℕ) → Stands s → is_borne s.memory k ≡ b → (if b then Some (bearer s.memory k) else None) ≡ Some n → IsPresent (length s.memory) n
+  borne_present s k true n st e f =
+      let q : bearer s.memory k ≡ n = cc in
+      let b = borne-bearer s.memory k e in
+      rw (← q) (st.kept (bearer s.memory k) k b, borne_before s.memory (bearer s.memory k) k b)
+  borne_present s k false n st e f = cc
+
+  pub object_at-sure : (n k : ℕ) → SureOption n (object_at bare k) (object_at (full o) k)
+  unfolding object_at bare full
+  object_at-sure n k = record { go = λ s l st. (refl, refl, omega arith, st, named_there s (births.borne_by s.memory k) (λ j e. borne_present s k _ j st refl e)) }
+
+  instance_same : (s : State Births) (c : ℕ) (x : Option ℕ) → ((n : ℕ) → x ≡ Some n → IsPresent (length s.memory) n) → names_instance (births_with o) s.memory c x ≡ names_instance births s.memory c x
+  instance_same s c None f = refl
+  instance_same s c (Some n) f = let a = object_there s.memory n (f n refl).1 in rw a.1 refl
+
+  first_same : (s : State Births) (c k left : ℕ) → Stands s → first_instance (births_with o) s.memory c k left ≡ first_instance births s.memory c k left
+  unfolding first_instance
+  first_same s c k zero st = refl
+  first_same s c k (suc left) st =
+      let e = instance_same s c (births.borne_by s.memory k) (λ j f. borne_present s k _ j st refl f) in
+      let g = first_same s c (suc k) left st in
+      λ i. if e i then births.borne_by s.memory k else g i
+
+  first_present : (s : State Births) (c k left n : ℕ) → Stands s → first_instance births s.memory c k left ≡ Some n → IsPresent (length s.memory) n
+  unfolding first_instance
+  first_present s c k zero n st e = cc
+  first_present s c k (suc left) n st e = by_case (names_instance births s.memory c (births.borne_by s.memory k)) e (λ f. first_present s c (suc k) left n st f)
+    where
+      by_case : (b : Bool) → (if b then births.borne_by s.memory k else first_instance births s.memory c (suc k) left) ≡ Some n
+          → (first_instance births s.memory c (suc k) left ≡ Some n → IsPresent (length s.memory) n) → IsPresent (length s.memory) n
+      by_case true f g = borne_present s k _ n st refl f
+      by_case false f g = g f
+
+  pub next_instance-sure : (n : ℕ) (v : Value) (after : ℕ) → SureOption n (next_instance bare v after) (next_instance (full o) v after)
+  unfolding next_instance next_of bare full
+  next_instance-sure n (Small i) after = answer_option-sure n None (none_there n)
+  next_instance-sure n (Ref c) after = record {
+    go = λ s l st.
+        (ap named_or_not (first_same s c (suc after) (32767 - after) st), refl, omega arith, st, named_there s _ (λ j e. first_present s c (suc after) (32767 - after) j st e));
+  }
+
+  -- a step that is only tried
+
+  module _ {A : Type 0} (P : ℕ → A → Type 0) (Q : ℕ → Option A → Type 0) (none : (n : ℕ) → Q n None) (some : (n : ℕ) (a : A) → P n a → Q n (Some a)) where
+    left_same : (s : State Births) (x y : Transition (State Births) A) → Stands s → DoesSame P s x y → DoesSame Q s (or_left s x) (or_left s y)
+    left_same s (Died a) (Died b) st h = (refl, refl, omega arith, st, none (length s.memory))
+    left_same s (Died a) (Went b u) st h = absurd h
+    left_same s (Went a t) (Died b) st h = absurd h
+    left_same s (Went a t) (Went b u) st h = (ap (λ x. Some x) h.0, h.1, h.2, h.3, some (length t.memory) a h.4)
+
+    tried-sure : (n : ℕ) (m m' : Step Births A) → Sure n P m m' → Sure n Q (tried m) (tried m')
+    unfolding tried
+    tried-sure n m m' h = record { go = λ s l st. left_same s (m.run s) (m'.run s) st (h.go s l st) }
+
+  pub tried_value-sure : (n : ℕ) (m m' : Step Births Value) → SureValue n m m' → SureOption n (tried m) (tried m')
+  tried_value-sure n m m' h = tried-sure _ _ none_there some_there n m m' h
+
+  pub tried_itself-sure : {A : Type 0} (n : ℕ) (m m' : Step Births A) → SureAnswer n m m' → SureAnswer n (tried m) (tried m')
+  tried_itself-sure n m m' h = tried-sure _ _ (λ k. tt) (λ k a p. tt) n m m' h
