@@ -1,12 +1,11 @@
 -- A step over births that some table shows meets no name without an object. Whatever object stood for such a name, each
 -- step would do the same: what it works on was born before it.
-use Rattle.std.proofs.Common.{◌≡◌, ◌≢◌, ℕ, ◌+◌, ◌<◌, ◌≤◌, List, [], ◌∷◌, ◌++◌, zero, suc, length, Option, Some, None, Bool, true, false, refl, sym, ◌∙◌, ap, subst, arith, is_some, inl, inr, ◌⊎◌}
+use Rattle.std.proofs.Common.{◌≡◌, ◌≢◌, ℕ, ◌<◌, ◌≤◌, List, [], ◌∷◌, zero, suc, length, Option, Some, None, Bool, true, false, refl, sym, ◌∙◌, ap, subst, arith, is_some, inl, inr, ◌⊎◌}
 use Rattle.std.specs.Prelude.{◌-◌, ◌&&◌, if◌then◌else◌, slice_get, ℤ, pos, negsuc}
 use Rattle.st_model.specs.declared.dead.Dead.{Dead}
 use Rattle.st_model.specs.declared.kind.Kind.{Kind}
 use Rattle.st_model.specs.Values.{Value, Small, Ref, small_integer, IsLive, AllLive}
 use Rattle.st_model.specs.Objects.{Object, PageObject, NilObject, place_of, IsLiveObject, with_field, with_units}
-use Rattle.st_model.specs.Outcomes.{StepEnd}
 use Rattle.st_model.specs.Sends.{Call}
 use Rattle.st_model.specs.Machine.{ObjectMemory, Registers, World, State, Transition, Died, Went, Step, is_there, all_there, names_instance, first_instance, next_of, head_roots, device_roots, roots_of, answer, die, after, ◌>>=◌, ◌>>◌, or_left, tried}
 use Rattle.st_model.specs.Births.{Birth, Births, births, births_with, or_object, object_born, replaced, is_borne, bearer, borne, born, least_free}

@@ -1,6 +1,6 @@
 -- Each definition of the machine meets no name without an object: it does the same over births where an object stands under
 -- each name. Each of these is found from its text, as that births and tables do the same is.
-use Rattle.std.proofs.Common.{◌≡◌, ℕ, ◌+◌, ◌-◌, ◌<◌, ◌≤◌, List, [], ◌∷◌, zero, suc, length, Option, Some, None, Bool, true, false, refl, sym, ◌∙◌, ap, arith, inl, inr}
+use Rattle.std.proofs.Common.{◌≡◌, ℕ, ◌+◌, ◌-◌, ◌<◌, List, [], ◌∷◌, zero, suc, length, Option, Some, None, Bool, true, false, sym, ap, arith, inl, inr}
 use Rattle.std.specs.Prelude.{if◌then◌else◌, nat_lt, ℤ, pos, negsuc}
 use Rattle.st_model.specs.declared.dead.Dead.{Dead}
 use Rattle.st_model.specs.declared.bytecode.Operand.{Operand}
@@ -10,11 +10,11 @@ use Rattle.st_model.specs.declared.bytecode.Constant.TheVariants as constant
 use Rattle.st_model.specs.declared.bytecode.Bytecode.{Bytecode}
 use Rattle.st_model.specs.declared.bytecode.Bytecode.TheVariants as code
 use Rattle.st_model.specs.declared.call.Performing.{Performing}
-use Rattle.st_model.specs.Values.{Value, Small, Ref, IsLive}
+use Rattle.st_model.specs.Values.{Value, Small, Ref}
 use Rattle.st_model.specs.Objects.{Object, PageObject, NilObject, place_of, IsLiveObject}
 use Rattle.st_model.specs.Outcomes.{StepEnd}
 use Rattle.st_model.specs.Machine.{Registers, State, Transition, Died, Went, Step, answer, roots_of}
-use Rattle.st_model.specs.Births.{Births, births, births_with, object_born, borne}
+use Rattle.st_model.specs.Births.{Births, births, births_with, object_born}
 use Rattle.st_model.specs.Table.{Table}
 use Rattle.st_model.specs.Show.{Shows, IsKept}
 use Rattle.st_model.specs.Steps.{same_value, new_object, class_of, or_die, check, fetch_field, store_field, integer_or_die, fetch_integer, count_fields, fetch_fields, store_fields, fetch_word, fetch_byte, store_word, store_byte, transfer, put, push, top, under, look_at_words, drop_words, pop, literal, byte_at, next_byte, jump}
