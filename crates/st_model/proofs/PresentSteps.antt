@@ -32,49 +32,49 @@ use Rattle.st_model.proofs.Present as at
 use Rattle.st_model.proofs.Present.{bare, full, then_value-sure, then_values-sure, then_option-sure, then_object-sure, then_registers-sure, then_call-sure, then_any_call-sure, then_answer-sure, then_unit-sure, if-sure, die-sure, later_value, later_values, later_option, later_object, later_call, small_there, small_integer_there, class_there, field_there, none_there, some_there, no_values_there, values_there, registers_there, method_there, answer_value-sure, answer_values-sure, answer_option-sure, answer_registers-sure, answer_call-sure, answer_some_call-sure, answer_no_call-sure, answer_itself-sure, get_active-sure, get_home-sure, get_method-sure, get_receiver-sure, get_ip-sure, get_sp-sure, set_ip-sure, set_sp-sure, of_page-sure, object_named-sure, object-sure, set_field-sure, make-sure, set_registers-sure, half_word-sure, exchange-sure, set_units-sure, then_world-sure, later_world, get_world-sure, set_world-sure, object_at-sure, next_instance-sure, tried_value-sure, tried_itself-sure}
 
 module _ (o : Object) (lives : ℕ → Type 0) where
-  abbrev There : ℕ → Value → Type 0
+  abbrev pub There : ℕ → Value → Type 0
   There n v = at.There o lives n v
 
-  abbrev AllThere : ℕ → List Value → Type 0
+  abbrev pub AllThere : ℕ → List Value → Type 0
   AllThere n vs = at.AllThere o lives n vs
 
-  abbrev ThereIfAny : ℕ → Option Value → Type 0
+  abbrev pub ThereIfAny : ℕ → Option Value → Type 0
   ThereIfAny n v = at.ThereIfAny o lives n v
 
-  abbrev ObjectThere : ℕ → Object → Type 0
+  abbrev pub ObjectThere : ℕ → Object → Type 0
   ObjectThere n a = at.ObjectThere o lives n a
 
-  abbrev CallThere : ℕ → Call → Type 0
+  abbrev pub CallThere : ℕ → Call → Type 0
   CallThere n c = at.CallThere o lives n c
 
-  abbrev CallThereIfAny : ℕ → Option Call → Type 0
+  abbrev pub CallThereIfAny : ℕ → Option Call → Type 0
   CallThereIfAny n c = at.CallThereIfAny o lives n c
 
-  abbrev Later : ℕ → ℕ → Type 0
+  abbrev pub Later : ℕ → ℕ → Type 0
   Later n m = at.Later o lives n m
 
-  abbrev SureValue : ℕ → Step Births Value → Step Births Value → Type 0
+  abbrev pub SureValue : ℕ → Step Births Value → Step Births Value → Type 0
   SureValue n m m' = at.SureValue o lives n m m'
 
-  abbrev SureValues : ℕ → Step Births (List Value) → Step Births (List Value) → Type 0
+  abbrev pub SureValues : ℕ → Step Births (List Value) → Step Births (List Value) → Type 0
   SureValues n m m' = at.SureValues o lives n m m'
 
-  abbrev SureOption : ℕ → Step Births (Option Value) → Step Births (Option Value) → Type 0
+  abbrev pub SureOption : ℕ → Step Births (Option Value) → Step Births (Option Value) → Type 0
   SureOption n m m' = at.SureOption o lives n m m'
 
-  abbrev SureRegisters : ℕ → Step Births Registers → Step Births Registers → Type 0
+  abbrev pub SureRegisters : ℕ → Step Births Registers → Step Births Registers → Type 0
   SureRegisters n m m' = at.SureRegisters o lives n m m'
 
-  abbrev SureCall : ℕ → Step Births Call → Step Births Call → Type 0
+  abbrev pub SureCall : ℕ → Step Births Call → Step Births Call → Type 0
   SureCall n m m' = at.SureCall o lives n m m'
 
-  abbrev SureAnyCall : ℕ → Step Births (Option Call) → Step Births (Option Call) → Type 0
+  abbrev pub SureAnyCall : ℕ → Step Births (Option Call) → Step Births (Option Call) → Type 0
   SureAnyCall n m m' = at.SureAnyCall o lives n m m'
 
-  abbrev SureAnswer : {A : Type 0} → ℕ → Step Births A → Step Births A → Type 0
+  abbrev pub SureAnswer : {A : Type 0} → ℕ → Step Births A → Step Births A → Type 0
   SureAnswer n m m' = at.SureAnswer o lives n m m'
 
-  ruleset sures = (then_value-sure, then_values-sure, then_option-sure, then_object-sure, then_registers-sure, then_call-sure, then_any_call-sure, then_answer-sure, then_unit-sure, if-sure, die-sure, later_value, later_values, later_option, later_object, later_call, small_there, small_integer_there, class_there, field_there, none_there, some_there, no_values_there, values_there, registers_there, method_there, answer_value-sure, answer_values-sure, answer_option-sure, answer_registers-sure, answer_call-sure, answer_some_call-sure, answer_no_call-sure, answer_itself-sure, get_active-sure, get_home-sure, get_method-sure, get_receiver-sure, get_ip-sure, get_sp-sure, set_ip-sure, set_sp-sure, of_page-sure, object-sure, set_field-sure, make-sure, set_registers-sure, half_word-sure, exchange-sure, set_units-sure, then_world-sure, later_world, get_world-sure, set_world-sure, object_at-sure, next_instance-sure, tried_value-sure, tried_itself-sure)
+  pub ruleset sures = (then_value-sure, then_values-sure, then_option-sure, then_object-sure, then_registers-sure, then_call-sure, then_any_call-sure, then_answer-sure, then_unit-sure, if-sure, die-sure, later_value, later_values, later_option, later_object, later_call, small_there, small_integer_there, class_there, field_there, none_there, some_there, no_values_there, values_there, registers_there, method_there, answer_value-sure, answer_values-sure, answer_option-sure, answer_registers-sure, answer_call-sure, answer_some_call-sure, answer_no_call-sure, answer_itself-sure, get_active-sure, get_home-sure, get_method-sure, get_receiver-sure, get_ip-sure, get_sp-sure, set_ip-sure, set_sp-sure, of_page-sure, object-sure, set_field-sure, make-sure, set_registers-sure, half_word-sure, exchange-sure, set_units-sure, then_world-sure, later_world, get_world-sure, set_world-sure, object_at-sure, next_instance-sure, tried_value-sure, tried_itself-sure)
 
   pub check-sure : (n : ℕ) (cause : Dead) (b : Bool) → SureAnswer n (check cause b) (check cause b)
   unfolding check
@@ -86,7 +86,7 @@ module _ (o : Object) (lives : ℕ → Type 0) where
   value_or_die-sure n cause None h = die-sure o lives _ n cause
   value_or_die-sure n cause (Some v) h = answer_value-sure o lives n v (record { live = h.live })
 
-  itself_or_die-sure : {A : Type 0} (n : ℕ) (cause : Dead) (x : Option A) → SureAnswer n (or_die cause x) (or_die cause x)
+  pub itself_or_die-sure : {A : Type 0} (n : ℕ) (cause : Dead) (x : Option A) → SureAnswer n (or_die cause x) (or_die cause x)
   unfolding or_die
   itself_or_die-sure n cause None = die-sure o lives _ n cause
   itself_or_die-sure n cause (Some a) = answer_itself-sure o lives n a
@@ -96,7 +96,7 @@ module _ (o : Object) (lives : ℕ → Type 0) where
   integer_or_die-sure n (Small i) = answer_itself-sure o lives n _
   integer_or_die-sure n (Ref i) = die-sure o lives _ n _
 
-  ruleset memories = (sures, check-sure, value_or_die-sure, itself_or_die-sure, integer_or_die-sure)
+  pub ruleset memories = (sures, check-sure, value_or_die-sure, itself_or_die-sure, integer_or_die-sure)
 
   pub fetch_field-sure : (n : ℕ) (v : Value) (i : ℕ) → There n v → SureValue n (fetch_field bare v i) (fetch_field (full o) v i)
   unfolding fetch_field
@@ -119,7 +119,7 @@ module _ (o : Object) (lives : ℕ → Type 0) where
   class_of-sure n (Small i) h = of_page-sure o lives n _
   class_of-sure n (Ref k) h = search (memories, object_named-sure) depth 24 fits 4000
 
-  ruleset fields = (memories, fetch_field-sure, store_field-sure, count_fields-sure, new_object-sure, class_of-sure)
+  pub ruleset fields = (memories, fetch_field-sure, store_field-sure, count_fields-sure, new_object-sure, class_of-sure)
 
   pub fetch_integer-sure : (n : ℕ) (v : Value) (i : ℕ) → There n v → SureAnswer n (fetch_integer bare v i) (fetch_integer (full o) v i)
   unfolding fetch_integer
@@ -199,15 +199,15 @@ module _ (o : Object) (lives : ℕ → Type 0) where
   unfolding jump
   jump-sure n d = search (fields) depth 24 fits 4000
 
-  ruleset parts = (fields, fetch_word-sure, fetch_byte-sure, store_word-sure, store_byte-sure, fetch_integer-sure, transfer-sure, push-sure, under-sure, look_at_words-sure, drop_words-sure, top-sure, pop-sure, literal-sure, next_byte-sure, jump-sure)
+  pub ruleset parts = (fields, fetch_word-sure, fetch_byte-sure, store_word-sure, store_byte-sure, fetch_integer-sure, transfer-sure, push-sure, under-sure, look_at_words-sure, drop_words-sure, top-sure, pop-sure, literal-sure, next_byte-sure, jump-sure)
 
   -- headers and contexts
 
-  last_there : (n : ℕ) (b : Bool) (v : Option Value) → ThereIfAny n v → ThereIfAny n (if b then v else None)
+  pub last_there : (n : ℕ) (b : Bool) (v : Option Value) → ThereIfAny n v → ThereIfAny n (if b then v else None)
   last_there n true v h = h
   last_there n false v h = none_there o lives n
 
-  from_last_there : (n : ℕ) (a : Object) (k : ℕ) → ObjectThere n a → ThereIfAny n (from_last a k)
+  pub from_last_there : (n : ℕ) (a : Object) (k : ℕ) → ObjectThere n a → ThereIfAny n (from_last a k)
   from_last_there n a k h = last_there n (nat_lt (k + 1) (length a.fields)) _ (field_there o lives n a (length a.fields - (k + 1)) h)
 
   pub method_header-sure : (n : ℕ) (v : Value) → There n v → SureValue n (method_header bare v) (method_header (full o) v)
@@ -227,7 +227,7 @@ module _ (o : Object) (lives : ℕ → Type 0) where
   unfolding method_primitive
   method_primitive-sure n v h0 = search (fields, literal_from_last-sure, primitive_number-sure) depth 24 fits 4000
 
-  ruleset headers = (parts, method_header-sure, literal_from_last-sure, method_primitive-sure)
+  pub ruleset headers = (parts, method_header-sure, literal_from_last-sure, method_primitive-sure)
 
   pub home_by-sure : (n : ℕ) (c : Value) (v : Value) → There n c → SureValue n (home_by bare c v) (home_by (full o) c v)
   unfolding home_by
@@ -293,29 +293,29 @@ module _ (o : Object) (lives : ℕ → Type 0) where
   pub record SureLater (n : ℕ) (m m' : Step Births (Option Value)) : Type 0 where
     pub at : (k : ℕ) → Later n k → SureOption k m m'
 
-  later_later : (n k : ℕ) (m m' : Step Births (Option Value)) → Later n k → SureLater n m m' → SureLater k m m'
+  pub later_later : (n k : ℕ) (m m' : Step Births (Option Value)) → Later n k → SureLater n m m' → SureLater k m m'
   later_later n k m m' l h = record { at = λ j e. h.at j (record { is = omega (arith, l.is, e.is) }) }
 
-  sure_now : (n : ℕ) (m m' : Step Births (Option Value)) → SureLater n m m' → SureOption n m m'
+  pub sure_now : (n : ℕ) (m m' : Step Births (Option Value)) → SureLater n m m' → SureOption n m m'
   sure_now n m m' h = h.at n (record { is = omega arith })
 
-  place_says-sure : (n : ℕ) (d : Value) (k : ℕ) (a b : Bool) (m m' : Step Births (Option Value)) → There n d → SureLater n m m' → SureOption n (place_says bare d k a b m) (place_says (full o) d k a b m')
+  pub place_says-sure : (n : ℕ) (d : Value) (k : ℕ) (a b : Bool) (m m' : Step Births (Option Value)) → There n d → SureLater n m m' → SureOption n (place_says bare d k a b m) (place_says (full o) d k a b m')
   unfolding place_says
   place_says-sure n d k true b m m' h l = method_at-sure n d k h
   place_says-sure n d k false true m m' h l = answer_option-sure o lives n None (none_there o lives n)
   place_says-sure n d k false false m m' h l = sure_now n m m' l
 
-  look_at_place-sure : (n : ℕ) (d x : Value) (k : ℕ) (m m' : Step Births (Option Value)) → There n d → SureLater n m m' → SureOption n (look_at_place bare d x k m) (look_at_place (full o) d x k m')
+  pub look_at_place-sure : (n : ℕ) (d x : Value) (k : ℕ) (m m' : Step Births (Option Value)) → There n d → SureLater n m m' → SureOption n (look_at_place bare d x k m) (look_at_place (full o) d x k m')
   unfolding look_at_place
   look_at_place-sure n d x k m m' h l = search (parts, later_later, place_says-sure) depth 24 fits 4000
 
-  look_at_places-sure : (n : ℕ) (d x : Value) (k left : ℕ) (m m' : Step Births (Option Value)) → There n d → SureLater n m m' → SureOption n (look_at_places bare d x k left m) (look_at_places (full o) d x k left m')
+  pub look_at_places-sure : (n : ℕ) (d x : Value) (k left : ℕ) (m m' : Step Births (Option Value)) → There n d → SureLater n m m' → SureOption n (look_at_places bare d x k left m) (look_at_places (full o) d x k left m')
   unfolding look_at_places
   look_at_places-sure n d x k zero m m' h l = sure_now n m m' l
   look_at_places-sure n d x k (suc left) m m' h l =
       look_at_place-sure n d x k _ _ h (record { at = λ j e. look_at_places-sure j d x (suc k) left m m' (later_value o lives n j d e h) (later_later n j m m' e l) })
 
-  search_from-sure : (n : ℕ) (d x : Value) (places start : ℕ) → There n d → SureOption n (search_from bare d x places start) (search_from (full o) d x places start)
+  pub search_from-sure : (n : ℕ) (d x : Value) (places start : ℕ) → There n d → SureOption n (search_from bare d x places start) (search_from (full o) d x places start)
   unfolding search_from
   search_from-sure n d x places start h =
       look_at_places-sure n d x start (places - start) _ _ h (record {
@@ -323,37 +323,37 @@ module _ (o : Object) (lives : ℕ → Type 0) where
             look_at_places-sure j d x 0 places _ _ (later_value o lives n j d e h) (record { at = λ i g. answer_option-sure o lives i None (none_there o lives i) });
       })
 
-  search_dictionary-sure : (n : ℕ) (d x : Value) (places : ℕ) → There n d → There n x → SureOption n (search_dictionary bare d x places) (search_dictionary (full o) d x places)
+  pub search_dictionary-sure : (n : ℕ) (d x : Value) (places : ℕ) → There n d → There n x → SureOption n (search_dictionary bare d x places) (search_dictionary (full o) d x places)
   unfolding search_dictionary
   search_dictionary-sure n d x places h g = search (parts, search_from-sure) depth 24 fits 4000
 
-  or_above-sure : (n : ℕ) (c : Value) (a : Option Value) (f f' : Value → Step Births (Option Value)) → There n c → ThereIfAny n a
+  pub or_above-sure : (n : ℕ) (c : Value) (a : Option Value) (f f' : Value → Step Births (Option Value)) → There n c → ThereIfAny n a
       → ((k : ℕ) → Later n k → (v : Value) → There k v → SureOption k (f v) (f' v)) → SureOption n (or_above bare c a f) (or_above (full o) c a f')
   unfolding or_above
   or_above-sure n c None f f' h g s = then_value-sure o lives _ n _ _ _ _ (fetch_field-sure n c 0 h) s
   or_above-sure n c (Some v) f f' h g s = answer_option-sure o lives n (Some v) g
 
-  method_in_class-sure : (n : ℕ) (c x : Value) → There n c → There n x → SureOption n (method_in_class bare c x) (method_in_class (full o) c x)
+  pub method_in_class-sure : (n : ℕ) (c x : Value) → There n c → There n x → SureOption n (method_in_class bare c x) (method_in_class (full o) c x)
   unfolding method_in_class
   method_in_class-sure n c x h g = search (parts, search_dictionary-sure) depth 24 fits 4000
 
-  look_in_class-sure : (n : ℕ) (c x : Value) (f f' : Value → Step Births (Option Value)) → There n c → There n x
+  pub look_in_class-sure : (n : ℕ) (c x : Value) (f f' : Value → Step Births (Option Value)) → There n c → There n x
       → ((k : ℕ) → Later n k → (v : Value) → There k v → SureOption k (f v) (f' v)) → SureOption n (look_in_class bare c x f) (look_in_class (full o) c x f')
   unfolding look_in_class
   look_in_class-sure n c x f f' h g s =
       then_option-sure o lives _ n _ _ _ _ (method_in_class-sure n c x h g) (λ k l a p. or_above-sure k c a f f' (later_value o lives n k c l h) p
       (λ j e v q. s j (record { is = omega (arith, l.is, e.is) }) v q))
 
-  unless_nil-sure : (n : ℕ) (b : Bool) (m m' : Step Births (Option Value)) → SureOption n m m' → SureOption n (unless_nil b m) (unless_nil b m')
+  pub unless_nil-sure : (n : ℕ) (b : Bool) (m m' : Step Births (Option Value)) → SureOption n m m' → SureOption n (unless_nil b m) (unless_nil b m')
   unfolding unless_nil
   unless_nil-sure n true m m' h = answer_option-sure o lives n None (none_there o lives n)
   unless_nil-sure n false m m' h = h
 
-  end_at_nil-sure : (n : ℕ) (c : Value) (m m' : Step Births (Option Value)) → There n c → SureLater n m m' → SureOption n (end_at_nil bare c m) (end_at_nil (full o) c m')
+  pub end_at_nil-sure : (n : ℕ) (c : Value) (m m' : Step Births (Option Value)) → There n c → SureLater n m m' → SureOption n (end_at_nil bare c m) (end_at_nil (full o) c m')
   unfolding end_at_nil
   end_at_nil-sure n c m m' h l = then_value-sure o lives _ n _ _ _ _ (of_page-sure o lives n NilObject) (λ k e v g. unless_nil-sure k (same_value c v) m m' (l.at k e))
 
-  find_within-sure : (n : ℕ) (x : Value) (left : ℕ) (c : Value) → There n x → There n c → SureOption n (find_within bare x left c) (find_within (full o) x left c)
+  pub find_within-sure : (n : ℕ) (x : Value) (left : ℕ) (c : Value) → There n x → There n c → SureOption n (find_within bare x left c) (find_within (full o) x left c)
   unfolding find_within
   find_within-sure n x zero c h g = end_at_nil-sure n c _ _ g (record { at = λ k e. die-sure o lives _ k _ })
   find_within-sure n x (suc left) c h g = end_at_nil-sure n c _ _ g (record {
@@ -362,7 +362,7 @@ module _ (o : Object) (lives : ℕ → Type 0) where
         (λ j l v q. find_within-sure j x left v (later_value o lives k j x l (later_value o lives n k x e h)) q);
   })
 
-  find-sure : (n : ℕ) (c x : Value) → There n c → There n x → SureOption n (find bare c x) (find (full o) c x)
+  pub find-sure : (n : ℕ) (c x : Value) → There n c → There n x → SureOption n (find bare c x) (find (full o) c x)
   unfolding find
   find-sure n c x h g = find_within-sure n x 32767 c g h
 
@@ -415,7 +415,7 @@ module _ (o : Object) (lives : ℕ → Type 0) where
   unfolding special_send
   special_send-sure n k = search (parts, argument_count-sure, send-sure) depth 32 fits 4000
 
-  end-sure : (n : ℕ) (e : StepEnd) → SureAnswer n (answer e) (answer e)
+  pub end-sure : (n : ℕ) (e : StepEnd) → SureAnswer n (answer e) (answer e)
   end-sure n e = answer_itself-sure o lives n e
 
   pub goes_on-sure : (n : ℕ) (m : Step Births Unit) (m' : Step Births Unit) → SureAnswer n m m' → SureAnswer n (goes_on m) (goes_on m')
@@ -434,16 +434,16 @@ module _ (o : Object) (lives : ℕ → Type 0) where
   unfolding execute
   execute-sure n p c h0 = search (headers, execute_by-sure) depth 24 fits 4000
 
-  executed-sure : (n : ℕ) (m m' : Step Births Call) → SureCall n m m' → SureAnswer n (executed bare m) (executed (full o) m')
+  pub executed-sure : (n : ℕ) (m m' : Step Births Call) → SureCall n m m' → SureAnswer n (executed bare m) (executed (full o) m')
   unfolding executed
   executed-sure n m m' h = search (sures, execute-sure) depth 16 fits 4000
 
-  execute_if_any-sure : (n : ℕ) (c : Option Call) → CallThereIfAny n c → SureAnswer n (execute_if_any bare c) (execute_if_any (full o) c)
+  pub execute_if_any-sure : (n : ℕ) (c : Option Call) → CallThereIfAny n c → SureAnswer n (execute_if_any bare c) (execute_if_any (full o) c)
   unfolding execute_if_any
   execute_if_any-sure n None h = end-sure n _
   execute_if_any-sure n (Some c) h = execute-sure n _ c (record { method = h.method })
 
-  executed_if_any-sure : (n : ℕ) (m m' : Step Births (Option Call)) → SureAnyCall n m m' → SureAnswer n (executed_if_any bare m) (executed_if_any (full o) m')
+  pub executed_if_any-sure : (n : ℕ) (m m' : Step Births (Option Call)) → SureAnyCall n m m' → SureAnswer n (executed_if_any bare m) (executed_if_any (full o) m')
   unfolding executed_if_any
   executed_if_any-sure n m m' h = search (sures, execute_if_any-sure) depth 16 fits 4000
 
@@ -488,7 +488,7 @@ module _ (o : Object) (lives : ℕ → Type 0) where
   constant_value-sure n constant.Nil = of_page-sure o lives n _
   constant_value-sure n c = search parts depth 24 fits 4000
 
-  ruleset rows_sure = (parts, fetch_operand-sure, store_operand-sure, constant_value-sure, goes_on-sure, executed-sure, executed_if_any-sure, send-sure, send_to_super-sure, special_send-sure, return_to_sender-sure, return_to_caller-sure, jump_on-sure)
+  pub ruleset rows_sure = (parts, fetch_operand-sure, store_operand-sure, constant_value-sure, goes_on-sure, executed-sure, executed_if_any-sure, send-sure, send_to_super-sure, special_send-sure, return_to_sender-sure, return_to_caller-sure, jump_on-sure)
 
   pub arithmetic_by-sure : (n : ℕ) (k : ℕ) (v : Value) → SureAnswer n (arithmetic_by bare k v) (arithmetic_by (full o) k v)
   unfolding arithmetic_by
