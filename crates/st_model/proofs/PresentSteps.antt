@@ -17,7 +17,7 @@ use Rattle.st_model.specs.Machine.{Registers, State, Transition, Died, Went, Ste
 use Rattle.st_model.specs.Births.{Births, births, births_with, object_born}
 use Rattle.st_model.specs.Table.{Table}
 use Rattle.st_model.specs.Show.{Shows, IsKept}
-use Rattle.st_model.specs.Steps.{same_value, new_object, class_of, or_die, check, fetch_field, store_field, integer_or_die, fetch_integer, count_fields, fetch_fields, store_fields, fetch_word, fetch_byte, store_word, store_byte, transfer, put, push, top, under, look_at_words, drop_words, pop, literal, byte_at, next_byte, jump}
+use Rattle.st_model.specs.Steps.{same_value, new_object, class_of, or_die, check, fetch_field, store_field, integer_or_die, fetch_integer, count_fields, fetch_fields, store_fields, fetch_word, fetch_byte, store_word, store_byte, transfer, put, push, top, under, look_at_words, drop_words, pop, literal, fetch_method_field, store_method_field, byte_at, next_byte, jump}
 use Rattle.st_model.specs.Methods.{from_last, method_header, literal_from_last, primitive_number, method_primitive}
 use Rattle.st_model.specs.Contexts.{home_by, home_of, stack_place, fetch_stack_pointer, context_registers, fetch_context_registers, store_context_registers, switch, fill_context, new_context, pass_words, activate}
 use Rattle.st_model.specs.Lookup.{checked_method, method_at, place_says, look_at_place, look_at_places, search_from, search_dictionary, or_above, method_in_class, look_in_class, unless_nil, end_at_nil, find_within, find}
@@ -187,6 +187,14 @@ module _ (o : Object) (lives : ℕ → Type 0) where
   unfolding literal
   literal-sure n v i h0 = search (fields) depth 24 fits 4000
 
+  pub fetch_method_field-sure : (n : ℕ) (v : Value) (i : ℕ) → There n v → SureValue n (fetch_method_field bare v i) (fetch_method_field (full o) v i)
+  unfolding fetch_method_field
+  fetch_method_field-sure n v i h = search fields depth 24 fits 4000
+
+  pub store_method_field-sure : (n : ℕ) (v : Value) (i : ℕ) (x : Value) → There n v → There n x → SureAnswer n (store_method_field bare v i x) (store_method_field (full o) v i x)
+  unfolding store_method_field
+  store_method_field-sure n v i x h k = search fields depth 24 fits 4000
+
   pub byte_at-sure : (n : ℕ) (v : Value) (ip : ℤ) → There n v → SureAnswer n (byte_at bare v ip) (byte_at (full o) v ip)
   unfolding byte_at
   byte_at-sure n v ip h0 = search (fields) depth 24 fits 4000
@@ -199,7 +207,7 @@ module _ (o : Object) (lives : ℕ → Type 0) where
   unfolding jump
   jump-sure n d = search (fields) depth 24 fits 4000
 
-  pub ruleset parts = (fields, fetch_word-sure, fetch_byte-sure, store_word-sure, store_byte-sure, fetch_integer-sure, transfer-sure, push-sure, under-sure, look_at_words-sure, drop_words-sure, top-sure, pop-sure, literal-sure, next_byte-sure, jump-sure)
+  pub ruleset parts = (fields, fetch_word-sure, fetch_byte-sure, store_word-sure, store_byte-sure, fetch_integer-sure, transfer-sure, push-sure, under-sure, look_at_words-sure, drop_words-sure, top-sure, pop-sure, literal-sure, fetch_method_field-sure, store_method_field-sure, next_byte-sure, jump-sure)
 
   -- headers and contexts
 
