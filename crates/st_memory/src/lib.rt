@@ -4,9 +4,11 @@
 mod body;
 mod change;
 mod draft;
+mod exchanges;
 mod live;
 mod loader;
 mod memory;
+mod notes;
 mod objects;
 mod transfer;
 

@@ -2,8 +2,8 @@
 use Rattle.std.proofs.Common.{◌≡◌, ℕ, ◌+◌, ◌<◌, ◌≤◌, List, [], ◌∷◌, zero, suc, Option, Some, None, Bool, true, false, refl, sym, ◌∙◌, ap, arith, inl, inr, ◌⊎◌}
 use Rattle.std.specs.Prelude.{if◌then◌else◌, nat_lt, nat_le, ◌&&◌}
 use Rattle.std.proofs.lemmas.Bool.Decides.{nat_tests}
-use Rattle.st_model.specs.Values.{Value, Small, Ref, renamed, renamed_all, IsLive, AllLive}
-use Rattle.st_model.specs.Objects.{Object, renamed_object, IsLiveObject, one, words_of}
+use Rattle.st_model.specs.Values.{Value, Small, Ref, renamed, renamed_all}
+use Rattle.st_model.specs.Objects.{Object, renamed_object, one, words_of}
 use Rattle.std.specs.Option.{option_map}
 use Rattle.st_model.specs.Outcomes.{Outcome, StepEnd, Did, NotBuilt, renamed_outcome}
 use Rattle.st_model.specs.Outcomes as outcome

@@ -11,6 +11,7 @@ use Rattle.st_model.specs.Machine.{ObjectMemory}
 use Rattle.st_model.specs.Bytecodes.{fetch_receiver_variable, fetch_temporary_variable, fetch_literal_constant, fetch_literal_variable, fetch_operand, store_receiver_variable, store_temporary_variable, store_literal_variable, store_operand, constant_value, arithmetic_by, arithmetic_send, rows, bytecode, step}
 use Rattle.st_model.proofs.Same.{Simulation, ValueSame, SameValue, SameAnswer, SameEnd, steps_same}
 use Rattle.st_model.proofs.StepsSame.{parts_same}
+use Rattle.st_model.proofs.LookupSame.{half_word-same}
 use Rattle.st_model.proofs.ExecutingSame.{goes_on-same, executed-same, executed_if_any-same}
 use Rattle.st_model.proofs.SendsSame.{send-same, send_to_super-same, special_send-same}
 use Rattle.st_model.proofs.ReturnsSame.{return_to_sender-same, return_to_caller-same, jump_on-same}
@@ -31,7 +32,7 @@ module _ {H K : Type 0} {M : ObjectMemory H} {N : ObjectMemory K} (sim : Simulat
   constant_value-same constant.Nil = search parts_same
   constant_value-same c = search parts_same
 
-  ruleset rows_same = (parts_same, fetch_operand-same, store_operand-same, constant_value-same, goes_on-same, executed-same, executed_if_any-same, send-same, send_to_super-same, special_send-same, return_to_sender-same, return_to_caller-same, jump_on-same)
+  ruleset rows_same = (parts_same, half_word-same, fetch_operand-same, store_operand-same, constant_value-same, goes_on-same, executed-same, executed_if_any-same, send-same, send_to_super-same, special_send-same, return_to_sender-same, return_to_caller-same, jump_on-same)
 
   arithmetic_by-same : (k : ℕ) (v w : Value) → ValueSame sim v w → SameEnd sim (arithmetic_by M k v) (arithmetic_by N k w)
   unfolding arithmetic_by

@@ -2,20 +2,17 @@
 use Rattle.std.proofs.Common.{◌≡◌, ◌≢◌, ℕ, ◌+◌, ◌<◌, ◌≤◌, [], ◌∷◌, suc, length, Option, Some, None, Bool, true, false, refl, sym, ◌∙◌, ap, subst, arith, inl, inr, ◌⊎◌}
 use Rattle.std.specs.Prelude.{◌&&◌, nat_le}
 use Rattle.std.proofs.lemmas.Bool.Decides.{nat_tests}
-use Rattle.st_model.specs.declared.kind.Kind.{Kind}
-use Rattle.st_model.specs.declared.kind.Kind.TheVariants as kind
-use Rattle.st_model.specs.Values.{Value, Small, Ref, IsLive, AllLive}
 use Rattle.st_model.specs.Objects.{Object, PageObject, place_of, one, renamed_object, IsLiveObject}
-use Rattle.st_model.specs.Formed.{fresh_with}
 use Rattle.st_model.specs.Outcomes.{StepEnd}
-use Rattle.st_model.specs.Machine.{Registers, Head, State, Transition, Died, Went, Step, is_there, has_room, roots_of}
+use Rattle.st_model.specs.Machine.{ObjectMemory, Head, State, Transition, Died, Went, Step, has_room, roots_of}
 use Rattle.st_model.specs.Table.{Table, table, bounded_table, entry, changed, exchanged, placed, first_none, filled_first, first_free, total_used}
-use Rattle.st_model.specs.Steps.{new_of, are_there}
 use Rattle.st_model.specs.Bytecodes.{step}
 use Rattle.st_model.specs.Show.{IsUsed, IsClosed, renamed_head}
 use Rattle.st_model.specs.Foreseen.{IsSound}
 use Rattle.st_model.proofs.Same.{Simulation, StateSame, TransitionSame, Same}
 use Rattle.st_model.proofs.BytecodesSame.{step-same}
+use Rattle.st_model.proofs.ContextsSame.{fetch_scheduled_registers-same}
+use Rattle.st_model.specs.Contexts.{fetch_scheduled_registers}
 use Rattle.st_model.proofs.TableLemmas.{changed-some, changed-other, placed-first, placed-other, first_free-none, length-changed}
 use Rattle.st_model.proofs.HeapsSame.{number_cases}
 use Rattle.st_model.proofs.Names.{AnyName, any_values, map_object}
@@ -81,17 +78,21 @@ placed_closed t p c l =
       page = λ q. up (place_of q) (c.page q);
     }
 
-pub same_room : (t u : Table) (a b : Head) (o : Object) → u ≡ t → b ≡ renamed_head same_name a → has_room bounded_table b u (renamed_object same_name o) ≡ has_room bounded_table a t o
-same_room t u a b o e f = let g = f ∙ head-itself a in λ i. has_room bounded_table (g i) (e i) (object-itself o i)
+abbrev pub table_or_bounded : Bool → ObjectMemory Table
+table_or_bounded b = record table { bounded = b }
 
--- The bounded table beside itself. Besides that it is closed, it keeps what a change of an object and a new one with room
--- for it keep.
-module _ (a : Head) (P : Table → Type 0) (on_changed : (t : Table) (n : ℕ) (o : Object) → P t → P (changed t n o))
-    (on_placed : (t : Table) (o : Object) → P t → has_room bounded_table a t o ≡ true → P (placed t o)) where
+pub same_room : (bound : Bool) (t u : Table) (a b : Head) (o : Object) → u ≡ t → b ≡ renamed_head same_name a
+    → has_room (table_or_bounded bound) b u (renamed_object same_name o) ≡ has_room (table_or_bounded bound) a t o
+same_room bound t u a b o e f = let g = f ∙ head-itself a in λ i. has_room (table_or_bounded bound) (g i) (e i) (object-itself o i)
+
+-- The table beside itself, bounded or not. Besides that it is closed, it keeps what a change of an object and a new one
+-- with room for it keep.
+module _ (bound : Bool) (a : Head) (P : Table → Type 0) (on_changed : (t : Table) (n : ℕ) (o : Object) → P t → P (changed t n o))
+    (on_placed : (t : Table) (o : Object) → P t → has_room (table_or_bounded bound) a t o ≡ true → P (placed t o)) where
   pub on_exchanged : (t : Table) (n m : ℕ) (o p : Object) → P t → entry t n ≡ Some o → entry t m ≡ Some p → P (exchanged t n m)
   on_exchanged t n m o p h e f = subst P (sym (exchanged_is t n m o p e f)) (on_changed (changed t n p) m o (on_changed t n p h))
 
-  abbrev pub closed_simulation : Simulation bounded_table bounded_table
+  abbrev pub closed_simulation : Simulation (table_or_bounded bound) (table_or_bounded bound)
   closed_simulation = record {
     live = AnyName;
     name = same_name;
@@ -114,7 +115,7 @@ module _ (a : Head) (P : Table → Type 0) (on_changed : (t : Table) (n : ℕ) (
     pointer = λ t u n o e l f. refl;
     borne_live = λ t u p n e f. tt;
     borne_by = λ t u p e. rw e.0 (number-itself (table.borne_by t p));
-    rooms = λ t u b c o m e l f. inl (same_room t u b c o e.0 f);
+    rooms = λ t u b c o m e l f. inl (same_room bound t u b c o e.0 f);
     there_replace = λ t n m o p e k. used_changed t n m p k;
     there_exchange = λ t n m i o p e f k. used_exchanged t n m o p e f i k;
     there_append = λ t m o k. used_placed t m o k;
@@ -153,11 +154,19 @@ module _ (a : Head) (P : Table → Type 0) (on_changed : (t : Table) (n : ℕ) (
       let h = same.go c c (states_closed c k p f) in
       closed_after Q r x d (m.run c) (subst (λ o. TransitionSame closed_simulation Q r o (m.run c)) e h)
 
-  pub step_stays : (c d : State Table) (o : StepEnd) → IsClosed c → P c.memory → c.head ≡ a → (step bounded_table).run c ≡ Went o d → StaysClosed d
-  step_stays c d o k p f e = stays_closed _ _ (step bounded_table) (step-same closed_simulation tt) c d o k p f e
+module _ (a : Head) (P : Table → Type 0) (on_changed : (t : Table) (n : ℕ) (o : Object) → P t → P (changed t n o))
+    (on_placed : (t : Table) (o : Object) → P t → has_room bounded_table a t o ≡ true → P (placed t o)) where
+  step_stays : (c d : State Table) (o : StepEnd) → IsClosed c → P c.memory → c.head ≡ a → (step bounded_table).run c ≡ Went o d → StaysClosed true a P on_changed on_placed d
+  step_stays c d o k p f e = stays_closed true a P on_changed on_placed _ _ (step bounded_table) (step-same (closed_simulation true a P on_changed on_placed) tt) c d o k p f e
 
 pub step_closed : (c d : State Table) (o : StepEnd) → IsClosed c → (step bounded_table).run c ≡ Went o d → IsClosed d
 step_closed c d o k e = (step_stays c.head (λ t. Unit {0}) (λ t n o p. tt) (λ t o p g. tt) c d o k tt refl e).0
+
+-- so does the fetching of registers
+pub fetched_closed : (c d : State Table) → IsClosed c → (fetch_scheduled_registers table).run c ≡ Went tt d → IsClosed d
+fetched_closed c d k e =
+    let s = closed_simulation false c.head (λ t. Unit {0}) (λ t n o p. tt) (λ t o p g. tt) in
+    (stays_closed false c.head (λ t. Unit {0}) (λ t n o p. tt) (λ t o p g. tt) _ _ (fetch_scheduled_registers table) (fetch_scheduled_registers-same s) c d tt k tt refl e).0
 
 -- a table of 32768 places stays so, where there is room for fewer objects than that
 

@@ -5,7 +5,7 @@ use Rattle.st_model.specs.Values.{Value, Small, Ref}
 use Rattle.st_model.specs.Objects.{Object, renamed_object, IsLiveObject}
 use Rattle.st_model.specs.Machine.{ObjectMemory}
 use Rattle.st_model.specs.Methods.{bits_of, flag_of, temporary_count, literal_count, context_size, from_last, method_header, literal_from_last, primitive_number, method_primitive}
-use Rattle.st_model.specs.Contexts.{home_by, home_of, stack_place, fetch_stack_pointer, context_registers, fetch_context_registers, store_context_registers, switch, fill_context, new_context, pass_words, activate}
+use Rattle.st_model.specs.Contexts.{home_by, home_of, stack_place, fetch_stack_pointer, context_registers, fetch_context_registers, scheduled_context, fetch_scheduled_registers, store_context_registers, switch, fill_context, new_context, pass_words, activate}
 use Rattle.st_model.proofs.Same.{Simulation, ValueSame, OptionalSame, SameValue, SameRegisters, SameAnswer, steps_same, length-renamed, none-same, field-same}
 use Rattle.st_model.proofs.StepsSame.{memory_same, parts_same}
 
@@ -81,6 +81,10 @@ module _ {H K : Type 0} {M : ObjectMemory H} {N : ObjectMemory K} (sim : Simulat
   pub fetch_context_registers-same : (c d : Value) → ValueSame sim c d → SameAnswer sim (fetch_context_registers M c) (fetch_context_registers N d)
   unfolding fetch_context_registers
   fetch_context_registers-same c d h = search (parts_same, context_registers-same) depth 16 fits 4000
+
+  pub fetch_scheduled_registers-same : SameAnswer sim (fetch_scheduled_registers M) (fetch_scheduled_registers N)
+  unfolding fetch_scheduled_registers scheduled_context
+  fetch_scheduled_registers-same = search (parts_same, fetch_context_registers-same) depth 24 fits 4000
 
   store_context_registers-same : SameAnswer sim (store_context_registers M) (store_context_registers N)
   unfolding store_context_registers

@@ -1,5 +1,5 @@
 -- A running machine over a table does, cycle by cycle, what the births do that its table shows.
-use Rattle.std.proofs.Common.{◌≡◌, ℕ, zero, suc, ◌<◌, ◌≤◌, Option, Some, None, Bool, true, false, refl, sym, ◌∙◌, ap, subst, length, inl, inr, is_some}
+use Rattle.std.proofs.Common.{◌≡◌, ℕ, zero, suc, ◌<◌, ◌≤◌, Bool, true, false, refl, sym, ◌∙◌, ap, subst, length, inl, inr}
 use Rattle.std.specs.Prelude.{IsTrue}
 use mathlib.Core.Path.{fun_ext}
 use Rattle.st_model.specs.declared.demand.Demand.{Demand}

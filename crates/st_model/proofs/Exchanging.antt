@@ -10,7 +10,7 @@ use Rattle.st_model.specs.Table.{Table, entry, changed, exchanged, exchanged_obj
 use Rattle.st_model.specs.Show.{IsUsed}
 use Rattle.st_model.specs.View.{View, IsWhole, is_live, held_at, with_exchanged}
 use Rattle.st_model.proofs.TableLemmas.{changed-some, changed-other}
-use Rattle.st_model.proofs.WholeLemmas.{named, used_live, live_used, live_changed, known_changed, none_changed, changed_is, length-changed, live_all, whole_as}
+use Rattle.st_model.proofs.WholeLemmas.{named, used_live, live_used, live_changed, none_changed, length-changed, live_all, whole_as}
 
 -- the name that has the object of this one after an exchange of a and b, or before
 abbrev pub other_of : ℕ → ℕ → ℕ → ℕ

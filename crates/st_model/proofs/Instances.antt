@@ -1,6 +1,6 @@
 -- The next instance of a class is the one that bears the least pointer above another.
-use Rattle.std.proofs.Common.{◌≡◌, ℕ, zero, suc, ◌+◌, ◌<◌, ◌≤◌, Option, Some, None, Bool, true, false, refl, ap, arith, inl, inr, ◌⊎◌}
-use Rattle.std.specs.Prelude.{◌-◌, if◌then◌else◌}
+use Rattle.std.proofs.Common.{◌≡◌, ℕ, zero, suc, ◌+◌, ◌<◌, ◌≤◌, None, Bool, true, false, refl, arith, inl, inr, ◌⊎◌}
+use Rattle.std.specs.Prelude.{◌-◌}
 use Rattle.st_model.specs.Machine.{ObjectMemory, names_instance, first_instance, next_of}
 
 module _ {H : Type 0} (m : ObjectMemory H) (h : H) (class : ℕ) where

@@ -37,10 +37,15 @@ pub mod Instances
 pub mod Roots
 pub mod Raised
 pub mod Showing
+pub mod Texts
+pub mod Again
+pub mod Present
+pub mod PresentSteps
 pub mod Made
 pub mod Making
 mod ImageRows
 mod OperationRows
+mod DecodedRows
 pub mod Opened
 mod Rows
 mod SendRows

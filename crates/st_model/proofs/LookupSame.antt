@@ -14,7 +14,7 @@ module _ {H K : Type 0} {M : ObjectMemory H} {N : ObjectMemory K} (sim : Simulat
   pointer_if-same h k n None b s l e o = rw o refl
   pointer_if-same h k n (Some a) b s l e o = rw o.1 (sim.pointer h k n a s l e)
 
-  half_word-same : (v w : Value) → ValueSame sim v w → SameAnswer sim (half_word M v) (half_word N w)
+  pub half_word-same : (v w : Value) → ValueSame sim v w → SameAnswer sim (half_word M v) (half_word N w)
   unfolding half_word
   half_word-same (Small n) w l = rw l.is (search steps_same)
   half_word-same (Ref n) w l = rw l.is (record {

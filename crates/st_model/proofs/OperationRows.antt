@@ -1,15 +1,15 @@
 -- Worked rows of exchanges, words and bytes, and pointers, over births and over tables. An object of class 1 and one of class
 -- 2 bear the pointers 2 and 6; a third, which bore 4, isn't kept.
-use Rattle.std.proofs.Common.{◌≡◌, ℕ, List, [], ◌∷◌, Some, None, Option, refl}
+use Rattle.std.proofs.Common.{◌≡◌, ℕ, List, [], ◌∷◌, Some, None, refl}
 use Rattle.std.specs.Prelude.{true, false, pos}
 use Rattle.st_model.specs.declared.kind.Kind.TheVariants as kind
 use Rattle.st_model.specs.declared.dead.Dead.TheVariants as dead
-use Rattle.st_model.specs.Values.{Value, Small, Ref}
+use Rattle.st_model.specs.Values.{Small, Ref}
 use Rattle.st_model.specs.Objects.{Object, nil}
-use Rattle.st_model.specs.Machine.{State, Died, Went, empty_world, next_of, first_instance, tried}
+use Rattle.st_model.specs.Machine.{State, Died, Went, empty_world, next_of, tried}
 use Rattle.st_model.specs.Births.{Births, births}
-use Rattle.st_model.specs.Table.{Table, table, apart}
-use Rattle.st_model.specs.Steps.{exchange, store_byte, fetch_byte, fetch_field, object_at, next_instance, set_world}
+use Rattle.st_model.specs.Table.{Table, table}
+use Rattle.st_model.specs.Steps.{exchange, store_byte, fetch_field}
 use Rattle.st_model.proofs.Opened.{opened}
 
 plain : Object

@@ -1,12 +1,12 @@
 -- Reclaiming leaves a table closed in which nothing dangles: what an object that stays refers to stays too.
-use Rattle.std.proofs.Common.{◌≡◌, ℕ, ◌<◌, List, [], ◌∷◌, suc, length, Option, Some, None, Bool, true, false, refl, sym, ◌∙◌, ap, subst, arith, inl, inr, ◌⊎◌}
+use Rattle.std.proofs.Common.{◌≡◌, ℕ, ◌<◌, List, [], ◌∷◌, suc, length, Some, Bool, true, false, refl, sym, ◌∙◌, ap, subst, arith, inl, inr, ◌⊎◌}
 use Rattle.std.specs.Prelude.{◌==◌, IsTrue, if◌then◌else◌}
 use Rattle.std.proofs.lemmas.Bool.Decides.{nat_tests}
-use Rattle.st_model.specs.Values.{Value, Small, Ref, IsLive, AllLive}
+use Rattle.st_model.specs.Values.{Value, Small, Ref, AllLive}
 use Rattle.st_model.specs.Objects.{Object, place_of, IsLiveObject}
 use Rattle.st_model.specs.Machine.{State, roots_of}
 use Rattle.st_model.specs.Table.{Table, table, entry, settled_table}
-use Rattle.st_model.specs.Settled.{AnyRefTo, IsRoot, held_root, page_root, IsReferredFrom, SupportsItself, IsSettled, settled_set, reclaim}
+use Rattle.st_model.specs.Settled.{AnyRefTo, IsRoot, held_root, page_root, IsReferredFrom, IsSettled, settled_set, reclaim}
 use Rattle.st_model.specs.Show.{IsUsed, IsClosed}
 use Rattle.st_model.specs.Foreseen.{IsSound}
 use Rattle.st_model.proofs.SettledLemmas.{is_some-of, some_is, settled-entry, entry-settled}

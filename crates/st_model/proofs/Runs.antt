@@ -5,9 +5,9 @@ use Rattle.std.proofs.lemmas.Bool.Decides.{nat_tests}
 use Rattle.st_model.specs.declared.dead.Dead.{Dead}
 use Rattle.st_model.specs.declared.dead.Dead.TheVariants as dead
 use Rattle.st_model.specs.Values.{Value, Small, Ref, is_small}
-use Rattle.st_model.specs.Objects.{PageObject, place_of, Object, with_field, with_units, first_unit, is_pointers, is_words, has_bytes}
+use Rattle.st_model.specs.Objects.{PageObject, place_of, Object, with_field, with_units, first_unit, is_pointers, is_words, is_method, has_bytes}
 use Rattle.st_model.specs.Machine.{ObjectMemory, Registers, World, State, is_there, all_there, device_roots, Transition, Died, Went, Step, after, answer, die, ◌>>=◌, ◌>>◌, or_left, tried}
-use Rattle.st_model.specs.Steps.{get_active, get_home, get_method, get_receiver, get_ip, get_sp, set_ip, set_sp, registers_set, set_registers, are_there, of_page, found, object_named, object, stored_at, store_at, set_field, exchanged_there, exchange_named, exchange, fit_units, units_set, set_units_at, set_units, store_word, store_byte, get_world, world_set, set_world, or_die, check, fetch_field, store_field, integer_or_die}
+use Rattle.st_model.specs.Steps.{get_active, get_home, get_method, get_receiver, get_ip, get_sp, set_ip, set_sp, registers_set, set_registers, are_there, of_page, found, object_named, object, stored_at, store_at, set_field, exchanged_there, exchange_named, exchange, fit_units, units_set, set_units_at, set_units, store_word, store_byte, get_world, world_set, set_world, or_die, check, fetch_field, store_field, store_method_field, integer_or_die}
 use Rattle.st_model.specs.Table.{Table, table, entry, changed, exchanged}
 use Rattle.st_model.specs.Values.{integer_of}
 use Rattle.st_model.specs.Contexts.{home_by}
@@ -167,6 +167,14 @@ run-store v i x s live kind range known word =
     let r : nat_lt i (length (object_of s.memory v).fields) ≡ true = grind (arith, nat_tests) in
     simp (run-then, run-next, after-went, run-live v s live, run-passed dead.Kind _ s kind, run-passed dead.Field _ s r, run-set_field v i x s live (known_there s.memory x known word)) refl
 
+-- the header or a literal of a live method is stored
+pub run-store_method_field : (v : Value) (i : ℕ) (x : Value) (s : State Table) → is_live s.memory v ≡ true → is_method (object_of s.memory v).kind ≡ true
+    → i < length (object_of s.memory v).fields → IsKnown s.memory x → IsWord x → (store_method_field table v i x).run s ≡ Went tt (record s { memory = with_stored s.memory v i x })
+unfolding store_method_field
+run-store_method_field v i x s live kind range known word =
+    let r : nat_lt i (length (object_of s.memory v).fields) ≡ true = grind (arith, nat_tests) in
+    simp (run-then, run-next, after-went, run-live v s live, run-passed dead.Kind _ s kind, run-passed dead.Field _ s r, run-set_field v i x s live (known_there s.memory x known word)) refl
+
 both_live : (a b : Bool) → a ≡ true → b ≡ true → (a && b) ≡ true
 both_live true b e f = f
 both_live false b e f = cc
@@ -263,7 +271,7 @@ get-past (x ∷ xs) (suc i) l = get-past xs i (omega arith)
 
 pub ruleset runs = (run-then, run-next, after-went, after-died, run-answer, run-die, run-active, run-home, run-method, run-receiver, run-ip, run-sp, run-set_ip, run-set_sp, run-set_registers, run-world, run-set_world, run-of_page, run-passed, run-failed, run-some, run-none, run-small, run-live, run-gone, run-set_field, run-integer, run-no_integer, run-block_home, run-method_home, get-past)
 
-pub ruleset stores = (run-store, run-store_word, run-store_byte, run-exchange)
+pub ruleset stores = (run-store, run-store_method_field, run-store_word, run-store_byte, run-exchange)
 
 -- checks of numbers
 pub ruleset tests = (check-below, check-not_below, check-at_most, check-above)

@@ -7,13 +7,12 @@ use Rattle.std.specs.Prelude.{if◌then◌else◌, slice_get, slice_set, ◌==�
 use Rattle.std.proofs.lemmas.Bool.Decides.{nat_tests}
 use Rattle.std.specs.Option.{option_map}
 use Rattle.st_model.specs.declared.dead.Dead.{Dead}
-use Rattle.st_model.specs.declared.kind.Kind.{Kind}
 use Rattle.st_model.specs.Values.{Value, Small, Ref, small_integer, renamed, renamed_all, IsLive, AllLive}
 use Rattle.st_model.specs.Objects.{Object, PageObject, renamed_object, IsLiveObject, words_of, with_field}
 use Rattle.st_model.specs.Outcomes.{StepEnd, Did, NotBuilt, renamed_outcome, IsLiveOutcome}
 use Rattle.st_model.specs.Sends.{Call}
 use Rattle.st_model.specs.Outcomes as outcome
-use Rattle.st_model.specs.Steps.{code_byte, same_value, new_of, are_there}
+use Rattle.st_model.specs.Steps.{code_byte, same_value}
 use Rattle.st_model.specs.Calls.{itself}
 use Rattle.st_model.specs.Show.{renamed_registers, renamed_world, renamed_head, renamed_option}
 use Rattle.st_model.specs.Machine.{ObjectMemory, Registers, World, Head, State, Transition, Died, Went, Step, is_there, all_there, device_roots, has_room, roots_of, answer, die, after, ◌>>=◌, ◌>>◌, or_left, tried}

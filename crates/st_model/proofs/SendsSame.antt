@@ -1,8 +1,8 @@
 -- Each step of a send over births does the same over pointers.
-use Rattle.std.proofs.Common.{◌≡◌, ℕ, Option, Some, None, refl}
+use Rattle.std.proofs.Common.{ℕ, Option, Some, None, refl}
 use Rattle.std.specs.Prelude.{ℤ, pos, negsuc}
-use Rattle.st_model.specs.Values.{Value, Small, Ref, renamed}
-use Rattle.st_model.specs.Machine.{ObjectMemory, Step}
+use Rattle.st_model.specs.Values.{Value, renamed}
+use Rattle.st_model.specs.Machine.{ObjectMemory}
 use Rattle.st_model.specs.Sends.{copy_arguments, argument_array, new_message, replace_by_message, call_not_understood, not_understood, call_found, send_from, send, class_above, send_to_super, argument_count, special_send}
 use Rattle.st_model.proofs.Same.{Simulation, ValueSame, OptionalSame, SameValue, SameAnswer, SameCall, answer_call-same, steps_same}
 use Rattle.st_model.proofs.StepsSame.{parts_same}

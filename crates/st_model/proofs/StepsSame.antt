@@ -1,19 +1,18 @@
 -- Each step on registers, fields, the stack and methods over births does the same over pointers.
 use Rattle.std.proofs.Common.{◌≡◌, ℕ, List, [], ◌∷◌, zero, suc, Option, Some, None, Bool, true, false, refl, ap, ◌∙◌, arith, length, ◌⊎◌, inl, inr}
 use Rattle.std.proofs.Math.ListN.{length-set}
-use Rattle.std.specs.Prelude.{◌+◌, ◌-◌, ◌*◌, ◌++◌, ◌&&◌, ◌==◌, if◌then◌else◌, replicate, ℤ}
+use Rattle.std.specs.Prelude.{◌+◌, ◌-◌, ◌*◌, ◌&&◌, ◌==◌, if◌then◌else◌, replicate, ℤ}
 use Rattle.st_model.specs.declared.dead.Dead.{Dead}
-use Rattle.st_model.specs.declared.dead.Dead.TheVariants as dead
 use Rattle.st_model.specs.declared.kind.Kind.{Kind}
 use Rattle.st_model.specs.declared.kind.Kind.TheVariants as kind
 use Rattle.st_model.specs.Values.{Value, Small, Ref, renamed, renamed_all, IsLive, AllLive}
 use Rattle.st_model.specs.Objects.{Object, PageObject, NilObject, renamed_object, IsLiveObject, words_of, with_field, with_units}
-use Rattle.st_model.specs.Machine.{ObjectMemory, Registers, World, State, Died, Went, is_there, all_there, is_of_class, names_instance, first_instance, next_of, has_room, head_roots, device_roots, roots_of, answer, die}
+use Rattle.st_model.specs.Machine.{ObjectMemory, Registers, World, State, is_there, all_there, is_of_class, names_instance, first_instance, next_of, has_room, head_roots, device_roots, roots_of, answer, die}
 use Rattle.st_model.specs.Formed.{fresh_with}
 use Rattle.st_model.specs.Show.{renamed_registers, renamed_world, renamed_option}
 use Rattle.std.specs.Option.{option_map}
 use Rattle.std.proofs.lemmas.Bool.Decides.{nat_tests}
-use Rattle.st_model.specs.Steps.{get_active, get_home, get_method, get_receiver, get_ip, get_sp, set_ip, set_sp, found, object_named, object, stored_at, store_at, set_field, exchanged_there, exchange_named, exchange, fit_units, units_set, set_units_at, set_units, get_world, world_set, set_world, named_or_not, object_at, next_instance, fetch_word, store_word, fetch_byte, store_byte, made, make_named, make, registers_set, set_registers, new_of, are_there, of_page, new_object, class_of, or_die, check, fetch_field, store_field, integer_or_die, fetch_integer, count_fields, fetch_fields, store_fields, transfer, put, push, under, look_at_words, drop_words, top, pop, literal, byte_at, next_byte, jump}
+use Rattle.st_model.specs.Steps.{get_active, get_home, get_method, get_receiver, get_ip, get_sp, set_ip, set_sp, found, object_named, object, stored_at, store_at, set_field, exchanged_there, exchange_named, exchange, fit_units, units_set, set_units_at, set_units, get_world, world_set, set_world, named_or_not, object_at, next_instance, fetch_word, store_word, fetch_byte, store_byte, made, make_named, make, registers_set, set_registers, new_of, are_there, of_page, new_object, class_of, or_die, check, fetch_field, store_field, integer_or_die, fetch_integer, count_fields, fetch_fields, store_fields, transfer, put, push, under, look_at_words, drop_words, top, pop, literal, fetch_method_field, store_method_field, byte_at, next_byte, jump}
 use Rattle.st_model.specs.Calls.{itself}
 use Rattle.st_model.proofs.Same.{OptionSame, Simulation, StateSame, TransitionSame, StaysOver, Anything, IsLiveOption, IsLiveRegisters, IsLiveWorld, ValueSame, ValuesSame, OptionalSame, RegistersSame, WorldSame, SameValue, SameValues, SameOption, SameWorld, SameObject, SameAnswer, is_there-renamed, all_there-renamed, value_there, values_there, both, some_object, same_value-same, steps_same, then_unit-same, over_value, over_values, over_object, with_field-renamed, stored_is_live}
 use Rattle.st_model.proofs.Names.{map_all, device_part, with_devices}
@@ -577,6 +576,14 @@ module _ {H K : Type 0} {M : ObjectMemory H} {N : ObjectMemory K} (sim : Simulat
   unfolding literal
   literal-same v w i h = search fields_same depth 16 fits 4000
 
+  pub fetch_method_field-same : (v w : Value) (i : ℕ) → ValueSame sim v w → SameValue sim (fetch_method_field M v i) (fetch_method_field N w i)
+  unfolding fetch_method_field
+  fetch_method_field-same v w i h = search fields_same depth 16 fits 4000
+
+  pub store_method_field-same : (v w : Value) (i : ℕ) (x y : Value) → ValueSame sim v w → ValueSame sim x y → SameAnswer sim (store_method_field M v i x) (store_method_field N w i y)
+  unfolding store_method_field
+  store_method_field-same v w i x y h k = search fields_same depth 20 fits 4000
+
   byte_at-same : (v w : Value) (ip : ℤ) → ValueSame sim v w → SameAnswer sim (byte_at M v ip) (byte_at N w ip)
   unfolding byte_at
   byte_at-same v w ip h = search fields_same depth 16 fits 4000
@@ -589,4 +596,4 @@ module _ {H K : Type 0} {M : ObjectMemory H} {N : ObjectMemory K} (sim : Simulat
   unfolding jump
   jump-same d = search fields_same depth 16 fits 4000
 
-  pub ruleset parts_same = (fields_same, fetch_integer-same, transfer-same, fetch_word-same, store_word-same, fetch_byte-same, store_byte-same, push-same, under-same, look_at_words-same, drop_words-same, top-same, pop-same, literal-same, next_byte-same, jump-same)
+  pub ruleset parts_same = (fields_same, fetch_integer-same, transfer-same, fetch_word-same, store_word-same, fetch_byte-same, store_byte-same, push-same, under-same, look_at_words-same, drop_words-same, top-same, pop-same, literal-same, fetch_method_field-same, store_method_field-same, next_byte-same, jump-same)

@@ -5,7 +5,7 @@ use Rattle.std.specs.Prelude.{ℤ}
 use Rattle.st_model.specs.Values.{Value, Small, Ref}
 use Rattle.st_model.specs.Objects.{PageObject, SmallIntegerClass}
 use Rattle.st_model.specs.Machine.{ObjectMemory}
-use Rattle.st_model.specs.Steps.{of_page, object_named, object, store_at, stored_at, set_field, exchanged_there, exchange_named, exchange, units_set, set_units_at, set_units, fetch_word, fetch_byte, store_word, store_byte, class_of, fetch_field, store_field, count_fields, fetch_fields, store_fields, transfer, literal, byte_at}
+use Rattle.st_model.specs.Steps.{of_page, object_named, object, store_at, stored_at, set_field, exchanged_there, exchange_named, exchange, units_set, set_units_at, set_units, fetch_word, fetch_byte, store_word, store_byte, class_of, fetch_field, store_field, count_fields, fetch_fields, store_fields, transfer, literal, fetch_method_field, store_method_field, byte_at}
 use Rattle.st_model.specs.Methods.{method_header, literal_from_last}
 use Rattle.st_model.specs.Table.{Table, table, IsTabular}
 
@@ -90,6 +90,14 @@ module _ {m : ObjectMemory Table} (h : IsTabular m) where
   pub literal-as : (v : Value) (i : ℕ) → literal m v i ≡ literal table v i
   unfolding literal
   literal-as v i = rw (object-as v) refl
+
+  pub fetch_method_field-as : (v : Value) (i : ℕ) → fetch_method_field m v i ≡ fetch_method_field table v i
+  unfolding fetch_method_field
+  fetch_method_field-as v i = rw (object-as v) refl
+
+  pub store_method_field-as : (v : Value) (i : ℕ) (x : Value) → store_method_field m v i x ≡ store_method_field table v i x
+  unfolding store_method_field
+  store_method_field-as v i x = rw (object-as v, set_field-as v i x) refl
 
   pub byte_at-as : (v : Value) (ip : ℤ) → byte_at m v ip ≡ byte_at table v ip
   unfolding byte_at

@@ -99,3 +99,11 @@ births = record {
   total = total_kept;
   bounded = false;
 }
+
+abbrev pub or_object : Object → Option Object → Option Object
+or_object o None = Some o
+or_object o (Some a) = Some a
+
+-- the births with this object under each name under which none was born
+abbrev pub births_with : Object → ObjectMemory Births
+births_with o = record births { read = λ h n. or_object o (object_born h n) }

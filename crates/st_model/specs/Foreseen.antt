@@ -1,6 +1,6 @@
 -- The cycle of a running machine over a table: the step is foreseen over a table where new objects stand apart, and is
 -- done where the capacities have room for what it makes. And what that has to do with births.
-use Rattle.std.specs.Prelude.{◌≡◌, ℕ, length, Bool, true, false}
+use Rattle.std.specs.Prelude.{◌≡◌, length, Bool, true, false}
 use Rattle.st_model.specs.declared.dead.Dead.TheVariants as dead
 use Rattle.st_model.specs.Outcomes.{Outcome, StepEnd, Did, NotBuilt, is_built, Ending, With, Space, Unbuilt, renamed_outcome, renamed_ending, IsLiveOutcome}
 use Rattle.st_model.specs.Machine.{State, Transition, Died, Went, Step, used, is_over}
@@ -9,7 +9,7 @@ use Rattle.st_model.specs.Table.{Table, table, apart, bounded_table}
 use Rattle.st_model.specs.Bytecodes.{step}
 use Rattle.st_model.specs.Settled.{reclaim}
 use Rattle.st_model.specs.Show.{Shows, IsClosed, IsUsed}
-use Rattle.st_model.specs.Cycles.{next_code, made_between, free_space, run_of}
+use Rattle.st_model.specs.Cycles.{next_code, made_between, free_space}
 
 -- what a cycle makes of the step that is done; one that was foreseen neither dies nor comes to an unbuilt primitive
 abbrev pub done : State Table → Transition (State Table) StepEnd → Transition (State Table) Ending
@@ -40,6 +40,13 @@ EndsShown (Died a) (Died b) = a ≡ b
 EndsShown (Died a) (Went b s) = ⊥
 EndsShown (Went a c) (Died b) = ⊥
 EndsShown (Went a c) (Went b s) = (a ≡ renamed_ending (pointer_of s.memory) b) × Shows c s
+
+-- both died of one cause, or both went and the table shows the births
+abbrev pub ShownAgain : Transition (State Table) Unit → Transition (State Births) Unit → Type 0
+ShownAgain (Died a) (Died b) = a ≡ b
+ShownAgain (Died a) (Went x s) = ⊥
+ShownAgain (Went x c) (Died b) = ⊥
+ShownAgain (Went x c) (Went y s) = Shows c s × IsClosed c
 
 -- A step that is foreseen from c dies of the cause of which the births die from s; or both come to a primitive that isn't
 -- built; or both go on, with as many entries and words used.

@@ -28,3 +28,4 @@ pub mod Text
 pub mod Image
 pub mod Start
 pub mod Faults
+pub mod Laws

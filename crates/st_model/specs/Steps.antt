@@ -336,6 +336,21 @@ literal m v i = do
   check dead.Kind (is_method o.kind)
   or_die dead.Field (slice_get o.fields (i + 1))
 
+-- field i of a method: its header, or literal i - 1
+unfoldable pub fetch_method_field : {H : Type 0} → ObjectMemory H → Value → ℕ → Step H Value
+fetch_method_field m v i = do
+  o ← object m v
+  check dead.Kind (is_method o.kind)
+  or_die dead.Field (slice_get o.fields i)
+
+-- x into it; a header is replaced by one that counts as many literals
+unfoldable pub store_method_field : {H : Type 0} → ObjectMemory H → Value → ℕ → Value → Step H Unit
+store_method_field m v i x = do
+  o ← object m v
+  check dead.Kind (is_method o.kind)
+  check dead.Field (nat_lt i (length o.fields))
+  set_field m v i x
+
 -- The byte at this place, counted from 0 over header and literals too. There is none before the first bytecode.
 abbrev pub code_byte : Object → ℤ → Option ℕ
 code_byte o (pos i) = if nat_lt i (first_unit o) then None else if nat_lt 16381 i then None else slice_get o.units (i - first_unit o)

@@ -1,7 +1,7 @@
 use crate::oop::Oop;
 
 /// How the step that does a bytecode ended.
-#[derive(Clone, Copy, Debug, PartialEq, Eq)]
+#[derive(Clone, Copy)]
 pub enum StepEnd {
     /// The bytecode was done.
     Did(Outcome),
