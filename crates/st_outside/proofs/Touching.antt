@@ -96,31 +96,31 @@ module _ {D : Type 0} (host : Ghosts D) (name : List ℕ) where
   }
 
   -- a run that changes the file, seen as one that leaves its first bytes as they were
-  touches_wider : (R T : Option (List ℕ) → Option (List ℕ) → Type 0) (old new : D) → ((x y : Option (List ℕ)) → R x y → T x y)
+  touches_wider : (R T : Option (List ℕ) → Option (List ℕ) → Type 0) (old new : D) → (IsTrue host.is_told → (x y : Option (List ℕ)) → R x y → T x y)
       → Touches host R name old new → Touches host T name old new
   touches_wider R T old new holds run = record {
     disk = run.disk;
     say = run.say;
     others = run.others;
     quiet = run.quiet;
-    own = λ told c can. wider R T (host.may_leave old name) c holds (run.own told c can);
+    own = λ told c can. wider R T (host.may_leave old name) c (holds told) (run.own told c can);
     moments = λ told. weaker host old new (Touched host T name old) (Touched host R name old) (run.moments told)
-        (λ f s so. record { others = so.others; own = wider R T (host.may_leave old name) (f name) holds so.own; quiet = so.quiet });
+        (λ f s so. record { others = so.others; own = wider R T (host.may_leave old name) (f name) (holds told) so.own; quiet = so.quiet });
   }
 
-  pub write_above : (floor at n : ℕ) (old new : D) → floor ≤ at → floor ≤ length (bytes_of (host.files old name)) → Writes host name at n old new → WritesAbove host floor name old new
+  pub write_above : (floor at n : ℕ) (old new : D) → floor ≤ at → (IsTrue host.is_told → floor ≤ length (bytes_of (host.files old name))) → Writes host name at n old new → WritesAbove host floor name old new
   write_above floor at n old new low long writes = record {
-    run = touches_wider (TornByWrite (host.files old name) at n) (KeepsBelow floor) old new (λ x y torn. write_keeps floor at n (host.files old name) x y low long torn) writes.run;
+    run = touches_wider (TornByWrite (host.files old name) at n) (KeepsBelow floor) old new (λ told x y torn. write_keeps floor at n (host.files old name) x y low (long told) torn) writes.run;
   }
 
-  pub cut_above : (floor len : ℕ) (old new : D) → floor ≤ len → floor ≤ length (bytes_of (host.files old name)) → Cuts host name len old new → WritesAbove host floor name old new
+  pub cut_above : (floor len : ℕ) (old new : D) → floor ≤ len → (IsTrue host.is_told → floor ≤ length (bytes_of (host.files old name))) → Cuts host name len old new → WritesAbove host floor name old new
   cut_above floor len old new low long cuts = record {
-    run = touches_wider (TornByCut (host.files old name) len) (KeepsBelow floor) old new (λ x y torn. cut_keeps floor len (host.files old name) x y low long torn) cuts.run;
+    run = touches_wider (TornByCut (host.files old name) len) (KeepsBelow floor) old new (λ told x y torn. cut_keeps floor len (host.files old name) x y low (long told) torn) cuts.run;
   }
 
   pub sync_above : (floor : ℕ) (old new : D) → Syncs host name old new → WritesAbove host floor name old new
   sync_above floor old new syncs = record {
-    run = touches_wider (λ x y. x ≡ y) (KeepsBelow floor) old new (λ x y same. subst (KeepsBelow floor x) same (keeps_same floor x)) syncs.run;
+    run = touches_wider (λ x y. x ≡ y) (KeepsBelow floor) old new (λ told x y same. subst (KeepsBelow floor x) same (keeps_same floor x)) syncs.run;
   }
 
   -- many changes above a floor are one

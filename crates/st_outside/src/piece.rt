@@ -1,9 +1,10 @@
+// Writes a file from one place on, a piece of some hundred bytes at a time.
 ghost use Rattle.std.specs.Prelude.{◌≡◌, ◌+◌, ◌<◌, ◌≤◌, ◌^◌, ◌++◌, List, [], ℕ, length, IsTrue, IfOk, OnOk, Some};
 ghost use Rattle.st_outside.specs.Counts.{HasCause};
-ghost use Rattle.st_outside.specs.Runs.{WritesAbove, IsSynced};
-ghost use Rattle.st_pieces.specs.Pieces.{end_of, Holds, Pushes};
+ghost use Rattle.st_outside.specs.Runs.{IsSynced};
+ghost use Rattle.st_outside.specs.Pieces.{end_of, Holds, WritesFrom, Pushes};
 
-use st_outside::{Host, HostFault, cut_file, sync_file, write_bytes};
+use crate::{Host, HostFault, cut_file, sync_file, write_bytes};
 use std::marker::Model;
 
 /// Bytes that are still to be written to a file, at most 512, and the place in it at which they begin.
@@ -16,7 +17,7 @@ pub struct Piece {
 
 impl Model for Piece {
     ghost use Rattle.std.specs.Prelude.{◌≤◌, take};
-    ghost use Rattle.st_pieces.specs.Pieces.{Held};
+    ghost use Rattle.st_outside.specs.Pieces.{Held};
 
     ghost Value = { Held };
 
@@ -40,12 +41,12 @@ impl Piece {
         }
     }
 
-    /// Writes the bytes that are held back.
-    fn flush<H: Host>(&mut self, host: &mut H, name: &str) -> Result<(), HostFault>
+    /// Writes the bytes that are held back. The file is not synced.
+    pub fn flush<H: Host>(&mut self, host: &mut H, name: &str) -> Result<(), HostFault>
         requires { end_of self.old < 2 ^ 64 }
         ensures done { OnOk result (self.new ≡ record { at = end_of self.old; bytes = [] }) }
         ensures text { OnOk result (IsTrue H.is_told → (t : List ℕ) → Holds (H.files host.old name.now) self.old t → Holds (H.files host.new name.now) self.new t) }
-        ensures writes { WritesAbove H.Host.own 0 name.now host.old host.new }
+        ensures writes { WritesFrom H.Host.own self.old name.now host.old host.new }
         ensures cause { HasCause (H.disk_faults host.old) (H.disk_faults host.new) result }
     {
         write_bytes(host, name, self.at, &self.bytes[..self.used])?;
@@ -64,9 +65,10 @@ impl Piece {
         requires few { count ≤ 512 }
         requires end { end_of self.old < 2 ^ 64 }
         ensures room { OnOk result (length self.new.bytes + count ≤ 512) }
+        ensures on { OnOk result (self.old.at ≤ self.new.at) }
         ensures end { OnOk result (end_of self.new ≡ end_of self.old) }
         ensures text { OnOk result (IsTrue H.is_told → (t : List ℕ) → Holds (H.files host.old name.now) self.old t → Holds (H.files host.new name.now) self.new t) }
-        ensures writes { WritesAbove H.Host.own 0 name.now host.old host.new }
+        ensures writes { WritesFrom H.Host.own self.old name.now host.old host.new }
         ensures cause { HasCause (H.disk_faults host.old) (H.disk_faults host.new) result }
     {
         if self.used + count > Piece::MOST {
@@ -102,7 +104,7 @@ impl Piece {
         ensures length { IfOk result (λ l. l ≡ end_of self) }
         ensures file { OnOk result (IsTrue H.is_told → (t : List ℕ) → Holds (H.files host.old name.now) self t → H.files host.new name.now ≡ Some t) }
         ensures synced { OnOk result (IsSynced H.Host.own name.now host.new) }
-        ensures writes { WritesAbove H.Host.own 0 name.now host.old host.new }
+        ensures writes { WritesFrom H.Host.own self name.now host.old host.new }
         ensures cause { HasCause (H.disk_faults host.old) (H.disk_faults host.new) result }
     {
         let mut piece = self;

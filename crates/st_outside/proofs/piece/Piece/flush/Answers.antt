@@ -1,15 +1,15 @@
-use Rattle.std.proofs.Common.{◌≡◌, ℕ, ◌+◌, [], length, take, sym, subst, arith}
+use Rattle.std.proofs.Common.{◌≡◌, ℕ, ◌+◌, [], length, take, sym, subst, ap, arith}
 use Rattle.std.proofs.lemmas.List.{length-take-le}
-use Rattle.st_outside.proofs.Touching.{write_above}
-use Rattle.st_pieces.specs.Pieces.{Held, Holds}
-use Rattle.st_pieces.proofs.Texts.{flushed}
-use Rattle.st_pieces.proofs.piece.Piece.flush.Goals as goal
+use Rattle.st_outside.specs.Pieces.{Held, Holds}
+use Rattle.st_outside.proofs.Pushing.{written_from}
+use Rattle.st_outside.proofs.Texts.{flushed}
+use Rattle.st_outside.proofs.piece.Piece.flush.Goals as goal
 
 pub returns-in_err-write_bytes-clause-writes : goal.returns-in_err-write_bytes-clause-writes
-returns-in_err-write_bytes-clause-writes g c = write_above g.H.Host c.args.name.now 0 _ _ c.args.host.now c.write_bytes.new.host (omega arith) (omega arith) c.write_bytes.ensures.writes
+returns-in_err-write_bytes-clause-writes g c = written_from g.H.Host c.args.name.now _ c.args.self.now c.self.inside.at c.args.host.now c.write_bytes.new.host (ap (λ (p : Held). p.at) c.self.view_is) c.write_bytes.ensures.writes
 
 pub returns-clause-writes : goal.returns-clause-writes
-returns-clause-writes g c = write_above g.H.Host c.args.name.now 0 _ _ c.args.host.now c.write_bytes.new.host (omega arith) (omega arith) c.write_bytes.ensures.writes
+returns-clause-writes g c = written_from g.H.Host c.args.name.now _ c.args.self.now c.self.inside.at c.args.host.now c.write_bytes.new.host (ap (λ (p : Held). p.at) c.self.view_is) c.write_bytes.ensures.writes
 
 pub returns-clause-text : goal.returns-clause-text
 returns-clause-text g c told t holds =
