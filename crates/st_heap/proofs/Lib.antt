@@ -1,0 +1,3 @@
+mod Laying
+mod Moving
+mod Taking
