@@ -1,11 +1,11 @@
 -- A block that is new, over whole heaps.
-use Rattle.std.proofs.Common.{◌≡◌, ◌≢◌, ℕ, ◌+◌, ◌/◌, ◌<◌, ◌≤◌, List, Option, Some, None, length, get_or, set, refl, sym, ap, ◌∙◌, subst, arith}
+use Rattle.std.proofs.Common.{◌≡◌, ◌≢◌, ℕ, ◌+◌, ◌/◌, List, Option, Some, None, get_or, set, refl, sym, ap, ◌∙◌, subst, arith}
 use Rattle.st_model.specs.declared.oop.Oop.{Oop}
 use Rattle.st_table.specs.declared.entry.Entry.{Entry}
 use Rattle.st_table.specs.Entries.{IsFree}
 use Rattle.st_heap.specs.declared.block.Block.{Block}
 use Rattle.st_heap.specs.declared.heap.Heap.{Heap}
-use Rattle.st_heap.specs.Blocks.{none, block, block_at, taken, held, IsLaid, IsTied, KeepsBlocks, entry_at, moved_entry}
+use Rattle.st_heap.specs.Blocks.{block, held, IsTied, KeepsBlocks, entry_at, moved_entry}
 use Rattle.st_heap.specs.Heaps.{words_of, blocks_of, Keeps, Takes}
 use Rattle.st_heap.proofs.Laying.{taken_unowned, taken_owned, held_set, keeps_set, tied_taken}
 

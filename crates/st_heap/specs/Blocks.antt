@@ -2,6 +2,7 @@
 use Rattle.std.specs.Prelude.{◌≡◌, ◌≢◌, ◌<◌, ◌≤◌, ◌+◌, ◌*◌, ◌/◌, ◌%◌, ◌^◌, ℕ, List, [], ◌∷◌, Option, Some, None, length, slice_index, slice_index_or, slice_set, if◌then◌else◌, ◌==◌}
 use Rattle.st_model.specs.declared.oop.Oop.{Oop}
 use Rattle.st_table.specs.declared.entry.Entry.{Entry}
+use Rattle.st_table.specs.Entries.{place, entry_of}
 use Rattle.st_heap.specs.declared.block.Block.{Block}
 
 abbrev pub none : Block
@@ -72,6 +73,20 @@ pub record IsTied (entries : List (Option Entry)) (blocks : List Block) : Type 0
   pub placed : (k : ℕ) (e : Entry) → slice_index_or entries k None ≡ Some e → ((block_at blocks e.at).owner.0 ≡ 2 * k) × ((block_at blocks e.at).at ≡ e.at)
   pub even : (k : ℕ) → (block blocks k).owner.0 ≢ 0 → (block blocks k).owner.0 % 2 ≡ 0
   pub entered : (k : ℕ) → (block blocks k).owner.0 ≢ 0 → (e : Entry) × (slice_index_or entries ((block blocks k).owner.0 / 2) None ≡ Some e) × (e.at ≡ (block blocks k).at)
+
+-- the entries after two pointers exchanged the places in theirs
+abbrev pub exchanged_entries : List (Option Entry) → Oop → Oop → List (Option Entry)
+exchanged_entries entries a b =
+    let at_a = entry_at (entry_of entries a) in
+    let at_b = entry_at (entry_of entries b) in
+    slice_set (slice_set entries (place a) (moved_entry (entry_of entries a) at_b)) (place b) (moved_entry (entry_of entries b) at_a)
+
+-- the blocks after two pointers exchanged theirs
+abbrev pub exchanged_blocks : List Block → List (Option Entry) → Oop → Oop → List Block
+exchanged_blocks blocks entries a b =
+    let at_a = entry_at (entry_of entries a) in
+    let at_b = entry_at (entry_of entries b) in
+    slice_set (slice_set blocks (at_a / 2) (owned_by b (block_at blocks at_a))) (at_b / 2) (owned_by a (block_at blocks at_b))
 
 -- before place k of the list all ends at a place of the heap
 abbrev pub IsClosedBelow : List Block → ℕ → ℕ → Type 0

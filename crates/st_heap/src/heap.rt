@@ -1,7 +1,7 @@
 ghost use Rattle.std.specs.Prelude.{◌≡◌, ◌≢◌, ℕ, ◌+◌, ◌<◌, ◌≤◌, ◌/◌, ◌↔◌, Some, None, length, drop, replicate, slice_index, slice_set, IfOk, IfSome, IfNone, IsTrue};
 ghost use Rattle.st_table.specs.declared.entry.Entry.{Entry as Kept};
 ghost use Rattle.st_table.specs.Entries.{place, HasEntry, IsFree};
-ghost use Rattle.st_heap.specs.Blocks.{none, block, block_at, held, holds_place, IsLaid, IsTied, IsClosedBelow, IsAbove, IsBlock, owned_by, moved};
+ghost use Rattle.st_heap.specs.Blocks.{none, block, block_at, held, holds_place, IsLaid, IsTied, IsClosedBelow, IsAbove, IsBlock, owned_by, moved, exchanged_blocks, exchanged_entries};
 
 use crate::block::Block;
 use crate::holes::Holes;
@@ -120,6 +120,37 @@ impl Heap {
         }
         self.end = to;
         self.holes.clear();
+    }
+
+    /// Exchanges the owners of the blocks of two pointers, and the places in their entries.
+    pub fn exchange(&mut self, t: &mut Table, a: Oop, b: Oop)
+        requires first { HasEntry t.old a }
+        requires second { HasEntry t.old b }
+        requires tied { IsTied t.old (blocks_of self.old) }
+        ensures words { words_of self.new ≡ words_of self.old }
+        ensures blocks { blocks_of self.new ≡ exchanged_blocks (blocks_of self.old) t.old a b }
+        ensures entries { t.new ≡ exchanged_entries t.old a b }
+        ensures tied { IsTied t.new (blocks_of self.new) }
+    {
+        let (first, second) = (t.entry(a), t.entry(b));
+        let (i, j) = (first.at as usize / 2, second.at as usize / 2);
+        let (block, other) = (read_block(&self.blocks, i), read_block(&self.blocks, j));
+        self.blocks[i] = Block { owner: b, ..block };
+        self.blocks[j] = Block { owner: a, ..other };
+        t.set_entry(
+            a,
+            Entry {
+                at: second.at,
+                ..first
+            },
+        );
+        t.set_entry(
+            b,
+            Entry {
+                at: first.at,
+                ..second
+            },
+        );
     }
 
     /// Closes up where fewer than n words lie beyond all blocks.

@@ -1,9 +1,8 @@
-use Rattle.std.proofs.Common.{◌≡◌, ◌≢◌, ◌+◌, ◌/◌, ◌<◌, ◌≤◌, ℕ, List, length, set, drop, sym, ap, ◌∙◌, subst, arith}
+use Rattle.std.proofs.Common.{◌≡◌, ◌≢◌, ◌+◌, List, sym, ap, ◌∙◌, subst, arith}
 use Rattle.st_heap.specs.declared.block.Block.{Block}
-use Rattle.st_heap.specs.Blocks.{none, block, moved, taken, held, IsLaid, IsClosedBelow, IsAbove}
-use Rattle.st_heap.specs.Heaps.{blocks_of}
-use Rattle.st_heap.proofs.Laying.{by_set, laid_set, none_fits, held_set, taken_unowned, taken_owned, tied_forget}
-use Rattle.st_heap.proofs.Moving.{closed_moved, above_moved, drop_moved}
+use Rattle.st_heap.specs.Blocks.{none, block, moved, IsClosedBelow, IsAbove}
+use Rattle.st_heap.proofs.Laying.{laid_set, none_fits, held_set, taken_unowned, tied_forget}
+use Rattle.st_heap.proofs.Moving.{closed_moved, above_moved}
 use Rattle.st_heap.proofs.heap.Heap.close.Goals as goal
 
 pub invariant_of-self : goal.invariant_of-self

@@ -1,6 +1,6 @@
-use Rattle.std.proofs.Common.{◌≡◌, ◌+◌, ◌/◌, ◌<◌, ◌≤◌, ◌^◌, ℕ, List, length, set, sym, ap, ◌∙◌, refl, subst, arith}
+use Rattle.std.proofs.Common.{◌+◌, ◌/◌, ◌<◌, length, set, sym, refl, subst, arith}
 use Rattle.st_heap.specs.declared.block.Block.{Block}
-use Rattle.st_heap.specs.Blocks.{block, taken, held, IsLaid}
+use Rattle.st_heap.specs.Blocks.{block, IsLaid}
 use Rattle.st_heap.proofs.Laying.{taken_owned, taken_unowned, held_above, laid_owner, owned_inside}
 use Rattle.st_heap.proofs.heap.Heap.give.Goals as goal
 
@@ -26,5 +26,7 @@ invariant_of-self c =
     let long = c.requires.long in
     let gone = taken_unowned (record { owner = record { 0 = 0 }; at = (block self.blocks.items k).at; len = (block self.blocks.items k).len }) refl in
     let P : Block → Type 0 = λ b. IsLaid self.words (set self.blocks.items k (record { owner = record { 0 = 0 }; at = b.at; len = b.len })) self.end (self.free + c.args.n) in
-    record { laid = subst P (sym c.read_block-block.ensures)
-    (laid_owner self.words self.blocks.items self.end self.free k (record { 0 = 0 }) (self.free + c.args.n) laid within (laid.owned k c.requires.owned) (omega (arith, mine, long, gone))) }
+    record {
+      laid = subst P (sym c.read_block-block.ensures)
+          (laid_owner self.words self.blocks.items self.end self.free k (record { 0 = 0 }) (self.free + c.args.n) laid within (laid.owned k c.requires.owned) (omega (arith, mine, long, gone)));
+    }

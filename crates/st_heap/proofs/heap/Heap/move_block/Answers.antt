@@ -1,10 +1,10 @@
-use Rattle.std.proofs.Common.{◌≡◌, ◌/◌, ◌<◌, ℕ, List, Option, Some, None, length, get_or, set, sym, ap, ◌∙◌, subst, arith}
+use Rattle.std.proofs.Common.{◌≡◌, ◌/◌, ℕ, List, Option, Some, None, get_or, set, sym, ap, ◌∙◌, subst}
 use Rattle.st_cells.specs.Words.{slid}
 use Rattle.st_heap.specs.declared.block.Block.{Block}
 use Rattle.st_table.specs.declared.entry.Entry.{Entry}
 use Rattle.st_heap.specs.Blocks.{none, block, placed_at, IsLaid, IsTied, KeepsBlocks}
 use Rattle.st_heap.proofs.Laying.{laid_words}
-use Rattle.st_heap.proofs.Moving.{laid_moved, tied_moved, keeps_moved, moved_held}
+use Rattle.st_heap.proofs.Moving.{laid_moved, tied_moved, keeps_moved}
 use Rattle.st_heap.proofs.heap.Heap.move_block.Goals as goal
 
 pub invariant_of-self : goal.invariant_of-self
@@ -15,7 +15,7 @@ invariant_of-self c =
     let P : Block → Type 0 = λ b. IsLaid c.slide_down.new.self (set (set bs c.args.k none) (c.args.to / 2) (placed_at c.args.to b)) self.end self.free in
     record {
       laid = subst P (sym c.read_block-block.ensures)
-          (laid_words self.words c.slide_down.new.self _ self.end self.free c.slide_down.ensures.length (laid_moved self.words bs self.end self.free c.args.k c.args.to self.laid r.within r.owned r.down r.closed))
+          (laid_words self.words c.slide_down.new.self _ self.end self.free c.slide_down.ensures.length (laid_moved self.words bs self.end self.free c.args.k c.args.to self.laid r.within r.owned r.down r.closed));
     }
 
 pub returns-clause-tied : goal.returns-clause-tied

@@ -1,6 +1,6 @@
-use Rattle.std.proofs.Common.{◌≡◌, ◌+◌, ◌-◌, ◌/◌, ◌<◌, ◌≤◌, ℕ, List, length, set, sym, refl, ap, ◌∙◌, subst, arith}
+use Rattle.std.proofs.Common.{◌≡◌, ◌-◌, ◌/◌, ◌<◌, length, set, sym, refl, ap, ◌∙◌, subst, arith}
 use Rattle.st_heap.specs.declared.block.Block.{Block}
-use Rattle.st_heap.specs.Blocks.{block, taken, held, IsLaid}
+use Rattle.st_heap.specs.Blocks.{block, IsLaid}
 use Rattle.st_heap.proofs.Laying.{taken_owned, taken_unowned, laid_owner}
 use Rattle.st_heap.proofs.Taking.{reused}
 use Rattle.st_heap.proofs.heap.Heap.reuse.Goals as goal
