@@ -1,6 +1,7 @@
 -- How a call of the program ends: its status, and what it says and does.
-use Rattle.std.specs.Prelude.{◌≡◌, ℕ, ◌<◌, ◌≤◌, ◌^◌, List, [], ◌∷◌, length, ◌++◌, codes, IsTrue, ⊤}
+use Rattle.std.specs.Prelude.{◌≡◌, ℕ, ◌<◌, ◌≤◌, ◌^◌, List, [], ◌∷◌, length, ◌++◌, codes, IsTrue, ⊤, Some, None}
 use Rattle.st_outside.specs.Counts.{Rose}
+use Rattle.st_outside.specs.Files.{bytes_of}
 use Rattle.st_outside.specs.Stops.{SaidPart}
 use Rattle.st_outside.specs.declared.host.Host.{Ghosts}
 use Rattle.st_model.specs.declared.fault.ImageFault.{ImageFault}
@@ -14,11 +15,13 @@ use Rattle.st_model.specs.Show.{raised}
 use Rattle.st_model.specs.Text.{numbers_text, ran_text, dead_text, unbuilt_text, space_text, quit_text, debugger_text, state_text, run_text}
 use Rattle.st_machine.specs.declared.ending.RunEnd.{RunEnd}
 use Rattle.st_machine.specs.declared.ending.RunEnd.TheVariants as end
+use Rattle.st_once.specs.Words.{once_of, word}
 use Rattle.st_once.specs.declared.refusal.Refusal.{Refusal}
 use Rattle.st_once.specs.declared.refusal.Refusal.TheVariants as refusal
 use Rattle.st_once.specs.declared.status.Status.{Status}
 use Rattle.st_once.specs.declared.status.Status.TheVariants.{Done, Usage, Image, SayFault, DiskFault, TooLarge, OutOfMemory}
 
+-- the exit status
 abbrev pub number_of : Status → ℕ
 number_of Done = 0
 number_of Usage = 1
@@ -106,6 +109,10 @@ rest_text (end.Debugger done) s = state_text s
 rest_text (end.Dead done cause) s = []
 rest_text (end.Unbuilt done code) s = state_text s
 
+-- all that is said of a run's end
+abbrev pub ending_text : ℕ → RunEnd → State Table → List ℕ
+ending_text n e s = end_text n e ++ rest_text e s
+
 module _ {D : Type 0} (host : Ghosts D) where
   -- Nothing but the last line was said. It may be cut or missing only where the count of say faults rose, or stands at
   -- the last value that it has. Of a host that doesn't tell what was said nothing is claimed.
@@ -141,3 +148,9 @@ module _ {D : Type 0} (host : Ghosts D) where
   RefusalHasCause old new refusal.TooLarge = Unit {0}
   RefusalHasCause old new refusal.DiskFault = Rose (host.disk_faults old) (host.disk_faults new)
   RefusalHasCause old new refusal.OutOfMemory = Unit {0}
+
+  -- How a call of the program with these words ends, over the bytes of the image that they name.
+  pub record CallEnds (words : List (List ℕ)) (old new : D) (status : Status) : Type 0 where
+    pub usage : once_of words ≡ None → (status ≡ Usage) × SaysLastLine Usage old new
+    pub once : (n : ℕ) → once_of words ≡ Some n → OnceEnds (bytes_of (host.files old (word words 1))) n old new status
+    pub cause : StatusHasCause old new status
