@@ -22,15 +22,11 @@ pub fn tool<H: Host, S: Source>(
     host: &mut H,
     _script: &mut S,
 ) -> Status
-    ensures usage {
-        once_of (map string_bytes words.now) ≡ None →
-            (result ≡ Usage) × SaysLastLine H.Host.own Usage host.old host.new
-    }
-    ensures once {
-        let texts = map string_bytes words.now in
+    ensures usage { once_of (map string_bytes words.now) ≡ None →
+        (result ≡ Usage) × SaysLastLine H.Host.own Usage host.old host.new }
+    ensures once { let texts = map string_bytes words.now in
         (n : ℕ) → once_of texts ≡ Some n →
-            OnceEnds H.Host.own (bytes_of (H.files host.old (word texts 1))) n host.old host.new result
-    }
+        OnceEnds H.Host.own (bytes_of (H.files host.old (word texts 1))) n host.old host.new result }
     ensures cause { StatusHasCause H.Host.own host.old host.new result }
     ensures reads { (text : List ℕ) × ReadsAndSays H.Host.own text host.old host.new }
     ensures script { _script.new ≡ _script.old }
@@ -51,11 +47,9 @@ pub fn exit_code<H: Host, S: Source>(
     host: &mut H,
     script: &mut S,
 ) -> ExitCode
-    ensures {
-        let texts = map string_bytes words.now in
+    ensures { let texts = map string_bytes words.now in
         (status : Status) × (exit_status result ≡ number_of status)
-            × CallEnds H.Host.own texts host.old host.new status
-    }
+        × CallEnds H.Host.own texts host.old host.new status }
 {
     ExitCode::from(tool(alloc, words, host, script).number())
 }

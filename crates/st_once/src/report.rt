@@ -66,7 +66,7 @@ fn push_run<H: Host, M: Memory>(
     }
 }
 
-/// Says a run's end, and what the machine shows where it isn't dead, in pieces of 512 bytes.
+/// Says a run's end, and what the machine shows where it isn't dead.
 pub fn say_run<H: Host, M: Memory>(
     host: &mut H,
     m: &M,

@@ -1,5 +1,5 @@
-//! The lines of a report: registers, input state, what is held, what is used, and objects. They are
-//! collected in an output and said in pieces of 512 bytes, which takes no memory.
+//! The lines of a report: registers, input state, what is held, what is used, and objects. They are added to an
+//! `Output`, from which they are said.
 #![tactic(auto)]
 
 mod lines;

@@ -101,7 +101,6 @@ fn next_sharing(spans: &[Span], i: usize) -> Option<usize>
 }
 
 /// The first two spans that share a word: the least place of a first one, and then the least of a second one.
-/// Takes time linear in the words and the spans that lie apart.
 pub fn first_shared(
     alloc: Global,
     spans: &[Span],
