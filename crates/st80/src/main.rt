@@ -1,11 +1,12 @@
-//! The program: `st80 once IMAGE N` reads an image file, runs N cycles of its machine, and says what it shows then.
+//! The program: `st80 once IMAGE N` reads an image file, runs N cycles of its machine, and says what it
+//! shows then.
 #![tactic(auto)]
 
 #[cfg(test)]
 mod tests;
 mod tool;
 
-use crate::tool::tool;
+use crate::tool::exit_code;
 use st_host::{DirHost, StdinSource};
 use std::io;
 use std::process::ExitCode;
@@ -18,6 +19,5 @@ fn main(rt: HostRuntime) -> io::Result<ExitCode> {
     }
     let mut script = StdinSource::new(&rt);
     let mut host = DirHost::new(rt);
-    let status = tool(alloc, words.as_slice(), &mut host, &mut script);
-    Ok(ExitCode::from(status.number()))
+    Ok(exit_code(alloc, words.as_slice(), &mut host, &mut script))
 }

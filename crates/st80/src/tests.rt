@@ -49,37 +49,6 @@ const SENDING_TABLE: [u16; 74] = [
     41, 64, 43, 32, 0, 64, 45, 64, 47, 64, 51, 64, 57, 128, 77, 128, 84, 64, 87, 64, 92, 128, 95,
 ];
 
-/// The byte of the file at which the method's bytecodes begin.
-const BYTECODES: usize = 662;
-
-/// The lines from the input state to the last process, which no run of these tests changes.
-const UNCHANGED: &str = "input 0 0 0 0 0 0
-held @2 @2 @2 @2 @2
-used 24 78
-object 2 @12 p
-object 4 @12 p
-object 6 @12 p
-object 8 @12 p @2 @58
-object 12 @12 p
-object 14 @12 p
-object 16 @12 p
-object 22 @12 p
-object 24 @12 p
-object 26 @12 p
-object 28 @12 p
-object 32 @12 p
-object 34 @12 p
-object 40 @12 p
-object 42 @12 p
-object 44 @12 p
-object 48 @12 p
-object 50 @12 p
-object 52 @12 p
-object 56 @12 p
-object 58 @12 p @2 @60
-object 60 @12 p @2 @62 4 @2
-";
-
 fn push_words(bytes: &mut Vec<u8>, words: &[u16]) -> Result<(), AllocError> {
     for word in words {
         bytes.push((*word >> 8) as u8)?;
@@ -118,18 +87,24 @@ fn image_of(alloc: Global, entries: u16, parts: &Parts<'_>) -> Result<Vec<u8>, A
     Ok(bytes)
 }
 
-/// Image B with these bytecodes in front of those of its method.
-fn image(alloc: Global, bytecodes: &[u8]) -> Result<Vec<u8>, AllocError> {
+/// Image B.
+fn image(alloc: Global) -> Result<Vec<u8>, AllocError> {
     let parts = Parts {
         objects: &OBJECTS,
         objects_length: 78,
         table: &TABLE,
         table_length: 66,
     };
-    let mut bytes = image_of(alloc, 32767, &parts)?;
-    for (i, code) in bytecodes.iter().enumerate() {
-        if let Some(byte) = bytes.get_mut(BYTECODES + i) {
-            *byte = *code;
+    image_of(alloc, 32767, &parts)
+}
+
+/// Image B with words put at bytes.
+fn changed(alloc: Global, changes: &[(usize, u16)]) -> Result<Vec<u8>, AllocError> {
+    let mut bytes = image(alloc)?;
+    for (at, word) in changes {
+        if *at < bytes.len() && bytes.len() - *at > 1 {
+            bytes[*at] = (*word >> 8) as u8;
+            bytes[*at + 1] = (*word & 255) as u8;
         }
     }
     Ok(bytes)
@@ -143,357 +118,131 @@ fn host_with(alloc: Global, bytes: &[u8]) -> Result<MemHost, AllocError> {
     Ok(host)
 }
 
-/// Calls the program with these words, and checks its status and what it says.
-fn check(
+/// Calls the program with these words, and checks its status.
+fn check_status(
     rt: &(impl Abort + AllocGlobal),
     host: &mut MemHost,
     words: &[&str],
     status: Status,
-    wanted: &[&str],
 ) -> Result<(), Fail> {
     let alloc = rt.alloc();
     let mut given = Vec::new(alloc);
     for word in words {
         given.push(String::from_str(alloc, *word)?)?;
     }
-    let mut text = Vec::new(alloc);
-    for part in wanted {
-        text.extend_from_slice(part.as_bytes())?;
-    }
     let mut script = MemSource::new(alloc, b"", 1, &[])?;
     let ended = tool(alloc, given.as_slice(), host, &mut script);
     assert_eq!(rt; ended, status);
-    assert_eq!(rt; host.said(), text.as_slice());
     Ok(())
 }
 
-#[test]
-fn four_cycles_push_and_jump_back(rt: HostRuntime) -> Result<(), Fail> {
-    let mut host = host_with(rt.alloc(), &image(rt.alloc(), &[])?)?;
-    let wanted = [
-        "ran 4\nregisters @62 @62 @64 @2 3 2\n",
-        UNCHANGED,
-        "object 62 @22 p @2 3 1 @64 @2 @2 2 1 2 @2 @2 @2 @2 @2 @2 @2 @2 @2\n",
-        "object 64 @34 m 128 : 118 119 104 163 251\n",
-    ];
-    check(&rt, &mut host, &["once", "B", "4"], Status::Done, &wanted)
-}
+/// Words put at bytes of image B, the words of the program, its status, and all that it says.
+type Row<'a> = (&'a [(usize, u16)], &'a [&'a str], Status, &'a str);
 
-#[test]
-fn no_cycle_leaves_the_image(rt: HostRuntime) -> Result<(), Fail> {
-    let mut host = host_with(rt.alloc(), &image(rt.alloc(), &[])?)?;
-    let wanted = [
-        "ran 0\nregisters @62 @62 @64 @2 3 1\n",
-        UNCHANGED,
-        "object 62 @22 p @2 3 1 @64 @2 @2 @2 @2 @2 @2 @2 @2 @2 @2 @2 @2 @2 @2\n",
-        "object 64 @34 m 128 : 118 119 104 163 251\n",
-    ];
-    let words = ["once", "B", "0000000000"];
-    check(&rt, &mut host, &words, Status::Done, &wanted)
-}
-
-#[test]
-fn a_primitive_is_not_built(rt: HostRuntime) -> Result<(), Fail> {
-    let mut host = host_with(rt.alloc(), &image(rt.alloc(), &[198])?)?;
-    let wanted = [
-        "unbuilt 0 198\nregisters @62 @62 @64 @2 3 1\n",
-        UNCHANGED,
-        "object 62 @22 p @2 3 1 @64 @2 @2 @2 @2 @2 @2 @2 @2 @2 @2 @2 @2 @2 @2\n",
-        "object 64 @34 m 128 : 198 119 104 163 251\n",
-    ];
-    check(&rt, &mut host, &["once", "B", "4"], Status::Done, &wanted)
-}
-
-/// The lines of an input state and of devices that hold nothing.
-const EMPTY_WORLD: &str = "input 0 0 0 0 0 0\nheld @2 @2 @2 @2 @2\n";
-
-/// The lines of the sending image's objects that no run changes.
-const FIRST_OBJECTS: &str = "object 2 @12 p
-object 4 @12 p
-object 6 @12 p
-object 8 @12 p @2 @58
-";
-
-const LATER_OBJECTS: &str = "object 22 @12 p
-object 24 @12 p
-object 26 @12 p
-object 28 @12 p
-object 32 @12 p
-object 34 @12 p
-object 40 @12 p
-object 42 @12 p
-object 44 @12 p
-object 48 @12 p @66 1
-object 50 @12 p
-object 52 @12 p
-object 56 @12 p
-object 58 @12 p @2 @60
-object 60 @12 p @2 @62 4 @2
-";
-
-/// The sending image, with so many entries and this selector in its dictionary.
-fn sending_image(alloc: Global, entries: u16, selector: u16) -> Result<Vec<u8>, AllocError> {
-    let mut objects = SENDING_OBJECTS;
-    objects[SELECTOR] = selector;
-    let parts = Parts {
-        objects: &objects,
-        objects_length: 99,
-        table: &SENDING_TABLE,
-        table_length: 74,
-    };
-    image_of(alloc, entries, &parts)
-}
-
-#[test]
-fn a_message_is_sent_and_answered(rt: HostRuntime) -> Result<(), Fail> {
-    let alloc = rt.alloc();
-    let found = sending_image(alloc, 32767, 66)?;
-    let sent = [
-        "ran 3\nregisters @10 @10 @72 16383 3 1\n",
-        EMPTY_WORLD,
-        "used 29 119\n",
-        FIRST_OBJECTS,
-        "object 10 @22 p @62 3 1 @72 @2 16383 1 @2 @2 @2 @2 @2 @2 @2 @2 @2 @2 @2\nobject 12 @12 p @2 @68 0\nobject 14 @12 p\nobject 16 @12 p\n",
-        LATER_OBJECTS,
-        "object 62 @22 p @2 10 0 @64 @2 @2 16383 1 @2 @2 @2 @2 @2 @2 @2 @2 @2 @2\nobject 64 @34 m 2 16383 @66 : 32 118 225\nobject 66 @56 b 43\nobject 68 @12 p 1 @70 @66\nobject 70 @16 p @72\nobject 72 @34 m 4224 : 120\n",
-    ];
-    check(
-        &rt,
-        &mut host_with(alloc, &found)?,
-        &["once", "B", "3"],
-        Status::Done,
-        &sent,
-    )?;
-    let returned = [
-        "ran 4\nregisters @62 @62 @64 @2 10 1\n",
-        EMPTY_WORLD,
-        "used 28 99\n",
-        FIRST_OBJECTS,
-        "object 12 @12 p @2 @68 0\nobject 14 @12 p\nobject 16 @12 p\n",
-        LATER_OBJECTS,
-        "object 62 @22 p @2 10 0 @64 @2 @2 16383 1 @2 @2 @2 @2 @2 @2 @2 @2 @2 @2\nobject 64 @34 m 2 16383 @66 : 32 118 225\nobject 66 @56 b 43\nobject 68 @12 p 1 @70 @66\nobject 70 @16 p @72\nobject 72 @34 m 4224 : 120\n",
-    ];
-    check(
-        &rt,
-        &mut host_with(alloc, &found)?,
-        &["once", "B", "4"],
-        Status::Done,
-        &returned,
-    )
-}
-
-#[test]
-fn a_message_is_not_understood(rt: HostRuntime) -> Result<(), Fail> {
-    let alloc = rt.alloc();
-    let unknown = [
-        "ran 3\nregisters @20 @20 @72 16383 3 1\n",
-        EMPTY_WORLD,
-        "used 31 126\n",
-        FIRST_OBJECTS,
-        "object 10 @16 p 1\nobject 12 @12 p @2 @68 0\nobject 14 @12 p\nobject 16 @12 p\nobject 18 @32 p @66 @10\nobject 20 @22 p @62 3 1 @72 @2 16383 @18 @2 @2 @2 @2 @2 @2 @2 @2 @2 @2 @2\n",
-        LATER_OBJECTS,
-        "object 62 @22 p @2 10 0 @64 @2 @2 16383 @18 @2 @2 @2 @2 @2 @2 @2 @2 @2 @2\nobject 64 @34 m 2 16383 @66 : 32 118 225\nobject 66 @56 b 43\nobject 68 @12 p 1 @70 @42\nobject 70 @16 p @72\nobject 72 @34 m 4224 : 120\n",
-    ];
-    let image = sending_image(alloc, 32767, 42)?;
-    check(
-        &rt,
-        &mut host_with(alloc, &image)?,
-        &["once", "B", "3"],
-        Status::Done,
-        &unknown,
-    )?;
-    let space = [
-        "space 2 3 27 2 1048477\nregisters @62 @62 @64 @2 9 2\n",
-        EMPTY_WORLD,
-        "used 28 99\n",
-        FIRST_OBJECTS,
-        "object 12 @12 p @2 @68 0\nobject 14 @12 p\nobject 16 @12 p\n",
-        LATER_OBJECTS,
-        "object 62 @22 p @2 7 0 @64 @2 @2 16383 1 @2 @2 @2 @2 @2 @2 @2 @2 @2 @2\nobject 64 @34 m 2 16383 @66 : 32 118 225\nobject 66 @56 b 43\nobject 68 @12 p 1 @70 @42\nobject 70 @16 p @72\nobject 72 @34 m 4224 : 120\n",
-    ];
-    let image = sending_image(alloc, 30, 42)?;
-    check(
-        &rt,
-        &mut host_with(alloc, &image)?,
-        &["once", "B", "3"],
-        Status::Done,
-        &space,
-    )
-}
-
-#[test]
-fn a_death_is_the_only_line(rt: HostRuntime) -> Result<(), Fail> {
-    let mut host = host_with(rt.alloc(), &image(rt.alloc(), &[126])?)?;
-    check(
-        &rt,
-        &mut host,
-        &["once", "B", "3"],
-        Status::Done,
-        &["dead 0 7\n"],
-    )?;
-    let mut other = host_with(rt.alloc(), &image(rt.alloc(), &[135, 135])?)?;
-    check(
-        &rt,
-        &mut other,
-        &["once", "B", "2"],
-        Status::Done,
-        &["dead 1 6\n"],
-    )
+fn check_rows(rt: &(impl Abort + AllocGlobal), rows: &[Row<'_>]) -> Result<(), Fail> {
+    for (changes, words, status, wanted) in rows {
+        let bytes = changed(rt.alloc(), changes)?;
+        let mut host = host_with(rt.alloc(), &bytes)?;
+        check_status(rt, &mut host, words, *status)?;
+        assert_eq!(rt; host.said(), wanted.as_bytes());
+    }
+    Ok(())
 }
 
 #[test]
 fn other_words_are_refused(rt: HostRuntime) -> Result<(), Fail> {
-    let lists: [&[&str]; 12] = [
-        &[],
-        &["once"],
-        &["once", "B"],
-        &["once", "", "4"],
-        &["once", "-B", "4"],
-        &["once", "B", ""],
-        &["once", "B", "-4"],
-        &["once", "B", "1000000001"],
-        &["once", "B", "00000000004"],
-        &["once", "B", "4", "4"],
-        &["once", "--", "B", "4"],
-        &["Once", "B", "4"],
+    let rows: [Row<'_>; 5] = [
+        (&[], &[], Status::Usage, "usage\n"),
+        (&[], &["once", "B"], Status::Usage, "usage\n"),
+        (&[], &["once", "", "4"], Status::Usage, "usage\n"),
+        (&[], &["once", "B", ""], Status::Usage, "usage\n"),
+        (&[], &["once", "B", "4", "4"], Status::Usage, "usage\n"),
     ];
-    for words in lists {
-        let mut host = host_with(rt.alloc(), &image(rt.alloc(), &[])?)?;
-        check(&rt, &mut host, words, Status::Usage, &["usage\n"])?;
-    }
-    Ok(())
-}
-
-/// Image B with words put at bytes.
-fn changed(alloc: Global, changes: &[(usize, u16)]) -> Result<Vec<u8>, AllocError> {
-    let mut bytes = image(alloc, &[])?;
-    for (at, word) in changes {
-        if *at < bytes.len() && bytes.len() - *at > 1 {
-            bytes[*at] = (*word >> 8) as u8;
-            bytes[*at + 1] = (*word & 255) as u8;
-        }
-    }
-    Ok(bytes)
-}
-
-/// Checks that bytes as the image are refused with this fault and this last line.
-fn check_fault(
-    rt: &(impl Abort + AllocGlobal),
-    bytes: &[u8],
-    fault: ImageFault,
-    line: &str,
-) -> Result<(), Fail> {
-    let mut host = host_with(rt.alloc(), bytes)?;
-    check(
-        rt,
-        &mut host,
-        &["once", "B", "4"],
-        Status::Image(fault),
-        &[line],
-    )
+    check_rows(&rt, &rows)
 }
 
 #[test]
-fn a_short_or_absent_image_is_refused(rt: HostRuntime) -> Result<(), Fail> {
-    let alloc = rt.alloc();
-    let whole = image(alloc, &[])?;
-    let mut absent = host_with(alloc, &whole)?;
-    check(
-        &rt,
-        &mut absent,
-        &["once", "-", "4"],
-        Status::Image(ImageFault::Short),
-        &["image 1\n"],
-    )?;
-    for length in [0, 511, 1155] {
-        let first = whole.as_slice().get(..length).unwrap_or(&[]);
-        check_fault(&rt, first, ImageFault::Short, "image 1\n")?;
-    }
-    Ok(())
-}
-
-#[test]
-fn each_fault_has_its_last_line(rt: HostRuntime) -> Result<(), Fail> {
-    let rows: [(&[(usize, u16)], ImageFault, &str); 9] = [
-        (&[(14, 3)], ImageFault::Lengths, "image 2\n"),
-        (&[(18, 23)], ImageFault::Capacity, "image 3\n"),
-        (&[(656, 7)], ImageFault::Size(64), "image 4 64\n"),
+fn images_die_or_are_refused(rt: HostRuntime) -> Result<(), Fail> {
+    let once: &[&str] = &["once", "B", "4"];
+    let rows: [Row<'_>; 11] = [
+        (&[(662, 0x7e77)], once, Status::Done, "dead 0 7\n"),
+        (&[(662, 0x8787)], once, Status::Done, "dead 1 6\n"),
         (
-            &[(1130, 32), (1138, 32)],
-            ImageFault::Overlap(44, 52),
-            "image 5 44 52\n",
+            &[(14, 3)],
+            once,
+            Status::Image(ImageFault::Lengths),
+            "image 2\n",
         ),
-        (&[(514, 13)], ImageFault::Class(2), "image 6 2\n"),
-        (&[(632, 9998)], ImageFault::Field(62, 6), "image 7 62 6\n"),
-        (&[(660, 0)], ImageFault::Method(64), "image 8 64\n"),
         (
-            &[(1112, 32), (1114, 0)],
-            ImageFault::Root(44),
+            &[(18, 23)],
+            once,
+            Status::Image(ImageFault::Capacity),
+            "image 3\n",
+        ),
+        (
+            &[(656, 7)],
+            once,
+            Status::Image(ImageFault::Size(64)),
+            "image 4 64\n",
+        ),
+        (
+            &[(1030, 2)],
+            once,
+            Status::Image(ImageFault::Overlap(2, 4)),
+            "image 5 2 4\n",
+        ),
+        (
+            &[(514, 13)],
+            once,
+            Status::Image(ImageFault::Class(2)),
+            "image 6 2\n",
+        ),
+        (
+            &[(632, 9998)],
+            once,
+            Status::Image(ImageFault::Field(62, 6)),
+            "image 7 62 6\n",
+        ),
+        (
+            &[(660, 0)],
+            once,
+            Status::Image(ImageFault::Method(64)),
+            "image 8 64\n",
+        ),
+        (
+            &[(1112, 32)],
+            once,
+            Status::Image(ImageFault::Root(44)),
             "image 9 44\n",
         ),
-        (&[(602, 3)], ImageFault::Scheduler, "image 10\n"),
+        (
+            &[(602, 3)],
+            once,
+            Status::Image(ImageFault::Scheduler),
+            "image 10\n",
+        ),
     ];
-    for (changes, fault, line) in rows {
-        let bytes = changed(rt.alloc(), changes)?;
-        check_fault(&rt, &bytes, fault, line)?;
-    }
-    Ok(())
+    check_rows(&rt, &rows)
 }
 
-#[test]
-fn an_image_past_the_greatest_length_is_too_large(rt: HostRuntime) -> Result<(), Fail> {
-    let mut long = image(rt.alloc(), &[])?;
-    long.resize(8_388_609, 0)?;
-    let mut host = host_with(rt.alloc(), &long)?;
-    check(
-        &rt,
-        &mut host,
-        &["once", "B", "4"],
-        Status::TooLarge,
-        &["too large\n"],
-    )
-}
-
-#[test]
-fn an_image_of_the_greatest_length_is_read(rt: HostRuntime) -> Result<(), Fail> {
-    let mut longest = image(rt.alloc(), &[126])?;
-    longest.resize(8_388_608, 0)?;
-    let mut host = host_with(rt.alloc(), &longest)?;
-    check(
-        &rt,
-        &mut host,
-        &["once", "B", "1"],
-        Status::Done,
-        &["dead 0 7\n"],
-    )
-}
-
-/// Checks the program over a host whose call of this number fails.
-fn check_failing(
-    rt: &(impl Abort + AllocGlobal),
-    call: u64,
-    words: &[&str],
-    status: Status,
-    wanted: &[&str],
-) -> Result<(), Fail> {
-    let mut host = host_with(rt.alloc(), &image(rt.alloc(), &[126])?)?;
-    host.fail(rt.alloc(), &[call])?;
-    check(rt, &mut host, words, status, wanted)
-}
-
+/// The report of four cycles has 566 bytes, which are said in two pieces, after two calls on the file.
 #[test]
 fn faults_of_the_host_are_told(rt: HostRuntime) -> Result<(), Fail> {
-    let words = ["once", "B", "4"];
-    let rows: [(u64, Status, &[&str]); 4] = [
-        (1, Status::DiskFault, &["disk fault\n"]),
-        (2, Status::DiskFault, &["disk fault\n"]),
-        (3, Status::SayFault, &[]),
-        (5, Status::SayFault, &["dead "]),
+    let rows: [(&[&str], u64, Status, usize); 6] = [
+        (&["once"], 1, Status::Usage, 0),
+        (&["once", "B", "4"], 1, Status::DiskFault, 11),
+        (&["once", "B", "4"], 2, Status::DiskFault, 11),
+        (&["once", "B", "4"], 3, Status::SayFault, 0),
+        (&["once", "B", "4"], 4, Status::SayFault, 512),
+        (&["once", "B", "4"], 5, Status::Done, 566),
     ];
-    for (call, status, wanted) in rows {
-        check_failing(&rt, call, &words, status, wanted)?;
+    for (words, call, status, said) in rows {
+        let mut host = host_with(rt.alloc(), &image(rt.alloc())?)?;
+        host.fail(rt.alloc(), &[call])?;
+        check_status(&rt, &mut host, words, status)?;
+        assert_eq!(rt; host.said().len(), said);
     }
-    check_failing(&rt, 1, &["once"], Status::Usage, &[])
+    Ok(())
 }
 
 /// Writes image B over a longer file.
@@ -513,7 +262,7 @@ fn check_bytes<H: Host>(rt: &impl Abort, host: &mut H, into: &mut [u8], wanted: 
 #[test]
 fn an_image_is_written_as_it_was(rt: HostRuntime) -> Result<(), Fail> {
     let alloc = rt.alloc();
-    let bytes = image(alloc, &[])?;
+    let bytes = image(alloc)?;
     let mut host = MemHost::new(alloc)?;
     host.put(alloc, "B", &[9; 1200])?;
     host.room_for(alloc, 2000, 10)?;
@@ -524,6 +273,19 @@ fn an_image_is_written_as_it_was(rt: HostRuntime) -> Result<(), Fail> {
     let mut written = vec![in alloc; 0; 1156]?;
     check_bytes(&rt, &mut host, &mut written, &bytes);
     Ok(())
+}
+
+/// The sending image, with so many entries and this selector in its dictionary.
+fn sending_image(alloc: Global, entries: u16, selector: u16) -> Result<Vec<u8>, AllocError> {
+    let mut objects = SENDING_OBJECTS;
+    objects[SELECTOR] = selector;
+    let parts = Parts {
+        objects: &objects,
+        objects_length: 99,
+        table: &SENDING_TABLE,
+        table_length: 74,
+    };
+    image_of(alloc, entries, &parts)
 }
 
 /// Works the stack of the sending image's context, and stores its registers.

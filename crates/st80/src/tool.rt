@@ -2,7 +2,8 @@ ghost use Rattle.std.specs.Prelude.{◌≡◌, ℕ, List, map, Some, None};
 ghost use Rattle.std.specs.String.{string_bytes};
 ghost use Rattle.st_outside.specs.Files.{bytes_of};
 ghost use Rattle.st_outside.specs.Runs.{ReadsAndSays};
-ghost use Rattle.st_once.specs.Ends.{OnceEnds, SaysLastLine, StatusHasCause};
+ghost use Rattle.std.specs.Process.{exit_status};
+ghost use Rattle.st_once.specs.Ends.{OnceEnds, SaysLastLine, StatusHasCause, CallEnds, number_of};
 ghost use Rattle.st_once.specs.Words.{once_of, word};
 ghost use Rattle.st_once.specs.declared.status.Status.TheVariants.{Usage};
 
@@ -10,18 +11,22 @@ use st_once::{Status, image_name, once, read_once, refuse};
 use st_outside::{Host, Source};
 use st_plain::PlainLoader;
 use std::alloc::Global;
+use std::process::ExitCode;
 
-/// Does the command that the words say, without the program's name. The one command so far is `once IMAGE N`: it reads
-/// the image file IMAGE, runs N cycles of its machine, and says the run's end and what the machine shows then. Nothing is
-/// written to a file, and nothing is taken from the script.
+/// Does the command that the words say, without the program's name. The one command so far is `once IMAGE
+/// N`: it reads the image file IMAGE, runs N cycles of its machine, and says the run's end and what the
+/// machine shows then. Nothing is written to a file, and nothing is taken from the script.
 pub fn tool<H: Host, S: Source>(
     alloc: Global,
     words: &[String],
     host: &mut H,
     _script: &mut S,
 ) -> Status
-    ensures usage { once_of (map string_bytes words.now) ≡ None → (result ≡ Usage) × SaysLastLine H.Host.own Usage host.old host.new }
-    ensures once { (n : ℕ) → once_of (map string_bytes words.now) ≡ Some n → OnceEnds H.Host.own (bytes_of (H.files host.old (word (map string_bytes words.now) 1))) n host.old host.new result }
+    ensures usage { once_of (map string_bytes words.now) ≡ None →
+        (result ≡ Usage) × SaysLastLine H.Host.own Usage host.old host.new }
+    ensures once { let texts = map string_bytes words.now in
+        (n : ℕ) → once_of texts ≡ Some n →
+        OnceEnds H.Host.own (bytes_of (H.files host.old (word texts 1))) n host.old host.new result }
     ensures cause { StatusHasCause H.Host.own host.old host.new result }
     ensures reads { (text : List ℕ) × ReadsAndSays H.Host.own text host.old host.new }
     ensures script { _script.new ≡ _script.old }
@@ -33,4 +38,18 @@ pub fn tool<H: Host, S: Source>(
             Status::Usage
         }
     }
+}
+
+/// The exit code of such a call, which is the number of its status.
+pub fn exit_code<H: Host, S: Source>(
+    alloc: Global,
+    words: &[String],
+    host: &mut H,
+    script: &mut S,
+) -> ExitCode
+    ensures { let texts = map string_bytes words.now in
+        (status : Status) × (exit_status result ≡ number_of status)
+        × CallEnds H.Host.own texts host.old host.new status }
+{
+    ExitCode::from(tool(alloc, words, host, script).number())
 }

@@ -12,8 +12,9 @@ use Rattle.st_image.specs.Sizes.{IsInside}
 use Rattle.st_image.specs.Shape.{size_as, literals_as}
 use Rattle.st_image.specs.declared.shape.Shape.{Shape}
 
--- What the rows of faults leave to be known of the object of an entry in use: it lies in the object space, its class is an
--- object that does so too, it is of class 34 exactly where it is a method, and a method has an odd header and its literals.
+-- What the rows of faults leave to be known of the object of an entry in use: it lies in the object space,
+-- its class is an object that does so too, it is of class 34 exactly where it is a method, and a method has
+-- an odd header and its literals.
 pub record IsSound (h : ImageHead) (bytes : List ℕ) (k : ℕ) : Type 0 where
   pub in_table : k < entries_of h
   pub inside : IsInside h bytes k
@@ -35,7 +36,9 @@ pub record IsShape (h : ImageHead) (bytes : List ℕ) (k : ℕ) (shape : Shape) 
 
 -- the object of entry k as it is placed, before its fields and units are stored
 unfoldable pub fresh_in : ImageHead → List ℕ → ℕ → Object
-fresh_in h bytes k = fresh (class h bytes k / 2) (kind_in h bytes k) (size_as (kind_in h bytes k) (fields_in h bytes k) (units_in h bytes k))
+fresh_in h bytes k =
+    fresh (class h bytes k / 2) (kind_in h bytes k)
+    (size_as (kind_in h bytes k) (fields_in h bytes k) (units_in h bytes k))
     (literals_as (kind_in h bytes k) (fields_in h bytes k))
 
 -- an object with its first n fields stored

@@ -7,8 +7,8 @@ use Rattle.st_model.specs.Start.{start_view, start}
 use Rattle.st_frames.specs.declared.frame.Frame.{Frame}
 use Rattle.st_frames.specs.Shown.{IsFrame, shown}
 
--- A memory and its registers are those in which an image's machine begins: they show the start, and nothing is held but
--- the registers.
+-- A memory and its registers are those in which an image's machine begins: they show the start, and nothing
+-- is held but the registers.
 pub record IsStart (h : ImageHead) (bytes : List ℕ) (v : View) (f : Frame) : Type 0 where
   pub objects : v.objects ≡ (start_view h bytes).objects
   pub head : v.head ≡ (start_view h bytes).head

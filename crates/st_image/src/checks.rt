@@ -20,7 +20,8 @@ use std::alloc::Global;
 /// A file with the lengths that its head gives, or the fault of its lengths.
 #[tactic(auto, using(crate::proofs::FaultRows::fault_rows, crate::proofs::FaultOrder::clean_rows, crate::proofs::Starts::headless))]
 fn check_lengths<'a>(bytes: &'a [u8], over: &HeadValues) -> Result<Image<'a>, ImageFault>
-    ensures image { IfOk result (λ image. (image.head ≡ head_over over.now bytes.now) × (image.bytes.now ≡ bytes.now)) }
+    ensures image { IfOk result (λ image.
+        (image.head ≡ head_over over.now bytes.now) × (image.bytes.now ≡ bytes.now)) }
     ensures clean { OnOk result (IsCleanBelow (head_over over.now bytes.now) bytes.now 3) }
     ensures fault { IfErr result (λ f. IsImageFault (head_over over.now bytes.now) bytes.now f) }
 {
@@ -121,7 +122,8 @@ fn check_roots(image: &Image<'_>) -> Result<(), ImageFault>
 
 /// The image of a file, where it has none of the faults but perhaps that of its scheduler; else its fault.
 pub fn check<'a>(alloc: Global, bytes: &'a [u8], over: &HeadValues) -> Result<Image<'a>, ReadImage>
-    ensures image { IfOk result (λ image. (image.head ≡ head_over over.now bytes.now) × (image.bytes.now ≡ bytes.now)) }
+    ensures image { IfOk result (λ image.
+        (image.head ≡ head_over over.now bytes.now) × (image.bytes.now ≡ bytes.now)) }
     ensures clean { OnOk result (IsCleanBelow (head_over over.now bytes.now) bytes.now 10) }
     ensures fault { IfErr result (λ e. IsReadFault (head_over over.now bytes.now) bytes.now e) }
 {

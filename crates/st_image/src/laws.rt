@@ -11,19 +11,26 @@ ghost use Rattle.st_writer.specs.Written.{image_of};
 
 /// The law that an image file has at most one fault.
 pub fn fault_is_determined()
-    ensures { (h : ImageHead) (bytes : List ℕ) (f g : ImageFault) → IsImageFault h bytes f → IsImageFault h bytes g → f ≡ g }
+    ensures { (h : ImageHead) (bytes : List ℕ) (f g : ImageFault) → IsImageFault h bytes f →
+        IsImageFault h bytes g → f ≡ g }
 {}
 
 /// The law that an image file has no fault exactly where it is well-formed.
 pub fn no_fault_is_well_formed()
-    ensures without { (h : ImageHead) (bytes : List ℕ) → ((f : ImageFault) → ¬ IsImageFault h bytes f) → IsWellFormed h bytes }
-    ensures within { (h : ImageHead) (bytes : List ℕ) → IsWellFormed h bytes → (f : ImageFault) → ¬ IsImageFault h bytes f }
+    ensures without { (h : ImageHead) (bytes : List ℕ) → ((f : ImageFault) → ¬ IsImageFault h bytes f) →
+        IsWellFormed h bytes }
+    ensures within { (h : ImageHead) (bytes : List ℕ) → IsWellFormed h bytes → (f : ImageFault) →
+        ¬ IsImageFault h bytes f }
 {}
 
-/// The law that what is written is read back. Where the registers can be fetched from what a memory contains, its image
-/// is well-formed; and whatever memory is read from it has the same objects, capacities and tables of names.
+/// The law that what is written is read back. Where the registers can be fetched from what a memory
+/// contains, its image is well-formed; and whatever memory is read from it has the same objects, capacities
+/// and tables of names.
 pub fn image_back()
-    ensures formed { (v : View) → IsWhole v → CanStart v → IsWellFormed (head_over no_values (image_of v)) (image_of v) }
-    ensures objects { (v w : View) (f : Frame) → IsWhole v → IsStart (head_over no_values (image_of v)) (image_of v) w f → w.objects ≡ v.objects }
-    ensures head { (v w : View) (f : Frame) → IsWhole v → IsStart (head_over no_values (image_of v)) (image_of v) w f → w.head ≡ v.head }
+    ensures formed { (v : View) → IsWhole v → CanStart v →
+        IsWellFormed (head_over no_values (image_of v)) (image_of v) }
+    ensures objects { (v w : View) (f : Frame) → IsWhole v →
+        IsStart (head_over no_values (image_of v)) (image_of v) w f → w.objects ≡ v.objects }
+    ensures head { (v w : View) (f : Frame) → IsWhole v →
+        IsStart (head_over no_values (image_of v)) (image_of v) w f → w.head ≡ v.head }
 {}

@@ -29,7 +29,8 @@ fn place_object<L: Loader>(loader: &mut L, image: &Image<'_>, k: usize, shape: S
     requires sound { IsSound image.now.head image.now.bytes.now k }
     requires shape { IsShape image.now.head image.now.bytes.now k shape }
     requires room { HasRoom image.now.head image.now.bytes.now (L.loaded loader.old) k }
-    ensures { Puts (L.loaded loader.old) (L.loaded loader.new) k (fresh_in image.now.head image.now.bytes.now k) }
+    ensures { Puts (L.loaded loader.old) (L.loaded loader.new) k
+        (fresh_in image.now.head image.now.bytes.now k) }
 {
     let at = pointer_of(k);
     let class = Oop(image.class(k));
@@ -41,7 +42,8 @@ fn load_fields<L: Loader>(loader: &mut L, image: &Image<'_>, k: usize, shape: Sh
     requires sound { IsSound image.now.head image.now.bytes.now k }
     requires shape { IsShape image.now.head image.now.bytes.now k shape }
     requires at { IsAt (L.loaded loader.old) k (fresh_in image.now.head image.now.bytes.now k) }
-    ensures { Puts (L.loaded loader.old) (L.loaded loader.new) k (filled_in image.now.head image.now.bytes.now k) }
+    ensures { Puts (L.loaded loader.old) (L.loaded loader.new) k
+        (filled_in image.now.head image.now.bytes.now k) }
 {
     for i in 0..shape.fields {
         loader.set_pointer(pointer_of(k), i as u32, Oop(image.body(k, i)));
@@ -54,7 +56,8 @@ fn load_words<L: Loader>(loader: &mut L, image: &Image<'_>, k: usize, shape: Sha
     requires kind { is_words (kind_in image.now.head image.now.bytes.now k) ≡ true }
     requires shape { IsShape image.now.head image.now.bytes.now k shape }
     requires at { IsAt (L.loaded loader.old) k (filled_in image.now.head image.now.bytes.now k) }
-    ensures { Puts (L.loaded loader.old) (L.loaded loader.new) k (object_in image.now.head image.now.bytes.now k) }
+    ensures { Puts (L.loaded loader.old) (L.loaded loader.new) k
+        (object_in image.now.head image.now.bytes.now k) }
 {
     for i in 0..shape.units {
         loader.set_word(pointer_of(k), i as u32, image.body(k, i));
@@ -67,7 +70,8 @@ fn load_bytes<L: Loader>(loader: &mut L, image: &Image<'_>, k: usize, shape: Sha
     requires kind { is_words (kind_in image.now.head image.now.bytes.now k) ≡ false }
     requires shape { IsShape image.now.head image.now.bytes.now k shape }
     requires at { IsAt (L.loaded loader.old) k (filled_in image.now.head image.now.bytes.now k) }
-    ensures { Puts (L.loaded loader.old) (L.loaded loader.new) k (object_in image.now.head image.now.bytes.now k) }
+    ensures { Puts (L.loaded loader.old) (L.loaded loader.new) k
+        (object_in image.now.head image.now.bytes.now k) }
 {
     let start = 512 + 2 * (image.place(k) + 2 + shape.fields);
     for i in 0..shape.units {
@@ -81,7 +85,8 @@ fn load_object<L: Loader>(loader: &mut L, image: &Image<'_>, k: usize)
     requires used { is_used image.now.head image.now.bytes.now k ≡ true }
     requires sound { IsSound image.now.head image.now.bytes.now k }
     requires room { HasRoom image.now.head image.now.bytes.now (L.loaded loader.old) k }
-    ensures { Puts (L.loaded loader.old) (L.loaded loader.new) k (object_in image.now.head image.now.bytes.now k) }
+    ensures { Puts (L.loaded loader.old) (L.loaded loader.new) k
+        (object_in image.now.head image.now.bytes.now k) }
 {
     let shape = shape_of(image, k);
     place_object(loader, image, k, shape);
@@ -98,7 +103,8 @@ pub fn load_all<L: Loader>(loader: &mut L, image: &Image<'_>)
     requires clean { IsCleanBelow image.now.head image.now.bytes.now 10 }
     requires empty { IsEmpty (L.loaded loader.old).objects }
     requires head { (L.loaded loader.old).head ≡ machine_head image.now.head }
-    ensures objects { (L.loaded loader.new).objects ≡ made (entry_in image.now.head image.now.bytes.now) 32768 }
+    ensures objects { (L.loaded loader.new).objects ≡ made
+        (entry_in image.now.head image.now.bytes.now) 32768 }
     ensures held { (L.loaded loader.new).held ≡ (L.loaded loader.old).held }
     ensures head { (L.loaded loader.new).head ≡ (L.loaded loader.old).head }
 {

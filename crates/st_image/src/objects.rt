@@ -46,7 +46,8 @@ pub fn first_bad_size(image: &Image<'_>) -> Option<usize>
 #[tactic(auto, unfolding(crate::specs::Sizes::span_of))]
 fn span_at(image: &Image<'_>, k: usize) -> Span
     requires entry { k < entries_of image.now.head }
-    requires inside { is_used image.now.head image.now.bytes.now k ≡ true → IsInside image.now.head image.now.bytes.now k }
+    requires inside { is_used image.now.head image.now.bytes.now k ≡ true →
+        IsInside image.now.head image.now.bytes.now k }
     ensures { result ≡ span_of image.now.head image.now.bytes.now k }
 {
     if !image.is_used(k) {
@@ -63,7 +64,9 @@ fn span_at(image: &Image<'_>, k: usize) -> Span
 pub fn spans_of(alloc: Global, image: &Image<'_>) -> Result<Vec<Span>, AllocError>
     requires { AreInside image.now.head image.now.bytes.now }
     ensures length { IfOk result (λ spans. length spans.items ≡ entries_of image.now.head) }
-    ensures spans { IfOk result (λ spans. (k : ℕ) → k < entries_of image.now.head → span spans.items k ≡ span_of image.now.head image.now.bytes.now k) }
+    ensures spans { let head = image.now.head in
+        IfOk result (λ spans. (k : ℕ) → k < entries_of head →
+        span spans.items k ≡ span_of head image.now.bytes.now k) }
 {
     let mut spans = Vec::with_capacity(alloc, image.entries())?;
     for k in 0..image.entries() {
@@ -76,7 +79,8 @@ pub fn spans_of(alloc: Global, image: &Image<'_>) -> Result<Vec<Span>, AllocErro
 #[tactic(auto, unfolding(st_model::specs::Faults::class_fails))]
 fn class_fails(image: &Image<'_>, k: usize) -> bool
     requires entry { k < entries_of image.now.head }
-    requires inside { is_used image.now.head image.now.bytes.now k ≡ true → IsInside image.now.head image.now.bytes.now k }
+    requires inside { is_used image.now.head image.now.bytes.now k ≡ true →
+        IsInside image.now.head image.now.bytes.now k }
     ensures { result ≡ class_fails image.now.head image.now.bytes.now k }
 {
     image.is_used(k) && !image.names(u32::from(image.class(k)))
@@ -126,7 +130,8 @@ fn field_fails(image: &Image<'_>, k: usize, i: usize) -> bool
 #[tactic(auto, unfolding(st_model::specs::Faults::field_fails, st_model::specs::Faults::is_field))]
 fn first_bad_field_of(image: &Image<'_>, k: usize) -> Option<usize>
     requires entry { k < entries_of image.now.head }
-    requires inside { is_used image.now.head image.now.bytes.now k ≡ true → IsInside image.now.head image.now.bytes.now k }
+    requires inside { is_used image.now.head image.now.bytes.now k ≡ true →
+        IsInside image.now.head image.now.bytes.now k }
     ensures least { IsLeast (field_fails image.now.head image.now.bytes.now k) result }
     ensures small { IfSome result (λ i. i < 65536) }
 {
@@ -144,7 +149,8 @@ fn first_bad_field_of(image: &Image<'_>, k: usize) -> Option<usize>
 /// The first entry whose object has a wrong field or literal, and the first of these.
 pub fn first_bad_field(image: &Image<'_>) -> Option<(usize, usize)>
     requires { AreInside image.now.head image.now.bytes.now }
-    ensures first { IsFirstPair (field_fails image.now.head image.now.bytes.now) (entries_of image.now.head) result }
+    ensures first { IsFirstPair (field_fails image.now.head image.now.bytes.now)
+        (entries_of image.now.head) result }
     ensures small { IfSome result (λ found. found.1 < 65536) }
 {
     for k in 0..image.entries() {
@@ -159,7 +165,8 @@ pub fn first_bad_field(image: &Image<'_>) -> Option<(usize, usize)>
 #[tactic(auto, unfolding(st_model::specs::Faults::method_fails))]
 fn method_fails(image: &Image<'_>, k: usize) -> bool
     requires entry { k < entries_of image.now.head }
-    requires inside { is_used image.now.head image.now.bytes.now k ≡ true → IsInside image.now.head image.now.bytes.now k }
+    requires inside { is_used image.now.head image.now.bytes.now k ≡ true →
+        IsInside image.now.head image.now.bytes.now k }
     ensures { result ≡ method_fails image.now.head image.now.bytes.now k }
 {
     if !image.is_used(k) || image.class(k) != Image::METHOD_CLASS {

@@ -5,7 +5,7 @@ ghost use Rattle.st_image.specs.Passes.{IsLeastAmong, IsLesser};
 use crate::image::Image;
 use st_model::ImageHead;
 
-/// The pointers that have to name entries in use, but for 0: those of the root page, and the two that the head gives.
+/// The pointers that have to name entries in use, but for 0: those of the root page, and the two of the head.
 fn roots(head: ImageHead) -> [u32; 22]
     ensures { result ≡ roots head }
 {
@@ -37,7 +37,8 @@ fn lesser(image: &Image<'_>, least: Option<u32>, pointer: u32) -> Option<u32>
 
 /// The least of some pointers that is a wrong root.
 fn least_failing(image: &Image<'_>, pointers: &[u32]) -> Option<u32>
-    ensures { IsLeastAmong (root_fails image.now.head image.now.bytes.now) pointers.now (length pointers.now) result }
+    ensures { IsLeastAmong (root_fails image.now.head image.now.bytes.now) pointers.now
+        (length pointers.now) result }
 {
     let mut least = None;
     for pointer in pointers {

@@ -118,7 +118,8 @@ fn fields_of(image: &Image<'_>, k: usize, kind: Kind, words: usize) -> usize
 fn units_of(image: &Image<'_>, k: usize, kind: Kind, words: usize) -> usize
     requires entry { k < entries_of image.now.head }
     requires kind { kind ≡ kind_in image.now.head image.now.bytes.now k }
-    requires words { words + 2 + fields_in image.now.head image.now.bytes.now k ≡ size image.now.head image.now.bytes.now k }
+    requires words { let head = image.now.head in let bytes = image.now.bytes.now in
+        words + 2 + fields_in head bytes k ≡ size head bytes k }
     requires few { words < 65536 }
     ensures units { result ≡ units_in image.now.head image.now.bytes.now k }
     ensures few { result < 131072 }

@@ -6,8 +6,8 @@ use std::alloc::{AllocError, Global};
 use std::process::Abort;
 use std::test::Fail;
 
-/// The objects of a small image, word by word: 20 of the root page, an association, a scheduler with one process, its
-/// context at word 52, and a method at word 72.
+/// The objects of a small image, word by word: 20 of the root page, an association, a scheduler with one
+/// process, its context at word 52, and a method at word 72.
 const OBJECTS: [u16; 78] = [
     2, 12, 2, 12, 2, 12, 4, 12, 2, 58, 2, 12, 2, 12, 2, 12, 2, 12, 2, 12, 2, 12, 2, 12, 2, 12, 2,
     12, 2, 12, 2, 12, 2, 12, 2, 12, 2, 12, 2, 12, 2, 12, 4, 12, 2, 60, 6, 12, 2, 62, 9, 2, 20, 22,
@@ -71,23 +71,15 @@ fn fault_of(
     }
 }
 
-fn finds(
-    rt: &(impl Abort + AllocGlobal),
-    changes: &[(usize, u16)],
-    fault: ImageFault,
-) -> Result<(), Fail> {
-    let bytes = changed(rt.alloc(), changes)?;
-    let found = fault_of(rt.alloc(), &bytes, &HeadValues::NONE)?;
-    assert_eq!(rt; found, Some(fault));
-    Ok(())
-}
+/// Words put at bytes of the image, and the fault that it has then.
+type Row<'a> = (&'a [(usize, u16)], ImageFault);
 
-#[test]
-fn finds_no_fault(rt: HostRuntime) -> Result<(), Fail> {
-    let bytes = small_image(rt.alloc())?;
-    assert_eq!(rt; bytes.len(), 1156);
-    assert!(rt; has_letters(&bytes));
-    assert_eq!(rt; fault_of(rt.alloc(), &bytes, &HeadValues::NONE)?, None);
+fn check_faults(rt: &(impl Abort + AllocGlobal), rows: &[Row<'_>]) -> Result<(), Fail> {
+    for (changes, fault) in rows {
+        let bytes = changed(rt.alloc(), changes)?;
+        let found = fault_of(rt.alloc(), &bytes, &HeadValues::NONE)?;
+        assert_eq!(rt; found, Some(*fault));
+    }
     Ok(())
 }
 
@@ -99,40 +91,78 @@ fn finds_short_files(rt: HostRuntime) -> Result<(), Fail> {
         let found = fault_of(rt.alloc(), &bytes[..length], &HeadValues::NONE)?;
         assert_eq!(rt; found, Some(ImageFault::Short), "at {length}");
     }
-    finds(
-        &rt,
-        &[(0, 65535), (2, 65535), (4, 65535), (6, 65535)],
-        ImageFault::Short,
-    )
+    Ok(())
 }
 
 #[test]
-fn finds_faults_of_the_head(rt: HostRuntime) -> Result<(), Fail> {
-    finds(&rt, &[(14, 3)], ImageFault::Lengths)?;
-    finds(&rt, &[(6, 65)], ImageFault::Lengths)?;
-    finds(&rt, &[(18, 23)], ImageFault::Capacity)?;
-    finds(&rt, &[(20, 0), (22, 77)], ImageFault::Capacity)
+fn finds_each_fault(rt: HostRuntime) -> Result<(), Fail> {
+    let rows: [Row<'_>; 18] = [
+        (
+            &[(0, 65535), (2, 65535), (4, 65535), (6, 65535)],
+            ImageFault::Short,
+        ),
+        (&[(14, 3)], ImageFault::Lengths),
+        (&[(6, 65)], ImageFault::Lengths),
+        (&[(18, 23)], ImageFault::Capacity),
+        (&[(20, 0), (22, 77)], ImageFault::Capacity),
+        (&[(656, 7)], ImageFault::Size(64)),
+        (&[(512, 1)], ImageFault::Size(2)),
+        (&[(1028, 192)], ImageFault::Size(2)),
+        (&[(1030, 78)], ImageFault::Size(2)),
+        (&[(1030, 2)], ImageFault::Overlap(2, 4)),
+        (&[(512, 3)], ImageFault::Overlap(2, 4)),
+        (&[(1130, 32), (1138, 32)], ImageFault::Overlap(44, 52)),
+        (&[(514, 13)], ImageFault::Class(2)),
+        (&[(514, 0)], ImageFault::Class(2)),
+        (&[(632, 9998)], ImageFault::Field(62, 6)),
+        (&[(660, 2), (662, 30328)], ImageFault::Field(64, 1)),
+        (&[(660, 0)], ImageFault::Method(64)),
+        (&[(1112, 32), (1114, 0)], ImageFault::Root(44)),
+    ];
+    check_faults(&rt, &rows)
 }
 
-#[test]
-fn finds_faults_of_sizes(rt: HostRuntime) -> Result<(), Fail> {
-    finds(&rt, &[(656, 7)], ImageFault::Size(64))?;
-    finds(&rt, &[(512, 1)], ImageFault::Size(2))?;
-    finds(&rt, &[(1028, 192)], ImageFault::Size(2))?;
-    finds(&rt, &[(1030, 78)], ImageFault::Size(2))?;
-    finds(&rt, &[(1030, 2)], ImageFault::Overlap(2, 4))?;
-    finds(&rt, &[(512, 3)], ImageFault::Overlap(2, 4))?;
-    finds(&rt, &[(1130, 32), (1138, 32)], ImageFault::Overlap(44, 52))
+/// The small image with so many more objects of so many words each, behind its own.
+fn filled(alloc: Global, count: u16, size: u16) -> Result<Vec<u8>, AllocError> {
+    let words = 78 + u32::from(count) * u32::from(size);
+    let table = 66 + 2 * u32::from(count);
+    let mut bytes = Vec::new(alloc);
+    push_words(&mut bytes, &[(words >> 16) as u16, (words & 65535) as u16])?;
+    push_words(&mut bytes, &[(table >> 16) as u16, (table & 65535) as u16])?;
+    push_words(&mut bytes, &[0x5354, 0x3830, 0, 1, 0, 32767, 16, 0])?;
+    pad(&mut bytes, 512)?;
+    push_words(&mut bytes, &OBJECTS)?;
+    for _ in 0..count {
+        push_words(&mut bytes, &[size, 12])?;
+        let end = bytes.len() + 2 * usize::from(size.saturating_sub(2));
+        pad(&mut bytes, end)?;
+    }
+    let end = bytes.len().div_ceil(512) * 512;
+    pad(&mut bytes, end)?;
+    push_words(&mut bytes, &TABLE)?;
+    for k in 0..u32::from(count) {
+        let at = 78 + k * u32::from(size);
+        push_words(
+            &mut bytes,
+            &[(16 + at / 65536 % 16) as u16, (at % 65536) as u16],
+        )?;
+    }
+    Ok(bytes)
 }
 
+/// No more objects, so many that a table has more than 100 or is full, and so large ones that the object space is.
 #[test]
-fn finds_faults_of_objects(rt: HostRuntime) -> Result<(), Fail> {
-    finds(&rt, &[(514, 13)], ImageFault::Class(2))?;
-    finds(&rt, &[(514, 0)], ImageFault::Class(2))?;
-    finds(&rt, &[(632, 9998)], ImageFault::Field(62, 6))?;
-    finds(&rt, &[(660, 2), (662, 30328)], ImageFault::Field(64, 1))?;
-    finds(&rt, &[(660, 0)], ImageFault::Method(64))?;
-    finds(&rt, &[(1112, 32), (1114, 0)], ImageFault::Root(44))
+fn finds_no_fault(rt: HostRuntime) -> Result<(), Fail> {
+    for (count, size) in [(0, 2), (76, 2), (77, 3), (32735, 2), (22, 47659)] {
+        let bytes = filled(rt.alloc(), count, size)?;
+        assert!(rt; has_letters(&bytes));
+        assert_eq!(rt;
+            fault_of(rt.alloc(), &bytes, &HeadValues::NONE)?,
+            None,
+            "{count} of {size}"
+        );
+    }
+    Ok(())
 }
 
 #[test]

@@ -1,6 +1,7 @@
 -- How a call of the program ends: its status, and what it says and does.
-use Rattle.std.specs.Prelude.{◌≡◌, ℕ, ◌<◌, ◌≤◌, ◌^◌, List, [], ◌∷◌, length, ◌++◌, codes, IsTrue, ⊤}
+use Rattle.std.specs.Prelude.{◌≡◌, ℕ, ◌<◌, ◌≤◌, ◌^◌, List, [], ◌∷◌, length, ◌++◌, codes, IsTrue, ⊤, Some, None}
 use Rattle.st_outside.specs.Counts.{Rose}
+use Rattle.st_outside.specs.Files.{bytes_of}
 use Rattle.st_outside.specs.Stops.{SaidPart}
 use Rattle.st_outside.specs.declared.host.Host.{Ghosts}
 use Rattle.st_model.specs.declared.fault.ImageFault.{ImageFault}
@@ -14,11 +15,13 @@ use Rattle.st_model.specs.Show.{raised}
 use Rattle.st_model.specs.Text.{numbers_text, ran_text, dead_text, unbuilt_text, space_text, quit_text, debugger_text, state_text, run_text}
 use Rattle.st_machine.specs.declared.ending.RunEnd.{RunEnd}
 use Rattle.st_machine.specs.declared.ending.RunEnd.TheVariants as end
+use Rattle.st_once.specs.Words.{once_of, word}
 use Rattle.st_once.specs.declared.refusal.Refusal.{Refusal}
 use Rattle.st_once.specs.declared.refusal.Refusal.TheVariants as refusal
 use Rattle.st_once.specs.declared.status.Status.{Status}
 use Rattle.st_once.specs.declared.status.Status.TheVariants.{Done, Usage, Image, SayFault, DiskFault, TooLarge, OutOfMemory}
 
+-- the exit status
 abbrev pub number_of : Status → ℕ
 number_of Done = 0
 number_of Usage = 1
@@ -77,17 +80,19 @@ IsRefusal bytes refusal.TooLarge = 2 ^ 23 < length bytes
 IsRefusal bytes refusal.DiskFault = ⊤
 IsRefusal bytes refusal.OutOfMemory = ⊤
 
--- What is said of n cycles of an image: how the book's machine ends that begins with the image's objects as births, and
--- what it shows then.
+-- What is said of n cycles of an image: how the book's machine ends that begins with the image's objects as
+-- births, and what it shows then.
 pub record IsReport (bytes : List ℕ) (n : ℕ) (text : List ℕ) : Type 0 where
   pub state : State Table
   pub starts : start (image_head bytes) bytes ≡ Went tt state
   pub is : text ≡ run_text n (raised state)
 
--- The line of a run's end, of so many cycles that were asked for. A snapshot, and bytes that are said, are no end.
+-- The line of a run's end, of so many cycles that were asked for. A snapshot, and bytes that are said, are
+-- no end.
 abbrev pub end_text : ℕ → RunEnd → List ℕ
 end_text n end.Ran = ran_text n
-end_text n (end.Space done demand entries words) = space_text done demand (record { entries = entries; words = words })
+end_text n (end.Space done demand entries words) =
+    space_text done demand (record { entries = entries; words = words })
 end_text n (end.Snapshot done) = []
 end_text n (end.Say done o) = []
 end_text n (end.Quit done) = quit_text done
@@ -106,24 +111,33 @@ rest_text (end.Debugger done) s = state_text s
 rest_text (end.Dead done cause) s = []
 rest_text (end.Unbuilt done code) s = state_text s
 
+-- all that is said of a run's end
+abbrev pub ending_text : ℕ → RunEnd → State Table → List ℕ
+ending_text n e s = end_text n e ++ rest_text e s
+
 module _ {D : Type 0} (host : Ghosts D) where
-  -- Nothing but the last line was said. It may be cut or missing only where the count of say faults rose, or stands at
-  -- the last value that it has. Of a host that doesn't tell what was said nothing is claimed.
+  -- Nothing but the last line was said. It may be cut or missing only where the count of say faults rose,
+  -- or stands at the last value that it has. Of a host that doesn't tell what was said nothing is claimed.
   pub record SaysLastLine (status : Status) (old new : D) : Type 0 where
     pub part : IsTrue host.is_told → SaidPart (host.said old) (last_line status) (host.said new)
-    pub whole : (Rose (host.say_faults old) (host.say_faults new) → ⊥) → IsTrue host.is_told → host.said new ≡ host.said old ++ last_line status
+    pub whole : (Rose (host.say_faults old) (host.say_faults new) → ⊥) → IsTrue host.is_told
+        → host.said new ≡ host.said old ++ last_line status
 
-  -- How the command once ends, over the bytes of its image, in each status that it can have. An absent file is read as
-  -- an empty one. These bytes are readable, or have one fault, or are too many, and never two of this.
+  -- How the command once ends, over the bytes of its image, in each status that it can have. An absent file
+  -- is read as an empty one. These bytes are readable, or have one fault, or are too many, and never two of
+  -- this.
   abbrev pub OnceEnds : List ℕ → ℕ → D → D → Status → Type 0
   OnceEnds bytes n old new Done = IsTrue host.is_told
       → (text : List ℕ) × IsReadable bytes × IsReport bytes n text × (host.said new ≡ host.said old ++ text)
   OnceEnds bytes n old new Usage = ⊥
-  OnceEnds bytes n old new (Image f) = (IsTrue host.is_told → IsFaulty bytes f) × SaysLastLine (Image f) old new
+  OnceEnds bytes n old new (Image f) =
+      (IsTrue host.is_told → IsFaulty bytes f) × SaysLastLine (Image f) old new
   OnceEnds bytes n old new SayFault = IsTrue host.is_told
-      → (text : List ℕ) × IsReadable bytes × IsReport bytes n text × SaidPart (host.said old) text (host.said new)
+      → (text : List ℕ) × IsReadable bytes × IsReport bytes n text
+      × SaidPart (host.said old) text (host.said new)
   OnceEnds bytes n old new DiskFault = SaysLastLine DiskFault old new
-  OnceEnds bytes n old new TooLarge = (IsTrue host.is_told → 2 ^ 23 < length bytes) × SaysLastLine TooLarge old new
+  OnceEnds bytes n old new TooLarge =
+      (IsTrue host.is_told → 2 ^ 23 < length bytes) × SaysLastLine TooLarge old new
   OnceEnds bytes n old new OutOfMemory = SaysLastLine OutOfMemory old new
 
   -- a fault's status comes only where its count rose in the call, or stands at the last value that it has
@@ -141,3 +155,10 @@ module _ {D : Type 0} (host : Ghosts D) where
   RefusalHasCause old new refusal.TooLarge = Unit {0}
   RefusalHasCause old new refusal.DiskFault = Rose (host.disk_faults old) (host.disk_faults new)
   RefusalHasCause old new refusal.OutOfMemory = Unit {0}
+
+  -- How a call of the program with these words ends, over the bytes of the image that they name.
+  pub record CallEnds (words : List (List ℕ)) (old new : D) (status : Status) : Type 0 where
+    pub usage : once_of words ≡ None → (status ≡ Usage) × SaysLastLine Usage old new
+    pub once : (n : ℕ) → once_of words ≡ Some n
+        → OnceEnds (bytes_of (host.files old (word words 1))) n old new status
+    pub cause : StatusHasCause old new status

@@ -26,8 +26,10 @@ fn run_and_report<H: Host, M: Memory>(
 ) -> Result<(), SayFault>
     requires ready { IsReady (M.view machine.old.memory) machine.old.frame machine.old.world }
     requires alive { machine.old.death ≡ None }
-    ensures all { OnOk result (SaysAll H.Host.own (run_text cycles (raised (shown (M.view machine.old.memory) machine.old.frame))) host.old host.new) }
-    ensures says { Says H.Host.own (run_text cycles (raised (shown (M.view machine.old.memory) machine.old.frame))) host.old host.new }
+    ensures all { let state = raised (shown (M.view machine.old.memory) machine.old.frame) in
+        OnOk result (SaysAll H.Host.own (run_text cycles state) host.old host.new) }
+    ensures says { let state = raised (shown (M.view machine.old.memory) machine.old.frame) in
+        Says H.Host.own (run_text cycles state) host.old host.new }
     ensures cause { HasCause (H.say_faults host.old) (H.say_faults host.new) result }
 {
     let end = machine.run(cycles);
@@ -36,7 +38,8 @@ fn run_and_report<H: Host, M: Memory>(
 
 /// The command `once`: runs cycles of the machine of an image, and says what it shows then.
 pub fn once<H: Host, L: Loader>(alloc: Global, host: &mut H, image: &str, cycles: u32) -> Status
-    ensures ends { OnceEnds H.Host.own (bytes_of (H.files host.old image.now)) cycles host.old host.new result }
+    ensures ends { OnceEnds H.Host.own
+        (bytes_of (H.files host.old image.now)) cycles host.old host.new result }
     ensures cause { StatusHasCause H.Host.own host.old host.new result }
     ensures reads { (text : List ℕ) × ReadsAndSays H.Host.own text host.old host.new }
 {

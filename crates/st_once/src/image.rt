@@ -24,7 +24,8 @@ const LONGEST_IMAGE: u64 = 8_388_608;
 fn read_file<H: Host>(alloc: Global, host: &mut H, name: &str) -> Result<Vec<u8>, Refusal>
     ensures bytes { IfOk result (λ v. IsTrue H.is_told → v.items ≡ bytes_of (H.files host.old name.now)) }
     ensures short { IfOk result (λ v. length v.items ≤ 2 ^ 23) }
-    ensures refused { IfErr result (λ e. IsTrue H.is_told → IsRefusal (bytes_of (H.files host.old name.now)) e) }
+    ensures refused { IfErr result (λ e. IsTrue H.is_told →
+        IsRefusal (bytes_of (H.files host.old name.now)) e) }
     ensures cause { IfErr result (RefusalHasCause H.Host.own host.old host.new) }
     ensures reads { OnlyReads H.Host.own host.old host.new }
 {
@@ -44,11 +45,15 @@ fn read_image<H: Host, L: Loader>(
     host: &mut H,
     name: &str,
 ) -> Result<Loaded<L::Done>, Refusal>
-    ensures readable { IfOk result (λ _. IsTrue H.is_told → IsReadable (bytes_of (H.files host.old name.now))) }
-    ensures start { IfOk result (λ l. IsTrue H.is_told → let bytes = bytes_of (H.files host.old name.now) in IsStart (image_head bytes) bytes (L.Done.view l.memory) l.frame) }
+    ensures readable { IfOk result (λ _. IsTrue H.is_told →
+        IsReadable (bytes_of (H.files host.old name.now))) }
+    ensures start { let bytes = bytes_of (H.files host.old name.now) in
+        IfOk result (λ l. IsTrue H.is_told →
+        IsStart (image_head bytes) bytes (L.Done.view l.memory) l.frame) }
     ensures frame { IfOk result (λ l. IsFrame (L.Done.view l.memory) l.frame) }
     ensures quiet { IfOk result (λ l. (L.Done.view l.memory).held.devices ≡ no_devices) }
-    ensures refused { IfErr result (λ e. IsTrue H.is_told → IsRefusal (bytes_of (H.files host.old name.now)) e) }
+    ensures refused { IfErr result (λ e. IsTrue H.is_told →
+        IsRefusal (bytes_of (H.files host.old name.now)) e) }
     ensures cause { IfErr result (RefusalHasCause H.Host.own host.old host.new) }
     ensures reads { OnlyReads H.Host.own host.old host.new }
 {
@@ -66,11 +71,15 @@ pub fn start<H: Host, L: Loader>(
     host: &mut H,
     name: &str,
 ) -> Result<Machine<L::Done>, Refusal>
-    ensures readable { IfOk result (λ _. IsTrue H.is_told → IsReadable (bytes_of (H.files host.old name.now))) }
-    ensures start { IfOk result (λ m. IsTrue H.is_told → let bytes = bytes_of (H.files host.old name.now) in IsStart (image_head bytes) bytes (L.Done.view m.memory) m.frame) }
+    ensures readable { IfOk result (λ _. IsTrue H.is_told →
+        IsReadable (bytes_of (H.files host.old name.now))) }
+    ensures start { let bytes = bytes_of (H.files host.old name.now) in
+        IfOk result (λ m. IsTrue H.is_told →
+        IsStart (image_head bytes) bytes (L.Done.view m.memory) m.frame) }
     ensures ready { IfOk result (λ m. IsReady (L.Done.view m.memory) m.frame m.world) }
     ensures alive { IfOk result (λ m. m.death ≡ None) }
-    ensures refused { IfErr result (λ e. IsTrue H.is_told → IsRefusal (bytes_of (H.files host.old name.now)) e) }
+    ensures refused { IfErr result (λ e. IsTrue H.is_told →
+        IsRefusal (bytes_of (H.files host.old name.now)) e) }
     ensures cause { IfErr result (RefusalHasCause H.Host.own host.old host.new) }
     ensures reads { OnlyReads H.Host.own host.old host.new }
 {

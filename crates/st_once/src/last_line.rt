@@ -1,31 +1,43 @@
 ghost use Rattle.std.specs.Prelude.{◌≡◌, OnOk};
 ghost use Rattle.st_outside.specs.Counts.{HasCause};
 ghost use Rattle.st_outside.specs.Runs.{ReadsAndSays, SaysAll};
-ghost use Rattle.st_report.specs.Saying.{Says};
+ghost use Rattle.st_report.specs.Saying.{Says, Pushes};
 ghost use Rattle.st_once.specs.Ends.{fault_line, last_line, SaysLastLine};
 
 use crate::status::Status;
 use st_model::ImageFault;
 use st_outside::{Host, SayFault};
-use st_report::say_line;
+use st_report::{Output, push_line};
 
-/// Says the line of an image's fault: its row, then its pointer, and its second pointer or its index.
-fn say_fault<H: Host>(host: &mut H, fault: ImageFault) -> Result<(), SayFault>
-    ensures all { OnOk result (SaysAll H.Host.own (fault_line fault) host.old host.new) }
-    ensures says { Says H.Host.own (fault_line fault) host.old host.new }
-    ensures cause { HasCause (H.say_faults host.old) (H.say_faults host.new) result }
+/// Adds the line of an image's fault: its row, then its pointer, and its second pointer or its index.
+fn push_fault<H: Host>(out: &mut Output, host: &mut H, fault: ImageFault) -> Result<(), SayFault>
+    ensures { Pushes H.Host.own (fault_line fault) host.old host.new out.old out.new result }
 {
     match fault {
-        ImageFault::Short => say_line(host, b"image", &[1]),
-        ImageFault::Lengths => say_line(host, b"image", &[2]),
-        ImageFault::Capacity => say_line(host, b"image", &[3]),
-        ImageFault::Size(pointer) => say_line(host, b"image", &[4, pointer]),
-        ImageFault::Overlap(first, second) => say_line(host, b"image", &[5, first, second]),
-        ImageFault::Class(pointer) => say_line(host, b"image", &[6, pointer]),
-        ImageFault::Field(pointer, index) => say_line(host, b"image", &[7, pointer, index]),
-        ImageFault::Method(pointer) => say_line(host, b"image", &[8, pointer]),
-        ImageFault::Root(pointer) => say_line(host, b"image", &[9, pointer]),
-        ImageFault::Scheduler => say_line(host, b"image", &[10]),
+        ImageFault::Short => push_line(out, host, b"image", &[1]),
+        ImageFault::Lengths => push_line(out, host, b"image", &[2]),
+        ImageFault::Capacity => push_line(out, host, b"image", &[3]),
+        ImageFault::Size(pointer) => push_line(out, host, b"image", &[4, pointer]),
+        ImageFault::Overlap(first, second) => push_line(out, host, b"image", &[5, first, second]),
+        ImageFault::Class(pointer) => push_line(out, host, b"image", &[6, pointer]),
+        ImageFault::Field(pointer, index) => push_line(out, host, b"image", &[7, pointer, index]),
+        ImageFault::Method(pointer) => push_line(out, host, b"image", &[8, pointer]),
+        ImageFault::Root(pointer) => push_line(out, host, b"image", &[9, pointer]),
+        ImageFault::Scheduler => push_line(out, host, b"image", &[10]),
+    }
+}
+
+/// Adds the last line of a status, where it has one.
+fn push_last_line<H: Host>(out: &mut Output, host: &mut H, status: Status) -> Result<(), SayFault>
+    ensures { Pushes H.Host.own (last_line status) host.old host.new out.old out.new result }
+{
+    match status {
+        Status::Done | Status::SayFault => Ok(()),
+        Status::Usage => push_line(out, host, b"usage", &[]),
+        Status::Image(fault) => push_fault(out, host, fault),
+        Status::DiskFault => push_line(out, host, b"disk fault", &[]),
+        Status::TooLarge => push_line(out, host, b"too large", &[]),
+        Status::OutOfMemory => push_line(out, host, b"out of memory", &[]),
     }
 }
 
@@ -35,14 +47,9 @@ fn say_last_line<H: Host>(host: &mut H, status: Status) -> Result<(), SayFault>
     ensures says { Says H.Host.own (last_line status) host.old host.new }
     ensures cause { HasCause (H.say_faults host.old) (H.say_faults host.new) result }
 {
-    match status {
-        Status::Done | Status::SayFault => Ok(()),
-        Status::Usage => say_line(host, b"usage", &[]),
-        Status::Image(fault) => say_fault(host, fault),
-        Status::DiskFault => say_line(host, b"disk fault", &[]),
-        Status::TooLarge => say_line(host, b"too large", &[]),
-        Status::OutOfMemory => say_line(host, b"out of memory", &[]),
-    }
+    let mut out = Output::new();
+    push_last_line(&mut out, host, status)?;
+    out.finish(host)
 }
 
 /// Says the last line of a status, which stays where that fails.

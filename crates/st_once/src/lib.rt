@@ -1,5 +1,5 @@
-//! The command `once`: reads an image file, runs cycles of its machine, and says how they end and what it shows then. With the
-//! words of a call, its statuses, and its last line where it is refused.
+//! The command `once`: reads an image file, runs cycles of its machine, and says how they end and what it
+//! shows then. With the words of a call, its statuses, and its last line where it is refused.
 #![tactic(auto)]
 
 mod command;

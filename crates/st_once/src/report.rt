@@ -3,23 +3,27 @@ ghost use Rattle.st_outside.specs.Counts.{HasCause};
 ghost use Rattle.st_outside.specs.Runs.{SaysAll};
 ghost use Rattle.st_model.specs.View.{no_devices};
 ghost use Rattle.st_frames.specs.Shown.{IsFrame, shown};
-ghost use Rattle.st_report.specs.Saying.{Says};
-ghost use Rattle.st_once.specs.Ends.{end_text, rest_text};
+ghost use Rattle.st_report.specs.Saying.{Says, Pushes};
+ghost use Rattle.st_once.specs.Ends.{end_text, ending_text};
 
 use st_frames::Frame;
 use st_machine::RunEnd;
 use st_memory::Memory;
 use st_outside::{Host, SayFault};
-use st_report::{say_line, say_state};
+use st_report::{Output, push_line, push_state};
 
-/// Says the line of a run's end, with the number of finished cycles. A snapshot, and bytes that are said, have none.
-fn say_end<H: Host>(host: &mut H, cycles: u32, end: RunEnd) -> Result<(), SayFault>
-    ensures all { OnOk result (SaysAll H.Host.own (end_text cycles end) host.old host.new) }
-    ensures says { Says H.Host.own (end_text cycles end) host.old host.new }
-    ensures cause { HasCause (H.say_faults host.old) (H.say_faults host.new) result }
+/// Adds the line of a run's end, with the number of finished cycles. A snapshot has none, and what is said
+/// neither.
+fn push_end<H: Host>(
+    out: &mut Output,
+    host: &mut H,
+    cycles: u32,
+    end: RunEnd,
+) -> Result<(), SayFault>
+    ensures { Pushes H.Host.own (end_text cycles end) host.old host.new out.old out.new result }
 {
     match end {
-        RunEnd::Ran => say_line(host, b"ran", &[cycles]),
+        RunEnd::Ran => push_line(out, host, b"ran", &[cycles]),
         RunEnd::Space {
             done,
             demand,
@@ -27,13 +31,38 @@ fn say_end<H: Host>(host: &mut H, cycles: u32, end: RunEnd) -> Result<(), SayFau
             words_left,
         } => {
             let numbers = [done, demand.entries, demand.words, entries_left, words_left];
-            say_line(host, b"space", &numbers)
+            push_line(out, host, b"space", &numbers)
         }
-        RunEnd::Quit { done } => say_line(host, b"quit", &[done]),
-        RunEnd::Debugger { done } => say_line(host, b"debugger", &[done]),
-        RunEnd::Dead { done, cause } => say_line(host, b"dead", &[done, u32::from(cause.number())]),
-        RunEnd::Unbuilt { done, code } => say_line(host, b"unbuilt", &[done, u32::from(code)]),
+        RunEnd::Quit { done } => push_line(out, host, b"quit", &[done]),
+        RunEnd::Debugger { done } => push_line(out, host, b"debugger", &[done]),
+        RunEnd::Dead { done, cause } => {
+            push_line(out, host, b"dead", &[done, u32::from(cause.number())])
+        }
+        RunEnd::Unbuilt { done, code } => {
+            push_line(out, host, b"unbuilt", &[done, u32::from(code)])
+        }
         RunEnd::Snapshot { .. } | RunEnd::Say { .. } => Ok(()),
+    }
+}
+
+/// Adds a run's end, and what the machine shows where it isn't dead.
+fn push_run<H: Host, M: Memory>(
+    out: &mut Output,
+    host: &mut H,
+    m: &M,
+    f: &Frame,
+    cycles: u32,
+    end: RunEnd,
+) -> Result<(), SayFault>
+    requires frame { IsFrame (M.view m.now) f.now }
+    requires quiet { (M.view m.now).held.devices ≡ no_devices }
+    ensures { let text = ending_text cycles end (shown (M.view m.now) f.now) in
+        Pushes H.Host.own text host.old host.new out.old out.new result }
+{
+    push_end(out, host, cycles, end)?;
+    match end {
+        RunEnd::Dead { .. } => Ok(()),
+        _ => push_state(out, host, m, f),
     }
 }
 
@@ -47,13 +76,12 @@ pub fn say_run<H: Host, M: Memory>(
 ) -> Result<(), SayFault>
     requires frame { IsFrame (M.view m.now) f.now }
     requires quiet { (M.view m.now).held.devices ≡ no_devices }
-    ensures all { OnOk result (SaysAll H.Host.own (end_text cycles end ++ rest_text end (shown (M.view m.now) f.now)) host.old host.new) }
-    ensures says { Says H.Host.own (end_text cycles end ++ rest_text end (shown (M.view m.now) f.now)) host.old host.new }
+    ensures all { let text = ending_text cycles end (shown (M.view m.now) f.now) in
+        OnOk result (SaysAll H.Host.own text host.old host.new) }
+    ensures says { Says H.Host.own (ending_text cycles end (shown (M.view m.now) f.now)) host.old host.new }
     ensures cause { HasCause (H.say_faults host.old) (H.say_faults host.new) result }
 {
-    say_end(host, cycles, end)?;
-    match end {
-        RunEnd::Dead { .. } => Ok(()),
-        _ => say_state(host, m, f),
-    }
+    let mut out = Output::new();
+    push_run(&mut out, host, m, f, cycles, end)?;
+    out.finish(host)
 }

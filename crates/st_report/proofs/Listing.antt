@@ -61,6 +61,12 @@ all_lines k zero (e ∷ t) none = no_lines k (e ∷ t) none
 all_lines k (suc n) (None ∷ t) none = all_lines (suc k) n t (later t None n (length t) none)
 all_lines k (suc n) (Some o ∷ t) none = ap (λ u. object_text k o ++ u) (all_lines (suc k) n t (later t (Some o) n (length t) none))
 
+-- no object stands at place 0
+pub first_line : (t : Table) → entry t 0 ≡ None → objects_text 0 (take 1 t) ≡ []
+first_line [] none = refl
+first_line (None ∷ t) none = refl
+first_line (Some o ∷ t) none = cc
+
 -- the word of a place, and what a live pointer shows of the table
 pub value_of-even : (j : ℕ) → value_of (2 * j) ≡ Ref j
 unfolding value_of

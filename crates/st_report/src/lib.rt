@@ -1,14 +1,14 @@
-//! The lines of a report: registers, input state, what is held, what is used, and objects. Saying them takes no memory.
+//! The lines of a report: registers, input state, what is held, what is used, and objects. They are added to an
+//! `Output`, from which they are said.
 #![tactic(auto)]
 
-mod numbers;
+mod lines;
 mod objects;
-mod pieces;
+mod output;
 mod state;
+mod words;
 
-pub use numbers::say_line;
-pub use objects::{say_object, say_objects};
-pub use state::say_state;
-
-#[cfg(test)]
-mod tests;
+pub use lines::push_line;
+pub use objects::{push_object, push_objects};
+pub use output::Output;
+pub use state::push_state;

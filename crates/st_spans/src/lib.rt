@@ -43,8 +43,10 @@ fn tally(spans: &[Span], begins: &mut [u16], ends: &mut [u16])
     requires ends { IsCleared ends.old }
     requires begins_within { AreWithin (length begins.old - 1) spans.now }
     requires same { (0 < length begins.old) × (length ends.old ≡ length begins.old) }
-    ensures begins { (w : ℕ) → w < length begins.old → slice_index begins.new w ≡ count_below (begins_at spans.now w) (length spans.now) }
-    ensures ends { (w : ℕ) → w < length begins.old → slice_index ends.new w ≡ count_below (ends_at spans.now w) (length spans.now) }
+    ensures begins { (w : ℕ) → w < length begins.old →
+        slice_index begins.new w ≡ count_below (begins_at spans.now w) (length spans.now) }
+    ensures ends { (w : ℕ) → w < length begins.old →
+        slice_index ends.new w ≡ count_below (ends_at spans.now w) (length spans.now) }
 {
     for k in 0..spans.len() {
         begins[spans[k].from as usize] += 1;
@@ -76,7 +78,8 @@ fn count_owners(alloc: Global, spans: &[Span], words: u32) -> Result<Vec<u16>, A
     requires small { words ≤ 1048576 }
     requires within { AreWithin words spans.now }
     ensures length { IfOk result (λ owners. length owners.items ≡ words + 1) }
-    ensures owners { IfOk result (λ owners. (w : ℕ) → w ≤ words → slice_index owners.items w ≡ owners_of spans.now w) }
+    ensures owners { IfOk result (λ owners. (w : ℕ) → w ≤ words →
+        slice_index owners.items w ≡ owners_of spans.now w) }
 {
     let mut owners = vec![in alloc; 0u16; words as usize + 1]?;
     let mut ends = vec![in alloc; 0u16; words as usize + 1]?;
@@ -97,8 +100,7 @@ fn next_sharing(spans: &[Span], i: usize) -> Option<usize>
     None
 }
 
-/// The first two spans that share a word: the least place of a first one, and then the least place of a second one.
-/// Takes time linear in the words and the spans that lie apart.
+/// The first two spans that share a word: the least place of a first one, and then the least of a second one.
 pub fn first_shared(
     alloc: Global,
     spans: &[Span],

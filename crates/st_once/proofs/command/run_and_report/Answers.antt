@@ -4,7 +4,7 @@ use Rattle.st_model.specs.Machine.{State}
 use Rattle.st_model.specs.Table.{Table}
 use Rattle.st_frames.specs.Shown.{shown}
 use Rattle.st_report.specs.Saying.{Says}
-use Rattle.st_once.specs.Ends.{end_text, rest_text}
+use Rattle.st_once.specs.Ends.{ending_text}
 use Rattle.st_once.proofs.Reported.{run_is}
 use Rattle.st_once.proofs.command.run_and_report.Goals as goal
 
@@ -17,7 +17,7 @@ returns-clause-all g c =
     let same : shown (g.M.Memory.view c.memory.result.now) c.frame.result ≡ shown (g.M.Memory.view new.memory) new.frame = λ i. shown (g.M.Memory.view (c.memory.ensures i)) (c.frame.ensures i) in
     let text = run_is (g.M.Memory.view old.memory) (g.M.Memory.view new.memory) old.frame new.frame n e (g.met.M.Memory.whole old.memory) c.requires.ready.frame (g.met.M.Memory.whole new.memory)
     c.run-end.ensures.asks (c.run-end.ensures.ends c.requires.alive) in
-    subst (λ (t : List ℕ). OnOk c.say_run.result (SaysAll g.H.Host t c.args.host.now c.say_run.new.host)) (ap (λ (s : State Table). end_text n e ++ rest_text e s) same ∙ text) c.say_run.ensures.all
+    subst (λ (t : List ℕ). OnOk c.say_run.result (SaysAll g.H.Host t c.args.host.now c.say_run.new.host)) (ap (λ (s : State Table). ending_text n e s) same ∙ text) c.say_run.ensures.all
 
 pub returns-clause-says : goal.returns-clause-says
 returns-clause-says g c =
@@ -28,4 +28,4 @@ returns-clause-says g c =
     let same : shown (g.M.Memory.view c.memory.result.now) c.frame.result ≡ shown (g.M.Memory.view new.memory) new.frame = λ i. shown (g.M.Memory.view (c.memory.ensures i)) (c.frame.ensures i) in
     let text = run_is (g.M.Memory.view old.memory) (g.M.Memory.view new.memory) old.frame new.frame n e (g.met.M.Memory.whole old.memory) c.requires.ready.frame (g.met.M.Memory.whole new.memory)
     c.run-end.ensures.asks (c.run-end.ensures.ends c.requires.alive) in
-    subst (λ (t : List ℕ). Says g.H.Host t c.args.host.now c.say_run.new.host) (ap (λ (s : State Table). end_text n e ++ rest_text e s) same ∙ text) c.say_run.ensures.says
+    subst (λ (t : List ℕ). Says g.H.Host t c.args.host.now c.say_run.new.host) (ap (λ (s : State Table). ending_text n e s) same ∙ text) c.say_run.ensures.says

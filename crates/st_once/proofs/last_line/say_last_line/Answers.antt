@@ -1,13 +1,9 @@
-use Rattle.std.proofs.Common.{sym, subst}
-use Rattle.st_report.specs.Saying.{Says}
-use Rattle.st_once.specs.declared.status.Status.{Status}
-use Rattle.st_once.specs.Ends.{last_line}
+use Rattle.st_report.proofs.Pushing.{pushed_all, pushed_says, pushed_part}
+use Rattle.std.specs.Prelude.{OnOk}
 use Rattle.st_once.proofs.last_line.say_last_line.Goals as goal
 
-pub returns-in-DiskFault-clause-says : goal.returns-in-DiskFault-clause-says
-returns-in-DiskFault-clause-says g c =
-    subst (λ (s : Status). Says g.H.Host (last_line s) c.args.host.now c.say_line-in-DiskFault.new.host) (sym c.in-DiskFault.is) c.say_line-in-DiskFault.ensures.says
+pub returns-in_err-push_last_line-clause-says : goal.returns-in_err-push_last_line-clause-says
+returns-in_err-push_last_line-clause-says g c = pushed_part c.new-out.ensures c.in_err-push_last_line.ensures
 
-pub returns-in-OutOfMemory-clause-says : goal.returns-in-OutOfMemory-clause-says
-returns-in-OutOfMemory-clause-says g c =
-    subst (λ (s : Status). Says g.H.Host (last_line s) c.args.host.now c.say_line-in-OutOfMemory.new.host) (sym c.in-OutOfMemory.is) c.say_line-in-OutOfMemory.ensures.says
+pub returns-clause-says : goal.returns-clause-says
+returns-clause-says g c = pushed_says c.new-out.ensures c.in_ok-push_last_line.ensures c.finish.ensures.says

@@ -1,10 +1,9 @@
-use Rattle.std.proofs.Common.{refl}
-use Rattle.st_frames.specs.Shown.{shown}
-use Rattle.st_report.proofs.Joined.{text_begun}
-use Rattle.st_once.specs.Ends.{end_text, rest_text}
+use Rattle.st_report.proofs.Pushing.{pushed_all, pushed_says, pushed_part}
+use Rattle.std.specs.Prelude.{OnOk}
 use Rattle.st_once.proofs.report.say_run.Goals as goal
 
-pub returns-in_err-say_end-clause-says : goal.returns-in_err-say_end-clause-says
-returns-in_err-say_end-clause-says g c =
-    let state = shown (g.M.Memory.view c.args.m.now) c.args.f.now in
-    text_begun g.H.Host _ (end_text c.args.cycles c.args.end) (rest_text c.args.end state) _ _ c.say_end.ensures.says refl
+pub returns-in_err-push_run-clause-says : goal.returns-in_err-push_run-clause-says
+returns-in_err-push_run-clause-says g c = pushed_part c.new-out.ensures c.in_err-push_run.ensures
+
+pub returns-clause-says : goal.returns-clause-says
+returns-clause-says g c = pushed_says c.new-out.ensures c.in_ok-push_run.ensures c.finish.ensures.says

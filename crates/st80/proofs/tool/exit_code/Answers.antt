@@ -1,0 +1,6 @@
+use Rattle.std.proofs.Common.{◌∙◌}
+use Rattle.st80.proofs.tool.exit_code.Goals as goal
+
+pub returns : goal.returns
+returns g c =
+    (c.tool.result, c.from.ensures ∙ c.number.ensures, record { usage = c.tool.ensures.usage; once = c.tool.ensures.once; cause = c.tool.ensures.cause })
