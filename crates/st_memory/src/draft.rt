@@ -33,7 +33,7 @@ impl<'a, M: Memory> Draft<'a, M> {
     /// A memory without changes.
     pub fn new(base: &'a M) -> Draft<'a, M>
         ensures table { drafted (M.view result.base.now).objects result.notes result.exchanges
-                ≡ (M.view base.now).objects }
+            ≡ (M.view base.now).objects }
         ensures head { (M.view result.base.now).head ≡ (M.view base.now).head }
         ensures fixed { M.view result.base.now ≡ M.view base.now }
         ensures room { 24 - count_of result.notes result.exchanges ≡ 24 }
@@ -206,7 +206,7 @@ impl<'a, M: Memory> Draft<'a, M> {
         ensures head { (M.view self.new.base.now).head ≡ (M.view self.old.base.now).head }
         ensures fixed { M.view self.new.base.now ≡ M.view self.old.base.now }
         ensures room { count_of self.new.notes self.new.exchanges
-                ≡ count_of self.old.notes self.old.exchanges + 1 }
+            ≡ count_of self.old.notes self.old.exchanges + 1 }
     {
         self.notes.note(change);
     }

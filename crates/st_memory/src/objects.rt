@@ -81,7 +81,7 @@ pub trait Objects {
     fn store_field(&mut self, o: Word, i: u32, x: Word) -> Result<(), Dead>
         requires { 1 ≤ room self.old }
         ensures stores { Changes (store_field names (word o) i (word x)) itself
-                (table self.old) (head self.old) result (table self.new) }
+            (table self.old) (head self.old) result (table self.new) }
         ensures head { head self.new ≡ head self.old }
         ensures room { room self.old ≤ room self.new + 1 }
         ensures fixed { fixed self.new ≡ fixed self.old };
@@ -97,7 +97,7 @@ pub trait Objects {
     ) -> Result<(), Dead>
         requires { 1 ≤ room self.old }
         ensures transfers { Changes (transfer names n (word source) from (word target) to) itself
-                (table self.old) (head self.old) result (table self.new) }
+            (table self.old) (head self.old) result (table self.new) }
         ensures head { head self.new ≡ head self.old }
         ensures room { room self.old ≤ room self.new + 1 }
         ensures fixed { fixed self.new ≡ fixed self.old };
@@ -106,7 +106,7 @@ pub trait Objects {
     fn exchange(&mut self, a: Word, b: Word) -> Result<(), Dead>
         requires { 1 ≤ room self.old }
         ensures exchanges { Changes (exchange names (word a) (word b)) itself
-                (table self.old) (head self.old) result (table self.new) }
+            (table self.old) (head self.old) result (table self.new) }
         ensures head { head self.new ≡ head self.old }
         ensures room { room self.old ≤ room self.new + 1 }
         ensures fixed { fixed self.new ≡ fixed self.old };
@@ -117,7 +117,7 @@ pub trait Objects {
         requires class { word class ≢ Ref (place_of MethodClass) }
         requires small { n ≤ 65533 }
         ensures makes { Changes (new_object names (word class) n) word
-                (table self.old) (head self.old) result (table self.new) }
+            (table self.old) (head self.old) result (table self.new) }
         ensures head { head self.new ≡ head self.old }
         ensures room { room self.old ≤ room self.new + 1 }
         ensures fixed { fixed self.new ≡ fixed self.old };
