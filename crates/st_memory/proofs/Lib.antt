@@ -12,5 +12,6 @@ pub mod Renaming
 pub mod Replaying
 pub mod Storing
 mod Swapping
+pub mod Units
 mod Wide
 pub mod Writing

@@ -76,7 +76,7 @@ abbrev pub look_at : {A : Type 0} → (Kind → Bool) → (Object → Option A) 
 look_at test f cause (Small n) t = Died dead.Small
 look_at test f cause (Ref n) t = looked test f cause (entry t n)
 
-or_die_looks : {A : Type 0} (cause : Dead) (x : Option A) (s : State Table) → (or_die cause x).run s ≡ here s (or_got cause x)
+pub or_die_looks : {A : Type 0} (cause : Dead) (x : Option A) (s : State Table) → (or_die cause x).run s ≡ here s (or_got cause x)
 unfolding or_die die answer
 or_die_looks cause None s = refl
 or_die_looks cause (Some a) s = refl

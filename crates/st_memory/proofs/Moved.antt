@@ -35,7 +35,7 @@ pub names_of : (t : Table) (pairs : List Exchange) (n : ℕ) → AreOf t pairs n
 names_of t pairs n of v w is = subst (λ x. Names (exchanged_by t pairs n) t v x) (sym is) (names_all pairs t n of v)
 
 module _ {t u : Table} {v w : Value} (names : Names t u v w) where
-  look_names : {A : Type 0} (test : Kind → Bool) (f : Object → Option A) (cause : Dead) → look_at test f cause v t ≡ look_at test f cause w u
+  pub look_names : {A : Type 0} (test : Kind → Bool) (f : Object → Option A) (cause : Dead) → look_at test f cause v t ≡ look_at test f cause w u
   look_names test f cause = by_value v w names.object names.small
     where
       by_value : (v w : Value) → named_object t v ≡ named_object u w → is_small v ≡ is_small w → look_at test f cause v t ≡ look_at test f cause w u
@@ -54,7 +54,7 @@ module _ {t u : Table} {v w : Value} (names : Names t u v w) where
       by_value (Ref a) (Ref b) e s = ap class_in e
 
   module _ {A B : Type 0} (P Q R S : Step Table A) (f : B → A) (g h : Table → Got A) (looks : Looks R g) (other : Looks S h) (p : P ≡ R) (q : Q ≡ S) (same : g t ≡ h u) (r : Result B Dead) where
-    read_names : Reads Q f u r → Reads P f t r
+    pub read_names : Reads Q f u r → Reads P f t r
     read_names reads = given Q P R f g looks p u t r (same ∙ taken P Q S f h other q t u r reads)
 
   pub count_names : (r : Result ℕ Dead) → Reads (count_fields apart w) itself u r → Reads (count_fields apart v) itself t r

@@ -14,12 +14,12 @@ use Rattle.st_model.specs.declared.page.PageObject.{PageObject}
 use Rattle.st_model.specs.declared.page.PageObject.TheVariants as page
 use Rattle.st_model.specs.Objects.{Object, place_of, is_pointers, words_of, nil}
 use Rattle.st_model.specs.Formed.{fresh, IsMakeable}
-use Rattle.st_model.specs.Steps.{object, object_named, found, stored_at, store_at, set_field, made, make_named, make, new_object, fetch_field, count_fields, class_of, literal, byte_at, store_field, transfer, of_page}
+use Rattle.st_model.specs.Steps.{object, object_named, found, stored_at, store_at, set_field, made, make_named, make, new_object, fetch_field, count_fields, class_of, literal, byte_at, store_field, transfer, fetch_word, fetch_byte, of_page}
 use Rattle.st_model.specs.Methods.{method_header, literal_from_last}
 use Rattle.st_model.specs.Table.{Table, table, bounded_table, entry, first_free, placed}
 use Rattle.st_model.specs.Lookup.{half_word, pointer_if}
 use Rattle.st_model.specs.View.{View, IsWhole, Lacks, SmallInteger, Gone, OtherKind, TooFew, is_live, object_of, fits, demand_of}
-use Rattle.st_model.proofs.Tabular.{fetch_field-as, count_fields-as, class_of-as, literal-as, byte_at-as, method_header-as, literal_from_last-as, store_field-as, transfer-as, of_page-as}
+use Rattle.st_model.proofs.Tabular.{fetch_field-as, count_fields-as, class_of-as, literal-as, byte_at-as, method_header-as, literal_from_last-as, store_field-as, transfer-as, fetch_word-as, fetch_byte-as, of_page-as}
 use Rattle.st_model.proofs.TableLemmas.{entry_past}
 use Rattle.st_model.proofs.Words.{value_of-nil}
 use Rattle.st_memory.specs.Tabular.{bounded_tabular}
@@ -91,11 +91,17 @@ store_field-bounded v i x = store_field-as bounded_tabular v i x
 pub transfer-bounded : (n : ℕ) (source : Value) (from : ℕ) (target : Value) (to : ℕ) → transfer bounded_table n source from target to ≡ transfer table n source from target to
 transfer-bounded n source from target to = transfer-as bounded_tabular n source from target to
 
+pub fetch_word-bounded : (v : Value) (i : ℕ) → fetch_word bounded_table v i ≡ fetch_word table v i
+fetch_word-bounded v i = fetch_word-as bounded_tabular v i
+
+pub fetch_byte-bounded : (v : Value) (i : ℕ) → fetch_byte bounded_table v i ≡ fetch_byte table v i
+fetch_byte-bounded v i = fetch_byte-as bounded_tabular v i
+
 pub of_page-bounded : (q : PageObject) → of_page bounded_table q ≡ of_page table q
 of_page-bounded q = of_page-as bounded_tabular q
 
 -- a bounded memory does as the table does, but where it makes objects
-pub ruleset bounded = (fetch_field-bounded, count_fields-bounded, class_of-bounded, literal-bounded, byte_at-bounded, method_header-bounded, literal_from_last-bounded, store_field-bounded, transfer-bounded, of_page-bounded)
+pub ruleset bounded = (fetch_field-bounded, count_fields-bounded, class_of-bounded, literal-bounded, byte_at-bounded, method_header-bounded, literal_from_last-bounded, store_field-bounded, transfer-bounded, fetch_word-bounded, fetch_byte-bounded, of_page-bounded)
 
 -- why an object lacks fields
 

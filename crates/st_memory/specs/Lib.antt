@@ -1,3 +1,4 @@
 pub mod Drafts
+pub mod Left
 pub mod Noted
 pub mod Tabular

@@ -32,7 +32,8 @@ pub struct Draft<'a, M: Memory> {
 impl<'a, M: Memory> Draft<'a, M> {
     /// A memory without changes.
     pub fn new(base: &'a M) -> Draft<'a, M>
-        ensures table { drafted (M.view result.base.now).objects result.notes result.exchanges ≡ (M.view base.now).objects }
+        ensures table { drafted (M.view result.base.now).objects result.notes result.exchanges
+            ≡ (M.view base.now).objects }
         ensures head { (M.view result.base.now).head ≡ (M.view base.now).head }
         ensures fixed { M.view result.base.now ≡ M.view base.now }
         ensures room { 24 - count_of result.notes result.exchanges ≡ 24 }
@@ -204,7 +205,8 @@ impl<'a, M: Memory> Draft<'a, M> {
         ensures exchanges { self.new.exchanges ≡ self.old.exchanges }
         ensures head { (M.view self.new.base.now).head ≡ (M.view self.old.base.now).head }
         ensures fixed { M.view self.new.base.now ≡ M.view self.old.base.now }
-        ensures room { count_of self.new.notes self.new.exchanges ≡ count_of self.old.notes self.old.exchanges + 1 }
+        ensures room { count_of self.new.notes self.new.exchanges
+            ≡ count_of self.old.notes self.old.exchanges + 1 }
     {
         self.notes.note(change);
     }
@@ -319,6 +321,23 @@ impl<'a, M: Memory> Objects for Draft<'a, M> {
         match self.find_made(before) {
             Some(_) => Err(Dead::Kind),
             None => self.base.byte_at(before, ip),
+        }
+    }
+
+    fn fetch_word(&self, o: Word, i: u32) -> Result<u16, Dead> {
+        let before = self.exchanges.word_before(o);
+        match self.find_made(before) {
+            Some(_) => Err(Dead::Kind),
+            None => self.base.fetch_word(before, i),
+        }
+    }
+
+    fn free(&self) -> Demand {
+        let made = self.demand();
+        let free = self.base.free();
+        Demand {
+            entries: free.entries.saturating_sub(made.entries),
+            words: free.words.saturating_sub(made.words),
         }
     }
 

@@ -194,6 +194,28 @@ impl<M: Memory> Objects for M {
         }
     }
 
+    #[tactic(auto, using(st_model::proofs::Runs::runs, crate::proofs::Wide::bounded), unfolding(st_model::specs::Steps::fetch_word))]
+    fn fetch_word(&self, o: Word, i: u32) -> Result<u16, Dead> {
+        let object = live_object(self, o)?;
+        if !self.kind(object).is_words() {
+            return Err(Dead::Kind);
+        }
+        if i < self.size(object) {
+            Ok(self.word(object, i))
+        } else {
+            Err(Dead::Field)
+        }
+    }
+
+    fn free(&self) -> Demand {
+        let used = self.used();
+        let capacity = self.capacity();
+        Demand {
+            entries: capacity.entries.saturating_sub(used.entries),
+            words: capacity.words.saturating_sub(used.words),
+        }
+    }
+
     #[tactic(auto, using(st_model::proofs::Runs::runs, crate::proofs::Wide::bounded, crate::proofs::Wide::run_set_gone), unfolding(st_model::specs::Steps::store_field))]
     fn store_field(&mut self, o: Word, i: u32, x: Word) -> Result<(), Dead> {
         let object = live_object(self, o)?;

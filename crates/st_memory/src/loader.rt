@@ -36,8 +36,10 @@ pub trait Loader: Sized + Drop {
         requires class { is_small (value class) ≡ false }
         requires makeable { IsMakeable (class.0 / 2) kind size literals }
         requires entries { total_used one (loaded self.old).objects + 1 ≤ (loaded self.old).head.entries }
-        requires words { total_used words_of (loaded self.old).objects + words_of (fresh (class.0 / 2) kind size literals) ≤ (loaded self.old).head.words }
-        ensures objects { (loaded self.new).objects ≡ with_object (loaded self.old).objects (value at) (fresh (class.0 / 2) kind size literals) }
+        requires words { total_used words_of (loaded self.old).objects
+            + words_of (fresh (class.0 / 2) kind size literals) ≤ (loaded self.old).head.words }
+        ensures objects { (loaded self.new).objects
+            ≡ with_object (loaded self.old).objects (value at) (fresh (class.0 / 2) kind size literals) }
         ensures held { (loaded self.new).held ≡ (loaded self.old).held }
         ensures head { (loaded self.new).head ≡ (loaded self.old).head };
 
@@ -46,7 +48,8 @@ pub trait Loader: Sized + Drop {
         requires live { is_live (loaded self.old).objects (value o) ≡ true }
         requires range { at < length (object_of (loaded self.old).objects (value o)).fields }
         requires header { IsHeader (object_of (loaded self.old).objects (value o)) at (value v) }
-        ensures objects { (loaded self.new).objects ≡ with_stored (loaded self.old).objects (value o) at (value v) }
+        ensures objects { (loaded self.new).objects
+            ≡ with_stored (loaded self.old).objects (value o) at (value v) }
         ensures held { (loaded self.new).held ≡ (loaded self.old).held }
         ensures head { (loaded self.new).head ≡ (loaded self.old).head };
 
@@ -64,7 +67,8 @@ pub trait Loader: Sized + Drop {
         requires live { is_live (loaded self.old).objects (value o) ≡ true }
         requires kind { is_words (object_of (loaded self.old).objects (value o)).kind ≡ false }
         requires above { first_unit (object_of (loaded self.old).objects (value o)) ≤ at }
-        requires range { at < first_unit (object_of (loaded self.old).objects (value o)) + length (object_of (loaded self.old).objects (value o)).units }
+        requires range { at < first_unit (object_of (loaded self.old).objects (value o))
+            + length (object_of (loaded self.old).objects (value o)).units }
         ensures objects { (loaded self.new).objects ≡ with_unit (loaded self.old).objects (value o) (at - first_unit (object_of (loaded self.old).objects (value o))) v }
         ensures held { (loaded self.new).held ≡ (loaded self.old).held }
         ensures head { (loaded self.new).head ≡ (loaded self.old).head };

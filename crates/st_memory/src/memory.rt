@@ -27,7 +27,8 @@ pub trait Memory: Drop {
     fn kind(&self, o: Oop) -> Kind
         requires { is_live (view self.now).objects (value o) ≡ true }
         ensures kind { result ≡ (object_of (view self.now).objects (value o)).kind }
-        ensures method { is_method result ≡ true → 0 < length (object_of (view self.now).objects (value o)).fields };
+        ensures method { is_method result ≡ true
+            → 0 < length (object_of (view self.now).objects (value o)).fields };
 
     /// How many fields, words or bytes it has; a Method's header and literals count as bytes.
     fn size(&self, o: Oop) -> u32
@@ -39,7 +40,8 @@ pub trait Memory: Drop {
     fn pointer(&self, o: Oop, at: u32) -> Oop
         requires live { is_live (view self.now).objects (value o) ≡ true }
         requires range { at < length (object_of (view self.now).objects (value o)).fields }
-        ensures field { slice_get (object_of (view self.now).objects (value o)).fields at ≡ Some (value result) }
+        ensures field { slice_get (object_of (view self.now).objects (value o)).fields at
+            ≡ Some (value result) }
         ensures header { IsHeader (object_of (view self.now).objects (value o)) at (value result) }
         ensures known { IsKnown (view self.now).objects (value result) };
 
@@ -64,7 +66,8 @@ pub trait Memory: Drop {
         requires range { at < length (object_of (view self.old).objects (value o)).fields }
         requires known { IsKnown (view self.old).objects (value v) }
         requires header { IsHeader (object_of (view self.old).objects (value o)) at (value v) }
-        ensures objects { (view self.new).objects ≡ with_stored (view self.old).objects (value o) at (value v) }
+        ensures objects { (view self.new).objects
+            ≡ with_stored (view self.old).objects (value o) at (value v) }
         ensures held { (view self.new).held ≡ (view self.old).held }
         ensures head { (view self.new).head ≡ (view self.old).head };
 
@@ -98,7 +101,8 @@ pub trait Memory: Drop {
         requires makeable { IsMakeable (class.0 / 2) kind size literals }
         requires room { fits (view self.old) (demand_of (fresh (class.0 / 2) kind size literals)) ≡ true }
         ensures pointer { value result ≡ Ref (first_free (view self.old).objects) }
-        ensures objects { (view self.new).objects ≡ placed (view self.old).objects (fresh (class.0 / 2) kind size literals) }
+        ensures objects { (view self.new).objects
+            ≡ placed (view self.old).objects (fresh (class.0 / 2) kind size literals) }
         ensures held { (view self.new).held ≡ (view self.old).held }
         ensures head { (view self.new).head ≡ (view self.old).head };
 
@@ -107,7 +111,8 @@ pub trait Memory: Drop {
     fn swap(&mut self, a: Oop, b: Oop)
         requires first { is_live (view self.old).objects (value a) ≡ true }
         requires second { is_live (view self.old).objects (value b) ≡ true }
-        ensures objects { (view self.new).objects ≡ with_exchanged (view self.old).objects (value a) (value b) }
+        ensures objects { (view self.new).objects
+            ≡ with_exchanged (view self.old).objects (value a) (value b) }
         ensures held { (view self.new).held ≡ (view self.old).held }
         ensures head { (view self.new).head ≡ (view self.old).head };
 
@@ -131,15 +136,18 @@ pub trait Memory: Drop {
 
     /// How many objects are kept, and how many words they have.
     fn used(&self) -> Demand
-        ensures { result ≡ record { entries = total_used one (view self.now).objects; words = total_used words_of (view self.now).objects } };
+        ensures { let objects = (view self.now).objects in
+            result ≡ record { entries = total_used one objects; words = total_used words_of objects } };
 
     /// How many objects there can be, and how many words they can have.
     fn capacity(&self) -> Demand
-        ensures { result ≡ record { entries = (view self.now).head.entries; words = (view self.now).head.words } };
+        ensures { let head = (view self.now).head in
+            result ≡ record { entries = head.entries; words = head.words } };
 
     /// The least kept pointer above `after` of an object of this class.
     fn next_of(&self, class: Oop, after: u32) -> Option<Oop>
-        ensures found { IfSome result (λ o. is_instance (view self.now).objects (value class) (value o) ≡ true) }
+        ensures found { IfSome result (λ o. is_instance (view self.now).objects (value class) (value o)
+            ≡ true) }
         ensures above { IfSome result (λ o. after < o.0) }
         ensures least { IfSome result (λ o. (p : Oop) → after < p.0 → p.0 < o.0
             → is_instance (view self.now).objects (value class) (value p) ≡ false) }
@@ -148,9 +156,12 @@ pub trait Memory: Drop {
 
     /// The least kept pointer above `after`.
     fn next_live(&self, after: u32) -> Option<Oop>
-        ensures found { IfSome result (λ o. (is_live (view self.now).objects (value o) ≡ true) × (after < o.0)) }
-        ensures least { IfSome result (λ o. (p : Oop) → after < p.0 → p.0 < o.0 → is_live (view self.now).objects (value p) ≡ false) }
-        ensures none { IfNone result ((p : Oop) → after < p.0 → is_live (view self.now).objects (value p) ≡ false) };
+        ensures found { IfSome result (λ o. (is_live (view self.now).objects (value o) ≡ true)
+            × (after < o.0)) }
+        ensures least { IfSome result (λ o. (p : Oop) → after < p.0 → p.0 < o.0
+            → is_live (view self.now).objects (value p) ≡ false) }
+        ensures none { IfNone result ((p : Oop) → after < p.0 → is_live (view self.now).objects (value p)
+            ≡ false) };
 
     /// The pointer of the global name table, or 0.
     fn globals(&self) -> Oop

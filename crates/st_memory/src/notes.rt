@@ -19,7 +19,8 @@ pub struct Notes {
     pub count: u32,
     pub ghost few: { made_count + count ≤ 24 },
     pub ghost sizes: { (length made ≡ 24) × (length changes ≡ 24) },
-    pub ghost named: { (k : ℕ) → k < count → highest (slice_index_or changes k no_change) < 65536 + 2 * made_count },
+    pub ghost named: { (k : ℕ) → k < count → highest (slice_index_or changes k no_change) < 65536
+        + 2 * made_count },
     pub ghost counted: { words ≡ total_used words_of (made_table (take made_count made)) },
     pub ghost small: { words ≤ 65535 * made_count },
     pub ghost sized: { (k : ℕ) → k < made_count → (slice_index_or made k no_made).size ≤ 65533 },

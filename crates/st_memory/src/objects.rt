@@ -2,15 +2,16 @@ ghost use Rattle.std.specs.Prelude.{◌≡◌, ◌≢◌, ℕ, ◌+◌, ◌≤�
 ghost use Rattle.st_model.specs.Values.{Ref, word};
 ghost use Rattle.st_model.specs.Objects.{place_of};
 ghost use Rattle.st_model.specs.declared.page.PageObject.TheVariants.{MethodClass};
-ghost use Rattle.st_model.specs.Machine.{ObjectMemory, Head, is_there};
+ghost use Rattle.st_model.specs.Machine.{ObjectMemory, Head, is_there, used};
 ghost use Rattle.st_model.specs.Table.{Table, IsTabular};
-ghost use Rattle.st_model.specs.Steps.{fetch_field, count_fields, class_of, literal, byte_at, store_field, transfer, exchange, new_object};
+ghost use Rattle.st_model.specs.Steps.{fetch_field, count_fields, class_of, literal, byte_at, fetch_word, store_field, transfer, exchange, new_object};
 ghost use Rattle.st_model.specs.Methods.{method_header, literal_from_last};
 ghost use Rattle.st_model.specs.Lookup.{half_word};
 ghost use Rattle.st_model.specs.Calls.{Reads, Changes, itself};
 ghost use Rattle.st_model.specs.View.{View};
+ghost use Rattle.st_memory.specs.Left.{left_of};
 
-use st_model::{Dead, Word};
+use st_model::{Dead, Demand, Word};
 
 /// The objects that the row of a bytecode reads and changes: those of a memory, or those of a draft over one, which
 /// tells what a row would do. Each call does what the step of its name in the definitions does, and dies as that does.
@@ -68,10 +69,19 @@ pub trait Objects {
     fn byte_at(&self, method: Word, ip: i32) -> Result<u8, Dead>
         ensures { Reads (byte_at names (word method) ip) itself (table self.now) result };
 
+    /// Word i of an object of kind Words.
+    fn fetch_word(&self, o: Word, i: u32) -> Result<u16, Dead>
+        ensures { Reads (fetch_word names (word o) i) itself (table self.now) result };
+
+    /// How many entries and words of the capacities the objects leave.
+    fn free(&self) -> Demand
+        ensures { result ≡ left_of (head self.now) (used names (table self.now)) };
+
     /// Stores x in field i of an object of kind Pointers.
     fn store_field(&mut self, o: Word, i: u32, x: Word) -> Result<(), Dead>
         requires { 1 ≤ room self.old }
-        ensures stores { Changes (store_field names (word o) i (word x)) itself (table self.old) (head self.old) result (table self.new) }
+        ensures stores { Changes (store_field names (word o) i (word x)) itself
+            (table self.old) (head self.old) result (table self.new) }
         ensures head { head self.new ≡ head self.old }
         ensures room { room self.old ≤ room self.new + 1 }
         ensures fixed { fixed self.new ≡ fixed self.old };
@@ -86,7 +96,8 @@ pub trait Objects {
         to: u32,
     ) -> Result<(), Dead>
         requires { 1 ≤ room self.old }
-        ensures transfers { Changes (transfer names n (word source) from (word target) to) itself (table self.old) (head self.old) result (table self.new) }
+        ensures transfers { Changes (transfer names n (word source) from (word target) to) itself
+            (table self.old) (head self.old) result (table self.new) }
         ensures head { head self.new ≡ head self.old }
         ensures room { room self.old ≤ room self.new + 1 }
         ensures fixed { fixed self.new ≡ fixed self.old };
@@ -94,7 +105,8 @@ pub trait Objects {
     /// Exchanges what two words name: class, kind and body of each are then those of the other.
     fn exchange(&mut self, a: Word, b: Word) -> Result<(), Dead>
         requires { 1 ≤ room self.old }
-        ensures exchanges { Changes (exchange names (word a) (word b)) itself (table self.old) (head self.old) result (table self.new) }
+        ensures exchanges { Changes (exchange names (word a) (word b)) itself
+            (table self.old) (head self.old) result (table self.new) }
         ensures head { head self.new ≡ head self.old }
         ensures room { room self.old ≤ room self.new + 1 }
         ensures fixed { fixed self.new ≡ fixed self.old };
@@ -104,7 +116,8 @@ pub trait Objects {
         requires room { 1 ≤ room self.old }
         requires class { word class ≢ Ref (place_of MethodClass) }
         requires small { n ≤ 65533 }
-        ensures makes { Changes (new_object names (word class) n) word (table self.old) (head self.old) result (table self.new) }
+        ensures makes { Changes (new_object names (word class) n) word
+            (table self.old) (head self.old) result (table self.new) }
         ensures head { head self.new ≡ head self.old }
         ensures room { room self.old ≤ room self.new + 1 }
         ensures fixed { fixed self.new ≡ fixed self.old };

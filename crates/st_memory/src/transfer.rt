@@ -11,7 +11,8 @@ fn copy_from_first<M: Memory>(m: &mut M, n: u32, source: Oop, from: u32, target:
     requires target { Has (M.view m.old).objects (value target) to n }
     requires small { (from + n ≤ 131066) × (to + n ≤ 131066) }
     requires down { value source ≡ value target → to ≤ from }
-    ensures objects { (M.view m.new).objects ≡ with_fields (M.view m.old).objects (value target) to (fields_from (M.view m.old).objects (value source) from n) }
+    ensures objects { let old = (M.view m.old).objects in
+        (M.view m.new).objects ≡ with_fields old (value target) to (fields_from old (value source) from n) }
     ensures held { (M.view m.new).held ≡ (M.view m.old).held }
     ensures head { (M.view m.new).head ≡ (M.view m.old).head }
 {
@@ -27,7 +28,8 @@ fn copy_from_last<M: Memory>(m: &mut M, n: u32, source: Oop, from: u32, target: 
     requires target { Has (M.view m.old).objects (value target) to n }
     requires small { (from + n ≤ 131066) × (to + n ≤ 131066) }
     requires up { value source ≡ value target → from ≤ to }
-    ensures objects { (M.view m.new).objects ≡ with_fields (M.view m.old).objects (value target) to (fields_from (M.view m.old).objects (value source) from n) }
+    ensures objects { let old = (M.view m.old).objects in
+        (M.view m.new).objects ≡ with_fields old (value target) to (fields_from old (value source) from n) }
     ensures held { (M.view m.new).held ≡ (M.view m.old).held }
     ensures head { (M.view m.new).head ≡ (M.view m.old).head }
 {
@@ -44,7 +46,8 @@ pub fn copy_fields<M: Memory>(m: &mut M, n: u32, source: Oop, from: u32, target:
     requires source { Has (M.view m.old).objects (value source) from n }
     requires target { Has (M.view m.old).objects (value target) to n }
     requires small { (from + n ≤ 131066) × (to + n ≤ 131066) }
-    ensures objects { (M.view m.new).objects ≡ with_fields (M.view m.old).objects (value target) to (fields_from (M.view m.old).objects (value source) from n) }
+    ensures objects { let old = (M.view m.old).objects in
+        (M.view m.new).objects ≡ with_fields old (value target) to (fields_from old (value source) from n) }
     ensures held { (M.view m.new).held ≡ (M.view m.old).held }
     ensures head { (M.view m.new).head ≡ (M.view m.old).head }
 {

@@ -14,25 +14,8 @@ use std::alloc::{AllocError, Global};
 use std::process::Abort;
 use std::test::Fail;
 
-/// An object of an image.
-#[derive(Clone, Copy)]
-struct Shape {
-    at: u16,
-    class: u16,
-    kind: Kind,
-    size: u32,
-    literals: u32,
-}
-
-const fn shape(at: u16, class: u16, kind: Kind, size: u32, literals: u32) -> Shape {
-    Shape {
-        at,
-        class,
-        kind,
-        size,
-        literals,
-    }
-}
+/// An object of an image: its pointer, its class, its kind, its size and how many literals it has.
+type Shape = (u16, u16, Kind, u32, u32);
 
 /// The objects of the root page that have no fields in any image here.
 const PAGE: [u16; 17] = [
@@ -41,17 +24,17 @@ const PAGE: [u16; 17] = [
 
 /// The other objects of image B.
 const B: [Shape; 7] = [
-    shape(12, 12, Kind::Pointers, 0, 0),
-    shape(48, 12, Kind::Pointers, 0, 0),
-    shape(8, 12, Kind::Pointers, 2, 0),
-    shape(58, 12, Kind::Pointers, 2, 0),
-    shape(60, 12, Kind::Pointers, 4, 0),
-    shape(62, 22, Kind::Pointers, 18, 0),
-    shape(64, 34, Kind::Method, 7, 0),
+    (12, 12, Kind::Pointers, 0, 0),
+    (48, 12, Kind::Pointers, 0, 0),
+    (8, 12, Kind::Pointers, 2, 0),
+    (58, 12, Kind::Pointers, 2, 0),
+    (60, 12, Kind::Pointers, 4, 0),
+    (62, 22, Kind::Pointers, 18, 0),
+    (64, 34, Kind::Method, 7, 0),
 ];
 
 /// Stores into fields of image B: the object, the field's number, the word.
-const B_FIELDS: [(u16, u32, u16); 8] = [
+const B_FIELDS: [(u16, u32, u16); 7] = [
     (8, 1, 58),
     (58, 1, 60),
     (60, 1, 62),
@@ -59,7 +42,6 @@ const B_FIELDS: [(u16, u32, u16); 8] = [
     (62, 1, 7),
     (62, 2, 3),
     (62, 3, 64),
-    (64, 0, 257),
 ];
 
 /// Its bytes: the object, the byte's number, the byte.
@@ -73,20 +55,20 @@ const B_BYTES: [(u16, u32, u8); 5] = [
 
 /// The other objects of image C.
 const C: [Shape; 11] = [
-    shape(12, 12, Kind::Pointers, 3, 0),
-    shape(48, 12, Kind::Pointers, 2, 0),
-    shape(8, 12, Kind::Pointers, 2, 0),
-    shape(58, 12, Kind::Pointers, 2, 0),
-    shape(60, 12, Kind::Pointers, 4, 0),
-    shape(62, 22, Kind::Pointers, 18, 0),
-    shape(64, 34, Kind::Method, 7, 1),
-    shape(66, 56, Kind::Bytes, 1, 0),
-    shape(68, 12, Kind::Pointers, 3, 0),
-    shape(70, 16, Kind::Pointers, 1, 0),
-    shape(72, 34, Kind::Method, 3, 0),
+    (12, 12, Kind::Pointers, 3, 0),
+    (48, 12, Kind::Pointers, 2, 0),
+    (8, 12, Kind::Pointers, 2, 0),
+    (58, 12, Kind::Pointers, 2, 0),
+    (60, 12, Kind::Pointers, 4, 0),
+    (62, 22, Kind::Pointers, 18, 0),
+    (64, 34, Kind::Method, 7, 1),
+    (66, 56, Kind::Bytes, 1, 0),
+    (68, 12, Kind::Pointers, 3, 0),
+    (70, 16, Kind::Pointers, 1, 0),
+    (72, 34, Kind::Method, 3, 0),
 ];
 
-const C_FIELDS: [(u16, u32, u16); 17] = [
+const C_FIELDS: [(u16, u32, u16); 15] = [
     (8, 1, 58),
     (12, 1, 68),
     (12, 2, 1),
@@ -98,8 +80,6 @@ const C_FIELDS: [(u16, u32, u16); 17] = [
     (62, 1, 11),
     (62, 2, 1),
     (62, 3, 64),
-    (64, 0, 3),
-    (64, 1, 32767),
     (68, 0, 3),
     (68, 1, 70),
     (68, 2, 66),
@@ -141,7 +121,9 @@ pub fn is_makeable(class: Oop, kind: Kind, size: u32, literals: u32) -> bool
         Kind::Pointers | Kind::Words | Kind::Bytes => {
             class.0 / 2 != 17 && size <= 100 && literals == 0
         }
-        Kind::Method => class.0 / 2 == 17 && 2 + 2 * literals <= size && size <= 100,
+        Kind::Method => {
+            class.0 / 2 == 17 && literals <= 63 && 2 + 2 * literals <= size && size <= 100
+        }
     }
 }
 
@@ -158,31 +140,46 @@ pub fn words_for(class: Oop, kind: Kind, size: u32, literals: u32) -> u32
 }
 
 fn place(rt: &impl Abort, l: &mut PlainLoader, o: Shape) {
-    let at = Oop(o.at);
-    let class = Oop(o.class);
+    let (at, class, kind, size, literals) = o;
+    let at = Oop(at);
+    let class = Oop(class);
     let used = l.contents.objects.used();
     let capacity = l.contents.head.capacity;
     assert!(rt; !at.is_small() && at.0 != 0 && !class.is_small());
     assert!(rt; !l.contents.objects.live(at));
-    assert!(rt; is_makeable(class, o.kind, o.size, o.literals));
+    assert!(rt; is_makeable(class, kind, size, literals));
     assert!(rt; used.entries < capacity.entries && used.words <= capacity.words);
-    assert!(rt;
-        words_for(class, o.kind, o.size, o.literals) <= capacity.words - used.words
-    );
-    l.place(at, class, o.kind, o.size, o.literals);
+    assert!(rt; words_for(class, kind, size, literals) <= capacity.words - used.words);
+    l.place(at, class, kind, size, literals);
 }
 
-/// Stores into a field; in the header of a method only what counts the same literals.
-#[tactic(auto, using(st_model::proofs::Words::words))]
+/// Stores into a field of an object that is no method.
 fn store(rt: &impl Abort, l: &mut PlainLoader, o: u16, at: u32, v: u16) {
     let o = Oop(o);
     assert!(rt; l.contents.objects.live(o));
     let entry = l.contents.objects.live_entry(o);
+    assert!(rt; !entry.kind.is_method());
     assert!(rt; at < entry.fields);
-    assert!(rt;
-        !entry.kind.is_method() || at > 0 || v % 2 == 1 && u32::from(v / 2 % 64) + 1 == entry.fields
-    );
     l.set_pointer(o, at, Oop(v));
+}
+
+/// Stores the first literal of a method.
+fn store_literal(rt: &impl Abort, l: &mut PlainLoader, o: u16, v: u16) {
+    let o = Oop(o);
+    assert!(rt; l.contents.objects.live(o));
+    let entry = l.contents.objects.live_entry(o);
+    assert!(rt; 1 < entry.fields);
+    l.set_pointer(o, 1, Oop(v));
+}
+
+#[tactic(auto, using(st_model::proofs::Words::words))]
+fn store_header(rt: &impl Abort, l: &mut PlainLoader, o: u16, header: u16) {
+    let o = Oop(o);
+    assert!(rt; l.contents.objects.live(o));
+    let entry = l.contents.objects.live_entry(o);
+    assert!(rt; header % 2 == 1);
+    assert!(rt; u32::from(header / 2 % 64) + 1 == entry.fields);
+    l.set_pointer(o, 0, Oop(header));
 }
 
 fn store_byte(rt: &impl Abort, l: &mut PlainLoader, o: u16, at: u32, v: u8) {
@@ -220,7 +217,7 @@ fn finished<L: Loader>(l: L) -> L::Done
 /// The objects of an image.
 fn place_all(rt: &impl Abort, l: &mut PlainLoader, shapes: &[Shape]) {
     for at in PAGE {
-        place(rt, l, shape(at, 12, Kind::Pointers, 0, 0));
+        place(rt, l, (at, 12, Kind::Pointers, 0, 0));
     }
     for o in shapes {
         place(rt, l, *o);
@@ -257,6 +254,7 @@ pub fn image_b(
 ) -> Result<PlainMemory, Fail> {
     let mut l = begun(alloc, entries, words)?;
     place_all(rt, &mut l, &B);
+    store_header(rt, &mut l, 64, 257);
     store_all(rt, &mut l, &B_FIELDS, &B_BYTES);
     completed(rt, alloc, l)
 }
@@ -265,6 +263,9 @@ pub fn image_b(
 pub fn image_c(rt: &impl Abort, alloc: Global) -> Result<PlainMemory, Fail> {
     let mut l = begun(alloc, 32767, 1048576)?;
     place_all(rt, &mut l, &C);
+    store_header(rt, &mut l, 64, 3);
+    store_literal(rt, &mut l, 64, 32767);
+    store_header(rt, &mut l, 72, 8449);
     store_all(rt, &mut l, &C_FIELDS, &C_BYTES);
     completed(rt, alloc, l)
 }
@@ -273,7 +274,8 @@ pub fn image_c(rt: &impl Abort, alloc: Global) -> Result<PlainMemory, Fail> {
 pub fn image_with_words(rt: &impl Abort, alloc: Global) -> Result<PlainMemory, Fail> {
     let mut l = begun(alloc, 32767, 1048576)?;
     place_all(rt, &mut l, &B);
-    place(rt, &mut l, shape(66, 16, Kind::Words, 3, 0));
+    place(rt, &mut l, (66, 16, Kind::Words, 3, 0));
+    store_header(rt, &mut l, 64, 257);
     store_all(rt, &mut l, &B_FIELDS, &B_BYTES);
     store_word(rt, &mut l, 66, 2, 65535);
     completed(rt, alloc, l)

@@ -1,7 +1,7 @@
 ghost use Rattle.std.specs.Prelude.{◌≤◌, ◌+◌};
 
 use crate::loader::tests::{image_b, image_c, image_with_words, is_makeable, words_for};
-use st_memory::{Draft, Memory, Objects};
+use st_memory::{Draft, Memory, Objects, count_fields};
 use st_model::{Dead, Demand, Kind, Oop, RootPlace, Word};
 use std::process::Abort;
 use std::test::Fail;
@@ -140,16 +140,20 @@ fn exchanges<M: Memory>(rt: &impl Abort, m: &mut M) {
     assert!(rt; m.live(symbol) && m.live(method));
     m.swap(symbol, method);
     assert!(rt; m.live(symbol) && m.live(method));
-    assert!(rt; m.kind(symbol).is_method() && m.kind(method).is_bytes());
-    assert_eq!(rt; (m.class_of(symbol), m.class_of(method)), (Oop(34), Oop(56)));
+    assert!(rt; m.kind(symbol).is_method() && matches!(m.kind(method), Kind::Bytes));
+    assert_eq!(rt;
+        (m.class_of(symbol), m.class_of(method)),
+        (Oop(34), Oop(56))
+    );
     fields(rt, m, &[(68, 2, 66), (70, 0, 72)]);
 }
 
-/// A byte of an object of kind Bytes.
+/// The first byte of an object of kind Bytes.
 fn byte<M: Memory>(rt: &impl Abort, m: &M, o: u16) -> u8 {
     let o = Oop(o);
     assert!(rt; m.live(o));
-    assert!(rt; m.kind(o).is_bytes() && 0 < m.size(o));
+    assert!(rt; !m.kind(o).is_words() && count_fields(m, o) == 0);
+    assert!(rt; 0 < m.size(o));
     m.byte(o, 0)
 }
 
@@ -169,7 +173,10 @@ fn stores_units<M: Memory>(rt: &impl Abort, m: &mut M) {
     m.set_word(words, 1, 4660);
     assert!(rt; m.live(words));
     assert!(rt; m.kind(words).is_words() && m.size(words) == 3);
-    assert_eq!(rt; (m.word(words, 0), m.word(words, 1), m.word(words, 2)), (0, 4660, 65535));
+    assert_eq!(rt;
+        (m.word(words, 0), m.word(words, 1), m.word(words, 2)),
+        (0, 4660, 65535)
+    );
 }
 
 /// An object that nothing names stays while it is held.
@@ -202,7 +209,11 @@ fn moves_what_is_kept<M: Memory>(rt: &impl Abort, m: &mut M) {
         used(rt, m, 25, 83);
         let made = make(rt, m, 12, Kind::Pointers, 4);
         assert!(rt; made != kept && made <= lost, "in turn {turn}");
-        fields(rt, m, &[(made, 0, 2), (made, 3, 2), (kept, 0, 2), (kept, 2, 6)]);
+        fields(
+            rt,
+            m,
+            &[(made, 0, 2), (made, 3, 2), (kept, 0, 2), (kept, 2, 6)],
+        );
     }
 }
 
@@ -288,7 +299,10 @@ fn known<O: Objects>(rt: &impl Abort, o: &O, a: Word, b: Word) {
     assert_eq!(rt; (o.count_fields(a), o.count_fields(there)), (Ok(4), Ok(3)));
     assert_eq!(rt; o.literal(b, 0), Err(Dead::Kind));
     assert!(rt; o.is_there(a) && o.is_there(b) && !o.is_there(Word(65540)));
-    assert_eq!(rt; (o.half_word(a), o.half_word(b), o.half_word(there)), (5, 9, 30));
+    assert_eq!(rt;
+        (o.half_word(a), o.half_word(b), o.half_word(there)),
+        (5, 9, 30)
+    );
 }
 
 /// A row over a draft answers as over the memory, which only the second changes.
