@@ -1,4 +1,4 @@
-//! The parser: from the bytes of a method's text to its tree, or its first fault.
+//! The parser: from the bytes of a method's text to its tree, or its first fault; and the printer, which goes back.
 #![tactic(auto)]
 
 mod bodies;
@@ -12,6 +12,7 @@ mod sends;
 
 pub use parser::parse;
 pub use st_grammar::{one_fault, one_tree};
+pub use st_print::print;
 
 #[cfg(test)]
 mod differential;

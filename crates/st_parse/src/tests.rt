@@ -1,4 +1,4 @@
-use crate::parse;
+use crate::{parse, print};
 use std::alloc::{AllocError, Global};
 use std::process::Abort;
 use std::test::Fail;
@@ -304,5 +304,52 @@ fn large_texts_are_parsed(rt: HostRuntime) -> Result<(), Fail> {
     let text = repeated(rt.alloc(), b"foo ", &statement, 163, b"")?;
     let found = shown(&rt, rt.alloc(), &text)?;
     assert_eq!(rt; found.as_str(), "foo 0 0 163");
+    Ok(())
+}
+
+/// The text that is printed of a text's tree, or the text's fault.
+fn printed(rt: &impl Abort, alloc: Global, text: &[u8]) -> Result<String, AllocError> {
+    assert!(rt; text.len() <= 200_000);
+    let tree = match parse(alloc, text) {
+        Ok(tree) => tree,
+        Err(fault) => return format!(in alloc; "{fault}"),
+    };
+    let mut shown = String::new(alloc);
+    for byte in &print(alloc, &tree)? {
+        shown.push(char::from(*byte))?;
+    }
+    Ok(shown)
+}
+
+/// Texts, and what is printed of their trees, one a line.
+const PRINTED: &str = r#"x ^x => x ^ x
+max: a ^self > a ifTrue: [self] ifFalse: [a] => max: a ^ self > a ifTrue: [ self ] ifFalse: [ a ]
+inc: b ^[:e | e + 1] value: b => inc: b ^ [ : e | e + 1 ] value: b
+foo (-1) abs => foo ( -1 ) abs
+foo | | -1 => foo ( -1 )
+foo | | ^1 => foo ^ 1
+foo | a | -1 abs. a := b _ 16rFF => foo | a | -1 abs . a _ b _ 255
+at: a put: b <primitive: 60> | t | ^t => at: a put: b | t | < primitive: 60 > ^ t
++ other ^(a + b) * c - (d * e) => + other ^ a + b * c - ( d * e )
+foo ^(a foo: b) bar: (c baz: d) => foo ^ ( a foo: b ) bar: ( c baz: d )
+foo (a b; c) d; e: (f g; h) => foo ( a b ; c ) d ; e: ( f g ; h )
+foo ^#(a #b c: $d 'e''f' #(1 -2) nil + #+ at:put:) => foo ^ #( #a #b #c: $d 'e''f' #( 1 -2 ) nil #+ #+ #at:put: )
+foo ^(a _ b) c => foo ^ ( a _ b ) c
+foo ^(a b) c => foo ^ a b c
+foo [:x :y | ]. [] value. [-1. ^2] => foo [ : x : y | ] . [ ] value . [ -1 . ^ 2 ]
+foo ^(a + b) c: (a + b) d: (a c: b) => foo ^ a + b c: a + b d: ( a c: b )
+foo a + (b _ c); d => foo a + ( b _ c ) ; d
+foo #a:b: foo. -0 => foo #a:b: foo . -0
+"#;
+
+#[test]
+fn trees_are_printed_and_read_back(rt: HostRuntime) -> Result<(), Fail> {
+    for row in PRINTED.lines() {
+        let (text, expected) = row.split_once(" => ").ok_or("no row")?;
+        let once = printed(&rt, rt.alloc(), text.as_bytes())?;
+        assert_eq!(rt; once.as_str(), expected);
+        let twice = printed(&rt, rt.alloc(), once.as_bytes())?;
+        assert_eq!(rt; twice.as_str(), expected);
+    }
     Ok(())
 }

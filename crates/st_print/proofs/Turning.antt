@@ -1,0 +1,35 @@
+-- Words put one after the other, and lists that are gone through.
+use Rattle.std.proofs.Common.{◌≡◌, ℕ, suc, ◌+◌, ◌-◌, ◌<◌, ◌≤◌, false, List, [], ◌∷◌, ◌++◌, length, get_or, take, drop, refl, sym, ap, ◌∙◌, append_assoc, add-one, drop-cons, arith, length-drop}
+use Rattle.std.specs.Prelude.{◌==◌}
+use Rattle.std.specs.Str.{byte}
+use Rattle.std.proofs.lemmas.List.{append-nil}
+use Rattle.std.proofs.Math.Seq.{take-length}
+use Rattle.st_print.specs.Words.{Word, word_text, spaced}
+use Rattle.st_print.proofs.Spacing.{spaced-append}
+
+-- a word
+pub put_word : (out new : List ℕ) (w : Word) → new ≡ out ++ byte " " ∷ word_text w → new ≡ out ++ spaced (w ∷ [])
+put_word out new w e = e ∙ ap (λ (x : List ℕ). out ++ byte " " ∷ x) (sym (append-nil (word_text w)))
+
+-- words behind words
+pub put_then : (out new end : List ℕ) (ws vs : List Word) → new ≡ out ++ spaced ws → end ≡ new ++ spaced vs → end ≡ out ++ spaced (ws ++ vs)
+put_then out new end ws vs first second =
+    second
+    ∙ ap (λ (x : List ℕ). x ++ spaced vs) first
+    ∙ append_assoc out (spaced ws) (spaced vs)
+    ∙ ap (λ (x : List ℕ). out ++ x) (sym (spaced-append ws vs))
+
+-- a turn of a loop: what is left gives what the whole gives
+pub turn : (out new end : List ℕ) (all ws vs : List Word) → out ++ spaced all ≡ end → all ≡ ws ++ vs → new ≡ out ++ spaced ws → new ++ spaced vs ≡ end
+turn out new end all ws vs kept parts step =
+    put_then out new (new ++ spaced vs) ws vs step refl ∙ ap (λ (x : List Word). out ++ spaced x) (sym parts) ∙ kept
+
+pub drop_at : {A : Type 0} (xs : List A) (i : ℕ) (x : A) → i < length xs → x ≡ get_or xs i x → drop i xs ≡ x ∷ drop (i + 1) xs
+drop_at xs i x less is = rw add-one (drop-cons xs i x less ∙ ap (λ y. y ∷ drop (suc i) xs) (sym is))
+
+pub take_rest : {A : Type 0} (xs : List A) (i : ℕ) → take (length xs - i) (drop i xs) ≡ drop i xs
+take_rest xs i = ap (λ n. take n (drop i xs)) (sym (length-drop i xs)) ∙ take-length (drop i xs)
+
+pub not_empty : {A : Type 0} (xs : List A) → false ≡ (length xs == 0) → 1 ≤ length xs
+not_empty [] e = absurd cc
+not_empty (x ∷ xs) e = omega arith

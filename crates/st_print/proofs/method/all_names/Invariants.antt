@@ -1,0 +1,8 @@
+use Rattle.std.proofs.Common.{◌≡◌, ◌++◌, drop}
+use Rattle.st_print.specs.Words.{spaced}
+use Rattle.st_tree.specs.Views.{names_view}
+use Rattle.st_print.specs.Printed.{names_words}
+use Rattle.st_print.proofs.method.all_names.Given as goal
+
+abbrev pub invariant-loop-name : goal.invariant-loop-name
+invariant-loop-name l = l.out.items ++ spaced (names_words (names_view (drop l.name-index l.names))) ≡ l.fn.out.items ++ spaced (names_words (names_view l.names))

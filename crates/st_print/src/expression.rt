@@ -1,0 +1,278 @@
+//! Expressions, statements and messages. An expression is printed along its chain, which may be as long as its text.
+
+ghost use Rattle.std.specs.Prelude.{◌≡◌, ◌≤◌, ◌==◌, ◌++◌, not, length, OnOk};
+ghost use Rattle.std.specs.List.{prefix_len};
+ghost use Rattle.std.specs.Str.{byte};
+ghost use Rattle.st_tree.specs.Views.{names_view, expression_view, statements_view, messages_view, expressions_view, block};
+ghost use Rattle.st_tree.specs.Chains.{link_view, links_view};
+ghost use Rattle.st_print.specs.Words.{spaced, first_keyword, other_keywords};
+ghost use Rattle.st_print.specs.Printed.{parameter_words, parameters_words, return_words, placed, expression_words, statements_words, next_statements, messages_words, next_messages, message_words, keyword_words};
+ghost use Rattle.st_print.specs.Chained.{before_link, behind_link, before_links, behind_links};
+
+use crate::literal::literal;
+use crate::rank::{Rank, is_word, rank_of_link, wanted_by};
+use crate::words::put;
+use st_tree::{Expression, Link, Message, Name, Statement, Text};
+use std::alloc::{AllocError, Global};
+
+/// Puts what stands before an expression for one link.
+#[tactic(auto, using(crate::proofs::Spacing::spacing))]
+fn before_link(out: &mut Text, wanted: Rank, link: Link<'_>) -> Result<(), AllocError>
+    ensures { OnOk result (out.new.items ≡ out.old.items ++ spaced (before_link wanted (link_view link.entry))) }
+{
+    if wanted.is_loose(rank_of_link(link)) {
+        put(out, b"(")?;
+    }
+    match link {
+        Link::Assign(target) => {
+            put(out, &target.text)?;
+            put(out, b"_")?;
+            Ok(())
+        }
+        Link::Send(_) => Ok(()),
+    }
+}
+
+/// Puts what stands before an expression for all links, from the outermost on.
+#[tactic(auto, using(crate::proofs::Spacing::spacing))]
+pub fn before_links(out: &mut Text, outer: Rank, links: &[Link<'_>]) -> Result<(), AllocError>
+    ensures { OnOk result (out.new.items ≡ out.old.items ++ spaced (before_links outer (links_view links.now))) }
+{
+    let mut at = links.len();
+    while at > 0 {
+        let inner = at - 1;
+        before_link(out, wanted_by(outer, &links[at..]), links[inner])?;
+        at = inner;
+    }
+    Ok(())
+}
+
+/// Puts names, each with a colon before it.
+#[tactic(auto, using(crate::proofs::Spacing::spacing))]
+fn each_parameter(out: &mut Text, names: &[Name]) -> Result<(), AllocError>
+    ensures { OnOk result (out.new.items ≡ out.old.items ++ spaced (parameter_words (names_view names.now))) }
+{
+    for name in names {
+        put(out, b":")?;
+        put(out, &name.text)?;
+    }
+    Ok(())
+}
+
+/// Puts a block's names.
+#[tactic(auto, using(crate::proofs::Spacing::spacing))]
+fn parameters(out: &mut Text, names: &[Name]) -> Result<(), AllocError>
+    ensures { OnOk result (out.new.items ≡ out.old.items ++ spaced (parameters_words (names_view names.now))) }
+{
+    if names.is_empty() {
+        return Ok(());
+    }
+    each_parameter(out, names)?;
+    put(out, b"|")?;
+    Ok(())
+}
+
+/// How many bytes stand before the first colon.
+fn name_length(selector: &[u8]) -> usize
+    ensures exact { result ≡ prefix_len (λ b. not (b == byte ":")) selector.now }
+    ensures within { result ≤ length selector.now }
+{
+    selector.iter().take_while(|b| **b != b':').count()
+}
+
+/// The first keyword of a selector, and the others.
+pub fn split_keyword(selector: &[u8]) -> (&[u8], &[u8])
+    ensures first { result.0.now ≡ first_keyword selector.now }
+    ensures others { result.1.now ≡ other_keywords selector.now }
+{
+    let name = name_length(selector);
+    selector.split_at((name + 1).min(selector.len()))
+}
+
+/// Puts an expression, where one of a rank is wanted.
+#[cycle(printing)]
+#[tactic(auto, using(crate::proofs::Spacing::spacing, st_tree::proofs::Views::views))]
+pub fn expression(
+    alloc: Global,
+    out: &mut Text,
+    wanted: Rank,
+    e: &Expression,
+) -> Result<(), AllocError>
+    ensures { OnOk result (out.new.items ≡ out.old.items ++ spaced (placed wanted (expression_view e.now))) }
+{
+    let chain = e.chain(alloc)?;
+    before_links(out, wanted, &chain.links)?;
+    match chain.start {
+        Expression::Variable(name) => put(out, &name.text)?,
+        Expression::Literal(element) => literal(out, &element.what)?,
+        Expression::Block { names, body } => block(alloc, out, names, body)?,
+        Expression::Assign { .. } => {}
+        Expression::Send { .. } => {}
+    }
+    behind_links(alloc, out, wanted, &chain.links)?;
+    Ok(())
+}
+
+/// Puts what stands behind an expression for all links, from the innermost on.
+#[cycle(printing)]
+#[tactic(auto, using(crate::proofs::Spacing::spacing))]
+fn behind_links(
+    alloc: Global,
+    out: &mut Text,
+    outer: Rank,
+    links: &[Link<'_>],
+) -> Result<(), AllocError>
+    ensures { OnOk result (out.new.items ≡ out.old.items ++ spaced (behind_links outer (links_view links.now))) }
+{
+    for at in 0..links.len() {
+        behind_link(alloc, out, wanted_by(outer, &links[at + 1..]), links[at])?;
+    }
+    Ok(())
+}
+
+/// Puts what stands behind an expression for one link.
+#[cycle(printing)]
+#[tactic(auto, using(crate::proofs::Spacing::spacing))]
+fn behind_link(
+    alloc: Global,
+    out: &mut Text,
+    wanted: Rank,
+    link: Link<'_>,
+) -> Result<(), AllocError>
+    ensures { OnOk result (out.new.items ≡ out.old.items ++ spaced (behind_link wanted (link_view link.entry))) }
+{
+    match link {
+        Link::Send(sent) => messages(alloc, out, sent)?,
+        Link::Assign(_) => {}
+    }
+    if wanted.is_loose(rank_of_link(link)) {
+        put(out, b")")?;
+    }
+    Ok(())
+}
+
+/// Puts a block.
+#[cycle(printing)]
+#[tactic(auto, using(crate::proofs::Spacing::spacing))]
+fn block(
+    alloc: Global,
+    out: &mut Text,
+    names: &[Name],
+    body: &[Statement],
+) -> Result<(), AllocError>
+    ensures { OnOk result (out.new.items ≡ out.old.items ++ spaced (expression_words (block (names_view names.now) (statements_view body.now)))) }
+{
+    put(out, b"[")?;
+    parameters(out, names)?;
+    statements(alloc, out, body)?;
+    put(out, b"]")?;
+    Ok(())
+}
+
+/// Puts a statement.
+#[cycle(printing)]
+#[tactic(auto, using(crate::proofs::Spacing::spacing))]
+fn statement(alloc: Global, out: &mut Text, s: &Statement) -> Result<(), AllocError>
+    ensures { OnOk result (out.new.items ≡ out.old.items ++ spaced (return_words s.now.returns ++ expression_words (expression_view s.now.value))) }
+{
+    if s.returns {
+        put(out, b"^")?;
+    }
+    expression(alloc, out, Rank::Any, &s.value)?;
+    Ok(())
+}
+
+/// Puts statements.
+#[cycle(printing)]
+#[tactic(auto, using(crate::proofs::Spacing::spacing))]
+pub fn statements(alloc: Global, out: &mut Text, body: &[Statement]) -> Result<(), AllocError>
+    ensures { OnOk result (out.new.items ≡ out.old.items ++ spaced (statements_words (statements_view body.now))) }
+{
+    if body.is_empty() {
+        return Ok(());
+    }
+    statement(alloc, out, &body[0])?;
+    next_statements(alloc, out, &body[1..])?;
+    Ok(())
+}
+
+/// Puts statements behind others, each with a period before it.
+#[cycle(printing)]
+#[tactic(auto, using(crate::proofs::Spacing::spacing))]
+fn next_statements(alloc: Global, out: &mut Text, body: &[Statement]) -> Result<(), AllocError>
+    ensures { OnOk result (out.new.items ≡ out.old.items ++ spaced (next_statements (statements_view body.now))) }
+{
+    for next in body {
+        put(out, b".")?;
+        statement(alloc, out, next)?;
+    }
+    Ok(())
+}
+
+/// Puts the messages of a cascade, or the one message.
+#[cycle(printing)]
+#[tactic(auto, using(crate::proofs::Spacing::spacing))]
+fn messages(alloc: Global, out: &mut Text, sent: &[Message]) -> Result<(), AllocError>
+    ensures { OnOk result (out.new.items ≡ out.old.items ++ spaced (messages_words (messages_view sent.now))) }
+{
+    if sent.is_empty() {
+        return Ok(());
+    }
+    message(alloc, out, &sent[0])?;
+    next_messages(alloc, out, &sent[1..])?;
+    Ok(())
+}
+
+/// Puts messages behind others, each with a semicolon before it.
+#[cycle(printing)]
+#[tactic(auto, using(crate::proofs::Spacing::spacing))]
+fn next_messages(alloc: Global, out: &mut Text, sent: &[Message]) -> Result<(), AllocError>
+    ensures { OnOk result (out.new.items ≡ out.old.items ++ spaced (next_messages (messages_view sent.now))) }
+{
+    for next in sent {
+        put(out, b";")?;
+        message(alloc, out, next)?;
+    }
+    Ok(())
+}
+
+/// Puts a message.
+#[cycle(printing)]
+#[tactic(auto, using(crate::proofs::Spacing::spacing))]
+fn message(alloc: Global, out: &mut Text, m: &Message) -> Result<(), AllocError>
+    ensures { OnOk result (out.new.items ≡ out.old.items ++ spaced (message_words m.now.selector.items (expressions_view m.now.arguments.items))) }
+{
+    let [first, ..] = m.arguments.as_slice() else {
+        put(out, &m.selector)?;
+        return Ok(());
+    };
+    if is_word(&m.selector) {
+        keywords(alloc, out, &m.selector, &m.arguments)?;
+        Ok(())
+    } else {
+        put(out, &m.selector)?;
+        expression(alloc, out, Rank::Unary, first)?;
+        Ok(())
+    }
+}
+
+/// Puts the keywords of a selector, each with its argument.
+#[cycle(printing)]
+#[tactic(auto, using(crate::proofs::Spacing::spacing))]
+fn keywords(
+    alloc: Global,
+    out: &mut Text,
+    selector: &[u8],
+    arguments: &[Expression],
+) -> Result<(), AllocError>
+    ensures { OnOk result (out.new.items ≡ out.old.items ++ spaced (keyword_words selector.now (expressions_view arguments.now))) }
+{
+    let mut rest = selector;
+    for argument in arguments {
+        let (keyword, others) = split_keyword(rest);
+        put(out, keyword)?;
+        expression(alloc, out, Rank::Binary, argument)?;
+        rest = others;
+    }
+    Ok(())
+}

@@ -1,0 +1,10 @@
+//! The printer: from a method's tree to a text that means it.
+#![tactic(auto)]
+
+mod expression;
+mod literal;
+mod method;
+mod rank;
+mod words;
+
+pub use method::print;

@@ -1,0 +1,205 @@
+//! Methods.
+
+ghost use Rattle.std.specs.Prelude.{◌≡◌, ◌++◌, drop, OnOk, IfOk};
+ghost use Rattle.st_tree.specs.Views.{names_view, content_view, expression_view, statements_view, method_view};
+ghost use Rattle.st_print.specs.Words.{spaced};
+ghost use Rattle.st_print.specs.Chained.{signed_content, signed_start};
+ghost use Rattle.st_print.specs.Printed.{pattern_words, keyword_pattern, names_words, temporaries_words, primitive_words, expression_words, statements_words, first_signed, apart, behind_pattern, options_words, printed};
+
+use crate::expression::{before_links, split_keyword, statements};
+use crate::rank::{Rank, is_word};
+use crate::words::{put, put_number};
+use st_tree::{Content, Expression, MethodTree, Name, Signed, Statement, Text};
+use std::alloc::{AllocError, Global};
+
+/// Puts a pattern's keywords, each with the name of its argument.
+#[tactic(auto, using(crate::proofs::Spacing::spacing))]
+fn keyword_pattern(out: &mut Text, selector: &[u8], names: &[Name]) -> Result<(), AllocError>
+    ensures { OnOk result (out.new.items ≡ out.old.items ++ spaced (keyword_pattern selector.now (names_view names.now))) }
+{
+    let mut rest = selector;
+    for name in names {
+        let (keyword, others) = split_keyword(rest);
+        put(out, keyword)?;
+        put(out, &name.text)?;
+        rest = others;
+    }
+    Ok(())
+}
+
+/// Puts a pattern.
+#[tactic(auto, using(crate::proofs::Spacing::spacing))]
+fn pattern(out: &mut Text, selector: &[u8], names: &[Name]) -> Result<(), AllocError>
+    ensures { OnOk result (out.new.items ≡ out.old.items ++ spaced (pattern_words selector.now (names_view names.now))) }
+{
+    let [first, ..] = names else {
+        put(out, selector)?;
+        return Ok(());
+    };
+    if is_word(selector) {
+        keyword_pattern(out, selector, names)?;
+        Ok(())
+    } else {
+        put(out, selector)?;
+        put(out, &first.text)?;
+        Ok(())
+    }
+}
+
+/// Puts names.
+#[tactic(auto, using(crate::proofs::Spacing::spacing))]
+fn all_names(out: &mut Text, names: &[Name]) -> Result<(), AllocError>
+    ensures { OnOk result (out.new.items ≡ out.old.items ++ spaced (names_words (names_view names.now))) }
+{
+    for name in names {
+        put(out, &name.text)?;
+    }
+    Ok(())
+}
+
+/// Puts temporaries.
+#[tactic(auto, using(crate::proofs::Spacing::spacing))]
+fn temporaries(out: &mut Text, names: &[Name]) -> Result<(), AllocError>
+    ensures { OnOk result (out.new.items ≡ out.old.items ++ spaced (temporaries_words (names_view names.now))) }
+{
+    if names.is_empty() {
+        return Ok(());
+    }
+    put(out, b"|")?;
+    all_names(out, names)?;
+    put(out, b"|")?;
+    Ok(())
+}
+
+/// Puts a primitive.
+#[tactic(auto, using(crate::proofs::Spacing::spacing))]
+fn primitive(out: &mut Text, number: Option<Signed>) -> Result<(), AllocError>
+    ensures { OnOk result (out.new.items ≡ out.old.items ++ spaced (primitive_words number)) }
+{
+    let Some(number) = number else {
+        return Ok(());
+    };
+    put(out, b"<")?;
+    put(out, b"primitive:")?;
+    put_number(out, number)?;
+    put(out, b">")?;
+    Ok(())
+}
+
+/// The number with a sign that a literal is.
+fn signed_content(content: &Content) -> Option<Signed>
+    ensures { result ≡ signed_content (content_view content.now) }
+{
+    match content {
+        Content::Number(number) => { if number.minus { Some(*number) } else { None } }
+        Content::Character(_) => None,
+        Content::Bytes(_) => None,
+        Content::Symbol(_) => None,
+        Content::Array(_) => None,
+        Content::Nil => None,
+        Content::False => None,
+        Content::True => None,
+    }
+}
+
+/// The number with a sign that a start is.
+fn signed_start(start: &Expression) -> Option<Signed>
+    ensures { result ≡ signed_start (expression_view start.now) }
+{
+    match start {
+        Expression::Literal(element) => signed_content(&element.what),
+        Expression::Variable(_) => None,
+        Expression::Block { .. } => None,
+        Expression::Assign { .. } => None,
+        Expression::Send { .. } => None,
+    }
+}
+
+/// The number with a sign that an expression begins with.
+fn first_signed(alloc: Global, e: &Expression) -> Result<Option<Signed>, AllocError>
+    ensures { IfOk result (λ n. n ≡ first_signed (expression_words (expression_view e.now))) }
+{
+    let chain = e.chain(alloc)?;
+    let mut before = Vec::new(alloc);
+    before_links(&mut before, Rank::Any, &chain.links)?;
+    if before.is_empty() {
+        Ok(signed_start(chain.start))
+    } else {
+        Ok(None)
+    }
+}
+
+/// The number with a sign that statements begin with.
+fn signed_body(alloc: Global, body: &[Statement]) -> Result<Option<Signed>, AllocError>
+    ensures { IfOk result (λ n. n ≡ first_signed (statements_words (statements_view body.now))) }
+{
+    if body.is_empty() {
+        return Ok(None);
+    }
+    let statement = &body[0];
+    if statement.returns {
+        return Ok(None);
+    }
+    let number = first_signed(alloc, &statement.value)?;
+    Ok(number)
+}
+
+/// Puts statements directly behind a pattern.
+#[tactic(auto, using(crate::proofs::Spacing::spacing))]
+fn statements_apart(alloc: Global, out: &mut Text, body: &[Statement]) -> Result<(), AllocError>
+    ensures { OnOk result (out.new.items ≡ out.old.items ++ spaced (apart (first_signed (statements_words (statements_view body.now))) (statements_words (statements_view body.now)))) }
+{
+    let Some(number) = signed_body(alloc, body)? else {
+        statements(alloc, out, body)?;
+        return Ok(());
+    };
+    let mut first = Vec::new(alloc);
+    put_number(&mut first, number)?;
+    let mut all = Vec::new(alloc);
+    statements(alloc, &mut all, body)?;
+    put(out, b"(")?;
+    out.extend_from_slice(&first)?;
+    put(out, b")")?;
+    out.extend_from_slice(&all[first.len().min(all.len())..])?;
+    Ok(())
+}
+
+/// Puts what stands behind a method's pattern.
+#[tactic(auto, using(crate::proofs::Spacing::spacing))]
+fn behind_pattern(alloc: Global, out: &mut Text, t: &MethodTree) -> Result<(), AllocError>
+    ensures { OnOk result (out.new.items ≡ out.old.items ++ spaced (behind_pattern (options_words (names_view t.now.temporaries.items) t.now.primitive) (statements_words (statements_view t.now.body.items)))) }
+{
+    let pattern = out.len();
+    temporaries(out, &t.temporaries)?;
+    primitive(out, t.primitive)?;
+    if out.len() == pattern {
+        statements_apart(alloc, out, &t.body)?;
+        Ok(())
+    } else {
+        statements(alloc, out, &t.body)?;
+        Ok(())
+    }
+}
+
+/// The bytes behind the first one.
+fn behind_first(alloc: Global, text: &[u8]) -> Result<Text, AllocError>
+    ensures { IfOk result (λ rest. rest.items ≡ drop 1 text.now) }
+{
+    match text {
+        [_, rest @ ..] => rest.to_vec(alloc),
+        [] => Ok(Vec::new(alloc)),
+    }
+}
+
+/// The text of a method's tree: its tokens in order with one space between two of them, and parentheses where the grammar
+/// would not read the tree back without them. A tree that some text means is meant by this text too, places aside.
+#[tactic(auto, using(crate::proofs::Spacing::spacing))]
+pub fn print(alloc: Global, t: &MethodTree) -> Result<Text, AllocError>
+    ensures { IfOk result (λ text. text.items ≡ printed (method_view t.now)) }
+{
+    let mut out = Vec::new(alloc);
+    pattern(&mut out, &t.selector, &t.arguments)?;
+    behind_pattern(alloc, &mut out, t)?;
+    let text = behind_first(alloc, &out)?;
+    Ok(text)
+}
