@@ -207,6 +207,11 @@ pub on_err : {R E : Type 0} (result : Result R E) (P : Type 0) → IsErr result 
 on_err (Ok x) P err = cc
 on_err (Err e) P err = tt
 
+-- a fact is a clause on success
+pub on_ok : {R E : Type 0} (result : Result R E) (P : Type 0) → P → OnOk result P
+on_ok (Ok x) P holds = holds
+on_ok (Err e) P holds = tt
+
 module _ {C D E : Type 0} (host : Ghosts D) (opens : C → Files → Type 0) (x y : C) (old mid new : D) where
   -- after a run that has kept what opens, one that makes something
   pub makes_then : {R S : Type 0} (first : Result R E) (second : Result S E) → Makes host opens x x old mid first → Makes host opens x y mid new second → Makes host opens x y old new second

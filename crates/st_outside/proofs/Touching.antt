@@ -1,10 +1,10 @@
 -- Runs of calls that change one file.
-use Rattle.std.proofs.Common.{◌≡◌, inl, inr, ⊎_elim, ℕ, ◌≤◌, List, length, Option, Result, IsTrue, refl, sym, subst, ◌∙◌, arith}
+use Rattle.std.proofs.Common.{◌≡◌, ◌≢◌, inl, inr, ⊎_elim, ℕ, ◌≤◌, List, length, Option, Result, IsTrue, refl, sym, subst, ◌∙◌, arith}
 use Rattle.st_outside.specs.Counts.{Rose, HasCause}
 use Rattle.st_outside.specs.Files.{Files, bytes_of, KeepsBelow}
 use Rattle.st_outside.specs.Stops.{Apart, Comes, comes, Follows, Torn, TornByWrite, TornByCut, Here, Elapses}
 use Rattle.st_outside.specs.Names.{same_or_other}
-use Rattle.st_outside.specs.Runs.{ReadsAlike, Narrows, Touched, Touches, Writes, Cuts, Syncs, WritesAbove, Elsewhere, Changes, NarrowsBut}
+use Rattle.st_outside.specs.Runs.{ReadsAlike, Narrows, Touched, Touches, Writes, Cuts, Syncs, WritesAbove, Elsewhere, Changes, NarrowsBut, ChangesBoth}
 use Rattle.st_outside.specs.declared.host.Host.{Ghosts}
 use Rattle.st_outside.proofs.Rising.{rose_first, rose_second}
 use Rattle.st_outside.proofs.Joining.{weaker, moments_join, moments_once}
@@ -222,3 +222,47 @@ module _ {D : Type 0} (host : Ghosts D) (name : List ℕ) where
               so.quiet,
             ));
       }
+
+-- changes to one file, and then to another
+pub both_join : {D : Type 0} (host : Ghosts D) (one two : List ℕ) (old mid new : D) → Changes host one old mid → Changes host two mid new → ChangesBoth host one two old new
+both_join host one two old mid new first second =
+    let P : Files → List ℕ → Type 0 = λ f s. (s ≡ host.said old) × ((n : List ℕ) → n ≢ one → n ≢ two → host.may_leave old n (f n)) in
+    record {
+      disk = omega (arith, first.disk, second.disk);
+      say = second.say ∙ first.say;
+      files = λ told n a b. (second.others told).files n b ∙ (first.others told).files n a;
+      fewer = λ told n c a b can. (first.others told).fewer n c a ((second.others told).fewer n c b can);
+      more = λ told n c a b could. (second.others told).more n c b ((first.others told).more n c a could);
+      quiet = λ told. second.quiet told ∙ first.quiet told;
+      moments = λ told. moments_join host old mid new P (Elsewhere host two mid)
+          (weaker host old mid P (Elsewhere host one old) (first.moments told) (λ f s so. (so.0, λ n a b. so.1 n a)))
+          (second.moments told) (λ f s so. (so.0 ∙ first.quiet told, λ n a b. (first.others told).fewer n (f n) a (so.1 n b)));
+    }
+
+-- changes to one of the two, before or behind
+pub both_begun : {D : Type 0} (host : Ghosts D) (one two : List ℕ) (old new : D) → Changes host one old new → ChangesBoth host one two old new
+both_begun host one two old new run =
+    let P : Files → List ℕ → Type 0 = λ f s. (s ≡ host.said old) × ((n : List ℕ) → n ≢ one → n ≢ two → host.may_leave old n (f n)) in
+    record {
+      disk = run.disk;
+      say = run.say;
+      files = λ told n a b. (run.others told).files n a;
+      fewer = λ told n c a b can. (run.others told).fewer n c a can;
+      more = λ told n c a b could. (run.others told).more n c a could;
+      quiet = run.quiet;
+      moments = λ told. weaker host old new P (Elsewhere host one old) (run.moments told) (λ f s so. (so.0, λ n a b. so.1 n a));
+    }
+
+pub both_more : {D : Type 0} (host : Ghosts D) (one two : List ℕ) (old mid new : D) → ChangesBoth host one two old mid → Changes host two mid new → ChangesBoth host one two old new
+both_more host one two old mid new first second =
+    let P : Files → List ℕ → Type 0 = λ f s. (s ≡ host.said old) × ((n : List ℕ) → n ≢ one → n ≢ two → host.may_leave old n (f n)) in
+    record {
+      disk = omega (arith, first.disk, second.disk);
+      say = second.say ∙ first.say;
+      files = λ told n a b. (second.others told).files n b ∙ first.files told n a b;
+      fewer = λ told n c a b can. first.fewer told n c a b ((second.others told).fewer n c b can);
+      more = λ told n c a b could. (second.others told).more n c b (first.more told n c a b could);
+      quiet = λ told. second.quiet told ∙ first.quiet told;
+      moments = λ told. moments_join host old mid new P (Elsewhere host two mid) (first.moments told) (second.moments told)
+          (λ f s so. (so.0 ∙ first.quiet told, λ n a b. first.fewer told n (f n) a b (so.1 n b)));
+    }

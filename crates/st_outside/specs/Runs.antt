@@ -108,6 +108,17 @@ pub record NarrowsBut {D : Type 0} (host : Ghosts D) (name : List ℕ) (old new 
   pub fewer : IsTrue host.is_told → (n : List ℕ) (c : Option (List ℕ)) → n ≢ name → host.may_leave new n c → host.may_leave old n c
   pub moments : IsTrue host.is_told → LeavesOnly host old new (Elsewhere host name old)
 
+-- A run of calls that changes no file but these two.
+pub record ChangesBoth {D : Type 0} (host : Ghosts D) (one two : List ℕ) (old new : D) : Type 0 where
+  pub disk : host.disk_faults old ≤ host.disk_faults new
+  pub say : host.say_faults new ≡ host.say_faults old
+  pub files : IsTrue host.is_told → (n : List ℕ) → n ≢ one → n ≢ two → host.files new n ≡ host.files old n
+  pub fewer : IsTrue host.is_told → (n : List ℕ) (c : Option (List ℕ)) → n ≢ one → n ≢ two → host.may_leave new n c → host.may_leave old n c
+  pub more : IsTrue host.is_told → (n : List ℕ) (c : Option (List ℕ)) → n ≢ one → n ≢ two → host.may_leave old n c → host.may_leave new n c
+  pub quiet : IsTrue host.is_told → host.said new ≡ host.said old
+  pub moments : IsTrue host.is_told → LeavesOnly host old new
+      (λ f s. (s ≡ host.said old) × ((n : List ℕ) → n ≢ one → n ≢ two → host.may_leave old n (f n)))
+
 -- each state that a stop may leave now opens as this, whatever it is that files open as
 pub record IsAtRest {C D : Type 0} (host : Ghosts D) (opens : C → Files → Type 0) (c : C) (h : D) : Type 0 where
   pub opens_as : (f : Files) → ((n : List ℕ) → host.may_leave h n (f n)) → opens c f

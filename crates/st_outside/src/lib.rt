@@ -13,4 +13,4 @@ pub use piece::Piece;
 pub use reads::{file_length, read_from};
 pub use says::say_all;
 pub use source::{ReadFault, Source};
-pub use writes::{cut_file, sync_file, write_bytes, write_synced};
+pub use writes::{cut_file, cut_synced, sync_file, write_bytes, write_synced};

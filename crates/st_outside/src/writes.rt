@@ -63,3 +63,16 @@ pub fn write_synced<H: Host>(
     sync_file(host, name)?;
     Ok(())
 }
+
+/// Gives a file a length, and makes it stay so.
+pub fn cut_synced<H: Host>(host: &mut H, name: &str, len: u64) -> Result<(), HostFault>
+    ensures cut { OnOk result (IsTrue H.is_told →
+        IsCut len (H.files host.old name.now) (H.files host.new name.now)) }
+    ensures synced { OnOk result (IsSynced H.Host.own name.now host.new) }
+    ensures cuts { Cuts H.Host.own name.now len host.old host.new }
+    ensures cause { HasCause (H.disk_faults host.old) (H.disk_faults host.new) result }
+{
+    cut_file(host, name, len)?;
+    sync_file(host, name)?;
+    Ok(())
+}

@@ -31,24 +31,25 @@ root_same at xs ys each =
     let d = number_same (at + 24) xs ys (λ i l u. each i (omega arith) (omega arith)) in
     λ i. record { slot = a i; image_length = b i; base = c i; length = d i }
 
--- a number that was written at n bytes into these
-number_written : (at n : ℕ) (bytes : List ℕ) (old new : Option (List ℕ)) → IsWritten at bytes old new → n + 8 ≤ length bytes → big_number 8 (drop (at + n) (bytes_of new)) ≡ big_number 8 (drop n bytes)
-number_written at n bytes old new holds le =
-    number_moved (at + n) n (bytes_of new) bytes (λ j low.
+-- a root whose 32 bytes stand there is read
+pub root_inside : (at : ℕ) (root : Root) (file : List ℕ) → Fits root → ((i : ℕ) → i < 32 → slice_index file (at + i) ≡ slice_index (root_bytes root) i) → root_at at file ≡ root
+root_inside at root file fits each =
+    let bytes = root_bytes root in
+    let number : (n : ℕ) → n + 8 ≤ 32 → big_number 8 (drop (at + n) file) ≡ big_number 8 (drop n bytes) = λ n le.
+    number_moved (at + n) n file bytes (λ j low.
     let same : at + n + j ≡ at + (n + j) = omega arith in
-    ap (λ (k : ℕ). slice_index (bytes_of new) k) same ∙ holds.inside (n + j) (omega arith))
+    ap (λ (k : ℕ). slice_index file k) same ∙ each (n + j) (omega arith)) in
+    let a : big_number 8 (drop at file) ≡ root.slot =
+    number_moved at 0 file bytes (λ j low. each j (omega arith) ∙ ap (λ (k : ℕ). slice_index bytes k) (let e : j ≡ 0 + j = omega arith in e))
+    ∙ big_number-reads_back 8 root.slot (big_bytes 8 root.image_length ++ (big_bytes 8 root.base ++ big_bytes 8 root.length)) fits.slot in
+    let b : big_number 8 (drop (at + 8) file) ≡ root.image_length =
+    number 8 (omega arith) ∙ big_number-reads_back 8 root.image_length (big_bytes 8 root.base ++ big_bytes 8 root.length) fits.image_length in
+    let c : big_number 8 (drop (at + 16) file) ≡ root.base =
+    number 16 (omega arith) ∙ big_number-reads_back 8 root.base (big_bytes 8 root.length) fits.base in
+    let d : big_number 8 (drop (at + 24) file) ≡ root.length =
+    number 24 (omega arith) ∙ big_number-reads_back 8 root.length [] fits.length in
+    λ i. record { slot = a i; image_length = b i; base = c i; length = d i }
 
 -- a root that was written is read
 pub root_written : (at : ℕ) (root : Root) (old new : Option (List ℕ)) → Fits root → IsWritten at (root_bytes root) old new → root_at at (bytes_of new) ≡ root
-root_written at root old new fits holds =
-    let bytes = root_bytes root in
-    let a : big_number 8 (drop at (bytes_of new)) ≡ root.slot =
-    number_moved at 0 (bytes_of new) bytes (λ j low. holds.inside j (omega arith) ∙ ap (λ (k : ℕ). slice_index bytes k) (let e : j ≡ 0 + j = omega arith in e))
-    ∙ big_number-reads_back 8 root.slot (big_bytes 8 root.image_length ++ (big_bytes 8 root.base ++ big_bytes 8 root.length)) fits.slot in
-    let b : big_number 8 (drop (at + 8) (bytes_of new)) ≡ root.image_length =
-    number_written at 8 bytes old new holds (omega arith) ∙ big_number-reads_back 8 root.image_length (big_bytes 8 root.base ++ big_bytes 8 root.length) fits.image_length in
-    let c : big_number 8 (drop (at + 16) (bytes_of new)) ≡ root.base =
-    number_written at 16 bytes old new holds (omega arith) ∙ big_number-reads_back 8 root.base (big_bytes 8 root.length) fits.base in
-    let d : big_number 8 (drop (at + 24) (bytes_of new)) ≡ root.length =
-    number_written at 24 bytes old new holds (omega arith) ∙ big_number-reads_back 8 root.length [] fits.length in
-    λ i. record { slot = a i; image_length = b i; base = c i; length = d i }
+root_written at root old new fits written = root_inside at root (bytes_of new) fits (λ i low. written.inside i low)

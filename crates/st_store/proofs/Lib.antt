@@ -3,3 +3,5 @@ pub mod Others
 pub mod Turning
 pub mod Fronts
 pub mod Opening
+pub mod Clearing
+pub mod Founding

@@ -2,3 +2,4 @@ pub mod Names
 pub mod Roots
 pub mod Stored
 pub mod Refusals
+pub mod Founding

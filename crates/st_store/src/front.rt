@@ -6,7 +6,7 @@ ghost use Rattle.st_store.specs.Refusals.{IsWrongLetter, IsWrongFront};
 use crate::Root;
 use crate::root::read_root;
 
-const LETTERS: [u8; 8] = *b"ST80ROOT";
+pub(crate) const LETTERS: [u8; 8] = *b"ST80ROOT";
 
 /// A root, and which of the two it is.
 #[derive(Clone, Copy)]

@@ -1,6 +1,7 @@
 //! The store: its roots file, and commits that are whole or not done after any stop.
 #![tactic(auto)]
 
+mod create;
 mod fault;
 mod front;
 mod names;
@@ -9,7 +10,11 @@ mod root;
 mod steps;
 mod store;
 
+pub use create::{NewStore, clear, found};
 pub use fault::{StoreFault, StorePlace};
 pub use open::open_store;
 pub use root::Root;
 pub use store::Store;
+
+#[cfg(test)]
+mod tests;

@@ -1,0 +1,90 @@
+use Rattle.std.proofs.Common.{◌≡◌, ℕ, List, [], Option, IsTrue, string_bytes, refl, sym, subst}
+use Rattle.std.specs.Prelude.{Some, None}
+use Rattle.st_outside.specs.Files.{bytes_of}
+use Rattle.st_outside.specs.Runs.{Makes, ChangesBoth}
+use Rattle.st_outside.proofs.Joining.{on_err, makes_then, makes_failed, makes_of}
+use Rattle.st_outside.proofs.Touching.{both_more}
+use Rattle.st_store.specs.Names.{roots_file, changes_file, image_file}
+use Rattle.st_store.specs.Stored.{Stored, Begins, Leaves}
+use Rattle.st_store.specs.Founding.{OpensMaybe, first_stored}
+use Rattle.st_store.proofs.Founding.{first_firm, maybe_as}
+use Rattle.st_store.proofs.create.found.Goals as goal
+
+pub returns-in_err-prepare-clause-makes : goal.returns-in_err-prepare-clause-makes
+returns-in_err-prepare-clause-makes g c image told empty firm =
+    let H = g.H.Host in
+    let a = c.args.host.now in
+    let b = c.prepare.new.host in
+    let n = string_bytes c.new_store.inside.names.name in
+    let x = first_stored c.args.image_length image in
+    let named : n ≡ c.args.new_store = c.new_store.view_is in
+    let none = subst (λ (y : List ℕ). Leaves H a (roots_file y) (λ file. bytes_of file ≡ [])) (sym named) empty in
+    let there = subst (λ (y : List ℕ). Leaves H a (image_file y 0) (Begins c.args.image_length image)) (sym named) firm in
+    maybe_as H n c.args.new_store x a b _ named
+    (makes_failed H (OpensMaybe n) None (Some x) a b b c.prepare.result _ c.from_residual.ensures.0 (c.prepare.ensures.makes told none))
+
+pub returns-in_err-inscribe-clause-makes : goal.returns-in_err-inscribe-clause-makes
+returns-in_err-inscribe-clause-makes g c image told empty firm =
+    let H = g.H.Host in
+    let a = c.args.host.now in
+    let b = c.prepare.new.host in
+    let n = string_bytes c.new_store.inside.names.name in
+    let x = first_stored c.args.image_length image in
+    let named : n ≡ c.args.new_store = c.new_store.view_is in
+    let none = subst (λ (y : List ℕ). Leaves H a (roots_file y) (λ file. bytes_of file ≡ [])) (sym named) empty in
+    let there = subst (λ (y : List ℕ). Leaves H a (image_file y 0) (Begins c.args.image_length image)) (sym named) firm in
+    let blank = c.in_ok-prepare.ensures.blank told none in
+    let is = first_firm H n a b c.args.image_length image told c.prepare.ensures.changes there in
+    let d = c.inscribe.new.host in
+    maybe_as H n c.args.new_store x a d _ named
+    (makes_then H (OpensMaybe n) None (Some x) a b d c.prepare.result _ (c.prepare.ensures.makes told none)
+    (makes_of H (OpensMaybe n) None (Some x) b d c.inscribe.result _ c.from_residual-in_err-inscribe.ensures.0 (c.inscribe.ensures.makes x told blank refl is)))
+
+pub returns-clause-makes : goal.returns-clause-makes
+returns-clause-makes g c image told empty firm =
+    let H = g.H.Host in
+    let a = c.args.host.now in
+    let b = c.prepare.new.host in
+    let n = string_bytes c.new_store.inside.names.name in
+    let x = first_stored c.args.image_length image in
+    let named : n ≡ c.args.new_store = c.new_store.view_is in
+    let none = subst (λ (y : List ℕ). Leaves H a (roots_file y) (λ file. bytes_of file ≡ [])) (sym named) empty in
+    let there = subst (λ (y : List ℕ). Leaves H a (image_file y 0) (Begins c.args.image_length image)) (sym named) firm in
+    let blank = c.in_ok-prepare.ensures.blank told none in
+    let is = first_firm H n a b c.args.image_length image told c.prepare.ensures.changes there in
+    let d = c.inscribe.new.host in
+    let made = c.in_ok-inscribe.ensures.makes x told blank refl is in
+    maybe_as H n c.args.new_store x a d _ named
+    (makes_then H (OpensMaybe n) None (Some x) a b d c.prepare.result _ (c.prepare.ensures.makes told none)
+    (record { rest = made.rest; either = made.either; quiet = made.quiet; moments = made.moments }))
+
+pub returns-clause-kept : goal.returns-clause-kept
+returns-clause-kept g c image told empty firm =
+    let H = g.H.Host in
+    let a = c.args.host.now in
+    let b = c.prepare.new.host in
+    let n = string_bytes c.new_store.inside.names.name in
+    let x = first_stored c.args.image_length image in
+    let named : n ≡ c.args.new_store = c.new_store.view_is in
+    let none = subst (λ (y : List ℕ). Leaves H a (roots_file y) (λ file. bytes_of file ≡ [])) (sym named) empty in
+    let there = subst (λ (y : List ℕ). Leaves H a (image_file y 0) (Begins c.args.image_length image)) (sym named) firm in
+    let blank = c.in_ok-prepare.ensures.blank told none in
+    let is = first_firm H n a b c.args.image_length image told c.prepare.ensures.changes there in
+    let d = c.inscribe.new.host in
+    record { root = refl; is = c.in_ok-inscribe.ensures.chosen x told blank refl is }
+
+pub returns-in_err-prepare-clause-changes : goal.returns-in_err-prepare-clause-changes
+returns-in_err-prepare-clause-changes g c =
+    subst (λ (y : List ℕ). ChangesBoth g.H.Host (changes_file y) (roots_file y) c.args.host.now c.prepare.new.host) c.new_store.view_is c.prepare.ensures.changes
+
+pub returns-in_err-inscribe-clause-changes : goal.returns-in_err-inscribe-clause-changes
+returns-in_err-inscribe-clause-changes g c =
+    let n = string_bytes c.new_store.inside.names.name in
+    subst (λ (y : List ℕ). ChangesBoth g.H.Host (changes_file y) (roots_file y) c.args.host.now c.inscribe.new.host) c.new_store.view_is
+    (both_more g.H.Host (changes_file n) (roots_file n) c.args.host.now c.prepare.new.host c.inscribe.new.host c.prepare.ensures.changes c.inscribe.ensures.changes)
+
+pub returns-clause-changes : goal.returns-clause-changes
+returns-clause-changes g c =
+    let n = string_bytes c.new_store.inside.names.name in
+    subst (λ (y : List ℕ). ChangesBoth g.H.Host (changes_file y) (roots_file y) c.args.host.now c.inscribe.new.host) c.new_store.view_is
+    (both_more g.H.Host (changes_file n) (roots_file n) c.args.host.now c.prepare.new.host c.inscribe.new.host c.prepare.ensures.changes c.inscribe.ensures.changes)

@@ -1,0 +1,39 @@
+-- What stands while a store is made.
+use Rattle.std.specs.Prelude.{◌≡◌, ◌≢◌, ◌⊎◌, ℕ, ◌<◌, List, [], ◌++◌, length, replicate, slice_index, codes, Option, Some, None}
+use Rattle.st_outside.specs.Files.{Files, bytes_of}
+use Rattle.st_outside.specs.declared.host.Host.{Ghosts}
+use Rattle.st_store.specs.Names.{roots_file}
+use Rattle.st_store.specs.Roots.{root_bytes}
+use Rattle.st_store.specs.Stored.{Stored, Opens}
+use Rattle.st_store.specs.declared.root.Root.{Root}
+
+-- The roots file is absent or doesn't begin with the letters, so that opening refuses it. (An index past the end gives 0.)
+pub record IsNoStore (file : Option (List ℕ)) : Type 0 where
+  pub at : ℕ
+  pub below : at < 8
+  pub wrong : slice_index (bytes_of file) at ≢ slice_index (codes "ST80ROOT") at
+
+-- The files of this name are no store's, or they open as this.
+abbrev pub OpensMaybe : List ℕ → Option Stored → Files → Type 0
+OpensMaybe name None f = IsNoStore (f (roots_file name))
+OpensMaybe name (Some c) f = Opens name c f
+
+-- nothing was changed so far, or the files of this name are no store's
+abbrev pub IsCleared : {D : Type 0} → Ghosts D → List ℕ → D → Files → Type 0
+IsCleared host name old f = ((n : List ℕ) → host.may_leave old n (f n)) ⊎ IsNoStore (f (roots_file name))
+
+-- the root of a new store: its image in slot 0, and no changes
+abbrev pub first_root : ℕ → Root
+first_root image_length = record { slot = 0; image_length = image_length; base = 0; length = 0 }
+
+abbrev pub first_stored : ℕ → List ℕ → Stored
+first_stored image_length image = record { root = first_root image_length; image = image; changes = [] }
+
+-- the bytes of its roots file behind the letters: the gate, seven zero bytes, root 0, and zero bytes in the place of root 1
+abbrev pub first_bytes : Root → List ℕ
+first_bytes root = replicate 8 0 ++ (root_bytes root ++ replicate 32 0)
+
+-- one zero byte
+pub record IsBlank (file : Option (List ℕ)) : Type 0 where
+  pub long : length (bytes_of file) ≡ 1
+  pub zero : slice_index (bytes_of file) 0 ≡ 0
