@@ -1,7 +1,7 @@
 ghost use Rattle.std.specs.Prelude.{◌≡◌, ◌≢◌, ℕ, ◌+◌, ◌<◌, ◌≤◌, ◌/◌, ◌↔◌, Some, None, length, drop, replicate, slice_index, slice_set, IfOk, IfSome, IfNone, IsTrue};
 ghost use Rattle.st_table.specs.declared.entry.Entry.{Entry as Kept};
 ghost use Rattle.st_table.specs.Entries.{place, HasEntry, IsFree};
-ghost use Rattle.st_heap.specs.Blocks.{none, block, block_at, held, holds_place, IsLaid, IsTied, IsClosedBelow, IsAbove, IsBlock, owned_by, moved, exchanged_blocks, exchanged_entries};
+ghost use Rattle.st_heap.specs.Blocks.{none, block, block_at, held, HoldsPlace, IsLaid, IsTied, IsClosedBelow, IsAbove, IsBlock, with_owner, moved, exchanged_blocks, exchanged_entries};
 
 use crate::block::Block;
 use crate::holes::Holes;
@@ -9,6 +9,9 @@ use st_cells::Cells;
 use st_model::Oop;
 use st_table::{Entry, Table};
 use std::alloc::{AllocError, Global};
+
+#[cfg(test)]
+mod tests;
 
 /// A heap. Clauses see its words (`words_of`) and its blocks by half of their place (`blocks_of`).
 #[derive(Drop)]
@@ -52,7 +55,7 @@ impl Heap {
 
     /// The word at a place that a block holds.
     pub fn word(&self, at: u32) -> u16
-        requires { holds_place (blocks_of self.now) at }
+        requires { HoldsPlace (blocks_of self.now) at }
         ensures { result ≡ slice_index (words_of self.now) at }
     {
         self.words.get(at)
@@ -60,7 +63,7 @@ impl Heap {
 
     /// Writes the word at a place that a block holds.
     pub fn set_word(&mut self, at: u32, w: u16)
-        requires { holds_place (blocks_of self.old) at }
+        requires { HoldsPlace (blocks_of self.old) at }
         ensures words { words_of self.new ≡ slice_set (words_of self.old) at w }
         ensures blocks { blocks_of self.new ≡ blocks_of self.old }
     {
@@ -71,7 +74,7 @@ impl Heap {
     pub fn give(&mut self, at: u32, n: u32)
         requires { IsBlock (blocks_of self.old) at n }
         ensures words { words_of self.new ≡ words_of self.old }
-        ensures blocks { blocks_of self.new ≡ slice_set (blocks_of self.old) (at / 2) (owned_by (record { 0 = 0 }) (block_at (blocks_of self.old) at)) }
+        ensures blocks { blocks_of self.new ≡ slice_set (blocks_of self.old) (at / 2) (with_owner (record { 0 = 0 }) (block_at (blocks_of self.old) at)) }
         ensures held { held (blocks_of self.new) + n ≡ held (blocks_of self.old) }
     {
         let k = at as usize / 2;
