@@ -22,6 +22,10 @@ with_owner o b = record { owner = o; at = b.at; len = b.len }
 abbrev pub with_place : ℕ → Block → Block
 with_place at b = record { owner = b.owner; at = at; len = b.len }
 
+-- the list after the block at a place of the heap was given back: a hole is there
+abbrev pub given_back : List Block → ℕ → List Block
+given_back blocks at = slice_set blocks (at / 2) (with_owner (record { 0 = 0 }) (block_at blocks at))
+
 -- the list after the block at place k has moved to a place of the heap
 abbrev pub moved : List Block → ℕ → ℕ → List Block
 moved blocks k to = slice_set (slice_set blocks k none) (to / 2) (with_place to (block blocks k))
