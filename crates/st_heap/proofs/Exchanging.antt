@@ -5,7 +5,7 @@ use Rattle.std.proofs.lemmas.List.{get_or-set_same, get_or-set_other}
 use Rattle.st_model.specs.declared.oop.Oop.{Oop}
 use Rattle.st_table.specs.declared.entry.Entry.{Entry}
 use Rattle.st_heap.specs.declared.block.Block.{Block}
-use Rattle.st_heap.specs.Blocks.{block, block_at, owned_by, IsLaid, IsTied, entry_at}
+use Rattle.st_heap.specs.Blocks.{block, block_at, with_owner, IsLaid, IsTied, entry_at}
 use Rattle.st_heap.proofs.Laying.{by_set, taken_owned, laid_owner, entered_owner, entry_inside, owned_inside}
 
 module _ (ws : List ℕ) (bs : List Block) (end free : ℕ) (laid : IsLaid ws bs end free) (es : List (Option Entry)) (tied : IsTied es bs) (a b : Oop) (e f : Entry) (even_a : a.0 % 2 ≡ 0) (even_b : b.0 % 2 ≡ 0) (is_e : get_or es (a.0 / 2) None ≡ Some e) (is_f : get_or es (b.0 / 2) None ≡ Some f) where
@@ -19,10 +19,10 @@ module _ (ws : List ℕ) (bs : List Block) (end free : ℕ) (laid : IsLaid ws bs
   new_entries = set (set es (a.0 / 2) (Some to_f)) (b.0 / 2) (Some to_e)
 
   abbrev first_owned : List Block
-  first_owned = set bs (e.at / 2) (owned_by b (block_at bs e.at))
+  first_owned = set bs (e.at / 2) (with_owner b (block_at bs e.at))
 
   abbrev new_blocks : List Block
-  new_blocks = set first_owned (f.at / 2) (owned_by a (block_at bs f.at))
+  new_blocks = set first_owned (f.at / 2) (with_owner a (block_at bs f.at))
 
   owner_e : (block_at bs e.at).owner.0 ≢ 0
   owner_e = entered_owner es bs (a.0 / 2) e tied is_e
@@ -37,7 +37,7 @@ module _ (ws : List ℕ) (bs : List Block) (end free : ℕ) (laid : IsLaid ws bs
   inside_f = owned_inside ws bs end free (f.at / 2) laid owner_f
 
   inside_first : f.at / 2 < length first_owned
-  inside_first = let size = length-set bs (e.at / 2) (owned_by b (block_at bs e.at)) in omega (arith, inside_f, size)
+  inside_first = let size = length-set bs (e.at / 2) (with_owner b (block_at bs e.at)) in omega (arith, inside_f, size)
 
   some_a : a.0 ≢ 0
   some_a z = let two = (tied.placed (a.0 / 2) e is_e).0 in owner_e (omega (arith, z, two))
@@ -56,22 +56,22 @@ module _ (ws : List ℕ) (bs : List Block) (end free : ℕ) (laid : IsLaid ws bs
   same_place z = ap entry_at (sym is_e ∙ ap (λ i. get_or es i None) z ∙ is_f)
 
   -- the second block as it is once the first has its new owner
-  second_same : owned_by a (block first_owned (f.at / 2)) ≡ owned_by a (block_at bs f.at)
-  second_same = by_set bs (e.at / 2) (owned_by b (block_at bs e.at)) (f.at / 2) (λ y. owned_by a y ≡ owned_by a (block_at bs f.at)) inside_e (λ z. ap (λ i. owned_by a (block bs i)) (sym z)) (λ ne. refl)
+  second_same : with_owner a (block first_owned (f.at / 2)) ≡ with_owner a (block_at bs f.at)
+  second_same = by_set bs (e.at / 2) (with_owner b (block_at bs e.at)) (f.at / 2) (λ y. with_owner a y ≡ with_owner a (block_at bs f.at)) inside_e (λ z. ap (λ i. with_owner a (block bs i)) (sym z)) (λ ne. refl)
 
   laid_first : IsLaid ws first_owned end free
   laid_first =
       let before = taken_owned (block_at bs e.at) owner_e in
-      let after = taken_owned (owned_by b (block_at bs e.at)) some_b in
+      let after = taken_owned (with_owner b (block_at bs e.at)) some_b in
       laid_owner ws bs end free (e.at / 2) b free laid inside_e (laid.owned (e.at / 2) owner_e) (omega (arith, before, after))
 
   second_owned : (block first_owned (f.at / 2)).owner.0 ≢ 0
-  second_owned = by_set bs (e.at / 2) (owned_by b (block_at bs e.at)) (f.at / 2) (λ y. y.owner.0 ≢ 0) inside_e (λ z. some_b) (λ ne. owner_f)
+  second_owned = by_set bs (e.at / 2) (with_owner b (block_at bs e.at)) (f.at / 2) (λ y. y.owner.0 ≢ 0) inside_e (λ z. some_b) (λ ne. owner_f)
 
   pub laid_exchanged : IsLaid ws new_blocks end free
   laid_exchanged =
       let before = taken_owned (block first_owned (f.at / 2)) second_owned in
-      let after = taken_owned (owned_by a (block first_owned (f.at / 2))) some_a in
+      let after = taken_owned (with_owner a (block first_owned (f.at / 2))) some_a in
       let P : Block → Type 0 = λ y. IsLaid ws (set first_owned (f.at / 2) y) end free in
       subst P second_same (laid_owner ws first_owned end free (f.at / 2) a free laid_first inside_first (laid_first.owned (f.at / 2) second_owned) (omega (arith, before, after)))
 
@@ -84,8 +84,8 @@ module _ (ws : List ℕ) (bs : List Block) (end free : ℕ) (laid : IsLaid ws bs
   at_other : (k : ℕ) → k ≢ a.0 / 2 → k ≢ b.0 / 2 → get_or new_entries k None ≡ get_or es k None
   at_other k ne ne' = get_or-set_other (set es (a.0 / 2) (Some to_f)) (b.0 / 2) k (Some to_e) None ne' ∙ get_or-set_other es (a.0 / 2) k (Some to_f) None ne
 
-  by_exchange : (m : ℕ) (P : Block → Type 0) → (m ≡ f.at / 2 → P (owned_by a (block_at bs f.at))) → (m ≢ f.at / 2 → m ≡ e.at / 2 → P (owned_by b (block_at bs e.at))) → (m ≢ f.at / 2 → m ≢ e.at / 2 → P (block bs m)) → P (block new_blocks m)
-  by_exchange m P second first others = by_set first_owned (f.at / 2) (owned_by a (block_at bs f.at)) m P inside_first second (λ ne. by_set bs (e.at / 2) (owned_by b (block_at bs e.at)) m P inside_e (first ne) (others ne))
+  by_exchange : (m : ℕ) (P : Block → Type 0) → (m ≡ f.at / 2 → P (with_owner a (block_at bs f.at))) → (m ≢ f.at / 2 → m ≡ e.at / 2 → P (with_owner b (block_at bs e.at))) → (m ≢ f.at / 2 → m ≢ e.at / 2 → P (block bs m)) → P (block new_blocks m)
+  by_exchange m P second first others = by_set first_owned (f.at / 2) (with_owner a (block_at bs f.at)) m P inside_first second (λ ne. by_set bs (e.at / 2) (with_owner b (block_at bs e.at)) m P inside_e (first ne) (others ne))
 
   pub tied_exchanged : IsTied new_entries new_blocks
   tied_exchanged = record {

@@ -1,4 +1,4 @@
-mod Laying
+pub mod Laying
 mod Moving
-mod Taking
+pub mod Taking
 mod Exchanging

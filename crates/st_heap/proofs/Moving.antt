@@ -5,7 +5,7 @@ use Rattle.std.proofs.lemmas.List.{get_or-set_same, get_or-set_other, drop-set-l
 use Rattle.st_table.specs.declared.entry.Entry.{Entry}
 use Rattle.st_cells.specs.Words.{slid}
 use Rattle.st_heap.specs.declared.block.Block.{Block}
-use Rattle.st_heap.specs.Blocks.{none, block, block_at, placed_at, moved, taken, held, IsLaid, IsTied, IsClosedBelow, IsAbove, KeepsBlocks, entry_at, moved_entry}
+use Rattle.st_heap.specs.Blocks.{none, block, block_at, with_place, moved, taken, held, IsLaid, IsTied, IsClosedBelow, IsAbove, KeepsBlocks, entry_at, moved_entry}
 use Rattle.st_heap.proofs.Laying.{by_set, taken_unowned, taken_owned, held_set, FitsAt, laid_set, none_fits, entered_owner, entry_inside, same_entry}
 
 -- between where the blocks before it end and the block that moves there is nothing
@@ -54,7 +54,7 @@ module _ (ws : List ℕ) (bs : List Block) (end free k to : ℕ) (laid : IsLaid 
   gone_there : (block (set bs k none) (to / 2)).len ≡ 0
   gone_there = by_set bs k none (to / 2) (λ y. y.len ≡ 0) within (λ at. refl) (λ ne. empty_between ws bs end free k to (to / 2) laid closed (omega (arith, ne, lower)) (omega arith))
 
-  moved_fits : FitsAt (set bs k none) end (to / 2) (placed_at to b)
+  moved_fits : FitsAt (set bs k none) end (to / 2) (with_place to b)
   moved_fits = record {
     owned = λ other. laid.owned k other;
     half = λ some. refl;
@@ -78,10 +78,10 @@ module _ (ws : List ℕ) (bs : List Block) (end free k to : ℕ) (laid : IsLaid 
       let gone = laid_gone ws bs end free k laid within in
       let size = length-set bs k none in
       let first = held_set bs k none within in
-      let second = held_set (set bs k none) (to / 2) (placed_at to b) (omega (arith, size, inside)) in
+      let second = held_set (set bs k none) (to / 2) (with_place to b) (omega (arith, size, inside)) in
       let empty = taken_unowned (block (set bs k none) (to / 2)) (unowned_of_empty ws (set bs k none) end (free + taken b) (to / 2) gone gone_there) in
       let mine = taken_owned b owned in
-      let mine' = taken_owned (placed_at to b) owned in
+      let mine' = taken_owned (with_place to b) owned in
       omega (arith, first, second, empty, mine, mine')
 
   pub laid_moved : IsLaid ws (moved bs k to) end free
@@ -90,13 +90,13 @@ module _ (ws : List ℕ) (bs : List Block) (end free k to : ℕ) (laid : IsLaid 
       let size = length-set bs k none in
       let sum = laid.sum in
       let same = moved_held in
-      laid_set ws (set bs k none) end (free + taken b) (to / 2) (placed_at to b) end free gone (omega (arith, size, inside)) (omega arith) laid.last moved_fits (omega (arith, sum, same))
+      laid_set ws (set bs k none) end (free + taken b) (to / 2) (with_place to b) end free gone (omega (arith, size, inside)) (omega arith) laid.last moved_fits (omega (arith, sum, same))
 
   -- what holds of the block at its new place, of nothing, and of all others, holds of each
-  pub by_moved : (j : ℕ) (P : Block → Type 0) → (j ≡ to / 2 → P (placed_at to b)) → (j ≢ to / 2 → j ≡ k → P none) → (j ≢ to / 2 → j ≢ k → P (block bs j)) → P (block (moved bs k to) j)
+  pub by_moved : (j : ℕ) (P : Block → Type 0) → (j ≡ to / 2 → P (with_place to b)) → (j ≢ to / 2 → j ≡ k → P none) → (j ≢ to / 2 → j ≢ k → P (block bs j)) → P (block (moved bs k to) j)
   by_moved j P here gone there =
       let size = length-set bs k none in
-      by_set (set bs k none) (to / 2) (placed_at to b) j P (omega (arith, size, inside)) here (λ ne. by_set bs k none j P within (gone ne) (there ne))
+      by_set (set bs k none) (to / 2) (with_place to b) j P (omega (arith, size, inside)) here (λ ne. by_set bs k none j P within (gone ne) (there ne))
 
   pub closed_moved : IsClosedBelow (moved bs k to) (k + 1) (to + b.len)
   closed_moved j = by_moved j (λ y. j < k + 1 → 0 < y.len → y.at + y.len ≤ to + b.len)
@@ -111,7 +111,7 @@ module _ (ws : List ℕ) (bs : List Block) (end free k to : ℕ) (laid : IsLaid 
       (λ ne ne' over some. let apart = laid.apart k j (omega (arith, over)) (laid.owned k owned) some in omega (arith, apart, down))
 
   pub drop_moved : drop (k + 1) (moved bs k to) ≡ drop (k + 1) bs
-  drop_moved = drop-set-lt (k + 1) (set bs k none) (to / 2) (placed_at to b) (omega (arith, lower)) ∙ drop-set-lt (k + 1) bs k none (omega arith)
+  drop_moved = drop-set-lt (k + 1) (set bs k none) (to / 2) (with_place to b) (omega (arith, lower)) ∙ drop-set-lt (k + 1) bs k none (omega arith)
 
   module _ (es : List (Option Entry)) (tied : IsTied es bs) (e : Entry) (is : get_or es (b.owner.0 / 2) None ≡ Some e) where
     -- the entry has the block's place
@@ -150,10 +150,10 @@ module _ (ws : List ℕ) (bs : List Block) (end free k to : ℕ) (laid : IsLaid 
 
     stands : (q : ℕ) (f : Entry) → q ≢ b.owner.0 / 2 → get_or es q None ≡ Some f → block_at (moved bs k to) f.at ≡ block_at bs f.at
     stands q f ne is' =
-        get_or-set_other (set bs k none) (to / 2) (f.at / 2) (placed_at to b) none (other_half q f ne is') ∙ get_or-set_other bs k (f.at / 2) none none (other_block q f ne is')
+        get_or-set_other (set bs k none) (to / 2) (f.at / 2) (with_place to b) none (other_half q f ne is') ∙ get_or-set_other bs k (f.at / 2) none none (other_block q f ne is')
 
-    comes : block (moved bs k to) (to / 2) ≡ placed_at to b
-    comes = let size = length-set bs k none in get_or-set_same (set bs k none) (to / 2) (placed_at to b) none (omega (arith, size, inside))
+    comes : block (moved bs k to) (to / 2) ≡ with_place to b
+    comes = let size = length-set bs k none in get_or-set_same (set bs k none) (to / 2) (with_place to b) none (omega (arith, size, inside))
 
     pub tied_moved : IsTied moved_entries (moved bs k to)
     tied_moved = record {
@@ -175,7 +175,7 @@ module _ (ws : List ℕ) (bs : List Block) (end free k to : ℕ) (laid : IsLaid 
             let same : q ≡ b.owner.0 / 2 = grind (arith, m) in
             let it : Some there ≡ Some f = sym (ap (λ i. get_or moved_entries i None) same ∙ at_owner) ∙ is' in
             let place : f.at ≡ to = sym (ap entry_at it) in
-            let here : block_at (moved bs k to) f.at ≡ placed_at to b = ap (λ i. block (moved bs k to) (i / 2)) place ∙ comes in
+            let here : block_at (moved bs k to) f.at ≡ with_place to b = ap (λ i. block (moved bs k to) (i / 2)) place ∙ comes in
             (ap (λ (y : Block). y.owner.0) here ∙ omega (arith, same, even), ap (λ (y : Block). y.at) here ∙ sym place)
         placed q f is' false m =
             let ne : q ≢ b.owner.0 / 2 = λ z. grind (arith, m, z) in

@@ -16,15 +16,19 @@ block blocks k = slice_index_or blocks k none
 abbrev pub block_at : List Block → ℕ → Block
 block_at blocks at = block blocks (at / 2)
 
-abbrev pub owned_by : Oop → Block → Block
-owned_by o b = record { owner = o; at = b.at; len = b.len }
+abbrev pub with_owner : Oop → Block → Block
+with_owner o b = record { owner = o; at = b.at; len = b.len }
 
-abbrev pub placed_at : ℕ → Block → Block
-placed_at at b = record { owner = b.owner; at = at; len = b.len }
+abbrev pub with_place : ℕ → Block → Block
+with_place at b = record { owner = b.owner; at = at; len = b.len }
+
+-- the list after the block at a place of the heap was given back: a hole is there
+abbrev pub given_back : List Block → ℕ → List Block
+given_back blocks at = slice_set blocks (at / 2) (with_owner (record { 0 = 0 }) (block_at blocks at))
 
 -- the list after the block at place k has moved to a place of the heap
 abbrev pub moved : List Block → ℕ → ℕ → List Block
-moved blocks k to = slice_set (slice_set blocks k none) (to / 2) (placed_at to (block blocks k))
+moved blocks k to = slice_set (slice_set blocks k none) (to / 2) (with_place to (block blocks k))
 
 -- the words of a block that has an owner
 abbrev pub taken : Block → ℕ
@@ -42,8 +46,8 @@ pub record IsBlock (blocks : List Block) (at n : ℕ) : Type 0 where
   pub long : (block_at blocks at).len ≡ n
 
 -- a block holds the place
-abbrev pub holds_place : List Block → ℕ → Type 0
-holds_place blocks at = (k : ℕ) × ((block blocks k).owner.0 ≢ 0) × ((block blocks k).at ≤ at) × (at < (block blocks k).at + (block blocks k).len)
+abbrev pub HoldsPlace : List Block → ℕ → Type 0
+HoldsPlace blocks at = (k : ℕ) × ((block blocks k).owner.0 ≢ 0) × ((block blocks k).at ≤ at) × (at < (block blocks k).at + (block blocks k).len)
 
 -- blocks and holes share no word and end at the end; `free` words are in no block
 pub record IsLaid (words : List ℕ) (blocks : List Block) (end free : ℕ) : Type 0 where
@@ -86,7 +90,7 @@ abbrev pub exchanged_blocks : List Block → List (Option Entry) → Oop → Oop
 exchanged_blocks blocks entries a b =
     let at_a = entry_at (entry_of entries a) in
     let at_b = entry_at (entry_of entries b) in
-    slice_set (slice_set blocks (at_a / 2) (owned_by b (block_at blocks at_a))) (at_b / 2) (owned_by a (block_at blocks at_b))
+    slice_set (slice_set blocks (at_a / 2) (with_owner b (block_at blocks at_a))) (at_b / 2) (with_owner a (block_at blocks at_b))
 
 -- before place k of the list all ends at a place of the heap
 abbrev pub IsClosedBelow : List Block → ℕ → ℕ → Type 0

@@ -1,7 +1,6 @@
-ghost use Rattle.std.specs.Prelude.{◌≡◌, ◌≢◌, ℕ, ◌+◌, ◌<◌, ◌≤◌, ◌/◌, ◌↔◌, Some, None, length, drop, replicate, slice_index, slice_set, IfOk, IfSome, IfNone, IsTrue};
-ghost use Rattle.st_table.specs.declared.entry.Entry.{Entry as Kept};
-ghost use Rattle.st_table.specs.Entries.{place, HasEntry, IsFree};
-ghost use Rattle.st_heap.specs.Blocks.{none, block, block_at, held, holds_place, IsLaid, IsTied, IsClosedBelow, IsAbove, IsBlock, owned_by, moved, exchanged_blocks, exchanged_entries};
+ghost use Rattle.std.specs.Prelude.{◌≡◌, ◌≢◌, ℕ, ◌+◌, ◌<◌, ◌≤◌, ◌/◌, ◌↔◌, length, replicate, slice_index, slice_set, IfOk, IfSome, IfNone, IsTrue};
+ghost use Rattle.st_table.specs.Entries.{HasEntry, IsFree};
+ghost use Rattle.st_heap.specs.Blocks.{none, block, block_at, held, HoldsPlace, IsLaid, IsTied, IsClosedBelow, IsAbove, IsBlock, given_back, moved, exchanged_blocks, exchanged_entries};
 
 use crate::block::Block;
 use crate::holes::Holes;
@@ -9,6 +8,9 @@ use st_cells::Cells;
 use st_model::Oop;
 use st_table::{Entry, Table};
 use std::alloc::{AllocError, Global};
+
+#[cfg(test)]
+mod tests;
 
 /// A heap. Clauses see its words (`words_of`) and its blocks by half of their place (`blocks_of`).
 #[derive(Drop)]
@@ -24,7 +26,7 @@ pub struct Heap {
 }
 
 impl Heap {
-    ghost use Rattle.st_heap.specs.Heaps.{words_of, blocks_of, Fits, Keeps, Takes, SameRoom, IsClosedUp};
+    ghost use Rattle.st_heap.specs.Heaps.{words_of, blocks_of, Fits, Keeps, Takes, TiedWith, SameRoom, SameContents, IsClosedUp, held_from};
 
     /// A heap of so many words, without blocks.
     pub fn new(alloc: Global, words: u32) -> Result<Heap, AllocError>
@@ -52,7 +54,7 @@ impl Heap {
 
     /// The word at a place that a block holds.
     pub fn word(&self, at: u32) -> u16
-        requires { holds_place (blocks_of self.now) at }
+        requires { HoldsPlace (blocks_of self.now) at }
         ensures { result ≡ slice_index (words_of self.now) at }
     {
         self.words.get(at)
@@ -60,7 +62,7 @@ impl Heap {
 
     /// Writes the word at a place that a block holds.
     pub fn set_word(&mut self, at: u32, w: u16)
-        requires { holds_place (blocks_of self.old) at }
+        requires { HoldsPlace (blocks_of self.old) at }
         ensures words { words_of self.new ≡ slice_set (words_of self.old) at w }
         ensures blocks { blocks_of self.new ≡ blocks_of self.old }
     {
@@ -71,7 +73,7 @@ impl Heap {
     pub fn give(&mut self, at: u32, n: u32)
         requires { IsBlock (blocks_of self.old) at n }
         ensures words { words_of self.new ≡ words_of self.old }
-        ensures blocks { blocks_of self.new ≡ slice_set (blocks_of self.old) (at / 2) (owned_by (record { 0 = 0 }) (block_at (blocks_of self.old) at)) }
+        ensures blocks { blocks_of self.new ≡ given_back (blocks_of self.old) at }
         ensures held { held (blocks_of self.new) + n ≡ held (blocks_of self.old) }
     {
         let k = at as usize / 2;
@@ -92,7 +94,7 @@ impl Heap {
         requires free { IsFree t.old o }
         requires tied { IsTied t.old (blocks_of self.old) }
         ensures block { block_at (blocks_of self.new) result ≡ record { owner = o; at = result; len = n } }
-        ensures tied { (e : Kept) → e.at ≡ result → IsTied (slice_set t.new (place o) (Some e)) (blocks_of self.new) }
+        ensures tied { TiedWith self.new t.new o result }
         ensures keeps { Keeps self.old t.old self.new t.new }
         ensures held { held (blocks_of self.new) ≡ held (blocks_of self.old) + n }
         ensures length { length (words_of self.new) ≡ length (words_of self.old) }
@@ -178,7 +180,7 @@ impl Heap {
         ensures same { SameRoom self.old self.new }
         ensures closed { IsClosedBelow (blocks_of self.new) (k + 1) result }
         ensures above { IsAbove (blocks_of self.new) (k + 1) result }
-        ensures sum { result + held (drop (k + 1) (blocks_of self.new)) ≡ to + held (drop k (blocks_of self.old)) }
+        ensures sum { result + held_from self.new (k + 1) ≡ to + held_from self.old k }
         ensures size { length (blocks_of self.new) ≡ length (blocks_of self.old) }
     {
         let block = read_block(&self.blocks, k);
@@ -216,7 +218,7 @@ impl Heap {
         requires owner { o.0 ≢ 0 }
         requires fits { Fits self.old n }
         ensures taken { IfSome result (λ at. Takes self.old self.new o at n) }
-        ensures none { IfNone result ((words_of self.new ≡ words_of self.old) × (blocks_of self.new ≡ blocks_of self.old)) }
+        ensures none { IfNone result (SameContents self.old self.new) }
     {
         let k = self.holes.pop(n)?;
         if k >= self.blocks.len() {

@@ -1,5 +1,5 @@
 -- Bits in words of 64, and a summary of the words that are full.
-use Rattle.std.specs.Prelude.{◌≡◌, ◌<◌, ◌+◌, ◌*◌, ◌/◌, ◌%◌, ◌^◌, ◌-◌, ℕ, List, length, slice_index}
+use Rattle.std.specs.Prelude.{◌≡◌, ◌≢◌, ◌<◌, ◌+◌, ◌*◌, ◌/◌, ◌%◌, ◌^◌, ◌-◌, ℕ, List, length, slice_index}
 use Rattle.std.specs.Int.{bit_at}
 
 -- bit k of a list of words of 64 bits
@@ -16,3 +16,7 @@ pub record IsSummary (words full : List ℕ) : Type 0 where
 pub record IsLeast (words : List ℕ) (k : ℕ) : Type 0 where
   pub free : bit words k ≡ 0
   pub lower : (i : ℕ) → i < k → bit words i ≡ 1
+
+-- every word but the one at place k stands
+abbrev pub SameOtherWords : List ℕ → List ℕ → ℕ → Type 0
+SameOtherWords words words' k = (j : ℕ) → j ≢ k → slice_index words' j ≡ slice_index words j

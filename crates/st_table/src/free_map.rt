@@ -1,5 +1,5 @@
 ghost use Rattle.std.specs.Prelude.{◌≡◌, ◌≢◌, ◌<◌, ◌≤◌, ◌*◌, ◌/◌, ◌+◌, ◌^◌, ◌-◌, ℕ, length, replicate, IfOk, IfSome, IfNone, slice_index};
-ghost use Rattle.st_table.specs.Bits.{bit, IsSummary, IsLeast};
+ghost use Rattle.st_table.specs.Bits.{bit, IsSummary, IsLeast, SameOtherWords};
 
 use std::alloc::{AllocError, Global};
 
@@ -90,7 +90,7 @@ fn set_bit(words: &mut Vec<u64>, k: usize)
     ensures size { length words.new.items ≡ length words.old.items }
     ensures set { bit words.new.items k ≡ 1 }
     ensures others { (i : ℕ) → i ≢ k → bit words.new.items i ≡ bit words.old.items i }
-    ensures words { (j : ℕ) → j ≢ k / 64 → slice_index words.new.items j ≡ slice_index words.old.items j }
+    ensures words { SameOtherWords words.old.items words.new.items (k / 64) }
 {
     words[k / 64] |= 1 << (k % 64);
 }
@@ -101,7 +101,7 @@ fn clear_bit(words: &mut Vec<u64>, k: usize)
     ensures size { length words.new.items ≡ length words.old.items }
     ensures clear { bit words.new.items k ≡ 0 }
     ensures others { (i : ℕ) → i ≢ k → bit words.new.items i ≡ bit words.old.items i }
-    ensures words { (j : ℕ) → j ≢ k / 64 → slice_index words.new.items j ≡ slice_index words.old.items j }
+    ensures words { SameOtherWords words.old.items words.new.items (k / 64) }
     ensures room { slice_index words.new.items (k / 64) + 1 < 2 ^ 64 }
 {
     words[k / 64] &= !(1 << (k % 64));

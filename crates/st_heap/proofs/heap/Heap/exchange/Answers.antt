@@ -1,6 +1,6 @@
 use Rattle.std.proofs.Common.{◌/◌, set}
 use Rattle.st_heap.specs.declared.block.Block.{Block}
-use Rattle.st_heap.specs.Blocks.{owned_by, IsLaid}
+use Rattle.st_heap.specs.Blocks.{with_owner, IsLaid}
 use Rattle.st_heap.proofs.Exchanging.{inside_e, inside_f, laid_exchanged, tied_exchanged}
 use Rattle.st_heap.proofs.heap.Heap.exchange.Goals as goal
 
@@ -20,8 +20,8 @@ invariant_of-self c =
     let bs = self.blocks.items in
     let i = c.entry-first.result.at / 2 in
     let j = c.entry-second.result.at / 2 in
-    let P : Block → Type 0 = λ x. IsLaid self.words (set (set bs i (owned_by c.args.b x)) j (owned_by c.args.a c.read_block-other.result)) self.end self.free in
-    let Q : Block → Type 0 = λ y. IsLaid self.words (set (set bs i (owned_by c.args.b c.read_block-block.result)) j (owned_by c.args.a y)) self.end self.free in
+    let P : Block → Type 0 = λ x. IsLaid self.words (set (set bs i (with_owner c.args.b x)) j (with_owner c.args.a c.read_block-other.result)) self.end self.free in
+    let Q : Block → Type 0 = λ y. IsLaid self.words (set (set bs i (with_owner c.args.b c.read_block-block.result)) j (with_owner c.args.a y)) self.end self.free in
     let all = laid_exchanged self.words bs self.end self.free self.laid c.args.t.now c.requires.tied c.args.a c.args.b c.entry-first.result c.entry-second.result c.requires.first.even c.requires.second.even c.entry-first.ensures c.entry-second.ensures in
     record { laid = rw (c.read_block-block.ensures, c.read_block-other.ensures) all }
 
