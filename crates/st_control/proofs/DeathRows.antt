@@ -10,20 +10,12 @@ use Rattle.st_model.specs.declared.kind.Kind.TheVariants as kind
 use Rattle.st_model.specs.Values.{Value, Small, Ref}
 use Rattle.st_model.specs.Objects.{Object, nil}
 use Rattle.st_model.specs.Outcomes as outcome
-use Rattle.st_model.specs.Machine.{State, empty_world, Died, Went, answer, die, after, ◌>>=◌, ◌>>◌}
+use Rattle.st_model.specs.Machine.{State, empty_world, Died, Went}
 use Rattle.st_model.specs.Table.{Table, table}
-use Rattle.st_model.specs.Steps.{get_active, get_home, get_method, get_receiver, get_ip, get_sp, set_ip, set_sp, found, object_named, object, stored_at, store_at, set_field, made, make_named, make, new_object, registers_set, set_registers, of_page, class_of, or_die, check, fetch_field, store_field, integer_or_die, fetch_integer, count_fields, fetch_fields, store_fields, transfer, put, push, top, under, look_at_words, drop_words, pop, literal, byte_at, next_byte, jump}
-use Rattle.st_model.specs.Methods.{method_header, literal_from_last}
-use Rattle.st_model.specs.Contexts.{home_by, home_of, stack_place, fetch_stack_pointer, context_registers, fetch_context_registers, store_context_registers, switch, fill_context, new_context, pass_words, activate}
-use Rattle.st_model.specs.Lookup.{half_word, checked_method, method_at, place_says, look_at_place, look_at_places, search_from, search_dictionary, or_above, method_in_class, look_in_class, unless_nil, end_at_nil, find_within, find}
-use Rattle.st_model.specs.Sends.{goes_on, execute_by, execute, execute_not_understood, not_understood, execute_found, send_from, send, class_above, send_to_super}
-use Rattle.st_model.specs.Returns.{cannot_return, return_into, return_unless, return_to_context, return_unless_nil, return_to, return_to_sender, must_be_boolean, jump_if, jump_on}
-use Rattle.st_model.specs.Bytecodes.{fetch_literal_constant, constant_value, send_literal, send_literal_to_super, extended_super_send, return_constant, short_jump_on_false, long_jump_on_true, bytecode, step}
-
--- opens the definitions of these steps
-opened : Unit {0}
-unfolding answer die after ◌>>=◌ ◌>>◌ get_active get_home get_method get_receiver get_ip get_sp set_ip set_sp found object_named object stored_at store_at set_field made make_named make new_object registers_set set_registers of_page class_of or_die check fetch_field store_field integer_or_die fetch_integer count_fields fetch_fields store_fields transfer put push top under look_at_words drop_words pop literal byte_at next_byte jump method_header literal_from_last home_by home_of stack_place fetch_stack_pointer context_registers fetch_context_registers store_context_registers switch fill_context new_context pass_words activate half_word checked_method method_at place_says look_at_place look_at_places search_from search_dictionary or_above method_in_class look_in_class unless_nil end_at_nil find_within find goes_on execute_by execute execute_not_understood not_understood execute_found send_from send class_above send_to_super cannot_return return_into return_unless return_to_context return_unless_nil return_to return_to_sender must_be_boolean jump_if jump_on fetch_literal_constant constant_value send_literal send_literal_to_super extended_super_send return_constant short_jump_on_false long_jump_on_true bytecode step
-opened = tt
+use Rattle.st_model.specs.Contexts.{activate}
+use Rattle.st_model.specs.Sends.{send_to_super}
+use Rattle.st_model.specs.Bytecodes.{step}
+use Rattle.st_model.proofs.Opened.{opened}
 
 -- an object of kind Pointers, by half the pointer of its class
 pointers : ℕ → List Value → Option Object
@@ -91,7 +83,7 @@ unfolding image
 sent header class = state 12 10 nil (pos 4) 6 (objects 26 header nil (Small 1 ∷ Ref 26 ∷ []) (208 ∷ []) (record { class = class; active = context nil (Small 5) 1 (Small 5 ∷ []); other = plain []; new = None }))
 
 -- 12 temporary variables have places in a context of 18 fields: 1536 is 12 * 128
-twelve_temporaries : (step table).run (sent 1536 contexts) ≡ Went (Some outcome.Went) (state 14 9 (Small 5) (pos 2) 17 (objects 26 1536 nil (Small 1 ∷ Ref 26 ∷ []) (208 ∷ []) (record { class = contexts; active = context nil (Small 6) 0 (Small 5 ∷ []); other = plain []; new = activation 12 (Small 5) (replicate 12 nil) })))
+twelve_temporaries : (step table).run (sent 1536 contexts) ≡ Went (outcome.Did outcome.Went) (state 14 9 (Small 5) (pos 2) 17 (objects 26 1536 nil (Small 1 ∷ Ref 26 ∷ []) (208 ∷ []) (record { class = contexts; active = context nil (Small 6) 0 (Small 5 ∷ []); other = plain []; new = activation 12 (Small 5) (replicate 12 nil) })))
 unfolding opened image sent
 twelve_temporaries = refl
 
@@ -117,12 +109,12 @@ refused : Value → State Table
 unfolding image
 refused sender = state 14 9 (Ref 12) (pos 2) 6 (objects 22 4224 nil (Small 0 ∷ []) (121 ∷ []) (record { class = contexts; active = context sender (Small 4) 0 (Ref 12 ∷ Ref 3 ∷ []); other = context nil nil 0 (nil ∷ []); new = activation 1 (Ref 12) (Ref 3 ∷ replicate 11 nil) }))
 
-to_nil : (step table).run (returned 22 nil nil nil (nil ∷ nil ∷ [])) ≡ Went (Some outcome.Went) (refused nil)
+to_nil : (step table).run (returned 22 nil nil nil (nil ∷ nil ∷ [])) ≡ Went (outcome.Did outcome.Went) (refused nil)
 unfolding opened image returned refused
 to_nil = refl
 
 -- a context was left for good where its instruction pointer is nil
-to_what_was_left : (step table).run (returned 22 nil (Ref 13) nil (nil ∷ nil ∷ [])) ≡ Went (Some outcome.Went) (refused (Ref 13))
+to_what_was_left : (step table).run (returned 22 nil (Ref 13) nil (nil ∷ nil ∷ [])) ≡ Went (outcome.Did outcome.Went) (refused (Ref 13))
 unfolding opened image returned refused
 to_what_was_left = refl
 
@@ -137,7 +129,7 @@ unfolding opened image returned
 to_nil_without_places = refl
 
 -- a context that wasn't left goes on, and the one that returns is left
-to_context : (step table).run (returned 22 nil (Ref 13) (Small 3) (nil ∷ nil ∷ [])) ≡ Went (Some outcome.Went) (state 13 10 nil (pos 2) 6 (objects 22 4224 nil (Small 0 ∷ []) (121 ∷ []) (record { class = contexts; active = context nil nil 0 (nil ∷ nil ∷ []); other = context nil (Small 3) 0 (Ref 3 ∷ []); new = None })))
+to_context : (step table).run (returned 22 nil (Ref 13) (Small 3) (nil ∷ nil ∷ [])) ≡ Went (outcome.Did outcome.Went) (state 13 10 nil (pos 2) 6 (objects 22 4224 nil (Small 0 ∷ []) (121 ∷ []) (record { class = contexts; active = context nil nil 0 (nil ∷ nil ∷ []); other = context nil (Small 3) 0 (Ref 3 ∷ []); new = None })))
 unfolding opened image returned
 to_context = refl
 
@@ -158,12 +150,12 @@ unfolding image
 tested selector bytes x = state 12 10 nil (pos 2) 6 (objects selector 0 nil (Small 0 ∷ []) bytes (record { class = contexts; active = context nil (Small 3) 1 (x ∷ []); other = plain []; new = None }))
 
 -- the bytecode 152 jumps by 1 on false, and goes on where the word is true
-on_booleans : ((step table).run (tested 26 (152 ∷ []) (Ref 2)) ≡ Went (Some outcome.Went) (state 12 10 nil (pos 4) 5 (tested 26 (152 ∷ []) (Ref 2)).memory)) × ((step table).run (tested 26 (152 ∷ []) (Ref 3)) ≡ Went (Some outcome.Went) (state 12 10 nil (pos 3) 5 (tested 26 (152 ∷ []) (Ref 3)).memory))
+on_booleans : ((step table).run (tested 26 (152 ∷ []) (Ref 2)) ≡ Went (outcome.Did outcome.Went) (state 12 10 nil (pos 4) 5 (tested 26 (152 ∷ []) (Ref 2)).memory)) × ((step table).run (tested 26 (152 ∷ []) (Ref 3)) ≡ Went (outcome.Did outcome.Went) (state 12 10 nil (pos 3) 5 (tested 26 (152 ∷ []) (Ref 3)).memory))
 unfolding opened image tested
 on_booleans = (refl, refl)
 
 -- mustBeBoolean, the selector 52, is sent to any other word
-on_five : (step table).run (tested 26 (152 ∷ []) (Small 5)) ≡ Went (Some outcome.Went) (state 14 9 (Small 5) (pos 2) 5 (objects 26 0 nil (Small 0 ∷ []) (152 ∷ []) (record { class = contexts; active = context nil (Small 4) 0 (Small 5 ∷ []); other = plain []; new = activation 0 (Small 5) (replicate 12 nil) })))
+on_five : (step table).run (tested 26 (152 ∷ []) (Small 5)) ≡ Went (outcome.Did outcome.Went) (state 14 9 (Small 5) (pos 2) 5 (objects 26 0 nil (Small 0 ∷ []) (152 ∷ []) (record { class = contexts; active = context nil (Small 4) 0 (Small 5 ∷ []); other = plain []; new = activation 0 (Small 5) (replicate 12 nil) })))
 unfolding opened image tested
 on_five = refl
 

@@ -1,19 +1,16 @@
 ghost use Rattle.std.specs.Prelude.{◌≡◌, ◌<◌, ◌≤◌, ◌+◌};
 ghost use Rattle.st_model.specs.Values.{word};
 ghost use Rattle.st_model.specs.Contexts.{fill_context, new_context, pass_words, activate};
-ghost use Rattle.st_model.specs.Calls.{Does, itself};
-ghost use Rattle.st_registers.specs.Rows.{row_state};
+ghost use Rattle.st_model.specs.Calls.{itself};
+ghost use Rattle.st_frames.specs.Rows.{RowReads, RowMoves, RowDoes, Takes, activation_changes, send_changes, jump_changes, return_changes};
 
+use st_frames::{Registers, drop_words, look_at_words, page, small, switch};
 use st_memory::Objects;
 use st_method::Header;
 use st_model::{Dead, PageObject, Word};
-use st_registers::{
-    Registers, active, drop_words, look_at_words, new_object, page, small, stack_pointer,
-    store_field, switch, transfer,
-};
 
 /// Fills a new context of the method: the active context as its sender, the first bytecode, the temporary count, and the method.
-#[tactic(auto, using(st_registers::proofs::Doing::rows), unfolding(st_model::specs::Contexts::fill_context))]
+#[tactic(auto, using(st_frames::proofs::Doing::rows), unfolding(st_model::specs::Contexts::fill_context))]
 fn fill_context<O: Objects>(
     m: &mut O,
     r: &Registers,
@@ -22,19 +19,18 @@ fn fill_context<O: Objects>(
     header: Header,
 ) -> Result<(), Dead>
     requires room { 4 ≤ O.room m.old }
-    ensures does { Does (fill_context O.names (word context) (word method) (word header.0)) itself (row_state (O.table m.old) (O.head m.old) r.now) result (row_state (O.table m.new) (O.head m.new) r.now) }
-    ensures room { O.room m.old ≤ O.room m.new + 4 }
-    ensures fixed { O.fixed m.new ≡ O.fixed m.old }
+    ensures does { RowDoes O.Objects.own (fill_context O.names (word context) (word method) (word header.0))
+        itself m.old r.now result m.new r.now }
+    ensures takes { Takes O.Objects.own 4 m.old m.new }
 {
-    let sender = active(m, r);
-    store_field(m, r, context, 0, sender)?;
-    store_field(m, r, context, 1, small(2 * header.literals() + 3))?;
-    store_field(m, r, context, 2, small(header.temporaries()))?;
-    store_field(m, r, context, 3, method)
+    m.store_field(context, 0, r.active)?;
+    m.store_field(context, 1, small(2 * header.literals() + 3))?;
+    m.store_field(context, 2, small(header.temporaries()))?;
+    m.store_field(context, 3, method)
 }
 
 /// A new context of the method.
-#[tactic(auto, using(st_registers::proofs::Doing::rows), unfolding(st_model::specs::Contexts::new_context))]
+#[tactic(auto, using(st_frames::proofs::Doing::rows), unfolding(st_model::specs::Contexts::new_context))]
 fn new_context<O: Objects>(
     m: &mut O,
     r: &Registers,
@@ -42,33 +38,31 @@ fn new_context<O: Objects>(
     header: Header,
 ) -> Result<Word, Dead>
     requires room { 5 ≤ O.room m.old }
-    ensures does { Does (new_context O.names (word method) (word header.0)) word (row_state (O.table m.old) (O.head m.old) r.now) result (row_state (O.table m.new) (O.head m.new) r.now) }
-    ensures room { O.room m.old ≤ O.room m.new + 5 }
-    ensures fixed { O.fixed m.new ≡ O.fixed m.old }
+    ensures does { RowDoes O.Objects.own (new_context O.names (word method) (word header.0))
+        word m.old r.now result m.new r.now }
+    ensures takes { Takes O.Objects.own 5 m.old m.new }
 {
-    let class = page(m, r, PageObject::MethodContextClass);
-    let context = new_object(m, r, class, header.context_size())?;
+    let class = page(m, PageObject::MethodContextClass);
+    let context = m.new_object(class, header.context_size())?;
     fill_context(m, r, context, method, header)?;
     Ok(context)
 }
 
 /// Receiver and n arguments go from the stack to fields 5 and on of the context.
-#[tactic(auto, using(st_registers::proofs::Doing::rows), unfolding(st_model::specs::Contexts::pass_words))]
+#[tactic(auto, using(st_frames::proofs::Doing::rows), unfolding(st_model::specs::Contexts::pass_words))]
 fn pass_words<O: Objects>(m: &mut O, r: &mut Registers, context: Word, n: u32) -> Result<(), Dead>
     requires few { n < 16384 }
     requires room { 1 ≤ O.room m.old }
-    ensures does { Does (pass_words O.names (word context) n) itself (row_state (O.table m.old) (O.head m.old) r.old) result (row_state (O.table m.new) (O.head m.new) r.new) }
-    ensures room { O.room m.old ≤ O.room m.new + 1 }
-    ensures fixed { O.fixed m.new ≡ O.fixed m.old }
+    ensures does { RowDoes O.Objects.own (pass_words O.names (word context) n)
+        itself m.old r.old result m.new r.new }
+    ensures takes { Takes O.Objects.own 1 m.old m.new }
 {
-    let source = active(m, r);
-    let sp = stack_pointer(m, r);
-    transfer(m, r, n + 1, source, sp.saturating_sub(n), context, 5)?;
+    m.transfer(n + 1, r.active, r.sp.saturating_sub(n), context, 5)?;
     drop_words(m, r, n + 1)
 }
 
 /// A new context of the method becomes the active one. Dead where it has no places for the arguments or the temporary variables.
-#[tactic(auto, using(st_registers::proofs::Doing::checks), unfolding(st_model::specs::Contexts::activate))]
+#[tactic(auto, using(st_frames::proofs::Doing::checks), unfolding(st_model::specs::Contexts::activate))]
 pub fn activate<O: Objects>(
     m: &mut O,
     r: &mut Registers,
@@ -77,10 +71,10 @@ pub fn activate<O: Objects>(
     n: u32,
 ) -> Result<(), Dead>
     requires few { n < 16384 }
-    requires room { 8 ≤ O.room m.old }
-    ensures does { Does (activate O.names (word method) (word header.0) n) itself (row_state (O.table m.old) (O.head m.old) r.old) result (row_state (O.table m.new) (O.head m.new) r.new) }
-    ensures room { O.room m.old ≤ O.room m.new + 8 }
-    ensures fixed { O.fixed m.new ≡ O.fixed m.old }
+    requires room { activation_changes ≤ O.room m.old }
+    ensures does { RowDoes O.Objects.own (activate O.names (word method) (word header.0) n)
+        itself m.old r.old result m.new r.new }
+    ensures takes { Takes O.Objects.own activation_changes m.old m.new }
 {
     look_at_words(m, r, n)?;
     let size = header.context_size();

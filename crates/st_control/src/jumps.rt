@@ -1,75 +1,63 @@
 ghost use Rattle.std.specs.Prelude.{◌≡◌, ◌<◌, ◌≤◌, ◌+◌, ◌≤ℤ◌, pos, negsuc};
 ghost use Rattle.st_model.specs.Values.{word};
-ghost use Rattle.st_model.specs.Outcomes.{end_of};
-ghost use Rattle.st_model.specs.Returns.{must_be_boolean, jump_if, jump_on};
-ghost use Rattle.st_model.specs.Calls.{Does, itself};
-ghost use Rattle.st_registers.specs.Rows.{row_state};
+ghost use Rattle.st_model.specs.Steps.{jump};
+ghost use Rattle.st_model.specs.Sends.{call_of, call_if_any};
+ghost use Rattle.st_model.specs.Returns.{calls, calls_nothing, must_be_boolean, jump_on};
+ghost use Rattle.st_model.specs.Calls.{itself};
+ghost use Rattle.st_frames.specs.Rows.{RowReads, RowMoves, RowDoes, Takes, activation_changes, send_changes, jump_changes, return_changes};
 
 use crate::sends::send;
+use st_frames::{Registers, jump, page, pop, push};
 use st_memory::Objects;
-use st_model::{Dead, Outcome, PageObject, Word};
-use st_registers::{Registers, jump, page, pop, push};
+use st_model::{Call, Dead, PageObject, Word};
 
 /// Puts the word back, and sends mustBeBoolean to it.
-#[tactic(auto, using(st_registers::proofs::Doing::rows), unfolding(st_model::specs::Returns::must_be_boolean))]
-fn must_be_boolean<O: Objects>(
-    m: &mut O,
-    r: &mut Registers,
-    x: Word,
-) -> Result<Option<Outcome>, Dead>
-    requires room { 15 ≤ O.room m.old }
-    ensures does { Does (must_be_boolean O.names (word x)) end_of (row_state (O.table m.old) (O.head m.old) r.old) result (row_state (O.table m.new) (O.head m.new) r.new) }
-    ensures room { O.room m.old ≤ O.room m.new + 15 }
-    ensures fixed { O.fixed m.new ≡ O.fixed m.old }
+#[tactic(auto, using(st_frames::proofs::Doing::rows), unfolding(st_model::specs::Returns::must_be_boolean))]
+fn must_be_boolean<O: Objects>(m: &mut O, r: &mut Registers, x: Word) -> Result<Call, Dead>
+    requires room { jump_changes ≤ O.room m.old }
+    ensures does { RowDoes O.Objects.own (must_be_boolean O.names (word x))
+        call_of m.old r.old result m.new r.new }
+    ensures takes { Takes O.Objects.own jump_changes m.old m.new }
 {
     push(m, r, x)?;
-    let selector = page(m, r, PageObject::MustBeBoolean);
+    let selector = page(m, PageObject::MustBeBoolean);
     send(m, r, selector, 0)
 }
 
-/// Jumps forward where the word is the wanted boolean.
-#[tactic(auto, using(st_registers::proofs::Doing::rows), unfolding(st_model::specs::Returns::jump_if, st_model::specs::Sends::goes_on))]
-fn jump_if<O: Objects>(
-    m: &mut O,
-    r: &mut Registers,
-    x: Word,
-    d: u32,
-    is_wanted: bool,
-    is_other: bool,
-) -> Result<Option<Outcome>, Dead>
+/// Jumps forward, and calls nothing.
+#[tactic(auto, using(st_frames::proofs::Doing::rows), unfolding(st_model::specs::Returns::calls_nothing))]
+fn jump_forward<O: Objects>(m: &O, r: &mut Registers, d: u32) -> Result<Option<Call>, Dead>
     requires short { d ≤ 1023 }
-    requires room { 15 ≤ O.room m.old }
-    ensures does { Does (jump_if O.names (word x) (pos d) is_wanted is_other) end_of (row_state (O.table m.old) (O.head m.old) r.old) result (row_state (O.table m.new) (O.head m.new) r.new) }
-    ensures room { O.room m.old ≤ O.room m.new + 15 }
-    ensures fixed { O.fixed m.new ≡ O.fixed m.old }
+    ensures does { RowMoves O.Objects.own (calls_nothing (jump (pos d))) call_if_any m.now r.old
+        result r.new }
 {
-    if is_wanted {
-        jump(m, r, d as i32)?;
-        return Ok(Some(Outcome::Went));
-    }
-    if is_other {
-        return Ok(Some(Outcome::Went));
-    }
-    must_be_boolean(m, r, x)
+    jump(m, r, d as i32)?;
+    Ok(None)
 }
 
 /// Pops, and jumps forward where the word is the wanted boolean.
-#[tactic(auto, using(st_registers::proofs::Doing::rows), unfolding(st_model::specs::Returns::jump_on))]
+#[tactic(auto, using(st_frames::proofs::Doing::rows), unfolding(st_model::specs::Returns::jump_on, st_model::specs::Returns::calls))]
 pub fn jump_on<O: Objects>(
     m: &mut O,
     r: &mut Registers,
     wanted: PageObject,
     other: PageObject,
     d: u32,
-) -> Result<Option<Outcome>, Dead>
+) -> Result<Option<Call>, Dead>
     requires short { d ≤ 1023 }
-    requires room { 15 ≤ O.room m.old }
-    ensures does { Does (jump_on O.names wanted other (pos d)) end_of (row_state (O.table m.old) (O.head m.old) r.old) result (row_state (O.table m.new) (O.head m.new) r.new) }
-    ensures room { O.room m.old ≤ O.room m.new + 15 }
-    ensures fixed { O.fixed m.new ≡ O.fixed m.old }
+    requires room { jump_changes ≤ O.room m.old }
+    ensures does { RowDoes O.Objects.own (jump_on O.names wanted other (pos d))
+        call_if_any m.old r.old result m.new r.new }
+    ensures takes { Takes O.Objects.own jump_changes m.old m.new }
 {
     let x = pop(m, r)?;
-    let a = page(m, r, wanted);
-    let b = page(m, r, other);
-    jump_if(m, r, x, d, x.same(a), x.same(b))
+    let a = page(m, wanted);
+    let b = page(m, other);
+    if x.same(a) {
+        return jump_forward(m, r, d);
+    }
+    if x.same(b) {
+        return Ok(None);
+    }
+    Ok(Some(must_be_boolean(m, r, x)?))
 }

@@ -1,46 +1,41 @@
 ghost use Rattle.std.specs.Prelude.{◌≡◌, ◌<◌, ◌≤◌, ◌+◌};
 ghost use Rattle.st_model.specs.Values.{word};
 ghost use Rattle.st_model.specs.Sends.{copy_arguments, argument_array, new_message, replace_by_message};
-ghost use Rattle.st_model.specs.Calls.{Does, itself};
-ghost use Rattle.st_registers.specs.Rows.{row_state};
+ghost use Rattle.st_model.specs.Calls.{itself};
+ghost use Rattle.st_frames.specs.Rows.{RowReads, RowMoves, RowDoes, Takes, activation_changes, send_changes, jump_changes, return_changes};
 
+use st_frames::{Registers, drop_words, page, push};
 use st_memory::Objects;
 use st_model::{Dead, PageObject, Word};
-use st_registers::{
-    Registers, active, drop_words, new_object, page, push, stack_pointer, store_field, transfer,
-};
 
 /// The n words at the top of the stack go into an Array, the lowest first.
-#[tactic(auto, using(st_registers::proofs::Doing::rows), unfolding(st_model::specs::Sends::copy_arguments))]
+#[tactic(auto, using(st_frames::proofs::Doing::rows), unfolding(st_model::specs::Sends::copy_arguments))]
 fn copy_arguments<O: Objects>(m: &mut O, r: &Registers, array: Word, n: u32) -> Result<(), Dead>
     requires few { n < 16384 }
     requires room { 1 ≤ O.room m.old }
-    ensures does { Does (copy_arguments O.names (word array) n) itself (row_state (O.table m.old) (O.head m.old) r.now) result (row_state (O.table m.new) (O.head m.new) r.now) }
-    ensures room { O.room m.old ≤ O.room m.new + 1 }
-    ensures fixed { O.fixed m.new ≡ O.fixed m.old }
+    ensures does { RowDoes O.Objects.own (copy_arguments O.names (word array) n)
+        itself m.old r.now result m.new r.now }
+    ensures takes { Takes O.Objects.own 1 m.old m.new }
 {
-    let source = active(m, r);
-    let sp = stack_pointer(m, r);
-    transfer(m, r, n, source, (sp + 1).saturating_sub(n), array, 0)
+    m.transfer(n, r.active, (r.sp + 1).saturating_sub(n), array, 0)
 }
 
 /// A new Array of the n words at the top of the stack.
-#[tactic(auto, using(st_registers::proofs::Doing::rows), unfolding(st_model::specs::Sends::argument_array))]
+#[tactic(auto, using(st_frames::proofs::Doing::rows), unfolding(st_model::specs::Sends::argument_array))]
 fn argument_array<O: Objects>(m: &mut O, r: &Registers, n: u32) -> Result<Word, Dead>
     requires few { n < 16384 }
     requires room { 2 ≤ O.room m.old }
-    ensures does { Does (argument_array O.names n) word (row_state (O.table m.old) (O.head m.old) r.now) result (row_state (O.table m.new) (O.head m.new) r.now) }
-    ensures room { O.room m.old ≤ O.room m.new + 2 }
-    ensures fixed { O.fixed m.new ≡ O.fixed m.old }
+    ensures does { RowDoes O.Objects.own (argument_array O.names n) word m.old r.now result m.new r.now }
+    ensures takes { Takes O.Objects.own 2 m.old m.new }
 {
-    let class = page(m, r, PageObject::ArrayClass);
-    let array = new_object(m, r, class, n)?;
+    let class = page(m, PageObject::ArrayClass);
+    let array = m.new_object(class, n)?;
     copy_arguments(m, r, array, n)?;
     Ok(array)
 }
 
 /// A new Message of a selector and an Array of arguments.
-#[tactic(auto, using(st_registers::proofs::Doing::rows), unfolding(st_model::specs::Sends::new_message))]
+#[tactic(auto, using(st_frames::proofs::Doing::rows), unfolding(st_model::specs::Sends::new_message))]
 fn new_message<O: Objects>(
     m: &mut O,
     r: &Registers,
@@ -48,19 +43,19 @@ fn new_message<O: Objects>(
     array: Word,
 ) -> Result<Word, Dead>
     requires room { 3 ≤ O.room m.old }
-    ensures does { Does (new_message O.names (word selector) (word array)) word (row_state (O.table m.old) (O.head m.old) r.now) result (row_state (O.table m.new) (O.head m.new) r.now) }
-    ensures room { O.room m.old ≤ O.room m.new + 3 }
-    ensures fixed { O.fixed m.new ≡ O.fixed m.old }
+    ensures does { RowDoes O.Objects.own (new_message O.names (word selector) (word array))
+        word m.old r.now result m.new r.now }
+    ensures takes { Takes O.Objects.own 3 m.old m.new }
 {
-    let class = page(m, r, PageObject::MessageClass);
-    let message = new_object(m, r, class, 2)?;
-    store_field(m, r, message, 0, selector)?;
-    store_field(m, r, message, 1, array)?;
+    let class = page(m, PageObject::MessageClass);
+    let message = m.new_object(class, 2)?;
+    m.store_field(message, 0, selector)?;
+    m.store_field(message, 1, array)?;
     Ok(message)
 }
 
 /// A Message takes the place of the n arguments.
-#[tactic(auto, using(st_registers::proofs::Doing::rows), unfolding(st_model::specs::Sends::replace_by_message))]
+#[tactic(auto, using(st_frames::proofs::Doing::rows), unfolding(st_model::specs::Sends::replace_by_message))]
 pub fn replace_by_message<O: Objects>(
     m: &mut O,
     r: &mut Registers,
@@ -69,9 +64,9 @@ pub fn replace_by_message<O: Objects>(
 ) -> Result<(), Dead>
     requires few { n < 16384 }
     requires room { 6 ≤ O.room m.old }
-    ensures does { Does (replace_by_message O.names (word selector) n) itself (row_state (O.table m.old) (O.head m.old) r.old) result (row_state (O.table m.new) (O.head m.new) r.new) }
-    ensures room { O.room m.old ≤ O.room m.new + 6 }
-    ensures fixed { O.fixed m.new ≡ O.fixed m.old }
+    ensures does { RowDoes O.Objects.own (replace_by_message O.names (word selector) n)
+        itself m.old r.old result m.new r.new }
+    ensures takes { Takes O.Objects.own 6 m.old m.new }
 {
     let array = argument_array(m, r, n)?;
     let message = new_message(m, r, selector, array)?;

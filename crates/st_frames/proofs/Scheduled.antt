@@ -17,8 +17,8 @@ use Rattle.st_model.proofs.Runs.{run-then, after-went, after-died, run-set_regis
 use Rattle.st_model.proofs.Tabular.{of_page-as, fetch_field-as, count_fields-as}
 use Rattle.st_memory.specs.Tabular.{bounded_tabular}
 use Rattle.st_frames.specs.declared.frame.Frame.{Frame}
-use Rattle.st_registers.specs.declared.fetched.Fetched.{Fetched}
-use Rattle.st_registers.specs.Rows.{fetched_in}
+use Rattle.st_frames.specs.declared.fetched.Fetched.{Fetched}
+use Rattle.st_frames.specs.Rows.{fetched_in}
 use Rattle.st_frames.specs.Shown.{registers_of, with_registers, FetchesFrame}
 
 -- A bounded table gives the registers that a table gives: nothing is made.

@@ -12,8 +12,8 @@ use Rattle.st_model.specs.Calls.{Does, itself}
 use Rattle.st_model.specs.View.{View}
 use Rattle.st_model.proofs.Tabular.{store_field-as}
 use Rattle.st_memory.specs.Tabular.{bounded_tabular}
-use Rattle.st_registers.specs.declared.registers.Registers.{Registers as Words}
-use Rattle.st_registers.specs.Rows.{row_state, registers_in}
+use Rattle.st_frames.specs.declared.registers.Registers.{Registers as Words}
+use Rattle.st_frames.specs.Rows.{row_state, registers_in}
 use Rattle.st_frames.specs.declared.frame.Frame.{Frame}
 use Rattle.st_frames.specs.Shown.{shown, registers_of}
 

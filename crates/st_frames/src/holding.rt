@@ -5,13 +5,15 @@ ghost use Rattle.st_model.specs.Steps.{are_there};
 ghost use Rattle.st_model.specs.Contexts.{fetch_context_registers, fetch_scheduled_registers};
 ghost use Rattle.st_model.specs.Table.{table};
 ghost use Rattle.st_model.specs.View.{IsKnown};
-ghost use Rattle.st_registers.specs.Rows.{registers_in, fetched_in};
+ghost use Rattle.st_frames.specs.Rows.{registers_in, fetched_in};
 ghost use Rattle.st_frames.specs.Shown.{IsFrame, IsFrameOf, StaysFrame, FetchesFrame, registers_of};
 
+use crate::context::{are_there, read_registers, read_scheduled_context};
+use crate::fetched::Fetched;
 use crate::frame::Frame;
+use crate::registers::Registers;
 use st_memory::{Memory, live_value};
 use st_model::{Dead, Oop, RootPlace, Word};
-use st_registers::{Fetched, Registers, are_there, read_registers, read_scheduled_context};
 
 /// The registers, as the row of a bytecode works on them.
 pub fn load<M: Memory>(m: &M, f: &Frame) -> Registers
@@ -56,7 +58,7 @@ fn hold_frame<M: Memory>(m: &mut M, f: &Frame)
 }
 
 /// The registers that a row leaves, all of which are there; they are held at their places.
-#[tactic(auto, using(st_registers::proofs::Homes::placed))]
+#[tactic(auto, using(crate::proofs::Homes::placed))]
 pub fn hold<M: Memory>(m: &mut M, r: &Registers) -> Frame
     requires { are_there table (M.view m.old).objects (registers_in r.now) ≡ true }
     ensures same { registers_of result ≡ registers_in r.now }
@@ -77,7 +79,7 @@ pub fn hold<M: Memory>(m: &mut M, r: &Registers) -> Frame
 }
 
 /// The registers that were fetched, all of which are there; they are held at their places.
-#[tactic(auto, using(st_registers::proofs::Homes::placed))]
+#[tactic(auto, using(crate::proofs::Homes::placed))]
 fn hold_fetched<M: Memory>(m: &mut M, new: &Fetched) -> Frame
     requires { are_there table (M.view m.old).objects (fetched_in new.now) ≡ true }
     ensures same { registers_of result ≡ fetched_in new.now }
@@ -99,7 +101,8 @@ fn hold_fetched<M: Memory>(m: &mut M, new: &Fetched) -> Frame
 
 /// Fetches the registers from a context of this word, and holds them at their places.
 fn fetch_word<M: Memory>(m: &mut M, context: Word) -> Result<Frame, Dead>
-    ensures registers { FetchesFrame (fetch_context_registers table (word context)) (M.view m.old) result (M.view m.new) }
+    ensures registers { FetchesFrame (fetch_context_registers table (word context))
+        (M.view m.old) result (M.view m.new) }
     ensures objects { (M.view m.new).objects ≡ (M.view m.old).objects }
     ensures head { (M.view m.new).head ≡ (M.view m.old).head }
     ensures frame { IfOk result (StaysFrame (M.view m.old) (M.view m.new)) }
@@ -115,7 +118,8 @@ fn fetch_word<M: Memory>(m: &mut M, context: Word) -> Result<Frame, Dead>
 /// Fetches the registers from a context, which becomes the active one, and holds them at their places. Dead, with
 /// nothing held, where the context lacks them or its stack pointer is none of its places.
 pub fn fetch<M: Memory>(m: &mut M, context: Oop) -> Result<Frame, Dead>
-    ensures registers { FetchesFrame (fetch_context_registers table (value context)) (M.view m.old) result (M.view m.new) }
+    ensures registers { FetchesFrame (fetch_context_registers table (value context))
+        (M.view m.old) result (M.view m.new) }
     ensures objects { (M.view m.new).objects ≡ (M.view m.old).objects }
     ensures head { (M.view m.new).head ≡ (M.view m.old).head }
     ensures frame { IfOk result (StaysFrame (M.view m.old) (M.view m.new)) }

@@ -1,106 +1,126 @@
-ghost use Rattle.std.specs.Prelude.{◌≡◌, ◌≤◌, IfOk, OnOk, OnErr};
-ghost use Rattle.st_model.specs.Values.{value};
-ghost use Rattle.st_model.specs.View.{IsKnown};
-ghost use Rattle.st_model.specs.Table.{table};
-ghost use Rattle.st_model.specs.Steps.{put, push, pop, top, under};
-ghost use Rattle.st_model.specs.Contexts.{store_context_registers};
-ghost use Rattle.st_model.specs.Calls.{Does, itself};
-ghost use Rattle.st_frames.specs.Shown.{IsFrame, StaysFrame, shown};
+ghost use Rattle.std.specs.Prelude.{◌≡◌, ◌<◌, ◌≤◌, ◌+◌, ◌≤ℤ◌, pos, negsuc, OnOk};
+ghost use Rattle.st_model.specs.Values.{word};
+ghost use Rattle.st_model.specs.Steps.{put, push, top, pop, under, look_at_words, drop_words, jump, set_sp};
+ghost use Rattle.st_model.specs.Calls.{itself};
+ghost use Rattle.st_frames.specs.Rows.{RowReads, RowMoves, RowDoes, Takes};
 
-use crate::fields::{count_fields, fetch_field, store_field};
-use crate::frame::Frame;
-use crate::holding::load;
-use st_memory::Memory;
-use st_model::{Dead, Oop};
-use st_registers::store_context_registers;
+use crate::registers::Registers;
+use st_memory::Objects;
+use st_model::{Dead, Word};
 
 /// Puts x in a place of a context's stack: within its fields, and at most 16388.
-#[tactic(auto, using(st_model::proofs::Runs::runs), unfolding(st_model::specs::Steps::put))]
-fn put<M: Memory>(m: &mut M, f: &Frame, context: Oop, at: u32, x: Oop) -> Result<(), Dead>
-    requires object { IsKnown (M.view m.old).objects (value context) }
-    requires known { IsKnown (M.view m.old).objects (value x) }
-    ensures puts { Does (put table (value context) at (value x)) itself (shown (M.view m.old) f.now) result (shown (M.view m.new) f.now) }
-    ensures held { (M.view m.new).held ≡ (M.view m.old).held }
-    ensures err { OnErr result (M.view m.new ≡ M.view m.old) }
-    ensures small { OnOk result (at ≤ 16388) }
+#[tactic(auto, using(crate::proofs::Doing::checks), unfolding(st_model::specs::Steps::put))]
+fn put<O: Objects>(m: &mut O, r: &Registers, context: Word, at: u32, x: Word) -> Result<(), Dead>
+    requires room { 1 ≤ O.room m.old }
+    ensures does { RowDoes O.Objects.own (put O.names (word context) at (word x))
+        itself m.old r.now result m.new r.now }
+    ensures high { OnOk result (at ≤ 16388) }
+    ensures takes { Takes O.Objects.own 1 m.old m.new }
 {
-    let fields = count_fields(m, context)?;
+    let fields = m.count_fields(context)?;
     if fields <= at {
         return Err(Dead::Sp);
     }
     if 16388 < at {
         return Err(Dead::Sp);
     }
-    store_field(m, f, context, at, x)
+    m.store_field(context, at, x)
+}
+
+/// Moves the top of the stack to a place of the active context.
+#[tactic(auto, unfolding(crate::specs::Rows::row_state, st_model::specs::Steps::set_sp))]
+fn set_stack_pointer<O: Objects>(m: &O, r: &mut Registers, sp: u32)
+    requires low { 5 ≤ sp }
+    requires high { sp ≤ 16388 }
+    ensures does { RowMoves O.Objects.own (set_sp sp) itself m.now r.old (Ok tt) r.new }
+{
+    r.sp = sp;
+}
+
+/// Pushes x on the active context's stack.
+#[tactic(auto, using(crate::proofs::Doing::rows), unfolding(st_model::specs::Steps::push))]
+pub fn push<O: Objects>(m: &mut O, r: &mut Registers, x: Word) -> Result<(), Dead>
+    requires room { 1 ≤ O.room m.old }
+    ensures does { RowDoes O.Objects.own (push O.names (word x)) itself m.old r.old result m.new r.new }
+    ensures takes { Takes O.Objects.own 1 m.old m.new }
+{
+    put(m, r, r.active, r.sp + 1, x)?;
+    set_stack_pointer(m, r, r.sp + 1);
+    Ok(())
 }
 
 /// The word at the top of the stack.
-#[tactic(auto, using(crate::proofs::Shown::shows, crate::proofs::Known::registers), unfolding(st_model::specs::Steps::top))]
-fn top<M: Memory>(m: &M, f: &Frame) -> Result<Oop, Dead>
-    requires { IsFrame (M.view m.now) f.now }
-    ensures top { Does (top table) value (shown (M.view m.now) f.now) result (shown (M.view m.now) f.now) }
-    ensures known { IfOk result (λ x. IsKnown (M.view m.now).objects (value x)) }
-    ensures above { OnOk result (6 ≤ f.now.sp) }
+#[tactic(auto, using(crate::proofs::Doing::checks), unfolding(st_model::specs::Steps::top))]
+pub fn top<O: Objects>(m: &O, r: &Registers) -> Result<Word, Dead>
+    ensures does { RowReads O.Objects.own (top O.names) word m.now r.now result }
+    ensures above { OnOk result (6 ≤ r.now.sp) }
 {
-    if f.sp < 6 {
+    if r.sp < 6 {
         return Err(Dead::Sp);
     }
-    fetch_field(m, f.active, f.sp)
+    m.fetch_field(r.active, r.sp)
 }
 
-impl Frame {
-    /// Stores the instruction pointer plus 1 and the stack pointer less 5 in the active context. Dead where that lacks
-    /// one of the fields; the first may be stored then.
-    pub fn store<M: Memory>(&self, m: &mut M) -> Result<(), Dead>
-        requires frame { IsFrame (M.view m.old) self.now }
-        ensures stores { Does (store_context_registers table) itself (shown (M.view m.old) self.now) result (shown (M.view m.new) self.now) }
-        ensures frame { OnOk result (StaysFrame (M.view m.old) (M.view m.new) self.now) }
-        ensures held { (M.view m.new).held ≡ (M.view m.old).held }
-        ensures head { (M.view m.new).head ≡ (M.view m.old).head }
-    {
-        let r = load(m, self);
-        store_context_registers(m, &r)
+/// The word k words below the top of the stack.
+#[tactic(auto, using(crate::proofs::Doing::checks), unfolding(st_model::specs::Steps::under))]
+pub fn under<O: Objects>(m: &O, r: &Registers, k: u32) -> Result<Word, Dead>
+    requires few { k < 32768 }
+    ensures does { RowReads O.Objects.own (under O.names k) word m.now r.now result }
+{
+    if r.sp <= 5 + k {
+        return Err(Dead::Sp);
     }
+    m.fetch_field(r.active, r.sp - k)
+}
 
-    /// Pushes v on the active context's stack. Dead, with nothing stored, where the context has no place for it.
-    #[tactic(auto, using(crate::proofs::Shown::shows, crate::proofs::Known::registers), unfolding(st_model::specs::Steps::push))]
-    pub fn push<M: Memory>(&mut self, m: &mut M, v: Oop) -> Result<(), Dead>
-        requires frame { IsFrame (M.view m.old) self.old }
-        requires known { IsKnown (M.view m.old).objects (value v) }
-        ensures pushes { Does (push table (value v)) itself (shown (M.view m.old) self.old) result (shown (M.view m.new) self.new) }
-        ensures frame { OnOk result (StaysFrame (M.view m.old) (M.view m.new) self.new) }
-        ensures memory_stays { OnErr result (M.view m.new ≡ M.view m.old) }
-        ensures registers_stay { OnErr result (self.new ≡ self.old) }
-    {
-        put(m, self, self.active, self.sp + 1, v)?;
-        self.sp += 1;
-        Ok(())
-    }
+/// Looks at the top word and the n words below it.
+#[tactic(auto, using(crate::proofs::Doing::rows), unfolding(st_model::specs::Steps::look_at_words))]
+pub fn look_at_words<O: Objects>(m: &O, r: &Registers, n: u32) -> Result<(), Dead>
+    requires few { n < 32768 }
+    ensures does { RowReads O.Objects.own (look_at_words O.names n) itself m.now r.now result }
+{
+    under(m, r, n)?;
+    top(m, r)?;
+    Ok(())
+}
 
-    /// Pops the word at the top of the stack, which stays in its field. Dead where the stack is empty.
-    #[tactic(auto, using(crate::proofs::Shown::shows), unfolding(st_model::specs::Steps::pop))]
-    pub fn pop<M: Memory>(&mut self, m: &M) -> Result<Oop, Dead>
-        requires frame { IsFrame (M.view m.now) self.old }
-        ensures pops { Does (pop table) value (shown (M.view m.now) self.old) result (shown (M.view m.now) self.new) }
-        ensures known { IfOk result (λ x. IsKnown (M.view m.now).objects (value x)) }
-        ensures frame { OnOk result (IsFrame (M.view m.now) self.new) }
-        ensures registers_stay { OnErr result (self.new ≡ self.old) }
-    {
-        let x = top(m, self)?;
-        self.sp -= 1;
-        Ok(x)
+/// Pops n words that were looked at.
+#[tactic(auto, using(crate::proofs::Doing::checks), unfolding(st_model::specs::Steps::drop_words))]
+pub fn drop_words<O: Objects>(m: &O, r: &mut Registers, n: u32) -> Result<(), Dead>
+    requires few { n < 32768 }
+    ensures does { RowMoves O.Objects.own (drop_words n) itself m.now r.old result r.new }
+{
+    if r.sp < 5 + n {
+        return Err(Dead::Sp);
     }
+    set_stack_pointer(m, r, r.sp - n);
+    Ok(())
+}
 
-    /// The word k words below the top of the stack. Dead where that lies below the stack.
-    #[tactic(auto, using(crate::proofs::Shown::shows, crate::proofs::Known::registers), unfolding(st_model::specs::Steps::under))]
-    pub fn under<M: Memory>(&self, m: &M, k: u32) -> Result<Oop, Dead>
-        requires frame { IsFrame (M.view m.now) self.now }
-        ensures under { Does (under table k) value (shown (M.view m.now) self.now) result (shown (M.view m.now) self.now) }
-        ensures known { IfOk result (λ x. IsKnown (M.view m.now).objects (value x)) }
-    {
-        if self.sp - 5 <= k {
-            return Err(Dead::Sp);
-        }
-        fetch_field(m, self.active, self.sp - k)
+/// Pops the word at the top of the stack, which stays in its field.
+#[tactic(auto, using(crate::proofs::Doing::rows), unfolding(st_model::specs::Steps::pop))]
+pub fn pop<O: Objects>(m: &O, r: &mut Registers) -> Result<Word, Dead>
+    ensures does { RowMoves O.Objects.own (pop O.names) word m.now r.old result r.new }
+{
+    let x = top(m, r)?;
+    set_stack_pointer(m, r, r.sp - 1);
+    Ok(x)
+}
+
+/// Moves the instruction pointer by d, to a place from 0 to 16382.
+#[tactic(auto, using(crate::proofs::Doing::jumps), unfolding(st_model::specs::Steps::jump, crate::specs::Rows::row_state))]
+pub fn jump<O: Objects>(m: &O, r: &mut Registers, d: i32) -> Result<(), Dead>
+    requires low { negsuc 1023 ≤ℤ d }
+    requires high { d ≤ℤ pos 1023 }
+    ensures does { RowMoves O.Objects.own (jump d) itself m.now r.old result r.new }
+{
+    let ip = r.ip + d;
+    if ip < 0 {
+        return Err(Dead::Ip);
     }
+    if 16382 < ip {
+        return Err(Dead::Ip);
+    }
+    r.ip = ip;
+    Ok(())
 }

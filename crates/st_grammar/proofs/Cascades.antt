@@ -2,14 +2,14 @@
 use Rattle.std.proofs.Common.{◌≡◌, ℕ, ◌<◌, Bool, true, false, ◌||◌, ◌&&◌, List, [], ◌∷◌, ◌++◌, ◌⊎◌, inl, inr, length, Ok, refl, sym, ap, ◌∙◌, append_assoc, length-append, arith}
 use Rattle.std.proofs.lemmas.List.{append-nil}
 use Rattle.std.proofs.lemmas.Bool.{cases_Bool}
-use Rattle.st_tree.specs.Views.{NameView, ExpressionView, ExpressionsView, with_expression, with_sent}
+use Rattle.st_tree.specs.Views.{is_super, NameView, ExpressionView, ExpressionsView, with_expression, with_sent}
 use Rattle.st_tree.specs.Views as views
 use Rattle.st_grammar.specs.declared.leaf.Leaf.{Leaf}
 use Rattle.st_grammar.specs.declared.leaf.Kind.{Kind}
 use Rattle.st_grammar.specs.declared.leaf.Kind.TheVariants.{Semicolon}
 use Rattle.st_grammar.specs.Leaves.{among, keywords, operators}
 use Rattle.st_grammar.specs.Phrases.{One, names, one_text, ones_text, name, Unary, unary, binary, Operations, no_operations, operation, Parts, no_parts, part, keyworded, Cascade, cascade, Messages, no_messages, message, Message, unary_message, binary_message, keyword_message, primary_text, unary_text, binary_text, operations_text, parts_text, messages_text, message_text, cascade_text}
-use Rattle.st_grammar.specs.Trees.{bytes, is_super, sent, sent_if, primary_tree, after_names, unary_tree, binary_tree, after_operations, selector_of, arguments_of, after_messages, with_one, cascade_tree, has_message, MayCascade, PartsFit, MessageFits, MessagesFit, CascadeFits}
+use Rattle.st_grammar.specs.Trees.{bytes, sent, sent_if, primary_tree, after_names, unary_tree, binary_tree, after_operations, selector_of, arguments_of, after_messages, with_one, cascade_tree, has_message, MayCascade, PartsFit, MessageFits, MessagesFit, CascadeFits}
 use Rattle.st_grammar.specs.Reading.{◌>>=◌, first, primary_starts, message_starts, PartsView, no_parts_yet, array_at, bracket_at, names_step, names_at, unary_at, operations_step, operations_at, binary_at, parts_step, parts_at, keyword_at, messages_at, unary_message_at, binary_message_at, keyword_message_at, message_at, cascade_step, cascades_at, sends_at, any_cascade_at, cascade_at}
 use Rattle.st_grammar.proofs.Loops.{many_stop}
 use Rattle.st_grammar.proofs.KindSets.{apart, within, covered, neutral, sample, one_name, one_operator, one_keyword}

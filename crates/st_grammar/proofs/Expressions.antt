@@ -1,14 +1,14 @@
 -- What is read of primaries, and of unary and binary expressions.
 use Rattle.std.proofs.Common.{◌≡◌, ℕ, ◌<◌, ◌≤◌, Bool, true, false, ◌||◌, ◌&&◌, List, [], ◌∷◌, ◌++◌, ◌⊎◌, inl, inr, length, Ok, refl, sym, ap, ◌∙◌, append_assoc, length-append, arith}
 use Rattle.std.proofs.lemmas.List.{append-nil}
-use Rattle.st_tree.specs.Views.{NameView, ElementView, ExpressionView}
+use Rattle.st_tree.specs.Views.{is_super, NameView, ElementView, ExpressionView}
 use Rattle.st_tree.specs.Views as views
 use Rattle.st_grammar.specs.declared.leaf.Leaf.{Leaf}
 use Rattle.st_grammar.specs.declared.leaf.Kind.{Kind}
 use Rattle.st_grammar.specs.declared.leaf.Kind.TheVariants.{Opening, Open, Close, OpenBlock, CloseBlock}
 use Rattle.st_grammar.specs.Leaves.{among, operators}
 use Rattle.st_grammar.specs.Phrases.{One, names, constants, one_text, ones_text, constant, array, Primary, name, literal, block, group, Block, Expression, Unary, unary, Binary, binary, Operations, no_operations, operation, primary_text, block_text, expression_text, unary_text, binary_text, operations_text}
-use Rattle.st_grammar.specs.Trees.{bytes, name_at, constant_at, is_super, sent, primary_tree, block_tree, expression_tree, after_names, unary_tree, binary_tree, after_operations, PrimaryFits, BlockFits, ExpressionFits, UnaryFits, BinaryFits, OperationsFit}
+use Rattle.st_grammar.specs.Trees.{bytes, name_at, constant_at, sent, primary_tree, block_tree, expression_tree, after_names, unary_tree, binary_tree, after_operations, PrimaryFits, BlockFits, ExpressionFits, UnaryFits, BinaryFits, OperationsFit}
 use Rattle.st_grammar.specs.Reading.{◌>>=◌, first, token_at, primary_starts, name_primary_at, constant_primary_at, array_primary_at, array_at, block_primary_at, group_primary_at, primary_at, bracket_at, names_step, names_at, any_unary_at, unary_at, operations_step, operations_at, any_binary_at, binary_at}
 use Rattle.st_grammar.proofs.KindSets.{apart, covered, neutral, one_name, one_constant, one_operator}
 use Rattle.st_grammar.proofs.Balanced.{operations_balanced}

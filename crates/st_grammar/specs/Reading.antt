@@ -10,9 +10,9 @@ use Rattle.st_grammar.specs.declared.read.ReadError.{ReadError}
 use Rattle.st_grammar.specs.declared.read.ReadError.TheVariants as errors
 use Rattle.st_grammar.specs.Leaves.{among, keywords, operators}
 use Rattle.st_grammar.specs.Phrases.{names, constants, plain_elements, first_keywords}
-use Rattle.st_grammar.specs.Trees.{bytes, name_at, constant_at, number_of, is_super, sent, sent_if}
+use Rattle.st_grammar.specs.Trees.{bytes, name_at, constant_at, number_of, sent, sent_if}
 use Rattle.st_tree.specs.declared.token.Signed.{Signed}
-use Rattle.st_tree.specs.Views.{NameView, ElementView, ElementsView, ExpressionView, ExpressionsView, StatementsView, MethodView, with_element, with_expression, with_statement, with_sent}
+use Rattle.st_tree.specs.Views.{is_super, NameView, ElementView, ElementsView, ExpressionView, ExpressionsView, StatementsView, MethodView, with_element, with_expression, with_statement, with_sent}
 use Rattle.st_tree.specs.Views as views
 
 -- a fault, and how many leaves are left there

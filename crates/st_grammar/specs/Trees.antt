@@ -4,7 +4,7 @@ use Rattle.std.specs.Str.{byte}
 use Rattle.st_tree.specs.declared.token.Signed.{Signed}
 use Rattle.st_tree.specs.declared.token.Sort.{Sort}
 use Rattle.st_tree.specs.declared.token.Sort.TheVariants as sorts
-use Rattle.st_tree.specs.Views.{NameView, ContentView, ElementsView, ElementView, ExpressionView, StatementsView, MessagesView, ExpressionsView, MethodView, with_sent}
+use Rattle.st_tree.specs.Views.{NameView, ContentView, ElementsView, ElementView, ExpressionView, StatementsView, MessagesView, ExpressionsView, MethodView, with_sent, is_super}
 use Rattle.st_tree.specs.Views as views
 use Rattle.st_grammar.specs.declared.leaf.Leaf.{Leaf}
 use Rattle.st_grammar.specs.declared.leaf.Kind.{Kind}
@@ -20,11 +20,6 @@ undoubled false (b ∷ bs) = b ∷ undoubled (b == byte "'") bs
 -- the bytes between a string's two quotes
 abbrev pub between_quotes : List ℕ → List ℕ
 between_quotes bytes = take (length bytes - 2) (drop 1 bytes)
-
--- the name of a receiver that only stands before a message
-abbrev pub is_super : ExpressionView → Bool
-is_super (views.variable n) = bytes_eq n.text (codes "super")
-is_super _ = false
 
 -- a message to an expression
 abbrev pub sent : ExpressionView → List ℕ → ExpressionsView → ExpressionView

@@ -9,7 +9,7 @@ use std::alloc::{AllocError, Global};
 
 /// What a token is to the grammar. `Joined` is a keyword directly behind a keyword, `Primitive` another one that is
 /// `primitive:`, and `Constant` a character, a string or a symbol. The last ten are marks.
-#[derive(Clone, Copy, Debug, PartialEq, Eq)]
+#[derive(Clone, Copy)]
 pub enum Kind {
     Name,
     Keyword,
@@ -43,7 +43,7 @@ impl Kind {
 }
 
 /// A token, its kind, and its place, counted from 1.
-#[derive(Clone, Copy, Debug, PartialEq, Eq)]
+#[derive(Clone, Copy)]
 pub struct Leaf {
     pub kind: Kind,
     pub token: Token,

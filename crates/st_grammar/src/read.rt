@@ -10,7 +10,7 @@ use st_tree::Cause;
 use std::alloc::{AllocError, AllocFailed};
 
 /// Why leaves could not be read: a fault, at the leaf that is the first of the last `left` ones, or want of memory.
-#[derive(Clone, Copy, Debug, PartialEq, Eq)]
+#[derive(Clone, Copy)]
 pub enum ReadError {
     Fault { cause: Cause, left: usize },
     OutOfMemory,

@@ -1,9 +1,13 @@
+mod Beginning
 mod Closed
 mod Counting
+mod Exchanging
 mod Filling
 pub mod Fresh
+pub mod Holding
 mod Looking
 mod Made
+pub mod Marking
 mod Placing
 pub mod Referring
 mod Slots

@@ -14,7 +14,7 @@ use Rattle.st_lists.specs.declared.entry.Entry.{Entry}
 use Rattle.st_lists.specs.Lists.{listed_table, entry_object, slot}
 use Rattle.st_lists.specs.Plain.{is_referred}
 use Rattle.st_lists.proofs.Slots.{entry-listed, entry-slot}
-use Rattle.st_marks.proofs.Marking.{or_step}
+use Rattle.st_lists.proofs.Marking.{or_step}
 
 module _ (p : List Oop) (u : List ℕ) (es : List (Option Entry)) (k n : ℕ) where
   -- the class and the fields of the object at a place

@@ -61,6 +61,13 @@ unfolding entry_of
 slot-entry_of es (Small n) e h = cc
 slot-entry_of es (Ref n) e h = (n, refl, h)
 
+-- a pointer that has an entry names its half
+pub slot_half : (es : List (Option Entry)) (w n : ℕ) (e : Entry) → n ≡ w / 2 → entry_of es (value_of w) ≡ Some e → (value_of w ≡ Ref n) × (slot es n ≡ Some e)
+slot_half es w n e half h =
+    let r = slot-entry_of es (value_of w) e h in
+    let even : is_small (value_of w) ≡ false = ap is_small r.1 in
+    (value_of-even w even ∙ ap Ref (sym half), ap (slot es) half ∙ sym (entry_of-even es w even) ∙ h)
+
 pub placed_entry : (nf nu : ℕ) (es : List (Option Entry)) (v : Value) (e : Entry) → AllPlaced nf nu es → entry_of es v ≡ Some e → IsPlaced nf nu e
 placed_entry nf nu es v e placed h = let r = slot-entry_of es v e h in placed r.0 e (slice_get-slot es r.0 e r.2)
 

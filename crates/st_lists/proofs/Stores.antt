@@ -44,7 +44,7 @@ map-set_at f g (a ∷ xs) zero x y h e same =
 map-set_at f g (a ∷ xs) (suc i) x y h e same =
     λ t. same zero a (λ q. absurd (omega (arith, q))) refl t ∷ map-set_at f g xs i x y h e (λ j z ne r. same (suc j) z (λ q. ne (omega (arith, q))) r) t
 
-changed-set : (t : Table) (i : ℕ) (a o : Object) → entry t i ≡ Some a → changed t i o ≡ set t i (Some o)
+pub changed-set : (t : Table) (i : ℕ) (a o : Object) → entry t i ≡ Some a → changed t i o ≡ set t i (Some o)
 changed-set [] i a o e = cc
 changed-set (None ∷ t) zero a o e = cc
 changed-set (Some b ∷ t) zero a o e = refl

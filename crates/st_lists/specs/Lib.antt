@@ -1,2 +1,5 @@
+pub mod Held
 pub mod Lists
+pub mod Marked
 pub mod Plain
+pub mod Words

@@ -4,8 +4,8 @@ ghost use Rattle.st_model.specs.Table.{total_used, settled_table};
 ghost use Rattle.st_model.specs.Settled.{is_marked};
 ghost use Rattle.st_lists.specs.Plain.{objects_of, extent_of};
 
+use crate::marks::Marks;
 use crate::objects::Objects;
-use st_marks::Marks;
 use st_model::Demand;
 
 impl Objects {

@@ -1,7 +1,10 @@
-ghost use Rattle.std.specs.Prelude.{◌≡◌, ℕ, length, None, IfOk};
+ghost use Rattle.std.specs.Prelude.{◌≡◌, ℕ, length, None, IfOk, slice_index_or, false};
+ghost use Rattle.st_model.specs.Settled.{is_marked};
 ghost use Rattle.st_lists.specs.Lists.{slot};
+ghost use Rattle.st_lists.specs.Words.{nil_word};
 
 use crate::entry::Entry;
+use st_model::Oop;
 use std::alloc::{AllocError, Global};
 
 /// Places of a table, all empty.
@@ -17,4 +20,20 @@ pub fn zero_units(alloc: Global, len: usize) -> Result<Vec<u16>, AllocError>
     ensures { IfOk result (λ v. length v.items ≡ len) }
 {
     vec![in alloc; 0; len]
+}
+
+/// Words that are all nil.
+pub fn nil_words(alloc: Global, len: usize) -> Result<Vec<Oop>, AllocError>
+    ensures len { IfOk result (λ v. length v.items ≡ len) }
+    ensures nil { IfOk result (λ v. (k : ℕ) → slice_index_or v.items k nil_word ≡ nil_word) }
+{
+    vec![in alloc; Oop::NIL; len]
+}
+
+/// Marks that are all false.
+pub fn no_marks(alloc: Global, len: usize) -> Result<Vec<bool>, AllocError>
+    ensures len { IfOk result (λ v. length v.items ≡ len) }
+    ensures none { IfOk result (λ v. (n : ℕ) → is_marked v.items n ≡ false) }
+{
+    vec![in alloc; false; len]
 }

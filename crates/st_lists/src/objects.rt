@@ -3,13 +3,13 @@ ghost use Rattle.st_model.specs.Values.{value};
 ghost use Rattle.st_model.specs.Objects.{one, words_of};
 ghost use Rattle.st_model.specs.Table.{entry, total_used};
 ghost use Rattle.st_model.specs.Settled.{object_names};
-ghost use Rattle.st_model.specs.View.{is_live, object_of, with_stored, with_unit};
-ghost use Rattle.st_marks.specs.Marked.{AddsMarks};
+ghost use Rattle.st_model.specs.View.{is_live, object_of, with_exchanged, with_stored, with_unit};
+ghost use Rattle.st_lists.specs.Marked.{AddsMarks};
 ghost use Rattle.st_lists.specs.Lists.{IsLaidOut, IsCounted, IsFull, IsPlaced, slot, entry_of, entry_object};
 
 use crate::entry::Entry;
-use crate::lists::{empty_places, zero_units};
-use st_marks::{Marks, nil_words};
+use crate::lists::{empty_places, nil_words, zero_units};
+use crate::marks::Marks;
 use st_model::{Demand, Oop};
 use std::alloc::{AllocError, Global};
 
@@ -146,6 +146,19 @@ impl Objects {
     {
         let entry = self.live_entry(o);
         self.units[(entry.units_at + at) as usize] = v;
+    }
+
+    /// Exchanges the objects of two pointers.
+    pub fn exchange(&mut self, a: Oop, b: Oop)
+        requires first { is_live (objects_of self.old) (value a) ≡ true }
+        requires second { is_live (objects_of self.old) (value b) ≡ true }
+        ensures objects { objects_of self.new ≡ with_exchanged (objects_of self.old) (value a) (value b) }
+        ensures extent { extent_of self.new ≡ extent_of self.old }
+    {
+        let first = self.live_entry(a);
+        let second = self.live_entry(b);
+        self.entries[usize::from(a.0 >> 1)] = Some(second);
+        self.entries[usize::from(b.0 >> 1)] = Some(first);
     }
 
     /// How many objects there are, and how many words they have.

@@ -1,11 +1,11 @@
 -- What a cycle of the code does, as the cycle over a table whose step is foreseen.
-use Rattle.std.proofs.Common.{◌≡◌, ℕ, ◌+◌, ◌-◌, Option, Some, None, Bool, true, false, refl, ◌∙◌, ap, sym, Ok, Err, arith}
+use Rattle.std.proofs.Common.{◌≡◌, ℕ, ◌+◌, ◌-◌, Bool, true, false, refl, ◌∙◌, ap, sym, Ok, Err, arith}
 use Rattle.std.specs.Prelude.{nat_lt, nat_le, ◌&&◌, if◌then◌else◌, Result, pos, ◌+ℤ◌}
 use Rattle.std.proofs.lemmas.Bool.Decides.{nat_tests}
 use Rattle.st_model.specs.declared.dead.Dead.{Dead}
 use Rattle.st_model.specs.declared.demand.Demand.{Demand}
 use Rattle.st_model.specs.declared.halt.Halt.TheVariants as halt
-use Rattle.st_model.specs.Outcomes.{Outcome, Ending, With, Space, Unbuilt}
+use Rattle.st_model.specs.Outcomes.{Outcome, StepEnd, Did, NotBuilt, Ending, With, Space, Unbuilt}
 use Rattle.st_model.specs.Outcomes as outcome
 use Rattle.st_model.specs.Machine.{State, Transition, Died, Went, Step, answer, ◌>>=◌, ◌>>◌, used, is_over}
 use Rattle.st_model.specs.Table.{Table, table, apart, bounded_table}
@@ -21,10 +21,10 @@ use Rattle.st_model.proofs.Tabular.{byte_at-as}
 use Rattle.st_memory.specs.Tabular.{bounded_tabular}
 use Rattle.st_frames.specs.declared.frame.Frame.{Frame}
 use Rattle.st_frames.specs.Shown.{shown, registers_of}
-use Rattle.st_registers.specs.Rows.{registers_in, row_state}
-use Rattle.st_registers.specs.declared.registers.Registers.{Registers as Words}
+use Rattle.st_frames.specs.Rows.{registers_in, row_state}
+use Rattle.st_frames.specs.declared.registers.Registers.{Registers as Words}
 use Rattle.st_frames.proofs.Stored.{loaded}
-use Rattle.st_machine.proofs.Going.{step_goes}
+use Rattle.st_model.proofs.Going.{step_goes}
 
 -- what fits is not over the capacities
 fits_if : (a b c d : ℕ) → (nat_le a b && nat_le c d) ≡ true → (if nat_lt b a then true else nat_lt d c) ≡ false
@@ -34,19 +34,19 @@ fits_not : (a b c d : ℕ) → (nat_le a b && nat_le c d) ≡ false → (if nat_
 fits_not a b c d e = grind (arith, nat_tests, e)
 
 module _ (c : State Table) where
-  dies : (t : Transition (State Table) (Option Outcome)) (cause : Dead) → Plans (used table c.memory) t (Err (halt.Dead cause)) → foreseen c t ≡ Died cause
+  dies : (t : Transition (State Table) StepEnd) (cause : Dead) → Plans (used table c.memory) t (Err (halt.Dead cause)) → foreseen c t ≡ Died cause
   dies (Died a) cause h = ap (λ x. Died x) h
-  dies (Went None d) cause h = absurd h
-  dies (Went (Some o) d) cause h = absurd h
+  dies (Went NotBuilt d) cause h = absurd h
+  dies (Went (Did o) d) cause h = absurd h
 
   pub cycle_dies : (cause : Dead) → Plans (used table c.memory) ((step apart).run c) (Err (halt.Dead cause)) → foreseen_cycle c ≡ Died cause
   unfolding foreseen_cycle
   cycle_dies cause h = dies ((step apart).run c) cause h
 
-  unbuilt : (t : Transition (State Table) (Option Outcome)) → Plans (used table c.memory) t (Err halt.Unbuilt) → foreseen c t ≡ Went (Unbuilt (next_code table c)) c
+  unbuilt : (t : Transition (State Table) StepEnd) → Plans (used table c.memory) t (Err halt.Unbuilt) → foreseen c t ≡ Went (Unbuilt (next_code table c)) c
   unbuilt (Died a) h = absurd h
-  unbuilt (Went None d) h = refl
-  unbuilt (Went (Some o) d) h = absurd h
+  unbuilt (Went NotBuilt d) h = refl
+  unbuilt (Went (Did o) d) h = absurd h
 
   pub cycle_unbuilt : Plans (used table c.memory) ((step apart).run c) (Err halt.Unbuilt) → foreseen_cycle c ≡ Went (Unbuilt (next_code table c)) c
   unfolding foreseen_cycle
@@ -58,20 +58,20 @@ module _ (c : State Table) where
       let w : (u.words + d.words) - u.words ≡ d.words = omega arith in
       λ i. record { entries = e i; words = w i }
 
-  no_room : (t : Transition (State Table) (Option Outcome)) (d : Demand) → Plans (used table c.memory) t (Ok d) → is_over (plus (used table c.memory) d) c.head ≡ true
+  no_room : (t : Transition (State Table) StepEnd) (d : Demand) → Plans (used table c.memory) t (Ok d) → is_over (plus (used table c.memory) d) c.head ≡ true
       → foreseen c t ≡ Went (Space d (free_space table c)) c
   no_room (Died a) d h e = absurd h
-  no_room (Went None t) d h e = absurd h
-  no_room (Went (Some o) t) d h e =
+  no_room (Went NotBuilt t) d h e = absurd h
+  no_room (Went (Did o) t) d h e =
       let over : is_over (used apart t.memory) c.head ≡ true = ap (λ x. is_over x c.head) h ∙ e in
       let made : made_between apart c t ≡ d = ap (λ x. less x (used table c.memory)) h ∙ less_plus (used table c.memory) d in
       ap (done_if_room c t) over ∙ ap (λ x. Went (Space x (free_space table c)) c) made
 
-  with_room : (t : Transition (State Table) (Option Outcome)) (d : Demand) → (step apart).run c ≡ t → Plans (used table c.memory) t (Ok d) → is_over (plus (used table c.memory) d) c.head ≡ false
+  with_room : (t : Transition (State Table) StepEnd) (d : Demand) → (step apart).run c ≡ t → Plans (used table c.memory) t (Ok d) → is_over (plus (used table c.memory) d) c.head ≡ false
       → IsForeseen c × (foreseen c t ≡ done c ((step bounded_table).run c))
   with_room (Died a) d s h e = absurd h
-  with_room (Went None t) d s h e = absurd h
-  with_room (Went (Some o) t) d s h e =
+  with_room (Went NotBuilt t) d s h e = absurd h
+  with_room (Went (Did o) t) d s h e =
       let over : is_over (used apart t.memory) c.head ≡ false = ap (λ x. is_over x c.head) h ∙ e in
       (record { outcome = o; after = t; goes = s; fits = over }, ap (done_if_room c t) over)
 
@@ -84,25 +84,25 @@ module _ (c : State Table) where
   cycle_space d h e = no_room ((step apart).run c) d h e
 
   pub cycle_done : (d : Demand) (o : Outcome) (t u : State Table) → Plans (used table c.memory) ((step apart).run c) (Ok d) → is_over (plus (used table c.memory) d) c.head ≡ false
-      → (step bounded_table).run c ≡ Went (Some o) t → reclaim table t ≡ u → foreseen_cycle c ≡ Went (With o) u
+      → (step bounded_table).run c ≡ Went (Did o) t → reclaim table t ≡ u → foreseen_cycle c ≡ Went (With o) u
   unfolding foreseen_cycle
   cycle_done d o t u h e s r = (with_room ((step apart).run c) d refl h e).1 ∙ (ap (done c) s ∙ ap (λ x. Went (With o) x) r)
 
   -- a cycle that ends with its bytecode's outcome went
 
-  done_went : (t : Transition (State Table) (Option Outcome)) → (step bounded_table).run c ≡ t → (o : Outcome) (u : State Table) → done c t ≡ Went (With o) u → o ≡ outcome.Went
+  done_went : (t : Transition (State Table) StepEnd) → (step bounded_table).run c ≡ t → (o : Outcome) (u : State Table) → done c t ≡ Went (With o) u → o ≡ outcome.Went
   done_went (Died a) s o u e = cc
-  done_went (Went None t) s o u e = cc
-  done_went (Went (Some p) t) s o u e = let q : p ≡ o = cc in sym q ∙ step_goes bounded_table c t p s
+  done_went (Went NotBuilt t) s o u e = cc
+  done_went (Went (Did p) t) s o u e = let q : p ≡ o = cc in sym q ∙ (step_goes bounded_table).went c t p s
 
   room_went : (t : State Table) (b : Bool) (o : Outcome) (u : State Table) → done_if_room c t b ≡ Went (With o) u → o ≡ outcome.Went
   room_went t true o u e = cc
   room_went t false o u e = done_went ((step bounded_table).run c) refl o u e
 
-  foreseen_went : (t : Transition (State Table) (Option Outcome)) (o : Outcome) (u : State Table) → foreseen c t ≡ Went (With o) u → o ≡ outcome.Went
+  foreseen_went : (t : Transition (State Table) StepEnd) (o : Outcome) (u : State Table) → foreseen c t ≡ Went (With o) u → o ≡ outcome.Went
   foreseen_went (Died a) o u e = cc
-  foreseen_went (Went None t) o u e = cc
-  foreseen_went (Went (Some p) t) o u e = room_went t (is_over (used apart t.memory) c.head) o u e
+  foreseen_went (Went NotBuilt t) o u e = cc
+  foreseen_went (Went (Did p) t) o u e = room_went t (is_over (used apart t.memory) c.head) o u e
 
   pub only_went : (o : Outcome) (u : State Table) → foreseen_cycle c ≡ Went (With o) u → o ≡ outcome.Went
   unfolding foreseen_cycle

@@ -1,5 +1,4 @@
 mod Settled
-mod Going
 mod Endings
 mod Foreseeing
 mod Runs

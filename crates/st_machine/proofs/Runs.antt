@@ -1,6 +1,6 @@
 -- Cycles over a table, one after the other, show the run over the births.
 use Rattle.std.proofs.Common.{◌≡◌, ℕ, suc, ◌+◌, ◌-◌, ◌<◌, false, Ok, Err, refl, ap, sym, ◌∙◌, subst, arith}
-use Rattle.std.specs.Prelude.{length, Result, Some, None}
+use Rattle.std.specs.Prelude.{◌≤◌, length, Result, Option, Some, None, IfSome}
 use Rattle.st_model.specs.declared.dead.Dead.{Dead}
 use Rattle.st_model.specs.Outcomes.{Outcome, Ending, With, IsLiveOutcome, renamed_ending}
 use Rattle.st_model.specs.Outcomes as outcome
@@ -18,7 +18,7 @@ use Rattle.st_machine.specs.declared.cycling.CycleEnd.{CycleEnd}
 use Rattle.st_machine.specs.declared.cycling.CycleEnd.TheVariants as cycle_end
 use Rattle.st_machine.specs.declared.ending.RunEnd.{RunEnd}
 use Rattle.st_machine.specs.declared.ending.RunEnd.TheVariants as run_ends
-use Rattle.st_machine.specs.Runs.{EndsAs, AsksNothing, ending_of, run_end, transition_at}
+use Rattle.st_machine.specs.Runs.{EndsAs, AsksNothing, CountsCycles, ending_of, run_end, transition_at}
 use Rattle.st_machine.proofs.Endings.{goes_on, cycles_in, renamed_goes, renamed_cycles, run_on, finished_on, run_stops, run_dies, finished_stops, finished_dies, Stops, run_end_stops, run_end_goes}
 use Rattle.st_machine.proofs.Foreseeing.{only_went}
 
@@ -137,3 +137,21 @@ ran_all k s c far =
       ends = subst (λ o. EndsShown (Went (With outcome.Went) c) o) (sym far.ran) (refl, far.shows);
       count = ap (λ i. finished_of (cycle births) i s) (sym z) ∙ (count ∙ omega arith);
     }
+
+-- how many cycles a run counts
+
+finished_more : (n k : ℕ) → k < n → k + 1 ≤ n
+finished_more n k l = omega arith
+
+counts_if : (n k : ℕ) (x : Result CycleEnd Dead) → k < n → IfSome (run_end x k) (CountsCycles n)
+counts_if n k (Ok (cycle_end.With code_outcome.Went)) l = tt
+counts_if n k (Ok (cycle_end.With code_outcome.Snapshot)) l = record { most = finished_more n k l; least = λ asked. omega arith }
+counts_if n k (Ok (cycle_end.With (code_outcome.Say o))) l = record { most = finished_more n k l; least = λ asked. omega arith }
+counts_if n k (Ok (cycle_end.With code_outcome.Quit)) l = record { most = finished_more n k l; least = λ asked. omega arith }
+counts_if n k (Ok (cycle_end.With code_outcome.Debugger)) l = record { most = finished_more n k l; least = λ asked. omega arith }
+counts_if n k (Ok (cycle_end.Space demand left)) l = record { most = omega arith; least = λ asked. absurd asked }
+counts_if n k (Ok (cycle_end.Unbuilt code)) l = record { most = omega arith; least = λ asked. absurd asked }
+counts_if n k (Err cause) l = record { most = omega arith; least = λ asked. absurd asked }
+
+pub run_counts : (n k : ℕ) (x : Result CycleEnd Dead) (e : RunEnd) → run_end x k ≡ Some e → k < n → CountsCycles n e
+run_counts n k x e h l = subst (λ (o : Option RunEnd). IfSome o (CountsCycles n)) h (counts_if n k x l)

@@ -1,5 +1,5 @@
 -- What a run of the code stands for.
-use Rattle.std.specs.Prelude.{◌≡◌, ℕ, ◌+◌, Result, Ok, Err, Option, Some, None, ⊤}
+use Rattle.std.specs.Prelude.{◌≡◌, ℕ, ◌+◌, ◌≤◌, Result, Ok, Err, Option, Some, None, ⊤}
 use Rattle.st_model.specs.declared.dead.Dead.{Dead}
 use Rattle.st_model.specs.declared.outcome.Outcome.TheVariants as code_outcome
 use Rattle.st_model.specs.Values.{value}
@@ -8,6 +8,7 @@ use Rattle.st_model.specs.Outcomes as outcome
 use Rattle.st_model.specs.Machine.{State, Transition, Died, Went}
 use Rattle.st_model.specs.Births.{Births, births}
 use Rattle.st_model.specs.Table.{Table}
+use Rattle.st_model.specs.Show.{Shows}
 use Rattle.st_model.specs.Cycles.{run, finished}
 use Rattle.st_model.specs.Foreseen.{EndsShown}
 use Rattle.st_machine.specs.declared.cycling.CycleEnd.{CycleEnd}
@@ -66,6 +67,22 @@ AsksNothing (run_ends.Debugger done) = ⊥
 AsksNothing (run_ends.Dead done cause) = ⊤
 AsksNothing (run_ends.Unbuilt done code) = ⊤
 
+-- the last of the finished cycles asked for something besides
+abbrev pub Asks : RunEnd → Type 0
+Asks run_ends.Ran = ⊥
+Asks (run_ends.Space done demand entries words) = ⊥
+Asks (run_ends.Snapshot done) = ⊤
+Asks (run_ends.Say done o) = ⊤
+Asks (run_ends.Quit done) = ⊤
+Asks (run_ends.Debugger done) = ⊤
+Asks (run_ends.Dead done cause) = ⊥
+Asks (run_ends.Unbuilt done code) = ⊥
+
+-- a run of n cycles finishes no more of them, and at least the one that asks for something
+pub record CountsCycles (n : ℕ) (e : RunEnd) : Type 0 where
+  pub most : cycles_of n e ≤ n
+  pub least : Asks e → 1 ≤ cycles_of n e
+
 -- the cause of which the machine is dead after a run
 abbrev pub death_of : RunEnd → Option Dead
 death_of run_ends.Ran = None
@@ -81,3 +98,7 @@ death_of (run_ends.Unbuilt done code) = None
 pub record EndsAs (n : ℕ) (s : State Births) (e : RunEnd) (c : State Table) : Type 0 where
   pub ends : EndsShown (transition_at e c) (run births n s)
   pub count : finished births n s ≡ cycles_of n e
+
+-- so they end from each state over births that is shown first
+abbrev pub EndsFrom : ℕ → State Table → RunEnd → State Table → Type 0
+EndsFrom n first e last = (s : State Births) → Shows first s → EndsAs n s e last

@@ -8,10 +8,9 @@ ghost use Rattle.st_model.specs.Calls.{transition_of};
 ghost use Rattle.st_frames.specs.Shown.{IsFrame, StaysFrame, shown};
 ghost use Rattle.st_machine.specs.Runs.{ending_of};
 
-use st_frames::{Frame, load};
+use st_frames::{Frame, load, next_byte};
 use st_memory::Memory;
 use st_model::{Dead, Demand, Halt, Outcome};
-use st_registers::next_byte;
 use st_step::{plan, step};
 
 /// How a cycle ended in which the machine didn't die.
@@ -54,7 +53,8 @@ fn next_code<M: Memory>(m: &M, f: &Frame) -> u8
 pub fn cycle<M: Memory>(m: &mut M, f: &mut Frame) -> Result<CycleEnd, Dead>
     requires frame { IsFrame (M.view m.old) f.old }
     requires quiet { (M.view m.old).held.devices ≡ no_devices }
-    ensures cycle { foreseen_cycle (shown (M.view m.old) f.old) ≡ transition_of ending_of result (shown (M.view m.new) f.new) }
+    ensures cycle { foreseen_cycle (shown (M.view m.old) f.old)
+        ≡ transition_of ending_of result (shown (M.view m.new) f.new) }
     ensures frame { StaysFrame (M.view m.old) (M.view m.new) f.new }
 {
     let demand = match plan(m, f) {

@@ -1,11 +1,12 @@
 ghost use Rattle.std.specs.Prelude.{◌≡◌, Some, None};
+ghost use Rattle.std.specs.Borrow.{sem};
 ghost use Rattle.st_model.specs.Objects.{nil};
-ghost use Rattle.st_model.specs.Machine.{State, empty_world};
-ghost use Rattle.st_model.specs.Births.{Births};
+ghost use Rattle.st_model.specs.Machine.{empty_world};
 ghost use Rattle.st_model.specs.Show.{Shows, raised};
 ghost use Rattle.st_model.specs.View.{no_devices};
 ghost use Rattle.st_frames.specs.Shown.{IsFrame, shown};
-ghost use Rattle.st_machine.specs.Runs.{EndsAs, AsksNothing, death_of};
+ghost use Rattle.st_machine.specs.Machines.{IsReady, lends_memory};
+ghost use Rattle.st_machine.specs.Runs.{EndsFrom, AsksNothing, CountsCycles, death_of};
 ghost use Rattle.st_machine.specs.declared.ending.RunEnd.TheVariants.{Dead as DeadEnd};
 
 use crate::ending::RunEnd;
@@ -23,9 +24,6 @@ pub struct Machine<M: Memory> {
     frame: Frame,
     world: World,
     death: Option<Dead>,
-    ghost held: { IsFrame (M.view memory) frame },
-    ghost quiet: { (M.view memory).held.devices ≡ no_devices },
-    ghost empty: { world ≡ empty_world nil },
 }
 
 impl<M: Memory> Machine<M> {
@@ -34,10 +32,12 @@ impl<M: Memory> Machine<M> {
         requires frame { IsFrame (M.view loaded.memory) loaded.frame }
         requires quiet { (M.view loaded.memory).held.devices ≡ no_devices }
         requires empty { world ≡ empty_world nil }
+        ensures ready { IsReady (M.view result.memory) result.frame result.world }
         ensures memory { M.view result.memory ≡ M.view loaded.memory }
         ensures frame { result.frame ≡ loaded.frame }
         ensures alive { result.death ≡ None }
-        ensures shows { Shows (shown (M.view result.memory) result.frame) (raised (shown (M.view result.memory) result.frame)) }
+        ensures shows { Shows (shown (M.view result.memory) result.frame)
+            (raised (shown (M.view result.memory) result.frame)) }
     {
         Machine {
             memory: loaded.memory,
@@ -50,10 +50,16 @@ impl<M: Memory> Machine<M> {
     /// Does n cycles, or those up to the first that doesn't go on. It ends as the book's machine does from each state over
     /// births that the machine shows. A dead machine stays as it is.
     pub fn run(&mut self, n: u32) -> RunEnd
-        ensures ends { self.old.death ≡ None → (s : State Births) → Shows (shown (M.view self.old.memory) self.old.frame) s → EndsAs n s result (shown (M.view self.new.memory) self.new.frame) }
+        requires ready { IsReady (M.view self.old.memory) self.old.frame self.old.world }
+        ensures ready { IsReady (M.view self.new.memory) self.new.frame self.new.world }
+        ensures ends { self.old.death ≡ None → EndsFrom n (shown (M.view self.old.memory) self.old.frame)
+            result (shown (M.view self.new.memory) self.new.frame) }
         ensures death { self.old.death ≡ None → self.new.death ≡ death_of result }
-        ensures dead { (cause : _) → self.old.death ≡ Some cause → (result ≡ DeadEnd 0 cause) × (self.new ≡ self.old) }
+        ensures dead { (cause : _) → self.old.death ≡ Some cause
+            → (result ≡ DeadEnd 0 cause) × (self.new ≡ self.old) }
         ensures asks { AsksNothing result }
+        ensures counts { CountsCycles n result }
+        ensures world { self.new.world ≡ self.old.world }
     {
         if let Some(cause) = self.death {
             return RunEnd::Dead { done: 0, cause };
@@ -63,6 +69,14 @@ impl<M: Memory> Machine<M> {
             self.death = Some(cause);
         }
         end
+    }
+
+    /// The objects, to be changed.
+    pub fn memory_mut(&mut self) -> &mut M
+        ensures* writes_back { sem 𝓛 (lends_memory M.row self.entry result) }
+        ensures value { result.now ≡ self.old.memory }
+    {
+        &mut self.memory
     }
 
     /// The objects.

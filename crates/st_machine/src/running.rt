@@ -1,10 +1,7 @@
 ghost use Rattle.std.specs.Prelude.{◌≡◌, ◌<◌};
-ghost use Rattle.st_model.specs.Machine.{State};
-ghost use Rattle.st_model.specs.Births.{Births};
 ghost use Rattle.st_model.specs.View.{no_devices};
-ghost use Rattle.st_model.specs.Show.{Shows};
 ghost use Rattle.st_frames.specs.Shown.{IsFrame, StaysFrame, shown};
-ghost use Rattle.st_machine.specs.Runs.{EndsAs, AsksNothing, run_end};
+ghost use Rattle.st_machine.specs.Runs.{EndsFrom, AsksNothing, CountsCycles, run_end};
 
 use crate::cycling::{CycleEnd, cycle};
 use crate::ending::RunEnd;
@@ -43,9 +40,10 @@ fn run_end(end: Result<CycleEnd, Dead>, done: u32) -> Option<RunEnd>
 pub fn run<M: Memory>(m: &mut M, f: &mut Frame, n: u32) -> RunEnd
     requires frame { IsFrame (M.view m.old) f.old }
     requires quiet { (M.view m.old).held.devices ≡ no_devices }
-    ensures ends { (s : State Births) → Shows (shown (M.view m.old) f.old) s → EndsAs n s result (shown (M.view m.new) f.new) }
+    ensures ends { EndsFrom n (shown (M.view m.old) f.old) result (shown (M.view m.new) f.new) }
     ensures frame { StaysFrame (M.view m.old) (M.view m.new) f.new }
     ensures asks { AsksNothing result }
+    ensures counts { CountsCycles n result }
 {
     for done in 0..n {
         if let Some(end) = run_end(cycle(m, f), done) {

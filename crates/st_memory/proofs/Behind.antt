@@ -85,7 +85,7 @@ entry_joined [] o k l = absurd (omega (arith, l))
 entry_joined (e ∷ t) o zero l = refl
 entry_joined (e ∷ t) o (suc k) l = entry_joined t o k (omega (arith, l))
 
-changed_joined : (t : Table) (o a : Object) (k : ℕ) → k < length t → changed (joined t o) k a ≡ joined (changed t k a) o
+pub changed_joined : (t : Table) (o a : Object) (k : ℕ) → k < length t → changed (joined t o) k a ≡ joined (changed t k a) o
 changed_joined [] o a k l = absurd (omega (arith, l))
 changed_joined (None ∷ t) o a zero l = refl
 changed_joined (Some b ∷ t) o a zero l = refl

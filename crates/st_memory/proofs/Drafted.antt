@@ -1,5 +1,5 @@
 -- What the calls of a draft that only read come to.
-use Rattle.std.proofs.Common.{◌≡◌, ℕ, ◌+◌, ◌*◌, ◌/◌, ◌<◌, ◌≤◌, zero, suc, Bool, true, false, List, [], ◌∷◌, length, replicate, Result, Ok, Err, refl, sym, ap, ◌∙◌, subst, arith, is_some}
+use Rattle.std.proofs.Common.{◌≡◌, ℕ, ◌*◌, ◌/◌, ◌<◌, ◌≤◌, zero, suc, Bool, true, false, List, [], ◌∷◌, length, replicate, Result, Ok, Err, refl, sym, ap, ◌∙◌, subst, arith, is_some}
 use Rattle.std.specs.Prelude.{ℤ, slice_get, unwrap_or, Option, Some, None, IfSome, IfNone}
 use Rattle.std.specs.Result.{is_ok}
 use Rattle.std.proofs.lemmas.List.{length-replicate}
@@ -13,7 +13,7 @@ use Rattle.st_model.specs.Machine.{Step, Died, Went, is_there}
 use Rattle.st_model.specs.Steps.{fetch_field, count_fields, class_of, literal, byte_at}
 use Rattle.st_model.specs.Methods.{method_header, literal_from_last}
 use Rattle.st_model.specs.Table.{Table, table, bounded_table, apart, entry}
-use Rattle.st_model.specs.View.{nothing, is_live, object_of, Has, Lacks, SmallInteger, Gone, OtherKind, TooFew}
+use Rattle.st_model.specs.View.{nothing, is_live, object_of, Lacks, SmallInteger, Gone, OtherKind}
 use Rattle.st_model.specs.Calls.{Reads, itself}
 use Rattle.st_model.proofs.Pointers.{value_of-pointer}
 use Rattle.st_model.proofs.Tabular.{fetch_field-as, count_fields-as, class_of-as, literal-as, byte_at-as, method_header-as, literal_from_last-as}
@@ -26,7 +26,7 @@ use Rattle.st_memory.proofs.Writing.{field_like}
 use Rattle.st_memory.proofs.Replaying.{replayed_like}
 
 -- why fields can't be counted is why there aren't any
-lacks_died : (t : Table) (v : Value) (k : Dead) (from n : ℕ) → look_at is_pointers (λ o. Some (length o.fields)) dead.Field v t ≡ Died k → Lacks t v from n k
+pub lacks_died : (t : Table) (v : Value) (k : Dead) (from n : ℕ) → look_at is_pointers (λ o. Some (length o.fields)) dead.Field v t ≡ Died k → Lacks t v from n k
 unfolding is_live object_of
 lacks_died t (Small j) k from n h = let q : dead.Small ≡ k = cc in subst (Lacks t (Small j) from n) q (SmallInteger refl)
 lacks_died t (Ref j) k from n h = by_entry (entry t j) refl h
@@ -195,15 +195,6 @@ module _ (t : Table) (ms : List Made) (n : ℕ) (cs : List Change) (k : ℕ) (v 
 
   pub count_now : (c : ℕ) → Reads (count_fields apart v) itself now (Ok c) → (is_pointers (object_of now v).kind ≡ true) × (length (object_of now v).fields ≡ c) × (is_live now v ≡ true)
   count_now c h = counted now v c (taken (count_fields apart v) (count_fields apart v) (count_fields table v) itself _ (count_looks v) (count_fields-as apart_tabular v) now now (Ok c) h)
-
-  pub count_lacks : (e : Dead) (from n : ℕ) → Reads (count_fields apart v) itself now (Err e) → Lacks now v from n e
-  count_lacks e from n h = lacks_died now v e from n (taken (count_fields apart v) (count_fields apart v) (count_fields table v) itself _ (count_looks v) (count_fields-as apart_tabular v) now now (Err e) h)
-
-  pub count_few : (c from n : ℕ) → Reads (count_fields apart v) itself now (Ok c) → c < from + n → Lacks now v from n dead.Field
-  count_few c from n h l = let r = count_now c h in TooFew r.2 r.0 (let q = r.1 in omega (arith, l, q))
-
-  pub count_has : (c from n : ℕ) → Reads (count_fields apart v) itself now (Ok c) → from + n ≤ c → Has now v from n
-  count_has c from n h l = let r = count_now c h in record { live = r.2; kind = r.0; fields = let q = r.1 in omega (arith, l, q) }
 
   pub has_start : (c i : ℕ) → Reads (count_fields apart v) itself now (Ok c) → i < c → HasField start v i
   has_start c i h l =

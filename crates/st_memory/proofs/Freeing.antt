@@ -136,6 +136,35 @@ module _ (t : Table) (ms : List Made) (n : ℕ) (cs : List Change) (k : ℕ) (pl
       let p : pointer_if bounded_table t j (entry t j) ≡ r = cc in
       ap (λ u. Went (pointer_if apart u j (entry u j)) s) over ∙ ap (λ a. Went a s) (half_base_is j e ∙ p)
 
+module _ (t u : Table) (long : length t ≡ length u) (live : (v : Value) → is_live t v ≡ is_live u v) where
+  some_alike : (j : ℕ) → is_some (entry t j) ≡ is_some (entry u j)
+  unfolding is_live
+  some_alike j = live (Ref j)
+
+  pointer_alike : (j : ℕ) → pointer_apart t j ≡ pointer_apart u j
+  pointer_alike j =
+      let a = length-take 32768 t in
+      let b = length-take 32768 u in
+      let cut : length (take 32768 t) ≡ length (take 32768 u) = omega (arith, a, b, long) in
+      ap (λ p. if nat_lt j 32768 then j else p)
+      (free_rest (take 32768 t) (take 32768 u) 1 (j - 32768) cut
+      (λ k l. let low : k < 32768 = omega (arith, l, a) in ap is_some (entry_taken t 32768 k low) ∙ some_alike k ∙ sym (ap is_some (entry_taken u 32768 k low))))
+
+  if_alike : (j : ℕ) (a b : Option Object) → is_some a ≡ is_some b → pointer_if apart t j a ≡ pointer_if apart u j b
+  if_alike j None None e = refl
+  if_alike j None (Some b) e = cc
+  if_alike j (Some a) None e = cc
+  if_alike j (Some a) (Some b) e = pointer_alike j
+
+  -- where the same names have objects the half of a word is the same
+  pub half_alike : (v : Value) (r : ℕ) → Reads (half_word apart v) itself u (Ok r) → Reads (half_word apart v) itself t (Ok r)
+  unfolding half_word answer
+  half_alike (Small j) r h = λ s over. let q = h (some_state u) refl in let p : j ≡ r = cc in ap (λ a. Went a s) p
+  half_alike (Ref j) r h = λ s over.
+      let q = h (some_state u) refl in
+      let p : pointer_if apart u j (entry u j) ≡ r = cc in
+      ap (λ w. Went (pointer_if apart w j (entry w j)) s) over ∙ ap (λ a. Went a s) (if_alike j (entry t j) (entry u j) (some_alike j) ∙ p)
+
 pub live_place : (t : Table) (k : ℕ) → is_live t (value_of (2 * k)) ≡ is_some (entry t k)
 unfolding is_live
 live_place t k = ap (is_live t) (value_of-pointer k)

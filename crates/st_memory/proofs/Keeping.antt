@@ -139,6 +139,11 @@ module _ (t : Table) (o : Object) where
     | inr l ↦ let e = ap is_some (entry_past t n l) in absurd (cc)
   ]
 
+  pub live_joined : (v : Value) → is_live t v ≡ true → is_live (joined t o) v ≡ true
+  unfolding is_live
+  live_joined (Small n) h = cc
+  live_joined (Ref n) h = there_joined (Ref n) h
+
   fields_joined : (n : ℕ) (j : ℕ) (y : Value) → field_value (joined t o) (Ref n) j ≡ Some y → (n ≡ length t) × (slice_get o.fields j ≡ Some y) ⊎ (field_value t (Ref n) j ≡ Some y)
   unfolding object_of
   fields_joined n j y e = elim (cases_lt n (length t)) [

@@ -1,11 +1,16 @@
 pub mod Behind
+pub mod Bodies
 mod Copying
 pub mod Drafted
+pub mod Exchanged
 pub mod Freeing
 pub mod Keeping
 pub mod Looking
+pub mod Moved
 mod Moving
+pub mod Renaming
 pub mod Replaying
 pub mod Storing
+mod Swapping
 mod Wide
 pub mod Writing

@@ -1,13 +1,14 @@
 -- What a draft says: the objects of a table, those that a row makes behind them, and the changes of fields, one after the
 -- other.
-use Rattle.std.specs.Prelude.{◌≡◌, ℕ, zero, suc, ◌<◌, ◌/◌, true, false, List, [], ◌∷◌, ◌++◌, map, take, drop, length, replicate, max, slice_get, slice_index_or, Option, Some, None, if◌then◌else◌}
+use Rattle.std.specs.Prelude.{◌≡◌, ℕ, zero, suc, ◌<◌, ◌/◌, ◌==◌, true, false, List, [], ◌∷◌, ◌++◌, map, take, drop, length, replicate, max, slice_get, slice_index_or, Option, Some, None, if◌then◌else◌}
 use Rattle.st_model.specs.declared.kind.Kind.TheVariants as kind
-use Rattle.st_model.specs.Values.{Value, Small, Ref, word}
+use Rattle.st_model.specs.Values.{Value, Small, Ref, word, is_small}
 use Rattle.st_model.specs.Objects.{Object, nil, is_pointers}
 use Rattle.st_model.specs.Machine.{is_there}
 use Rattle.st_model.specs.Table.{Table, table, entry}
-use Rattle.st_model.specs.View.{is_live, object_of, with_stored}
+use Rattle.st_model.specs.View.{is_live, object_of, with_stored, with_exchanged}
 use Rattle.st_memory.specs.declared.change.Made.{Made}
+use Rattle.st_memory.specs.declared.change.Exchange.{Exchange}
 use Rattle.st_memory.specs.declared.change.Change.{Change}
 use Rattle.st_memory.specs.declared.change.Change.TheVariants.{Field, Fields}
 use Rattle.st_memory.specs.declared.change.Origin.{Origin}
@@ -96,3 +97,39 @@ no_made = record { class = record { 0 = 0 }; size = 0 }
 -- whatever stands in a field is there
 abbrev pub AllThere : Table → Type 0
 AllThere t = (v : Value) (i : ℕ) (x : Value) → field_value t v i ≡ Some x → is_there table t x ≡ true
+
+abbrev pub no_exchange : Exchange
+no_exchange = record { first = record { 0 = 0 }; second = record { 0 = 0 } }
+
+-- the table in which the first n pairs have exchanged their objects, one pair after the other
+unfoldable pub exchanged_by : Table → List Exchange → ℕ → Table
+exchanged_by t pairs zero = t
+exchanged_by t pairs (suc n) = with_exchanged (exchanged_by t pairs n) (word (slice_index_or pairs n no_exchange).first) (word (slice_index_or pairs n no_exchange).second)
+
+-- the name that had, before an exchange of a and b, the object that this one has after it
+abbrev pub name_before : ℕ → ℕ → ℕ → ℕ
+name_before a b n = if n == a then b else if n == b then a else n
+
+abbrev pub value_before : Value → Value → Value → Value
+value_before (Small a) y v = v
+value_before (Ref a) (Small b) v = v
+value_before (Ref a) (Ref b) (Small n) = Small n
+value_before (Ref a) (Ref b) (Ref n) = Ref (name_before a b n)
+
+-- the value that had its object before all of the first n exchanges
+unfoldable pub value_first : List Exchange → ℕ → Value → Value
+value_first pairs zero v = v
+value_first pairs (suc n) v = value_first pairs n (value_before (word (slice_index_or pairs n no_exchange).first) (word (slice_index_or pairs n no_exchange).second) v)
+
+-- each of the first n pairs is of two objects of the table
+abbrev pub AreOf : Table → List Exchange → ℕ → Type 0
+AreOf t pairs n = (k : ℕ) → k < n → (is_live t (word (slice_index_or pairs k no_exchange).first) ≡ true) × (is_live t (word (slice_index_or pairs k no_exchange).second) ≡ true)
+
+-- no word of the first n pairs is that of a SmallInteger
+abbrev pub AreEven : List Exchange → ℕ → Type 0
+AreEven pairs n = (k : ℕ) → k < n → (is_small (word (slice_index_or pairs k no_exchange).first) ≡ false) × (is_small (word (slice_index_or pairs k no_exchange).second) ≡ false)
+
+-- v has in t what w has in u
+pub record Names (t u : Table) (v w : Value) : Type 0 where
+  pub object : named_object t v ≡ named_object u w
+  pub small : is_small v ≡ is_small w

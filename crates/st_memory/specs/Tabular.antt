@@ -3,7 +3,7 @@ use Rattle.std.proofs.Common.{refl}
 use Rattle.st_model.specs.Table.{apart, bounded_table, IsTabular}
 
 abbrev pub bounded_tabular : IsTabular bounded_table
-bounded_tabular = record { read = refl; replace = refl; named = refl }
+bounded_tabular = record { read = refl; replace = refl; exchange = refl; named = refl }
 
 abbrev pub apart_tabular : IsTabular apart
-apart_tabular = record { read = refl; replace = refl; named = refl }
+apart_tabular = record { read = refl; replace = refl; exchange = refl; named = refl }

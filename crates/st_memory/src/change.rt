@@ -28,6 +28,13 @@ pub enum Change {
     },
 }
 
+/// Two objects that exchange class, kind and body.
+#[derive(Clone, Copy)]
+pub struct Exchange {
+    pub first: Word,
+    pub second: Word,
+}
+
 /// What stood in a field before a change: a value that the change stores there, or what a field of the table before
 /// it has.
 #[derive(Clone, Copy)]

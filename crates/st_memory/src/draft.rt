@@ -1,80 +1,70 @@
-ghost use Rattle.std.specs.Prelude.{◌≡◌, ◌<◌, ◌≤◌, ◌+◌, ◌-◌, ◌*◌, ℕ, length, take, Some, IfSome, IfNone, IfOk, IfErr, slice_index_or};
+ghost use Rattle.std.specs.Prelude.{◌≡◌, ◌<◌, ◌≤◌, ◌+◌, ◌-◌, ◌*◌, Some, IfSome, IfNone, IfOk, IfErr};
 ghost use Rattle.st_model.specs.Values.{word, Ref};
 ghost use Rattle.st_model.specs.Objects.{one, words_of};
 ghost use Rattle.st_model.specs.Table.{apart, total_used, free_place, without_first};
 ghost use Rattle.st_model.specs.Machine.{used};
+ghost use Rattle.st_model.specs.Steps.{count_fields};
+ghost use Rattle.st_model.specs.Calls.{Reads, itself};
 ghost use Rattle.st_model.specs.View.{Has, Lacks};
-ghost use Rattle.st_memory.specs.Drafts.{AllThere, no_made, made_object, made_table, with_made, field_value, no_change, after_change, replayed, highest, draft_table, HasField, named_object, IsOrigin};
+ghost use Rattle.st_memory.specs.Drafts.{AllThere, made_object, field_value, after_change, replayed, highest, HasField, named_object, IsOrigin, AreOf};
+ghost use Rattle.st_memory.specs.Noted.{with_noted, noted, drafted, count_of};
 
-use crate::change::{Change, Made, Origin};
+use crate::change::{Change, Exchange, Made, Origin};
+use crate::exchanges::Exchanges;
 use crate::memory::Memory;
+use crate::notes::Notes;
 use crate::objects::Objects;
 use st_model::{Dead, Demand, Oop, Word};
 
-/// A memory as it would be after a row, whose changes are noted and not made. It takes 24 changes.
+/// A memory as it would be after a row, whose changes are noted and not made. It takes 24 changes, new objects and exchanges
+/// together. Exchanges stand behind all other changes: what changes an object that was exchanged is noted of the word
+/// that had it before.
 #[derive(Drop)]
 pub struct Draft<'a, M: Memory> {
     base: &'a M,
-    /// What the row makes, in its order. The words of these objects follow all object pointers.
-    made: [Made; 24],
-    made_count: u32,
-    /// The words of the objects made.
-    words: u32,
-    /// What the row stores, in its order.
-    changes: [Change; 24],
-    count: u32,
-    ghost few: { made_count + count ≤ 24 },
-    ghost sizes: { (length made ≡ 24) × (length changes ≡ 24) },
-    ghost named: { (k : ℕ) → k < count → highest (slice_index_or changes k no_change) < 65536 + 2 * made_count },
-    ghost counted: { words ≡ total_used words_of (made_table (take made_count made)) },
-    ghost small: { words ≤ 65535 * made_count },
-    ghost sized: { (k : ℕ) → k < made_count → (slice_index_or made k no_made).size ≤ 65533 },
-    ghost closed: { AllThere (draft_table (M.view base.now).objects made made_count changes count) },
+    notes: Notes,
+    exchanges: Exchanges,
+    ghost few: { count_of notes exchanges ≤ 24 },
+    ghost closed: { AllThere (noted (M.view base.now).objects notes) },
+    ghost there: { AreOf (noted (M.view base.now).objects notes) exchanges.pairs exchanges.count },
 }
 
 impl<'a, M: Memory> Draft<'a, M> {
     /// A memory without changes.
     pub fn new(base: &'a M) -> Draft<'a, M>
-        ensures table { draft_table (M.view result.base.now).objects result.made result.made_count result.changes result.count ≡ (M.view base.now).objects }
+        ensures table { drafted (M.view result.base.now).objects result.notes result.exchanges ≡ (M.view base.now).objects }
         ensures head { (M.view result.base.now).head ≡ (M.view base.now).head }
         ensures fixed { M.view result.base.now ≡ M.view base.now }
-        ensures room { 24 - (result.made_count + result.count) ≡ 24 }
+        ensures room { 24 - count_of result.notes result.exchanges ≡ 24 }
     {
-        let none = Made {
-            class: Word::NIL,
-            size: 0,
-        };
-        let still = Change::Field {
-            object: Word::NIL,
-            at: 0,
-            value: Word::NIL,
-        };
+        let notes = Notes::new();
+        let exchanges = Exchanges::new();
         Draft {
             base,
-            made: [none; 24],
-            made_count: 0,
-            words: 0,
-            changes: [still; 24],
-            count: 0,
+            notes,
+            exchanges,
         }
     }
 
     /// What the objects made take of the capacities.
     pub fn demand(&self) -> Demand
-        ensures entries { (used apart (draft_table (M.view self.now.base.now).objects self.now.made self.now.made_count self.now.changes self.now.count)).entries ≡ total_used one (M.view self.now.base.now).objects + result.entries }
-        ensures words { (used apart (draft_table (M.view self.now.base.now).objects self.now.made self.now.made_count self.now.changes self.now.count)).words ≡ total_used words_of (M.view self.now.base.now).objects + result.words }
+        ensures entries { (used apart (drafted (M.view self.now.base.now).objects self.now.notes self.now.exchanges)).entries
+            ≡ total_used one (M.view self.now.base.now).objects + result.entries }
+        ensures words { (used apart (drafted (M.view self.now.base.now).objects self.now.notes self.now.exchanges)).words
+            ≡ total_used words_of (M.view self.now.base.now).objects + result.words }
     {
         Demand {
-            entries: self.made_count,
-            words: self.words,
+            entries: self.notes.made_count,
+            words: self.notes.words,
         }
     }
 
     /// The number, counted from 0, of the object made whose word this is.
     fn find_number(&self, o: Word) -> Option<u32>
         ensures named { IfSome result (λ n. word o ≡ Ref (32768 + n)) }
-        ensures below { IfSome result (λ n. n < self.now.made_count) }
-        ensures none { IfNone result (named_object (with_made (M.view self.now.base.now).objects self.now.made self.now.made_count) (word o) ≡ named_object (M.view self.now.base.now).objects (word o)) }
+        ensures below { IfSome result (λ n. n < self.now.notes.made_count) }
+        ensures none { let base = (M.view self.now.base.now).objects in
+            IfNone result (named_object (with_noted base self.now.notes) (word o) ≡ named_object base (word o)) }
     {
         if o.is_small() {
             return None;
@@ -83,7 +73,7 @@ impl<'a, M: Memory> Draft<'a, M> {
             return None;
         }
         let number = (o.0 - 65536) / 2;
-        if number < self.made_count {
+        if number < self.notes.made_count {
             Some(number)
         } else {
             None
@@ -92,20 +82,36 @@ impl<'a, M: Memory> Draft<'a, M> {
 
     /// The object made whose word this is.
     fn find_made(&self, o: Word) -> Option<Made>
-        ensures found { IfSome result (λ m. named_object (with_made (M.view self.now.base.now).objects self.now.made self.now.made_count) (word o) ≡ Some (made_object m)) }
+        ensures found { let base = (M.view self.now.base.now).objects in
+            IfSome result (λ m. named_object (with_noted base self.now.notes) (word o) ≡ Some (made_object m)) }
         ensures small { IfSome result (λ m. m.size ≤ 65533) }
-        ensures none { IfNone result (named_object (with_made (M.view self.now.base.now).objects self.now.made self.now.made_count) (word o) ≡ named_object (M.view self.now.base.now).objects (word o)) }
+        ensures none { let base = (M.view self.now.base.now).objects in
+            IfNone result (named_object (with_noted base self.now.notes) (word o) ≡ named_object base (word o)) }
     {
         let number = self.find_number(o)?;
-        Some(self.made[number as usize])
+        Some(self.notes.made[number as usize])
+    }
+
+    /// How many fields an object of kind Pointers has, before all exchanges.
+    fn count_noted(&self, o: Word) -> Result<u32, Dead>
+        ensures counts { let before = noted (M.view self.now.base.now).objects self.now.notes in
+            Reads (count_fields apart (word o)) itself before result }
+        ensures small { IfOk result (λ n. n ≤ 131066) }
+    {
+        match self.find_made(o) {
+            Some(made) => Ok(made.size),
+            None => self.base.count_fields(o),
+        }
     }
 
     /// The number of the field so many places behind one, where an object of kind Pointers has that field.
     fn field_behind(&self, o: Word, from: u32, places: u32) -> Option<u32>
-        ensures found { IfSome result (λ j. (j ≡ from + places) × HasField (with_made (M.view self.now.base.now).objects self.now.made self.now.made_count) (word o) j) }
-        ensures none { IfNone result (HasField (with_made (M.view self.now.base.now).objects self.now.made self.now.made_count) (word o) (from + places) → ⊥) }
+        ensures found { let start = with_noted (M.view self.now.base.now).objects self.now.notes in
+            IfSome result (λ j. (j ≡ from + places) × HasField start (word o) j) }
+        ensures none { let start = with_noted (M.view self.now.base.now).objects self.now.notes in
+            IfNone result (HasField start (word o) (from + places) → ⊥) }
     {
-        let fields = match self.count_fields(o) {
+        let fields = match self.count_noted(o) {
             Ok(fields) => fields,
             Err(_) => return None,
         };
@@ -120,12 +126,13 @@ impl<'a, M: Memory> Draft<'a, M> {
 
     /// Where the value comes from that stands in a field after change k.
     fn origin(&self, k: u32, o: Word, at: u32) -> Origin
-        requires below { k < self.now.count }
-        requires has { HasField (with_made (M.view self.now.base.now).objects self.now.made self.now.made_count) (word o) at }
-        ensures { let start = with_made (M.view self.now.base.now).objects self.now.made self.now.made_count in
-            IsOrigin start (replayed start self.now.changes k) (replayed start self.now.changes (k + 1)) (word o) at result }
+        requires below { k < self.now.notes.count }
+        requires has { HasField (with_noted (M.view self.now.base.now).objects self.now.notes) (word o) at }
+        ensures { let start = with_noted (M.view self.now.base.now).objects self.now.notes in
+            let changes = self.now.notes.changes in
+            IsOrigin start (replayed start changes k) (replayed start changes (k + 1)) (word o) at result }
     {
-        match self.changes[k as usize] {
+        match self.notes.changes[k as usize] {
             Change::Field {
                 object,
                 at: place,
@@ -155,8 +162,9 @@ impl<'a, M: Memory> Draft<'a, M> {
 
     /// A field before all changes.
     fn first_value(&self, o: Word, at: u32) -> Word
-        requires { HasField (with_made (M.view self.now.base.now).objects self.now.made self.now.made_count) (word o) at }
-        ensures { field_value (with_made (M.view self.now.base.now).objects self.now.made self.now.made_count) (word o) at ≡ Some (word result) }
+        requires { HasField (with_noted (M.view self.now.base.now).objects self.now.notes) (word o) at }
+        ensures { let start = with_noted (M.view self.now.base.now).objects self.now.notes in
+            field_value start (word o) at ≡ Some (word result) }
     {
         if self.find_made(o).is_some() {
             return Word::NIL;
@@ -164,14 +172,15 @@ impl<'a, M: Memory> Draft<'a, M> {
         self.base.fetch_field(o, at).unwrap()
     }
 
-    /// A field after all changes, sought from the last change back.
+    /// A field after all changes and before all exchanges, sought from the last change back.
     fn value(&self, o: Word, at: u32) -> Word
-        requires { HasField (with_made (M.view self.now.base.now).objects self.now.made self.now.made_count) (word o) at }
-        ensures { field_value (draft_table (M.view self.now.base.now).objects self.now.made self.now.made_count self.now.changes self.now.count) (word o) at ≡ Some (word result) }
+        requires { HasField (with_noted (M.view self.now.base.now).objects self.now.notes) (word o) at }
+        ensures { let before = noted (M.view self.now.base.now).objects self.now.notes in
+            field_value before (word o) at ≡ Some (word result) }
     {
         let mut o = o;
         let mut at = at;
-        let mut k = self.count;
+        let mut k = self.notes.count;
         while k > 0 {
             k -= 1;
             match self.origin(k, o, at) {
@@ -185,18 +194,19 @@ impl<'a, M: Memory> Draft<'a, M> {
         self.first_value(o, at)
     }
 
-    /// Notes a change of fields of objects that are there.
+    /// Notes a change of fields of objects that are there, by the words that had them before all exchanges.
     fn note(&mut self, change: Change)
-        requires room { self.old.made_count + self.old.count < 24 }
-        requires named { highest change < 65536 + 2 * self.old.made_count }
-        requires closed { AllThere (after_change (draft_table (M.view self.old.base.now).objects self.old.made self.old.made_count self.old.changes self.old.count) change) }
-        ensures table { draft_table (M.view self.new.base.now).objects self.new.made self.new.made_count self.new.changes self.new.count ≡ after_change (draft_table (M.view self.old.base.now).objects self.old.made self.old.made_count self.old.changes self.old.count) change }
+        requires room { count_of self.old.notes self.old.exchanges < 24 }
+        requires named { highest change < 65536 + 2 * self.old.notes.made_count }
+        requires closed { AllThere (after_change (noted (M.view self.old.base.now).objects self.old.notes) change) }
+        ensures table { noted (M.view self.new.base.now).objects self.new.notes
+            ≡ after_change (noted (M.view self.old.base.now).objects self.old.notes) change }
+        ensures exchanges { self.new.exchanges ≡ self.old.exchanges }
         ensures head { (M.view self.new.base.now).head ≡ (M.view self.old.base.now).head }
         ensures fixed { M.view self.new.base.now ≡ M.view self.old.base.now }
-        ensures room { self.new.made_count + self.new.count ≡ self.old.made_count + self.old.count + 1 }
+        ensures room { count_of self.new.notes self.new.exchanges ≡ count_of self.old.notes self.old.exchanges + 1 }
     {
-        self.changes[self.count as usize] = change;
-        self.count += 1;
+        self.notes.note(change);
     }
 
     /// Half of the free pointer that has a number, counted from 0; all from 65536 on are free.
@@ -218,8 +228,10 @@ impl<'a, M: Memory> Draft<'a, M> {
 
     /// Whether an object of kind Pointers has n fields, from one on; else the cause of which a step dies.
     fn check_fields(&self, o: Word, from: u32, n: u32) -> Result<(), Dead>
-        ensures has { IfOk result (λ u. Has (draft_table (M.view self.now.base.now).objects self.now.made self.now.made_count self.now.changes self.now.count) (word o) from n) }
-        ensures lacks { IfErr result (Lacks (draft_table (M.view self.now.base.now).objects self.now.made self.now.made_count self.now.changes self.now.count) (word o) from n) }
+        ensures has { let now = drafted (M.view self.now.base.now).objects self.now.notes self.now.exchanges in
+            IfOk result (λ u. Has now (word o) from n) }
+        ensures lacks { let now = drafted (M.view self.now.base.now).objects self.now.notes self.now.exchanges in
+            IfErr result (Lacks now (word o) from n) }
     {
         let fields = self.count_fields(o)?;
         if fields < from {
@@ -237,37 +249,37 @@ impl<'a, M: Memory> Objects for Draft<'a, M> {
 
     ghost names = { apart };
 
-    ghost table = { λ d. draft_table (M.view d.base.now).objects d.made d.made_count d.changes d.count };
+    ghost table = { λ d. drafted (M.view d.base.now).objects d.notes d.exchanges };
 
     ghost head = { λ d. (M.view d.base.now).head };
 
     ghost fixed = { λ d. M.view d.base.now };
 
-    ghost room = { λ d. 24 - (d.made_count + d.count) };
+    ghost room = { λ d. 24 - count_of d.notes d.exchanges };
 
     fn is_there(&self, v: Word) -> bool {
         self.find_made(v).is_some() || self.base.is_there(v)
     }
 
     fn fetch_field(&self, o: Word, i: u32) -> Result<Word, Dead> {
-        if i < self.count_fields(o)? {
-            Ok(self.value(o, i))
+        let before = self.exchanges.word_before(o);
+        if i < self.count_noted(before)? {
+            Ok(self.value(before, i))
         } else {
             Err(Dead::Field)
         }
     }
 
     fn count_fields(&self, o: Word) -> Result<u32, Dead> {
-        match self.find_made(o) {
-            Some(made) => Ok(made.size),
-            None => self.base.count_fields(o),
-        }
+        let before = self.exchanges.word_before(o);
+        self.count_noted(before)
     }
 
     fn fetch_class(&self, o: Word) -> Result<Word, Dead> {
-        match self.find_made(o) {
+        let before = self.exchanges.word_before(o);
+        match self.find_made(before) {
             Some(made) => Ok(Word(made.class.0 / 2 * 2)),
-            None => self.base.fetch_class(o),
+            None => self.base.fetch_class(before),
         }
     }
 
@@ -279,30 +291,34 @@ impl<'a, M: Memory> Objects for Draft<'a, M> {
     }
 
     fn method_header(&self, method: Word) -> Result<Word, Dead> {
-        match self.find_made(method) {
+        let before = self.exchanges.word_before(method);
+        match self.find_made(before) {
             Some(_) => Err(Dead::Kind),
-            None => self.base.method_header(method),
+            None => self.base.method_header(before),
         }
     }
 
     fn literal(&self, method: Word, i: u32) -> Result<Word, Dead> {
-        match self.find_made(method) {
+        let before = self.exchanges.word_before(method);
+        match self.find_made(before) {
             Some(_) => Err(Dead::Kind),
-            None => self.base.literal(method, i),
+            None => self.base.literal(before, i),
         }
     }
 
     fn literal_from_last(&self, method: Word, k: u32) -> Result<Word, Dead> {
-        match self.find_made(method) {
+        let before = self.exchanges.word_before(method);
+        match self.find_made(before) {
             Some(_) => Err(Dead::Kind),
-            None => self.base.literal_from_last(method, k),
+            None => self.base.literal_from_last(before, k),
         }
     }
 
     fn byte_at(&self, method: Word, ip: i32) -> Result<u8, Dead> {
-        match self.find_made(method) {
+        let before = self.exchanges.word_before(method);
+        match self.find_made(before) {
             Some(_) => Err(Dead::Kind),
-            None => self.base.byte_at(method, ip),
+            None => self.base.byte_at(before, ip),
         }
     }
 
@@ -311,8 +327,9 @@ impl<'a, M: Memory> Objects for Draft<'a, M> {
         if !self.is_there(x) {
             return Err(Dead::Kind);
         }
+        let before = self.exchanges.word_before(o);
         self.note(Change::Field {
-            object: o,
+            object: before,
             at: i,
             value: x,
         });
@@ -332,12 +349,34 @@ impl<'a, M: Memory> Objects for Draft<'a, M> {
         }
         self.check_fields(source, from, n)?;
         self.check_fields(target, to, n)?;
+        let first = self.exchanges.word_before(source);
+        let second = self.exchanges.word_before(target);
         self.note(Change::Fields {
             n,
-            source,
+            source: first,
             from,
-            target,
+            target: second,
             to,
+        });
+        Ok(())
+    }
+
+    fn exchange(&mut self, a: Word, b: Word) -> Result<(), Dead> {
+        if a.is_small() {
+            return Err(Dead::Small);
+        }
+        if b.is_small() {
+            return Err(Dead::Small);
+        }
+        if !self.is_there(a) {
+            return Err(Dead::Kind);
+        }
+        if !self.is_there(b) {
+            return Err(Dead::Kind);
+        }
+        self.exchanges.add(Exchange {
+            first: a,
+            second: b,
         });
         Ok(())
     }
@@ -349,10 +388,7 @@ impl<'a, M: Memory> Objects for Draft<'a, M> {
         if !self.is_there(class) {
             return Err(Dead::Kind);
         }
-        let o = Word(65536 + 2 * self.made_count);
-        self.made[self.made_count as usize] = Made { class, size: n };
-        self.made_count += 1;
-        self.words += n + 2;
+        let o = self.notes.add(Made { class, size: n });
         Ok(o)
     }
 

@@ -1,14 +1,18 @@
 //! What an object memory promises, however it keeps its objects, and what the rows of bytecodes do with one.
 #![tactic(auto)]
 
+mod body;
 mod change;
 mod draft;
+mod exchanges;
 mod live;
 mod loader;
 mod memory;
+mod notes;
 mod objects;
 mod transfer;
 
+pub use body::{count_fields, count_units, unit_at};
 pub use draft::Draft;
 pub use live::live_value;
 pub use loader::Loader;

@@ -230,6 +230,19 @@ impl<M: Memory> Objects for M {
         Ok(())
     }
 
+    fn exchange(&mut self, a: Word, b: Word) -> Result<(), Dead> {
+        if a.is_small() {
+            return Err(Dead::Small);
+        }
+        if b.is_small() {
+            return Err(Dead::Small);
+        }
+        let first = live_object(self, a)?;
+        let second = live_object(self, b)?;
+        self.swap(first, second);
+        Ok(())
+    }
+
     fn new_object(&mut self, class: Word, n: u32) -> Result<Word, Dead> {
         let class = live_object(self, class)?;
         let needed = Demand {

@@ -4,7 +4,7 @@ ghost use Rattle.st_model.specs.Values.{value, Ref};
 ghost use Rattle.st_model.specs.Objects.{is_method, is_words, size_of, words_of, first_unit, one};
 ghost use Rattle.st_model.specs.Table.{total_used, first_free, placed};
 ghost use Rattle.st_model.specs.Formed.{IsHeader, IsMakeable, fresh};
-ghost use Rattle.st_model.specs.View.{View, IsKnown, is_live, object_of, IsWhole, IsPlace, held_at, with_held, with_stored, table_of, SettlesTo, demand_of, fits};
+ghost use Rattle.st_model.specs.View.{View, IsKnown, is_live, object_of, IsWhole, IsPlace, held_at, with_held, with_stored, with_unit, with_exchanged, is_instance, table_of, SettlesTo, demand_of, fits};
 
 use st_model::{Demand, Kind, Oop, RootPlace};
 
@@ -68,6 +68,26 @@ pub trait Memory: Drop {
         ensures held { (view self.new).held ≡ (view self.old).held }
         ensures head { (view self.new).head ≡ (view self.old).head };
 
+    /// Stores v in word `at` of an object of kind Words.
+    fn set_word(&mut self, o: Oop, at: u32, v: u16)
+        requires live { is_live (view self.old).objects (value o) ≡ true }
+        requires kind { is_words (object_of (view self.old).objects (value o)).kind ≡ true }
+        requires range { at < size_of (object_of (view self.old).objects (value o)) }
+        ensures objects { (view self.new).objects ≡ with_unit (view self.old).objects (value o) at v }
+        ensures held { (view self.new).held ≡ (view self.old).held }
+        ensures head { (view self.new).head ≡ (view self.old).head };
+
+    /// Stores v in byte `at` of an object of kind Bytes or Method; of a Method from the first bytecode on.
+    fn set_byte(&mut self, o: Oop, at: u32, v: u8)
+        requires live { is_live (view self.old).objects (value o) ≡ true }
+        requires kind { is_words (object_of (view self.old).objects (value o)).kind ≡ false }
+        requires above { first_unit (object_of (view self.old).objects (value o)) ≤ at }
+        requires range { at < size_of (object_of (view self.old).objects (value o)) }
+        ensures objects { let first = first_unit (object_of (view self.old).objects (value o)) in
+            (view self.new).objects ≡ with_unit (view self.old).objects (value o) (at - first) v }
+        ensures held { (view self.new).held ≡ (view self.old).held }
+        ensures head { (view self.new).head ≡ (view self.old).head };
+
     /// Whether d fits within the capacities beside the objects that are kept, wherever free words lie.
     fn room(&self, d: Demand) -> bool
         ensures { result ≡ fits (view self.now) d };
@@ -79,6 +99,15 @@ pub trait Memory: Drop {
         requires room { fits (view self.old) (demand_of (fresh (class.0 / 2) kind size literals)) ≡ true }
         ensures pointer { value result ≡ Ref (first_free (view self.old).objects) }
         ensures objects { (view self.new).objects ≡ placed (view self.old).objects (fresh (class.0 / 2) kind size literals) }
+        ensures held { (view self.new).held ≡ (view self.old).held }
+        ensures head { (view self.new).head ≡ (view self.old).head };
+
+    /// Exchanges what two pointers name: class, kind and body of each are then those of the other. What referred to
+    /// one object refers to the other.
+    fn swap(&mut self, a: Oop, b: Oop)
+        requires first { is_live (view self.old).objects (value a) ≡ true }
+        requires second { is_live (view self.old).objects (value b) ≡ true }
+        ensures objects { (view self.new).objects ≡ with_exchanged (view self.old).objects (value a) (value b) }
         ensures held { (view self.new).held ≡ (view self.old).held }
         ensures head { (view self.new).head ≡ (view self.old).head };
 
@@ -107,6 +136,15 @@ pub trait Memory: Drop {
     /// How many objects there can be, and how many words they can have.
     fn capacity(&self) -> Demand
         ensures { result ≡ record { entries = (view self.now).head.entries; words = (view self.now).head.words } };
+
+    /// The least kept pointer above `after` of an object of this class.
+    fn next_of(&self, class: Oop, after: u32) -> Option<Oop>
+        ensures found { IfSome result (λ o. is_instance (view self.now).objects (value class) (value o) ≡ true) }
+        ensures above { IfSome result (λ o. after < o.0) }
+        ensures least { IfSome result (λ o. (p : Oop) → after < p.0 → p.0 < o.0
+            → is_instance (view self.now).objects (value class) (value p) ≡ false) }
+        ensures none { IfNone result ((p : Oop) → after < p.0
+            → is_instance (view self.now).objects (value class) (value p) ≡ false) };
 
     /// The least kept pointer above `after`.
     fn next_live(&self, after: u32) -> Option<Oop>

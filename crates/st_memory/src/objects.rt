@@ -4,7 +4,7 @@ ghost use Rattle.st_model.specs.Objects.{place_of};
 ghost use Rattle.st_model.specs.declared.page.PageObject.TheVariants.{MethodClass};
 ghost use Rattle.st_model.specs.Machine.{ObjectMemory, Head, is_there};
 ghost use Rattle.st_model.specs.Table.{Table, IsTabular};
-ghost use Rattle.st_model.specs.Steps.{fetch_field, count_fields, class_of, literal, byte_at, store_field, transfer, new_object};
+ghost use Rattle.st_model.specs.Steps.{fetch_field, count_fields, class_of, literal, byte_at, store_field, transfer, exchange, new_object};
 ghost use Rattle.st_model.specs.Methods.{method_header, literal_from_last};
 ghost use Rattle.st_model.specs.Lookup.{half_word};
 ghost use Rattle.st_model.specs.Calls.{Reads, Changes, itself};
@@ -87,6 +87,14 @@ pub trait Objects {
     ) -> Result<(), Dead>
         requires { 1 ≤ room self.old }
         ensures transfers { Changes (transfer names n (word source) from (word target) to) itself (table self.old) (head self.old) result (table self.new) }
+        ensures head { head self.new ≡ head self.old }
+        ensures room { room self.old ≤ room self.new + 1 }
+        ensures fixed { fixed self.new ≡ fixed self.old };
+
+    /// Exchanges what two words name: class, kind and body of each are then those of the other.
+    fn exchange(&mut self, a: Word, b: Word) -> Result<(), Dead>
+        requires { 1 ≤ room self.old }
+        ensures exchanges { Changes (exchange names (word a) (word b)) itself (table self.old) (head self.old) result (table self.new) }
         ensures head { head self.new ≡ head self.old }
         ensures room { room self.old ≤ room self.new + 1 }
         ensures fixed { fixed self.new ≡ fixed self.old };

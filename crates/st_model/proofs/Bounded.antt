@@ -2,17 +2,19 @@
 use Rattle.std.proofs.Common.{◌≡◌, ℕ, ◌+◌, ◌<◌, ◌≤◌, List, [], ◌∷◌, zero, suc, Option, Some, None, Bool, true, false, refl, sym, ◌∙◌, ap, arith, inl, inr, ◌⊎◌}
 use Rattle.std.specs.Prelude.{if◌then◌else◌, nat_lt, nat_le, ◌&&◌}
 use Rattle.std.proofs.lemmas.Bool.Decides.{nat_tests}
-use Rattle.st_model.specs.Values.{Value, Small, Ref, renamed, renamed_all, IsLive, AllLive}
-use Rattle.st_model.specs.Objects.{Object, renamed_object, IsLiveObject, one, words_of, with_field}
-use Rattle.st_model.specs.Steps.{new_of}
-use Rattle.st_model.specs.Outcomes.{Outcome, renamed_outcome}
+use Rattle.st_model.specs.Values.{Value, Small, Ref, renamed, renamed_all}
+use Rattle.st_model.specs.Objects.{Object, renamed_object, one, words_of}
+use Rattle.std.specs.Option.{option_map}
+use Rattle.st_model.specs.Outcomes.{Outcome, StepEnd, Did, NotBuilt, renamed_outcome}
 use Rattle.st_model.specs.Outcomes as outcome
 use Rattle.st_model.specs.Machine.{Registers, World, Head, State, Transition, Died, Went, used, is_over, has_room, roots_of}
-use Rattle.st_model.specs.Table.{Table, table, bounded_table, entry, changed, placed, filled_first, total_used}
+use Rattle.st_model.specs.Table.{Table, table, bounded_table, entry, changed, exchanged, placed, filled_first, total_used}
 use Rattle.st_model.specs.Show.{renamed_registers, renamed_world, renamed_option, renamed_head}
 use Rattle.st_model.specs.Bytecodes.{step}
 use Rattle.st_model.proofs.Same.{OptionSame, Simulation, StateSame, TransitionSame, IsLiveEnd, renamed_end}
 use Rattle.st_model.proofs.BytecodesSame.{step-same}
+use Rattle.st_model.proofs.Names.{AnyName, any_values, any_object}
+use Rattle.st_model.proofs.Exchanging.{total_used-exchanged}
 
 -- sums over a table that changed
 
@@ -38,9 +40,6 @@ module _ (weight : Object → ℕ) where
 
 abbrev pub same_name : ℕ → ℕ
 same_name n = n
-
-abbrev pub AnyName : ℕ → Type 0
-AnyName n = Unit {0}
 
 pub value-itself : (v : Value) → renamed same_name v ≡ v
 value-itself (Small n) = refl
@@ -76,6 +75,10 @@ world-itself w = λ i. record w {
   };
 }
 
+pub number-itself : (x : Option ℕ) → x ≡ option_map same_name x
+number-itself None = refl
+number-itself (Some n) = refl
+
 outcome-itself : (o : Outcome) → renamed_outcome same_name o ≡ o
 outcome-itself outcome.Went = refl
 outcome-itself outcome.Snapshot = refl
@@ -83,20 +86,9 @@ outcome-itself outcome.Quit = refl
 outcome-itself outcome.Debugger = refl
 outcome-itself (outcome.Say v) = ap (λ x. outcome.Say x) (value-itself v)
 
-pub end-itself : (o : Option Outcome) → renamed_end same_name o ≡ o
-end-itself None = refl
-end-itself (Some o) = ap (λ x. Some x) (outcome-itself o)
-
-pub any_value : (v : Value) → IsLive AnyName v
-any_value (Small n) = tt
-any_value (Ref n) = tt
-
-pub any_values : (vs : List Value) → AllLive AnyName vs
-any_values [] = tt
-any_values (v ∷ vs) = (any_value v, any_values vs)
-
-pub any_object : (o : Object) → IsLiveObject AnyName o
-any_object o = record { class = tt; fields = any_values o.fields }
+end-itself : (o : StepEnd) → renamed_end same_name o ≡ o
+end-itself (Did o) = ap (λ x. Did x) (outcome-itself o)
+end-itself NotBuilt = refl
 
 pub read_same : (a : Option Object) → OptionSame AnyName same_name a a
 read_same None = refl
@@ -160,31 +152,40 @@ module _ (a : Head) where
       by_room true h = inl h
       by_room false h = inr (refl, refused_beyond t u b c o e f g h)
 
+  pub exchanged_beyond : (t : Table) (n m : ℕ) (o p : Object) → IsBeyond t → entry t n ≡ Some o → entry t m ≡ Some p → IsBeyond (exchanged t n m)
+  exchanged_beyond t n m o p h e f = rw (total_used-exchanged t n m o p e f one, total_used-exchanged t n m o p e f words_of) h
+
   abbrev pub bounded_simulation : Simulation table bounded_table
   bounded_simulation = record {
     live = AnyName;
     name = same_name;
     heaps = λ t u. u ≡ t;
+    there = λ t n. Unit {0};
     limits = λ b. b ≡ a;
+    makes = Unit {0};
     over = IsBeyond;
     lax = Unit {0};
     injective = λ m n k l e. e;
     read = λ t u n e l. rw e (read_same (entry t n));
-    replace = λ t u n i x o e l lo f k. rw (e, object-itself (with_field o i x)) refl;
-    append = λ t u class kind size literals e lo f. rw (e, object-itself (new_of table t class kind size literals)) refl;
+    read_there = λ t u n o e f. (tt, any_object o);
+    replace = λ t u n o p e l f lp k. rw (e, object-itself p) refl;
+    exchange = λ t u n m o p e l k f g. rw e refl;
+    append = λ t u b o e l g lo k. rw (e, object-itself o) refl;
     next_live = λ t u e. tt;
     next = λ t u e. rw e refl;
-    named_live = λ t u q e. tt;
+    named_live = λ t u q e. (tt, tt);
     named = λ t u q e. refl;
     pointer = λ t u n o e l f. refl;
-    rooms = λ t u b c o e f g. refused_or_not t u b c o (sym e) f g;
-    keeps = λ h vs. Unit {0};
-    keeps_replace = λ h n i x o vs e k. tt;
-    keeps_append = λ h o vs k. tt;
-    keeps_set = λ h r q vs k e. tt;
+    borne_live = λ t u p n e f. tt;
+    borne_by = λ t u p e. rw e (number-itself (table.borne_by t p));
+    rooms = λ t u b c o m e f g. refused_or_not t u b c o (sym e) f g;
+    there_replace = λ t n m o p e k. k;
+    there_exchange = λ t n m k o p e f h. h;
+    there_append = λ t m o k. k;
     over_lax = λ t o. tt;
     over_live = λ t n o. tt;
     over_replace = λ t n o p v e f. changed_beyond t n o p v e f;
+    over_exchange = λ t n m o p v e f. exchanged_beyond t n m o p v e f;
     over_append = λ t o v. stays_beyond t o v;
   }
 
@@ -192,7 +193,7 @@ states_start : (c : State Table) → StateSame (bounded_simulation c.head) c c
 states_start c = record {
   memory = refl;
   limits = refl;
-  keeps = tt;
+  there = any_values (roots_of c);
   roots = any_values (roots_of c);
   registers = sym (registers-itself c.registers);
   world = sym (world-itself c.world);
@@ -206,14 +207,14 @@ state_is a d e s =
     let h = s.head ∙ head-itself d.head in
     λ i. record { memory = s.memory i; registers = r i; world = w i; head = h i }
 
-same_within : (a : Head) (o : Option Outcome) (d : State Table) (q : Transition (State Table) (Option Outcome))
+same_within : (a : Head) (o : StepEnd) (d : State Table) (q : Transition (State Table) StepEnd)
     → TransitionSame (bounded_simulation a) (IsLiveEnd AnyName) (renamed_end same_name) (Went o d) q → is_over (used table d.memory) a ≡ false → q ≡ Went o d
 same_within a o d (Died cause) h f = let g = h.1 in cc
 same_within a o d (Went p e) (inl h) f = let g = h.1 in cc
 same_within a o d (Went p e) (inr h) f = let x = h.1 ∙ end-itself o in let y = state_is a d e h.2 in cc
 
 -- a step that stays within the capacities is done the same where the table is bounded
-pub bounded_same : (c d : State Table) (o : Option Outcome) → (step table).run c ≡ Went o d → is_over (used table d.memory) c.head ≡ false → (step bounded_table).run c ≡ Went o d
+pub bounded_same : (c d : State Table) (o : StepEnd) → (step table).run c ≡ Went o d → is_over (used table d.memory) c.head ≡ false → (step bounded_table).run c ≡ Went o d
 bounded_same c d o e f =
-    let s = (step-same (bounded_simulation c.head)).go c c (states_start c) in
+    let s = (step-same (bounded_simulation c.head) tt).go c c (states_start c) in
     same_within c.head o d ((step bounded_table).run c) (rw e at s) f

@@ -1,23 +1,23 @@
 -- A step leaves a table in which nothing dangles closed: what it keeps, it has found there.
-use Rattle.std.proofs.Common.{◌≡◌, ◌≢◌, ℕ, List, zero, suc, Option, Some, None, Bool, true, false, refl, sym, ◌∙◌, subst, inl, inr, is_some}
-use Rattle.std.specs.Prelude.{◌&&◌, replicate}
-use Rattle.st_model.specs.declared.kind.Kind.{Kind}
-use Rattle.st_model.specs.declared.kind.Kind.TheVariants as kind
-use Rattle.st_model.specs.Values.{Value, Small, Ref, IsLive, AllLive}
-use Rattle.st_model.specs.Objects.{Object, PageObject, NilObject, place_of, renamed_object, IsLiveObject, with_field}
-use Rattle.st_model.specs.Formed.{fresh_with}
-use Rattle.st_model.specs.Outcomes.{Outcome}
-use Rattle.st_model.specs.Machine.{Registers, Head, State, Transition, Died, Went, Step, is_there, has_room, roots_of}
-use Rattle.st_model.specs.Table.{Table, table, bounded_table, entry, changed, placed, first_free}
-use Rattle.st_model.specs.Steps.{new_of, are_there}
+use Rattle.std.proofs.Common.{◌≡◌, ◌≢◌, ℕ, ◌+◌, ◌<◌, ◌≤◌, [], ◌∷◌, suc, length, Option, Some, None, Bool, true, false, refl, sym, ◌∙◌, ap, subst, arith, inl, inr, ◌⊎◌}
+use Rattle.std.specs.Prelude.{◌&&◌, nat_le}
+use Rattle.std.proofs.lemmas.Bool.Decides.{nat_tests}
+use Rattle.st_model.specs.Objects.{Object, PageObject, place_of, one, renamed_object, IsLiveObject}
+use Rattle.st_model.specs.Outcomes.{StepEnd}
+use Rattle.st_model.specs.Machine.{ObjectMemory, Head, State, Transition, Died, Went, Step, has_room, roots_of}
+use Rattle.st_model.specs.Table.{Table, table, bounded_table, entry, changed, exchanged, placed, first_none, filled_first, first_free, total_used}
 use Rattle.st_model.specs.Bytecodes.{step}
 use Rattle.st_model.specs.Show.{IsUsed, IsClosed, renamed_head}
-use Rattle.st_model.proofs.Same.{Simulation, StateSame, TransitionSame, Same, stored_is_live, register_roots}
+use Rattle.st_model.specs.Foreseen.{IsSound}
+use Rattle.st_model.proofs.Same.{Simulation, StateSame, TransitionSame, Same}
 use Rattle.st_model.proofs.BytecodesSame.{step-same}
-use Rattle.st_model.proofs.TableLemmas.{changed-some, changed-other, placed-first, placed-other, first_free-none}
+use Rattle.st_model.proofs.ContextsSame.{fetch_scheduled_registers-same}
+use Rattle.st_model.specs.Contexts.{fetch_scheduled_registers}
+use Rattle.st_model.proofs.TableLemmas.{changed-some, changed-other, placed-first, placed-other, first_free-none, length-changed}
 use Rattle.st_model.proofs.HeapsSame.{number_cases}
-use Rattle.st_model.proofs.Names.{map_all, map_object}
-use Rattle.st_model.proofs.Bounded.{AnyName, same_name, read_same, object-itself, registers-itself, world-itself, head-itself, any_values}
+use Rattle.st_model.proofs.Names.{AnyName, any_values, map_object}
+use Rattle.st_model.proofs.Exchanging.{exchanged_is, exchanged_all, used_exchanged}
+use Rattle.st_model.proofs.Bounded.{same_name, read_same, object-itself, registers-itself, world-itself, head-itself, number-itself}
 
 -- what is there stays there
 
@@ -36,44 +36,33 @@ not_free t k u e =
 pub used_placed : (t : Table) (k : ℕ) (p : Object) → IsUsed t k → IsUsed (placed t p) k
 used_placed t k p u = (u.0, placed-other t k p (not_free t k u) ∙ u.1)
 
-some_there : (x : Option Object) → is_some x ≡ true → (o : Object) × x ≡ Some o
-some_there None e = cc
-some_there (Some o) e = (o, refl)
-
-pub value_there : (t : Table) (v : Value) → is_there table t v ≡ true → IsLive (IsUsed t) v
-value_there t (Small n) e = tt
-value_there t (Ref n) e = some_there (entry t n) e
-
 -- objects that refer to what is there, with the page
 
 pub record IsClosedTable (t : Table) : Type 0 where
   pub objects : (k : ℕ) (o : Object) → entry t k ≡ Some o → IsLiveObject (IsUsed t) o
   pub page : (q : PageObject) → IsUsed t (place_of q)
 
-pub changed_closed : (t : Table) (n i : ℕ) (x : Value) (o : Object) → IsClosedTable t → entry t n ≡ Some o → is_there table t x ≡ true → IsClosedTable (changed t n (with_field o i x))
-changed_closed t n i x o c e h =
-    let p = with_field o i x in
+pub changed_closed : (t : Table) (n : ℕ) (o p : Object) → IsClosedTable t → entry t n ≡ Some o → IsLiveObject (IsUsed t) p → IsClosedTable (changed t n p)
+changed_closed t n o p c e h =
     let up : (k : ℕ) → IsUsed t k → IsUsed (changed t n p) k = λ k u. used_changed t n k p u in
     record {
       objects = λ k a f. elim (number_cases k n) [
         | inl q ↦
             let g : Some p ≡ Some a = sym (changed-some t n p o e) ∙ subst (λ y. entry (changed t n p) y ≡ Some a) q f in
             let r : p ≡ a = cc in
-            subst (λ y. IsLiveObject (IsUsed (changed t n p)) y) r (map_object (IsUsed t) (IsUsed (changed t n p)) up p (stored_is_live (IsUsed t) o i x (c.objects n o e) (value_there t x h)))
+            subst (λ y. IsLiveObject (IsUsed (changed t n p)) y) r (map_object (IsUsed t) (IsUsed (changed t n p)) up p h)
         | inr d ↦ map_object (IsUsed t) (IsUsed (changed t n p)) up a (c.objects k a (sym (changed-other t n k p d) ∙ f))
       ];
       page = λ q. up (place_of q) (c.page q);
     }
 
-nils_used : (t : Table) (v : Value) (n : ℕ) → IsLive (IsUsed t) v → AllLive (IsUsed t) (replicate n v)
-nils_used t v zero h = tt
-nils_used t v (suc n) h = (h, nils_used t v n h)
-
-pub fresh_used : (t : Table) (v : Value) (class : ℕ) (k : Kind) (size literals : ℕ) → IsLive (IsUsed t) v → IsUsed t class → IsLiveObject (IsUsed t) (fresh_with v class k size literals)
-fresh_used t v class kind.Pointers size literals h l = record { class = l; fields = nils_used t v size h }
-fresh_used t v class kind.Words size literals h l = record { class = l; fields = tt }
-fresh_used t v class kind.Bytes size literals h l = record { class = l; fields = tt }
-fresh_used t v class kind.Method size literals h l = record { class = l; fields = (tt, nils_used t v literals h) }
+pub exchanged_closed : (t : Table) (a b : ℕ) (o p : Object) → IsClosedTable t → entry t a ≡ Some o → entry t b ≡ Some p → IsClosedTable (exchanged t a b)
+exchanged_closed t a b o p c e f =
+    let up = used_exchanged t a b o p e f in
+    record {
+      objects = exchanged_all t a b o p e f (IsLiveObject (IsUsed (exchanged t a b))) (λ k x g. map_object (IsUsed t) (IsUsed (exchanged t a b)) up x (c.objects k x g));
+      page = λ q. up (place_of q) (c.page q);
+    }
 
 pub placed_closed : (t : Table) (p : Object) → IsClosedTable t → IsLiveObject (IsUsed t) p → IsClosedTable (placed t p)
 placed_closed t p c l =
@@ -89,74 +78,132 @@ placed_closed t p c l =
       page = λ q. up (place_of q) (c.page q);
     }
 
-both : (a b : Bool) → (a && b) ≡ true → (a ≡ true) × (b ≡ true)
-both true b e = (refl, e)
-both false b e = cc
+abbrev pub table_or_bounded : Bool → ObjectMemory Table
+table_or_bounded b = record table { bounded = b }
 
-pub registers_used : (t : Table) (r q : Registers) (vs : List Value) → AllLive (IsUsed t) (register_roots r vs) → are_there table t q ≡ true → AllLive (IsUsed t) (register_roots q vs)
-registers_used t r q vs k e =
-    let a = both (is_there table t q.active) (is_there table t q.home && (is_there table t q.method && is_there table t q.receiver)) e in
-    let b = both (is_there table t q.home) (is_there table t q.method && is_there table t q.receiver) a.1 in
-    let c = both (is_there table t q.method) (is_there table t q.receiver) b.1 in
-    (value_there t q.active a.0, (value_there t q.home b.0, (value_there t q.method c.0, (value_there t q.receiver c.1, k.1.1.1.1))))
+pub same_room : (bound : Bool) (t u : Table) (a b : Head) (o : Object) → u ≡ t → b ≡ renamed_head same_name a
+    → has_room (table_or_bounded bound) b u (renamed_object same_name o) ≡ has_room (table_or_bounded bound) a t o
+same_room bound t u a b o e f = let g = f ∙ head-itself a in λ i. has_room (table_or_bounded bound) (g i) (e i) (object-itself o i)
 
-pub same_room : (t u : Table) (a b : Head) (o : Object) → u ≡ t → b ≡ renamed_head same_name a → has_room bounded_table b u (renamed_object same_name o) ≡ has_room bounded_table a t o
-same_room t u a b o e f = let g = f ∙ head-itself a in λ i. has_room bounded_table (g i) (e i) (object-itself o i)
+-- The table beside itself, bounded or not. Besides that it is closed, it keeps what a change of an object and a new one
+-- with room for it keep.
+module _ (bound : Bool) (a : Head) (P : Table → Type 0) (on_changed : (t : Table) (n : ℕ) (o : Object) → P t → P (changed t n o))
+    (on_placed : (t : Table) (o : Object) → P t → has_room (table_or_bounded bound) a t o ≡ true → P (placed t o)) where
+  pub on_exchanged : (t : Table) (n m : ℕ) (o p : Object) → P t → entry t n ≡ Some o → entry t m ≡ Some p → P (exchanged t n m)
+  on_exchanged t n m o p h e f = subst P (sym (exchanged_is t n m o p e f)) (on_changed (changed t n p) m o (on_changed t n p h))
 
--- the bounded table beside itself
-abbrev pub closed_simulation : Simulation bounded_table bounded_table
-closed_simulation = record {
-  live = AnyName;
-  name = same_name;
-  heaps = λ t u. (u ≡ t) × IsClosedTable t;
-  limits = λ a. Unit {0};
-  over = λ t. ⊥;
-  lax = ⊥;
-  injective = λ m n k l e. e;
-  read = λ t u n e l. rw e.0 (read_same (entry t n));
-  replace = λ t u n i x o e l lo f k. (rw (e.0, object-itself (with_field o i x)) refl, changed_closed t n i x o e.1 f k);
-  append = λ t u class k size literals e lo f. (
-    rw (e.0, object-itself (new_of table t class k size literals)) refl,
-    placed_closed t (new_of table t class k size literals) e.1 (fresh_used t (Ref (place_of NilObject)) class k size literals (e.1.page NilObject) (value_there t (Ref class) f)),
-  );
-  next_live = λ t u e. tt;
-  next = λ t u e. rw e.0 refl;
-  named_live = λ t u q e. tt;
-  named = λ t u q e. refl;
-  pointer = λ t u n o e l f. refl;
-  rooms = λ t u a b o e l f. inl (same_room t u a b o e.0 f);
-  keeps = λ t vs. AllLive (IsUsed t) vs;
-  keeps_replace = λ t n i x o vs e k. map_all (IsUsed t) (IsUsed (changed t n (with_field o i x))) (λ j u. used_changed t n j (with_field o i x) u) vs k;
-  keeps_append = λ t o vs k. map_all (IsUsed t) (IsUsed (placed t o)) (λ j u. used_placed t j o u) vs k;
-  keeps_set = λ t r q vs k e. registers_used t r q vs k e;
-  over_lax = λ t o. o;
-  over_live = λ t n o. absurd o;
-  over_replace = λ t n o p v e f. v;
-  over_append = λ t o v. v;
-}
+  abbrev pub closed_simulation : Simulation (table_or_bounded bound) (table_or_bounded bound)
+  closed_simulation = record {
+    live = AnyName;
+    name = same_name;
+    heaps = λ t u. (u ≡ t) × IsClosedTable t × P t;
+    there = IsUsed;
+    limits = λ b. b ≡ a;
+    makes = Unit {0};
+    over = λ t. ⊥;
+    lax = ⊥;
+    injective = λ m n k l e. e;
+    read = λ t u n e l. rw e.0 (read_same (entry t n));
+    read_there = λ t u n o e f. ((o, f), e.1.objects n o f);
+    replace = λ t u n o p e l f lp k. (rw (e.0, object-itself p) refl, changed_closed t n o p e.1 f k, on_changed t n p e.2);
+    exchange = λ t u n m o p e l k f g. (rw e.0 refl, exchanged_closed t n m o p e.1 f g, on_exchanged t n m o p e.2 f g);
+    append = λ t u b o e l g lo k. (rw (e.0, object-itself o) refl, placed_closed t o e.1 k, on_placed t o e.2 (rw l at g));
+    next_live = λ t u e. tt;
+    next = λ t u e. rw e.0 refl;
+    named_live = λ t u q e. (tt, e.1.page q);
+    named = λ t u q e. refl;
+    pointer = λ t u n o e l f. refl;
+    borne_live = λ t u p n e f. tt;
+    borne_by = λ t u p e. rw e.0 (number-itself (table.borne_by t p));
+    rooms = λ t u b c o m e l f. inl (same_room bound t u b c o e.0 f);
+    there_replace = λ t n m o p e k. used_changed t n m p k;
+    there_exchange = λ t n m i o p e f k. used_exchanged t n m o p e f i k;
+    there_append = λ t m o k. used_placed t m o k;
+    over_lax = λ t o. o;
+    over_live = λ t n o. absurd o;
+    over_replace = λ t n o p v e f. v;
+    over_exchange = λ t n m o p v e f. v;
+    over_append = λ t o v. v;
+  }
 
-states_closed : (c : State Table) → IsClosed c → StateSame closed_simulation c c
-states_closed c k = record {
-  memory = (refl, record { objects = k.objects; page = k.page });
-  limits = tt;
-  keeps = k.roots;
-  roots = any_values (roots_of c);
-  registers = sym (registers-itself c.registers);
-  world = sym (world-itself c.world);
-  head = sym (head-itself c.head);
-}
+  states_closed : (c : State Table) → IsClosed c → P c.memory → c.head ≡ a → StateSame closed_simulation c c
+  states_closed c k p e = record {
+    memory = (refl, record { objects = k.objects; page = k.page }, p);
+    limits = e;
+    there = k.roots;
+    roots = any_values (roots_of c);
+    registers = sym (registers-itself c.registers);
+    world = sym (world-itself c.world);
+    head = sym (head-itself c.head);
+  }
 
-closed_after : {A B : Type 0} (P : A → Type 0) (r : A → B) (a : A) (d : State Table) (q : Transition (State Table) B) → TransitionSame closed_simulation P r (Went a d) q → IsClosed d
-closed_after P r a d (Died k) h = absurd h.1
-closed_after P r a d (Went b e) (inl h) = absurd h.1
-closed_after P r a d (Went b e) (inr h) = let m = h.2.memory.1 in record { objects = m.objects; page = m.page; roots = h.2.keeps }
+  abbrev pub StaysClosed : State Table → Type 0
+  StaysClosed d = IsClosed d × P d.memory × (d.head ≡ a)
 
--- a step that does the same beside itself leaves closed what was
-pub stays_closed : {A : Type 0} (P : A → Type 0) (r : A → A) (m : Step Table A) → Same closed_simulation P r m m
-    → (c d : State Table) (a : A) → IsClosed c → m.run c ≡ Went a d → IsClosed d
-stays_closed P r m same c d a k e =
-    let h = same.go c c (states_closed c k) in
-    closed_after P r a d (m.run c) (subst (λ o. TransitionSame closed_simulation P r o (m.run c)) e h)
+  closed_after : {A B : Type 0} (Q : A → Type 0) (r : A → B) (x : A) (d : State Table) (q : Transition (State Table) B) → TransitionSame closed_simulation Q r (Went x d) q → StaysClosed d
+  closed_after Q r x d (Died k) h = absurd h.1
+  closed_after Q r x d (Went b e) (inl h) = absurd h.1
+  closed_after Q r x d (Went b e) (inr h) =
+      let m = h.2.memory.1 in
+      (record { objects = m.objects; page = m.page; roots = h.2.there }, h.2.memory.2, h.2.limits)
 
-pub step_closed : (c d : State Table) (o : Option Outcome) → IsClosed c → (step bounded_table).run c ≡ Went o d → IsClosed d
-step_closed c d o k e = stays_closed _ _ (step bounded_table) (step-same closed_simulation) c d o k e
+  -- a step that does the same beside itself leaves closed what was
+  stays_closed : {A : Type 0} (Q : A → Type 0) (r : A → A) (m : Step Table A) → Same closed_simulation Q r m m
+      → (c d : State Table) (x : A) → IsClosed c → P c.memory → c.head ≡ a → m.run c ≡ Went x d → StaysClosed d
+  stays_closed Q r m same c d x k p f e =
+      let h = same.go c c (states_closed c k p f) in
+      closed_after Q r x d (m.run c) (subst (λ o. TransitionSame closed_simulation Q r o (m.run c)) e h)
+
+module _ (a : Head) (P : Table → Type 0) (on_changed : (t : Table) (n : ℕ) (o : Object) → P t → P (changed t n o))
+    (on_placed : (t : Table) (o : Object) → P t → has_room bounded_table a t o ≡ true → P (placed t o)) where
+  step_stays : (c d : State Table) (o : StepEnd) → IsClosed c → P c.memory → c.head ≡ a → (step bounded_table).run c ≡ Went o d → StaysClosed true a P on_changed on_placed d
+  step_stays c d o k p f e = stays_closed true a P on_changed on_placed _ _ (step bounded_table) (step-same (closed_simulation true a P on_changed on_placed) tt) c d o k p f e
+
+pub step_closed : (c d : State Table) (o : StepEnd) → IsClosed c → (step bounded_table).run c ≡ Went o d → IsClosed d
+step_closed c d o k e = (step_stays c.head (λ t. Unit {0}) (λ t n o p. tt) (λ t o p g. tt) c d o k tt refl e).0
+
+-- so does the fetching of registers
+pub fetched_closed : (c d : State Table) → IsClosed c → (fetch_scheduled_registers table).run c ≡ Went tt d → IsClosed d
+fetched_closed c d k e =
+    let s = closed_simulation false c.head (λ t. Unit {0}) (λ t n o p. tt) (λ t o p g. tt) in
+    (stays_closed false c.head (λ t. Unit {0}) (λ t n o p. tt) (λ t o p g. tt) _ _ (fetch_scheduled_registers table) (fetch_scheduled_registers-same s) c d tt k tt refl e).0
+
+-- a table of 32768 places stays so, where there is room for fewer objects than that
+
+used_or_free : (t : Table) → (total_used one t ≡ length t) ⊎ (first_none t < length t)
+used_or_free [] = inl refl
+used_or_free (None ∷ t) = inr (omega arith)
+used_or_free (Some o ∷ t) = elim (used_or_free t) [ inl e ↦ inl (omega (arith, e)) | inr l ↦ inr (omega (arith, l)) ]
+
+length-filled : (t : Table) (o : Object) → first_none t < length t → length (filled_first t o) ≡ length t
+length-filled [] o l = absurd (omega arith)
+length-filled (None ∷ t) o l = refl
+length-filled (Some a ∷ t) o l = ap (λ n. suc n) (length-filled t o (omega arith))
+
+used_tail : (e : Option Object) (t : Table) → total_used one t ≤ total_used one (e ∷ t)
+used_tail None t = omega arith
+used_tail (Some o) t = omega arith
+
+pub length-placed : (t : Table) (o : Object) → 0 < length t → total_used one t + 1 < length t → length (placed t o) ≡ length t
+length-placed [] o l g = absurd (omega arith)
+length-placed (e ∷ t) o l g = elim (used_or_free t) [
+  | inl f ↦ let u = used_tail e t in absurd (omega arith)
+  | inr f ↦ ap (λ n. suc n) (length-filled t o f)
+]
+
+both_true : (b c : Bool) → (b && c) ≡ true → b ≡ true
+both_true true c e = refl
+both_true false c e = cc
+
+module _ (a : Head) (few : a.entries ≤ 32767) where
+  places_placed : (t : Table) (o : Object) → length t ≡ 32768 → has_room bounded_table a t o ≡ true → length (placed t o) ≡ 32768
+  places_placed t o l g =
+      let b : nat_le (total_used one t + 1) a.entries ≡ true = both_true _ _ g in
+      let m : total_used one t + 1 ≤ a.entries = grind (arith, nat_tests) in
+      length-placed t o (omega arith) (omega arith) ∙ l
+
+  -- what a step of a sound state leaves
+  pub step_sound : (c d : State Table) (o : StepEnd) → IsSound c → c.head ≡ a → (step bounded_table).run c ≡ Went o d → IsSound d × (d.head ≡ a)
+  step_sound c d o k f e =
+      let r = step_stays a (λ t. length t ≡ 32768) (λ t n x p. length-changed t n x ∙ p) places_placed c d o k.closed k.places f e in
+      (record { places = r.1; closed = r.0 }, r.2)

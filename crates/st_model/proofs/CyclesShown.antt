@@ -1,21 +1,21 @@
 -- A running machine over a table does, cycle by cycle, what the births do that its table shows.
-use Rattle.std.proofs.Common.{◌≡◌, ℕ, zero, suc, ◌<◌, Option, Some, None, Bool, true, false, refl, sym, ◌∙◌, ap, subst, length, inl, inr, is_some}
+use Rattle.std.proofs.Common.{◌≡◌, ℕ, zero, suc, ◌<◌, ◌≤◌, Bool, true, false, refl, sym, ◌∙◌, ap, subst, length, inl, inr}
 use Rattle.std.specs.Prelude.{IsTrue}
 use mathlib.Core.Path.{fun_ext}
 use Rattle.st_model.specs.declared.demand.Demand.{Demand}
 use Rattle.st_model.specs.Values.{Value, Small, Ref, renamed, IsLive}
-use Rattle.st_model.specs.Outcomes.{Outcome, Ending, With, Space, Unbuilt, renamed_outcome, renamed_ending, IsLiveOutcome}
+use Rattle.st_model.specs.Outcomes.{Outcome, StepEnd, Did, NotBuilt, is_built, Ending, With, Space, Unbuilt, renamed_outcome, renamed_ending, IsLiveOutcome}
 use Rattle.st_model.specs.Outcomes as outcome
 use Rattle.st_model.specs.Machine.{Head, State, Transition, Died, Went, used, is_over, roots_of}
 use Rattle.st_model.specs.Steps.{next_byte}
 use Rattle.st_model.specs.Bytecodes.{step}
 use Rattle.st_model.specs.Births.{Births, births, borne, settled_births, pointer_of}
-use Rattle.st_model.specs.Table.{Table, table, apart, entry}
+use Rattle.st_model.specs.Table.{Table, table, apart, bounded_table, entry}
 use Rattle.st_model.specs.Show.{Shows, IsClosed, IsUsed}
 use Rattle.st_model.specs.Settled.{Reclaimed, with_memory, settled_set, reclaim}
 use Rattle.st_model.specs.Calls.{itself}
 use Rattle.st_model.specs.Cycles.{less, capacity_of, free_space, made_between, byte_answered, next_code, ended, done_or_not, cycle, and_on, run_of, run, counted, finished_of, finished}
-use Rattle.st_model.specs.Foreseen.{done, done_if_room, foreseen, foreseen_cycle, IsSound, EndsShown, StaysSound, Foretells, DoesAsBirths}
+use Rattle.st_model.specs.Foreseen.{done, done_if_room, foreseen, foreseen_cycle, IsSound, EndsShown, Foretells, DoesAsBirths}
 use Rattle.st_model.proofs.Same.{StateSame, TransitionSame, Anything, IsLiveEnd, renamed_end}
 use Rattle.st_model.proofs.StepsSame.{next_byte-same}
 use Rattle.st_model.proofs.BytecodesSame.{step-same}
@@ -27,6 +27,9 @@ use Rattle.st_model.proofs.Started.{naming, states_start, heaps_start}
 use Rattle.st_model.proofs.Ended.{reclaimed}
 use Rattle.st_model.proofs.HeapsApart.{apart_simulation, states_apart, used_apart, used_same}
 use Rattle.st_model.proofs.Bounded.{bounded_same}
+use Rattle.st_model.proofs.Closed.{step_sound}
+use Rattle.st_model.proofs.Going.{step_goes}
+use Rattle.st_model.proofs.Reclaiming.{reclaim_sound, reclaim_head}
 use Rattle.st_model.proofs.SettledIs.{settled_is, settled_once}
 
 births_finite : (s : State Births) (n : ℕ) → IsTrue (births.kept s.memory n) → n < length s.memory
@@ -75,46 +78,46 @@ went_step w d u o same live closed used =
 module _ (c : State Table) (s : State Births) (w : Shows c s) (places : length c.memory ≡ 32768) where
   -- foreseeing
 
-  foretold : (o : Transition (State Births) (Option Outcome)) (p : Transition (State Table) (Option Outcome))
+  foretold : (o : Transition (State Births) StepEnd) (p : Transition (State Table) StepEnd)
       → TransitionSame (apart_simulation c s w places) (IsLiveEnd (naming c s w).live) (renamed_end (apart_simulation c s w places).name) o p → Foretells p o
   foretold (Died a) (Died b) (inl h) = h
   foretold (Died a) (Died b) (inr h) = absurd h
   foretold (Died a) (Went b t) h = absurd h
   foretold (Went a u) (Died b) h = absurd h.1
   foretold (Went a u) (Went b d) (inl h) = absurd h.1
-  foretold (Went a u) (Went b d) (inr h) = (some_renamed a b h.1, used_apart c s w places u.memory d.memory h.2.memory)
+  foretold (Went a u) (Went b d) (inr h) = (built_renamed a b h.1, used_apart c s w places u.memory d.memory h.2.memory)
     where
-      some_renamed : (a b : Option Outcome) → b ≡ renamed_end (apart_simulation c s w places).name a → is_some b ≡ is_some a
-      some_renamed None b e = rw e refl
-      some_renamed (Some o) b e = rw e refl
+      built_renamed : (a b : StepEnd) → b ≡ renamed_end (apart_simulation c s w places).name a → is_built b ≡ is_built a
+      built_renamed (Did o) b e = rw e refl
+      built_renamed NotBuilt b e = rw e refl
 
   pub foretells : Foretells ((step apart).run c) ((step births).run s)
-  foretells = foretold ((step births).run s) ((step apart).run c) ((step-same (apart_simulation c s w places)).go s c (states_apart c s w places))
+  foretells = foretold ((step births).run s) ((step apart).run c) ((step-same (apart_simulation c s w places) tt).go s c (states_apart c s w places))
 
   -- doing
 
   heads_alike : (d : Demand) → is_over d c.head ≡ is_over d s.head
   heads_alike d = ap (λ (a : Head). is_over d a) w.head
 
-  done_within : (o : Outcome) (u : State Births) (p : Transition (State Table) (Option Outcome)) → (step table).run c ≡ p
-      → TransitionSame (cycle_simulation (naming c s w)) (IsLiveEnd (naming c s w).live) (renamed_end (naming c s w).name) (Went (Some o) u) p
+  done_within : (o : Outcome) (u : State Births) (p : Transition (State Table) StepEnd) → (step table).run c ≡ p
+      → TransitionSame (cycle_simulation (naming c s w)) (IsLiveEnd (naming c s w).live) (renamed_end (naming c s w).name) (Went (Did o) u) p
       → is_over (used births u.memory) s.head ≡ false → DoesAsBirths c o u
   done_within o u (Died k) e h f = absurd h.1
   done_within o u (Went p d) e (inl h) f = absurd h.1
   done_within o u (Went p d) e (inr h) f =
       let q = used_same c s w places u.memory d.memory h.2.memory in
       let r : is_over (used table d.memory) c.head ≡ false = ap (λ x. is_over x c.head) q ∙ (heads_alike (used births u.memory) ∙ f) in
-      let g : (step table).run c ≡ Went (Some (renamed_outcome (naming c s w).name o)) d = e ∙ ap (λ x. Went x d) h.1 in
+      let g : (step table).run c ≡ Went (Did (renamed_outcome (naming c s w).name o)) d = e ∙ ap (λ x. Went x d) h.1 in
       record {
         outcome = renamed_outcome (naming c s w).name o;
         state = d;
-        does = bounded_same c d (Some (renamed_outcome (naming c s w).name o)) g r;
+        does = bounded_same c d (Did (renamed_outcome (naming c s w).name o)) g r;
         shows = λ closed live. went_step (naming c s w) d u o h.2 h.0 closed live;
       }
 
-  pub does_as_births : (o : Outcome) (u : State Births) → (step births).run s ≡ Went (Some o) u → is_over (used births u.memory) s.head ≡ false → DoesAsBirths c o u
+  pub does_as_births : (o : Outcome) (u : State Births) → (step births).run s ≡ Went (Did o) u → is_over (used births u.memory) s.head ≡ false → DoesAsBirths c o u
   does_as_births o u e f =
-      let h = (step-same (cycle_simulation (naming c s w))).go s c (states_start c s w) in
+      let h = (step-same (cycle_simulation (naming c s w)) tt).go s c (states_start c s w) in
       done_within o u ((step table).run c) refl (rw e at h) f
 
   -- the code at which both stop
@@ -146,7 +149,7 @@ module _ (c : State Table) (s : State Births) (w : Shows c s) (places : length c
       let m : made_between apart c d ≡ made_between births s u = ap (λ x. less x (used table c.memory)) e ∙ ap (λ x. less (used births u.memory) x) f in
       (ap (λ x. Space x (free_space table c)) m ∙ ap (λ x. Space (made_between births s u) x) g, w)
 
-  within_space : (o : Outcome) (d : State Table) (u : State Births) → (step births).run s ≡ Went (Some o) u → is_over (used births u.memory) s.head ≡ false
+  within_space : (o : Outcome) (d : State Table) (u : State Births) → (step births).run s ≡ Went (Did o) u → is_over (used births u.memory) s.head ≡ false
       → ((e : Outcome) (x : State Table) → done_if_room c d false ≡ Went (With e) x → IsSound x × IsLiveOutcome (IsUsed x.memory) e)
       → EndsShown (done_if_room c d false) (done_or_not births s o u false)
   within_space o d u e f k =
@@ -156,23 +159,23 @@ module _ (c : State Table) (s : State Births) (w : Shows c s) (places : length c
       let shown = does.shows sound.0.closed sound.1 in
       rw q (ap (λ x. With x) shown.0, shown.1)
 
-  with_room : (o : Outcome) (d : State Table) (u : State Births) (b : Bool) → (step births).run s ≡ Went (Some o) u → used apart d.memory ≡ used births u.memory
+  with_room : (o : Outcome) (d : State Table) (u : State Births) (b : Bool) → (step births).run s ≡ Went (Did o) u → used apart d.memory ≡ used births u.memory
       → is_over (used births u.memory) s.head ≡ b
       → ((e : Outcome) (x : State Table) → done_if_room c d b ≡ Went (With e) x → IsSound x × IsLiveOutcome (IsUsed x.memory) e)
       → EndsShown (done_if_room c d b) (done_or_not births s o u b)
   with_room o d u true e q f k = no_space d u q
   with_room o d u false e q f k = within_space o d u e f k
 
-  cycle_ends : (o : Transition (State Births) (Option Outcome)) (p : Transition (State Table) (Option Outcome)) → (step births).run s ≡ o → Foretells p o
+  cycle_ends : (o : Transition (State Births) StepEnd) (p : Transition (State Table) StepEnd) → (step births).run s ≡ o → Foretells p o
       → ((e : Outcome) (x : State Table) → foreseen c p ≡ Went (With e) x → IsSound x × IsLiveOutcome (IsUsed x.memory) e)
       → EndsShown (foreseen c p) (ended births s o)
   cycle_ends (Died a) (Died b) e h k = h
   cycle_ends (Died a) (Went p d) e h k = absurd h
   cycle_ends (Went o u) (Died b) e h k = absurd h
-  cycle_ends (Went None u) (Went None d) e h k = (ap (λ x. Unbuilt x) same_code, w)
-  cycle_ends (Went None u) (Went (Some p) d) e h k = let q = h.0 in absurd (cc)
-  cycle_ends (Went (Some o) u) (Went None d) e h k = let q = h.0 in absurd (cc)
-  cycle_ends (Went (Some o) u) (Went (Some p) d) e h k =
+  cycle_ends (Went NotBuilt u) (Went NotBuilt d) e h k = (ap (λ x. Unbuilt x) same_code, w)
+  cycle_ends (Went NotBuilt u) (Went (Did p) d) e h k = let q = h.0 in absurd (cc)
+  cycle_ends (Went (Did o) u) (Went NotBuilt d) e h k = let q = h.0 in absurd (cc)
+  cycle_ends (Went (Did o) u) (Went (Did p) d) e h k =
       let t : is_over (used apart d.memory) c.head ≡ is_over (used births u.memory) s.head = ap (λ x. is_over x c.head) h.1 ∙ heads_alike (used births u.memory) in
       subst (λ b. EndsShown (done_if_room c d b) (done_or_not births s o u (is_over (used births u.memory) s.head))) (sym t)
       (with_room o d u (is_over (used births u.memory) s.head) e h.1 refl (λ x y z. k x y (ap (done_if_room c d) t ∙ z)))
@@ -202,30 +205,45 @@ run_step n (Went a c) (Went b s) h f = rw h.0 (on_step b h f)
     on_step (Space demand left) h f = (refl, h.1)
     on_step (Unbuilt code) h f = (refl, h.1)
 
-next_run : (n : ℕ) (c d : State Table) → foreseen_cycle c ≡ Went (With outcome.Went) d → run_of foreseen_cycle (suc n) c ≡ run_of foreseen_cycle n d
-unfolding run_of
-next_run n c d e = rw e refl
+-- what a cycle leaves that was done is sound, as what it began with was
 
-one_cycle : (c : State Table) (o : Outcome) (d : State Table) → foreseen_cycle c ≡ Went (With o) d → run_of foreseen_cycle 1 c ≡ Went (With o) d
-unfolding run_of
-one_cycle c o d e = rw e (after_one o d)
-  where
-    after_one : (o : Outcome) (d : State Table) → and_on (Went (With o) d) (λ t. Went (With outcome.Went) t) ≡ Went (With o) d
-    after_one outcome.Went d = refl
-    after_one outcome.Snapshot d = refl
-    after_one outcome.Quit d = refl
-    after_one outcome.Debugger d = refl
-    after_one (outcome.Say v) d = refl
+sound_done : (c x : State Table) (o : Outcome) (q : Transition (State Table) StepEnd) → IsSound c → c.head.entries ≤ 32767 → (step bounded_table).run c ≡ q → done c q ≡ Went (With o) x
+    → IsSound x × (x.head ≡ c.head) × IsLiveOutcome (IsUsed x.memory) o
+sound_done c x o (Died k) p l e f = cc
+sound_done c x o (Went NotBuilt d) p l e f = cc
+sound_done c x o (Went (Did a) d) p l e f =
+    let r = step_sound c.head l c d (Did a) p refl e in
+    let w = (step_goes bounded_table).went c d a e in
+    let g : reclaim table d ≡ x = cc in
+    let h : o ≡ outcome.Went = cc in
+    (subst IsSound g (reclaim_sound d r.0), sym (ap (λ (y : State Table). y.head) g) ∙ (reclaim_head d ∙ r.1), rw h tt)
 
-sound_next : (c d : State Table) → StaysSound c → foreseen_cycle c ≡ Went (With outcome.Went) d → StaysSound d
-sound_next c d k e n o x q = k (suc n) o x (next_run n c d e ∙ q)
+sound_if_room : (c d x : State Table) (o : Outcome) (b : Bool) → IsSound c → c.head.entries ≤ 32767 → done_if_room c d b ≡ Went (With o) x → IsSound x × (x.head ≡ c.head) × IsLiveOutcome (IsUsed x.memory) o
+sound_if_room c d x o true p l e = cc
+sound_if_room c d x o false p l e = sound_done c x o ((step bounded_table).run c) p l refl e
 
-pub run_shown : (n : ℕ) (c : State Table) (s : State Births) → Shows c s → IsSound c → StaysSound c → EndsShown (run_of foreseen_cycle n c) (run births n s)
+sound_foreseen : (c x : State Table) (o : Outcome) (q : Transition (State Table) StepEnd) → IsSound c → c.head.entries ≤ 32767 → foreseen c q ≡ Went (With o) x
+    → IsSound x × (x.head ≡ c.head) × IsLiveOutcome (IsUsed x.memory) o
+sound_foreseen c x o (Died k) p l e = cc
+sound_foreseen c x o (Went NotBuilt d) p l e = cc
+sound_foreseen c x o (Went (Did a) d) p l e = sound_if_room c d x o (is_over (used apart d.memory) c.head) p l e
+
+sound_cycle : (c x : State Table) (o : Outcome) → IsSound c → c.head.entries ≤ 32767 → foreseen_cycle c ≡ Went (With o) x → IsSound x × (x.head ≡ c.head) × IsLiveOutcome (IsUsed x.memory) o
+unfolding foreseen_cycle
+sound_cycle c x o p l e = sound_foreseen c x o ((step apart).run c) p l e
+
+sound_shown : (c : State Table) (s : State Births) → Shows c s → IsSound c → c.head.entries ≤ 32767 → EndsShown (foreseen_cycle c) (cycle births s)
+sound_shown c s w p l = cycle_shown c s w p.places (λ o d e. let r = sound_cycle c d o p l e in (r.0, r.2))
+
+few_after : (c d : State Table) → IsSound c → c.head.entries ≤ 32767 → foreseen_cycle c ≡ Went (With outcome.Went) d → d.head.entries ≤ 32767
+few_after c d p l e = subst (λ (a : Head). a.entries ≤ 32767) (sym (sound_cycle c d outcome.Went p l e).1) l
+
+pub run_shown : (n : ℕ) (c : State Table) (s : State Births) → Shows c s → IsSound c → c.head.entries ≤ 32767 → EndsShown (run_of foreseen_cycle n c) (run births n s)
 unfolding run_of run
-run_shown zero c s w p k = (refl, w)
-run_shown (suc n) c s w p k =
-    run_step n (foreseen_cycle c) (cycle births s) (cycle_shown c s w p.places (λ o d e. k 1 o d (one_cycle c o d e)))
-    (λ d t e v. run_shown n d t v (k 1 outcome.Went d (one_cycle c outcome.Went d e)).0 (sound_next c d k e))
+run_shown zero c s w p l = (refl, w)
+run_shown (suc n) c s w p l =
+    run_step n (foreseen_cycle c) (cycle births s) (sound_shown c s w p l)
+    (λ d t e v. run_shown n d t v (sound_cycle c d outcome.Went p l e).0 (few_after c d p l e))
 
 -- as many cycles are finished
 
@@ -248,9 +266,9 @@ counted_step n (Went a c) (Went b s) h f = rw h.0 (on_step b h f)
     on_step (Space demand left) h f = refl
     on_step (Unbuilt code) h f = refl
 
-pub finished_shown : (n : ℕ) (c : State Table) (s : State Births) → Shows c s → IsSound c → StaysSound c → finished_of foreseen_cycle n c ≡ finished births n s
+pub finished_shown : (n : ℕ) (c : State Table) (s : State Births) → Shows c s → IsSound c → c.head.entries ≤ 32767 → finished_of foreseen_cycle n c ≡ finished births n s
 unfolding finished_of finished
-finished_shown zero c s w p k = refl
-finished_shown (suc n) c s w p k =
-    counted_step n (foreseen_cycle c) (cycle births s) (cycle_shown c s w p.places (λ o d e. k 1 o d (one_cycle c o d e)))
-    (λ d t e v. finished_shown n d t v (k 1 outcome.Went d (one_cycle c outcome.Went d e)).0 (sound_next c d k e))
+finished_shown zero c s w p l = refl
+finished_shown (suc n) c s w p l =
+    counted_step n (foreseen_cycle c) (cycle births s) (sound_shown c s w p l)
+    (λ d t e v. finished_shown n d t v (sound_cycle c d outcome.Went p l e).0 (few_after c d p l e))

@@ -1,20 +1,20 @@
 -- Births, and a table where new objects stand apart, stay the same through one step that is foreseen.
-use Rattle.std.proofs.Common.{◌≡◌, ℕ, ◌+◌, ◌-◌, ◌<◌, ◌≤◌, Option, Some, None, true, false, refl, sym, ◌∙◌, ap, arith, length, inl, inr, nat_lt}
-use Rattle.std.specs.Prelude.{if◌then◌else◌, take}
+use Rattle.std.proofs.Common.{◌≡◌, ◌≢◌, ℕ, zero, suc, subst, ◌+◌, ◌-◌, ◌<◌, ◌≤◌, Option, Some, None, true, false, refl, sym, ◌∙◌, ap, arith, length, inl, inr, nat_lt}
+use Rattle.std.specs.Prelude.{Bool, is_some, ◌==◌, if◌then◌else◌, take}
 use Rattle.std.proofs.lemmas.Bool.Decides.{nat_tests}
-use Rattle.st_model.specs.Objects.{Object, PageObject, place_of, renamed_object, IsLiveObject, one, words_of, with_field}
-use Rattle.st_model.specs.Steps.{new_of}
+use Rattle.st_model.specs.Objects.{Object, PageObject, place_of, renamed_object, IsLiveObject, one, words_of}
+use Rattle.std.specs.Option.{option_map}
 use Rattle.st_model.specs.Machine.{State, roots_of, used}
-use Rattle.st_model.specs.Births.{Birth, Births, births, object_born, replaced, bearer, least_free, born, pointer_of, total_kept}
-use Rattle.st_model.specs.Table.{Table, table, apart, entry, changed, placed, joined, free_place, without_first, pointer_apart, total_used}
+use Rattle.st_model.specs.Births.{Birth, Births, births, object_born, replaced, exchanged_births, is_borne, bearer, least_free, born, borne, pointer_of, total_kept}
+use Rattle.st_model.specs.Table.{Table, table, apart, entry, changed, exchanged, placed, joined, free_place, without_first, pointer_apart, behind_by, borne_apart, total_used}
 use Rattle.st_model.specs.Show.{IsKept, Shows}
 use Rattle.st_model.proofs.Same.{OptionSame, Simulation, StateSame}
-use Rattle.st_model.proofs.TableLemmas.{shape, tail, coming, to_come, entry_before, joined-last, joined-other, length-joined, length-changed, shape-take_joined, shape-take_changed, shape-without_first, free_place-coming, changed-from, entry_past}
-use Rattle.st_model.proofs.BirthLemmas.{pointer_of-borne, borne_before, object_there, object_within, length-replaced, bearer-replaced, length-born, born-last, born-other, bearer-born, object_past}
+use Rattle.st_model.proofs.TableLemmas.{shape, tail, coming, to_come, entry_before, joined-last, joined-other, length-joined, length-changed, shape-take_joined, shape-take_changed, shape-without_first, free_place-coming, changed-from, entry_past, entry-take, entry-taken}
+use Rattle.st_model.proofs.BirthLemmas.{pointer_of-borne, borne_before, object_there, object_within, length-replaced, bearer-replaced, length-born, born-last, born-other, bearer-born, object_past, is_borne-of, borne-bearer}
 use Rattle.std.proofs.lemmas.List.{take_all}
 use Rattle.st_model.proofs.Totals.{total_matches, words_of-renamed}
-use Rattle.st_model.proofs.Names.{map_all, map_object, same_object, same_registers, same_head, same_world}
-use Rattle.st_model.proofs.HeapsSame.{Naming, HeapSame, ObjectsSame, entry_shown, replaced-objects, replaced-same, born-same, next_is_live, number_cases, order_cases}
+use Rattle.st_model.proofs.Names.{any_values, any_object, map_all, map_object, same_object, same_registers, same_head, same_world}
+use Rattle.st_model.proofs.HeapsSame.{Naming, HeapSame, ObjectsSame, entry_shown, replaced-objects, replaced-same, born-same, next_is_live, borne_by_live, number_cases, order_cases}
 use Rattle.st_model.proofs.Started.{lives, named, named-kept, named-later, naming, heaps_start}
 
 -- the names of the births from the first new one on lie behind all places
@@ -186,32 +186,171 @@ module _ (c : State Table) (s : State Births) (w : Shows c s) (places : length c
               rw (named_behind n i, j, k) (new_pointer (n - length s.memory) ∙ (sym (named-later s.memory c.memory n i) ∙ sym p))
         ]
 
+  module _ (h : Births) (t : Table) (a : HeapApart h t) where
+    abbrev nm : ℕ → ℕ
+    nm = named_apart s.memory c.memory
+
+    object_apart : (n : ℕ) (o : Object) → lives s.memory n → object_born h n ≡ Some o → IsLiveObject (lives s.memory) o × (entry t (nm n) ≡ Some (renamed_object nm o))
+    object_apart n o l e = at (object_born h n) (a.objects n l) e
+      where
+        at : (x : Option Object) → OptionSame (lives s.memory) nm x (entry t (nm n)) → x ≡ Some o → IsLiveObject (lives s.memory) o × (entry t (nm n) ≡ Some (renamed_object nm o))
+        at None h e = cc
+        at (Some b) h e = let q : b ≡ o = cc in rw (← q) (h.0, h.1)
+
+    pub exchanged-apart : (m n : ℕ) (o p : Object) → lives s.memory m → lives s.memory n → object_born h m ≡ Some o → object_born h n ≡ Some p
+        → HeapApart (exchanged_births h m n (object_born h m) (object_born h n)) (exchanged t (nm m) (nm n))
+    exchanged-apart m n o p l k e f =
+        let x = object_apart m o l e in
+        let y = object_apart n p k f in
+        rw (e, f, x.1, y.1)
+        (replaced-apart (replaced h m p) (changed t (nm m) (renamed_object nm p)) (replaced-apart h t a m p l y.0) n o k x.0)
+
+    -- who bears a pointer
+
+    in_place : (k : ℕ) (o : Object) → entry (take 32768 t) k ≡ Some o → (n : ℕ) × lives s.memory n × (n < length s.memory) × (borne h n ≡ Some k)
+    in_place k o e =
+        let f = entry-taken 32768 t k o e in
+        let g = a.covered k o f.1 in
+        elim (order_cases g.0 (length s.memory)) [
+          | inl i ↦
+              let x : named s.memory c.memory g.0 ≡ k = sym (named_here g.0 i) ∙ g.3 in
+              (g.0, g.1, i, a.same.kept g.0 g.1 g.2 ∙ ap (λ y. Some y) x)
+          | inr i ↦ let x = named_behind g.0 i in let y = g.3 in let z = f.0 in absurd (omega arith)
+        ]
+
+    abbrev later : ℕ → ℕ
+    later j = length s.memory + j
+
+    later_name : (j : ℕ) → nm (later j) ≡ 32768 + j
+    later_name j = let e : length s.memory + j - length s.memory ≡ j = omega arith in named_behind (later j) (omega arith) ∙ ap (λ x. 32768 + x) e
+
+    later_borne : (j k : ℕ) → j < length h - length s.memory → pointer_apart t (32768 + j) ≡ k → borne h (later j) ≡ Some k
+    later_borne j k b e =
+        let l : lives s.memory (later j) = inr (omega arith) in
+        let i : later j < length h = let x = a.longer in omega (arith, b, x) in
+        let o = object_there h (later j) i in
+        let p = a.same.kept (later j) l i in
+        let q = pointer-apart h t a (later j) o.0 l o.1 in
+        let r = pointer_of-borne h (later j) (named s.memory c.memory (later j)) p in
+        let n = later_name j in
+        let u : pointer_apart t (32768 + j) ≡ pointer_of h (later j) = subst (λ x. pointer_apart t x ≡ pointer_of h (later j)) n q in
+        p ∙ ap (λ x. Some x) (sym r ∙ (sym u ∙ e))
+
+    one_bearer : (m n k : ℕ) → borne h m ≡ Some k → borne h n ≡ Some k → m ≡ n
+    one_bearer m n k e f =
+        let x = a.same.bears m k e in
+        let y = a.same.bears n k f in
+        before.injective m n x.0 y.0 (x.1 ∙ sym y.1)
+
+    count_is : length t - 32768 ≡ length h - length s.memory
+    count_is = let x = a.length_is in omega (arith, x)
+
+    found_last : (k j m : ℕ) (x : Bool) → j < suc m → suc m ≤ length h - length s.memory → borne h (later j) ≡ Some k → pointer_apart t (32768 + j) ≡ k → (pointer_apart t (32768 + m) == k) ≡ x
+        → (j < m → behind_by t k m ≡ Some (32768 + j)) → (if x then Some (32768 + m) else behind_by t k m) ≡ Some (32768 + j)
+    found_last k j m true b l e f g r =
+        let q : pointer_apart t (32768 + m) ≡ k = grind (arith, nat_tests) in
+        let n : m ≡ j = omega (arith, one_bearer (later m) (later j) k (later_borne m k (omega arith) q) e) in
+        rw n refl
+    found_last k j m false b l e f g r =
+        let d : pointer_apart t (32768 + m) ≢ k = grind (arith, nat_tests) in
+        elim (number_cases j m) [
+          | inl q ↦ absurd (d (ap (λ y. pointer_apart t (32768 + y)) (sym q) ∙ f))
+          | inr n ↦ r (grind arith)
+        ]
+
+    found_behind : (k j m : ℕ) → j < m → m ≤ length h - length s.memory → borne h (later j) ≡ Some k → pointer_apart t (32768 + j) ≡ k → behind_by t k m ≡ Some (32768 + j)
+    found_behind k j zero b l e f = absurd (omega arith)
+    found_behind k j (suc m) b l e f = found_last k j m (pointer_apart t (32768 + m) == k) b l e f refl (λ q. found_behind k j m q (omega arith) e f)
+
+    none_last : (k m : ℕ) (x : Bool) → suc m ≤ length h - length s.memory → is_borne h k ≡ false → (pointer_apart t (32768 + m) == k) ≡ x → behind_by t k m ≡ None
+        → (if x then Some (32768 + m) else behind_by t k m) ≡ None
+    none_last k m true l e g r =
+        let q : pointer_apart t (32768 + m) ≡ k = grind (arith, nat_tests) in
+        let b = is_borne-of h (later m) k (later_borne m k (omega arith) q) in
+        absurd (cc)
+    none_last k m false l e g r = r
+
+    none_behind : (k m : ℕ) → m ≤ length h - length s.memory → is_borne h k ≡ false → behind_by t k m ≡ None
+    none_behind k zero l e = refl
+    none_behind k (suc m) l e = none_last k m (pointer_apart t (32768 + m) == k) l e refl (none_behind k m (omega arith) e)
+
+    -- the pointer of a birth that came later is that of its object behind all places
+    later_pointer : (n k : ℕ) → length s.memory ≤ n → borne h n ≡ Some k → (later (n - length s.memory) ≡ n) × (pointer_apart t (32768 + (n - length s.memory)) ≡ k)
+    later_pointer n k i e =
+        let q : later (n - length s.memory) ≡ n = omega (arith, i) in
+        let b = borne_before h n k e in
+        let o = object_there h n b in
+        let p = pointer-apart h t a n o.0 (inr i) o.1 in
+        let x = named_behind n i in
+        (q, subst (λ y. pointer_apart t y ≡ pointer_of h n) x p ∙ pointer_of-borne h n k e)
+
+    borne_behind : (k n : ℕ) (x : Option Object) → length s.memory ≤ n → borne h n ≡ Some k → entry (take 32768 t) k ≡ x → (if is_some x then Some k else behind_by t k (length t - 32768)) ≡ Some (nm n)
+    borne_behind k n (Some o) i e f =
+        let g = in_place k o f in
+        let r = one_bearer g.0 n k g.3 e in
+        let l = g.2 in
+        absurd (omega arith)
+    borne_behind k n None i e f =
+        let p = later_pointer n k i e in
+        let b = borne_before h n k e in
+        let x = named_behind n i in
+        rw (count_is, x) (found_behind k (n - length s.memory) (length h - length s.memory) (omega (arith, i, b)) (omega arith) (subst (λ y. borne h y ≡ Some k) (sym p.0) e) p.1)
+
+    borne_here : (k n : ℕ) → borne h n ≡ Some k → borne_apart t k ≡ Some (nm n)
+    borne_here k n e = elim (order_cases n (length s.memory)) [
+      | inl i ↦
+          let b = a.same.bears n k e in
+          let x : nm n ≡ k = named_here n i ∙ b.1 in
+          let o = entry_shown naming_apart h t a.objects n b.0 (borne_before h n k e) in
+          let l = named_below n b.0 i in
+          let y : entry (take 32768 t) k ≡ Some o.0 = entry-take 32768 t k (omega (arith, l, b.1)) ∙ subst (λ z. entry t z ≡ Some o.0) x o.1 in
+          rw y (ap (λ z. Some z) (sym x))
+      | inr i ↦ borne_behind k n (entry (take 32768 t) k) i e refl
+    ]
+
+    borne_nowhere : (k : ℕ) (x : Option Object) → is_borne h k ≡ false → entry (take 32768 t) k ≡ x → (if is_some x then Some k else behind_by t k (length t - 32768)) ≡ None
+    borne_nowhere k (Some o) e f = let g = in_place k o f in let r = is_borne-of h g.0 k g.3 in absurd (cc)
+    borne_nowhere k None e f = none_behind k (length t - 32768) (omega (arith, count_is)) e
+
+    borne_if : (k : ℕ) (x : Bool) → is_borne h k ≡ x → borne_apart t k ≡ option_map nm (if x then Some (bearer h k) else None)
+    borne_if k true e = borne_here k (bearer h k) (borne-bearer h k e)
+    borne_if k false e = borne_nowhere k (entry (take 32768 t) k) e refl
+
+    pub borne-apart : (k : ℕ) → borne_apart t k ≡ option_map nm (births.borne_by h k)
+    borne-apart k = borne_if k (is_borne h k) refl
+
   -- while a step is foreseen, births and table do the same
   abbrev pub apart_simulation : Simulation births apart
   apart_simulation = record {
     live = lives s.memory;
     name = named_apart s.memory c.memory;
     heaps = HeapApart;
+    there = λ h n. Unit {0};
     limits = λ x. Unit {0};
+    makes = Unit {0};
     over = λ h. ⊥;
     lax = ⊥;
     injective = one_name_apart;
     read = λ h t n a l. a.objects n l;
-    replace = λ h t n i x o a l lo e k. replaced-apart h t a n (with_field o i x) l lo;
-    append = λ h t class kind size literals a lo e. born-apart h t a (new_of births h class kind size literals) lo;
+    read_there = λ h t n o a e. (tt, any_object o);
+    replace = λ h t n o p a l e lp k. replaced-apart h t a n p l lp;
+    exchange = λ h t m n o p a l k e f. exchanged-apart h t a m n o p l k e f;
+    append = λ h t b o a l g lo k. born-apart h t a o lo;
     next_live = λ h t a. next_lives h t a;
     next = λ h t a. next_apart h t a;
-    named_live = λ h t q a. (a.same.page q).1;
+    named_live = λ h t q a. ((a.same.page q).1, tt);
     named = λ h t q a. page_name h t a q;
     pointer = λ h t n o a l e. pointer-apart h t a n o l e;
-    rooms = λ h t a b o x l e. inl refl;
-    keeps = λ h vs. Unit {0};
-    keeps_replace = λ h n i x o vs e k. tt;
-    keeps_append = λ h o vs k. tt;
-    keeps_set = λ h r q vs k e. tt;
+    borne_live = λ h t p n a e. borne_by_live before h a.table a.same p n e;
+    borne_by = λ h t p a. borne-apart h t a p;
+    rooms = λ h t a b o m x l e. inl refl;
+    there_replace = λ h n m o p e k. k;
+    there_exchange = λ h a b m o p e f k. k;
+    there_append = λ h m o k. k;
     over_lax = λ h o. o;
     over_live = λ h n o. absurd o;
     over_replace = λ h n o p v e f. v;
+    over_exchange = λ h a b o p v e f. v;
     over_append = λ h o v. v;
   }
 
@@ -219,7 +358,7 @@ module _ (c : State Table) (s : State Births) (w : Shows c s) (places : length c
   states_apart = record {
     memory = apart_start;
     limits = tt;
-    keeps = tt;
+    there = any_values (roots_of s);
     roots = map_all (IsKept s.memory) (lives s.memory) now_live (roots_of s) w.roots;
     registers = w.registers ∙ same_registers (IsKept s.memory) (pointer_of s.memory) (named_apart s.memory c.memory) pointer_kept s.registers s.head s.world w.roots;
     world = w.world ∙ same_world (IsKept s.memory) (pointer_of s.memory) (named_apart s.memory c.memory) pointer_kept s.registers s.head s.world w.roots;

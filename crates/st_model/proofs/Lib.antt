@@ -4,6 +4,7 @@ pub mod StepsSame
 pub mod ContextsSame
 pub mod LookupSame
 pub mod SendsSame
+pub mod ExecutingSame
 pub mod ReturnsSame
 pub mod BytecodesSame
 pub mod TableLemmas
@@ -18,6 +19,8 @@ pub mod Ended
 pub mod HeapsApart
 pub mod Bounded
 pub mod Closed
+pub mod Going
+pub mod Reclaiming
 pub mod CyclesShown
 pub mod Runs
 pub mod Tabular
@@ -29,12 +32,20 @@ pub mod FormedLemmas
 pub mod WholeLemmas
 pub mod Rounds
 pub mod LoadingLemmas
+pub mod Exchanging
+pub mod Instances
 pub mod Roots
 pub mod Raised
 pub mod Showing
+pub mod Texts
+pub mod Again
+pub mod Present
+pub mod PresentSteps
 pub mod Made
 pub mod Making
 mod ImageRows
-mod Opened
+mod OperationRows
+mod DecodedRows
+pub mod Opened
 mod Rows
 mod SendRows

@@ -19,6 +19,32 @@ module _ (P Q : ℕ → Type 0) (f : (n : ℕ) → P n → Q n) where
   pub map_object : (o : Object) → IsLiveObject P o → IsLiveObject Q o
   map_object o h = record { class = f o.class h.class; fields = map_all o.fields h.fields }
 
+-- where nothing is asked of a name
+
+abbrev pub AnyName : ℕ → Type 0
+AnyName n = Unit {0}
+
+pub any_value : (v : Value) → IsLive AnyName v
+any_value (Small n) = tt
+any_value (Ref n) = tt
+
+pub any_values : (vs : List Value) → AllLive AnyName vs
+any_values [] = tt
+any_values (v ∷ vs) = (any_value v, any_values vs)
+
+pub any_object : (o : Object) → IsLiveObject AnyName o
+any_object o = record { class = tt; fields = any_values o.fields }
+
+-- the roots of the devices stand behind others
+
+pub device_part : (P : ℕ → Type 0) (vs ws : List Value) → AllLive P (vs ++ ws) → AllLive P ws
+device_part P [] ws h = h
+device_part P (v ∷ vs) ws h = device_part P vs ws h.1
+
+pub with_devices : (P : ℕ → Type 0) (vs ws us : List Value) → AllLive P (vs ++ ws) → AllLive P us → AllLive P (vs ++ us)
+with_devices P [] ws us h k = k
+with_devices P (v ∷ vs) ws us h k = (h.0, with_devices P vs ws us h.1 k)
+
 module _ (P : ℕ → Type 0) (f g : ℕ → ℕ) (e : (n : ℕ) → P n → f n ≡ g n) where
   pub same_value : (v : Value) → IsLive P v → renamed f v ≡ renamed g v
   same_value (Small n) h = refl

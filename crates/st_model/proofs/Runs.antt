@@ -1,18 +1,18 @@
 -- What steps over the table come to.
-use Rattle.std.proofs.Common.{◌≡◌, ℕ, suc, zero, ◌<◌, ◌≤◌, List, [], ◌∷◌, length, Bool, true, false, Option, Some, None, refl, ap, arith, is_some}
-use Rattle.std.specs.Prelude.{ℤ, slice_get, unwrap_or, nat_lt, nat_le}
+use Rattle.std.proofs.Common.{◌≡◌, ℕ, suc, zero, ◌<◌, ◌≤◌, List, [], ◌∷◌, length, Bool, true, false, Option, Some, None, refl, ap, arith, is_some, length-set}
+use Rattle.std.specs.Prelude.{ℤ, ◌-◌, ◌==◌, ◌&&◌, slice_get, slice_set, unwrap_or, nat_lt, nat_le}
 use Rattle.std.proofs.lemmas.Bool.Decides.{nat_tests}
 use Rattle.st_model.specs.declared.dead.Dead.{Dead}
 use Rattle.st_model.specs.declared.dead.Dead.TheVariants as dead
 use Rattle.st_model.specs.Values.{Value, Small, Ref, is_small}
-use Rattle.st_model.specs.Objects.{PageObject, place_of, Object, with_field, is_pointers}
-use Rattle.st_model.specs.Machine.{ObjectMemory, Registers, State, is_there, Transition, Died, Went, Step, after, answer, die, ◌>>=◌, ◌>>◌}
-use Rattle.st_model.specs.Steps.{get_active, get_home, get_method, get_receiver, get_ip, get_sp, set_ip, set_sp, registers_set, set_registers, are_there, of_page, found, object_named, object, stored_at, store_at, set_field, or_die, check, fetch_field, store_field, integer_or_die}
-use Rattle.st_model.specs.Table.{Table, table, entry, changed}
+use Rattle.st_model.specs.Objects.{PageObject, place_of, Object, with_field, with_units, first_unit, is_pointers, is_words, is_method, has_bytes}
+use Rattle.st_model.specs.Machine.{ObjectMemory, Registers, World, State, is_there, all_there, device_roots, Transition, Died, Went, Step, after, answer, die, ◌>>=◌, ◌>>◌, or_left, tried}
+use Rattle.st_model.specs.Steps.{get_active, get_home, get_method, get_receiver, get_ip, get_sp, set_ip, set_sp, registers_set, set_registers, are_there, of_page, found, object_named, object, stored_at, store_at, set_field, exchanged_there, exchange_named, exchange, fit_units, units_set, set_units_at, set_units, store_word, store_byte, get_world, world_set, set_world, or_die, check, fetch_field, store_field, store_method_field, integer_or_die}
+use Rattle.st_model.specs.Table.{Table, table, entry, changed, exchanged}
 use Rattle.st_model.specs.Values.{integer_of}
 use Rattle.st_model.specs.Contexts.{home_by}
 use Rattle.st_model.specs.Formed.{IsWord}
-use Rattle.st_model.specs.View.{IsKnown, is_live, object_of, with_stored, nothing}
+use Rattle.st_model.specs.View.{IsKnown, is_live, object_of, with_stored, with_exchanged, with_unit, nothing}
 
 pub run-then : {A B : Type 0} (m : Step Table A) (f : A → Step Table B) (s : State Table) → (m >>= f).run s ≡ after (m.run s) (λ a t. (f a).run t)
 unfolding ◌>>=◌
@@ -167,6 +167,83 @@ run-store v i x s live kind range known word =
     let r : nat_lt i (length (object_of s.memory v).fields) ≡ true = grind (arith, nat_tests) in
     simp (run-then, run-next, after-went, run-live v s live, run-passed dead.Kind _ s kind, run-passed dead.Field _ s r, run-set_field v i x s live (known_there s.memory x known word)) refl
 
+-- the header or a literal of a live method is stored
+pub run-store_method_field : (v : Value) (i : ℕ) (x : Value) (s : State Table) → is_live s.memory v ≡ true → is_method (object_of s.memory v).kind ≡ true
+    → i < length (object_of s.memory v).fields → IsKnown s.memory x → IsWord x → (store_method_field table v i x).run s ≡ Went tt (record s { memory = with_stored s.memory v i x })
+unfolding store_method_field
+run-store_method_field v i x s live kind range known word =
+    let r : nat_lt i (length (object_of s.memory v).fields) ≡ true = grind (arith, nat_tests) in
+    simp (run-then, run-next, after-went, run-live v s live, run-passed dead.Kind _ s kind, run-passed dead.Field _ s r, run-set_field v i x s live (known_there s.memory x known word)) refl
+
+both_live : (a b : Bool) → a ≡ true → b ≡ true → (a && b) ≡ true
+both_live true b e f = f
+both_live false b e f = cc
+
+there_exchanged : (a b : ℕ) (s : State Table) (x : Bool) → x ≡ true → exchanged_there table a b s x ≡ Went tt (record s { memory = exchanged s.memory a b })
+unfolding exchanged_there
+there_exchanged a b s true e = refl
+there_exchanged a b s false e = cc
+
+pub run-exchange : (v w : Value) (s : State Table) → is_live s.memory v ≡ true → is_live s.memory w ≡ true
+    → (exchange table v w).run s ≡ Went tt (record s { memory = with_exchanged s.memory v w })
+unfolding exchange exchange_named is_live with_exchanged
+run-exchange (Small a) w s e f = cc
+run-exchange (Ref a) (Small b) s e f = cc
+run-exchange (Ref a) (Ref b) s e f = there_exchanged a b s _ (both_live _ _ e f)
+
+units_live : (n : ℕ) (us : List ℕ) (s : State Table) (a : Option Object) → is_some a ≡ true → length us ≡ length (unwrap_or a nothing).units
+    → units_set table n us s a (fit_units us a) ≡ Went tt (record s { memory = changed s.memory n (with_units (unwrap_or a nothing) us) })
+unfolding units_set
+units_live n us s None e f = cc
+units_live n us s (Some o) e f = let b : (length us == length o.units) ≡ true = grind (arith, nat_tests) in rw b refl
+
+set_unit : (v : Value) (i x : ℕ) (s : State Table) → is_live s.memory v ≡ true
+    → (set_units table v (slice_set (object_of s.memory v).units i x)).run s ≡ Went tt (record s { memory = with_unit s.memory v i x })
+unfolding set_units set_units_at is_live object_of with_unit
+set_unit (Small n) i x s e = cc
+set_unit (Ref n) i x s e = units_live n _ s (entry s.memory n) e (length-set _ i x)
+
+-- a word of a live object of kind Words is stored
+pub run-store_word : (v : Value) (i x : ℕ) (s : State Table) → is_live s.memory v ≡ true → is_words (object_of s.memory v).kind ≡ true
+    → i < length (object_of s.memory v).units → (store_word table v i x).run s ≡ Went tt (record s { memory = with_unit s.memory v i x })
+unfolding store_word
+run-store_word v i x s live kind range =
+    let r : nat_lt i (length (object_of s.memory v).units) ≡ true = grind (arith, nat_tests) in
+    simp (run-then, run-next, after-went, run-live v s live, run-passed dead.Kind _ s kind, run-passed dead.Field _ s r, set_unit v i x s live) refl
+
+-- a byte of a live object of kind Bytes or Method is stored, counted from the object's first byte on
+pub run-store_byte : (v : Value) (i x : ℕ) (s : State Table) → is_live s.memory v ≡ true → has_bytes (object_of s.memory v).kind ≡ true
+    → first_unit (object_of s.memory v) ≤ i → i - first_unit (object_of s.memory v) < length (object_of s.memory v).units
+    → (store_byte table v i x).run s ≡ Went tt (record s { memory = with_unit s.memory v (i - first_unit (object_of s.memory v)) x })
+unfolding store_byte
+run-store_byte v i x s live kind above range =
+    let a : nat_le (first_unit (object_of s.memory v)) i ≡ true = grind (arith, nat_tests) in
+    let r : nat_lt (i - first_unit (object_of s.memory v)) (length (object_of s.memory v).units) ≡ true = grind (arith, nat_tests) in
+    simp (run-then, run-next, after-went, run-live v s live, run-passed dead.Kind _ s kind, run-passed dead.Field _ s a, run-passed dead.Field _ s r, set_unit v (i - first_unit (object_of s.memory v)) x s live) refl
+
+pub run-world : (s : State Table) → get_world.run s ≡ Went s.world s
+unfolding get_world
+run-world s = refl
+
+there_world : (w : World) (s : State Table) (b : Bool) → b ≡ true → world_set w s b ≡ Went tt (record s { world = w })
+unfolding world_set
+there_world w s true e = refl
+there_world w s false e = cc
+
+pub run-set_world : (m : ObjectMemory Table) (w : World) (s : State Table) → all_there m s.memory (device_roots w.devices) ≡ true
+    → (set_world m w).run s ≡ Went tt (record s { world = w })
+unfolding set_world
+run-set_world m w s e = there_world w s _ e
+
+-- a step that is tried
+pub run-tried_went : {A : Type 0} (m : Step Table A) (s t : State Table) (a : A) → m.run s ≡ Went a t → (tried m).run s ≡ Went (Some a) t
+unfolding tried
+run-tried_went m s t a e = ap (or_left s) e
+
+pub run-tried_died : {A : Type 0} (m : Step Table A) (s : State Table) (k : Dead) → m.run s ≡ Died k → (tried m).run s ≡ Went None s
+unfolding tried
+run-tried_died m s k e = ap (or_left s) e
+
 pub run-integer : (v : Value) (s : State Table) → is_small v ≡ true → (integer_or_die v).run s ≡ Went (integer_of v) s
 unfolding integer_or_die answer
 run-integer (Small n) s e = refl
@@ -192,9 +269,9 @@ get-past [] i l = refl
 get-past (x ∷ xs) zero l = absurd (omega arith)
 get-past (x ∷ xs) (suc i) l = get-past xs i (omega arith)
 
-pub ruleset runs = (run-then, run-next, after-went, after-died, run-answer, run-die, run-active, run-home, run-method, run-receiver, run-ip, run-sp, run-set_ip, run-set_sp, run-set_registers, run-of_page, run-passed, run-failed, run-some, run-none, run-small, run-live, run-gone, run-set_field, run-integer, run-no_integer, run-block_home, run-method_home, get-past)
+pub ruleset runs = (run-then, run-next, after-went, after-died, run-answer, run-die, run-active, run-home, run-method, run-receiver, run-ip, run-sp, run-set_ip, run-set_sp, run-set_registers, run-world, run-set_world, run-of_page, run-passed, run-failed, run-some, run-none, run-small, run-live, run-gone, run-set_field, run-integer, run-no_integer, run-block_home, run-method_home, get-past)
 
-pub ruleset stores = (run-store)
+pub ruleset stores = (run-store, run-store_method_field, run-store_word, run-store_byte, run-exchange)
 
 -- checks of numbers
 pub ruleset tests = (check-below, check-not_below, check-at_most, check-above)

@@ -2,25 +2,20 @@
 --
 -- The second may be bounded, and then doesn't make what the first makes beyond the capacities. From there on nothing is
 -- said of the second, and of the first that it stays beyond them, since no step drops anything.
-use Rattle.std.proofs.Common.{◌≡◌, ℕ, List, [], ◌∷◌, zero, suc, Option, Some, None, Bool, true, false, refl, ap, arith, length, is_some, ◌⊎◌, inl, inr}
-use Rattle.std.specs.Prelude.{if◌then◌else◌, slice_get, slice_set, ◌==◌, ℤ, pos, negsuc}
+use Rattle.std.proofs.Common.{◌≡◌, ℕ, List, [], ◌∷◌, zero, suc, Option, Some, None, Bool, true, false, refl, ap, ◌∙◌, arith, length, is_some, ◌⊎◌, inl, inr}
+use Rattle.std.specs.Prelude.{if◌then◌else◌, slice_get, slice_set, ◌==◌, ◌&&◌, ℤ, pos, negsuc}
 use Rattle.std.proofs.lemmas.Bool.Decides.{nat_tests}
 use Rattle.std.specs.Option.{option_map}
 use Rattle.st_model.specs.declared.dead.Dead.{Dead}
-use Rattle.st_model.specs.declared.kind.Kind.{Kind}
-use Rattle.st_model.specs.Values.{Value, Small, Ref, renamed, renamed_all, IsLive, AllLive}
+use Rattle.st_model.specs.Values.{Value, Small, Ref, small_integer, renamed, renamed_all, IsLive, AllLive}
 use Rattle.st_model.specs.Objects.{Object, PageObject, renamed_object, IsLiveObject, words_of, with_field}
-use Rattle.st_model.specs.Outcomes.{Outcome, renamed_outcome, IsLiveOutcome}
-use Rattle.st_model.specs.Steps.{code_byte, same_value, new_of, are_there}
+use Rattle.st_model.specs.Outcomes.{StepEnd, Did, NotBuilt, renamed_outcome, IsLiveOutcome}
+use Rattle.st_model.specs.Sends.{Call}
+use Rattle.st_model.specs.Outcomes as outcome
+use Rattle.st_model.specs.Steps.{code_byte, same_value}
 use Rattle.st_model.specs.Calls.{itself}
 use Rattle.st_model.specs.Show.{renamed_registers, renamed_world, renamed_head, renamed_option}
-use Rattle.st_model.specs.Machine.{ObjectMemory, Registers, Head, State, Transition, Died, Went, Step, is_there, has_room, roots_of, answer, die, after, ◌>>=◌, ◌>>◌}
-
-pub live_object : (live : ℕ → Type 0) (c : ℕ) (kind : Kind) (vs : List Value) (units : List ℕ) → live c → AllLive live vs → IsLiveObject live (record { class = c; kind = kind; fields = vs; units = units })
-live_object live c kind vs units h l = record { class = h; fields = l }
-
-pub live_two : (live : ℕ → Type 0) (x y : Value) → IsLive live x → IsLive live y → AllLive live (x ∷ y ∷ [])
-live_two live x y h k = (h, (k, tt))
+use Rattle.st_model.specs.Machine.{ObjectMemory, Registers, World, Head, State, Transition, Died, Went, Step, is_there, all_there, device_roots, has_room, roots_of, answer, die, after, ◌>>=◌, ◌>>◌, or_left, tried}
 
 pub set_all_live : (live : ℕ → Type 0) (vs : List Value) (i : ℕ) (v : Value) → AllLive live vs → IsLive live v → AllLive live (slice_set vs i v)
 set_all_live live [] i v h k = h
@@ -40,9 +35,6 @@ pub code_byte-renamed : (f : ℕ → ℕ) (o : Object) (ip : ℤ) → code_byte 
 code_byte-renamed f o (pos i) = rw (length-renamed f o.fields) refl
 code_byte-renamed f o (negsuc i) = refl
 
-pub fields_are_live : (live : ℕ → Type 0) (o : Object) → IsLiveObject live o → AllLive live o.fields
-fields_are_live live o h = h.fields
-
 pub stored_is_live : (live : ℕ → Type 0) (o : Object) (i : ℕ) (v : Value) → IsLiveObject live o → IsLive live v → IsLiveObject live (with_field o i v)
 stored_is_live live o i v h k = record { class = h.class; fields = set_all_live live o.fields i v h.fields k }
 
@@ -53,51 +45,65 @@ abbrev pub OptionSame : (ℕ → Type 0) → (ℕ → ℕ) → Option Object →
 OptionSame live f None o = o ≡ None
 OptionSame live f (Some a) o = IsLiveObject live a × (o ≡ Some (renamed_object f a))
 
--- the registers before other roots
-abbrev pub register_roots : Registers → List Value → List Value
-register_roots r vs = r.active ∷ r.home ∷ r.method ∷ r.receiver ∷ vs
-
 -- how names of one memory stand for names of the other, through one cycle
 pub record Simulation {H K : Type 0} (M : ObjectMemory H) (N : ObjectMemory K) : Type 1 where
   pub live : ℕ → Type 0
   pub name : ℕ → ℕ
   pub heaps : H → K → Type 0
+  -- what is known besides of a name that stands in the first memory, or is a root
+  pub there : H → ℕ → Type 0
   -- the capacities
   pub limits : Head → Type 0
-  -- the first is beyond them, where the second may be bounded
+  -- steps may make objects
+  pub makes : Type 0
+  -- the first is beyond the capacities, where the second may be bounded
   pub over : H → Type 0
   pub lax : Type 0
   pub injective : (m n : ℕ) → live m → live n → name m ≡ name n → m ≡ n
   pub read : (h : H) (k : K) (n : ℕ) → heaps h k → live n → OptionSame live name (M.read h n) (N.read k (name n))
-  pub replace : (h : H) (k : K) (n i : ℕ) (x : Value) (o : Object) → heaps h k → live n → IsLiveObject live (with_field o i x) → M.read h n ≡ Some o → is_there M h x ≡ true
-      → heaps (M.replace h n (with_field o i x)) (N.replace k (name n) (renamed_object name (with_field o i x)))
-  pub append : (h : H) (k : K) (class : ℕ) (kind : Kind) (size literals : ℕ) → heaps h k → IsLiveObject live (new_of M h class kind size literals) → is_there M h (Ref class) ≡ true
-      → heaps (M.append h (new_of M h class kind size literals)) (N.append k (renamed_object name (new_of M h class kind size literals)))
+  pub read_there : (h : H) (k : K) (n : ℕ) (o : Object) → heaps h k → M.read h n ≡ Some o → there h n × IsLiveObject (there h) o
+  pub replace : (h : H) (k : K) (n : ℕ) (o p : Object) → heaps h k → live n → M.read h n ≡ Some o → IsLiveObject live p → IsLiveObject (there h) p
+      → heaps (M.replace h n p) (N.replace k (name n) (renamed_object name p))
+  pub exchange : (h : H) (k : K) (a b : ℕ) (o p : Object) → heaps h k → live a → live b → M.read h a ≡ Some o → M.read h b ≡ Some p
+      → heaps (M.exchange h a b) (N.exchange k (name a) (name b))
+  pub append : (h : H) (k : K) (a : Head) (o : Object) → heaps h k → limits a → has_room M a h o ≡ true → IsLiveObject live o → IsLiveObject (there h) o → heaps (M.append h o) (N.append k (renamed_object name o))
   pub next_live : (h : H) (k : K) → heaps h k → live (M.next h)
   pub next : (h : H) (k : K) → heaps h k → N.next k ≡ name (M.next h)
-  pub named_live : (h : H) (k : K) (p : PageObject) → heaps h k → live (M.named h p)
+  pub named_live : (h : H) (k : K) (p : PageObject) → heaps h k → live (M.named h p) × there h (M.named h p)
   pub named : (h : H) (k : K) (p : PageObject) → heaps h k → N.named k p ≡ name (M.named h p)
   pub pointer : (h : H) (k : K) (n : ℕ) (o : Object) → heaps h k → live n → M.read h n ≡ Some o → N.pointer k (name n) ≡ M.pointer h n
+  pub borne_live : (h : H) (k : K) (p n : ℕ) → heaps h k → M.borne_by h p ≡ Some n → live n
+  pub borne_by : (h : H) (k : K) (p : ℕ) → heaps h k → N.borne_by k p ≡ option_map name (M.borne_by h p)
   -- both have room for a new object, or neither has; or only the first has, and is beyond the capacities then
-  pub rooms : (h : H) (k : K) (a b : Head) (o : Object) → heaps h k → limits a → b ≡ renamed_head name a
+  pub rooms : (h : H) (k : K) (a b : Head) (o : Object) → makes → heaps h k → limits a → b ≡ renamed_head name a
       → (has_room N b k (renamed_object name o) ≡ has_room M a h o) ⊎ ((has_room M a h o ≡ true) × over (M.append h o))
-  -- what is known of the roots of the first besides
-  pub keeps : H → List Value → Type 0
-  pub keeps_replace : (h : H) (n i : ℕ) (x : Value) (o : Object) (vs : List Value) → M.read h n ≡ Some o → keeps h vs → keeps (M.replace h n (with_field o i x)) vs
-  pub keeps_append : (h : H) (o : Object) (vs : List Value) → keeps h vs → keeps (M.append h o) vs
-  pub keeps_set : (h : H) (r q : Registers) (vs : List Value) → keeps h (register_roots r vs) → are_there M h q ≡ true → keeps h (register_roots q vs)
+  pub there_replace : (h : H) (n m : ℕ) (o p : Object) → M.read h n ≡ Some o → there h m → there (M.replace h n p) m
+  pub there_exchange : (h : H) (a b m : ℕ) (o p : Object) → M.read h a ≡ Some o → M.read h b ≡ Some p → there h m → there (M.exchange h a b) m
+  pub there_append : (h : H) (m : ℕ) (o : Object) → there h m → there (M.append h o) m
   pub over_lax : (h : H) → over h → lax
   pub over_live : (h : H) (n : ℕ) → over h → live n
   pub over_replace : (h : H) (n : ℕ) (o p : Object) → over h → M.read h n ≡ Some o → words_of p ≡ words_of o → over (M.replace h n p)
+  pub over_exchange : (h : H) (a b : ℕ) (o p : Object) → over h → M.read h a ≡ Some o → M.read h b ≡ Some p → over (M.exchange h a b)
   pub over_append : (h : H) (o : Object) → over h → over (M.append h o)
 
-pub class_is_live : {H K : Type 0} {M : ObjectMemory H} {N : ObjectMemory K} (sim : Simulation M N) (o : Object) → IsLiveObject sim.live o → sim.live o.class
-class_is_live sim o h = h.class
+-- the same names where nothing is made: then the first is never beyond the capacities
+abbrev pub strict : {H K : Type 0} {M : ObjectMemory H} {N : ObjectMemory K} → Simulation M N → Simulation M N
+strict sim = record sim {
+  makes = ⊥;
+  over = λ h. ⊥;
+  lax = ⊥;
+  rooms = λ h k a b o m s l e. absurd m;
+  over_lax = λ h o. o;
+  over_live = λ h n o. absurd o;
+  over_replace = λ h n o p v e f. v;
+  over_exchange = λ h a b o p v e f. v;
+  over_append = λ h o v. v;
+}
 
 pub record StateSame {H K : Type 0} {M : ObjectMemory H} {N : ObjectMemory K} (sim : Simulation M N) (s : State H) (t : State K) : Type 0 where
   pub memory : sim.heaps s.memory t.memory
   pub limits : sim.limits s.head
-  pub keeps : sim.keeps s.memory (roots_of s)
+  pub there : AllLive (sim.there s.memory) (roots_of s)
   pub roots : AllLive sim.live (roots_of s)
   pub registers : t.registers ≡ renamed_registers sim.name s.registers
   pub world : t.world ≡ renamed_world sim.name s.world
@@ -181,55 +187,167 @@ pub die-same : {H K A B : Type 0} {M : ObjectMemory H} {N : ObjectMemory K} (sim
 unfolding die
 die-same sim P r cause = record { go = λ s t st. inl refl; stay = λ s o. tt }
 
--- one rule for each sort of answer, so that a search need not guess it
-pub then_value-same : {H K A B : Type 0} {M : ObjectMemory H} {N : ObjectMemory K} (sim : Simulation M N) (Q : A → Type 0) (q : A → B)
-    (m : Step H (Value)) (n : Step K (Value)) (f : Value → Step H A) (g : Value → Step K B)
-    → Same sim (IsLive sim.live) (renamed sim.name) m n → ((a : Value) → (IsLive sim.live) a → Same sim Q q (f a) (g ((renamed sim.name) a))) → Same sim Q q (m >>= f) (n >>= g)
-then_value-same sim Q q m n f g h k = then-same sim (IsLive sim.live) (renamed sim.name) Q q m n f g h k
+-- values, lists of them, a value or none, and registers that stand for one another: those of the first memory live, and
+-- those of the second are they with their names changed
 
-pub then_values-same : {H K A B : Type 0} {M : ObjectMemory H} {N : ObjectMemory K} (sim : Simulation M N) (Q : A → Type 0) (q : A → B)
-    (m : Step H (List Value)) (n : Step K (List Value)) (f : List Value → Step H A) (g : List Value → Step K B)
-    → Same sim (AllLive sim.live) (renamed_all sim.name) m n → ((a : List Value) → (AllLive sim.live) a → Same sim Q q (f a) (g ((renamed_all sim.name) a))) → Same sim Q q (m >>= f) (n >>= g)
-then_values-same sim Q q m n f g h k = then-same sim (AllLive sim.live) (renamed_all sim.name) Q q m n f g h k
+pub record ValueNamed (lives : ℕ → Type 0) (f : ℕ → ℕ) (v w : Value) : Type 0 where
+  pub live : IsLive lives v
+  pub is : w ≡ renamed f v
 
-pub then_object-same : {H K A B : Type 0} {M : ObjectMemory H} {N : ObjectMemory K} (sim : Simulation M N) (Q : A → Type 0) (q : A → B)
-    (m : Step H (Object)) (n : Step K (Object)) (f : Object → Step H A) (g : Object → Step K B)
-    → Same sim (IsLiveObject sim.live) (renamed_object sim.name) m n → ((a : Object) → (IsLiveObject sim.live) a → Same sim Q q (f a) (g ((renamed_object sim.name) a))) → Same sim Q q (m >>= f) (n >>= g)
-then_object-same sim Q q m n f g h k = then-same sim (IsLiveObject sim.live) (renamed_object sim.name) Q q m n f g h k
+abbrev pub ValueSame : {H K : Type 0} {M : ObjectMemory H} {N : ObjectMemory K} → Simulation M N → Value → Value → Type 0
+ValueSame sim v w = ValueNamed sim.live sim.name v w
 
-pub then_number-same : {H K A B : Type 0} {M : ObjectMemory H} {N : ObjectMemory K} (sim : Simulation M N) (Q : A → Type 0) (q : A → B)
-    (m : Step H (ℕ)) (n : Step K (ℕ)) (f : ℕ → Step H A) (g : ℕ → Step K B)
-    → Same sim (Anything) (itself) m n → ((a : ℕ) → (Anything) a → Same sim Q q (f a) (g ((itself) a))) → Same sim Q q (m >>= f) (n >>= g)
-then_number-same sim Q q m n f g h k = then-same sim (Anything) (itself) Q q m n f g h k
+pub record ValuesNamed (lives : ℕ → Type 0) (f : ℕ → ℕ) (vs ws : List Value) : Type 0 where
+  pub live : AllLive lives vs
+  pub is : ws ≡ renamed_all f vs
 
-pub then_integer-same : {H K A B : Type 0} {M : ObjectMemory H} {N : ObjectMemory K} (sim : Simulation M N) (Q : A → Type 0) (q : A → B)
-    (m : Step H ℤ) (n : Step K ℤ) (f : ℤ → Step H A) (g : ℤ → Step K B)
-    → Same sim Anything itself m n → ((a : ℤ) → Anything a → Same sim Q q (f a) (g a)) → Same sim Q q (m >>= f) (n >>= g)
-then_integer-same sim Q q m n f g h k = then-same sim Anything itself Q q m n f g h k
-
-pub then_unit-same : {H K A B : Type 0} {M : ObjectMemory H} {N : ObjectMemory K} (sim : Simulation M N) (Q : A → Type 0) (q : A → B)
-    (m : Step H Unit) (n : Step K Unit) (f : Step H A) (g : Step K B)
-    → Same sim Anything itself m n → Same sim Q q f g → Same sim Q q (m >> f) (n >> g)
-then_unit-same sim Q q m n f g h k = next-same sim Anything itself Q q m n f g h k
-
-pub then_numbers-same : {H K A B : Type 0} {M : ObjectMemory H} {N : ObjectMemory K} (sim : Simulation M N) (Q : A → Type 0) (q : A → B)
-    (m : Step H (List ℕ)) (n : Step K (List ℕ)) (f : List ℕ → Step H A) (g : List ℕ → Step K B)
-    → Same sim Anything itself m n → ((a : List ℕ) → Anything a → Same sim Q q (f a) (g a)) → Same sim Q q (m >>= f) (n >>= g)
-then_numbers-same sim Q q m n f g h k = then-same sim Anything itself Q q m n f g h k
-
-pub if-same : {H K A B : Type 0} {M : ObjectMemory H} {N : ObjectMemory K} (sim : Simulation M N) (P : A → Type 0) (r : A → B)
-    (b c : Bool) (m n : Step H A) (m' n' : Step K B) → c ≡ b → Same sim P r m m' → Same sim P r n n' → Same sim P r (if b then m else n) (if c then m' else n')
-if-same sim P r true c m n m' n' e h k = rw e h
-if-same sim P r false c m n m' n' e h k = rw e k
+abbrev pub ValuesSame : {H K : Type 0} {M : ObjectMemory H} {N : ObjectMemory K} → Simulation M N → List Value → List Value → Type 0
+ValuesSame sim vs ws = ValuesNamed sim.live sim.name vs ws
 
 abbrev pub IsLiveOption : (ℕ → Type 0) → Option Value → Type 0
 IsLiveOption live None = Unit {0}
 IsLiveOption live (Some v) = IsLive live v
 
-pub then_option-same : {H K A B : Type 0} {M : ObjectMemory H} {N : ObjectMemory K} (sim : Simulation M N) (Q : A → Type 0) (q : A → B)
-    (m : Step H (Option Value)) (n : Step K (Option Value)) (f : Option Value → Step H A) (g : Option Value → Step K B)
-    → Same sim (IsLiveOption sim.live) (renamed_option sim.name) m n → ((a : Option Value) → IsLiveOption sim.live a → Same sim Q q (f a) (g (renamed_option sim.name a))) → Same sim Q q (m >>= f) (n >>= g)
-then_option-same sim Q q m n f g h k = then-same sim (IsLiveOption sim.live) (renamed_option sim.name) Q q m n f g h k
+pub record OptionNamed (lives : ℕ → Type 0) (f : ℕ → ℕ) (v w : Option Value) : Type 0 where
+  pub live : IsLiveOption lives v
+  pub is : w ≡ renamed_option f v
+
+abbrev pub OptionalSame : {H K : Type 0} {M : ObjectMemory H} {N : ObjectMemory K} → Simulation M N → Option Value → Option Value → Type 0
+OptionalSame sim v w = OptionNamed sim.live sim.name v w
+
+abbrev pub IsLiveRegisters : (ℕ → Type 0) → Registers → Type 0
+IsLiveRegisters live r = IsLive live r.active × IsLive live r.home × IsLive live r.method × IsLive live r.receiver
+
+pub record RegistersNamed (lives : ℕ → Type 0) (f : ℕ → ℕ) (r q : Registers) : Type 0 where
+  pub live : IsLiveRegisters lives r
+  pub is : q ≡ renamed_registers f r
+
+abbrev pub RegistersSame : {H K : Type 0} {M : ObjectMemory H} {N : ObjectMemory K} → Simulation M N → Registers → Registers → Type 0
+RegistersSame sim r q = RegistersNamed sim.live sim.name r q
+
+abbrev pub IsLiveWorld : (ℕ → Type 0) → World → Type 0
+IsLiveWorld live w = AllLive live (device_roots w.devices)
+
+pub record WorldNamed (lives : ℕ → Type 0) (f : ℕ → ℕ) (w u : World) : Type 0 where
+  pub live : IsLiveWorld lives w
+  pub is : u ≡ renamed_world f w
+
+abbrev pub WorldSame : {H K : Type 0} {M : ObjectMemory H} {N : ObjectMemory K} → Simulation M N → World → World → Type 0
+WorldSame sim w u = WorldNamed sim.live sim.name w u
+
+abbrev pub IsLiveCall : (ℕ → Type 0) → Call → Type 0
+IsLiveCall live c = IsLive live c.method
+
+abbrev pub renamed_call : (ℕ → ℕ) → Call → Call
+renamed_call f c = record { method = renamed f c.method; arguments = c.arguments }
+
+pub record CallNamed (lives : ℕ → Type 0) (f : ℕ → ℕ) (c d : Call) : Type 0 where
+  pub live : IsLiveCall lives c
+  pub is : d ≡ renamed_call f c
+
+abbrev pub CallSame : {H K : Type 0} {M : ObjectMemory H} {N : ObjectMemory K} → Simulation M N → Call → Call → Type 0
+CallSame sim c d = CallNamed sim.live sim.name c d
+
+abbrev pub IsLiveAnyCall : (ℕ → Type 0) → Option Call → Type 0
+IsLiveAnyCall live None = Unit {0}
+IsLiveAnyCall live (Some c) = IsLiveCall live c
+
+abbrev pub renamed_any_call : (ℕ → ℕ) → Option Call → Option Call
+renamed_any_call f c = option_map (renamed_call f) c
+
+pub record AnyCallNamed (lives : ℕ → Type 0) (f : ℕ → ℕ) (c d : Option Call) : Type 0 where
+  pub live : IsLiveAnyCall lives c
+  pub is : d ≡ renamed_any_call f c
+
+abbrev pub AnyCallSame : {H K : Type 0} {M : ObjectMemory H} {N : ObjectMemory K} → Simulation M N → Option Call → Option Call → Type 0
+AnyCallSame sim c d = AnyCallNamed sim.live sim.name c d
+
+-- how a bytecode ends
+abbrev pub IsLiveEnd : (ℕ → Type 0) → StepEnd → Type 0
+IsLiveEnd live (Did o) = IsLiveOutcome live o
+IsLiveEnd live NotBuilt = Unit {0}
+
+abbrev pub renamed_end : (ℕ → ℕ) → StepEnd → StepEnd
+renamed_end f (Did o) = Did (renamed_outcome f o)
+renamed_end f NotBuilt = NotBuilt
+
+-- steps that do the same, by what they answer: a value, values, a value or none, registers, the world, an object; something
+-- that stays as it is; a call, or none; or how a bytecode ends
+
+abbrev pub SameValue : {H K : Type 0} {M : ObjectMemory H} {N : ObjectMemory K} → Simulation M N → Step H Value → Step K Value → Type 0
+SameValue sim m n = Same sim (IsLive sim.live) (renamed sim.name) m n
+
+abbrev pub SameValues : {H K : Type 0} {M : ObjectMemory H} {N : ObjectMemory K} → Simulation M N → Step H (List Value) → Step K (List Value) → Type 0
+SameValues sim m n = Same sim (AllLive sim.live) (renamed_all sim.name) m n
+
+abbrev pub SameOption : {H K : Type 0} {M : ObjectMemory H} {N : ObjectMemory K} → Simulation M N → Step H (Option Value) → Step K (Option Value) → Type 0
+SameOption sim m n = Same sim (IsLiveOption sim.live) (renamed_option sim.name) m n
+
+abbrev pub SameRegisters : {H K : Type 0} {M : ObjectMemory H} {N : ObjectMemory K} → Simulation M N → Step H Registers → Step K Registers → Type 0
+SameRegisters sim m n = Same sim (IsLiveRegisters sim.live) (renamed_registers sim.name) m n
+
+abbrev pub SameWorld : {H K : Type 0} {M : ObjectMemory H} {N : ObjectMemory K} → Simulation M N → Step H World → Step K World → Type 0
+SameWorld sim m n = Same sim (IsLiveWorld sim.live) (renamed_world sim.name) m n
+
+abbrev pub SameObject : {H K : Type 0} {M : ObjectMemory H} {N : ObjectMemory K} → Simulation M N → Step H Object → Step K Object → Type 0
+SameObject sim m n = Same sim (IsLiveObject sim.live) (renamed_object sim.name) m n
+
+abbrev pub SameAnswer : {H K A : Type 0} {M : ObjectMemory H} {N : ObjectMemory K} → Simulation M N → Step H A → Step K A → Type 0
+SameAnswer sim m n = Same sim Anything itself m n
+
+abbrev pub SameCall : {H K : Type 0} {M : ObjectMemory H} {N : ObjectMemory K} → Simulation M N → Step H Call → Step K Call → Type 0
+SameCall sim m n = Same sim (IsLiveCall sim.live) (renamed_call sim.name) m n
+
+abbrev pub SameAnyCall : {H K : Type 0} {M : ObjectMemory H} {N : ObjectMemory K} → Simulation M N → Step H (Option Call) → Step K (Option Call) → Type 0
+SameAnyCall sim m n = Same sim (IsLiveAnyCall sim.live) (renamed_any_call sim.name) m n
+
+abbrev pub SameEnd : {H K : Type 0} {M : ObjectMemory H} {N : ObjectMemory K} → Simulation M N → Step H StepEnd → Step K StepEnd → Type 0
+SameEnd sim m n = Same sim (IsLiveEnd sim.live) (renamed_end sim.name) m n
+
+-- one rule for each sort of answer, so that a search need not guess it
+module _ {H K A B : Type 0} {M : ObjectMemory H} {N : ObjectMemory K} (sim : Simulation M N) (Q : A → Type 0) (q : A → B) where
+  pub then_value-same : (m : Step H Value) (n : Step K Value) (f : Value → Step H A) (g : Value → Step K B)
+      → SameValue sim m n → ((a b : Value) → ValueSame sim a b → Same sim Q q (f a) (g b)) → Same sim Q q (m >>= f) (n >>= g)
+  then_value-same m n f g h k = then-same sim _ _ Q q m n f g h (λ a l. k a (renamed sim.name a) (record { live = l; is = refl }))
+
+  pub then_values-same : (m : Step H (List Value)) (n : Step K (List Value)) (f : List Value → Step H A) (g : List Value → Step K B)
+      → SameValues sim m n → ((a b : List Value) → ValuesSame sim a b → Same sim Q q (f a) (g b)) → Same sim Q q (m >>= f) (n >>= g)
+  then_values-same m n f g h k = then-same sim _ _ Q q m n f g h (λ a l. k a (renamed_all sim.name a) (record { live = l; is = refl }))
+
+  pub then_option-same : (m : Step H (Option Value)) (n : Step K (Option Value)) (f : Option Value → Step H A) (g : Option Value → Step K B)
+      → SameOption sim m n → ((a b : Option Value) → OptionalSame sim a b → Same sim Q q (f a) (g b)) → Same sim Q q (m >>= f) (n >>= g)
+  then_option-same m n f g h k = then-same sim _ _ Q q m n f g h (λ a l. k a (renamed_option sim.name a) (record { live = l; is = refl }))
+
+  pub then_registers-same : (m : Step H Registers) (n : Step K Registers) (f : Registers → Step H A) (g : Registers → Step K B)
+      → SameRegisters sim m n → ((a b : Registers) → RegistersSame sim a b → Same sim Q q (f a) (g b)) → Same sim Q q (m >>= f) (n >>= g)
+  then_registers-same m n f g h k = then-same sim _ _ Q q m n f g h (λ a l. k a (renamed_registers sim.name a) (record { live = l; is = refl }))
+
+  pub then_world-same : (m : Step H World) (n : Step K World) (f : World → Step H A) (g : World → Step K B)
+      → SameWorld sim m n → ((a b : World) → WorldSame sim a b → Same sim Q q (f a) (g b)) → Same sim Q q (m >>= f) (n >>= g)
+  then_world-same m n f g h k = then-same sim _ _ Q q m n f g h (λ a l. k a (renamed_world sim.name a) (record { live = l; is = refl }))
+
+  pub then_call-same : (m : Step H Call) (n : Step K Call) (f : Call → Step H A) (g : Call → Step K B)
+      → SameCall sim m n → ((a b : Call) → CallSame sim a b → Same sim Q q (f a) (g b)) → Same sim Q q (m >>= f) (n >>= g)
+  then_call-same m n f g h k = then-same sim _ _ Q q m n f g h (λ a l. k a (renamed_call sim.name a) (record { live = l; is = refl }))
+
+  pub then_any_call-same : (m : Step H (Option Call)) (n : Step K (Option Call)) (f : Option Call → Step H A) (g : Option Call → Step K B)
+      → SameAnyCall sim m n → ((a b : Option Call) → AnyCallSame sim a b → Same sim Q q (f a) (g b)) → Same sim Q q (m >>= f) (n >>= g)
+  then_any_call-same m n f g h k = then-same sim _ _ Q q m n f g h (λ a l. k a (renamed_any_call sim.name a) (record { live = l; is = refl }))
+
+  pub then_object-same : (m : Step H Object) (n : Step K Object) (f : Object → Step H A) (g : Object → Step K B)
+      → SameObject sim m n → ((a : Object) → IsLiveObject sim.live a → Same sim Q q (f a) (g (renamed_object sim.name a))) → Same sim Q q (m >>= f) (n >>= g)
+  then_object-same m n f g h k = then-same sim _ _ Q q m n f g h k
+
+  pub then_answer-same : {X : Type 0} (m : Step H X) (n : Step K X) (f : X → Step H A) (g : X → Step K B)
+      → SameAnswer sim m n → ((a : X) → Same sim Q q (f a) (g a)) → Same sim Q q (m >>= f) (n >>= g)
+  then_answer-same m n f g h k = then-same sim _ _ Q q m n f g h (λ a l. k a)
+
+  pub then_unit-same : (m : Step H Unit) (n : Step K Unit) (f : Step H A) (g : Step K B) → SameAnswer sim m n → Same sim Q q f g → Same sim Q q (m >> f) (n >> g)
+  then_unit-same m n f g h k = next-same sim _ _ Q q m n f g h k
+
+  pub if-same : (b c : Bool) (m n : Step H A) (m' n' : Step K B) → c ≡ b → Same sim Q q m m' → Same sim Q q n n' → Same sim Q q (if b then m else n) (if c then m' else n')
+  if-same true c m n m' n' e h k = rw e h
+  if-same false c m n m' n' e h k = rw e k
 
 there_renamed : {H K : Type 0} {M : ObjectMemory H} {N : ObjectMemory K} (sim : Simulation M N) (a b : Option Object) → OptionSame sim.live sim.name a b → is_some b ≡ is_some a
 there_renamed sim None b h = rw h refl
@@ -240,31 +358,29 @@ pub is_there-renamed : {H K : Type 0} {M : ObjectMemory H} {N : ObjectMemory K} 
 is_there-renamed sim h k (Small n) s l = refl
 is_there-renamed {M = M} {N = N} sim h k (Ref n) s l = there_renamed sim (M.read h n) (N.read k (sim.name n)) (sim.read h k n s l)
 
--- how a bytecode ends, if it doesn't come to a primitive that isn't built
-abbrev pub IsLiveEnd : (ℕ → Type 0) → Option Outcome → Type 0
-IsLiveEnd live None = Unit {0}
-IsLiveEnd live (Some o) = IsLiveOutcome live o
-
-abbrev pub renamed_end : (ℕ → ℕ) → Option Outcome → Option Outcome
-renamed_end f o = option_map (renamed_outcome f) o
-
-abbrev pub IsLiveRegisters : (ℕ → Type 0) → Registers → Type 0
-IsLiveRegisters live r = IsLive live r.active × IsLive live r.home × IsLive live r.method × IsLive live r.receiver
-
-pub then_registers-same : {H K A B : Type 0} {M : ObjectMemory H} {N : ObjectMemory K} (sim : Simulation M N) (Q : A → Type 0) (q : A → B)
-    (m : Step H Registers) (n : Step K Registers) (f : Registers → Step H A) (g : Registers → Step K B)
-    → Same sim (IsLiveRegisters sim.live) (renamed_registers sim.name) m n → ((a : Registers) → IsLiveRegisters sim.live a → Same sim Q q (f a) (g (renamed_registers sim.name a))) → Same sim Q q (m >>= f) (n >>= g)
-then_registers-same sim Q q m n f g h k = then-same sim (IsLiveRegisters sim.live) (renamed_registers sim.name) Q q m n f g h k
-
 same_test : (m n a b : ℕ) → (a ≡ b → m ≡ n) → (m ≡ n → a ≡ b) → (a == b) ≡ (m == n)
 same_test m n a b f g = grind (arith, nat_tests)
 
-pub same_value-renamed : {H K : Type 0} {M : ObjectMemory H} {N : ObjectMemory K} (sim : Simulation M N) (v w : Value) → IsLive sim.live v → IsLive sim.live w
-    → same_value (renamed sim.name v) (renamed sim.name w) ≡ same_value v w
-same_value-renamed sim (Small m) (Small n) h k = refl
-same_value-renamed sim (Small m) (Ref n) h k = refl
-same_value-renamed sim (Ref m) (Small n) h k = refl
-same_value-renamed sim (Ref m) (Ref n) h k = same_test m n (sim.name m) (sim.name n) (sim.injective m n h k) (ap sim.name)
+pub some_object : (x : Option Object) → is_some x ≡ true → (o : Object) × x ≡ Some o
+some_object None e = cc
+some_object (Some o) e = (o, refl)
+
+pub value_there : {H K : Type 0} {M : ObjectMemory H} {N : ObjectMemory K} (sim : Simulation M N) (h : H) (k : K) (v : Value) → sim.heaps h k → is_there M h v ≡ true → IsLive (sim.there h) v
+value_there sim h k (Small n) s e = tt
+value_there {M = M} sim h k (Ref n) s e = let o = some_object (M.read h n) e in (sim.read_there h k n o.0 s o.1).0
+
+pub both : (a b : Bool) → (a && b) ≡ true → (a ≡ true) × (b ≡ true)
+both true b e = (refl, e)
+both false b e = cc
+
+pub values_there : {H K : Type 0} {M : ObjectMemory H} {N : ObjectMemory K} (sim : Simulation M N) (h : H) (k : K) (vs : List Value) → sim.heaps h k → all_there M h vs ≡ true → AllLive (sim.there h) vs
+values_there sim h k [] s e = tt
+values_there {M = M} sim h k (v ∷ vs) s e = let p = both (is_there M h v) (all_there M h vs) e in (value_there sim h k v s p.0, values_there sim h k vs s p.1)
+
+pub all_there-renamed : {H K : Type 0} {M : ObjectMemory H} {N : ObjectMemory K} (sim : Simulation M N) (h : H) (k : K) (vs : List Value) → sim.heaps h k → AllLive sim.live vs
+    → all_there N k (renamed_all sim.name vs) ≡ all_there M h vs
+all_there-renamed sim h k [] s l = refl
+all_there-renamed sim h k (v ∷ vs) s l = rw (is_there-renamed sim h k v s l.0, all_there-renamed sim h k vs s l.1) refl
 
 -- where the first is beyond the capacities, all names live
 module _ {H K : Type 0} {M : ObjectMemory H} {N : ObjectMemory K} (sim : Simulation M N) (h : H) (o : sim.over h) where
@@ -289,10 +405,120 @@ get_is_live sim [] i h = tt
 get_is_live sim (v ∷ vs) zero h = h.0
 get_is_live sim (v ∷ vs) (suc i) h = get_is_live sim vs i h.1
 
-pub cons_live : {H K : Type 0} {M : ObjectMemory H} {N : ObjectMemory K} (sim : Simulation M N) (v : Value) (vs : List Value) → IsLive sim.live v → AllLive sim.live vs → AllLive sim.live (v ∷ vs)
-cons_live sim v vs h k = (h, k)
+module _ {H K : Type 0} {M : ObjectMemory H} {N : ObjectMemory K} (sim : Simulation M N) where
+  -- what stands for one another
 
-pub two_live : {H K : Type 0} {M : ObjectMemory H} {N : ObjectMemory K} (sim : Simulation M N) (v w : Value) → IsLive sim.live v → IsLive sim.live w → AllLive sim.live (v ∷ w ∷ [])
-two_live sim v w h k = (h, (k, tt))
+  pub small-same : (n : ℕ) → ValueSame sim (Small n) (Small n)
+  small-same n = record { live = tt; is = refl }
 
-pub ruleset steps_same = (then_value-same, then_values-same, then_object-same, then_number-same, then_integer-same, then_numbers-same, if-same, then_option-same, same_value-renamed, then_registers-same, get-renamed, get_is_live, cons_live, two_live, then_unit-same, answer-same, die-same, fields_are_live, stored_is_live, with_field-renamed, class_is_live, live_object, live_two, set_all_live, set-renamed, length-renamed, code_byte-renamed)
+  pub small_integer-same : (n : ℤ) → ValueSame sim (small_integer n) (small_integer n)
+  small_integer-same (pos n) = record { live = tt; is = refl }
+  small_integer-same (negsuc n) = record { live = tt; is = refl }
+
+  pub class-same : (o : Object) → IsLiveObject sim.live o → ValueSame sim (Ref o.class) (Ref (sim.name o.class))
+  class-same o h = record { live = h.class; is = refl }
+
+  pub no_values-same : ValuesSame sim [] []
+  no_values-same = record { live = tt; is = refl }
+
+  pub values-same : (v w : Value) (vs ws : List Value) → ValueSame sim v w → ValuesSame sim vs ws → ValuesSame sim (v ∷ vs) (w ∷ ws)
+  values-same v w vs ws h k = record { live = (h.live, k.live); is = λ i. h.is i ∷ k.is i }
+
+  pub none-same : OptionalSame sim None None
+  none-same = record { live = tt; is = refl }
+
+  pub some-same : (v w : Value) → ValueSame sim v w → OptionalSame sim (Some v) (Some w)
+  some-same v w h = record { live = h.live; is = λ i. Some (h.is i) }
+
+  pub field-same : (o : Object) (i : ℕ) → IsLiveObject sim.live o → OptionalSame sim (slice_get o.fields i) (slice_get (renamed_all sim.name o.fields) i)
+  field-same o i h = record { live = get_is_live sim o.fields i h.fields; is = get-renamed sim o.fields i }
+
+  pub registers-same : (a h m r a' h' m' r' : Value) (ip : ℤ) (sp : ℕ) → ValueSame sim a a' → ValueSame sim h h' → ValueSame sim m m' → ValueSame sim r r'
+      → RegistersSame sim (record { active = a; home = h; method = m; receiver = r; ip = ip; sp = sp }) (record { active = a'; home = h'; method = m'; receiver = r'; ip = ip; sp = sp })
+  registers-same a h m r a' h' m' r' ip sp x y z w = record {
+    live = (x.live, y.live, z.live, w.live);
+    is = λ i. record { active = x.is i; home = y.is i; method = z.is i; receiver = w.is i; ip = ip; sp = sp };
+  }
+
+  values_same : (v w : Value) → IsLive sim.live v → IsLive sim.live w → same_value (renamed sim.name v) (renamed sim.name w) ≡ same_value v w
+  values_same (Small m) (Small n) h k = refl
+  values_same (Small m) (Ref n) h k = refl
+  values_same (Ref m) (Small n) h k = refl
+  values_same (Ref m) (Ref n) h k = same_test m n (sim.name m) (sim.name n) (sim.injective m n h k) (ap sim.name)
+
+  pub same_value-same : (v v' w w' : Value) → ValueSame sim v v' → ValueSame sim w w' → same_value v' w' ≡ same_value v w
+  same_value-same v v' w w' h k = rw (h.is, k.is) (values_same v w h.live k.live)
+
+  -- answers
+
+  pub answer_value-same : (v w : Value) → ValueSame sim v w → SameValue sim (answer v) (answer w)
+  answer_value-same v w h = answer-same sim _ _ v w h.live h.is
+
+  pub answer_values-same : (v w : List Value) → ValuesSame sim v w → SameValues sim (answer v) (answer w)
+  answer_values-same v w h = answer-same sim _ _ v w h.live h.is
+
+  pub answer_option-same : (v w : Option Value) → OptionalSame sim v w → SameOption sim (answer v) (answer w)
+  answer_option-same v w h = answer-same sim _ _ v w h.live h.is
+
+  pub answer_registers-same : (v w : Registers) → RegistersSame sim v w → SameRegisters sim (answer v) (answer w)
+  answer_registers-same v w h = answer-same sim _ _ v w h.live h.is
+
+  pub answer_object-same : (o : Object) → IsLiveObject sim.live o → SameObject sim (answer o) (answer (renamed_object sim.name o))
+  answer_object-same o h = answer-same sim _ _ o (renamed_object sim.name o) h refl
+
+  pub answer_itself-same : {A : Type 0} (a : A) → SameAnswer sim (answer a) (answer a)
+  answer_itself-same a = answer-same sim _ _ a a tt refl
+
+  pub answer_call-same : (v w : Value) (n : ℕ) → ValueSame sim v w → SameCall sim (answer (record { method = v; arguments = n })) (answer (record { method = w; arguments = n }))
+  answer_call-same v w n h = answer-same sim _ _ _ _ h.live (λ i. record { method = h.is i; arguments = n })
+
+  pub answer_some_call-same : (c d : Call) → CallSame sim c d → SameAnyCall sim (answer (Some c)) (answer (Some d))
+  answer_some_call-same c d h = answer-same sim _ _ _ _ h.live (ap (λ x. Some x) h.is)
+
+  pub answer_no_call-same : SameAnyCall sim (answer None) (answer None)
+  answer_no_call-same = answer-same sim _ _ _ _ tt refl
+
+  pub went-same : SameEnd sim (answer (Did outcome.Went)) (answer (Did outcome.Went))
+  went-same = answer-same sim _ _ _ _ tt refl
+
+  pub not_built-same : SameEnd sim (answer NotBuilt) (answer NotBuilt)
+  not_built-same = answer-same sim _ _ _ _ tt refl
+
+-- A step that is only tried, and makes nothing. Of a value it answers a value or none, of anything else that or none.
+
+module _ {H K : Type 0} {M : ObjectMemory H} {N : ObjectMemory K} (sim : Simulation M N) where
+  strict_states : (s : State H) (t : State K) → StateSame sim s t → StateSame (strict sim) s t
+  strict_states s t st = record { memory = st.memory; limits = st.limits; there = st.there; roots = st.roots; registers = st.registers; world = st.world; head = st.head }
+
+  module _ {A B : Type 0} (P : A → Type 0) (r : A → B) (Q : Option A → Type 0) (q : Option A → Option B)
+      (none : Q None × (None ≡ q None)) (some : (a : A) → P a → Q (Some a) × (Some (r a) ≡ q (Some a))) where
+    left_same : (s : State H) (t : State K) (o : Transition (State H) A) (p : Transition (State K) B) → StateSame sim s t → TransitionSame (strict sim) P r o p
+        → TransitionSame sim Q q (or_left s o) (or_left t p)
+    left_same s t (Died a) (Died b) st h = inr (none.0, none.1, st)
+    left_same s t (Died a) (Went b u) st h = absurd h
+    left_same s t (Went a u) (Died b) st h = absurd h.1
+    left_same s t (Went a u) (Went b v) st (inl h) = absurd h.1
+    left_same s t (Went a u) (Went b v) st (inr h) =
+        let k = some a h.0 in
+        let n = h.2 in
+        inr (k.0, ap (λ x. Some x) h.1 ∙ k.1, record { memory = n.memory; limits = n.limits; there = n.there; roots = n.roots; registers = n.registers; world = n.world; head = n.head })
+
+    left_over : (s : State H) (o : Transition (State H) A) → sim.over s.memory → StaysOver sim P o → StaysOver sim Q (or_left s o)
+    left_over s (Died a) o h = (none.0, o)
+    left_over s (Went a t) o h = ((some a h.0).0, h.1)
+
+    tried-same : (m : Step H A) (n : Step K B) → Same sim P r m n → Same (strict sim) P r m n → Same sim Q q (tried m) (tried n)
+    unfolding tried
+    tried-same m n h k = record {
+      go = λ s t st. left_same s t (m.run s) (n.run t) st (k.go s t (strict_states s t st));
+      stay = λ s o. left_over s (m.run s) o (h.stay s o);
+    }
+
+  pub tried_value-same : (m : Step H Value) (n : Step K Value) → SameValue sim m n → SameValue (strict sim) m n → SameOption sim (tried m) (tried n)
+  tried_value-same m n h k = tried-same _ _ _ _ (tt, refl) (λ a l. (l, refl)) m n h k
+
+  pub tried_itself-same : {A : Type 0} (m : Step H A) (n : Step K A) → SameAnswer sim m n → SameAnswer (strict sim) m n → SameAnswer sim (tried m) (tried n)
+  tried_itself-same m n h k = tried-same _ _ _ _ (tt, refl) (λ a l. (tt, refl)) m n h k
+
+-- what a search of steps that do the same goes by
+pub ruleset steps_same = (then_value-same, then_values-same, then_object-same, then_answer-same, then_option-same, then_registers-same, then_world-same, then_call-same, then_any_call-same, then_unit-same, if-same, tried_value-same, tried_itself-same, die-same, answer_value-same, answer_values-same, answer_option-same, answer_registers-same, answer_object-same, answer_itself-same, answer_call-same, answer_some_call-same, answer_no_call-same, went-same, not_built-same, same_value-same, small-same, small_integer-same, class-same, no_values-same, values-same, none-same, some-same, field-same, registers-same, length-renamed, code_byte-renamed)

@@ -1,60 +1,73 @@
 -- Each step on registers, fields, the stack and methods over births does the same over pointers.
-use Rattle.std.proofs.Common.{◌≡◌, ℕ, List, [], ◌∷◌, zero, suc, Option, Some, None, Bool, true, false, refl, ap, ◌∙◌, ◌⊎◌, inl, inr}
+use Rattle.std.proofs.Common.{◌≡◌, ℕ, List, [], ◌∷◌, zero, suc, Option, Some, None, Bool, true, false, refl, ap, ◌∙◌, arith, length, ◌⊎◌, inl, inr}
 use Rattle.std.proofs.Math.ListN.{length-set}
-use Rattle.std.specs.Prelude.{◌+◌, ◌-◌, ◌*◌, ◌++◌, slice_get, replicate, ℤ}
+use Rattle.std.specs.Prelude.{◌+◌, ◌-◌, ◌*◌, ◌&&◌, ◌==◌, if◌then◌else◌, replicate, ℤ}
 use Rattle.st_model.specs.declared.dead.Dead.{Dead}
 use Rattle.st_model.specs.declared.kind.Kind.{Kind}
 use Rattle.st_model.specs.declared.kind.Kind.TheVariants as kind
 use Rattle.st_model.specs.Values.{Value, Small, Ref, renamed, renamed_all, IsLive, AllLive}
-use Rattle.st_model.specs.Objects.{Object, PageObject, NilObject, renamed_object, IsLiveObject, words_of, with_field}
-use Rattle.st_model.specs.Machine.{ObjectMemory, Registers, State, is_there, has_room, head_roots, device_roots, roots_of, answer, die}
+use Rattle.st_model.specs.Objects.{Object, PageObject, NilObject, renamed_object, IsLiveObject, words_of, with_field, with_units}
+use Rattle.st_model.specs.Machine.{ObjectMemory, Registers, World, State, is_there, all_there, is_of_class, names_instance, first_instance, next_of, has_room, head_roots, device_roots, roots_of, answer, die}
 use Rattle.st_model.specs.Formed.{fresh_with}
-use Rattle.st_model.specs.Show.{renamed_registers}
-use Rattle.st_model.specs.Steps.{get_active, get_home, get_method, get_receiver, get_ip, get_sp, set_ip, set_sp, found, object_named, object, stored_at, store_at, set_field, made, make_named, make, registers_set, set_registers, new_of, are_there, of_page, new_object, class_of, or_die, check, fetch_field, store_field, integer_or_die, fetch_integer, count_fields, fetch_fields, store_fields, transfer, put, push, under, look_at_words, drop_words, top, pop, literal, byte_at, next_byte, jump}
+use Rattle.st_model.specs.Show.{renamed_registers, renamed_world, renamed_option}
+use Rattle.std.specs.Option.{option_map}
+use Rattle.std.proofs.lemmas.Bool.Decides.{nat_tests}
+use Rattle.st_model.specs.Steps.{get_active, get_home, get_method, get_receiver, get_ip, get_sp, set_ip, set_sp, found, object_named, object, stored_at, store_at, set_field, exchanged_there, exchange_named, exchange, fit_units, units_set, set_units_at, set_units, get_world, world_set, set_world, named_or_not, object_at, next_instance, fetch_word, store_word, fetch_byte, store_byte, made, make_named, make, registers_set, set_registers, new_of, are_there, of_page, new_object, class_of, or_die, check, fetch_field, store_field, integer_or_die, fetch_integer, count_fields, fetch_fields, store_fields, transfer, put, push, under, look_at_words, drop_words, top, pop, literal, fetch_method_field, store_method_field, byte_at, next_byte, jump}
 use Rattle.st_model.specs.Calls.{itself}
-use Rattle.st_model.proofs.Same.{OptionSame, Simulation, StateSame, TransitionSame, StaysOver, Same, Anything, IsLiveRegisters, is_there-renamed, steps_same, then_unit-same, over_value, over_object, with_field-renamed, stored_is_live}
+use Rattle.st_model.proofs.Same.{OptionSame, Simulation, StateSame, TransitionSame, StaysOver, Anything, IsLiveOption, IsLiveRegisters, IsLiveWorld, ValueSame, ValuesSame, OptionalSame, RegistersSame, WorldSame, SameValue, SameValues, SameOption, SameWorld, SameObject, SameAnswer, is_there-renamed, all_there-renamed, value_there, values_there, both, some_object, same_value-same, steps_same, then_unit-same, over_value, over_values, over_object, with_field-renamed, stored_is_live}
+use Rattle.st_model.proofs.Names.{map_all, device_part, with_devices}
+
+live_replicate : (live : ℕ → Type 0) (v : Value) (n : ℕ) → IsLive live v → AllLive live (replicate n v)
+live_replicate live v zero h = tt
+live_replicate live v (suc n) h = (h, live_replicate live v n h)
+
+pub fresh_live : (live : ℕ → Type 0) (v : Value) (c : ℕ) (k : Kind) (size literals : ℕ) → IsLive live v → live c → IsLiveObject live (fresh_with v c k size literals)
+fresh_live live v c kind.Pointers size literals h l = record { class = l; fields = live_replicate live v size h }
+fresh_live live v c kind.Words size literals h l = record { class = l; fields = tt }
+fresh_live live v c kind.Bytes size literals h l = record { class = l; fields = tt }
+fresh_live live v c kind.Method size literals h l = record { class = l; fields = (tt, live_replicate live v literals h) }
 
 module _ {H K : Type 0} {M : ObjectMemory H} {N : ObjectMemory K} (sim : Simulation M N) where
-  pub get_active-same : Same sim (IsLive sim.live) (renamed sim.name) get_active get_active
+  pub get_active-same : SameValue sim get_active get_active
   unfolding get_active
   get_active-same = record { go = λ s t st. inr (st.roots.0, ap (λ r. r.active) st.registers, st); stay = λ s o. (over_value sim s.memory o s.registers.active, o) }
 
-  pub get_home-same : Same sim (IsLive sim.live) (renamed sim.name) get_home get_home
+  pub get_home-same : SameValue sim get_home get_home
   unfolding get_home
   get_home-same = record { go = λ s t st. inr (st.roots.1.0, ap (λ r. r.home) st.registers, st); stay = λ s o. (over_value sim s.memory o s.registers.home, o) }
 
-  pub get_method-same : Same sim (IsLive sim.live) (renamed sim.name) get_method get_method
+  pub get_method-same : SameValue sim get_method get_method
   unfolding get_method
   get_method-same = record { go = λ s t st. inr (st.roots.1.1.0, ap (λ r. r.method) st.registers, st); stay = λ s o. (over_value sim s.memory o s.registers.method, o) }
 
-  pub get_receiver-same : Same sim (IsLive sim.live) (renamed sim.name) get_receiver get_receiver
+  pub get_receiver-same : SameValue sim get_receiver get_receiver
   unfolding get_receiver
   get_receiver-same = record { go = λ s t st. inr (st.roots.1.1.1.0, ap (λ r. r.receiver) st.registers, st); stay = λ s o. (over_value sim s.memory o s.registers.receiver, o) }
 
-  pub get_ip-same : Same sim Anything itself get_ip get_ip
+  pub get_ip-same : SameAnswer sim get_ip get_ip
   unfolding get_ip
   get_ip-same = record { go = λ s t st. inr (tt, ap (λ r. r.ip) st.registers, st); stay = λ s o. (tt, o) }
 
-  pub get_sp-same : Same sim Anything itself get_sp get_sp
+  pub get_sp-same : SameAnswer sim get_sp get_sp
   unfolding get_sp
   get_sp-same = record { go = λ s t st. inr (tt, ap (λ r. r.sp) st.registers, st); stay = λ s o. (tt, o) }
 
-  pub set_sp-same : (n : ℕ) → Same sim Anything itself (set_sp n) (set_sp n)
+  pub set_sp-same : (n : ℕ) → SameAnswer sim (set_sp n) (set_sp n)
   unfolding set_sp
   set_sp-same n = record {
-    go = λ s t st. inr (tt, refl, record { memory = st.memory; limits = st.limits; keeps = st.keeps; roots = st.roots; registers = ap (λ (r : Registers). record r { sp = n }) st.registers; world = st.world; head = st.head });
+    go = λ s t st. inr (tt, refl, record { memory = st.memory; limits = st.limits; there = st.there; roots = st.roots; registers = ap (λ (r : Registers). record r { sp = n }) st.registers; world = st.world; head = st.head });
     stay = λ s o. (tt, o);
   }
 
-  pub set_ip-same : (n : ℤ) → Same sim Anything itself (set_ip n) (set_ip n)
+  pub set_ip-same : (n : ℤ) → SameAnswer sim (set_ip n) (set_ip n)
   unfolding set_ip
   set_ip-same n = record {
-    go = λ s t st. inr (tt, refl, record { memory = st.memory; limits = st.limits; keeps = st.keeps; roots = st.roots; registers = ap (λ (r : Registers). record r { ip = n }) st.registers; world = st.world; head = st.head });
+    go = λ s t st. inr (tt, refl, record { memory = st.memory; limits = st.limits; there = st.there; roots = st.roots; registers = ap (λ (r : Registers). record r { ip = n }) st.registers; world = st.world; head = st.head });
     stay = λ s o. (tt, o);
   }
 
   pub found-same : (a b : Option Object) → OptionSame sim.live sim.name a b
-      → Same sim (IsLiveObject sim.live) (renamed_object sim.name) (found a) (found b)
+      → SameObject sim (found a) (found b)
   unfolding found
   found-same None b h = rw h (search steps_same)
   found-same (Some a) b h = rw h.1 (search steps_same)
@@ -65,7 +78,7 @@ module _ {H K : Type 0} {M : ObjectMemory H} {N : ObjectMemory K} (sim : Simulat
   found_over (Some a) s o = (over_object sim s.memory o a, o)
 
   pub object_named-same : (n : ℕ) → sim.live n
-      → Same sim (IsLiveObject sim.live) (renamed_object sim.name) (object_named M n) (object_named N (sim.name n))
+      → SameObject sim (object_named M n) (object_named N (sim.name n))
   unfolding object_named
   object_named-same n h = record {
     go = λ s t st.
@@ -73,18 +86,26 @@ module _ {H K : Type 0} {M : ObjectMemory H} {N : ObjectMemory K} (sim : Simulat
     stay = λ s o. found_over (M.read s.memory n) s o;
   }
 
-  object_one-same : (v : Value) → IsLive sim.live v
-      → Same sim (IsLiveObject sim.live) (renamed_object sim.name) (object M v) (object N (renamed sim.name v))
+  pub object-same : (v w : Value) → ValueSame sim v w → SameObject sim (object M v) (object N w)
   unfolding object
-  object_one-same (Small n) h = search steps_same
-  object_one-same (Ref n) h = object_named-same n h
-
-  pub object-same : (v w : Value) → IsLive sim.live v → w ≡ renamed sim.name v
-      → Same sim (IsLiveObject sim.live) (renamed_object sim.name) (object M v) (object N w)
-  object-same v w h e = rw e (object_one-same v h)
+  object-same (Small n) w h = rw h.is (search steps_same)
+  object-same (Ref n) w h = rw h.is (object_named-same n h.live)
 
   words-with_field : (o : Object) (i : ℕ) (x : Value) → words_of (with_field o i x) ≡ words_of o
   words-with_field o i x = rw (length-set o.fields i x) refl
+
+  -- an object that refers to what lives and is there takes the place of another
+  replaced-same : (s : State H) (t : State K) (n : ℕ) (o p : Object) → StateSame sim s t → sim.live n → M.read s.memory n ≡ Some o → IsLiveObject sim.live p → IsLiveObject (sim.there s.memory) p
+      → StateSame sim (record s { memory = M.replace s.memory n p }) (record t { memory = N.replace t.memory (sim.name n) (renamed_object sim.name p) })
+  replaced-same s t n o p st l e h k = record {
+    memory = sim.replace s.memory t.memory n o p st.memory l e h k;
+    limits = st.limits;
+    there = map_all _ _ (λ m x. sim.there_replace s.memory n m o p e x) (roots_of s) st.there;
+    roots = st.roots;
+    registers = st.registers;
+    world = st.world;
+    head = st.head;
+  }
 
   stored-same : (n i : ℕ) (x : Value) (s : State H) (t : State K) (a b : Option Object) (c : Bool) → sim.live n → IsLive sim.live x → StateSame sim s t
       → M.read s.memory n ≡ a → is_there M s.memory x ≡ c → OptionSame sim.live sim.name a b
@@ -95,15 +116,8 @@ module _ {H K : Type 0} {M : ObjectMemory H} {N : ObjectMemory K} (sim : Simulat
   stored-same n i x s t (Some o) b true l k st e f h = rw (h.1, with_field-renamed sim.name o i x) (inr (
     tt,
     refl,
-    record {
-      memory = sim.replace s.memory t.memory n i x o st.memory l (stored_is_live sim.live o i x h.0 k) e f;
-      limits = st.limits;
-      keeps = sim.keeps_replace s.memory n i x o (roots_of s) e st.keeps;
-      roots = st.roots;
-      registers = st.registers;
-      world = st.world;
-      head = st.head;
-    },
+    replaced-same s t n o (with_field o i x) st l e (stored_is_live sim.live o i x h.0 k)
+        (stored_is_live (sim.there s.memory) o i x (sim.read_there s.memory t.memory n o st.memory e).1 (value_there sim s.memory t.memory x st.memory f)),
   ))
 
   stored_over : (n i : ℕ) (x : Value) (s : State H) (a : Option Object) (c : Bool) → M.read s.memory n ≡ a → sim.over s.memory → StaysOver sim Anything (stored_at M n i x s a c)
@@ -112,7 +126,7 @@ module _ {H K : Type 0} {M : ObjectMemory H} {N : ObjectMemory K} (sim : Simulat
   stored_over n i x s (Some a) false e o = tt
   stored_over n i x s (Some a) true e o = (tt, sim.over_replace s.memory n a (with_field a i x) o e (words-with_field a i x))
 
-  pub store_at-same : (n i : ℕ) (x : Value) → sim.live n → IsLive sim.live x → Same sim Anything itself (store_at M n i x) (store_at N (sim.name n) i (renamed sim.name x))
+  store_at-same : (n i : ℕ) (x : Value) → sim.live n → IsLive sim.live x → SameAnswer sim (store_at M n i x) (store_at N (sim.name n) i (renamed sim.name x))
   unfolding store_at
   store_at-same n i x l k = record {
     go = λ s t st.
@@ -121,29 +135,99 @@ module _ {H K : Type 0} {M : ObjectMemory H} {N : ObjectMemory K} (sim : Simulat
     stay = λ s o. stored_over n i x s (M.read s.memory n) (is_there M s.memory x) refl o;
   }
 
-  set_field_one-same : (v : Value) (i : ℕ) (x : Value) → IsLive sim.live v → IsLive sim.live x
-      → Same sim Anything itself (set_field M v i x) (set_field N (renamed sim.name v) i (renamed sim.name x))
+  pub set_field-same : (v w : Value) (i : ℕ) (x y : Value) → ValueSame sim v w → ValueSame sim x y → SameAnswer sim (set_field M v i x) (set_field N w i y)
   unfolding set_field
-  set_field_one-same (Small n) i x h l = search steps_same
-  set_field_one-same (Ref n) i x h l = store_at-same n i x h l
-
-  pub set_field-same : (v w : Value) (i : ℕ) (x y : Value) → IsLive sim.live v → IsLive sim.live x → w ≡ renamed sim.name v → y ≡ renamed sim.name x
-      → Same sim Anything itself (set_field M v i x) (set_field N w i y)
-  set_field-same v w i x y h l e f = rw (e, f) (set_field_one-same v i x h l)
-
-  live_replicate : (v : Value) (n : ℕ) → IsLive sim.live v → AllLive sim.live (replicate n v)
-  live_replicate v zero h = tt
-  live_replicate v (suc n) h = (h, live_replicate v n h)
+  set_field-same (Small n) w i x y h l = rw h.is (search steps_same)
+  set_field-same (Ref n) w i x y h l = rw (h.is, l.is) (store_at-same n i x h.live l.live)
 
   replicate-renamed : (v : Value) (n : ℕ) → replicate n (renamed sim.name v) ≡ renamed_all sim.name (replicate n v)
   replicate-renamed v zero = refl
   replicate-renamed v (suc n) = ap (λ ws. renamed sim.name v ∷ ws) (replicate-renamed v n)
 
-  fresh_live : (v : Value) (c : ℕ) (k : Kind) (size literals : ℕ) → IsLive sim.live v → sim.live c → IsLiveObject sim.live (fresh_with v c k size literals)
-  fresh_live v c kind.Pointers size literals h l = record { class = l; fields = live_replicate v size h }
-  fresh_live v c kind.Words size literals h l = record { class = l; fields = tt }
-  fresh_live v c kind.Bytes size literals h l = record { class = l; fields = tt }
-  fresh_live v c kind.Method size literals h l = record { class = l; fields = (tt, live_replicate v literals h) }
+  -- an exchange
+
+  exchanged-same : (a b : ℕ) (s : State H) (t : State K) (o p : Object) → sim.live a → sim.live b → StateSame sim s t → M.read s.memory a ≡ Some o → M.read s.memory b ≡ Some p
+      → StateSame sim (record s { memory = M.exchange s.memory a b }) (record t { memory = N.exchange t.memory (sim.name a) (sim.name b) })
+  exchanged-same a b s t o p l k st e f = record {
+    memory = sim.exchange s.memory t.memory a b o p st.memory l k e f;
+    limits = st.limits;
+    there = map_all _ _ (λ m x. sim.there_exchange s.memory a b m o p e f x) (roots_of s) st.there;
+    roots = st.roots;
+    registers = st.registers;
+    world = st.world;
+    head = st.head;
+  }
+
+  exchanged_there-same : (a b : ℕ) (s : State H) (t : State K) (x : Bool) → sim.live a → sim.live b → StateSame sim s t → (is_there M s.memory (Ref a) && is_there M s.memory (Ref b)) ≡ x
+      → TransitionSame sim Anything itself (exchanged_there M a b s x) (exchanged_there N (sim.name a) (sim.name b) t x)
+  unfolding exchanged_there
+  exchanged_there-same a b s t false l k st e = inl refl
+  exchanged_there-same a b s t true l k st e =
+      let h = both (is_there M s.memory (Ref a)) (is_there M s.memory (Ref b)) e in
+      let o = some_object (M.read s.memory a) h.0 in
+      let p = some_object (M.read s.memory b) h.1 in
+      inr (tt, refl, exchanged-same a b s t o.0 p.0 l k st o.1 p.1)
+
+  exchanged_over : (a b : ℕ) (s : State H) (x : Bool) → (is_there M s.memory (Ref a) && is_there M s.memory (Ref b)) ≡ x → sim.over s.memory → StaysOver sim Anything (exchanged_there M a b s x)
+  unfolding exchanged_there
+  exchanged_over a b s false e v = tt
+  exchanged_over a b s true e v =
+      let h = both (is_there M s.memory (Ref a)) (is_there M s.memory (Ref b)) e in
+      let o = some_object (M.read s.memory a) h.0 in
+      let p = some_object (M.read s.memory b) h.1 in
+      (tt, sim.over_exchange s.memory a b o.0 p.0 v o.1 p.1)
+
+  exchange_named-same : (a b : ℕ) → sim.live a → sim.live b → SameAnswer sim (exchange_named M a b) (exchange_named N (sim.name a) (sim.name b))
+  unfolding exchange_named
+  exchange_named-same a b l k = record {
+    go = λ s t st.
+        rw (is_there-renamed sim s.memory t.memory (Ref a) st.memory l, is_there-renamed sim s.memory t.memory (Ref b) st.memory k)
+        (exchanged_there-same a b s t _ l k st refl);
+    stay = λ s o. exchanged_over a b s _ refl o;
+  }
+
+  pub exchange-same : (v w x y : Value) → ValueSame sim v w → ValueSame sim x y → SameAnswer sim (exchange M v x) (exchange N w y)
+  unfolding exchange
+  exchange-same (Small a) w x y h k = rw h.is (search steps_same)
+  exchange-same (Ref a) w (Small b) y h k = rw (h.is, k.is) (search steps_same)
+  exchange-same (Ref a) w (Ref b) y h k = rw (h.is, k.is) (exchange_named-same a b h.live k.live)
+
+  -- words and bytes
+
+  fit_units-same : (us : List ℕ) (a b : Option Object) → OptionSame sim.live sim.name a b → fit_units us b ≡ fit_units us a
+  fit_units-same us None b h = rw h refl
+  fit_units-same us (Some o) b h = rw h.1 refl
+
+  units_set-same : (n : ℕ) (us : List ℕ) (s : State H) (t : State K) (a b : Option Object) (fit : Bool) → sim.live n → StateSame sim s t → M.read s.memory n ≡ a → OptionSame sim.live sim.name a b
+      → TransitionSame sim Anything itself (units_set M n us s a fit) (units_set N (sim.name n) us t b fit)
+  unfolding units_set
+  units_set-same n us s t None b fit l st e h = rw h (inl refl)
+  units_set-same n us s t (Some o) b false l st e h = rw h.1 (inl refl)
+  units_set-same n us s t (Some o) b true l st e h =
+      let k = (sim.read_there s.memory t.memory n o st.memory e).1 in
+      rw h.1 (inr (tt, refl, replaced-same s t n o (with_units o us) st l e (record { class = h.0.class; fields = h.0.fields }) (record { class = k.class; fields = k.fields })))
+
+  words-with_units : (o : Object) (us : List ℕ) → (length us == length o.units) ≡ true → words_of (with_units o us) ≡ words_of o
+  words-with_units o us f = let e : length us ≡ length o.units = grind (arith, nat_tests) in rw e refl
+
+  units_over : (n : ℕ) (us : List ℕ) (s : State H) (a : Option Object) (fit : Bool) → M.read s.memory n ≡ a → fit_units us a ≡ fit → sim.over s.memory → StaysOver sim Anything (units_set M n us s a fit)
+  unfolding units_set
+  units_over n us s None fit e f v = tt
+  units_over n us s (Some o) false e f v = tt
+  units_over n us s (Some o) true e f v = (tt, sim.over_replace s.memory n o (with_units o us) v e (words-with_units o us f))
+
+  pub set_units-same : (v w : Value) (us : List ℕ) → ValueSame sim v w → SameAnswer sim (set_units M v us) (set_units N w us)
+  unfolding set_units set_units_at
+  set_units-same (Small n) w us h = rw h.is (search steps_same)
+  set_units-same (Ref n) w us h = rw h.is (record {
+    go = λ s t st.
+        let r = sim.read s.memory t.memory n st.memory h.live in
+        rw (fit_units-same us (M.read s.memory n) (N.read t.memory (sim.name n)) r)
+        (units_set-same n us s t (M.read s.memory n) (N.read t.memory (sim.name n)) (fit_units us (M.read s.memory n)) h.live st refl r);
+    stay = λ s o. units_over n us s (M.read s.memory n) _ refl refl o;
+  })
+
+  -- a new object
 
   fresh-renamed : (v : Value) (c : ℕ) (k : Kind) (size literals : ℕ)
       → fresh_with (renamed sim.name v) (sim.name c) k size literals ≡ renamed_object sim.name (fresh_with v c k size literals)
@@ -157,34 +241,35 @@ module _ {H K : Type 0} {M : ObjectMemory H} {N : ObjectMemory K} (sim : Simulat
   new_of-renamed h k c kind size literals s =
       ap (λ n. fresh_with (Ref n) (sim.name c) kind size literals) (sim.named h k NilObject s) ∙ fresh-renamed (Ref (M.named h NilObject)) c kind size literals
 
-  new_live : (h : H) (k : K) (c : ℕ) (kind : Kind) (size literals : ℕ) → sim.heaps h k → sim.live c → IsLiveObject sim.live (new_of M h c kind size literals)
-  new_live h k c kind size literals s l = fresh_live (Ref (M.named h NilObject)) c kind size literals (sim.named_live h k NilObject s) l
-
   module _ (c : ℕ) (kind : Kind) (size literals : ℕ) where
+    nil : (s : State H) (t : State K) → StateSame sim s t → sim.live (M.named s.memory NilObject) × sim.there s.memory (M.named s.memory NilObject)
+    nil s t st = sim.named_live s.memory t.memory NilObject st.memory
+
     made-same : (s : State H) (t : State K) (there room room' : Bool) → sim.live c → StateSame sim s t → is_there M s.memory (Ref c) ≡ there
-        → (room' ≡ room) ⊎ ((room ≡ true) × sim.over (M.append s.memory (new_of M s.memory c kind size literals)))
+        → has_room M s.head s.memory (new_of M s.memory c kind size literals) ≡ room → (room' ≡ room) ⊎ ((room ≡ true) × sim.over (M.append s.memory (new_of M s.memory c kind size literals)))
         → TransitionSame sim (IsLive sim.live) (renamed sim.name) (made M (new_of M s.memory c kind size literals) s there room)
         (made N (renamed_object sim.name (new_of M s.memory c kind size literals)) t there room')
     unfolding made
-    made-same s t false room room' l st e r = inl refl
-    made-same s t true true true l st e r = inr (
+    made-same s t false room room' l st e g r = inl refl
+    made-same s t true true true l st e g r = inr (
       sim.next_live s.memory t.memory st.memory,
       ap Ref (sim.next s.memory t.memory st.memory),
       record {
-        memory = sim.append s.memory t.memory c kind size literals st.memory (new_live s.memory t.memory c kind size literals st.memory l) e;
+        memory = sim.append s.memory t.memory s.head (new_of M s.memory c kind size literals) st.memory st.limits g (fresh_live sim.live _ c kind size literals (nil s t st).0 l)
+            (fresh_live (sim.there s.memory) _ c kind size literals (nil s t st).1 (value_there sim s.memory t.memory (Ref c) st.memory e));
         limits = st.limits;
-        keeps = sim.keeps_append s.memory (new_of M s.memory c kind size literals) (roots_of s) st.keeps;
+        there = map_all _ _ (λ m x. sim.there_append s.memory m (new_of M s.memory c kind size literals) x) (roots_of s) st.there;
         roots = st.roots;
         registers = st.registers;
         world = st.world;
         head = st.head;
       },
     )
-    made-same s t true true false l st e (inl r) = absurd (cc)
-    made-same s t true true false l st e (inr r) = inl (sim.next_live s.memory t.memory st.memory, r.1)
-    made-same s t true false true l st e (inl r) = absurd (cc)
-    made-same s t true false true l st e (inr r) = let q = r.0 in absurd (cc)
-    made-same s t true false false l st e r = inr (sim.named_live s.memory t.memory NilObject st.memory, ap Ref (sim.named s.memory t.memory NilObject st.memory), st)
+    made-same s t true true false l st e g (inl r) = absurd (cc)
+    made-same s t true true false l st e g (inr r) = inl (sim.next_live s.memory t.memory st.memory, r.1)
+    made-same s t true false true l st e g (inl r) = absurd (cc)
+    made-same s t true false true l st e g (inr r) = let q = r.0 in absurd (cc)
+    made-same s t true false false l st e g r = inr ((nil s t st).0, ap Ref (sim.named s.memory t.memory NilObject st.memory), st)
 
     made_over : (s : State H) (there room : Bool) → sim.over s.memory → StaysOver sim (IsLive sim.live) (made M (new_of M s.memory c kind size literals) s there room)
     unfolding made
@@ -192,26 +277,23 @@ module _ {H K : Type 0} {M : ObjectMemory H} {N : ObjectMemory K} (sim : Simulat
     made_over s true true o = (sim.over_live s.memory (M.next s.memory) o, sim.over_append s.memory (new_of M s.memory c kind size literals) o)
     made_over s true false o = (sim.over_live s.memory (M.named s.memory NilObject) o, o)
 
-    make_named-same : sim.live c → Same sim (IsLive sim.live) (renamed sim.name) (make_named M c kind size literals) (make_named N (sim.name c) kind size literals)
+    make_named-same : sim.makes → sim.live c → SameValue sim (make_named M c kind size literals) (make_named N (sim.name c) kind size literals)
     unfolding make_named
-    make_named-same l = record {
+    make_named-same m l = record {
       go = λ s t st.
           let o = new_of M s.memory c kind size literals in
           rw (new_of-renamed s.memory t.memory c kind size literals st.memory, is_there-renamed sim s.memory t.memory (Ref c) st.memory l)
-          (made-same s t (is_there M s.memory (Ref c)) (has_room M s.head s.memory o) (has_room N t.head t.memory (renamed_object sim.name o)) l st refl
-          (sim.rooms s.memory t.memory s.head t.head o st.memory st.limits st.head));
+          (made-same s t (is_there M s.memory (Ref c)) (has_room M s.head s.memory o) (has_room N t.head t.memory (renamed_object sim.name o)) l st refl refl
+          (sim.rooms s.memory t.memory s.head t.head o m st.memory st.limits st.head));
       stay = λ s o. made_over s (is_there M s.memory (Ref c)) (has_room M s.head s.memory (new_of M s.memory c kind size literals)) o;
     }
 
-  make_one-same : (v : Value) (kind : Kind) (size literals : ℕ) → IsLive sim.live v
-      → Same sim (IsLive sim.live) (renamed sim.name) (make M v kind size literals) (make N (renamed sim.name v) kind size literals)
+  pub make-same : (v w : Value) (kind : Kind) (size literals : ℕ) → sim.makes → ValueSame sim v w → SameValue sim (make M v kind size literals) (make N w kind size literals)
   unfolding make
-  make_one-same (Small n) kind size literals h = search steps_same
-  make_one-same (Ref n) kind size literals h = make_named-same n kind size literals h
+  make-same (Small n) w kind size literals m h = rw h.is (search steps_same)
+  make-same (Ref n) w kind size literals m h = rw h.is (make_named-same n kind size literals m h.live)
 
-  pub make-same : (v w : Value) (kind : Kind) (size literals : ℕ) → IsLive sim.live v → w ≡ renamed sim.name v
-      → Same sim (IsLive sim.live) (renamed sim.name) (make M v kind size literals) (make N w kind size literals)
-  make-same v w kind size literals h e = rw e (make_one-same v kind size literals h)
+  -- registers and the world
 
   four_there : (s : State H) (t : State K) (r : Registers) → StateSame sim s t → IsLiveRegisters sim.live r → are_there N t.memory (renamed_registers sim.name r) ≡ are_there M s.memory r
   four_there s t r st l =
@@ -220,6 +302,14 @@ module _ {H K : Type 0} {M : ObjectMemory H} {N : ObjectMemory K} (sim : Simulat
       let c = is_there-renamed sim s.memory t.memory r.method st.memory l.2 in
       let d = is_there-renamed sim s.memory t.memory r.receiver st.memory l.3 in
       rw (a, b, c, d) refl
+
+  set_there : (s : State H) (t : State K) (r : Registers) → StateSame sim s t → are_there M s.memory r ≡ true → AllLive (sim.there s.memory) (roots_of (record s { registers = r }))
+  set_there s t r st e =
+      let a = both (is_there M s.memory r.active) (is_there M s.memory r.home && (is_there M s.memory r.method && is_there M s.memory r.receiver)) e in
+      let b = both (is_there M s.memory r.home) (is_there M s.memory r.method && is_there M s.memory r.receiver) a.1 in
+      let c = both (is_there M s.memory r.method) (is_there M s.memory r.receiver) b.1 in
+      let known : (v : Value) → is_there M s.memory v ≡ true → IsLive (sim.there s.memory) v = λ v f. value_there sim s.memory t.memory v st.memory f in
+      (known r.active a.0, (known r.home b.0, (known r.method c.0, (known r.receiver c.1, st.there.1.1.1.1))))
 
   registers_set-same : (r : Registers) (s : State H) (t : State K) (there : Bool) → IsLiveRegisters sim.live r → StateSame sim s t → are_there M s.memory r ≡ there
       → TransitionSame sim Anything itself (registers_set r s there) (registers_set (renamed_registers sim.name r) t there)
@@ -231,7 +321,7 @@ module _ {H K : Type 0} {M : ObjectMemory H} {N : ObjectMemory K} (sim : Simulat
     record {
       memory = st.memory;
       limits = st.limits;
-      keeps = sim.keeps_set s.memory s.registers r (head_roots s.head ++ device_roots s.world.devices) st.keeps e;
+      there = set_there s t r st e;
       roots = (h.0, (h.1, (h.2, (h.3, st.roots.1.1.1.1))));
       registers = refl;
       world = st.world;
@@ -244,187 +334,266 @@ module _ {H K : Type 0} {M : ObjectMemory H} {N : ObjectMemory K} (sim : Simulat
   registers_set_over r s false o = tt
   registers_set_over r s true o = (tt, o)
 
-  set_registers_one-same : (r : Registers) → IsLiveRegisters sim.live r → Same sim Anything itself (set_registers M r) (set_registers N (renamed_registers sim.name r))
+  set_registers_one-same : (r : Registers) → IsLiveRegisters sim.live r → SameAnswer sim (set_registers M r) (set_registers N (renamed_registers sim.name r))
   unfolding set_registers
   set_registers_one-same r h = record {
     go = λ s t st. rw (four_there s t r st h) (registers_set-same r s t (are_there M s.memory r) h st refl);
     stay = λ s o. registers_set_over r s (are_there M s.memory r) o;
   }
 
-  pub set_registers-same : (r q : Registers) → IsLiveRegisters sim.live r → q ≡ renamed_registers sim.name r → Same sim Anything itself (set_registers M r) (set_registers N q)
-  set_registers-same r q h e = rw e (set_registers_one-same r h)
+  pub set_registers-same : (r q : Registers) → RegistersSame sim r q → SameAnswer sim (set_registers M r) (set_registers N q)
+  set_registers-same r q h = rw h.is (set_registers_one-same r h.live)
 
-  pub of_page-same : (p : PageObject) → Same sim (IsLive sim.live) (renamed sim.name) (of_page M p) (of_page N p)
+  pub get_world-same : SameWorld sim get_world get_world
+  unfolding get_world
+  get_world-same = record { go = λ s t st. inr (device_part _ (head_roots s.head) _ st.roots.1.1.1.1, st.world, st); stay = λ s o. (over_values sim s.memory o (device_roots s.world.devices), o) }
+
+  world_set-same : (w : World) (s : State H) (t : State K) (b : Bool) → IsLiveWorld sim.live w → StateSame sim s t → all_there M s.memory (device_roots w.devices) ≡ b
+      → TransitionSame sim Anything itself (world_set w s b) (world_set (renamed_world sim.name w) t b)
+  unfolding world_set
+  world_set-same w s t false h st e = inl refl
+  world_set-same w s t true h st e =
+      let r = st.roots in
+      let k = st.there in
+      let d = values_there sim s.memory t.memory (device_roots w.devices) st.memory e in
+      inr (
+        tt,
+        refl,
+        record {
+          memory = st.memory;
+          limits = st.limits;
+          there = (k.0, (k.1.0, (k.1.1.0, (k.1.1.1.0, with_devices _ (head_roots s.head) _ _ k.1.1.1.1 d))));
+          roots = (r.0, (r.1.0, (r.1.1.0, (r.1.1.1.0, with_devices _ (head_roots s.head) _ _ r.1.1.1.1 h))));
+          registers = st.registers;
+          world = refl;
+          head = st.head;
+        },
+      )
+
+  world_set_over : (w : World) (s : State H) (b : Bool) → sim.over s.memory → StaysOver sim Anything (world_set w s b)
+  unfolding world_set
+  world_set_over w s false o = tt
+  world_set_over w s true o = (tt, o)
+
+  devices-renamed : (w : World) → device_roots (renamed_world sim.name w).devices ≡ renamed_all sim.name (device_roots w.devices)
+  devices-renamed w = refl
+
+  set_world_one-same : (w : World) → IsLiveWorld sim.live w → SameAnswer sim (set_world M w) (set_world N (renamed_world sim.name w))
+  unfolding set_world
+  set_world_one-same w h = record {
+    go = λ s t st. rw (all_there-renamed sim s.memory t.memory (device_roots w.devices) st.memory h) (world_set-same w s t _ h st refl);
+    stay = λ s o. world_set_over w s _ o;
+  }
+
+  pub set_world-same : (w u : World) → WorldSame sim w u → SameAnswer sim (set_world M w) (set_world N u)
+  set_world-same w u h = rw h.is (set_world_one-same w h.live)
+
+  -- pointers
+
+  named_or_not-same : (a b : Option ℕ) → ((n : ℕ) → a ≡ Some n → sim.live n) → b ≡ option_map sim.name a → IsLiveOption sim.live (named_or_not a) × (named_or_not b ≡ renamed_option sim.name (named_or_not a))
+  unfolding named_or_not
+  named_or_not-same None b h e = rw e (tt, refl)
+  named_or_not-same (Some n) b h e = rw e (h n refl, refl)
+
+  named_or_not_over : (a : Option ℕ) (s : State H) → sim.over s.memory → IsLiveOption sim.live (named_or_not a)
+  unfolding named_or_not
+  named_or_not_over None s o = tt
+  named_or_not_over (Some n) s o = sim.over_live s.memory n o
+
+  pub object_at-same : (k : ℕ) → SameOption sim (object_at M k) (object_at N k)
+  unfolding object_at
+  object_at-same k = record {
+    go = λ s t st. let n = named_or_not-same (M.borne_by s.memory k) (N.borne_by t.memory k) (λ n e. sim.borne_live s.memory t.memory k n st.memory e) (sim.borne_by s.memory t.memory k st.memory) in
+        inr (n.0, n.1, st);
+    stay = λ s o. (named_or_not_over _ s o, o);
+  }
+
+  module _ (c : ℕ) (l : sim.live c) (h : H) (k : K) (hs : sim.heaps h k) where
+    of_class-same : (a b : Option Object) → OptionSame sim.live sim.name a b → is_of_class (sim.name c) b ≡ is_of_class c a
+    of_class-same None b s = rw s refl
+    of_class-same (Some o) b s = rw s.1 (same_value-same sim (Ref o.class) _ (Ref c) _ (record { live = s.0.class; is = refl }) (record { live = l; is = refl }))
+
+    names_instance-same : (a b : Option ℕ) → ((n : ℕ) → a ≡ Some n → sim.live n) → b ≡ option_map sim.name a → names_instance N k (sim.name c) b ≡ names_instance M h c a
+    names_instance-same None b f e = rw e refl
+    names_instance-same (Some n) b f e = rw e (of_class-same (M.read h n) (N.read k (sim.name n)) (sim.read h k n hs (f n refl)))
+
+    if_named : (x y : Bool) (a a' b b' : Option ℕ) → y ≡ x → a' ≡ option_map sim.name a → b' ≡ option_map sim.name b → (if y then a' else b') ≡ option_map sim.name (if x then a else b)
+    if_named true y a a' b b' e f g = rw e f
+    if_named false y a a' b b' e f g = rw e g
+
+    if_live : (x : Bool) (a b : Option ℕ) → ((n : ℕ) → a ≡ Some n → sim.live n) → ((n : ℕ) → b ≡ Some n → sim.live n) → (n : ℕ) → (if x then a else b) ≡ Some n → sim.live n
+    if_live true a b f g = f
+    if_live false a b f g = g
+
+    first_instance_live : (p left n : ℕ) → first_instance M h c p left ≡ Some n → sim.live n
+    unfolding first_instance
+    first_instance_live p zero n e = cc
+    first_instance_live p (suc left) n e =
+        if_live (names_instance M h c (M.borne_by h p)) (M.borne_by h p) (first_instance M h c (suc p) left) (λ m f. sim.borne_live h k p m hs f) (λ m f. first_instance_live (suc p) left m f) n e
+
+    first_instance-same : (p left : ℕ) → first_instance N k (sim.name c) p left ≡ option_map sim.name (first_instance M h c p left)
+    unfolding first_instance
+    first_instance-same p zero = refl
+    first_instance-same p (suc left) =
+        if_named _ _ _ _ _ _ (names_instance-same (M.borne_by h p) (N.borne_by k p) (λ n e. sim.borne_live h k p n hs e) (sim.borne_by h k p hs)) (sim.borne_by h k p hs) (first_instance-same (suc p) left)
+
+  pub next_instance-same : (v w : Value) (after : ℕ) → ValueSame sim v w → SameOption sim (next_instance M v after) (next_instance N w after)
+  unfolding next_instance next_of
+  next_instance-same (Small n) w after h = rw h.is (search steps_same)
+  next_instance-same (Ref c) w after h = rw h.is (record {
+    go = λ s t st.
+        let n = named_or_not-same (next_of M s.memory c after) (next_of N t.memory (sim.name c) after) (λ n e. first_instance_live c h.live s.memory t.memory st.memory _ _ n e) (first_instance-same c h.live s.memory t.memory st.memory _ _) in
+        inr (n.0, n.1, st);
+    stay = λ s o. (named_or_not_over _ s o, o);
+  })
+
+  pub of_page-same : (p : PageObject) → SameValue sim (of_page M p) (of_page N p)
   unfolding of_page
   of_page-same p = record {
-    go = λ s t st. inr (sim.named_live s.memory t.memory p st.memory, ap Ref (sim.named s.memory t.memory p st.memory), st);
+    go = λ s t st. inr ((sim.named_live s.memory t.memory p st.memory).0, ap Ref (sim.named s.memory t.memory p st.memory), st);
     stay = λ s o. (sim.over_live s.memory (M.named s.memory p) o, o);
   }
 
-  check_one-same : (cause : Dead) (b : Bool) → Same sim Anything itself (check cause b) (check cause b)
+  pub check-same : (cause : Dead) (b c : Bool) → c ≡ b → SameAnswer sim (check cause b) (check cause c)
   unfolding check
-  check_one-same cause true = search steps_same
-  check_one-same cause false = search steps_same
+  check-same cause true c e = rw e (search steps_same)
+  check-same cause false c e = rw e (search steps_same)
 
-  pub check-same : (cause : Dead) (b c : Bool) → c ≡ b → Same sim Anything itself (check cause b) (check cause c)
-  check-same cause b c e = rw e (check_one-same cause b)
-
-  pub value_or_die-same : (cause : Dead) (fields : List Value) (i : ℕ) → AllLive sim.live fields
-      → Same sim (IsLive sim.live) (renamed sim.name) (or_die cause (slice_get fields i)) (or_die cause (slice_get (renamed_all sim.name fields) i))
+  pub value_or_die-same : (cause : Dead) (x y : Option Value) → OptionalSame sim x y → SameValue sim (or_die cause x) (or_die cause y)
   unfolding or_die
-  value_or_die-same cause [] i h = search steps_same
-  value_or_die-same cause (v ∷ vs) zero h = search steps_same
-  value_or_die-same cause (v ∷ vs) (suc i) h = value_or_die-same cause vs i h.1
+  value_or_die-same cause None y h = rw h.is (search steps_same)
+  value_or_die-same cause (Some v) y h = let k : ValueSame sim v (renamed sim.name v) = record { live = h.live; is = refl } in rw h.is (search steps_same)
 
-  fetch_field_one-same : (v : Value) (i : ℕ) → IsLive sim.live v
-      → Same sim (IsLive sim.live) (renamed sim.name) (fetch_field M v i) (fetch_field N (renamed sim.name v) i)
-  unfolding fetch_field
-  fetch_field_one-same v i h = search (steps_same, object-same, check-same, value_or_die-same) depth 16 fits 4000
+  pub itself_or_die-same : {A : Type 0} (cause : Dead) (x y : Option A) → y ≡ x → SameAnswer sim (or_die cause x) (or_die cause y)
+  unfolding or_die
+  itself_or_die-same cause None y e = rw e (search steps_same)
+  itself_or_die-same cause (Some a) y e = rw e (search steps_same)
 
-  pub fetch_field-same : (v w : Value) (i : ℕ) → IsLive sim.live v → w ≡ renamed sim.name v
-      → Same sim (IsLive sim.live) (renamed sim.name) (fetch_field M v i) (fetch_field N w i)
-  fetch_field-same v w i h e = rw e (fetch_field_one-same v i h)
-
-  pub ruleset memory_same = (steps_same, get_active-same, get_home-same, get_method-same, get_receiver-same, get_ip-same, get_sp-same, set_ip-same, set_sp-same, object-same, set_field-same, make-same, of_page-same, check-same, value_or_die-same, fetch_field-same)
-
-  pub new_object-same : (v w : Value) (n : ℕ) → IsLive sim.live v → w ≡ renamed sim.name v → Same sim (IsLive sim.live) (renamed sim.name) (new_object M v n) (new_object N w n)
-  unfolding new_object
-  new_object-same v w n h e = make-same v w kind.Pointers n 0 h e
-
-  class_of_one-same : (v : Value) → IsLive sim.live v → Same sim (IsLive sim.live) (renamed sim.name) (class_of M v) (class_of N (renamed sim.name v))
-  unfolding class_of
-  class_of_one-same (Small n) h = search memory_same depth 16 fits 4000
-  class_of_one-same (Ref n) h = search (memory_same, object_named-same) depth 16 fits 4000
-
-  pub class_of-same : (v w : Value) → IsLive sim.live v → w ≡ renamed sim.name v → Same sim (IsLive sim.live) (renamed sim.name) (class_of M v) (class_of N w)
-  class_of-same v w h e = rw e (class_of_one-same v h)
-
-  integer_or_die_one-same : (v : Value) → Same sim Anything itself (integer_or_die v) (integer_or_die (renamed sim.name v))
+  pub integer_or_die-same : (v w : Value) → ValueSame sim v w → SameAnswer sim (integer_or_die v) (integer_or_die w)
   unfolding integer_or_die
-  integer_or_die_one-same (Small n) = search steps_same
-  integer_or_die_one-same (Ref n) = search steps_same
+  integer_or_die-same (Small n) w h = rw h.is (search steps_same)
+  integer_or_die-same (Ref n) w h = rw h.is (search steps_same)
 
-  pub integer_or_die-same : (v w : Value) → w ≡ renamed sim.name v → Same sim Anything itself (integer_or_die v) (integer_or_die w)
-  integer_or_die-same v w e = rw e (integer_or_die_one-same v)
+  pub ruleset memory_same = (steps_same, get_active-same, get_home-same, get_method-same, get_receiver-same, get_ip-same, get_sp-same, set_ip-same, set_sp-same, object-same, set_field-same, set_units-same, exchange-same, make-same, set_registers-same, get_world-same, set_world-same, object_at-same, next_instance-same, of_page-same, check-same, value_or_die-same, itself_or_die-same, integer_or_die-same)
 
-  fetch_integer_one-same : (v : Value) (i : ℕ) → IsLive sim.live v → Same sim Anything itself (fetch_integer M v i) (fetch_integer N (renamed sim.name v) i)
-  unfolding fetch_integer
-  fetch_integer_one-same v i h = search (memory_same, integer_or_die-same) depth 16 fits 4000
+  -- fields
 
-  pub fetch_integer-same : (v w : Value) (i : ℕ) → IsLive sim.live v → w ≡ renamed sim.name v → Same sim Anything itself (fetch_integer M v i) (fetch_integer N w i)
-  fetch_integer-same v w i h e = rw e (fetch_integer_one-same v i h)
+  pub fetch_field-same : (v w : Value) (i : ℕ) → ValueSame sim v w → SameValue sim (fetch_field M v i) (fetch_field N w i)
+  unfolding fetch_field
+  fetch_field-same v w i h = search memory_same depth 16 fits 4000
 
-  store_field_one-same : (v : Value) (i : ℕ) (x : Value) → IsLive sim.live v → IsLive sim.live x
-      → Same sim Anything itself (store_field M v i x) (store_field N (renamed sim.name v) i (renamed sim.name x))
+  pub store_field-same : (v w : Value) (i : ℕ) (x y : Value) → ValueSame sim v w → ValueSame sim x y → SameAnswer sim (store_field M v i x) (store_field N w i y)
   unfolding store_field
-  store_field_one-same v i x h k = search memory_same depth 20 fits 4000
+  store_field-same v w i x y h k = search memory_same depth 20 fits 4000
 
-  pub store_field-same : (v w : Value) (i : ℕ) (x y : Value) → IsLive sim.live v → IsLive sim.live x → w ≡ renamed sim.name v → y ≡ renamed sim.name x
-      → Same sim Anything itself (store_field M v i x) (store_field N w i y)
-  store_field-same v w i x y h k e f = rw (e, f) (store_field_one-same v i x h k)
-
-  count_fields_one-same : (v : Value) → IsLive sim.live v → Same sim Anything itself (count_fields M v) (count_fields N (renamed sim.name v))
+  pub count_fields-same : (v w : Value) → ValueSame sim v w → SameAnswer sim (count_fields M v) (count_fields N w)
   unfolding count_fields
-  count_fields_one-same v h = search memory_same depth 20 fits 4000
+  count_fields-same v w h = search memory_same depth 20 fits 4000
 
-  pub count_fields-same : (v w : Value) → IsLive sim.live v → w ≡ renamed sim.name v → Same sim Anything itself (count_fields M v) (count_fields N w)
-  count_fields-same v w h e = rw e (count_fields_one-same v h)
+  pub new_object-same : (v w : Value) (n : ℕ) → sim.makes → ValueSame sim v w → SameValue sim (new_object M v n) (new_object N w n)
+  unfolding new_object
+  new_object-same v w n m h = make-same v w kind.Pointers n 0 m h
 
-  fetch_fields_one-same : (v : Value) (from n : ℕ) → IsLive sim.live v
-      → Same sim (AllLive sim.live) (renamed_all sim.name) (fetch_fields M v from n) (fetch_fields N (renamed sim.name v) from n)
+  pub class_of-same : (v w : Value) → ValueSame sim v w → SameValue sim (class_of M v) (class_of N w)
+  unfolding class_of
+  class_of-same (Small n) w h = rw h.is (search memory_same)
+  class_of-same (Ref n) w h = let l : sim.live n = h.live in rw h.is (search (memory_same, object_named-same) depth 16 fits 4000)
+
+  pub ruleset fields_same = (memory_same, fetch_field-same, store_field-same, count_fields-same, new_object-same, class_of-same)
+
+  pub fetch_integer-same : (v w : Value) (i : ℕ) → ValueSame sim v w → SameAnswer sim (fetch_integer M v i) (fetch_integer N w i)
+  unfolding fetch_integer
+  fetch_integer-same v w i h = search fields_same depth 16 fits 4000
+
+  fetch_fields-same : (v w : Value) (from n : ℕ) → ValueSame sim v w → SameValues sim (fetch_fields M v from n) (fetch_fields N w from n)
   unfolding fetch_fields
-  fetch_fields_one-same v from zero h = search memory_same depth 16 fits 4000
-  fetch_fields_one-same v from (suc n) h = search (memory_same, fetch_fields_one-same v (suc from) n) depth 16 fits 4000
+  fetch_fields-same v w from zero h = search fields_same depth 16 fits 4000
+  fetch_fields-same v w from (suc n) h = search (fields_same, fetch_fields-same v w (suc from) n) depth 16 fits 4000
 
-  pub fetch_fields-same : (v w : Value) (from n : ℕ) → IsLive sim.live v → w ≡ renamed sim.name v
-      → Same sim (AllLive sim.live) (renamed_all sim.name) (fetch_fields M v from n) (fetch_fields N w from n)
-  fetch_fields-same v w from n h e = rw e (fetch_fields_one-same v from n h)
-
-  store_fields_one-same : (v : Value) (to : ℕ) (xs : List Value) → IsLive sim.live v → AllLive sim.live xs
-      → Same sim Anything itself (store_fields M v to xs) (store_fields N (renamed sim.name v) to (renamed_all sim.name xs))
+  store_fields_one-same : (v w : Value) (to : ℕ) (xs : List Value) → ValueSame sim v w → AllLive sim.live xs → SameAnswer sim (store_fields M v to xs) (store_fields N w to (renamed_all sim.name xs))
   unfolding store_fields
-  store_fields_one-same v to [] h k = search memory_same depth 16 fits 4000
-  store_fields_one-same v to (x ∷ xs) h k = then_unit-same sim _ _ _ _ _ _ (store_field_one-same v to x h k.0) (store_fields_one-same v (suc to) xs h k.1)
+  store_fields_one-same v w to [] h k = search fields_same depth 16 fits 4000
+  store_fields_one-same v w to (x ∷ xs) h k =
+      let l : ValueSame sim x (renamed sim.name x) = record { live = k.0; is = refl } in
+      then_unit-same sim _ _ _ _ _ _ (store_field-same v w to x _ h l) (store_fields_one-same v w (suc to) xs h k.1)
 
-  pub store_fields-same : (v w : Value) (to : ℕ) (xs ys : List Value) → IsLive sim.live v → AllLive sim.live xs → w ≡ renamed sim.name v → ys ≡ renamed_all sim.name xs
-      → Same sim Anything itself (store_fields M v to xs) (store_fields N w to ys)
-  store_fields-same v w to xs ys h k e f = rw (e, f) (store_fields_one-same v to xs h k)
+  store_fields-same : (v w : Value) (to : ℕ) (xs ys : List Value) → ValueSame sim v w → ValuesSame sim xs ys → SameAnswer sim (store_fields M v to xs) (store_fields N w to ys)
+  store_fields-same v w to xs ys h k = rw k.is (store_fields_one-same v w to xs h k.live)
 
-  transfer_one-same : (n : ℕ) (v : Value) (from : ℕ) (w : Value) (to : ℕ) → IsLive sim.live v → IsLive sim.live w
-      → Same sim Anything itself (transfer M n v from w to) (transfer N n (renamed sim.name v) from (renamed sim.name w) to)
+  pub transfer-same : (n : ℕ) (v w : Value) (from : ℕ) (x y : Value) (to : ℕ) → ValueSame sim v w → ValueSame sim x y → SameAnswer sim (transfer M n v from x to) (transfer N n w from y to)
   unfolding transfer
-  transfer_one-same n v from w to h k = search (memory_same, fetch_fields-same, store_fields-same) depth 16 fits 4000
+  transfer-same n v w from x y to h k = search (fields_same, fetch_fields-same, store_fields-same) depth 16 fits 4000
 
-  pub transfer-same : (n : ℕ) (v v' : Value) (from : ℕ) (w w' : Value) (to : ℕ) → IsLive sim.live v → IsLive sim.live w → v' ≡ renamed sim.name v → w' ≡ renamed sim.name w
-      → Same sim Anything itself (transfer M n v from w to) (transfer N n v' from w' to)
-  transfer-same n v v' from w w' to h k e f = rw (e, f) (transfer_one-same n v from w to h k)
+  pub fetch_word-same : (v w : Value) (i : ℕ) → ValueSame sim v w → SameAnswer sim (fetch_word M v i) (fetch_word N w i)
+  unfolding fetch_word
+  fetch_word-same v w i h = search fields_same depth 16 fits 4000
 
-  put_one-same : (c : Value) (at : ℕ) (x : Value) → IsLive sim.live c → IsLive sim.live x
-      → Same sim Anything itself (put M c at x) (put N (renamed sim.name c) at (renamed sim.name x))
+  pub store_word-same : (v w : Value) (i x : ℕ) → ValueSame sim v w → SameAnswer sim (store_word M v i x) (store_word N w i x)
+  unfolding store_word
+  store_word-same v w i x h = search fields_same depth 16 fits 4000
+
+  pub fetch_byte-same : (v w : Value) (i : ℕ) → ValueSame sim v w → SameAnswer sim (fetch_byte M v i) (fetch_byte N w i)
+  unfolding fetch_byte
+  fetch_byte-same v w i h = search fields_same depth 16 fits 4000
+
+  pub store_byte-same : (v w : Value) (i x : ℕ) → ValueSame sim v w → SameAnswer sim (store_byte M v i x) (store_byte N w i x)
+  unfolding store_byte
+  store_byte-same v w i x h = search fields_same depth 16 fits 4000
+
+  -- the stack
+
+  put-same : (c d : Value) (at : ℕ) (x y : Value) → ValueSame sim c d → ValueSame sim x y → SameAnswer sim (put M c at x) (put N d at y)
   unfolding put
-  put_one-same c at x h k = search (memory_same, count_fields-same, store_field-same) depth 20 fits 4000
+  put-same c d at x y h k = search fields_same depth 20 fits 4000
 
-  pub put-same : (c d : Value) (at : ℕ) (x y : Value) → IsLive sim.live c → IsLive sim.live x → d ≡ renamed sim.name c → y ≡ renamed sim.name x
-      → Same sim Anything itself (put M c at x) (put N d at y)
-  put-same c d at x y h k e f = rw (e, f) (put_one-same c at x h k)
-
-  push_one-same : (v : Value) → IsLive sim.live v → Same sim Anything itself (push M v) (push N (renamed sim.name v))
+  pub push-same : (v w : Value) → ValueSame sim v w → SameAnswer sim (push M v) (push N w)
   unfolding push
-  push_one-same v h = search (memory_same, put-same) depth 20 fits 4000
+  push-same v w h = search (fields_same, put-same) depth 20 fits 4000
 
-  pub push-same : (v w : Value) → IsLive sim.live v → w ≡ renamed sim.name v → Same sim Anything itself (push M v) (push N w)
-  push-same v w h e = rw e (push_one-same v h)
-
-  pub top-same : Same sim (IsLive sim.live) (renamed sim.name) (top M) (top N)
+  pub top-same : SameValue sim (top M) (top N)
   unfolding top
-  top-same = search memory_same depth 16 fits 4000
+  top-same = search fields_same depth 16 fits 4000
 
-  pub under-same : (k : ℕ) → Same sim (IsLive sim.live) (renamed sim.name) (under M k) (under N k)
+  pub under-same : (k : ℕ) → SameValue sim (under M k) (under N k)
   unfolding under
-  under-same k = search memory_same depth 16 fits 4000
+  under-same k = search fields_same depth 16 fits 4000
 
-  pub look_at_words-same : (n : ℕ) → Same sim Anything itself (look_at_words M n) (look_at_words N n)
+  pub look_at_words-same : (n : ℕ) → SameAnswer sim (look_at_words M n) (look_at_words N n)
   unfolding look_at_words
-  look_at_words-same n = search (memory_same, under-same, top-same) depth 16 fits 4000
+  look_at_words-same n = search (fields_same, under-same, top-same) depth 16 fits 4000
 
-  pub drop_words-same : (n : ℕ) → Same sim Anything itself (drop_words n) (drop_words n)
+  pub drop_words-same : (n : ℕ) → SameAnswer sim (drop_words n) (drop_words n)
   unfolding drop_words
-  drop_words-same n = search memory_same depth 16 fits 4000
+  drop_words-same n = search fields_same depth 16 fits 4000
 
-  pub pop-same : Same sim (IsLive sim.live) (renamed sim.name) (pop M) (pop N)
+  pub pop-same : SameValue sim (pop M) (pop N)
   unfolding pop
-  pop-same = search (memory_same, top-same) depth 16 fits 4000
+  pop-same = search (fields_same, top-same) depth 16 fits 4000
 
-  literal_one-same : (v : Value) (i : ℕ) → IsLive sim.live v
-      → Same sim (IsLive sim.live) (renamed sim.name) (literal M v i) (literal N (renamed sim.name v) i)
+  -- methods
+
+  pub literal-same : (v w : Value) (i : ℕ) → ValueSame sim v w → SameValue sim (literal M v i) (literal N w i)
   unfolding literal
-  literal_one-same v i h = search memory_same depth 16 fits 4000
+  literal-same v w i h = search fields_same depth 16 fits 4000
 
-  pub literal-same : (v w : Value) (i : ℕ) → IsLive sim.live v → w ≡ renamed sim.name v
-      → Same sim (IsLive sim.live) (renamed sim.name) (literal M v i) (literal N w i)
-  literal-same v w i h e = rw e (literal_one-same v i h)
+  pub fetch_method_field-same : (v w : Value) (i : ℕ) → ValueSame sim v w → SameValue sim (fetch_method_field M v i) (fetch_method_field N w i)
+  unfolding fetch_method_field
+  fetch_method_field-same v w i h = search fields_same depth 16 fits 4000
 
-  number_or_die_one-same : (cause : Dead) (n : Option ℕ) → Same sim Anything itself (or_die cause n) (or_die cause n)
-  unfolding or_die
-  number_or_die_one-same cause None = search steps_same
-  number_or_die_one-same cause (Some n) = search steps_same
+  pub store_method_field-same : (v w : Value) (i : ℕ) (x y : Value) → ValueSame sim v w → ValueSame sim x y → SameAnswer sim (store_method_field M v i x) (store_method_field N w i y)
+  unfolding store_method_field
+  store_method_field-same v w i x y h k = search fields_same depth 20 fits 4000
 
-  pub number_or_die-same : (cause : Dead) (n k : Option ℕ) → k ≡ n → Same sim Anything itself (or_die cause n) (or_die cause k)
-  number_or_die-same cause n k e = rw e (number_or_die_one-same cause n)
-
-  byte_at_one-same : (v : Value) (ip : ℤ) → IsLive sim.live v → Same sim Anything itself (byte_at M v ip) (byte_at N (renamed sim.name v) ip)
+  byte_at-same : (v w : Value) (ip : ℤ) → ValueSame sim v w → SameAnswer sim (byte_at M v ip) (byte_at N w ip)
   unfolding byte_at
-  byte_at_one-same v ip h = search (memory_same, number_or_die-same) depth 16 fits 4000
+  byte_at-same v w ip h = search fields_same depth 16 fits 4000
 
-  pub byte_at-same : (v w : Value) (ip : ℤ) → IsLive sim.live v → w ≡ renamed sim.name v → Same sim Anything itself (byte_at M v ip) (byte_at N w ip)
-  byte_at-same v w ip h e = rw e (byte_at_one-same v ip h)
-
-  pub next_byte-same : Same sim Anything itself (next_byte M) (next_byte N)
+  pub next_byte-same : SameAnswer sim (next_byte M) (next_byte N)
   unfolding next_byte
-  next_byte-same = search (memory_same, byte_at-same) depth 24 fits 4000
+  next_byte-same = search (fields_same, byte_at-same) depth 24 fits 4000
 
-  pub jump-same : (d : ℤ) → Same sim Anything itself (jump d) (jump d)
+  pub jump-same : (d : ℤ) → SameAnswer sim (jump d) (jump d)
   unfolding jump
-  jump-same d = search memory_same depth 16 fits 4000
+  jump-same d = search fields_same depth 16 fits 4000
 
-  pub ruleset parts_same = (memory_same, new_object-same, class_of-same, fetch_integer-same, count_fields-same, transfer-same, store_field-same, push-same, under-same, look_at_words-same, drop_words-same, top-same, pop-same, literal-same, next_byte-same, jump-same, number_or_die-same, integer_or_die-same)
+  pub ruleset parts_same = (fields_same, fetch_integer-same, transfer-same, fetch_word-same, store_word-same, fetch_byte-same, store_byte-same, push-same, under-same, look_at_words-same, drop_words-same, top-same, pop-same, literal-same, fetch_method_field-same, store_method_field-same, next_byte-same, jump-same)

@@ -5,7 +5,7 @@ use Rattle.std.specs.Prelude.{ℤ}
 use Rattle.st_model.specs.Values.{Value, Small, Ref}
 use Rattle.st_model.specs.Objects.{PageObject, SmallIntegerClass}
 use Rattle.st_model.specs.Machine.{ObjectMemory}
-use Rattle.st_model.specs.Steps.{of_page, object_named, object, store_at, stored_at, set_field, class_of, fetch_field, store_field, count_fields, fetch_fields, store_fields, transfer, literal, byte_at}
+use Rattle.st_model.specs.Steps.{of_page, object_named, object, store_at, stored_at, set_field, exchanged_there, exchange_named, exchange, units_set, set_units_at, set_units, fetch_word, fetch_byte, store_word, store_byte, class_of, fetch_field, store_field, count_fields, fetch_fields, store_fields, transfer, literal, fetch_method_field, store_method_field, byte_at}
 use Rattle.st_model.specs.Methods.{method_header, literal_from_last}
 use Rattle.st_model.specs.Table.{Table, table, IsTabular}
 
@@ -46,6 +46,33 @@ module _ {m : ObjectMemory Table} (h : IsTabular m) where
   unfolding store_field
   store_field-as v i x = rw (object-as v, set_field-as v i x) refl
 
+  pub exchange-as : (v w : Value) → exchange m v w ≡ exchange table v w
+  unfolding exchange exchange_named exchanged_there
+  exchange-as (Small a) w = refl
+  exchange-as (Ref a) (Small b) = refl
+  exchange-as (Ref a) (Ref b) = rw (h.read, h.exchange) refl
+
+  set_units-as : (v : Value) (us : List ℕ) → set_units m v us ≡ set_units table v us
+  unfolding set_units set_units_at units_set
+  set_units-as (Small n) us = refl
+  set_units-as (Ref n) us = rw (h.read, h.replace) refl
+
+  pub fetch_word-as : (v : Value) (i : ℕ) → fetch_word m v i ≡ fetch_word table v i
+  unfolding fetch_word
+  fetch_word-as v i = rw (object-as v) refl
+
+  pub fetch_byte-as : (v : Value) (i : ℕ) → fetch_byte m v i ≡ fetch_byte table v i
+  unfolding fetch_byte
+  fetch_byte-as v i = rw (object-as v) refl
+
+  pub store_word-as : (v : Value) (i x : ℕ) → store_word m v i x ≡ store_word table v i x
+  unfolding store_word
+  store_word-as v i x = rw (object-as v, fun_ext (set_units-as v)) refl
+
+  pub store_byte-as : (v : Value) (i x : ℕ) → store_byte m v i x ≡ store_byte table v i x
+  unfolding store_byte
+  store_byte-as v i x = rw (object-as v, fun_ext (set_units-as v)) refl
+
   fetch_fields-as : (v : Value) (from n : ℕ) → fetch_fields m v from n ≡ fetch_fields table v from n
   unfolding fetch_fields
   fetch_fields-as v from zero = refl
@@ -63,6 +90,14 @@ module _ {m : ObjectMemory Table} (h : IsTabular m) where
   pub literal-as : (v : Value) (i : ℕ) → literal m v i ≡ literal table v i
   unfolding literal
   literal-as v i = rw (object-as v) refl
+
+  pub fetch_method_field-as : (v : Value) (i : ℕ) → fetch_method_field m v i ≡ fetch_method_field table v i
+  unfolding fetch_method_field
+  fetch_method_field-as v i = rw (object-as v) refl
+
+  pub store_method_field-as : (v : Value) (i : ℕ) (x : Value) → store_method_field m v i x ≡ store_method_field table v i x
+  unfolding store_method_field
+  store_method_field-as v i x = rw (object-as v, set_field-as v i x) refl
 
   pub byte_at-as : (v : Value) (ip : ℤ) → byte_at m v ip ≡ byte_at table v ip
   unfolding byte_at

@@ -1,18 +1,18 @@
 -- What a whole memory knows of a live value, and that it stays whole where a field is stored or a value is held.
-use Rattle.std.proofs.Common.{◌≡◌, ℕ, ◌≤◌, zero, suc, true, List, [], ◌∷◌, length, set, refl, sym, ap, ◌∙◌, subst, arith, length-set, inl, inr}
+use Rattle.std.proofs.Common.{◌≡◌, ℕ, ◌<◌, ◌≤◌, zero, suc, true, List, [], ◌∷◌, length, set, refl, sym, ap, ◌∙◌, subst, arith, length-set, inl, inr}
 use Rattle.std.specs.Prelude.{slice_get, slice_index_or, slice_set, unwrap_or, Some, None}
 use Rattle.std.proofs.lemmas.Bool.{cases_eq}
 use Rattle.st_model.specs.declared.place.RootPlace.{RootPlace}
 use Rattle.st_model.specs.declared.place.RootPlace.TheVariants as place
 use Rattle.st_model.specs.Values.{Value, Small, Ref, IsLive, AllLive}
-use Rattle.st_model.specs.Objects.{Object, nil, one, place_of, with_field, words_of, IsLiveObject}
-use Rattle.st_model.specs.Formed.{IsFormed, IsHeader, IsWord}
+use Rattle.st_model.specs.Objects.{Object, nil, one, place_of, with_field, object_with_unit, words_of, IsLiveObject}
+use Rattle.st_model.specs.Formed.{IsFormed, IsHeader, IsWord, unit_limit}
 use Rattle.st_model.specs.Table.{Table, entry, changed, total_used}
 use Rattle.st_model.specs.Show.{IsUsed}
-use Rattle.st_model.specs.View.{View, Held, IsKnown, IsWhole, is_live, object_of, nothing, held_at, with_held, with_stored}
+use Rattle.st_model.specs.View.{View, Held, IsKnown, IsWhole, is_live, object_of, nothing, held_at, with_held, with_stored, with_unit}
 use Rattle.st_model.proofs.TableLemmas.{changed-some, changed-other}
 use Rattle.st_model.proofs.SettledLemmas.{some_is, is_some-of}
-use Rattle.st_model.proofs.FormedLemmas.{formed_field, words_of-with_field}
+use Rattle.st_model.proofs.FormedLemmas.{formed_field, formed_unit, words_of-with_field, words_of-object_with_unit}
 
 -- what a live value names
 
@@ -214,3 +214,20 @@ whole_held v w p x whole known objects held head = whole_as (record { objects = 
   most_entries = whole.most_entries;
   most_words = whole.most_words;
 })
+
+-- storing a word or a byte
+
+pub whole_unit : (v w : View) (o : Value) (i u : ℕ) → IsWhole v → is_live v.objects o ≡ true → u < unit_limit (object_of v.objects o).kind → w.objects ≡ with_unit v.objects o i u → w.held ≡ v.held → w.head ≡ v.head → IsWhole w
+unfolding with_unit
+whole_unit v w o i u whole live small objects held head =
+    let r = named v.objects o live in
+    let a = r.1 in
+    let is : object_of v.objects (Ref r.0) ≡ a = subst (λ y. object_of v.objects y ≡ a) r.2 r.4 in
+    let t : with_unit v.objects o i u ≡ changed v.objects r.0 (object_with_unit a i u) =
+    ap (λ y. with_unit v.objects y i u) r.2 ∙ ap (λ b. changed v.objects r.0 (object_with_unit b i u)) is in
+    let was = whole.complete.objects r.0 a r.3 in
+    whole_as (record { objects = changed v.objects r.0 (object_with_unit a i u); held = v.held; head = v.head }) w (objects ∙ t) held head
+    (whole_changed v whole r.0 a (object_with_unit a i u) r.3
+    (formed_unit a i u (whole.formed r.0 a r.3) (subst (λ (b : Object). u < unit_limit b.kind) r.4 small))
+    (record { class = was.class; fields = was.fields })
+    (words_of-object_with_unit a i u))

@@ -22,6 +22,11 @@ replaced [] n o = []
 replaced (b ∷ h) zero o = record { object = o; pointer = b.pointer; kept = b.kept } ∷ h
 replaced (b ∷ h) (suc n) o = b ∷ replaced h n o
 
+abbrev pub exchanged_births : Births → ℕ → ℕ → Option Object → Option Object → Births
+exchanged_births h a b None p = h
+exchanged_births h a b (Some o) None = h
+exchanged_births h a b (Some o) (Some p) = replaced (replaced h a p) b o
+
 abbrev pub bears : Birth → ℕ → Bool
 bears b k = b.kept && (b.pointer == k)
 
@@ -82,6 +87,7 @@ abbrev pub births : ObjectMemory Births
 births = record {
   read = object_born;
   replace = replaced;
+  exchange = λ h a b. exchanged_births h a b (object_born h a) (object_born h b);
   append = λ h o. born h (record { object = o; pointer = least_free h; kept = true });
   next = λ h. length h;
   named = λ h q. bearer h (place_of q);
@@ -89,6 +95,15 @@ births = record {
   kept = λ h n. is_some (borne h n);
   settled = settled_births;
   pointer = pointer_of;
+  borne_by = λ h k. if is_borne h k then Some (bearer h k) else None;
   total = total_kept;
   bounded = false;
 }
+
+abbrev pub or_object : Object → Option Object → Option Object
+or_object o None = Some o
+or_object o (Some a) = Some a
+
+-- the births with this object under each name under which none was born
+abbrev pub births_with : Object → ObjectMemory Births
+births_with o = record births { read = λ h n. or_object o (object_born h n) }

@@ -1,5 +1,5 @@
 -- The bytecodes, a definition for each group of rows of the book's table (chapter 28), and the step that does one.
-use Rattle.std.specs.Prelude.{ℕ, ◌+◌, ◌*◌, Option, None, ℤ, pos, ◌+ℤ◌, ◌-ℤ◌, ◌*ℤ◌}
+use Rattle.std.specs.Prelude.{ℕ, ◌+◌, ◌*◌, Option, ℤ, pos, ◌+ℤ◌, ◌-ℤ◌, ◌*ℤ◌}
 use Rattle.st_model.specs.declared.dead.Dead.TheVariants as dead
 use Rattle.st_model.specs.declared.bytecode.Operand.{Operand}
 use Rattle.st_model.specs.declared.bytecode.Operand.TheVariants.{ReceiverVariable, TemporaryVariable, LiteralConstant, LiteralVariable}
@@ -7,13 +7,14 @@ use Rattle.st_model.specs.declared.bytecode.Constant.{Constant}
 use Rattle.st_model.specs.declared.bytecode.Constant.TheVariants as constant
 use Rattle.st_model.specs.declared.bytecode.Bytecode.{Bytecode}
 use Rattle.st_model.specs.declared.bytecode.Bytecode.TheVariants as code
-use Rattle.st_model.specs.Values.{Value, Small}
+use Rattle.st_model.specs.Values.{Value, Small, Ref}
 use Rattle.st_model.specs.Objects.{NilObject, FalseObject, TrueObject}
-use Rattle.st_model.specs.Outcomes.{Outcome}
+use Rattle.st_model.specs.Outcomes.{StepEnd, NotBuilt}
 use Rattle.st_model.specs.Decoded.{decoded, operand_of, selector_of, arguments_of}
 use Rattle.st_model.specs.Machine.{ObjectMemory, Step, answer, die, ◌>>=◌}
-use Rattle.st_model.specs.Steps.{get_active, get_home, get_method, get_receiver, fetch_field, store_field, of_page, push, top, pop, literal, next_byte, jump}
-use Rattle.st_model.specs.Sends.{goes_on, send, send_to_super, special_send, arithmetic_send}
+use Rattle.st_model.specs.Steps.{get_active, get_home, get_method, get_receiver, fetch_field, store_field, of_page, push, top, under, pop, literal, next_byte, jump}
+use Rattle.st_model.specs.Sends.{Call, send, send_to_super, special_send}
+use Rattle.st_model.specs.Executing.{goes_on, executed, executed_if_any}
 use Rattle.st_model.specs.Returns.{return_to_sender, return_to_caller, jump_on}
 
 -- Receiver variable i is field i of the receiver, temporary variable i is field 6 + i of the home context,
@@ -152,115 +153,130 @@ long_unconditional_jump m i = do
   jump (long_offset i b)
 
 -- literal i is sent with n arguments
-unfoldable pub send_literal : {H : Type 0} → ObjectMemory H → ℕ → ℕ → Step H (Option Outcome)
+unfoldable pub send_literal : {H : Type 0} → ObjectMemory H → ℕ → ℕ → Step H Call
 send_literal m i n = do
   selector ← fetch_literal_constant m i
   send m selector n
 
-unfoldable pub send_literal_to_super : {H : Type 0} → ObjectMemory H → ℕ → ℕ → Step H (Option Outcome)
+unfoldable pub send_literal_to_super : {H : Type 0} → ObjectMemory H → ℕ → ℕ → Step H Call
 send_literal_to_super m i n = do
   selector ← fetch_literal_constant m i
   send_to_super m selector n
 
 -- 131
-unfoldable pub extended_send : {H : Type 0} → ObjectMemory H → Step H (Option Outcome)
+unfoldable pub extended_send : {H : Type 0} → ObjectMemory H → Step H Call
 extended_send m = do
   b ← next_byte m
   send_literal m (selector_of b) (arguments_of b)
 
 -- 132: the first byte is the number of arguments, and the second numbers the literal
-unfoldable pub double_extended_send : {H : Type 0} → ObjectMemory H → Step H (Option Outcome)
+unfoldable pub double_extended_send : {H : Type 0} → ObjectMemory H → Step H Call
 double_extended_send m = do
   n ← next_byte m
   i ← next_byte m
   send_literal m i n
 
 -- 133
-unfoldable pub extended_super_send : {H : Type 0} → ObjectMemory H → Step H (Option Outcome)
+unfoldable pub extended_super_send : {H : Type 0} → ObjectMemory H → Step H Call
 extended_super_send m = do
   b ← next_byte m
   send_literal_to_super m (selector_of b) (arguments_of b)
 
 -- 134
-unfoldable pub double_extended_super_send : {H : Type 0} → ObjectMemory H → Step H (Option Outcome)
+unfoldable pub double_extended_super_send : {H : Type 0} → ObjectMemory H → Step H Call
 double_extended_super_send m = do
   n ← next_byte m
   i ← next_byte m
   send_literal_to_super m i n
 
 -- 120
-unfoldable pub return_receiver : {H : Type 0} → ObjectMemory H → Step H (Option Outcome)
+unfoldable pub return_receiver : {H : Type 0} → ObjectMemory H → Step H (Option Call)
 return_receiver m = do
   receiver ← get_receiver
   return_to_sender m receiver
 
 -- 121 to 123
-unfoldable pub return_constant : {H : Type 0} → ObjectMemory H → Constant → Step H (Option Outcome)
+unfoldable pub return_constant : {H : Type 0} → ObjectMemory H → Constant → Step H (Option Call)
 return_constant m c = do
   x ← constant_value m c
   return_to_sender m x
 
 -- 124
-unfoldable pub return_top_to_sender : {H : Type 0} → ObjectMemory H → Step H (Option Outcome)
+unfoldable pub return_top_to_sender : {H : Type 0} → ObjectMemory H → Step H (Option Call)
 return_top_to_sender m = do
   x ← pop m
   return_to_sender m x
 
 -- 125
-unfoldable pub return_top_to_caller : {H : Type 0} → ObjectMemory H → Step H (Option Outcome)
+unfoldable pub return_top_to_caller : {H : Type 0} → ObjectMemory H → Step H (Option Call)
 return_top_to_caller m = do
   x ← pop m
   return_to_caller m x
 
 -- 152 to 159
-unfoldable pub short_jump_on_false : {H : Type 0} → ObjectMemory H → ℕ → Step H (Option Outcome)
+unfoldable pub short_jump_on_false : {H : Type 0} → ObjectMemory H → ℕ → Step H (Option Call)
 short_jump_on_false m i = jump_on m FalseObject TrueObject (pos (i + 1))
 
 -- 168 to 171
-unfoldable pub long_jump_on_true : {H : Type 0} → ObjectMemory H → ℕ → Step H (Option Outcome)
+unfoldable pub long_jump_on_true : {H : Type 0} → ObjectMemory H → ℕ → Step H (Option Call)
 long_jump_on_true m i = do
   b ← next_byte m
   jump_on m TrueObject FalseObject (pos (i * 256 + b))
 
 -- 172 to 175
-unfoldable pub long_jump_on_false : {H : Type 0} → ObjectMemory H → ℕ → Step H (Option Outcome)
+unfoldable pub long_jump_on_false : {H : Type 0} → ObjectMemory H → ℕ → Step H (Option Call)
 long_jump_on_false m i = do
   b ← next_byte m
   jump_on m FalseObject TrueObject (pos (i * 256 + b))
 
--- the row of a bytecode; none where it comes to a primitive that isn't built
-unfoldable pub bytecode : {H : Type 0} → ObjectMemory H → Bytecode → Step H (Option Outcome)
+-- 176 to 191: a primitive is tried first where the receiver of one argument is a SmallInteger
+unfoldable pub arithmetic_by : {H : Type 0} → ObjectMemory H → ℕ → Value → Step H StepEnd
+arithmetic_by m k (Small n) = answer NotBuilt
+arithmetic_by m k (Ref n) = executed m (special_send m k)
+
+unfoldable pub arithmetic_send : {H : Type 0} → ObjectMemory H → ℕ → Step H StepEnd
+arithmetic_send m k = do
+  receiver ← under m 1
+  arithmetic_by m k receiver
+
+-- opens the rows
+unfoldable pub rows : Unit {0}
+unfolding push_operand store_and_pop push_receiver push_constant extended_push extended_store extended_store_and_pop pop_stack duplicate_top push_active_context short_unconditional_jump long_unconditional_jump send_literal send_literal_to_super extended_send double_extended_send extended_super_send double_extended_super_send return_receiver return_constant return_top_to_sender return_top_to_caller short_jump_on_false long_jump_on_true long_jump_on_false
+rows = tt
+
+-- the row of a bytecode
+unfoldable pub bytecode : {H : Type 0} → ObjectMemory H → Bytecode → Step H StepEnd
 bytecode m (code.Push operand) = goes_on (push_operand m operand)
 bytecode m (code.StoreAndPop operand) = goes_on (store_and_pop m operand)
 bytecode m code.PushReceiver = goes_on (push_receiver m)
 bytecode m (code.PushConstant c) = goes_on (push_constant m c)
-bytecode m code.ReturnReceiver = return_receiver m
-bytecode m (code.ReturnConstant c) = return_constant m c
-bytecode m code.ReturnTopToSender = return_top_to_sender m
-bytecode m code.ReturnTopToCaller = return_top_to_caller m
+bytecode m code.ReturnReceiver = executed_if_any m (return_receiver m)
+bytecode m (code.ReturnConstant c) = executed_if_any m (return_constant m c)
+bytecode m code.ReturnTopToSender = executed_if_any m (return_top_to_sender m)
+bytecode m code.ReturnTopToCaller = executed_if_any m (return_top_to_caller m)
 bytecode m code.Unused = die dead.Code
 bytecode m code.ExtendedPush = goes_on (extended_push m)
 bytecode m code.ExtendedStore = goes_on (extended_store m)
 bytecode m code.ExtendedStoreAndPop = goes_on (extended_store_and_pop m)
-bytecode m code.ExtendedSend = extended_send m
-bytecode m code.DoubleExtendedSend = double_extended_send m
-bytecode m code.ExtendedSuperSend = extended_super_send m
-bytecode m code.DoubleExtendedSuperSend = double_extended_super_send m
+bytecode m code.ExtendedSend = executed m (extended_send m)
+bytecode m code.DoubleExtendedSend = executed m (double_extended_send m)
+bytecode m code.ExtendedSuperSend = executed m (extended_super_send m)
+bytecode m code.DoubleExtendedSuperSend = executed m (double_extended_super_send m)
 bytecode m code.PopStack = goes_on (pop_stack m)
 bytecode m code.DuplicateTop = goes_on (duplicate_top m)
 bytecode m code.PushActiveContext = goes_on (push_active_context m)
 bytecode m (code.ShortUnconditionalJump i) = goes_on (short_unconditional_jump i)
-bytecode m (code.ShortJumpOnFalse i) = short_jump_on_false m i
+bytecode m (code.ShortJumpOnFalse i) = executed_if_any m (short_jump_on_false m i)
 bytecode m (code.LongUnconditionalJump i) = goes_on (long_unconditional_jump m i)
-bytecode m (code.LongJumpOnTrue i) = long_jump_on_true m i
-bytecode m (code.LongJumpOnFalse i) = long_jump_on_false m i
+bytecode m (code.LongJumpOnTrue i) = executed_if_any m (long_jump_on_true m i)
+bytecode m (code.LongJumpOnFalse i) = executed_if_any m (long_jump_on_false m i)
 bytecode m (code.ArithmeticSend k) = arithmetic_send m k
-bytecode m (code.SpecialSend k) = special_send m k
-bytecode m (code.PrimitiveSend k) = answer None
-bytecode m (code.LiteralSend i n) = send_literal m i n
+bytecode m (code.SpecialSend k) = executed m (special_send m k)
+bytecode m (code.PrimitiveSend k) = answer NotBuilt
+bytecode m (code.LiteralSend i n) = executed m (send_literal m i n)
 
 -- the next bytecode
-unfoldable pub step : {H : Type 0} → ObjectMemory H → Step H (Option Outcome)
+unfoldable pub step : {H : Type 0} → ObjectMemory H → Step H StepEnd
 step m = do
   b ← next_byte m
   bytecode m (decoded b)

@@ -1,7 +1,7 @@
 -- Cycles and runs as functions: a bytecode, the test for space, and reclaiming (chapters 28 and 30).
-use Rattle.std.specs.Prelude.{ℕ, zero, suc, ◌-◌, Option, Some, None, Bool, true, false}
+use Rattle.std.specs.Prelude.{ℕ, zero, suc, ◌-◌, Bool, true, false}
 use Rattle.st_model.specs.declared.demand.Demand.{Demand}
-use Rattle.st_model.specs.Outcomes.{Outcome, Ending, With, Space, Unbuilt}
+use Rattle.st_model.specs.Outcomes.{Outcome, StepEnd, Did, NotBuilt, Ending, With, Space, Unbuilt}
 use Rattle.st_model.specs.Outcomes as outcome
 use Rattle.st_model.specs.Machine.{ObjectMemory, Head, State, Transition, Died, Went, used, is_over}
 use Rattle.st_model.specs.Steps.{next_byte}
@@ -38,10 +38,10 @@ done_or_not m s o t false = Went (With o) (reclaim m t)
 
 -- What a cycle makes of a step from s. A death comes first, then the want of space. A step that comes to a primitive that
 -- isn't built leaves s as it was.
-abbrev pub ended : {H : Type 0} → ObjectMemory H → State H → Transition (State H) (Option Outcome) → Transition (State H) Ending
+abbrev pub ended : {H : Type 0} → ObjectMemory H → State H → Transition (State H) StepEnd → Transition (State H) Ending
 ended m s (Died cause) = Died cause
-ended m s (Went None t) = Went (Unbuilt (next_code m s)) s
-ended m s (Went (Some o) t) = done_or_not m s o t (is_over (used m t.memory) s.head)
+ended m s (Went NotBuilt t) = Went (Unbuilt (next_code m s)) s
+ended m s (Went (Did o) t) = done_or_not m s o t (is_over (used m t.memory) s.head)
 
 unfoldable pub cycle : {H : Type 0} → ObjectMemory H → State H → Transition (State H) Ending
 cycle m s = ended m s ((step m).run s)

@@ -1,30 +1,30 @@
 -- The cycle of a running machine over a table: the step is foreseen over a table where new objects stand apart, and is
 -- done where the capacities have room for what it makes. And what that has to do with births.
-use Rattle.std.specs.Prelude.{◌≡◌, ℕ, length, Option, Some, None, Bool, true, false, is_some}
+use Rattle.std.specs.Prelude.{◌≡◌, length, Bool, true, false}
 use Rattle.st_model.specs.declared.dead.Dead.TheVariants as dead
-use Rattle.st_model.specs.Outcomes.{Outcome, Ending, With, Space, Unbuilt, renamed_outcome, renamed_ending, IsLiveOutcome}
+use Rattle.st_model.specs.Outcomes.{Outcome, StepEnd, Did, NotBuilt, is_built, Ending, With, Space, Unbuilt, renamed_outcome, renamed_ending, IsLiveOutcome}
 use Rattle.st_model.specs.Machine.{State, Transition, Died, Went, Step, used, is_over}
 use Rattle.st_model.specs.Births.{Births, births, pointer_of}
 use Rattle.st_model.specs.Table.{Table, table, apart, bounded_table}
 use Rattle.st_model.specs.Bytecodes.{step}
 use Rattle.st_model.specs.Settled.{reclaim}
 use Rattle.st_model.specs.Show.{Shows, IsClosed, IsUsed}
-use Rattle.st_model.specs.Cycles.{next_code, made_between, free_space, run_of}
+use Rattle.st_model.specs.Cycles.{next_code, made_between, free_space}
 
 -- what a cycle makes of the step that is done; one that was foreseen neither dies nor comes to an unbuilt primitive
-abbrev pub done : State Table → Transition (State Table) (Option Outcome) → Transition (State Table) Ending
+abbrev pub done : State Table → Transition (State Table) StepEnd → Transition (State Table) Ending
 done c (Died cause) = Died cause
-done c (Went None d) = Died dead.Code
-done c (Went (Some o) d) = Went (With o) (reclaim table d)
+done c (Went NotBuilt d) = Died dead.Code
+done c (Went (Did o) d) = Went (With o) (reclaim table d)
 
 abbrev pub done_if_room : State Table → State Table → Bool → Transition (State Table) Ending
 done_if_room c d true = Went (Space (made_between apart c d) (free_space table c)) c
 done_if_room c d false = done c ((step bounded_table).run c)
 
-abbrev pub foreseen : State Table → Transition (State Table) (Option Outcome) → Transition (State Table) Ending
+abbrev pub foreseen : State Table → Transition (State Table) StepEnd → Transition (State Table) Ending
 foreseen c (Died cause) = Died cause
-foreseen c (Went None d) = Went (Unbuilt (next_code table c)) c
-foreseen c (Went (Some o) d) = done_if_room c d (is_over (used apart d.memory) c.head)
+foreseen c (Went NotBuilt d) = Went (Unbuilt (next_code table c)) c
+foreseen c (Went (Did o) d) = done_if_room c d (is_over (used apart d.memory) c.head)
 
 unfoldable pub foreseen_cycle : State Table → Transition (State Table) Ending
 foreseen_cycle c = foreseen c ((step apart).run c)
@@ -41,30 +41,33 @@ EndsShown (Died a) (Went b s) = ⊥
 EndsShown (Went a c) (Died b) = ⊥
 EndsShown (Went a c) (Went b s) = (a ≡ renamed_ending (pointer_of s.memory) b) × Shows c s
 
--- no run of cycles leaves a memory that isn't sound, or an outcome of something that isn't there
-abbrev pub StaysSound : State Table → Type 0
-StaysSound c = (n : ℕ) (o : Outcome) (d : State Table) → run_of foreseen_cycle n c ≡ Went (With o) d → IsSound d × IsLiveOutcome (IsUsed d.memory) o
+-- both died of one cause, or both went and the table shows the births
+abbrev pub ShownAgain : Transition (State Table) Unit → Transition (State Births) Unit → Type 0
+ShownAgain (Died a) (Died b) = a ≡ b
+ShownAgain (Died a) (Went x s) = ⊥
+ShownAgain (Went x c) (Died b) = ⊥
+ShownAgain (Went x c) (Went y s) = Shows c s × IsClosed c
 
 -- A step that is foreseen from c dies of the cause of which the births die from s; or both come to a primitive that isn't
 -- built; or both go on, with as many entries and words used.
-abbrev pub Foretells : Transition (State Table) (Option Outcome) → Transition (State Births) (Option Outcome) → Type 0
+abbrev pub Foretells : Transition (State Table) StepEnd → Transition (State Births) StepEnd → Type 0
 Foretells (Died a) (Died b) = a ≡ b
 Foretells (Died a) (Went p u) = ⊥
 Foretells (Went o d) (Died b) = ⊥
-Foretells (Went o d) (Went p u) = (is_some o ≡ is_some p) × (used apart d.memory ≡ used births u.memory)
+Foretells (Went o d) (Went p u) = (is_built o ≡ is_built p) × (used apart d.memory ≡ used births u.memory)
 
 -- What the births do from s, and have room for, the bounded table does from c. What both keep is shown, and the outcome is
 -- the same, where nothing dangles.
 pub record DoesAsBirths (c : State Table) (o : Outcome) (u : State Births) : Type 0 where
   pub outcome : Outcome
   pub state : State Table
-  pub does : (step bounded_table).run c ≡ Went (Some outcome) state
+  pub does : (step bounded_table).run c ≡ Went (Did outcome) state
   pub shows : IsClosed (reclaim table state) → IsLiveOutcome (IsUsed (reclaim table state).memory) outcome
       → (outcome ≡ renamed_outcome (pointer_of (reclaim births u).memory) o) × Shows (reclaim table state) (reclaim births u)
 
 -- what the births' step makes fits, and then the bounded table does the same
 abbrev pub DoesWithin : State Table → State Births → Type 0
-DoesWithin c s = (o : Outcome) (u : State Births) → (step births).run s ≡ Went (Some o) u → is_over (used births u.memory) s.head ≡ false → DoesAsBirths c o u
+DoesWithin c s = (o : Outcome) (u : State Births) → (step births).run s ≡ Went (Did o) u → is_over (used births u.memory) s.head ≡ false → DoesAsBirths c o u
 
 -- a step that goes on leaves a closed table closed
 abbrev pub KeepsClosed : {A : Type 0} → Step Table A → Type 0

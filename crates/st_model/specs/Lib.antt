@@ -10,6 +10,7 @@ pub mod Methods
 pub mod Contexts
 pub mod Lookup
 pub mod Sends
+pub mod Executing
 pub mod Returns
 pub mod Bytecodes
 pub mod Births
@@ -27,3 +28,4 @@ pub mod Text
 pub mod Image
 pub mod Start
 pub mod Faults
+pub mod Laws

@@ -1,5 +1,5 @@
 -- The machine over any object memory, as steps that change a state or die.
-use Rattle.std.specs.Prelude.{ℕ, ◌+◌, ℤ, List, [], ◌∷◌, ◌++◌, Option, Some, None, Bool, true, ◌&&◌, is_some, nat_lt, nat_le, if◌then◌else◌}
+use Rattle.std.specs.Prelude.{ℕ, zero, suc, ◌+◌, ◌-◌, ◌==◌, ℤ, List, [], ◌∷◌, ◌++◌, Option, Some, None, Bool, true, false, ◌&&◌, is_some, nat_lt, nat_le, if◌then◌else◌}
 use Rattle.st_model.specs.declared.dead.Dead.{Dead}
 use Rattle.st_model.specs.declared.demand.Demand.{Demand}
 use Rattle.st_model.specs.Values.{Value, Small, Ref}
@@ -11,6 +11,8 @@ pub record ObjectMemory (H : Type 0) : Type 0 where
   pub read : H → ℕ → Option Object
   -- this object in its place
   pub replace : H → ℕ → Object → H
+  -- what these two names name, exchanged
+  pub exchange : H → ℕ → ℕ → H
   -- one object more, under the name next
   pub append : H → Object → H
   pub next : H → ℕ
@@ -24,6 +26,8 @@ pub record ObjectMemory (H : Type 0) : Type 0 where
   pub named : H → PageObject → ℕ
   -- half of the pointer that the object of this name bears
   pub pointer : H → ℕ → ℕ
+  -- the name of the kept object that bears the pointer of which this is half
+  pub borne_by : H → ℕ → Option ℕ
   -- a number summed over the kept objects
   pub total : (Object → ℕ) → H → ℕ
   -- whether it makes an object only where the capacities have room for it
@@ -82,6 +86,30 @@ pub record State (H : Type 0) : Type 0 where
 abbrev pub is_there : {H : Type 0} → ObjectMemory H → H → Value → Bool
 is_there m h (Small n) = nat_lt n 32768
 is_there m h (Ref n) = is_some (m.read h n)
+
+-- all of these are there
+abbrev pub all_there : {H : Type 0} → ObjectMemory H → H → List Value → Bool
+all_there m h [] = true
+all_there m h (v ∷ vs) = is_there m h v && all_there m h vs
+
+abbrev pub is_of_class : ℕ → Option Object → Bool
+is_of_class class None = false
+is_of_class class (Some o) = o.class == class
+
+-- a name was found, of an instance of the class
+abbrev pub names_instance : {H : Type 0} → ObjectMemory H → H → ℕ → Option ℕ → Bool
+names_instance m h class None = false
+names_instance m h class (Some n) = is_of_class class (m.read h n)
+
+-- of so many halved pointers from one on, the first that an instance of the class bears: the name of that instance
+unfoldable pub first_instance : {H : Type 0} → ObjectMemory H → H → ℕ → ℕ → ℕ → Option ℕ
+first_instance m h class k zero = None
+first_instance m h class k (suc left) =
+    if names_instance m h class (m.borne_by h k) then m.borne_by h k else first_instance m h class (suc k) left
+
+-- of the kept instances of a class that bear pointers above this one, the one with the least; halved pointers end at 32767
+unfoldable pub next_of : {H : Type 0} → ObjectMemory H → H → ℕ → ℕ → Option ℕ
+next_of m h class after = first_instance m h class (suc after) (32767 - after)
 
 -- the entries and the words of the kept objects
 abbrev pub used : {H : Type 0} → ObjectMemory H → H → Demand
@@ -154,3 +182,11 @@ infixl 20 ◌>>◌
 unfoldable pub ◌>>◌ : {H A B : Type 0} → Step H A → Step H B → Step H B
 unfolding ◌>>=◌
 m >> n = m >>= (λ a. n)
+
+abbrev pub or_left : {S A : Type 0} → S → Transition S A → Transition S (Option A)
+or_left s (Died cause) = Went None s
+or_left s (Went a t) = Went (Some a) t
+
+-- A step that is only tried: where it would die it answers none, and leaves the state as it was.
+unfoldable pub tried : {H A : Type 0} → Step H A → Step H (Option A)
+tried m = record { run = λ s. or_left s (m.run s) }

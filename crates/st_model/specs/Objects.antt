@@ -32,6 +32,12 @@ is_method Words = false
 is_method Bytes = false
 is_method Method = true
 
+abbrev pub has_bytes : Kind → Bool
+has_bytes Pointers = false
+has_bytes Words = false
+has_bytes Bytes = true
+has_bytes Method = true
+
 -- an object of this kind has fields: pointers, or a header and literals
 abbrev pub holds_fields : Kind → Bool
 holds_fields Pointers = true
@@ -62,6 +68,10 @@ with_field o i x = record { class = o.class; kind = o.kind; fields = slice_set o
 -- the object with x in word or byte i
 abbrev pub object_with_unit : Object → ℕ → ℕ → Object
 object_with_unit o i x = record { class = o.class; kind = o.kind; fields = o.fields; units = slice_set o.units i x }
+
+-- the object with these words or bytes
+abbrev pub with_units : Object → List ℕ → Object
+with_units o us = record { class = o.class; kind = o.kind; fields = o.fields; units = us }
 
 -- the object with its names changed
 abbrev pub renamed_object : (ℕ → ℕ) → Object → Object

@@ -1,9 +1,10 @@
 -- How a bytecode ends that doesn't die, and how a cycle does.
-use Rattle.std.specs.Prelude.{ℕ, Option}
-use Rattle.std.specs.Option.{option_map}
+use Rattle.std.specs.Prelude.{ℕ, Bool, true, false}
 use Rattle.st_model.specs.declared.demand.Demand.{Demand}
 use Rattle.st_model.specs.declared.outcome.Outcome.{Outcome as CodeOutcome}
 use Rattle.st_model.specs.declared.outcome.Outcome.TheVariants as outcomes
+use Rattle.st_model.specs.declared.outcome.StepEnd.{StepEnd as CodeStepEnd}
+use Rattle.st_model.specs.declared.outcome.StepEnd.TheVariants as ends
 use Rattle.st_model.specs.Values.{Value, value, renamed, IsLive}
 
 -- It went on; or something is asked for besides, which is done after the cycle: that an image is saved, that the
@@ -28,6 +29,15 @@ IsLiveOutcome live Quit = Unit {0}
 IsLiveOutcome live Debugger = Unit {0}
 IsLiveOutcome live (Say v) = IsLive live v
 
+-- how the step that does a bytecode ends: it was done, or it came to a primitive that isn't built
+pub data StepEnd : Type 0 where
+  Did : Outcome → StepEnd
+  NotBuilt : StepEnd
+
+abbrev pub is_built : StepEnd → Bool
+is_built (Did o) = true
+is_built NotBuilt = false
+
 -- How a cycle ends in which the machine doesn't die: with its bytecode's outcome; for want of space, with what the
 -- bytecode would have taken and what is left; or at the code of a bytecode that comes to a primitive that isn't built.
 pub data Ending : Type 0 where
@@ -49,6 +59,7 @@ outcome_of (outcomes.Say o) = Say (value o)
 outcome_of outcomes.Quit = Quit
 outcome_of outcomes.Debugger = Debugger
 
--- how a row of the code ended: none where it comes to a primitive that isn't built
-abbrev pub end_of : Option CodeOutcome → Option Outcome
-end_of x = option_map outcome_of x
+-- what the end of a step of the code means
+abbrev pub end_of : CodeStepEnd → StepEnd
+end_of (ends.Did o) = Did (outcome_of o)
+end_of ends.NotBuilt = NotBuilt

@@ -8,7 +8,9 @@ use Rattle.st_model.specs.Lists.{made}
 use Rattle.st_model.specs.Values.{Value, value_of}
 use Rattle.st_model.specs.Objects.{Object, nil, is_words}
 use Rattle.st_model.specs.Machine.{Head, State, Registers, Transition, empty_world}
+use Rattle.st_model.specs.Births.{Births, births}
 use Rattle.st_model.specs.Table.{Table, table}
+use Rattle.st_model.specs.Show.{raised}
 use Rattle.st_model.specs.View.{View, empty_view, table_of}
 use Rattle.st_model.specs.Contexts.{fetch_scheduled_registers}
 use Rattle.st_model.specs.Image.{bit, has_letters, flags, has_odd_length, has_pointers, is_used, place, size, class, body, literal_count}
@@ -101,3 +103,8 @@ idle_state v = record { memory = v.objects; registers = idle_registers; world = 
 -- is a death where they cannot be fetched.
 unfoldable pub start : ImageHead → List ℕ → Transition (State Table) Unit
 start h bytes = (fetch_scheduled_registers table).run (idle_state (start_view h bytes))
+
+-- The state in which the book's machine begins: the image's objects are births, in rising order of pointers, and the
+-- registers are fetched from the same context.
+unfoldable pub begin : ImageHead → List ℕ → Transition (State Births) Unit
+begin h bytes = (fetch_scheduled_registers births).run (raised (idle_state (start_view h bytes)))

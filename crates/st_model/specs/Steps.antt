@@ -1,14 +1,14 @@
 -- Registers, fields, the stack, new objects and the bytes of methods, over any memory (chapters 27 and 28). The checks of a
 -- step stand in the order in which it makes them: the first that fails gives the cause of death.
-use Rattle.std.specs.Prelude.{ℕ, zero, suc, ◌+◌, ◌-◌, ◌==◌, List, [], ◌∷◌, Option, Some, None, Bool, true, false, ◌&&◌, slice_get, nat_lt, nat_le, length, if◌then◌else◌, ℤ, pos, negsuc, ◌+ℤ◌, int_le}
+use Rattle.std.specs.Prelude.{ℕ, zero, suc, ◌+◌, ◌-◌, ◌==◌, List, [], ◌∷◌, Option, Some, None, Bool, true, false, ◌&&◌, slice_get, slice_set, nat_lt, nat_le, length, if◌then◌else◌, ℤ, pos, negsuc, ◌+ℤ◌, int_le}
 use Rattle.st_model.specs.declared.dead.Dead.{Dead}
 use Rattle.st_model.specs.declared.dead.Dead.TheVariants as dead
 use Rattle.st_model.specs.declared.kind.Kind.{Kind}
 use Rattle.st_model.specs.declared.kind.Kind.TheVariants as kind
 use Rattle.st_model.specs.Values.{Value, Small, Ref, integer}
-use Rattle.st_model.specs.Objects.{Object, PageObject, NilObject, SmallIntegerClass, is_pointers, is_method, first_unit, with_field}
+use Rattle.st_model.specs.Objects.{Object, PageObject, NilObject, SmallIntegerClass, is_pointers, is_words, has_bytes, is_method, first_unit, with_field, with_units}
 use Rattle.st_model.specs.Formed.{fresh_with}
-use Rattle.st_model.specs.Machine.{ObjectMemory, Registers, State, Transition, Died, Went, Step, is_there, has_room, answer, die, ◌>>=◌, ◌>>◌}
+use Rattle.st_model.specs.Machine.{ObjectMemory, Registers, World, State, Transition, Died, Went, Step, is_there, all_there, device_roots, next_of, has_room, answer, die, ◌>>=◌, ◌>>◌}
 
 -- the registers
 
@@ -67,6 +67,37 @@ unfoldable pub set_field : {H : Type 0} → ObjectMemory H → Value → ℕ →
 set_field m (Small n) i x = die dead.Small
 set_field m (Ref n) i x = store_at m n i x
 
+unfoldable pub exchanged_there : {H : Type 0} → ObjectMemory H → ℕ → ℕ → State H → Bool → Transition (State H) Unit
+exchanged_there m a b s false = Died dead.Kind
+exchanged_there m a b s true = Went tt (record s { memory = m.exchange s.memory a b })
+
+unfoldable pub exchange_named : {H : Type 0} → ObjectMemory H → ℕ → ℕ → Step H Unit
+exchange_named m a b = record { run = λ s. exchanged_there m a b s (is_there m s.memory (Ref a) && is_there m s.memory (Ref b)) }
+
+-- what the two objects are, class and body, is exchanged: each name then has what the other one had
+unfoldable pub exchange : {H : Type 0} → ObjectMemory H → Value → Value → Step H Unit
+exchange m (Small a) v = die dead.Small
+exchange m (Ref a) (Small b) = die dead.Small
+exchange m (Ref a) (Ref b) = exchange_named m a b
+
+-- as many as the object has
+abbrev pub fit_units : List ℕ → Option Object → Bool
+fit_units us None = false
+fit_units us (Some o) = length us == length o.units
+
+unfoldable pub units_set : {H : Type 0} → ObjectMemory H → ℕ → List ℕ → State H → Option Object → Bool → Transition (State H) Unit
+units_set m n us s None fit = Died dead.Kind
+units_set m n us s (Some o) false = Died dead.Field
+units_set m n us s (Some o) true = Went tt (record s { memory = m.replace s.memory n (with_units o us) })
+
+unfoldable pub set_units_at : {H : Type 0} → ObjectMemory H → ℕ → List ℕ → Step H Unit
+set_units_at m n us = record { run = λ s. units_set m n us s (m.read s.memory n) (fit_units us (m.read s.memory n)) }
+
+-- the object with these words or bytes takes its place; they are as many as it has
+unfoldable pub set_units : {H : Type 0} → ObjectMemory H → Value → List ℕ → Step H Unit
+set_units m (Small n) us = die dead.Small
+set_units m (Ref n) us = set_units_at m n us
+
 -- a new object of a class, whose fields are nil
 abbrev pub new_of : {H : Type 0} → ObjectMemory H → H → ℕ → Kind → ℕ → ℕ → Object
 new_of m h class k size literals = fresh_with (Ref (m.named h NilObject)) class k size literals
@@ -101,6 +132,34 @@ are_there m h r = is_there m h r.active && (is_there m h r.home && (is_there m h
 
 unfoldable pub set_registers : {H : Type 0} → ObjectMemory H → Registers → Step H Unit
 set_registers m r = record { run = λ s. registers_set r s (are_there m s.memory r) }
+
+-- what lies round the machine
+
+unfoldable pub get_world : {H : Type 0} → Step H World
+get_world = record { run = λ s. Went s.world s }
+
+unfoldable pub world_set : {H : Type 0} → World → State H → Bool → Transition (State H) Unit
+world_set w s false = Died dead.Kind
+world_set w s true = Went tt (record s { world = w })
+
+-- what it holds is there, as what the registers name is
+unfoldable pub set_world : {H : Type 0} → ObjectMemory H → World → Step H Unit
+set_world m w = record { run = λ s. world_set w s (all_there m s.memory (device_roots w.devices)) }
+
+-- pointers; they are halved
+
+unfoldable pub named_or_not : Option ℕ → Option Value
+named_or_not None = None
+named_or_not (Some n) = Some (Ref n)
+
+-- the kept object that bears a pointer
+unfoldable pub object_at : {H : Type 0} → ObjectMemory H → ℕ → Step H (Option Value)
+object_at m k = record { run = λ s. Went (named_or_not (m.borne_by s.memory k)) s }
+
+-- the instance of the class that bears the least pointer above this one
+unfoldable pub next_instance : {H : Type 0} → ObjectMemory H → Value → ℕ → Step H (Option Value)
+next_instance m (Small n) after = answer None
+next_instance m (Ref class) after = record { run = λ s. Went (named_or_not (next_of m s.memory class after)) s }
 
 -- an object of the page
 unfoldable pub of_page : {H : Type 0} → ObjectMemory H → PageObject → Step H Value
@@ -180,6 +239,38 @@ transfer m n source from target to = do
   xs ← fetch_fields m source from n
   store_fields m target to xs
 
+-- words and bytes
+
+-- word i of an object of kind Words
+unfoldable pub fetch_word : {H : Type 0} → ObjectMemory H → Value → ℕ → Step H ℕ
+fetch_word m v i = do
+  o ← object m v
+  check dead.Kind (is_words o.kind)
+  or_die dead.Field (slice_get o.units i)
+
+unfoldable pub store_word : {H : Type 0} → ObjectMemory H → Value → ℕ → ℕ → Step H Unit
+store_word m v i x = do
+  o ← object m v
+  check dead.Kind (is_words o.kind)
+  check dead.Field (nat_lt i (length o.units))
+  set_units m v (slice_set o.units i x)
+
+-- byte i of an object of kind Bytes or Method; a method's header and literals count, but aren't read or stored so
+unfoldable pub fetch_byte : {H : Type 0} → ObjectMemory H → Value → ℕ → Step H ℕ
+fetch_byte m v i = do
+  o ← object m v
+  check dead.Kind (has_bytes o.kind)
+  check dead.Field (nat_le (first_unit o) i)
+  or_die dead.Field (slice_get o.units (i - first_unit o))
+
+unfoldable pub store_byte : {H : Type 0} → ObjectMemory H → Value → ℕ → ℕ → Step H Unit
+store_byte m v i x = do
+  o ← object m v
+  check dead.Kind (has_bytes o.kind)
+  check dead.Field (nat_le (first_unit o) i)
+  check dead.Field (nat_lt (i - first_unit o) (length o.units))
+  set_units m v (slice_set o.units (i - first_unit o) x)
+
 -- the stack
 
 -- x into the field of a context, where that is a place of its stack: within its fields, and at most 16388
@@ -244,6 +335,21 @@ literal m v i = do
   o ← object m v
   check dead.Kind (is_method o.kind)
   or_die dead.Field (slice_get o.fields (i + 1))
+
+-- field i of a method: its header, or literal i - 1
+unfoldable pub fetch_method_field : {H : Type 0} → ObjectMemory H → Value → ℕ → Step H Value
+fetch_method_field m v i = do
+  o ← object m v
+  check dead.Kind (is_method o.kind)
+  or_die dead.Field (slice_get o.fields i)
+
+-- x into it; a header is replaced by one that counts as many literals
+unfoldable pub store_method_field : {H : Type 0} → ObjectMemory H → Value → ℕ → Value → Step H Unit
+store_method_field m v i x = do
+  o ← object m v
+  check dead.Kind (is_method o.kind)
+  check dead.Field (nat_lt i (length o.fields))
+  set_field m v i x
 
 -- The byte at this place, counted from 0 over header and literals too. There is none before the first bytecode.
 abbrev pub code_byte : Object → ℤ → Option ℕ

@@ -1,6 +1,6 @@
 -- The code's object memories: an object, or none, for each halved pointer. Place 0 is never used, and pointers are
 -- borne again.
-use Rattle.std.specs.Prelude.{◌≡◌, ◌+◌, ◌-◌, length, take, ℕ, zero, suc, List, [], ◌∷◌, Option, Some, None, Bool, true, false, is_some, nat_lt, if◌then◌else◌}
+use Rattle.std.specs.Prelude.{◌≡◌, ◌+◌, ◌-◌, length, take, ℕ, zero, suc, List, [], ◌∷◌, Option, Some, None, Bool, true, false, is_some, nat_lt, ◌==◌, if◌then◌else◌}
 use Rattle.st_model.specs.Objects.{Object, place_of}
 use Rattle.st_model.specs.Machine.{ObjectMemory}
 
@@ -17,6 +17,15 @@ changed [] k o = []
 changed (None ∷ t) zero o = None ∷ t
 changed (Some a ∷ t) zero o = Some o ∷ t
 changed (e ∷ t) (suc k) o = e ∷ changed t k o
+
+abbrev pub exchanged_objects : Table → ℕ → ℕ → Option Object → Option Object → Table
+exchanged_objects t a b None p = t
+exchanged_objects t a b (Some o) None = t
+exchanged_objects t a b (Some o) (Some p) = changed (changed t a p) b o
+
+-- the table in which two names have exchanged their objects
+abbrev pub exchanged : Table → ℕ → ℕ → Table
+exchanged t a b = exchanged_objects t a b (entry t a) (entry t b)
 
 -- the least place without an object
 abbrev pub first_none : Table → ℕ
@@ -52,6 +61,7 @@ abbrev pub table : ObjectMemory Table
 table = record {
   read = entry;
   replace = changed;
+  exchange = exchanged;
   append = placed;
   next = first_free;
   named = λ t q. place_of q;
@@ -59,6 +69,7 @@ table = record {
   kept = λ t k. is_some (entry t k);
   settled = settled_table;
   pointer = λ t k. k;
+  borne_by = λ t k. if is_some (entry t k) then Some k else None;
   total = total_used;
   bounded = false;
 }
@@ -88,6 +99,15 @@ without_first (e ∷ t) = t
 abbrev pub pointer_apart : Table → ℕ → ℕ
 pointer_apart t k = if nat_lt k 32768 then k else free_place (without_first (take 32768 t)) 1 (k - 32768)
 
+-- of the first so many objects behind the 32768 places, the name of the one that bears this pointer
+abbrev pub behind_by : Table → ℕ → ℕ → Option ℕ
+behind_by t k zero = None
+behind_by t k (suc n) = if pointer_apart t (32768 + n) == k then Some (32768 + n) else behind_by t k n
+
+-- a pointer is borne by the object at its place, or else by one behind all places
+abbrev pub borne_apart : Table → ℕ → Option ℕ
+borne_apart t k = if is_some (entry (take 32768 t) k) then Some k else behind_by t k (length t - 32768)
+
 -- A table of 32768 places in which a step is foreseen: new objects stand apart, behind all places, so that there is
 -- always one for them.
 abbrev pub apart : ObjectMemory Table
@@ -95,10 +115,12 @@ apart = record table {
   append = joined;
   next = λ t. length t;
   pointer = pointer_apart;
+  borne_by = borne_apart;
 }
 
 -- it reads, changes and names objects as the table does, and may make new ones in its own way
 pub record IsTabular (m : ObjectMemory Table) : Type 0 where
   pub read : m.read ≡ entry
   pub replace : m.replace ≡ changed
+  pub exchange : m.exchange ≡ exchanged
   pub named : m.named ≡ table.named

@@ -149,3 +149,14 @@ text_after n (suc k) s = cycles_text n (cycle births s) (λ t. text_after (suc n
 -- what is said of n cycles of the book's machine
 abbrev pub run_text : ℕ → State Births → List ℕ
 run_text n s = text_after 0 n s
+
+-- What is said where so many cycles are finished and k are left, and the machine has come to this.
+abbrev pub text_at : ℕ → ℕ → Transition (State Births) Ending → List ℕ
+text_at n k (Died cause) = dead_text n cause
+text_at n k (Went (With outcome.Went) s) = ran_text n ++ state_text (show s)
+text_at n k (Went (With outcome.Snapshot) s) = text_after n k s
+text_at n k (Went (With outcome.Quit) s) = quit_text n ++ state_text (show s)
+text_at n k (Went (With outcome.Debugger) s) = debugger_text n ++ state_text (show s)
+text_at n k (Went (With (outcome.Say v)) s) = said_value s.memory v ++ text_after n k s
+text_at n k (Went (Space demand left) s) = space_text n demand left ++ state_text (show s)
+text_at n k (Went (Unbuilt code) s) = unbuilt_text n code ++ state_text (show s)

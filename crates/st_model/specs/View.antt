@@ -11,7 +11,7 @@ use Rattle.st_model.specs.Values.{Value, Small, Ref, value_of, is_small}
 use Rattle.st_model.specs.Objects.{Object, PageObject, nil, place_of, one, with_field, object_with_unit, words_of, IsLiveObject, is_pointers}
 use Rattle.st_model.specs.Formed.{IsFormed}
 use Rattle.st_model.specs.Machine.{Devices, Head, head_roots, device_roots}
-use Rattle.st_model.specs.Table.{Table, table, entry, changed, total_used}
+use Rattle.st_model.specs.Table.{Table, table, entry, changed, exchanged, total_used}
 use Rattle.st_model.specs.Settled.{IsSettled}
 use Rattle.st_model.specs.Show.{IsUsed}
 
@@ -55,6 +55,17 @@ with_object t (Ref n) o = slice_set t n (Some o)
 unfoldable pub with_stored : Table → Value → ℕ → Value → Table
 with_stored t (Small n) i x = t
 with_stored t (Ref n) i x = changed t n (with_field (object_of t (Ref n)) i x)
+
+-- the table in which two live values have exchanged their objects
+unfoldable pub with_exchanged : Table → Value → Value → Table
+with_exchanged t (Small a) y = t
+with_exchanged t (Ref a) (Small b) = t
+with_exchanged t (Ref a) (Ref b) = exchanged t a b
+
+-- the second value is that of a live object whose class is the first
+unfoldable pub is_instance : Table → Value → Value → Bool
+is_instance t (Small c) v = false
+is_instance t (Ref c) v = is_live t v && ((object_of t v).class == c)
 
 -- the table with these in the object's fields from one on
 unfoldable pub with_fields : Table → Value → ℕ → List Value → Table

@@ -2,7 +2,7 @@ ghost use Rattle.std.specs.Prelude.{◌≡◌, ◌<◌, ◌≤◌};
 ghost use Rattle.st_model.specs.Decoded.{decoded, operand_of, IsNumbered, IsNumberedOperand};
 
 /// A variable or constant that a bytecode names.
-#[derive(Clone, Copy, Debug, PartialEq, Eq)]
+#[derive(Clone, Copy)]
 pub enum Operand {
     /// A field of the receiver.
     ReceiverVariable(u8),
@@ -15,7 +15,7 @@ pub enum Operand {
 }
 
 /// A constant that a bytecode pushes.
-#[derive(Clone, Copy, Debug, PartialEq, Eq)]
+#[derive(Clone, Copy)]
 pub enum Constant {
     /// true.
     True,
@@ -34,7 +34,7 @@ pub enum Constant {
 }
 
 /// A bytecode, by its first byte: one variant for each group of rows of the book's table (chapter 28).
-#[derive(Clone, Copy, Debug, PartialEq, Eq)]
+#[derive(Clone, Copy)]
 pub enum Bytecode {
     /// Pushes what the operand names (0 to 95).
     Push(Operand),

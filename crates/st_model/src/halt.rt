@@ -1,7 +1,7 @@
 use crate::dead::Dead;
 
 /// Why a bytecode can't be done.
-#[derive(Clone, Copy, Debug, PartialEq, Eq)]
+#[derive(Clone, Copy)]
 pub enum Halt {
     /// The machine would die of this cause.
     Dead(Dead),

@@ -1,5 +1,5 @@
 /// What the head of an image file says.
-#[derive(Clone, Copy, Debug, PartialEq, Eq)]
+#[derive(Clone, Copy)]
 pub struct ImageHead {
     /// The length of the object space in words.
     pub space: u32,

@@ -1,5 +1,5 @@
 /// What the body of an object consists of.
-#[derive(Clone, Copy, Debug, PartialEq, Eq)]
+#[derive(Clone, Copy)]
 pub enum Kind {
     /// Fields that hold pointers.
     Pointers,

@@ -4,16 +4,16 @@
 //! The book is Goldberg and Robson, "Smalltalk-80: The Language and its Implementation" (1983).
 #![tactic(auto)]
 
-ghost use Rattle.std.specs.Prelude.{◌≡◌, ℕ, length};
-ghost use Rattle.st_model.specs.Machine.{State};
-ghost use Rattle.st_model.specs.Births.{Births, births};
-ghost use Rattle.st_model.specs.Table.{Table, apart, bounded_table};
+ghost use Rattle.std.specs.Prelude.{◌≡◌};
+ghost use Rattle.st_model.specs.Values.{Ref, value, word};
+ghost use Rattle.st_model.specs.Objects.{NilObject, FalseObject, TrueObject, SmallIntegerClass, place_of};
+ghost use Rattle.st_model.specs.Table.{bounded_table};
 ghost use Rattle.st_model.specs.Bytecodes.{step};
-ghost use Rattle.st_model.specs.Cycles.{run, run_of, finished, finished_of};
-ghost use Rattle.st_model.specs.Show.{Shows};
-ghost use Rattle.st_model.specs.Foreseen.{foreseen_cycle, IsSound, StaysSound, EndsShown, Foretells, DoesWithin, KeepsClosed};
+ghost use Rattle.st_model.specs.Foreseen.{KeepsClosed};
+ghost use Rattle.st_model.specs.Laws.{ApartForetells, BoundedDoes, StepMissesNothing, RunsShow, RunsCount, StartShows, RunIsSaid};
 
 mod bytecode;
+mod call;
 mod dead;
 mod demand;
 mod fault;
@@ -28,6 +28,7 @@ mod place;
 mod word;
 
 pub use bytecode::{Bytecode, Constant, Operand, decode, extended_operand};
+pub use call::{Call, Performing};
 pub use dead::Dead;
 pub use demand::Demand;
 pub use fault::ImageFault;
@@ -36,7 +37,7 @@ pub use head::ImageHead;
 pub use header::literals;
 pub use kind::Kind;
 pub use oop::Oop;
-pub use outcome::Outcome;
+pub use outcome::{Outcome, StepEnd};
 pub use page::PageObject;
 pub use place::RootPlace;
 pub use word::Word;
@@ -45,13 +46,13 @@ pub use word::Word;
 /// new objects stand apart, ends as the step over the births that the table shows: it dies of the same cause, or comes to a
 /// primitive that isn't built, or goes on with as many entries and words used.
 pub fn apart_foretells_births()
-    ensures { (c : State Table) (s : State Births) → Shows c s → length c.memory ≡ 32768 → Foretells ((step apart).run c) ((step births).run s) }
+    ensures { ApartForetells }
 {}
 
 /// The second law: where a step over the births goes on and stays within the capacities, the step over the bounded table
 /// does too, and after reclaiming shows what the births keep.
 pub fn bounded_does_as_births()
-    ensures { (c : State Table) (s : State Births) → Shows c s → length c.memory ≡ 32768 → DoesWithin c s }
+    ensures { BoundedDoes }
 {}
 
 /// What the bounded table's step keeps was there: it leaves a table closed in which nothing dangles.
@@ -59,12 +60,37 @@ pub fn bounded_stays_closed()
     ensures { KeepsClosed (step bounded_table) }
 {}
 
-/// So a running machine, which foresees each step and does it where there is room, shows the births after any number of
-/// cycles, or dies of the cause of which they die, as long as what it leaves is sound; and as many cycles are finished.
-pub fn table_shows_births()
-    ensures ends { (n : ℕ) (c : State Table) (s : State Births) → Shows c s → IsSound c → StaysSound c → EndsShown (run_of foreseen_cycle n c) (run births n s) }
-    ensures count { (n : ℕ) (c : State Table) (s : State Births) → Shows c s → IsSound c → StaysSound c → finished_of foreseen_cycle n c ≡ finished births n s }
+/// A step over births that some table shows meets no name without an object: whatever object stood for such a name, it would
+/// do the same.
+pub fn step_misses_nothing()
+    ensures { StepMissesNothing }
 {}
 
-#[cfg(test)]
-mod tests;
+/// So a running machine, which foresees each step and does it where there is room, shows the births after any number of
+/// cycles, or dies of the cause of which they die; and as many cycles are finished. It begins with a table of 32768 places in
+/// which nothing dangles, and has a capacity of at most 32767 entries.
+pub fn table_shows_births()
+    ensures ends { RunsShow }
+    ensures count { RunsCount }
+{}
+
+/// The machine begins over births as it does over the table that they are raised from: the registers cannot be fetched, of one
+/// cause, or the table shows the births with the registers that are fetched, and nothing dangles in it.
+pub fn start_shows_births()
+    ensures { StartShows }
+{}
+
+/// What is said of cycles, one after the other, is what is said where their run ends, by the number that are finished.
+pub fn run_is_said()
+    ensures { RunIsSaid }
+{}
+
+/// The pointers of nil, false and true, and the words of nil and SmallInteger, are those of the root page.
+#[tactic(auto, unfolding(crate::specs::Values::value_of))]
+pub fn constants_are_of_the_page()
+    ensures nil { value Oop.NIL ≡ Ref (place_of NilObject) }
+    ensures no { value Oop.FALSE ≡ Ref (place_of FalseObject) }
+    ensures yes { value Oop.TRUE ≡ Ref (place_of TrueObject) }
+    ensures word { word Word.NIL ≡ Ref (place_of NilObject) }
+    ensures class { word Word.SMALL_INTEGER ≡ Ref (place_of SmallIntegerClass) }
+{}

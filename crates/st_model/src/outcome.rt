@@ -1,6 +1,15 @@
 use crate::oop::Oop;
 
-/// How a bytecode ended that didn't die.
+/// How the step that does a bytecode ended.
+#[derive(Clone, Copy)]
+pub enum StepEnd {
+    /// The bytecode was done.
+    Did(Outcome),
+    /// It came to a primitive that isn't built.
+    NotBuilt,
+}
+
+/// How a bytecode ended that was done.
 #[derive(Clone, Copy, Debug, PartialEq, Eq)]
 pub enum Outcome {
     /// It was done.

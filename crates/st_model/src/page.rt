@@ -5,7 +5,7 @@ ghost use Rattle.st_model.specs.Objects.{place_of};
 use crate::word::Word;
 
 /// An object of the root page, which stays at its pointer (the known pointers of chapter 27).
-#[derive(Clone, Copy, Debug, PartialEq, Eq)]
+#[derive(Clone, Copy)]
 pub enum PageObject {
     /// nil.
     NilObject,

@@ -1,5 +1,5 @@
 /// A place outside the objects that keeps one of them.
-#[derive(Clone, Copy, Debug, PartialEq, Eq)]
+#[derive(Clone, Copy)]
 pub enum RootPlace {
     /// The active context.
     Active,

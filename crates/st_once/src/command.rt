@@ -5,6 +5,7 @@ ghost use Rattle.st_outside.specs.Runs.{ReadsAndSays, SaysAll};
 ghost use Rattle.st_model.specs.Show.{raised};
 ghost use Rattle.st_model.specs.Text.{run_text};
 ghost use Rattle.st_frames.specs.Shown.{shown};
+ghost use Rattle.st_machine.specs.Machines.{IsReady};
 ghost use Rattle.st_report.specs.Saying.{Says};
 ghost use Rattle.st_once.specs.Ends.{OnceEnds, StatusHasCause};
 
@@ -23,6 +24,7 @@ fn run_and_report<H: Host, M: Memory>(
     machine: &mut Machine<M>,
     cycles: u32,
 ) -> Result<(), SayFault>
+    requires ready { IsReady (M.view machine.old.memory) machine.old.frame machine.old.world }
     requires alive { machine.old.death ≡ None }
     ensures all { let state = raised (shown (M.view machine.old.memory) machine.old.frame) in
         OnOk result (SaysAll H.Host.own (run_text cycles state) host.old host.new) }

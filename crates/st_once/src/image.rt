@@ -6,6 +6,7 @@ ghost use Rattle.st_model.specs.View.{no_devices};
 ghost use Rattle.st_frames.specs.Shown.{IsFrame};
 ghost use Rattle.st_image.specs.Reading.{IsStart};
 ghost use Rattle.st_once.specs.Ends.{IsReadable, IsRefusal, RefusalHasCause};
+ghost use Rattle.st_machine.specs.Machines.{IsReady};
 
 use crate::refusal::Refusal;
 use st_frames::Loaded;
@@ -75,6 +76,7 @@ pub fn start<H: Host, L: Loader>(
     ensures start { let bytes = bytes_of (H.files host.old name.now) in
         IfOk result (λ m. IsTrue H.is_told →
         IsStart (image_head bytes) bytes (L.Done.view m.memory) m.frame) }
+    ensures ready { IfOk result (λ m. IsReady (L.Done.view m.memory) m.frame m.world) }
     ensures alive { IfOk result (λ m. m.death ≡ None) }
     ensures refused { IfErr result (λ e. IsTrue H.is_told →
         IsRefusal (bytes_of (H.files host.old name.now)) e) }

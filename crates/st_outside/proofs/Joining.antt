@@ -3,11 +3,12 @@ use Rattle.std.proofs.Common.{◌≡◌, ◌≢◌, ◌≤◌, inl, inr, ⊎_eli
 use Rattle.std.proofs.lemmas.List.{append-nil, take-append-le}
 use Rattle.std.proofs.Math.Seq.{take-append_seam}
 use Rattle.std.specs.Io.{StartsWith}
+use Rattle.std.specs.Prelude.{◌⊎◌, Result, Ok, Err, IsErr, OnOk}
 use Rattle.st_outside.specs.Counts.{Rose}
 use Rattle.st_outside.specs.Files.{Files}
 use Rattle.st_outside.specs.Stops.{SameStops, Here, SaidPart, WhileSaying, Elapses}
 use Rattle.st_outside.specs.Names.{same_or_other}
-use Rattle.st_outside.specs.Runs.{LeavesOnly, ReadsAlike, OnlyReads, Narrows, SaysAll, ReadsAndSays}
+use Rattle.st_outside.specs.Runs.{LeavesOnly, ReadsAlike, OnlyReads, Narrows, SaysAll, ReadsAndSays, IsSynced, Makes}
 use Rattle.st_outside.specs.declared.host.Host.{Ghosts}
 use Rattle.st_outside.proofs.Rising.{rose_first, rose_second}
 
@@ -135,6 +136,10 @@ module _ {D : Type 0} (host : Ghosts D) where
         (first.moments told) (second.moments told) (λ f s here. (λ n. first.fewer told n (f n) (here.0 n), here.1 ∙ first.quiet told));
   }
 
+  -- what was synced stays so while there are only reads and syncs
+  pub synced_on : (name : List ℕ) (old new : D) → IsSynced host name old → Narrows host old new → ReadsAlike host old new → IsSynced host name new
+  synced_on name old new synced run alike = record { is = λ told c can. synced.is told c (run.fewer told name c can) ∙ sym (alike.same told name) }
+
   -- two texts, each said whole, are one
   pub all_join : (a b : List ℕ) (old mid new : D) → SaysAll host a old mid → SaysAll host b mid new → SaysAll host (a ++ b) old new
   all_join a b old mid new first second = record {
@@ -196,3 +201,36 @@ module _ {D : Type 0} (host : Ghosts D) where
         (first.moments told) (second.moments told)
         (λ f s here. (λ n. (first.stops told).fewer n (f n) (here.0 n), part_of (host.said old) bytes (host.said mid) s here.1 (first.part told)));
   }
+
+-- a clause on success of a call that failed
+pub on_err : {R E : Type 0} (result : Result R E) (P : Type 0) → IsErr result → OnOk result P
+on_err (Ok x) P err = cc
+on_err (Err e) P err = tt
+
+module _ {C D E : Type 0} (host : Ghosts D) (opens : C → Files → Type 0) (x y : C) (old mid new : D) where
+  -- after a run that has kept what opens, one that makes something
+  pub makes_then : {R S : Type 0} (first : Result R E) (second : Result S E) → Makes host opens x x old mid first → Makes host opens x y mid new second → Makes host opens x y old new second
+  makes_then first second kept makes = record {
+    rest = makes.rest;
+    either = makes.either;
+    quiet = makes.quiet ∙ kept.quiet;
+    moments = moments_join host old mid new (λ f s. (s ≡ host.said old) × (opens x f ⊎ opens y f)) (λ f s. (s ≡ host.said mid) × (opens x f ⊎ opens y f))
+        (weaker host old mid (λ f s. (s ≡ host.said old) × (opens x f ⊎ opens y f)) (λ f s. (s ≡ host.said old) × (opens x f ⊎ opens x f)) kept.moments
+        (λ f s so. (so.0, ⊎_elim (λ is. inl is) (λ is. inl is) so.1)))
+        makes.moments (λ f s so. (so.0 ∙ kept.quiet, so.1));
+  }
+
+  -- a run that failed before it made anything
+  pub makes_failed : {R S : Type 0} (first : Result R E) (second : Result S E) → IsErr second → Makes host opens x x old mid first → Makes host opens x y old mid second
+  makes_failed first second err kept = record {
+    rest = on_err second _ err;
+    either = λ f can. ⊎_elim (λ is. inl is) (λ is. inl is) (kept.either f can);
+    quiet = kept.quiet;
+    moments = weaker host old mid (λ f s. (s ≡ host.said old) × (opens x f ⊎ opens y f)) (λ f s. (s ≡ host.said old) × (opens x f ⊎ opens x f)) kept.moments
+        (λ f s so. (so.0, ⊎_elim (λ is. inl is) (λ is. inl is) so.1));
+  }
+
+-- what a run that failed made, seen as the end of a longer one
+pub makes_of : {C D R S E : Type 0} (host : Ghosts D) (opens : C → Files → Type 0) (x y : C) (old new : D) (first : Result R E) (second : Result S E)
+    → IsErr second → Makes host opens x y old new first → Makes host opens x y old new second
+makes_of host opens x y old new first second err makes = record { rest = on_err second _ err; either = makes.either; quiet = makes.quiet; moments = makes.moments }

@@ -1,3 +1,5 @@
 pub mod Rising
 pub mod Joining
 pub mod Touching
+pub mod Texts
+pub mod Pushing

@@ -4,8 +4,9 @@ use Rattle.st_outside.specs.Counts.{Rose, HasCause}
 use Rattle.st_outside.specs.Files.{Files, bytes_of, KeepsBelow}
 use Rattle.st_outside.specs.Stops.{Apart, Comes, comes, Follows, Torn, TornByWrite, TornByCut, Here, Elapses}
 use Rattle.st_outside.specs.Names.{same_or_other}
-use Rattle.st_outside.specs.Runs.{ReadsAlike, Narrows, Touched, Touches, Writes, Cuts, Syncs, WritesAbove}
+use Rattle.st_outside.specs.Runs.{ReadsAlike, Narrows, Touched, Touches, Writes, Cuts, Syncs, WritesAbove, Elsewhere, Changes, NarrowsBut}
 use Rattle.st_outside.specs.declared.host.Host.{Ghosts}
+use Rattle.st_outside.proofs.Rising.{rose_first, rose_second}
 use Rattle.st_outside.proofs.Joining.{weaker, moments_join, moments_once}
 
 pub torn_same : (end at n len : ℕ) (file : Option (List ℕ)) → Torn end at n len file file
@@ -96,31 +97,31 @@ module _ {D : Type 0} (host : Ghosts D) (name : List ℕ) where
   }
 
   -- a run that changes the file, seen as one that leaves its first bytes as they were
-  touches_wider : (R T : Option (List ℕ) → Option (List ℕ) → Type 0) (old new : D) → ((x y : Option (List ℕ)) → R x y → T x y)
+  touches_wider : (R T : Option (List ℕ) → Option (List ℕ) → Type 0) (old new : D) → (IsTrue host.is_told → (x y : Option (List ℕ)) → R x y → T x y)
       → Touches host R name old new → Touches host T name old new
   touches_wider R T old new holds run = record {
     disk = run.disk;
     say = run.say;
     others = run.others;
     quiet = run.quiet;
-    own = λ told c can. wider R T (host.may_leave old name) c holds (run.own told c can);
+    own = λ told c can. wider R T (host.may_leave old name) c (holds told) (run.own told c can);
     moments = λ told. weaker host old new (Touched host T name old) (Touched host R name old) (run.moments told)
-        (λ f s so. record { others = so.others; own = wider R T (host.may_leave old name) (f name) holds so.own; quiet = so.quiet });
+        (λ f s so. record { others = so.others; own = wider R T (host.may_leave old name) (f name) (holds told) so.own; quiet = so.quiet });
   }
 
-  pub write_above : (floor at n : ℕ) (old new : D) → floor ≤ at → floor ≤ length (bytes_of (host.files old name)) → Writes host name at n old new → WritesAbove host floor name old new
+  pub write_above : (floor at n : ℕ) (old new : D) → floor ≤ at → (IsTrue host.is_told → floor ≤ length (bytes_of (host.files old name))) → Writes host name at n old new → WritesAbove host floor name old new
   write_above floor at n old new low long writes = record {
-    run = touches_wider (TornByWrite (host.files old name) at n) (KeepsBelow floor) old new (λ x y torn. write_keeps floor at n (host.files old name) x y low long torn) writes.run;
+    run = touches_wider (TornByWrite (host.files old name) at n) (KeepsBelow floor) old new (λ told x y torn. write_keeps floor at n (host.files old name) x y low (long told) torn) writes.run;
   }
 
-  pub cut_above : (floor len : ℕ) (old new : D) → floor ≤ len → floor ≤ length (bytes_of (host.files old name)) → Cuts host name len old new → WritesAbove host floor name old new
+  pub cut_above : (floor len : ℕ) (old new : D) → floor ≤ len → (IsTrue host.is_told → floor ≤ length (bytes_of (host.files old name))) → Cuts host name len old new → WritesAbove host floor name old new
   cut_above floor len old new low long cuts = record {
-    run = touches_wider (TornByCut (host.files old name) len) (KeepsBelow floor) old new (λ x y torn. cut_keeps floor len (host.files old name) x y low long torn) cuts.run;
+    run = touches_wider (TornByCut (host.files old name) len) (KeepsBelow floor) old new (λ told x y torn. cut_keeps floor len (host.files old name) x y low (long told) torn) cuts.run;
   }
 
   pub sync_above : (floor : ℕ) (old new : D) → Syncs host name old new → WritesAbove host floor name old new
   sync_above floor old new syncs = record {
-    run = touches_wider (λ x y. x ≡ y) (KeepsBelow floor) old new (λ x y same. subst (KeepsBelow floor x) same (keeps_same floor x)) syncs.run;
+    run = touches_wider (λ x y. x ≡ y) (KeepsBelow floor) old new (λ told x y same. subst (KeepsBelow floor x) same (keeps_same floor x)) syncs.run;
   }
 
   -- many changes above a floor are one
@@ -138,6 +139,65 @@ module _ {D : Type 0} (host : Ghosts D) (name : List ℕ) where
 
   pub sync_cut : (len : ℕ) (old mid new : D) → Cuts host name len old mid → Syncs host name mid new → Cuts host name len old new
   sync_cut len old mid new first second = record { run = sync_after (TornByCut (host.files old name) len) old mid new first.run second }
+
+  changes_of : (step : Option (List ℕ) → Option (List ℕ) → Type 0) (old new : D) → Touches host step name old new → Changes host name old new
+  changes_of step old new run = record { disk = run.disk; say = run.say; others = run.others; quiet = run.quiet; moments = λ told. weaker host old new (Elsewhere host name old) (Touched host step name old) (run.moments told) (λ f s so. (so.quiet, so.others)) }
+
+  pub write_changes : (at n : ℕ) (old new : D) → Writes host name at n old new → Changes host name old new
+  write_changes at n old new writes = changes_of (TornByWrite (host.files old name) at n) old new writes.run
+
+  pub cut_changes : (len : ℕ) (old new : D) → Cuts host name len old new → Changes host name old new
+  cut_changes len old new cuts = changes_of (TornByCut (host.files old name) len) old new cuts.run
+
+  pub above_changes : (floor : ℕ) (old new : D) → WritesAbove host floor name old new → Changes host name old new
+  above_changes floor old new above = changes_of (KeepsBelow floor) old new above.run
+
+  pub changes_join : (old mid new : D) → Changes host name old mid → Changes host name mid new → Changes host name old new
+  changes_join old mid new first second = record {
+    disk = omega (arith, first.disk, second.disk);
+    say = second.say ∙ first.say;
+    others = λ told. record {
+      files = λ n other. (second.others told).files n other ∙ (first.others told).files n other;
+      fewer = λ n c other can. (first.others told).fewer n c other ((second.others told).fewer n c other can);
+      more = λ n c other could. (second.others told).more n c other ((first.others told).more n c other could);
+    };
+    quiet = λ told. second.quiet told ∙ first.quiet told;
+    moments = λ told. moments_join host old mid new (Elsewhere host name old) (Elsewhere host name mid) (first.moments told) (second.moments told)
+        (λ f s so. (so.0 ∙ first.quiet told, λ n other. (first.others told).fewer n (f n) other (so.1 n other)));
+  }
+
+  pub narrows_but : (old new : D) → Narrows host old new → NarrowsBut host name old new
+  narrows_but old new run = record {
+    disk = run.disk;
+    say = run.say;
+    alike = λ calm told n other. (run.alike calm).same told n;
+    quiet = run.quiet;
+    fewer = λ told n c other can. run.fewer told n c can;
+    moments = λ told. weaker host old new (Elsewhere host name old) (Here (host.may_leave old) (host.said old)) (run.moments told) (λ f s here. (here.1, λ n other. here.0 n));
+  }
+
+  pub changes_but : (old new : D) → Changes host name old new → NarrowsBut host name old new
+  changes_but old new run = record {
+    disk = run.disk;
+    say = run.say;
+    alike = λ calm told. (run.others told).files;
+    quiet = run.quiet;
+    fewer = λ told. (run.others told).fewer;
+    moments = run.moments;
+  }
+
+  pub but_join : (old mid new : D) → NarrowsBut host name old mid → NarrowsBut host name mid new → NarrowsBut host name old new
+  but_join old mid new first second = record {
+    disk = omega (arith, first.disk, second.disk);
+    say = second.say ∙ first.say;
+    alike = λ calm told n other.
+        second.alike (λ rose. calm (rose_second (host.disk_faults old) (host.disk_faults mid) (host.disk_faults new) first.disk rose)) told n other
+        ∙ first.alike (λ rose. calm (rose_first (host.disk_faults old) (host.disk_faults mid) (host.disk_faults new) first.disk second.disk rose)) told n other;
+    quiet = λ told. second.quiet told ∙ first.quiet told;
+    fewer = λ told n c other can. first.fewer told n c other (second.fewer told n c other can);
+    moments = λ told. moments_join host old mid new (Elsewhere host name old) (Elsewhere host name mid) (first.moments told) (second.moments told)
+        (λ f s so. (so.0 ∙ first.quiet told, λ n other. first.fewer told n (f n) other (so.1 n other)));
+  }
 
   -- Where every file reads as before unless a fault was counted, a sync narrows what a stop may leave.
   pub syncs_narrow : (old new : D) → Syncs host name old new → ((Rose (host.disk_faults old) (host.disk_faults new) → ⊥) → ReadsAlike host old new) → Narrows host old new

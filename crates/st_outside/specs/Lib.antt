@@ -3,3 +3,4 @@ pub mod Files
 pub mod Names
 pub mod Stops
 pub mod Runs
+pub mod Pieces

@@ -1,5 +1,5 @@
 -- What holds at each moment of a run of calls.
-use Rattle.std.specs.Prelude.{◌≡◌, ◌≢◌, ◌⊎◌, ℕ, ◌≤◌, List, ◌++◌, Option, IsTrue}
+use Rattle.std.specs.Prelude.{◌≡◌, ◌≢◌, ◌⊎◌, ℕ, ◌≤◌, List, ◌++◌, Option, Result, OnOk, IsTrue}
 use Rattle.st_outside.specs.Counts.{Rose}
 use Rattle.st_outside.specs.Files.{Files, KeepsBelow}
 use Rattle.st_outside.specs.Stops.{SameStops, Apart, Comes, Follows, TornByWrite, TornByCut, Here, SaidPart, WhileSaying}
@@ -85,3 +85,37 @@ pub record WritesAbove {D : Type 0} (host : Ghosts D) (floor : ℕ) (name : List
 -- a stop leaves of this file just what it reads as
 pub record IsSynced {D : Type 0} (host : Ghosts D) (name : List ℕ) (new : D) : Type 0 where
   pub is : IsTrue host.is_told → (c : Option (List ℕ)) → host.may_leave new name c → c ≡ host.files new name
+
+-- nothing was said, and a stop leaves no other file than some that it could leave before, but perhaps the one of this name
+abbrev pub Elsewhere : {D : Type 0} → Ghosts D → List ℕ → D → Files → List ℕ → Type 0
+Elsewhere host name old f s = (s ≡ host.said old) × ((n : List ℕ) → n ≢ name → host.may_leave old n (f n))
+
+-- A run of calls that changes no file but this one: every other is as before, and so is what a stop may leave of it.
+pub record Changes {D : Type 0} (host : Ghosts D) (name : List ℕ) (old new : D) : Type 0 where
+  pub disk : host.disk_faults old ≤ host.disk_faults new
+  pub say : host.say_faults new ≡ host.say_faults old
+  pub others : IsTrue host.is_told → Apart name (host.files old) (host.files new) (host.may_leave old) (host.may_leave new)
+  pub quiet : IsTrue host.is_told → host.said new ≡ host.said old
+  pub moments : IsTrue host.is_told → LeavesOnly host old new (Elsewhere host name old)
+
+-- A run of calls that changes no file but this one, and reads and syncs any: every other reads as before where no disk
+-- fault was counted, and a stop leaves of it what it could leave.
+pub record NarrowsBut {D : Type 0} (host : Ghosts D) (name : List ℕ) (old new : D) : Type 0 where
+  pub disk : host.disk_faults old ≤ host.disk_faults new
+  pub say : host.say_faults new ≡ host.say_faults old
+  pub alike : (Rose (host.disk_faults old) (host.disk_faults new) → ⊥) → IsTrue host.is_told → (n : List ℕ) → n ≢ name → host.files new n ≡ host.files old n
+  pub quiet : IsTrue host.is_told → host.said new ≡ host.said old
+  pub fewer : IsTrue host.is_told → (n : List ℕ) (c : Option (List ℕ)) → n ≢ name → host.may_leave new n c → host.may_leave old n c
+  pub moments : IsTrue host.is_told → LeavesOnly host old new (Elsewhere host name old)
+
+-- each state that a stop may leave now opens as this, whatever it is that files open as
+pub record IsAtRest {C D : Type 0} (host : Ghosts D) (opens : C → Files → Type 0) (c : C) (h : D) : Type 0 where
+  pub opens_as : (f : Files) → ((n : List ℕ) → host.may_leave h n (f n)) → opens c f
+
+-- A run of calls that makes of files that open as c such that open as d, whole or not: at each of its moments, and behind
+-- it also after an error, they open as the one or as the other. Nothing is said.
+pub record Makes {C D R E : Type 0} (host : Ghosts D) (opens : C → Files → Type 0) (c d : C) (old new : D) (result : Result R E) : Type 0 where
+  pub rest : OnOk result (IsAtRest host opens d new)
+  pub either : (f : Files) → ((n : List ℕ) → host.may_leave new n (f n)) → opens c f ⊎ opens d f
+  pub quiet : host.said new ≡ host.said old
+  pub moments : LeavesOnly host old new (λ f s. (s ≡ host.said old) × (opens c f ⊎ opens d f))

@@ -2,12 +2,14 @@
 #![tactic(auto)]
 
 mod host;
+mod piece;
 mod reads;
 mod says;
 mod source;
 mod writes;
 
 pub use host::{Host, HostFault, SayFault};
+pub use piece::Piece;
 pub use reads::{file_length, read_from};
 pub use says::say_all;
 pub use source::{ReadFault, Source};

@@ -1,1 +1,2 @@
+pub mod Phrases
 pub mod Parsed

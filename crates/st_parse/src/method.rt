@@ -7,10 +7,11 @@ ghost use Rattle.st_grammar.specs.Trees.{number_of};
 ghost use Rattle.st_grammar.specs.Reading.{Gives, Fails, pattern_step, keyword_names_at, pattern_at, unary_pattern_at, binary_pattern_at, keyword_pattern_at, name_step, name_list_at, temporaries_at, primitive_at, options_at, temporaries_first_at, primitive_first_at, method_at, whole_at, end_at};
 ghost use Rattle.st_parse.specs.Parsed.{pattern_view, options_view};
 
+use crate::expression::statements;
+use crate::kinds::{KEYWORDS, NAMES, OPERATORS};
+use crate::names::name_of;
 use st_grammar::leaf::{Kind, Leaf, bytes_of};
 use st_grammar::read::{ReadError, starts, token};
-use st_phrases::{KEYWORDS, NAMES, OPERATORS, name_of};
-use st_readers::statements;
 use st_tree::{Cause, MethodTree, NameList, Signed, Sort, Text};
 use std::alloc::Global;
 
@@ -18,14 +19,14 @@ use std::alloc::Global;
 const MOST: u32 = 200;
 
 /// A selector and its arguments, so far.
-#[derive(Debug, Drop)]
+#[derive(Drop)]
 struct Pattern {
     selector: Text,
     arguments: NameList,
 }
 
 /// What stands between a method's pattern and its statements.
-#[derive(Debug, Drop)]
+#[derive(Drop)]
 struct Options {
     temporaries: NameList,
     primitive: Option<Signed>,

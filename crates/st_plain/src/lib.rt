@@ -1,6 +1,7 @@
 //! An object memory that keeps its objects in plain lists.
 #![tactic(auto)]
 
+mod contents;
 mod loader;
 mod memory;
 

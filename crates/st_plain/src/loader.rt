@@ -2,10 +2,10 @@ ghost use Rattle.std.specs.Prelude.{◌≡◌};
 ghost use Rattle.st_model.specs.Loading.{IsLoading};
 ghost use Rattle.st_model.specs.Props.{IsLoading-prop};
 ghost use Rattle.st_lists.specs.Plain.{extent_of, IsLong};
-ghost use Rattle.st_contents.specs.Plain.{plain_view, HasRoom};
+ghost use Rattle.st_plain.specs.Plain.{plain_view, HasRoom};
 
+use crate::contents::{Contents, Head};
 use crate::memory::PlainMemory;
-use st_contents::{Contents, Head};
 use st_memory::Loader;
 use st_model::{Demand, Kind, Oop};
 use std::alloc::{AllocError, Global};

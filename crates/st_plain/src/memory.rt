@@ -1,9 +1,9 @@
 ghost use Rattle.std.specs.Prelude.{◌≡◌};
 ghost use Rattle.st_model.specs.View.{IsWhole};
-ghost use Rattle.st_contents.specs.Plain.{plain_view, AreLong};
+ghost use Rattle.st_plain.specs.Plain.{plain_view, AreLong};
 ghost use Rattle.st_model.specs.Props.{IsWhole-prop};
 
-use st_contents::Contents;
+use crate::contents::Contents;
 use st_memory::Memory;
 use st_model::{Demand, Kind, Oop, RootPlace};
 
@@ -67,12 +67,25 @@ impl Memory for PlainMemory {
         self.contents.objects.set_field(o, at, v);
     }
 
+    fn set_word(&mut self, o: Oop, at: u32, v: u16) {
+        self.contents.objects.set_unit(o, at, v);
+    }
+
+    fn set_byte(&mut self, o: Oop, at: u32, v: u8) {
+        let first = 2 * self.contents.objects.live_entry(o).fields;
+        self.contents.objects.set_unit(o, at - first, u16::from(v));
+    }
+
     fn room(&self, d: Demand) -> bool {
         self.contents.room(d)
     }
 
     fn make(&mut self, class: Oop, kind: Kind, size: u32, literals: u32) -> Oop {
         self.contents.make(class, kind, size, literals)
+    }
+
+    fn swap(&mut self, a: Oop, b: Oop) {
+        self.contents.objects.exchange(a, b);
     }
 
     fn held(&self, place: RootPlace) -> Oop {
@@ -97,6 +110,17 @@ impl Memory for PlainMemory {
 
     fn capacity(&self) -> Demand {
         self.contents.head.capacity
+    }
+
+    fn next_of(&self, class: Oop, after: u32) -> Option<Oop> {
+        let mut after = after;
+        while let Some(o) = self.next_live(after) {
+            if self.class_of(o) == class {
+                return Some(o);
+            }
+            after = u32::from(o.0);
+        }
+        None
     }
 
     fn next_live(&self, after: u32) -> Option<Oop> {

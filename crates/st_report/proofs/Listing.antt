@@ -7,7 +7,7 @@ use Rattle.st_model.specs.Values.{Ref, value, value_of}
 use Rattle.st_model.specs.Objects.{Object}
 use Rattle.st_model.specs.Table.{Table, entry}
 use Rattle.st_model.specs.View.{is_live, object_of, nothing}
-use Rattle.st_bodies.proofs.Bodies.{even_pointer}
+use Rattle.st_memory.proofs.Bodies.{even_pointer}
 use Rattle.st_model.specs.Text.{object_text, objects_text}
 
 -- nothing stands from one place up to another

@@ -7,8 +7,7 @@ ghost use Rattle.st_report.specs.Saying.{Pushes};
 
 use crate::Output;
 use crate::words::{push_number, push_value};
-use st_bodies::{count_fields, count_units, unit_at};
-use st_memory::Memory;
+use st_memory::{Memory, count_fields, count_units, unit_at};
 use st_model::{Kind, Oop};
 use st_outside::{Host, SayFault};
 
@@ -32,7 +31,7 @@ fn push_fields<H: Host, M: Memory>(
 }
 
 /// Adds the words or bytes of an object.
-#[tactic(auto, using(st_bodies::proofs::Bodies::bodies))]
+#[tactic(auto, using(st_memory::proofs::Bodies::bodies))]
 fn push_units<H: Host, M: Memory>(
     out: &mut Output,
     host: &mut H,

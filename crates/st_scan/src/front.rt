@@ -13,7 +13,7 @@ use crate::word::{hash, operator, word};
 use st_tree::{Cause, Sort};
 
 /// What stands at the front of a text, with its length: a blank or a comment, or a token. Or why nothing does.
-#[derive(Clone, Copy, Debug, PartialEq, Eq)]
+#[derive(Clone, Copy)]
 pub enum Front {
     Gap(usize),
     Token(usize, Sort),

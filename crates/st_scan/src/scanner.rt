@@ -10,7 +10,7 @@ use st_tree::{Fault, Sort, SyntaxFault, Token, TokenList};
 use std::alloc::{AllocError, Global};
 
 /// A text's tokens up to its first fault, and that fault, if there is one.
-#[derive(Debug, Drop)]
+#[derive(Drop)]
 pub struct Scanned {
     pub tokens: TokenList,
     pub fault: Option<Fault>,

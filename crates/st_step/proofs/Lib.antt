@@ -1,2 +1,3 @@
+pub mod Arithmetic
 pub mod Stepped
 pub mod Foreseeing

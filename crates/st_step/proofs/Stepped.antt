@@ -1,15 +1,17 @@
 -- A row over a memory and its registers: what it begins with, and what it leaves.
-use Rattle.std.proofs.Common.{◌≡◌, ◌<◌, ℕ, Bool, true, false, Option, Some, None, Ok, Err, refl, sym, ap, subst, ◌∙◌, arith}
+use Rattle.std.proofs.Common.{◌≡◌, ◌<◌, ℕ, Bool, true, false, Ok, Err, refl, sym, ap, subst, ◌∙◌, arith}
 use Rattle.std.proofs.lemmas.Bool.Decides.{nat_tests}
 use Rattle.std.specs.Prelude.{if◌then◌else◌, ◌/◌, ◌%◌, ◌==◌, ◌&&◌, is_some, Result, ◌+◌}
 use Rattle.st_model.specs.declared.dead.Dead.{Dead}
 use Rattle.st_model.specs.declared.demand.Demand.{Demand}
 use Rattle.st_model.specs.declared.halt.Halt.TheVariants as halt
 use Rattle.st_model.specs.declared.outcome.Outcome.{Outcome as CodeOutcome}
+use Rattle.st_model.specs.declared.outcome.StepEnd.{StepEnd as CodeStepEnd}
+use Rattle.st_model.specs.declared.outcome.StepEnd.TheVariants as ends
 use Rattle.st_model.specs.declared.word.Word.{Word}
 use Rattle.st_model.specs.Values.{Small, Ref, value_of, word, is_small, IsLive}
 use Rattle.st_model.specs.Objects.{nil, one, words_of}
-use Rattle.st_model.specs.Outcomes.{Outcome, end_of}
+use Rattle.st_model.specs.Outcomes.{StepEnd, end_of}
 use Rattle.st_model.specs.Machine.{Head, State, Went, empty_world, is_there, used}
 use Rattle.st_model.specs.Steps.{are_there}
 use Rattle.st_model.specs.Table.{Table, table, apart, bounded_table, total_used}
@@ -19,9 +21,9 @@ use Rattle.st_model.specs.Show.{IsUsed}
 use Rattle.st_model.specs.View.{View, IsWhole}
 use Rattle.st_model.proofs.Closed.{step_closed}
 use Rattle.st_frames.specs.declared.frame.Frame.{Frame}
-use Rattle.st_registers.specs.declared.registers.Registers.{Registers as Words}
-use Rattle.st_registers.specs.Narrow.{IsNarrow}
-use Rattle.st_registers.specs.Rows.{row_state, registers_in}
+use Rattle.st_frames.specs.declared.registers.Registers.{Registers as Words}
+use Rattle.st_frames.specs.Narrow.{IsNarrow}
+use Rattle.st_frames.specs.Rows.{row_state, registers_in}
 use Rattle.st_frames.specs.Shown.{shown, registers_of, IsFrame}
 use Rattle.st_frames.proofs.Closed.{is_closed}
 use Rattle.st_step.specs.Planned.{Plans, plus}
@@ -32,16 +34,16 @@ pub loaded_as : (v : View) (f : Frame) (t : Table) (a : Head) (r : Words) → t 
 unfolding row_state
 loaded_as v f t a r x y e = λ i. record { memory = x i; registers = e i; world = empty_world nil; head = y i }
 
-module _ (before : Demand) (c s : State Table) (t : Table) (a : Head) (r : Words) (x : Result (Option CodeOutcome) Dead) (same : s ≡ c) (does : (step apart).run s ≡ transition_of end_of x (row_state t a r)) where
-  planned : (y : Result (Option CodeOutcome) Dead) → x ≡ y → (step apart).run c ≡ transition_of end_of y (row_state t a r)
+module _ (before : Demand) (c s : State Table) (t : Table) (a : Head) (r : Words) (x : Result CodeStepEnd Dead) (same : s ≡ c) (does : (step apart).run s ≡ transition_of end_of x (row_state t a r)) where
+  planned : (y : Result CodeStepEnd Dead) → x ≡ y → (step apart).run c ≡ transition_of end_of y (row_state t a r)
   planned y e = ap (λ z. (step apart).run z) (sym same) ∙ (does ∙ ap (λ z. transition_of end_of z (row_state t a r)) e)
 
-  pub plan_goes : (o : CodeOutcome) (n : Demand) → x ≡ Ok (Some o) → used apart t ≡ plus before n → Plans before ((step apart).run c) (Ok n)
+  pub plan_goes : (o : CodeOutcome) (n : Demand) → x ≡ Ok (ends.Did o) → used apart t ≡ plus before n → Plans before ((step apart).run c) (Ok n)
   unfolding row_state
-  plan_goes o n e u = subst (λ y. Plans before y (Ok n)) (sym (planned (Ok (Some o)) e)) u
+  plan_goes o n e u = subst (λ y. Plans before y (Ok n)) (sym (planned (Ok (ends.Did o)) e)) u
 
-  pub plan_unbuilt : x ≡ Ok None → Plans before ((step apart).run c) (Err halt.Unbuilt)
-  plan_unbuilt e = subst (λ y. Plans before y (Err halt.Unbuilt)) (sym (planned (Ok None) e)) tt
+  pub plan_unbuilt : x ≡ Ok ends.NotBuilt → Plans before ((step apart).run c) (Err halt.Unbuilt)
+  plan_unbuilt e = subst (λ y. Plans before y (Err halt.Unbuilt)) (sym (planned (Ok ends.NotBuilt) e)) tt
 
   pub plan_dies : (cause : Dead) → x ≡ Err cause → Plans before ((step apart).run c) (Err (halt.Dead cause))
   plan_dies cause e = subst (λ y. Plans before y (Err (halt.Dead cause))) (sym (planned (Err cause) e)) refl
@@ -72,7 +74,7 @@ there t w h s = there_if t (w.0 % 2 == 1) (w.0 / 2) h (λ e. let l = s e in omeg
 all_there : (a b c d : Bool) → a ≡ true → b ≡ true → c ≡ true → d ≡ true → (a && (b && (c && d))) ≡ true
 all_there a b c d p q r s = rw (p, q, r, s) refl
 
-pub there_after : (v : View) (f : Frame) (t : Table) (a : Head) (r : Words) (o : Option Outcome) → IsWhole v → IsFrame v f
+pub there_after : (v : View) (f : Frame) (t : Table) (a : Head) (r : Words) (o : StepEnd) → IsWhole v → IsFrame v f
     → (step bounded_table).run (shown v f) ≡ Went o (row_state t a r) → are_there table t (registers_in r) ≡ true
 unfolding row_state
 there_after v f t a r o w frame e =

@@ -1,8 +1,14 @@
-//! The bytecodes: a call for each row of the book's table, and the step that does the next one (chapter 28).
+//! The bytecodes: a call for each row of the book's table, by the chapter's four heads, and the step that does the next
+//! one (chapter 28).
 #![tactic(auto)]
 
+mod execute;
+mod jump;
+mod operands;
+mod returns;
 mod rows;
-mod sending;
+mod send;
+mod stack;
 mod stepping;
 
 pub use stepping::{plan, step};

@@ -3,36 +3,34 @@ ghost use Rattle.st_model.specs.Values.{word};
 ghost use Rattle.st_model.specs.Outcomes.{end_of};
 ghost use Rattle.st_model.specs.Decoded.{IsNumbered};
 ghost use Rattle.st_model.specs.Bytecodes.{bytecode, step};
-ghost use Rattle.st_model.specs.Calls.{Does};
-ghost use Rattle.st_registers.specs.Rows.{row_state};
+ghost use Rattle.st_frames.specs.Rows.{RowDoes, Takes, bytecode_changes};
 
-use crate::sending::{
-    double_extended_send, double_extended_super_send, extended_send, extended_super_send,
-    long_jump_on_false, long_jump_on_true, return_constant, return_receiver, return_top_to_caller,
-    return_top_to_sender, send_literal, short_jump_on_false,
+use crate::jump::{
+    long_jump_on_false, long_jump_on_true, long_unconditional_jump, short_jump_on_false,
+    short_unconditional_jump,
 };
-use st_control::{arithmetic_send, special_send};
+use crate::returns::{
+    return_constant, return_receiver, return_top_to_caller, return_top_to_sender,
+};
+use crate::send::{
+    arithmetic_send, double_extended_send, double_extended_super_send, extended_send,
+    extended_super_send, literal_send, send_special,
+};
+use crate::stack::{
+    duplicate_top, extended_push, extended_store, extended_store_and_pop, pop_stack,
+    push_active_context, push_constant, push_operand, push_receiver, store_and_pop,
+};
+use st_frames::{Registers, next_byte};
 use st_memory::Objects;
-use st_model::{Bytecode, Dead, Outcome, decode};
-use st_moves::{
-    duplicate_top, extended_push, extended_store, extended_store_and_pop, long_unconditional_jump,
-    pop_stack, push_active_context, push_constant, push_operand, push_receiver,
-    short_unconditional_jump, store_and_pop,
-};
-use st_registers::{Registers, next_byte};
+use st_model::{Bytecode, Dead, Outcome, StepEnd, decode};
 
-/// Does the row of a bytecode; none where it comes to a primitive that isn't built.
-#[tactic(auto, using(st_registers::proofs::Doing::rows), unfolding(st_model::specs::Bytecodes::bytecode, st_model::specs::Sends::goes_on))]
-fn bytecode<O: Objects>(
-    m: &mut O,
-    r: &mut Registers,
-    code: Bytecode,
-) -> Result<Option<Outcome>, Dead>
+/// Does the row of a bytecode.
+#[tactic(auto, using(st_frames::proofs::Doing::rows), unfolding(st_model::specs::Bytecodes::bytecode, st_model::specs::Executing::goes_on))]
+fn bytecode<O: Objects>(m: &mut O, r: &mut Registers, code: Bytecode) -> Result<StepEnd, Dead>
     requires numbered { IsNumbered code }
-    requires room { 16 ≤ O.room m.old }
-    ensures does { Does (bytecode O.names code) end_of (row_state (O.table m.old) (O.head m.old) r.old) result (row_state (O.table m.new) (O.head m.new) r.new) }
-    ensures room { O.room m.old ≤ O.room m.new + 16 }
-    ensures fixed { O.fixed m.new ≡ O.fixed m.old }
+    requires room { bytecode_changes ≤ O.room m.old }
+    ensures does { RowDoes O.Objects.own (bytecode O.names code) end_of m.old r.old result m.new r.new }
+    ensures takes { Takes O.Objects.own bytecode_changes m.old m.new }
 {
     match code {
         Bytecode::Push(operand) => push_operand(m, r, operand)?,
@@ -60,22 +58,21 @@ fn bytecode<O: Objects>(
         Bytecode::LongJumpOnTrue(i) => return long_jump_on_true(m, r, i),
         Bytecode::LongJumpOnFalse(i) => return long_jump_on_false(m, r, i),
         Bytecode::ArithmeticSend(k) => return arithmetic_send(m, r, u32::from(k)),
-        Bytecode::SpecialSend(k) => return special_send(m, r, u32::from(k)),
-        Bytecode::PrimitiveSend(_) => return Ok(None),
+        Bytecode::SpecialSend(k) => return send_special(m, r, u32::from(k)),
+        Bytecode::PrimitiveSend(_) => return Ok(StepEnd::NotBuilt),
         Bytecode::LiteralSend { literal, arguments } => {
-            return send_literal(m, r, u32::from(literal), u32::from(arguments));
+            return literal_send(m, r, u32::from(literal), u32::from(arguments));
         }
     }
-    Ok(Some(Outcome::Went))
+    Ok(StepEnd::Did(Outcome::Went))
 }
 
-/// Does the next bytecode; none where it comes to a primitive that isn't built.
-#[tactic(auto, using(st_registers::proofs::Doing::rows), unfolding(st_model::specs::Bytecodes::step))]
-pub fn step_row<O: Objects>(m: &mut O, r: &mut Registers) -> Result<Option<Outcome>, Dead>
-    requires room { 16 ≤ O.room m.old }
-    ensures does { Does (step O.names) end_of (row_state (O.table m.old) (O.head m.old) r.old) result (row_state (O.table m.new) (O.head m.new) r.new) }
-    ensures room { O.room m.old ≤ O.room m.new + 16 }
-    ensures fixed { O.fixed m.new ≡ O.fixed m.old }
+/// Does the next bytecode.
+#[tactic(auto, using(st_frames::proofs::Doing::rows), unfolding(st_model::specs::Bytecodes::step))]
+pub fn step_row<O: Objects>(m: &mut O, r: &mut Registers) -> Result<StepEnd, Dead>
+    requires room { bytecode_changes ≤ O.room m.old }
+    ensures does { RowDoes O.Objects.own (step O.names) end_of m.old r.old result m.new r.new }
+    ensures takes { Takes O.Objects.own bytecode_changes m.old m.new }
 {
     let byte = next_byte(m, r)?;
     bytecode(m, r, decode(byte))

@@ -1,5 +1,5 @@
-ghost use Rattle.std.specs.Prelude.{◌≡◌, Some, IfOk};
-ghost use Rattle.st_model.specs.Outcomes.{end_of, outcome_of};
+ghost use Rattle.std.specs.Prelude.{◌≡◌, IfOk};
+ghost use Rattle.st_model.specs.Outcomes.{Did, end_of, outcome_of};
 ghost use Rattle.st_model.specs.Machine.{used, Went};
 ghost use Rattle.st_model.specs.Table.{table, apart, bounded_table};
 ghost use Rattle.st_model.specs.Bytecodes.{step};
@@ -10,44 +10,47 @@ ghost use Rattle.st_step.specs.Planned.{Plans, IsForeseen};
 use crate::rows::step_row;
 use st_frames::{Frame, hold, load};
 use st_memory::{Draft, Memory};
-use st_model::{Dead, Demand, Halt, Outcome};
+use st_model::{Dead, Demand, Halt, Outcome, StepEnd};
 
 /// What the next bytecode would take of the capacities, or why it can't be done. Nothing is changed.
 pub fn plan<M: Memory>(m: &M, f: &Frame) -> Result<Demand, Halt>
     requires frame { IsFrame (M.view m.now) f.now }
-    ensures plans { Plans (used table (M.view m.now).objects) ((step apart).run (shown (M.view m.now) f.now)) result }
+    ensures plans { Plans (used table (M.view m.now).objects) ((step apart).run (shown (M.view m.now) f.now))
+        result }
 {
     let mut draft = Draft::new(m);
     let mut r = load(m, f);
     match step_row(&mut draft, &mut r) {
-        Ok(Some(_)) => Ok(draft.demand()),
-        Ok(None) => Err(Halt::Unbuilt),
+        Ok(StepEnd::Did(_)) => Ok(draft.demand()),
+        Ok(StepEnd::NotBuilt) => Err(Halt::Unbuilt),
         Err(cause) => Err(Halt::Dead(cause)),
     }
 }
 
 /// Does the next bytecode over the memory. The registers are held again where it went.
-fn try_step<M: Memory>(m: &mut M, f: &mut Frame) -> Result<Option<Outcome>, Dead>
+fn try_step<M: Memory>(m: &mut M, f: &mut Frame) -> Result<StepEnd, Dead>
     requires frame { IsFrame (M.view m.old) f.old }
-    ensures step { Does (step bounded_table) end_of (shown (M.view m.old) f.old) result (shown (M.view m.new) f.new) }
+    ensures step { Does (step bounded_table)
+        end_of (shown (M.view m.old) f.old) result (shown (M.view m.new) f.new) }
     ensures frame { IfOk result (λ o. StaysFrame (M.view m.old) (M.view m.new) f.new) }
 {
     let mut r = load(m, f);
-    let outcome = step_row(m, &mut r)?;
+    let end = step_row(m, &mut r)?;
     *f = hold(m, &r);
-    Ok(outcome)
+    Ok(end)
 }
 
 /// Does the next bytecode, once a plan has said what it takes and there is room for that.
 pub fn step<M: Memory>(m: &mut M, f: &mut Frame) -> Outcome
     requires frame { IsFrame (M.view m.old) f.old }
     requires foreseen { IsForeseen (shown (M.view m.old) f.old) }
-    ensures step { (step bounded_table).run (shown (M.view m.old) f.old) ≡ Went (Some (outcome_of result)) (shown (M.view m.new) f.new) }
+    ensures step { (step bounded_table).run (shown (M.view m.old) f.old)
+        ≡ Went (Did (outcome_of result)) (shown (M.view m.new) f.new) }
     ensures frame { StaysFrame (M.view m.old) (M.view m.new) f.new }
 {
     match try_step(m, f) {
-        Ok(Some(outcome)) => outcome,
-        Ok(None) => Outcome::Went,
+        Ok(StepEnd::Did(outcome)) => outcome,
+        Ok(StepEnd::NotBuilt) => Outcome::Went,
         Err(_) => Outcome::Went,
     }
 }

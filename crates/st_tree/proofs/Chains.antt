@@ -1,5 +1,5 @@
 -- One more link at the outer end.
-use Rattle.std.proofs.Common.{◌≡◌, ◌<◌, List, [], ◌∷◌, ◌++◌, reverse, ap, ◌∙◌, arith}
+use Rattle.std.proofs.Common.{◌≡◌, ℕ, zero, suc, ◌<◌, ◌≤◌, List, [], ◌∷◌, ◌++◌, length, get_or, take, reverse, refl, ap, ◌∙◌, arith, All}
 use Rattle.std.specs.Global.{Vec, Box}
 use Rattle.std.proofs.lemmas.List.{reverse-append}
 use denote.Param.Weighed.{most}
@@ -9,7 +9,8 @@ use Rattle.st_tree.specs.declared.tree.Expression.TheVariants.{Send}
 use Rattle.st_tree.specs.declared.tree.Expression.TheViews.{sized-Send}
 use Rattle.st_tree.specs.declared.tree.Message.{Message, size-Message}
 use Rattle.st_tree.specs.Views.{ExpressionView}
-use Rattle.st_tree.specs.Chains.{linked, links_view, link_view, with_link}
+use Rattle.st_tree.specs.declared.chain.Link.TheVariants as links
+use Rattle.st_tree.specs.Chains.{linked, links_view, link_view, with_link, link_size, links_size, IsBelow}
 
 pub linked_turn : (e inner whole : ExpressionView) (links more : List Link) (link : Link)
     → more ≡ links ++ link ∷ [] → with_link (link_view link) inner ≡ e → linked e (links_view (reverse links)) ≡ whole → linked inner (links_view (reverse more)) ≡ whole
@@ -25,3 +26,21 @@ size-receiver receiver messages = omega (arith, sized-Send receiver messages)
 
 pub size-messages : (receiver : Box Expression) (messages : Vec Message) → most size-Message messages.items < size-Expression (Send receiver messages)
 size-messages receiver messages = omega (arith, sized-Send receiver messages)
+
+size_below : (n : ℕ) (l : Link) → IsBelow n l → link_size l ≤ n
+size_below n (links.Assign target) h = omega arith
+size_below n (links.Send messages) h = omega arith
+
+-- links whose messages are less deep than n
+pub links_within : (n : ℕ) (ls : List Link) → All (IsBelow n) ls → links_size ls ≤ n
+links_within n [] h = omega arith
+links_within n (l ∷ ls) h =
+    let first = size_below n l (h 0 l (omega arith)) in
+    let others = links_within n ls (λ k d less. h (suc k) d (omega (arith, less))) in
+    omega (arith, first, others)
+
+-- an expression with one more link of a list
+pub linked_take : (e : ExpressionView) (ls : List Link) (i : ℕ) (d : Link) → i < length ls → linked e (links_view (take (suc i) ls)) ≡ with_link (link_view (get_or ls i d)) (linked e (links_view (take i ls)))
+linked_take e [] i d less = absurd (omega arith)
+linked_take e (l ∷ ls) zero d less = refl
+linked_take e (l ∷ ls) (suc i) d less = linked_take (with_link (link_view l) e) ls i d (omega arith)

@@ -1,5 +1,5 @@
 -- An expression from the inside out.
-use Rattle.std.specs.Prelude.{ℕ, ◌<◌, ◌≤◌, List, [], ◌∷◌, map, All}
+use Rattle.std.specs.Prelude.{ℕ, ◌<◌, ◌≤◌, max, List, [], ◌∷◌, map, All}
 use denote.Param.Weighed.{most}
 use Rattle.st_tree.specs.declared.chain.Chain.{Chain}
 use Rattle.st_tree.specs.declared.chain.Link.{Link}
@@ -37,6 +37,15 @@ IsStart (literal e) = Unit {0}
 IsStart (block names body) = Unit {0}
 IsStart (assign target value) = ⊥
 IsStart (send receiver ms) = ⊥
+
+-- the greatest depth of a link's messages
+abbrev pub link_size : Link → ℕ
+link_size (Assign target) = 0
+link_size (Send messages) = most size-Message messages.now
+
+abbrev pub links_size : List Link → ℕ
+links_size [] = 0
+links_size (l ∷ ls) = max (link_size l) (links_size ls)
 
 -- all messages of a link are less deep than n
 abbrev pub IsBelow : ℕ → Link → Type 0

@@ -1,5 +1,5 @@
 -- What contracts see of a method's tree: its parts as lists, without where they lie in memory.
-use Rattle.std.specs.Prelude.{ℕ, Bool, List, [], ◌∷◌, map, Option}
+use Rattle.std.specs.Prelude.{ℕ, Bool, false, List, [], ◌∷◌, map, Option, codes, bytes_eq}
 use Rattle.st_tree.specs.declared.token.Signed.{Signed}
 use Rattle.st_tree.specs.declared.tree.Name.{Name}
 use Rattle.st_tree.specs.declared.tree.MethodTree.{MethodTree}
@@ -147,6 +147,11 @@ with_sent (variable n) selector arguments = variable n
 with_sent (literal e) selector arguments = literal e
 with_sent (block names body) selector arguments = block names body
 with_sent (assign target e) selector arguments = assign target e
+
+-- a variable that only stands as the receiver of a message
+abbrev pub is_super : ExpressionView → Bool
+is_super (variable n) = bytes_eq n.text (codes "super")
+is_super _ = false
 
 -- a method
 pub record MethodView : Type 0 where

@@ -8,7 +8,7 @@ use crate::tree::{Expression, Message, Name};
 use std::alloc::{AllocError, Global};
 
 /// What is done to an expression: it is assigned to a name, or messages are sent to it.
-#[derive(Clone, Copy, Debug)]
+#[derive(Clone, Copy)]
 pub enum Link<'a> {
     Assign(&'a Name),
     Send(&'a [Message]),
@@ -16,7 +16,7 @@ pub enum Link<'a> {
 
 /// An expression from the inside out: a variable, a literal or a block, and what is done to it, in the order in which
 /// it is done. An expression may be as deep as its text is long, and its links are walked by a loop.
-#[derive(Debug, Drop)]
+#[derive(Drop)]
 pub struct Chain<'a> {
     pub start: &'a Expression,
     pub links: Vec<Link<'a>>,

@@ -35,14 +35,12 @@ fn assignments(alloc: Global) -> Result<Expression, AllocError> {
 }
 
 #[test]
-fn a_tree_as_deep_as_its_text_is_walked_printed_and_dropped(rt: HostRuntime) -> Result<(), Fail> {
+fn a_tree_as_deep_as_its_text_is_walked_and_dropped(rt: HostRuntime) -> Result<(), Fail> {
     let trees = [messages(rt.alloc())?, assignments(rt.alloc())?];
     for tree in &trees {
         let chain = tree.chain(rt.alloc())?;
         assert!(rt; matches!(chain.start, Expression::Variable(_)));
         assert_eq!(rt; chain.links.len(), LEVELS);
-        let printed = format!(in rt.alloc(); "{tree:?}")?;
-        assert!(rt; printed.len() > LEVELS);
     }
     Ok(())
 }

@@ -1,15 +1,14 @@
 //! The trees of methods.
 //!
 //! A tree may be as deep as its text is long, in receivers and in values of assignments, as `x y y ..` and
-//! `a _ b _ ..` show: only brackets are bounded. So an expression is dropped and printed by loops down these two, and a
-//! walk goes along its `chain`.
+//! `a _ b _ ..` show: only brackets are bounded. So an expression is dropped by a loop down these two, and a walk goes along
+//! its `chain`.
 
 ghost use Rattle.std.specs.Prelude.{◌≡◌, IfOk};
 ghost use Rattle.st_tree.specs.Views.{expression_view, expressions_view, with_sent};
 
 use crate::token::Signed;
 use std::alloc::AllocError;
-use std::fmt;
 
 /// A text, as its bytes.
 pub type Text = Vec<u8>;
@@ -25,14 +24,14 @@ pub type ExpressionList = Vec<Expression>;
 pub type ElementList = Vec<Element>;
 
 /// A name, and the place of its token, counted from 1.
-#[derive(Debug, Drop)]
+#[derive(Drop)]
 pub struct Name {
     pub text: Text,
     pub place: u32,
 }
 
 /// A method.
-#[derive(Debug, Drop)]
+#[derive(Drop)]
 pub struct MethodTree {
     pub selector: Text,
     pub arguments: NameList,
@@ -42,7 +41,7 @@ pub struct MethodTree {
 }
 
 /// An expression as a statement. `returns` is true for the one after `^`.
-#[derive(Debug, Drop)]
+#[derive(Drop)]
 #[cycle(tree)]
 pub struct Statement {
     pub returns: bool,
@@ -70,7 +69,7 @@ pub enum Expression {
 }
 
 /// A message: its whole selector, and an argument for each of the selector's colons or for its operator.
-#[derive(Debug, Drop)]
+#[derive(Drop)]
 #[cycle(tree)]
 pub struct Message {
     pub selector: Text,
@@ -78,7 +77,7 @@ pub struct Message {
 }
 
 /// A literal, and the place of its first token, counted from 1.
-#[derive(Debug, Drop)]
+#[derive(Drop)]
 #[cycle(element)]
 pub struct Element {
     pub place: u32,
@@ -86,7 +85,7 @@ pub struct Element {
 }
 
 /// What a literal is. `Nil`, `False` and `True` stand only in an `Array`.
-#[derive(Debug, Drop)]
+#[derive(Drop)]
 #[cycle(element)]
 pub enum Content {
     Number(Signed),
@@ -133,47 +132,5 @@ impl Drop for Expression {
                 } => self = Box::into_inner(receiver),
             }
         }
-    }
-}
-
-impl fmt::Debug for Expression {
-    #[cycle(tree)]
-    fn fmt<W: fmt::Write>(&self, f: &mut fmt::Formatter<W>) -> fmt::Result {
-        let mut inner = self;
-        'down: loop {
-            match inner {
-                Expression::Assign { target, value } => {
-                    write!(f, "Assign {{ target: {target:?}, value: ")?;
-                    inner = value;
-                }
-                Expression::Send { receiver, messages } => {
-                    write!(f, "Send {{ messages: {messages:?}, receiver: ")?;
-                    inner = receiver;
-                }
-                Expression::Variable(name) => {
-                    write!(f, "Variable({name:?})")?;
-                    break;
-                }
-                Expression::Literal(element) => {
-                    write!(f, "Literal({element:?})")?;
-                    break;
-                }
-                Expression::Block { names, body } => {
-                    write!(f, "Block {{ names: {names:?}, body: {body:?} }}")?;
-                    break;
-                }
-            }
-        }
-        let mut closed = self;
-        while let Expression::Assign { value: outer, .. }
-        | Expression::Send {
-            receiver: outer,
-            ..
-        } = closed
-        {
-            write!(f, " }}")?;
-            closed = outer;
-        }
-        Ok(())
     }
 }

@@ -2,25 +2,56 @@ ghost use Rattle.std.specs.Prelude.{◌≡◌, ◌/◌, ◌≤◌, true, IfOk};
 ghost use Rattle.st_model.specs.Formed.{IsMakeable, fresh};
 ghost use Rattle.st_model.specs.Objects.{words_of};
 ghost use Rattle.st_model.specs.View.{IsComplete};
-ghost use Rattle.st_contents.specs.Plain.{plain_view};
+ghost use Rattle.st_plain.specs.Plain.{plain_view};
 
+use crate::contents::Contents;
 use crate::loader::PlainLoader;
 use crate::memory::PlainMemory;
-use st_contents::Contents;
-use st_marks::Marks;
-use st_memory::{Loader, Memory};
-use st_model::{Demand, Kind, Oop, RootPlace};
+use st_lists::Marks;
+use st_memory::Loader;
+use st_model::{Demand, Kind, Oop};
 use std::alloc::{AllocError, Global};
 use std::process::Abort;
 use std::test::Fail;
 
-/// The root page, but for the scheduler's association.
-const PAGE: [u16; 19] = [
-    2, 4, 6, 12, 14, 16, 22, 24, 26, 28, 32, 34, 40, 42, 44, 48, 50, 52, 56,
+/// An object of an image.
+#[derive(Clone, Copy)]
+struct Shape {
+    at: u16,
+    class: u16,
+    kind: Kind,
+    size: u32,
+    literals: u32,
+}
+
+const fn shape(at: u16, class: u16, kind: Kind, size: u32, literals: u32) -> Shape {
+    Shape {
+        at,
+        class,
+        kind,
+        size,
+        literals,
+    }
+}
+
+/// The objects of the root page that have no fields in any image here.
+const PAGE: [u16; 17] = [
+    2, 4, 6, 14, 16, 22, 24, 26, 28, 32, 34, 40, 42, 44, 50, 52, 56,
 ];
 
-/// Stores into a field: the object, the field's number, the word.
-const STORES: [(u16, u32, u16); 7] = [
+/// The other objects of image B.
+const B: [Shape; 7] = [
+    shape(12, 12, Kind::Pointers, 0, 0),
+    shape(48, 12, Kind::Pointers, 0, 0),
+    shape(8, 12, Kind::Pointers, 2, 0),
+    shape(58, 12, Kind::Pointers, 2, 0),
+    shape(60, 12, Kind::Pointers, 4, 0),
+    shape(62, 22, Kind::Pointers, 18, 0),
+    shape(64, 34, Kind::Method, 7, 0),
+];
+
+/// Stores into fields of image B: the object, the field's number, the word.
+const B_FIELDS: [(u16, u32, u16); 8] = [
     (8, 1, 58),
     (58, 1, 60),
     (60, 1, 62),
@@ -28,6 +59,59 @@ const STORES: [(u16, u32, u16); 7] = [
     (62, 1, 7),
     (62, 2, 3),
     (62, 3, 64),
+    (64, 0, 257),
+];
+
+/// Its bytes: the object, the byte's number, the byte.
+const B_BYTES: [(u16, u32, u8); 5] = [
+    (64, 2, 118),
+    (64, 3, 119),
+    (64, 4, 104),
+    (64, 5, 163),
+    (64, 6, 251),
+];
+
+/// The other objects of image C.
+const C: [Shape; 11] = [
+    shape(12, 12, Kind::Pointers, 3, 0),
+    shape(48, 12, Kind::Pointers, 2, 0),
+    shape(8, 12, Kind::Pointers, 2, 0),
+    shape(58, 12, Kind::Pointers, 2, 0),
+    shape(60, 12, Kind::Pointers, 4, 0),
+    shape(62, 22, Kind::Pointers, 18, 0),
+    shape(64, 34, Kind::Method, 7, 1),
+    shape(66, 56, Kind::Bytes, 1, 0),
+    shape(68, 12, Kind::Pointers, 3, 0),
+    shape(70, 16, Kind::Pointers, 1, 0),
+    shape(72, 34, Kind::Method, 3, 0),
+];
+
+const C_FIELDS: [(u16, u32, u16); 17] = [
+    (8, 1, 58),
+    (12, 1, 68),
+    (12, 2, 1),
+    (48, 0, 66),
+    (48, 1, 3),
+    (58, 1, 60),
+    (60, 1, 62),
+    (60, 2, 9),
+    (62, 1, 11),
+    (62, 2, 1),
+    (62, 3, 64),
+    (64, 0, 3),
+    (64, 1, 32767),
+    (68, 0, 3),
+    (68, 1, 70),
+    (68, 2, 66),
+    (70, 0, 72),
+];
+
+const C_BYTES: [(u16, u32, u8); 5] = [
+    (64, 4, 32),
+    (64, 5, 118),
+    (64, 6, 176),
+    (66, 0, 43),
+    (72, 2, 120),
 ];
 
 /// Whether what the objects refer to and the root page are there; it asks that there are no tables of names.
@@ -49,60 +133,73 @@ fn is_complete(alloc: Global, c: &Contents) -> Result<bool, AllocError>
     Ok(true)
 }
 
-/// Whether there can be such an object without literals; it asks for a small one.
-pub fn is_makeable(class: Oop, kind: Kind, size: u32) -> bool
-    ensures { result ≡ true → IsMakeable (class.0 / 2) kind size 0 }
+/// Whether there can be such an object; it asks for a small one.
+pub fn is_makeable(class: Oop, kind: Kind, size: u32, literals: u32) -> bool
+    ensures { result ≡ true → IsMakeable (class.0 / 2) kind size literals }
 {
     match kind {
-        Kind::Pointers | Kind::Words | Kind::Bytes => class.0 / 2 != 17 && size <= 100,
-        Kind::Method => class.0 / 2 == 17 && 2 <= size && size <= 100,
+        Kind::Pointers | Kind::Words | Kind::Bytes => {
+            class.0 / 2 != 17 && size <= 100 && literals == 0
+        }
+        Kind::Method => class.0 / 2 == 17 && 2 + 2 * literals <= size && size <= 100,
     }
 }
 
 /// How many words such an object has.
-pub fn words_for(class: Oop, kind: Kind, size: u32) -> u32
-    requires { IsMakeable (class.0 / 2) kind size 0 }
-    ensures { result ≡ words_of (fresh (class.0 / 2) kind size 0) }
+pub fn words_for(class: Oop, kind: Kind, size: u32, literals: u32) -> u32
+    requires { IsMakeable (class.0 / 2) kind size literals }
+    ensures { result ≡ words_of (fresh (class.0 / 2) kind size literals) }
 {
     match kind {
         Kind::Pointers | Kind::Words => 2 + size,
-        Kind::Bytes | Kind::Method => 2 + size.div_ceil(2),
+        Kind::Bytes => 2 + size.div_ceil(2),
+        Kind::Method => 3 + literals + (size - 2 * (literals + 1)).div_ceil(2),
     }
 }
 
-fn place(rt: &impl Abort, l: &mut PlainLoader, at: u16, class: u16, kind: Kind, size: u32) {
-    let at = Oop(at);
-    let class = Oop(class);
+fn place(rt: &impl Abort, l: &mut PlainLoader, o: Shape) {
+    let at = Oop(o.at);
+    let class = Oop(o.class);
     let used = l.contents.objects.used();
     let capacity = l.contents.head.capacity;
-    assert!(rt; !at.is_small());
-    assert!(rt; at.0 != 0);
-    assert!(rt; !class.is_small());
+    assert!(rt; !at.is_small() && at.0 != 0 && !class.is_small());
     assert!(rt; !l.contents.objects.live(at));
-    assert!(rt; is_makeable(class, kind, size));
-    assert!(rt; used.entries < capacity.entries);
-    assert!(rt; used.words <= capacity.words);
-    assert!(rt; words_for(class, kind, size) <= capacity.words - used.words);
-    l.place(at, class, kind, size, 0);
+    assert!(rt; is_makeable(class, o.kind, o.size, o.literals));
+    assert!(rt; used.entries < capacity.entries && used.words <= capacity.words);
+    assert!(rt;
+        words_for(class, o.kind, o.size, o.literals) <= capacity.words - used.words
+    );
+    l.place(at, class, o.kind, o.size, o.literals);
 }
 
+/// Stores into a field; in the header of a method only what counts the same literals.
+#[tactic(auto, using(st_model::proofs::Words::words))]
 fn store(rt: &impl Abort, l: &mut PlainLoader, o: u16, at: u32, v: u16) {
     let o = Oop(o);
     assert!(rt; l.contents.objects.live(o));
     let entry = l.contents.objects.live_entry(o);
-    assert!(rt; !entry.kind.is_method());
     assert!(rt; at < entry.fields);
+    assert!(rt;
+        !entry.kind.is_method() || at > 0 || v % 2 == 1 && u32::from(v / 2 % 64) + 1 == entry.fields
+    );
     l.set_pointer(o, at, Oop(v));
 }
 
-#[tactic(auto, using(st_model::proofs::Words::words))]
-fn store_header(rt: &impl Abort, l: &mut PlainLoader, o: u16, header: u16) {
+fn store_byte(rt: &impl Abort, l: &mut PlainLoader, o: u16, at: u32, v: u8) {
     let o = Oop(o);
     assert!(rt; l.contents.objects.live(o));
     let entry = l.contents.objects.live_entry(o);
-    assert!(rt; header % 2 == 1);
-    assert!(rt; u32::from(header / 2 % 64) + 1 == entry.fields);
-    l.set_pointer(o, 0, Oop(header));
+    assert!(rt; !entry.kind.is_words() && 2 * entry.fields <= at);
+    assert!(rt; at - 2 * entry.fields < entry.units);
+    l.set_byte(o, at, v);
+}
+
+fn store_word(rt: &impl Abort, l: &mut PlainLoader, o: u16, at: u32, v: u16) {
+    let o = Oop(o);
+    assert!(rt; l.contents.objects.live(o));
+    let entry = l.contents.objects.live_entry(o);
+    assert!(rt; entry.kind.is_words() && at < entry.units);
+    l.set_word(o, at, v);
 }
 
 /// No objects, under capacities within the limits and without tables of names.
@@ -120,30 +217,29 @@ fn finished<L: Loader>(l: L) -> L::Done
     l.finish()
 }
 
-/// The worked image of 24 objects and 78 words.
-fn worked_image(
-    rt: &impl Abort,
-    alloc: Global,
-    entries: u32,
-    words: u32,
-) -> Result<PlainLoader, Fail> {
-    let mut l: PlainLoader = begun(alloc, entries, words)?;
+/// The objects of an image.
+fn place_all(rt: &impl Abort, l: &mut PlainLoader, shapes: &[Shape]) {
     for at in PAGE {
-        place(rt, &mut l, at, 12, Kind::Pointers, 0);
+        place(rt, l, shape(at, 12, Kind::Pointers, 0, 0));
     }
-    place(rt, &mut l, 8, 12, Kind::Pointers, 2);
-    place(rt, &mut l, 58, 12, Kind::Pointers, 2);
-    place(rt, &mut l, 60, 12, Kind::Pointers, 4);
-    place(rt, &mut l, 62, 22, Kind::Pointers, 18);
-    place(rt, &mut l, 64, 34, Kind::Method, 7);
-    for (o, at, v) in STORES {
-        store(rt, &mut l, o, at, v);
+    for o in shapes {
+        place(rt, l, *o);
     }
-    store_header(rt, &mut l, 64, 257);
-    for (at, v) in [(2, 118), (3, 119), (4, 104), (5, 163), (6, 251)] {
-        store_byte(rt, &mut l, 64, at, v);
+}
+
+/// What stands in them.
+fn store_all(
+    rt: &impl Abort,
+    l: &mut PlainLoader,
+    fields: &[(u16, u32, u16)],
+    bytes: &[(u16, u32, u8)],
+) {
+    for (o, at, v) in fields {
+        store(rt, l, *o, *at, *v);
     }
-    Ok(l)
+    for (o, at, v) in bytes {
+        store_byte(rt, l, *o, *at, *v);
+    }
 }
 
 /// A memory of what was placed.
@@ -152,126 +248,33 @@ fn completed(rt: &impl Abort, alloc: Global, l: PlainLoader) -> Result<PlainMemo
     Ok(finished(l))
 }
 
-/// The memory of the worked image.
-pub fn worked_memory(
+/// The memory of image B, of 24 objects and 78 words.
+pub fn image_b(
     rt: &impl Abort,
     alloc: Global,
     entries: u32,
     words: u32,
 ) -> Result<PlainMemory, Fail> {
-    let l = worked_image(rt, alloc, entries, words)?;
+    let mut l = begun(alloc, entries, words)?;
+    place_all(rt, &mut l, &B);
+    store_all(rt, &mut l, &B_FIELDS, &B_BYTES);
     completed(rt, alloc, l)
 }
 
-/// The worked image with an unnamed object of 3 words, and two objects that name each other alone.
-fn image(rt: &impl Abort, alloc: Global) -> Result<PlainMemory, Fail> {
-    let mut l = worked_image(rt, alloc, 32767, 1048576)?;
-    place(rt, &mut l, 66, 16, Kind::Words, 3);
-    place(rt, &mut l, 68, 16, Kind::Pointers, 1);
-    place(rt, &mut l, 70, 16, Kind::Pointers, 1);
-    store(rt, &mut l, 68, 0, 70);
-    store(rt, &mut l, 70, 0, 68);
+/// The memory of image C.
+pub fn image_c(rt: &impl Abort, alloc: Global) -> Result<PlainMemory, Fail> {
+    let mut l = begun(alloc, 32767, 1048576)?;
+    place_all(rt, &mut l, &C);
+    store_all(rt, &mut l, &C_FIELDS, &C_BYTES);
+    completed(rt, alloc, l)
+}
+
+/// Image B with an unnamed object of 3 words besides.
+pub fn image_with_words(rt: &impl Abort, alloc: Global) -> Result<PlainMemory, Fail> {
+    let mut l = begun(alloc, 32767, 1048576)?;
+    place_all(rt, &mut l, &B);
+    place(rt, &mut l, shape(66, 16, Kind::Words, 3, 0));
+    store_all(rt, &mut l, &B_FIELDS, &B_BYTES);
     store_word(rt, &mut l, 66, 2, 65535);
     completed(rt, alloc, l)
-}
-
-fn store_byte(rt: &impl Abort, l: &mut PlainLoader, o: u16, at: u32, v: u8) {
-    let o = Oop(o);
-    assert!(rt; l.contents.objects.live(o));
-    let entry = l.contents.objects.live_entry(o);
-    assert!(rt;
-        !entry.kind.is_words() && 2 * entry.fields <= at && at - 2 * entry.fields < entry.units
-    );
-    l.set_byte(o, at, v);
-}
-
-fn store_word(rt: &impl Abort, l: &mut PlainLoader, o: u16, at: u32, v: u16) {
-    let o = Oop(o);
-    assert!(rt; l.contents.objects.live(o));
-    let entry = l.contents.objects.live_entry(o);
-    assert!(rt; entry.kind.is_words() && at < entry.units);
-    l.set_word(o, at, v);
-}
-
-/// A field of an object of kind Pointers.
-pub fn field<M: Memory>(rt: &impl Abort, m: &M, o: u16, at: u32) -> u16 {
-    let o = Oop(o);
-    assert!(rt; m.live(o));
-    assert!(rt; m.kind(o).is_pointers());
-    assert!(rt; at < m.size(o));
-    m.pointer(o, at).0
-}
-
-pub fn used<M: Memory>(rt: &impl Abort, m: &M, entries: u32, words: u32) {
-    assert_eq!(rt; m.used(), Demand { entries, words });
-}
-
-/// What stands in the image's method, and in the object that nothing names.
-fn reads_bodies<M: Memory>(rt: &impl Abort, m: &M) {
-    let method = Oop(64);
-    let unnamed = Oop(66);
-    assert!(rt; m.live(method) && m.live(unnamed) && !m.live(Oop(72)) && !m.live(Oop(3)));
-    assert_eq!(rt; m.class_of(method), Oop(34));
-    assert_eq!(rt; m.size(method), 7);
-    assert!(rt; m.kind(method).is_method());
-    assert_eq!(rt; m.pointer(method, 0), Oop(257));
-    assert!(rt; m.kind(unnamed).is_words());
-    assert_eq!(rt; m.size(unnamed), 3);
-    assert_eq!(rt; m.word(unnamed, 2), 65535);
-}
-
-/// What stands in its other objects.
-fn reads_fields<M: Memory>(rt: &impl Abort, m: &M) {
-    assert_eq!(rt; (field(rt, m, 60, 0), field(rt, m, 60, 1)), (2, 62));
-    assert_eq!(rt; (field(rt, m, 60, 2), field(rt, m, 60, 3)), (9, 2));
-    assert_eq!(rt; (field(rt, m, 68, 0), field(rt, m, 70, 0)), (70, 68));
-    assert_eq!(rt; m.next_live(56), Some(Oop(58)));
-    assert_eq!(rt; m.next_live(70), None);
-    assert_eq!(rt; (m.globals(), m.symbols()), (Oop(0), Oop(0)));
-}
-
-/// Stores into a field of an object of kind Pointers.
-pub fn write<M: Memory>(rt: &impl Abort, m: &mut M, o: Oop, at: u32, v: Oop) {
-    assert!(rt; m.live(o) && m.live(v));
-    assert!(rt; m.kind(o).is_pointers());
-    assert!(rt; at < m.size(o));
-    m.set_pointer(o, at, v);
-}
-
-/// An object that nothing names stays while it is held, at one place or another.
-fn holds<M: Memory>(rt: &impl Abort, m: &mut M, unnamed: Oop) {
-    assert!(rt; m.live(unnamed) && m.live(Oop::NIL));
-    m.hold(RootPlace::Display, unnamed);
-    m.settle();
-    used(rt, m, 27, 89);
-    assert_eq!(rt; m.held(RootPlace::Display), unnamed);
-    assert!(rt; m.live(unnamed) && m.live(Oop::NIL));
-    m.hold(RootPlace::Pending(4095), unnamed);
-    m.hold(RootPlace::Display, Oop::NIL);
-    m.settle();
-    used(rt, m, 27, 89);
-}
-
-/// It stays while a field names it, and then it goes; two objects that name each other stay.
-fn settles<M: Memory>(rt: &impl Abort, m: &mut M, unnamed: Oop) {
-    write(rt, m, Oop(8), 0, unnamed);
-    assert!(rt; m.live(Oop::NIL));
-    m.hold(RootPlace::Pending(4095), Oop::NIL);
-    m.settle();
-    used(rt, m, 27, 89);
-    write(rt, m, Oop(8), 0, Oop::NIL);
-    m.settle();
-    used(rt, m, 26, 84);
-    assert!(rt; !m.live(unnamed) && m.live(Oop(68)) && m.live(Oop(70)));
-}
-
-#[test]
-fn an_unnamed_object_goes_and_a_cycle_stays(rt: HostRuntime) -> Result<(), Fail> {
-    let mut m = image(&rt, rt.alloc())?;
-    used(&rt, &m, 27, 89);
-    reads_bodies(&rt, &m);
-    reads_fields(&rt, &m);
-    holds(&rt, &mut m, Oop(66));
-    settles(&rt, &mut m, Oop(66));
-    Ok(())
 }

@@ -1,6 +1,6 @@
 ghost use Rattle.std.specs.Prelude.{◌≤◌, ◌+◌};
 
-use crate::loader::tests::{field, is_makeable, used, words_for, worked_memory, write};
+use crate::loader::tests::{image_b, image_c, image_with_words, is_makeable, words_for};
 use st_memory::{Draft, Memory, Objects};
 use st_model::{Dead, Demand, Kind, Oop, RootPlace, Word};
 use std::process::Abort;
@@ -10,14 +10,10 @@ use std::test::Fail;
 fn make<M: Memory>(rt: &impl Abort, m: &mut M, class: u16, kind: Kind, size: u32) -> u16 {
     let class = Oop(class);
     assert!(rt; m.live(class));
-    assert!(rt; is_makeable(class, kind, size));
-    let words = words_for(class, kind, size);
+    assert!(rt; is_makeable(class, kind, size, 0));
+    let words = words_for(class, kind, size, 0);
     assert!(rt; m.room(Demand { entries: 1, words }));
     m.make(class, kind, size, 0).0
-}
-
-fn has_room<M: Memory>(m: &M, entries: u32, words: u32) -> bool {
-    m.room(Demand { entries, words })
 }
 
 fn hold<M: Memory>(rt: &impl Abort, m: &mut M, place: RootPlace, o: u16) {
@@ -27,36 +23,66 @@ fn hold<M: Memory>(rt: &impl Abort, m: &mut M, place: RootPlace, o: u16) {
     m.hold(place, o);
 }
 
-/// Words objects up to the last word; two of them are held, and the words of the others are free again.
+/// A field of an object of kind Pointers.
+fn field<M: Memory>(rt: &impl Abort, m: &M, o: u16, at: u32) -> u16 {
+    let o = Oop(o);
+    assert!(rt; m.live(o));
+    assert!(rt; m.kind(o).is_pointers());
+    assert!(rt; at < m.size(o));
+    m.pointer(o, at).0
+}
+
+/// Stores into a field of an object of kind Pointers.
+fn write<M: Memory>(rt: &impl Abort, m: &mut M, o: u16, at: u32, v: u16) {
+    let o = Oop(o);
+    let v = Oop(v);
+    assert!(rt; m.live(o) && m.live(v));
+    assert!(rt; m.kind(o).is_pointers());
+    assert!(rt; at < m.size(o));
+    m.set_pointer(o, at, v);
+}
+
+fn used<M: Memory>(rt: &impl Abort, m: &M, entries: u32, words: u32) {
+    assert_eq!(rt; m.used(), Demand { entries, words });
+}
+
+/// What room answers to demands.
+fn rooms<M: Memory>(rt: &impl Abort, m: &M, rows: &[(u32, u32, bool)]) {
+    for (entries, words, fits) in rows {
+        let demand = Demand {
+            entries: *entries,
+            words: *words,
+        };
+        assert_eq!(rt; m.room(demand), *fits, "at {entries} {words}");
+    }
+}
+
+/// What stands in fields: the object, the field's number, the word.
+fn fields<M: Memory>(rt: &impl Abort, m: &M, rows: &[(u16, u32, u16)]) {
+    for (o, at, v) in rows {
+        assert_eq!(rt; field(rt, m, *o, *at), *v, "at {o} {at}");
+    }
+}
+
+/// Five Words objects up to the last word; two of them are held, and the words of the others are free again.
 fn fills_the_words<M: Memory>(rt: &impl Abort, m: &mut M) {
-    used(rt, m, 24, 78);
-    assert_eq!(rt;
-        m.capacity(),
-        Demand {
-            entries: 32767,
-            words: 108
-        }
-    );
     for at in [10, 18, 20, 30, 36] {
         assert_eq!(rt; make(rt, m, 12, Kind::Words, 4), at);
     }
-    used(rt, m, 29, 108);
-    assert!(rt; has_room(m, 0, 0));
-    assert!(rt; !has_room(m, 1, 2));
+    rooms(rt, m, &[(0, 0, true), (1, 2, false)]);
     hold(rt, m, RootPlace::Display, 18);
     hold(rt, m, RootPlace::Cursor, 30);
     m.settle();
     used(rt, m, 26, 90);
-    assert!(rt; has_room(m, 1, 18));
-    assert!(rt; !has_room(m, 1, 19));
+    rooms(rt, m, &[(1, 18, true), (1, 19, false)]);
     assert_eq!(rt; make(rt, m, 12, Kind::Words, 16), 10);
     used(rt, m, 27, 108);
-    assert!(rt; m.live(Oop(10)) && m.live(Oop(18)) && m.live(Oop(30)) && !m.live(Oop(20)));
 }
 
 #[test]
 fn no_hole_fits_and_the_words_do(rt: HostRuntime) -> Result<(), Fail> {
-    let mut m = worked_memory(&rt, rt.alloc(), 32767, 108)?;
+    let mut m = image_b(&rt, rt.alloc(), 32767, 108)?;
+    used(&rt, &m, 24, 78);
     fills_the_words(&rt, &mut m);
     Ok(())
 }
@@ -69,20 +95,98 @@ fn fills_the_table<M: Memory>(rt: &impl Abort, m: &mut M) {
     }
     assert_eq!(rt; last, 65534);
     used(rt, m, 32767, 78 + 2 * 32743);
-    assert!(rt; !has_room(m, 1, 0));
+    rooms(rt, m, &[(0, 0, true), (1, 0, false)]);
     hold(rt, m, RootPlace::Timer, 65534);
     m.settle();
     used(rt, m, 25, 80);
-    assert!(rt; has_room(m, 32742, 0));
-    assert!(rt; !has_room(m, 32743, 0));
+    rooms(rt, m, &[(32742, 0, true), (32743, 0, false)]);
     assert_eq!(rt; make(rt, m, 12, Kind::Pointers, 0), 10);
-    assert_eq!(rt; make(rt, m, 12, Kind::Pointers, 0), 18);
 }
 
 #[test]
 fn the_table_is_filled(rt: HostRuntime) -> Result<(), Fail> {
-    let mut m = worked_memory(&rt, rt.alloc(), 32767, 1048576)?;
+    let mut m = image_b(&rt, rt.alloc(), 32767, 1048576)?;
     fills_the_table(&rt, &mut m);
+    Ok(())
+}
+
+/// Two objects that name each other alone stay once one of them was held.
+fn keeps_a_cycle<M: Memory>(rt: &impl Abort, m: &mut M) {
+    let one = make(rt, m, 16, Kind::Pointers, 1);
+    let two = make(rt, m, 16, Kind::Pointers, 1);
+    write(rt, m, one, 0, two);
+    write(rt, m, two, 0, one);
+    hold(rt, m, RootPlace::Display, one);
+    m.settle();
+    hold(rt, m, RootPlace::Display, 2);
+    m.settle();
+    used(rt, m, 26, 84);
+    assert_eq!(rt; m.next_of(Oop(16), 0), Some(Oop(10)));
+    assert_eq!(rt; m.next_of(Oop(16), 10), Some(Oop(18)));
+    assert_eq!(rt; m.next_of(Oop(16), 18), None);
+}
+
+#[test]
+fn a_cycle_stays(rt: HostRuntime) -> Result<(), Fail> {
+    let mut m = image_b(&rt, rt.alloc(), 32767, 1048576)?;
+    keeps_a_cycle(&rt, &mut m);
+    Ok(())
+}
+
+/// A symbol and a method in each other's place.
+fn exchanges<M: Memory>(rt: &impl Abort, m: &mut M) {
+    let symbol = Oop(66);
+    let method = Oop(72);
+    assert!(rt; m.live(symbol) && m.live(method));
+    m.swap(symbol, method);
+    assert!(rt; m.live(symbol) && m.live(method));
+    assert!(rt; m.kind(symbol).is_method() && m.kind(method).is_bytes());
+    assert_eq!(rt; (m.class_of(symbol), m.class_of(method)), (Oop(34), Oop(56)));
+    fields(rt, m, &[(68, 2, 66), (70, 0, 72)]);
+}
+
+/// A byte of an object of kind Bytes.
+fn byte<M: Memory>(rt: &impl Abort, m: &M, o: u16) -> u8 {
+    let o = Oop(o);
+    assert!(rt; m.live(o));
+    assert!(rt; m.kind(o).is_bytes() && 0 < m.size(o));
+    m.byte(o, 0)
+}
+
+#[test]
+fn two_objects_are_exchanged(rt: HostRuntime) -> Result<(), Fail> {
+    let mut m = image_c(&rt, rt.alloc())?;
+    exchanges(&rt, &mut m);
+    assert_eq!(rt; byte(&rt, &m, 72), 43);
+    Ok(())
+}
+
+/// Words and bytes are stored, and the others stay.
+fn stores_units<M: Memory>(rt: &impl Abort, m: &mut M) {
+    let words = Oop(66);
+    assert!(rt; m.live(words));
+    assert!(rt; m.kind(words).is_words() && m.size(words) == 3);
+    m.set_word(words, 1, 4660);
+    assert!(rt; m.live(words));
+    assert!(rt; m.kind(words).is_words() && m.size(words) == 3);
+    assert_eq!(rt; (m.word(words, 0), m.word(words, 1), m.word(words, 2)), (0, 4660, 65535));
+}
+
+/// An object that nothing names stays while it is held.
+fn holds<M: Memory>(rt: &impl Abort, m: &mut M) {
+    hold(rt, m, RootPlace::InputSemaphore, 66);
+    m.settle();
+    used(rt, m, 25, 83);
+    hold(rt, m, RootPlace::InputSemaphore, 2);
+    m.settle();
+    used(rt, m, 24, 78);
+}
+
+#[test]
+fn words_are_stored_and_held(rt: HostRuntime) -> Result<(), Fail> {
+    let mut m = image_with_words(&rt, rt.alloc())?;
+    stores_units(&rt, &mut m);
+    holds(&rt, &mut m);
     Ok(())
 }
 
@@ -90,25 +194,23 @@ fn the_table_is_filled(rt: HostRuntime) -> Result<(), Fail> {
 fn moves_what_is_kept<M: Memory>(rt: &impl Abort, m: &mut M) {
     for turn in 0..20 {
         let kept = make(rt, m, 12, Kind::Pointers, 3);
-        write(rt, m, Oop(kept), 2, Oop::TRUE);
+        write(rt, m, kept, 2, 6);
         hold(rt, m, RootPlace::Cursor, kept);
         let lost = make(rt, m, 12, Kind::Pointers, 2);
-        write(rt, m, Oop(lost), 0, Oop::FALSE);
+        write(rt, m, lost, 0, 4);
         m.settle();
         used(rt, m, 25, 83);
         let made = make(rt, m, 12, Kind::Pointers, 4);
         assert!(rt; made != kept && made <= lost, "in turn {turn}");
-        assert_eq!(rt; (field(rt, m, made, 0), field(rt, m, made, 3)), (2, 2));
-        assert_eq!(rt; (field(rt, m, kept, 0), field(rt, m, kept, 2)), (2, 6));
+        fields(rt, m, &[(made, 0, 2), (made, 3, 2), (kept, 0, 2), (kept, 2, 6)]);
     }
 }
 
 #[test]
 fn objects_move_and_stay_as_they_are(rt: HostRuntime) -> Result<(), Fail> {
-    let mut m = worked_memory(&rt, rt.alloc(), 40, 100)?;
+    let mut m = image_b(&rt, rt.alloc(), 40, 100)?;
     moves_what_is_kept(&rt, &mut m);
-    assert_eq!(rt; (field(&rt, &m, 60, 0), field(&rt, &m, 60, 1)), (2, 62));
-    assert_eq!(rt; (field(&rt, &m, 60, 2), field(&rt, &m, 60, 3)), (9, 2));
+    fields(&rt, &m, &[(60, 0, 2), (60, 1, 62), (60, 2, 9), (60, 3, 2)]);
     Ok(())
 }
 
@@ -127,86 +229,84 @@ fn made<O: Objects>(o: &mut O) -> Result<(Word, Word), Dead>
 
 /// And it copies fields of them, and of an object that is there.
 fn copied<O: Objects>(o: &mut O, a: Word, b: Word) -> Result<(), Dead>
-    requires { 5 ≤ O.room o.old }
-    ensures { O.room o.old ≤ O.room o.new + 5 }
+    requires { 4 ≤ O.room o.old }
+    ensures { O.room o.old ≤ O.room o.new + 4 }
 {
     let there = Word(60);
     o.transfer(2, a, 0, b, 1)?;
     o.store_field(a, 0, b)?;
     o.transfer(2, b, 0, b, 1)?;
-    o.store_field(there, 0, a)?;
     o.transfer(3, there, 0, there, 1)
 }
 
-/// What stands in the two objects.
-fn stored<O: Objects>(rt: &impl Abort, o: &O, a: Word, b: Word) {
-    assert_eq!(rt; o.fetch_field(a, 0), Ok(b));
-    assert_eq!(rt; o.fetch_field(a, 1), Ok(Word(4)));
-    assert_eq!(rt; o.fetch_field(a, 2), Ok(Word::NIL));
-    assert_eq!(rt; o.fetch_field(b, 0), Ok(Word::NIL));
-    assert_eq!(rt; o.fetch_field(b, 1), Ok(Word::NIL));
-    assert_eq!(rt; o.fetch_field(b, 2), Ok(Word(7)));
-    assert_eq!(rt; o.fetch_field(b, 3), Err(Dead::Field));
-}
-
-/// What stands in the object that was there.
-fn shifted<O: Objects>(rt: &impl Abort, o: &O, a: Word) {
-    let there = Word(60);
-    assert_eq!(rt; o.fetch_field(there, 0), Ok(a));
-    assert_eq!(rt; o.fetch_field(there, 1), Ok(a));
-    assert_eq!(rt; o.fetch_field(there, 2), Ok(Word(62)));
-    assert_eq!(rt; o.fetch_field(there, 3), Ok(Word(9)));
-}
-
-/// What else is known of the two objects.
-fn known<O: Objects>(rt: &impl Abort, o: &O, a: Word, b: Word) {
-    assert_eq!(rt; o.count_fields(b), Ok(3));
-    assert_eq!(rt; o.fetch_class(b), Ok(Word::SMALL_INTEGER));
-    assert_eq!(rt; o.literal(b, 0), Err(Dead::Kind));
-    assert!(rt; o.is_there(a) && o.is_there(b) && !o.is_there(Word(65540)));
-    assert_eq!(rt; (o.half_word(a), o.half_word(b)), (5, 9));
-}
-
-fn three<O: Objects>(o: &O, object: Word, at: u32) -> Result<(Word, Word, Word), Dead> {
-    Ok((
-        o.fetch_field(object, at)?,
-        o.fetch_field(object, at.saturating_add(1))?,
-        o.fetch_field(object, at.saturating_add(2))?,
-    ))
-}
-
-/// The row with what it leaves; and stores that can't be.
-fn row<O: Objects>(rt: &impl Abort, o: &mut O, a: Word, b: Word)
-    requires { 11 ≤ O.room o.old }
+/// And at last it exchanges an object made for one that is there, and stores a field of what that is now.
+fn exchanged<O: Objects>(o: &mut O, a: Word) -> Result<(), Dead>
+    requires { 2 ≤ O.room o.old }
 {
+    let there = Word(60);
+    o.exchange(a, there)?;
+    o.store_field(a, 3, there)
+}
+
+/// What stands in fields; none where there is no such field.
+fn stored<O: Objects>(rt: &impl Abort, o: &O, rows: &[(Word, u32, Option<Word>)]) {
+    for (object, at, word) in rows {
+        assert_eq!(rt; o.fetch_field(*object, *at).ok(), *word, "at {at}");
+    }
+}
+
+/// What a row leaves: a names what was the object of three fields, whose own word names what was made.
+fn row<O: Objects>(rt: &impl Abort, o: &mut O, a: Word, b: Word)
+    requires { 10 ≤ O.room o.old }
+{
+    let there = Word(60);
     assert_eq!(rt; made(o), Ok((a, b)));
     assert_eq!(rt; copied(o, a, b), Ok(()));
-    assert_eq!(rt; o.store_field(a, 3, b), Err(Dead::Field));
-    assert_eq!(rt; o.store_field(b, 2, Word(200000)), Err(Dead::Kind));
-    stored(rt, o, a, b);
-    shifted(rt, o, a);
-    known(rt, o, a, b);
+    assert_eq!(rt; exchanged(o, a), Ok(()));
+    stored(
+        rt,
+        o,
+        &[
+            (there, 0, Some(b)),
+            (there, 1, Some(Word(4))),
+            (there, 2, Some(Word::NIL)),
+            (there, 3, None),
+            (b, 0, Some(Word::NIL)),
+            (b, 1, Some(Word::NIL)),
+            (b, 2, Some(Word(7))),
+            (a, 0, Some(Word::NIL)),
+            (a, 1, Some(Word::NIL)),
+            (a, 2, Some(Word(62))),
+            (a, 3, Some(there)),
+        ],
+    );
+}
+
+/// What else is known after it, and stores that can't be.
+fn known<O: Objects>(rt: &impl Abort, o: &O, a: Word, b: Word) {
+    let there = Word(60);
+    assert_eq!(rt; (o.count_fields(a), o.count_fields(there)), (Ok(4), Ok(3)));
+    assert_eq!(rt; o.literal(b, 0), Err(Dead::Kind));
+    assert!(rt; o.is_there(a) && o.is_there(b) && !o.is_there(Word(65540)));
+    assert_eq!(rt; (o.half_word(a), o.half_word(b), o.half_word(there)), (5, 9, 30));
 }
 
 /// A row over a draft answers as over the memory, which only the second changes.
 fn rehearses<M: Memory>(rt: &impl Abort, m: &mut M) {
     let mut draft = Draft::new(m);
     row(rt, &mut draft, Word(65536), Word(65538));
+    known(rt, &draft, Word(65536), Word(65538));
     let demand = draft.demand();
     assert_eq!(rt; (demand.entries, demand.words), (2, 10));
     used(rt, m, 24, 78);
-    assert!(rt; !m.live(Oop(10)));
-    assert_eq!(rt; field(rt, m, 60, 0), 2);
-    assert!(rt; m.room(demand));
     row(rt, m, Word(10), Word(18));
+    known(rt, m, Word(10), Word(18));
     used(rt, m, 26, 88);
 }
 
 #[test]
 fn a_draft_tells_what_a_row_does(rt: HostRuntime) -> Result<(), Fail> {
-    let mut m = worked_memory(&rt, rt.alloc(), 26, 88)?;
+    let mut m = image_b(&rt, rt.alloc(), 26, 88)?;
     rehearses(&rt, &mut m);
-    assert_eq!(rt; (field(&rt, &m, 60, 0), field(&rt, &m, 60, 1)), (10, 10));
-    assert_eq!(rt; (field(&rt, &m, 60, 2), field(&rt, &m, 60, 3)), (62, 9));
     Ok(())
 }

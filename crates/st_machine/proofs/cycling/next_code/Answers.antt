@@ -1,5 +1,5 @@
 use Rattle.std.proofs.Common.{Ok, Err, sym}
-use Rattle.st_registers.specs.Rows.{row_state}
+use Rattle.st_frames.specs.Rows.{row_state}
 use Rattle.st_machine.proofs.Foreseeing.{code_is}
 use Rattle.st_machine.proofs.cycling.next_code.Goals as goal
 

@@ -15,7 +15,7 @@ returns-clause-all g c =
     let n = c.args.cycles in
     let e = c.run-end.result in
     let same : shown (g.M.Memory.view c.memory.result.now) c.frame.result ≡ shown (g.M.Memory.view new.memory) new.frame = λ i. shown (g.M.Memory.view (c.memory.ensures i)) (c.frame.ensures i) in
-    let text = run_is (g.M.Memory.view old.memory) (g.M.Memory.view new.memory) old.frame new.frame n e (g.met.M.Memory.whole old.memory) old.held (g.met.M.Memory.whole new.memory)
+    let text = run_is (g.M.Memory.view old.memory) (g.M.Memory.view new.memory) old.frame new.frame n e (g.met.M.Memory.whole old.memory) c.requires.ready.frame (g.met.M.Memory.whole new.memory)
     c.run-end.ensures.asks (c.run-end.ensures.ends c.requires.alive) in
     subst (λ (t : List ℕ). OnOk c.say_run.result (SaysAll g.H.Host t c.args.host.now c.say_run.new.host)) (ap (λ (s : State Table). ending_text n e s) same ∙ text) c.say_run.ensures.all
 
@@ -26,6 +26,6 @@ returns-clause-says g c =
     let n = c.args.cycles in
     let e = c.run-end.result in
     let same : shown (g.M.Memory.view c.memory.result.now) c.frame.result ≡ shown (g.M.Memory.view new.memory) new.frame = λ i. shown (g.M.Memory.view (c.memory.ensures i)) (c.frame.ensures i) in
-    let text = run_is (g.M.Memory.view old.memory) (g.M.Memory.view new.memory) old.frame new.frame n e (g.met.M.Memory.whole old.memory) old.held (g.met.M.Memory.whole new.memory)
+    let text = run_is (g.M.Memory.view old.memory) (g.M.Memory.view new.memory) old.frame new.frame n e (g.met.M.Memory.whole old.memory) c.requires.ready.frame (g.met.M.Memory.whole new.memory)
     c.run-end.ensures.asks (c.run-end.ensures.ends c.requires.alive) in
     subst (λ (t : List ℕ). Says g.H.Host t c.args.host.now c.say_run.new.host) (ap (λ (s : State Table). ending_text n e s) same ∙ text) c.say_run.ensures.says

@@ -3,7 +3,7 @@ use Rattle.st_model.specs.Values.{Value, Ref, value}
 use Rattle.st_model.specs.Text.{heading_text, object_head, kind_text}
 use Rattle.st_model.specs.View.{object_of}
 use Rattle.st_model.specs.Objects.{Object}
-use Rattle.st_bodies.proofs.Bodies.{even_pointer}
+use Rattle.st_memory.proofs.Bodies.{even_pointer}
 use Rattle.st_report.proofs.Pushing.{push_as}
 use Rattle.st_report.proofs.objects.push_head.Goals as goal
 

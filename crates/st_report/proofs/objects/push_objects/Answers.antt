@@ -5,7 +5,7 @@ use Rattle.st_model.specs.Table.{Table}
 use Rattle.st_model.specs.View.{is_live, object_of}
 use Rattle.st_model.specs.Text.{object_text, objects_text}
 use Rattle.st_report.proofs.Pushing.{push_none, push_then, push_begun, push_as}
-use Rattle.st_bodies.proofs.Bodies.{even_pointer}
+use Rattle.st_memory.proofs.Bodies.{even_pointer}
 use Rattle.st_report.proofs.Listing.{IsEmptyFrom, first_line, next_line, cut_lines, all_lines, live_entry, empty_from}
 use Rattle.st_report.proofs.objects.push_objects.Goals as goal
 

@@ -7,24 +7,24 @@ use Rattle.st_frames.specs.Shown.{shown}
 use Rattle.st_step.proofs.Stepped.{loaded_as, used_after, plan_goes, plan_unbuilt, plan_dies}
 use Rattle.st_step.proofs.stepping.plan.Goals as goal
 
-pub returns-in-Ok-Some : goal.returns-in-Ok-Some
-returns-in-Ok-Some g c =
+pub returns-in-Ok-Did : goal.returns-in-Ok-Did
+returns-in-Ok-Did g c =
     let v = g.M.Memory.view c.args.m.now in
     let new = c.new-draft.ensures in
     let same = loaded_as v c.args.f.now _ _ c.load-r.result new.table (new.head) c.load-r.ensures in
     let demand = c.demand.ensures in
-    let base = ap (λ (x : View). x.objects) (c.step_row.ensures.fixed ∙ new.fixed) in
+    let base = ap (λ (x : View). x.objects) (c.step_row.ensures.takes.fixed ∙ new.fixed) in
     record {
-      plans = plan_goes (used table v.objects) (shown v c.args.f.now) _ _ _ _ c.step_row.result same c.step_row.ensures.does c.in-Ok-Some.field-0-0 c.demand.result (c.in-Ok-Some.is ∙ ap (λ x. Ok x) c.in-Ok-Some.field-0-is)
+      plans = plan_goes (used table v.objects) (shown v c.args.f.now) _ _ _ _ c.step_row.result same c.step_row.ensures.does c.in-Ok-Did.field-0-0 c.demand.result (c.in-Ok-Did.is ∙ ap (λ x. Ok x) c.in-Ok-Did.field-0-is)
           (used_after (draft_table (g.M.Memory.view c.step_row.new.m.base.now).objects c.step_row.new.m.made c.step_row.new.m.made_count c.step_row.new.m.changes c.step_row.new.m.count) (g.M.Memory.view c.step_row.new.m.base.now).objects v.objects c.demand.result base demand.entries demand.words);
     }
 
-pub returns-in-Ok-None : goal.returns-in-Ok-None
-returns-in-Ok-None g c =
+pub returns-in-Ok-NotBuilt : goal.returns-in-Ok-NotBuilt
+returns-in-Ok-NotBuilt g c =
     let v = g.M.Memory.view c.args.m.now in
     let new = c.new-draft.ensures in
     let same = loaded_as v c.args.f.now _ _ c.load-r.result new.table (new.head) c.load-r.ensures in
-    record { plans = plan_unbuilt (used table v.objects) (shown v c.args.f.now) _ _ _ _ c.step_row.result same c.step_row.ensures.does (c.in-Ok-None.is ∙ ap (λ x. Ok x) c.in-Ok-None.field-0-is) }
+    record { plans = plan_unbuilt (used table v.objects) (shown v c.args.f.now) _ _ _ _ c.step_row.result same c.step_row.ensures.does (c.in-Ok-NotBuilt.is ∙ ap (λ x. Ok x) c.in-Ok-NotBuilt.field-0-is) }
 
 pub returns-in-Err : goal.returns-in-Err
 returns-in-Err g c =

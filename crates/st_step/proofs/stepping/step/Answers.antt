@@ -5,11 +5,11 @@ use Rattle.st_model.specs.Machine.{Went}
 use Rattle.st_frames.specs.Shown.{shown}
 use Rattle.st_step.proofs.stepping.step.Goals as goal
 
-pub returns-in-Ok-None-clause-step : goal.returns-in-Ok-None-clause-step
-returns-in-Ok-None-clause-step g c =
+pub returns-in-Ok-NotBuilt-clause-step : goal.returns-in-Ok-NotBuilt-clause-step
+returns-in-Ok-NotBuilt-clause-step g c =
     let v = g.M.Memory.view c.args.m.now in
     absurd (goes_none (shown v c.args.f.now) (goes v c.args.f.now (g.met.M.Memory.whole c.args.m.now) c.requires.frame c.requires.foreseen) (shown (g.M.Memory.view c.try_step.new.m) c.try_step.new.f)
-    (c.in-Ok-None.ensures.step ∙ ap (λ x. Went (end_of x) (shown (g.M.Memory.view c.try_step.new.m) c.try_step.new.f)) c.in-Ok-None.field-0-is))
+    (c.in-Ok-NotBuilt.ensures.step ∙ ap (λ x. Went (end_of x) (shown (g.M.Memory.view c.try_step.new.m) c.try_step.new.f)) c.in-Ok-NotBuilt.field-0-is))
 
 pub returns-in-Err-clause-step : goal.returns-in-Err-clause-step
 returns-in-Err-clause-step g c =

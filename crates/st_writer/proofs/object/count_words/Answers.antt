@@ -1,5 +1,5 @@
 use Rattle.std.proofs.Common.{◌≡◌, ◌∙◌, length, arith}
-use Rattle.st_bodies.proofs.Bodies.{most_units}
+use Rattle.st_memory.proofs.Bodies.{most_units}
 use Rattle.st_model.specs.Values.{value}
 use Rattle.st_model.specs.View.{object_of}
 use Rattle.st_writer.specs.Written.{unit_words}

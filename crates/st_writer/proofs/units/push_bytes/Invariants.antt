@@ -2,7 +2,7 @@ use Rattle.std.proofs.Common.{◌≡◌, ◌+◌, take, Ok}
 use Rattle.st_outside.specs.declared.host.HostFault.{HostFault}
 use Rattle.st_model.specs.Values.{value}
 use Rattle.st_model.specs.View.{object_of}
-use Rattle.st_pieces.specs.Pieces.{end_of, Pushes}
+use Rattle.st_outside.specs.Pieces.{end_of, Pushes}
 use Rattle.st_writer.proofs.units.push_bytes.Given as goal
 
 -- the bytes so far were added

@@ -3,7 +3,7 @@ use Rattle.std.specs.List.{flat_map}
 use Rattle.st_outside.specs.declared.host.HostFault.{HostFault}
 use Rattle.st_model.specs.Values.{value}
 use Rattle.st_model.specs.View.{object_of}
-use Rattle.st_pieces.specs.Pieces.{end_of, Pushes}
+use Rattle.st_outside.specs.Pieces.{end_of, Pushes}
 use Rattle.st_writer.specs.Written.{word_bytes}
 use Rattle.st_writer.proofs.units.push_words.Given as goal
 

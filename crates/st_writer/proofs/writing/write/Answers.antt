@@ -1,6 +1,6 @@
 use Rattle.std.proofs.Common.{◌≡◌, [], refl, sym, ap, subst, arith}
-use Rattle.st_outside.proofs.Touching.{above_join}
-use Rattle.st_pieces.specs.Pieces.{Held, end_of, Holds}
+use Rattle.st_outside.proofs.Pushing.{from_adds}
+use Rattle.st_outside.specs.Pieces.{Held, end_of, Holds}
 use Rattle.st_writer.specs.Written.{image_of}
 use Rattle.st_writer.proofs.Rows.{image_small}
 use Rattle.st_writer.proofs.writing.write.Goals as goal
@@ -12,11 +12,15 @@ finish-requires g c =
 
 pub returns-in_err-length-clause-writes : goal.returns-in_err-length-clause-writes
 returns-in_err-length-clause-writes g c =
-    above_join g.H.Host c.args.name.now 0 c.args.host.now c.push_image.new.host c.finish.new.host c.in_ok-push_image.ensures.writes c.finish.ensures.writes
+    let start : c.new-piece.result.at ≡ 0 = ap (λ (p : Held). p.at) c.new-piece.ensures in
+    (from_adds g.H.Host c.args.name.now (image_of (g.M.Memory.view c.args.m.now)) c.args.host.now c.push_image.new.host c.finish.new.host c.new-piece.result c.push_image.new.piece
+    c.in_ok-push_image.ensures.writes c.in_ok-push_image.ensures.adds c.finish.ensures.writes).above 0 (omega arith) (λ told. omega (arith, start))
 
 pub returns-clause-writes : goal.returns-clause-writes
 returns-clause-writes g c =
-    above_join g.H.Host c.args.name.now 0 c.args.host.now c.push_image.new.host c.finish.new.host c.in_ok-push_image.ensures.writes c.finish.ensures.writes
+    let start : c.new-piece.result.at ≡ 0 = ap (λ (p : Held). p.at) c.new-piece.ensures in
+    (from_adds g.H.Host c.args.name.now (image_of (g.M.Memory.view c.args.m.now)) c.args.host.now c.push_image.new.host c.finish.new.host c.new-piece.result c.push_image.new.piece
+    c.in_ok-push_image.ensures.writes c.in_ok-push_image.ensures.adds c.finish.ensures.writes).above 0 (omega arith) (λ told. omega (arith, start))
 
 -- the piece begins with the text of no bytes
 pub returns-clause-file : goal.returns-clause-file
@@ -25,3 +29,8 @@ returns-clause-file g c told =
     let first : Holds file (record { at = 0; bytes = [] }) [] = record { there = omega arith; is = refl } in
     let begun : Holds file c.new-piece.result [] = subst (λ (p : Held). Holds file p []) (sym c.new-piece.ensures) first in
     c.in_ok-length.ensures.file told (image_of (g.M.Memory.view c.args.m.now)) (c.in_ok-push_image.ensures.adds.text told [] begun)
+
+pub returns-in_err-push_image-clause-writes : goal.returns-in_err-push_image-clause-writes
+returns-in_err-push_image-clause-writes g c =
+    let start : c.new-piece.result.at ≡ 0 = ap (λ (p : Held). p.at) c.new-piece.ensures in
+    c.in_err-push_image.ensures.writes.above 0 (omega arith) (λ told. omega (arith, start))

@@ -4,7 +4,7 @@ use Rattle.std.proofs.lemmas.Grind.{common_steps}
 use Rattle.st_model.specs.Values.{value}
 use Rattle.st_model.specs.Settled.{or, names, any_names, is_marked}
 use Rattle.st_lists.specs.Lists.{slot}
-use Rattle.st_marks.proofs.Marking.{or_step}
+use Rattle.st_lists.proofs.Marking.{or_step}
 use Rattle.st_lists.proofs.Referring.{object_names-some, object_names-none}
 use Rattle.st_lists.proofs.objects.Objects.mark_from.Goals as goal
 

@@ -6,5 +6,5 @@ use Rattle.st_memory.proofs.draft.Draft.find_made.Goals as goal
 pub returns-clause-found : goal.returns-clause-found
 returns-clause-found g c =
     let d = c.args.self.now in
-    let few : d.made_count ≤ length d.made = let a = d.few in let b = d.sizes.0 in omega (arith, a, b) in
-    found_made (g.M.Memory.view d.base.now).objects d.made d.made_count (word c.args.o) c.in_ok-number.number _ few (g.met.M.Memory.whole d.base.now).places c.in_ok-number.ensures.named c.in_ok-number.ensures.below
+    let few : d.notes.made_count ≤ length d.notes.made = let a = d.notes.few in let b = d.notes.sizes.0 in omega (arith, a, b) in
+    found_made (g.M.Memory.view d.base.now).objects d.notes.made d.notes.made_count (word c.args.o) c.in_ok-number.number _ few (g.met.M.Memory.whole d.base.now).places c.in_ok-number.ensures.named c.in_ok-number.ensures.below

@@ -8,21 +8,21 @@ returns-then-o-lt65536-clause-none g c =
     let d = c.args.self.now in
     let t = (g.M.Memory.view d.base.now).objects in
     let even : is_small (word c.args.o) ≡ false = sym c.is_small.ensures ∙ c.if-is_small.false in
-    let few : d.made_count ≤ length d.made = let a = d.few in let b = d.sizes.0 in omega (arith, a, b) in
-    same_low t d.made d.made_count c.args.o.0 few (g.met.M.Memory.whole d.base.now).places even c.if-o-lt65536.true
+    let few : d.notes.made_count ≤ length d.notes.made = let a = d.notes.few in let b = d.notes.sizes.0 in omega (arith, a, b) in
+    same_low t d.notes.made d.notes.made_count c.args.o.0 few (g.met.M.Memory.whole d.base.now).places even c.if-o-lt65536.true
 
 pub returns-else-number-self-clause-none : goal.returns-else-number-self-clause-none
 returns-else-number-self-clause-none g c =
     let d = c.args.self.now in
     let t = (g.M.Memory.view d.base.now).objects in
     let even : is_small (word c.args.o) ≡ false = sym c.is_small.ensures ∙ c.if-is_small.false in
-    let few : d.made_count ≤ length d.made = let a = d.few in let b = d.sizes.0 in omega (arith, a, b) in
-    same_high t d.made d.made_count c.args.o.0 few (g.met.M.Memory.whole d.base.now).places even c.if-o-lt65536.false c.if-number-self.false
+    let few : d.notes.made_count ≤ length d.notes.made = let a = d.notes.few in let b = d.notes.sizes.0 in omega (arith, a, b) in
+    same_high t d.notes.made d.notes.made_count c.args.o.0 few (g.met.M.Memory.whole d.base.now).places even c.if-o-lt65536.false c.if-number-self.false
 
 pub returns-then-number-self-clause-named : goal.returns-then-number-self-clause-named
 returns-then-number-self-clause-named g c =
     let d = c.args.self.now in
     let t = (g.M.Memory.view d.base.now).objects in
     let even : is_small (word c.args.o) ≡ false = sym c.is_small.ensures ∙ c.if-is_small.false in
-    let few : d.made_count ≤ length d.made = let a = d.few in let b = d.sizes.0 in omega (arith, a, b) in
-    named_is t d.made d.made_count c.args.o.0 few (g.met.M.Memory.whole d.base.now).places even c.if-o-lt65536.false
+    let few : d.notes.made_count ≤ length d.notes.made = let a = d.notes.few in let b = d.notes.sizes.0 in omega (arith, a, b) in
+    named_is t d.notes.made d.notes.made_count c.args.o.0 few (g.met.M.Memory.whole d.base.now).places even c.if-o-lt65536.false

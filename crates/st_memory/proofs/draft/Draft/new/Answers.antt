@@ -1,22 +1,22 @@
-use Rattle.std.proofs.Common.{List, replicate, sym, subst}
-use Rattle.st_memory.specs.declared.change.Made.{Made}
-use Rattle.st_memory.specs.declared.change.Change.{Change}
-use Rattle.st_memory.specs.declared.change.Change.TheVariants.{Field}
+use Rattle.std.proofs.Common.{sym, subst, ◌∙◌, arith}
 use Rattle.st_memory.specs.Drafts.{AllThere}
-use Rattle.st_memory.proofs.Keeping.{nothing_made, closed_whole}
+use Rattle.st_memory.specs.Noted.{noted}
+use Rattle.st_memory.proofs.Keeping.{closed_whole}
+use Rattle.st_memory.proofs.Moved.{none_exchanged}
 use Rattle.st_memory.proofs.draft.Draft.new.Goals as goal
 
--- what stands in the unused cells
-abbrev unmade : List Made
-unmade = replicate 24 (record { class = record { 0 = 2 }; size = 0 })
-
-abbrev unchanged : List Change
-unchanged = replicate 24 (Field (record { 0 = 2 }) 0 (record { 0 = 2 }))
-
-pub invariant_of-result-clause-closed : goal.invariant_of-result-clause-closed
-invariant_of-result-clause-closed g c =
+pub invariant_of-result : goal.invariant_of-result
+invariant_of-result g c =
     let v = g.M.Memory.view c.args.base.now in
-    subst AllThere (sym (nothing_made v.objects unmade unchanged)) (closed_whole v (g.met.M.Memory.whole c.args.base.now))
+    let none = c.new-exchanges.ensures in
+    let empty = c.new-notes.ensures.empty in
+    record {
+      few = omega (arith, none, empty);
+      closed = subst AllThere (sym (c.new-notes.ensures.none v.objects)) (closed_whole v (g.met.M.Memory.whole c.args.base.now));
+      there = λ k l. absurd (omega (arith, l, none));
+    }
 
 pub returns-clause-table : goal.returns-clause-table
-returns-clause-table g c = nothing_made (g.M.Memory.view c.args.base.now).objects unmade unchanged
+returns-clause-table g c =
+    let t = (g.M.Memory.view c.args.base.now).objects in
+    none_exchanged (noted t c.new-notes.result) c.new-exchanges.result c.new-exchanges.ensures ∙ c.new-notes.ensures.none t

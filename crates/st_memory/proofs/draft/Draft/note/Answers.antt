@@ -1,34 +1,30 @@
-use Rattle.std.proofs.Common.{◌+◌, ◌<◌, inl, inr, length, sym, ap, ◌∙◌, subst, arith, length-set, get_or-set_same, get_or-set_other}
-use Rattle.std.specs.Prelude.{◌*◌, slice_set, slice_index_or}
-use Rattle.std.proofs.lemmas.Bool.{cases_eq}
-use Rattle.st_memory.specs.Drafts.{AllThere, with_made, no_change, highest}
-use Rattle.st_memory.proofs.Replaying.{replayed_more}
+use Rattle.std.proofs.Common.{◌<◌, length, sym, ◌∙◌, subst, arith}
+use Rattle.st_model.specs.Table.{Table}
+use Rattle.st_memory.specs.Drafts.{AllThere, AreOf, after_change}
+use Rattle.st_memory.specs.Noted.{noted}
+use Rattle.st_memory.proofs.Replaying.{after_like}
+use Rattle.st_memory.proofs.Exchanged.{of_same}
+use Rattle.st_memory.proofs.Moved.{note_more}
 use Rattle.st_memory.proofs.draft.Draft.note.Goals as goal
 
 pub invariant_of-self : goal.invariant_of-self
 invariant_of-self g c =
     let d = c.args.self.now in
-    let within : d.count < length d.changes = let a = d.sizes.1 in let b = c.requires.room in omega (arith, a, b) in
-    let start = with_made (g.M.Memory.view d.base.now).objects d.made d.made_count in
+    let e = c.note.ensures in
+    let within : d.notes.count < length d.notes.changes = let a = d.notes.sizes.1 in let b = c.requires.room in omega (arith, a, b) in
+    let table = note_more (g.M.Memory.view d.base.now).objects d.notes c.note.new.self c.args.change within e.made e.made_count e.changes e.count in
+    let before = noted (g.M.Memory.view d.base.now).objects d.notes in
     record {
-      few = let b = c.requires.room in omega (arith, b);
-      sizes = (d.sizes.0, length-set d.changes d.count c.args.change ∙ d.sizes.1);
-      named = λ k l. elim (cases_eq k d.count) [
-        | inl e ↦ subst (λ n. n < 65536 + 2 * d.made_count)
-            (sym (ap (λ j. highest (slice_index_or (slice_set d.changes d.count c.args.change) j no_change)) e ∙ ap highest (get_or-set_same d.changes d.count c.args.change no_change within)))
-            c.requires.named
-        | inr n ↦ subst (λ h. h < 65536 + 2 * d.made_count)
-            (sym (ap highest (get_or-set_other d.changes d.count k c.args.change no_change n)))
-            (d.named k (omega (arith, l, n)))
-      ];
-      counted = d.counted;
-      small = d.small;
-      sized = d.sized;
-      closed = subst AllThere (sym (replayed_more start d.changes d.count c.args.change within)) c.requires.closed;
+      few = let a = e.made_count in let b = e.count in let r = c.requires.room in omega (arith, a, b, r);
+      closed = subst AllThere (sym table) c.requires.closed;
+      there = subst (λ (t : Table). AreOf t d.exchanges.pairs d.exchanges.count) (sym table)
+          (of_same before (after_change before c.args.change) d.exchanges.pairs d.exchanges.count (λ v h. (after_like before c.args.change).live v ∙ h) d.there);
     }
 
 pub returns-clause-table : goal.returns-clause-table
 returns-clause-table g c =
     let d = c.args.self.now in
-    let within : d.count < length d.changes = let a = d.sizes.1 in let b = c.requires.room in omega (arith, a, b) in
-    replayed_more (with_made (g.M.Memory.view d.base.now).objects d.made d.made_count) d.changes d.count c.args.change within
+    let e = c.note.ensures in
+    let within : d.notes.count < length d.notes.changes = let a = d.notes.sizes.1 in let b = c.requires.room in omega (arith, a, b) in
+    let table = note_more (g.M.Memory.view d.base.now).objects d.notes c.note.new.self c.args.change within e.made e.made_count e.changes e.count in
+    table

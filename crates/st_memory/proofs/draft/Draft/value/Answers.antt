@@ -7,6 +7,6 @@ pub returns : goal.returns
 unfolding replayed
 returns g c =
     let d = c.args.self.now in
-    let start = with_made (g.M.Memory.view d.base.now).objects d.made d.made_count in
+    let start = with_made (g.M.Memory.view d.base.now).objects d.notes.made d.notes.made_count in
     let none : c.loop-k.k ≡ 0 = omega arith in
-    c.loop-k.invariant.same ∙ ap (λ k. field_value (replayed start d.changes k) (word c.loop-k.o) c.loop-k.at) none ∙ c.first_value.ensures
+    c.loop-k.invariant.same ∙ ap (λ k. field_value (replayed start d.notes.changes k) (word c.loop-k.o) c.loop-k.at) none ∙ c.first_value.ensures

@@ -7,11 +7,11 @@ use Rattle.st_memory.proofs.draft.Draft.value.Given as goal
 abbrev pub invariant-loop-k : goal.invariant-loop-k
 invariant-loop-k g l =
     let d = l.self in
-    let start = with_made (g.M.Memory.view d.base.now).objects d.made d.made_count in
+    let start = with_made (g.M.Memory.view d.base.now).objects d.notes.made d.notes.made_count in
     record {
-      within : l.k ≤ d.count;
+      within : l.k ≤ d.notes.count;
       has : HasField start (word l.o) l.at;
-      same : field_value (replayed start d.changes d.count) (word l.fn.o) l.fn.at ≡ field_value (replayed start d.changes l.k) (word l.o) l.at;
+      same : field_value (replayed start d.notes.changes d.notes.count) (word l.fn.o) l.fn.at ≡ field_value (replayed start d.notes.changes l.k) (word l.o) l.at;
     }
 
 abbrev pub decreases-loop-k : goal.decreases-loop-k

@@ -1,13 +1,10 @@
 use Rattle.st_model.specs.Values.{word}
-use Rattle.st_memory.proofs.Drafted.{count_base, count_made}
+use Rattle.st_memory.specs.Noted.{noted}
+use Rattle.st_memory.proofs.Moved.{names_of, count_names}
 use Rattle.st_memory.proofs.draft.DraftObjects.count_fields.Goals as goal
 
-pub returns-in-Some-clause-counts : goal.returns-in-Some-clause-counts
-returns-in-Some-clause-counts g c =
+pub returns-clause-counts : goal.returns-clause-counts
+returns-clause-counts g c =
     let d = c.args.self.now in
-    count_made (g.M.Memory.view d.base.now).objects d.made d.made_count d.changes d.count (word c.args.o) c.in-Some.made c.in-Some.ensures.found
-
-pub returns-in-None-clause-counts : goal.returns-in-None-clause-counts
-returns-in-None-clause-counts g c =
-    let d = c.args.self.now in
-    count_base (g.M.Memory.view d.base.now).objects d.made d.made_count d.changes d.count (word c.args.o) c.count_fields.result c.in-None.ensures.none c.count_fields.ensures.counts
+    let names = names_of (noted (g.M.Memory.view d.base.now).objects d.notes) d.exchanges.pairs d.exchanges.count d.there (word c.args.o) (word c.word_before-before.result) c.word_before-before.ensures in
+    count_names names c.count_noted.result c.count_noted.ensures.counts

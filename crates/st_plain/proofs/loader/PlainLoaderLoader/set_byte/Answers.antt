@@ -7,8 +7,8 @@ use Rattle.st_model.specs.View.{object_of}
 use Rattle.st_model.proofs.FormedLemmas.{unit_limit-byte}
 use Rattle.st_model.proofs.LoadingLemmas.{loading_unit, total_used-with_unit}
 use Rattle.st_lists.specs.Plain.{objects_of, extent_of}
-use Rattle.st_contents.specs.Plain.{plain_view}
-use Rattle.st_contents.proofs.Room.{room_same}
+use Rattle.st_plain.specs.Plain.{plain_view}
+use Rattle.st_plain.proofs.Room.{room_same}
 use Rattle.st_plain.proofs.loader.PlainLoaderLoader.set_byte.Goals as goal
 
 pub invariant_of-self : goal.invariant_of-self

@@ -5,8 +5,8 @@ use Rattle.st_model.specs.Values.{value}
 use Rattle.st_model.proofs.Pointers.{IsWord-value_of}
 use Rattle.st_model.proofs.LoadingLemmas.{loading_stored, total_used-with_stored}
 use Rattle.st_lists.specs.Plain.{objects_of, extent_of}
-use Rattle.st_contents.specs.Plain.{plain_view}
-use Rattle.st_contents.proofs.Room.{room_same}
+use Rattle.st_plain.specs.Plain.{plain_view}
+use Rattle.st_plain.proofs.Room.{room_same}
 use Rattle.st_plain.proofs.loader.PlainLoaderLoader.set_pointer.Goals as goal
 
 pub invariant_of-self : goal.invariant_of-self

@@ -13,8 +13,8 @@ use Rattle.st_model.proofs.Pointers.{value_of-pointer}
 use Rattle.st_model.proofs.SettledIs.{is_root-of}
 use Rattle.st_model.proofs.WholeLemmas.{live_used}
 use Rattle.st_lists.specs.Plain.{objects_of, is_referred}
-use Rattle.st_contents.specs.Plain.{plain_view}
-use Rattle.st_contents.proofs.Needing.{is_referred-of}
+use Rattle.st_plain.specs.Plain.{plain_view}
+use Rattle.st_plain.proofs.Needing.{is_referred-of}
 use Rattle.st_plain.proofs.loader.tests.is_complete.Goals as goal
 use Rattle.st_plain.proofs.loader.tests.is_complete.Goals.{else-has-via-then-has+else-not-live, else-has-via-else-has}
 

@@ -3,7 +3,7 @@ use Rattle.st_model.specs.Values.{value}
 use Rattle.st_model.specs.View.{object_of}
 use Rattle.st_model.proofs.FormedLemmas.{unit_limit-byte}
 use Rattle.st_model.proofs.WholeLemmas.{formed_live}
-use Rattle.st_contents.specs.Plain.{plain_view}
+use Rattle.st_plain.specs.Plain.{plain_view}
 use Rattle.st_plain.proofs.memory.PlainMemoryMemory.byte.Goals as goal
 
 pub overflow_cast-result : goal.overflow_cast-result

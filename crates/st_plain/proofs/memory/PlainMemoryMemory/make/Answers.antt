@@ -4,7 +4,7 @@ use Rattle.st_model.specs.Formed.{fresh}
 use Rattle.st_model.specs.View.{is_live}
 use Rattle.st_model.proofs.Pointers.{value_of-even}
 use Rattle.st_model.proofs.Making.{first_free_within, live_even, whole_made}
-use Rattle.st_contents.specs.Plain.{plain_view}
+use Rattle.st_plain.specs.Plain.{plain_view}
 use Rattle.st_plain.proofs.memory.PlainMemoryMemory.make.Goals as goal
 
 pub make-requires-clause-left : goal.make-requires-clause-left

@@ -3,7 +3,7 @@ use Rattle.std.specs.Prelude.{slice_get, Some}
 use Rattle.st_model.specs.Values.{value}
 use Rattle.st_model.specs.View.{object_of}
 use Rattle.st_model.proofs.WholeLemmas.{formed_live, field_known}
-use Rattle.st_contents.specs.Plain.{plain_view}
+use Rattle.st_plain.specs.Plain.{plain_view}
 use Rattle.st_plain.proofs.memory.PlainMemoryMemory.pointer.Goals as goal
 
 pub returns-clause-header : goal.returns-clause-header

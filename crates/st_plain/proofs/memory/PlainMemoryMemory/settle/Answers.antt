@@ -3,8 +3,8 @@ use Rattle.st_model.specs.Table.{Table}
 use Rattle.st_model.specs.View.{view_roots}
 use Rattle.st_model.proofs.Settling.{DropsTo}
 use Rattle.st_model.proofs.Rounds.{KeepsNeeded, drops_all, whole_settled, moved_roots}
-use Rattle.st_contents.specs.Plain.{plain_view, is_needed}
-use Rattle.st_contents.proofs.Needing.{keeps_needed, settles_to}
+use Rattle.st_plain.specs.Plain.{plain_view, is_needed}
+use Rattle.st_plain.proofs.Needing.{keeps_needed, settles_to}
 use Rattle.st_plain.proofs.memory.PlainMemoryMemory.settle.Goals as goal
 
 pub invariant_of-self : goal.invariant_of-self

@@ -2,7 +2,7 @@ use Rattle.st_model.specs.Values.{value}
 use Rattle.st_model.specs.View.{object_of}
 use Rattle.st_model.proofs.FormedLemmas.{words_range}
 use Rattle.st_model.proofs.WholeLemmas.{formed_live}
-use Rattle.st_contents.specs.Plain.{plain_view}
+use Rattle.st_plain.specs.Plain.{plain_view}
 use Rattle.st_plain.proofs.memory.PlainMemoryMemory.word.Goals as goal
 
 pub unit-requires : goal.unit-requires

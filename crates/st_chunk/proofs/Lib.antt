@@ -1,0 +1,7 @@
+pub mod Tests
+pub mod Reading
+pub mod Joined
+pub mod Entries
+pub mod Pieces
+pub mod Writing
+mod Rows

@@ -1,0 +1,17 @@
+use Rattle.std.proofs.Common.{◌≡◌, ◌-◌, ◌*◌, ◌≤◌, min, length, take, IsTrue}
+use Rattle.st_outside.specs.Files.{bytes_of, IsWritten}
+use Rattle.st_outside.specs.Runs.{WritesAbove}
+use Rattle.st_chunk.specs.Texts.{doubled}
+use Rattle.st_chunk.proofs.doubling.doubled.Given as goal
+
+abbrev pub invariant-loop-done : goal.invariant-loop-done
+invariant-loop-done g l = record {
+  within : l.done ≤ length l.text;
+  few : l.count ≤ 2 * l.done;
+  count : l.count ≡ length (doubled (take l.done l.text));
+  written : IsTrue g.H.Host.is_told → IsWritten l.at (doubled (take l.done l.text)) (g.H.Host.files l.fn.host l.name) (g.H.Host.files l.host l.name);
+  writes : WritesAbove g.H.Host (min l.at (length (bytes_of (g.H.Host.files l.fn.host l.name)))) l.name l.fn.host l.host;
+}
+
+abbrev pub decreases-loop-done : goal.decreases-loop-done
+decreases-loop-done g l = length l.text - l.done

@@ -1,0 +1,44 @@
+-- Definitions of methods, and the text that a changes file keeps of each.
+use Rattle.std.specs.Prelude.{◌≡◌, ℕ, ◌≤◌, Bool, List, [], ◌∷◌, ◌++◌, length, reverse, map, IsTrue, IsFalse, codes}
+use Rattle.st_chunk.specs.Texts.{mark, most, doubled, is_blank}
+use Rattle.st_chunk.specs.Groups.{begins, is_name, Header, header_text, Group}
+
+-- a class's name, whether the method is one of the class side, its category and its text
+pub record Definition : Type 0 where
+  pub class : List ℕ
+  pub meta : Bool
+  pub category : List ℕ
+  pub text : List ℕ
+
+abbrev pub header_for : Definition → Header
+header_for d = record { class = d.class; meta = d.meta; category = d.category }
+
+-- what each definition meets: the class is named by letters and digits, the text is there and has no blank at its ends,
+-- and neither it nor the header has more bytes than a chunk may have
+pub record IsDefinition (d : Definition) : Type 0 where
+  pub named : IsTrue (is_name d.class)
+  pub there : 1 ≤ length d.text
+  pub short : length d.text ≤ most
+  pub front : IsFalse (begins is_blank d.text)
+  pub back : IsFalse (begins is_blank (reverse d.text))
+  pub header : length (header_text (header_for d)) ≤ most
+
+-- a line feed
+abbrev pub line_feed : ℕ
+line_feed = 10
+
+-- the text that a changes file keeps of a definition: a group with one method
+abbrev pub entry : Definition → List ℕ
+entry d = mark ∷ (doubled (header_text (header_for d)) ++ (mark ∷ line_feed ∷ (doubled d.text ++ (codes "! !" ++ line_feed ∷ []))))
+
+abbrev pub entries : List Definition → List ℕ
+entries [] = []
+entries (d ∷ ds) = entry d ++ entries ds
+
+-- the definitions that groups are, one for each method
+abbrev pub group_definitions : Group → List Definition
+group_definitions g = map (λ text. record { class = g.header.class; meta = g.header.meta; category = g.header.category; text = text }) g.methods
+
+abbrev pub definitions : List Group → List Definition
+definitions [] = []
+definitions (g ∷ gs) = group_definitions g ++ definitions gs

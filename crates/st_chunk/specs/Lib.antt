@@ -1,0 +1,4 @@
+pub mod Texts
+pub mod Feeding
+pub mod Groups
+pub mod Definitions

@@ -1,3 +1,0 @@
-mod Beginning
-pub mod Needing
-pub mod Room

@@ -1,0 +1,59 @@
+-- The state over the table that the objects and the registers of a row make, and what a call of a row does to it.
+use Rattle.std.specs.Prelude.{◌≡◌, ℕ, ◌+◌, ◌≤◌, Result}
+use Rattle.st_model.specs.declared.dead.Dead.{Dead}
+use Rattle.st_model.specs.Values.{word}
+use Rattle.st_model.specs.Objects.{nil}
+use Rattle.st_model.specs.Machine.{Registers, Head, State, Step, empty_world}
+use Rattle.st_model.specs.Table.{Table}
+use Rattle.st_model.specs.Calls.{Does}
+use Rattle.st_memory.specs.declared.objects.Objects.{Ghosts}
+use Rattle.st_frames.specs.declared.registers.Registers.{Registers as Words}
+use Rattle.st_frames.specs.declared.fetched.Fetched.{Fetched}
+
+abbrev pub registers_in : Words → Registers
+registers_in r = record { active = word r.active; home = word r.home; method = word r.method; receiver = word r.receiver; ip = r.ip; sp = r.sp }
+
+abbrev pub fetched_in : Fetched → Registers
+fetched_in f = record { active = word f.active; home = word f.home; method = word f.method; receiver = word f.receiver; ip = f.ip; sp = f.sp }
+
+-- no input word waits, no signal is pending and nothing is held but the registers
+unfoldable pub row_state : Table → Head → Words → State Table
+row_state t a r = record { memory = t; registers = registers_in r; world = empty_world nil; head = a }
+
+-- the state that objects and registers make
+abbrev pub state_of : {M : Type 0} → Ghosts M → M → Words → State Table
+state_of o m r = row_state (o.table m) (o.head m) r
+
+-- the call is this step, which leaves objects and registers as they are
+abbrev pub RowReads : {M A B : Type 0} → Ghosts M → Step Table A → (B → A) → M → Words → Result B Dead → Type 0
+RowReads o step f m r result = Does step f (state_of o m r) result (state_of o m r)
+
+-- the call is this step, which leaves the objects as they are
+abbrev pub RowMoves : {M A B : Type 0} → Ghosts M → Step Table A → (B → A) → M → Words → Result B Dead → Words → Type 0
+RowMoves o step f m old result new = Does step f (state_of o m old) result (state_of o m new)
+
+-- the call is this step
+abbrev pub RowDoes : {M A B : Type 0} → Ghosts M → Step Table A → (B → A) → M → Words → Result B Dead → M → Words → Type 0
+RowDoes o step f m r result n q = Does step f (state_of o m r) result (state_of o n q)
+
+-- the call takes at most so many changes, and leaves what is fixed
+pub record Takes {M : Type 0} (o : Ghosts M) (most : ℕ) (old new : M) : Type 0 where
+  pub room : o.room old ≤ o.room new + most
+  pub fixed : o.fixed new ≡ o.fixed old
+
+-- how many changes are made at most: by what activates a method; by a send, which may make a Message; by a jump on a
+-- condition and by a return, which may send; and by a bytecode
+abbrev pub activation_changes : ℕ
+activation_changes = 8
+
+abbrev pub send_changes : ℕ
+send_changes = 6
+
+abbrev pub jump_changes : ℕ
+jump_changes = 7
+
+abbrev pub return_changes : ℕ
+return_changes = 8
+
+abbrev pub bytecode_changes : ℕ
+bytecode_changes = 16

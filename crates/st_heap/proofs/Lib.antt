@@ -1,0 +1,4 @@
+mod Laying
+mod Moving
+mod Taking
+mod Exchanging

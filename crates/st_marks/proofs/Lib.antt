@@ -1,3 +1,0 @@
-mod Beginning
-pub mod Holding
-pub mod Marking

@@ -1,0 +1,545 @@
+-- Each definition of the machine meets no name without an object: it does the same over births where an object stands under
+-- each name. Each of these is found from its text, as that births and tables do the same is.
+use Rattle.std.proofs.Common.{◌≡◌, ℕ, ◌+◌, ◌-◌, ◌<◌, List, [], ◌∷◌, zero, suc, length, Option, Some, None, Bool, true, false, sym, ap, arith, inl, inr}
+use Rattle.std.specs.Prelude.{if◌then◌else◌, nat_lt, ℤ, pos, negsuc}
+use Rattle.st_model.specs.declared.dead.Dead.{Dead}
+use Rattle.st_model.specs.declared.bytecode.Operand.{Operand}
+use Rattle.st_model.specs.declared.bytecode.Operand.TheVariants.{ReceiverVariable, LiteralConstant}
+use Rattle.st_model.specs.declared.bytecode.Constant.{Constant}
+use Rattle.st_model.specs.declared.bytecode.Constant.TheVariants as constant
+use Rattle.st_model.specs.declared.bytecode.Bytecode.{Bytecode}
+use Rattle.st_model.specs.declared.bytecode.Bytecode.TheVariants as code
+use Rattle.st_model.specs.declared.call.Performing.{Performing}
+use Rattle.st_model.specs.Values.{Value, Small, Ref}
+use Rattle.st_model.specs.Objects.{Object, PageObject, NilObject, place_of, IsLiveObject}
+use Rattle.st_model.specs.Outcomes.{StepEnd}
+use Rattle.st_model.specs.Machine.{Registers, State, Transition, Died, Went, Step, answer, roots_of}
+use Rattle.st_model.specs.Births.{Births, births, births_with, object_born}
+use Rattle.st_model.specs.Table.{Table}
+use Rattle.st_model.specs.Show.{Shows, IsKept}
+use Rattle.st_model.specs.Steps.{same_value, new_object, class_of, or_die, check, fetch_field, store_field, integer_or_die, fetch_integer, count_fields, fetch_fields, store_fields, fetch_word, fetch_byte, store_word, store_byte, transfer, put, push, top, under, look_at_words, drop_words, pop, literal, fetch_method_field, store_method_field, byte_at, next_byte, jump}
+use Rattle.st_model.specs.Methods.{from_last, method_header, literal_from_last, primitive_number, method_primitive}
+use Rattle.st_model.specs.Contexts.{home_by, home_of, stack_place, fetch_stack_pointer, context_registers, fetch_context_registers, store_context_registers, switch, fill_context, new_context, pass_words, activate}
+use Rattle.st_model.specs.Lookup.{checked_method, method_at, place_says, look_at_place, look_at_places, search_from, search_dictionary, or_above, method_in_class, look_in_class, unless_nil, end_at_nil, find_within, find}
+use Rattle.st_model.specs.Sends.{Call, copy_arguments, argument_array, new_message, replace_by_message, call_not_understood, not_understood, call_found, send_from, send, class_above, send_to_super, argument_count, special_send}
+use Rattle.st_model.specs.Executing.{goes_on, answer_field, respond, respond_by_extension, execute_by, execute, executed, execute_if_any, executed_if_any}
+use Rattle.st_model.specs.Returns.{calls, calls_nothing, cannot_return, return_into, return_to_context, return_to, return_to_sender, return_to_caller, must_be_boolean, jump_on}
+use Rattle.st_model.specs.Bytecodes.{fetch_receiver_variable, fetch_temporary_variable, fetch_literal_constant, fetch_literal_variable, fetch_operand, store_receiver_variable, store_temporary_variable, store_literal_variable, store_operand, constant_value, arithmetic_by, arithmetic_send, rows, bytecode, step}
+use Rattle.st_model.proofs.Names.{map_all, map_object}
+use Rattle.st_model.proofs.BirthLemmas.{borne_before, object_within}
+use Rattle.st_model.proofs.Started.{lives}
+use Rattle.st_model.proofs.Present as at
+use Rattle.st_model.proofs.Present.{bare, full, then_value-sure, then_values-sure, then_option-sure, then_object-sure, then_registers-sure, then_call-sure, then_any_call-sure, then_answer-sure, then_unit-sure, if-sure, die-sure, later_value, later_values, later_option, later_object, later_call, small_there, small_integer_there, class_there, field_there, none_there, some_there, no_values_there, values_there, registers_there, method_there, answer_value-sure, answer_values-sure, answer_option-sure, answer_registers-sure, answer_call-sure, answer_some_call-sure, answer_no_call-sure, answer_itself-sure, get_active-sure, get_home-sure, get_method-sure, get_receiver-sure, get_ip-sure, get_sp-sure, set_ip-sure, set_sp-sure, of_page-sure, object_named-sure, object-sure, set_field-sure, make-sure, set_registers-sure, half_word-sure, exchange-sure, set_units-sure, then_world-sure, later_world, get_world-sure, set_world-sure, object_at-sure, next_instance-sure, tried_value-sure, tried_itself-sure}
+
+module _ (o : Object) (lives : ℕ → Type 0) where
+  abbrev pub There : ℕ → Value → Type 0
+  There n v = at.There o lives n v
+
+  abbrev pub AllThere : ℕ → List Value → Type 0
+  AllThere n vs = at.AllThere o lives n vs
+
+  abbrev pub ThereIfAny : ℕ → Option Value → Type 0
+  ThereIfAny n v = at.ThereIfAny o lives n v
+
+  abbrev pub ObjectThere : ℕ → Object → Type 0
+  ObjectThere n a = at.ObjectThere o lives n a
+
+  abbrev pub CallThere : ℕ → Call → Type 0
+  CallThere n c = at.CallThere o lives n c
+
+  abbrev pub CallThereIfAny : ℕ → Option Call → Type 0
+  CallThereIfAny n c = at.CallThereIfAny o lives n c
+
+  abbrev pub Later : ℕ → ℕ → Type 0
+  Later n m = at.Later o lives n m
+
+  abbrev pub SureValue : ℕ → Step Births Value → Step Births Value → Type 0
+  SureValue n m m' = at.SureValue o lives n m m'
+
+  abbrev pub SureValues : ℕ → Step Births (List Value) → Step Births (List Value) → Type 0
+  SureValues n m m' = at.SureValues o lives n m m'
+
+  abbrev pub SureOption : ℕ → Step Births (Option Value) → Step Births (Option Value) → Type 0
+  SureOption n m m' = at.SureOption o lives n m m'
+
+  abbrev pub SureRegisters : ℕ → Step Births Registers → Step Births Registers → Type 0
+  SureRegisters n m m' = at.SureRegisters o lives n m m'
+
+  abbrev pub SureCall : ℕ → Step Births Call → Step Births Call → Type 0
+  SureCall n m m' = at.SureCall o lives n m m'
+
+  abbrev pub SureAnyCall : ℕ → Step Births (Option Call) → Step Births (Option Call) → Type 0
+  SureAnyCall n m m' = at.SureAnyCall o lives n m m'
+
+  abbrev pub SureAnswer : {A : Type 0} → ℕ → Step Births A → Step Births A → Type 0
+  SureAnswer n m m' = at.SureAnswer o lives n m m'
+
+  pub ruleset sures = (then_value-sure, then_values-sure, then_option-sure, then_object-sure, then_registers-sure, then_call-sure, then_any_call-sure, then_answer-sure, then_unit-sure, if-sure, die-sure, later_value, later_values, later_option, later_object, later_call, small_there, small_integer_there, class_there, field_there, none_there, some_there, no_values_there, values_there, registers_there, method_there, answer_value-sure, answer_values-sure, answer_option-sure, answer_registers-sure, answer_call-sure, answer_some_call-sure, answer_no_call-sure, answer_itself-sure, get_active-sure, get_home-sure, get_method-sure, get_receiver-sure, get_ip-sure, get_sp-sure, set_ip-sure, set_sp-sure, of_page-sure, object-sure, set_field-sure, make-sure, set_registers-sure, half_word-sure, exchange-sure, set_units-sure, then_world-sure, later_world, get_world-sure, set_world-sure, object_at-sure, next_instance-sure, tried_value-sure, tried_itself-sure)
+
+  pub check-sure : (n : ℕ) (cause : Dead) (b : Bool) → SureAnswer n (check cause b) (check cause b)
+  unfolding check
+  check-sure n cause true = answer_itself-sure o lives n tt
+  check-sure n cause false = die-sure o lives _ n cause
+
+  pub value_or_die-sure : (n : ℕ) (cause : Dead) (v : Option Value) → ThereIfAny n v → SureValue n (or_die cause v) (or_die cause v)
+  unfolding or_die
+  value_or_die-sure n cause None h = die-sure o lives _ n cause
+  value_or_die-sure n cause (Some v) h = answer_value-sure o lives n v (record { live = h.live })
+
+  pub itself_or_die-sure : {A : Type 0} (n : ℕ) (cause : Dead) (x : Option A) → SureAnswer n (or_die cause x) (or_die cause x)
+  unfolding or_die
+  itself_or_die-sure n cause None = die-sure o lives _ n cause
+  itself_or_die-sure n cause (Some a) = answer_itself-sure o lives n a
+
+  pub integer_or_die-sure : (n : ℕ) (v : Value) → SureAnswer n (integer_or_die v) (integer_or_die v)
+  unfolding integer_or_die
+  integer_or_die-sure n (Small i) = answer_itself-sure o lives n _
+  integer_or_die-sure n (Ref i) = die-sure o lives _ n _
+
+  pub ruleset memories = (sures, check-sure, value_or_die-sure, itself_or_die-sure, integer_or_die-sure)
+
+  pub fetch_field-sure : (n : ℕ) (v : Value) (i : ℕ) → There n v → SureValue n (fetch_field bare v i) (fetch_field (full o) v i)
+  unfolding fetch_field
+  fetch_field-sure n v i h0 = search (memories) depth 24 fits 4000
+
+  pub store_field-sure : (n : ℕ) (v : Value) (i : ℕ) (x : Value) → There n v → There n x → SureAnswer n (store_field bare v i x) (store_field (full o) v i x)
+  unfolding store_field
+  store_field-sure n v i x h0 h1 = search (memories) depth 24 fits 4000
+
+  pub count_fields-sure : (n : ℕ) (v : Value) → There n v → SureAnswer n (count_fields bare v) (count_fields (full o) v)
+  unfolding count_fields
+  count_fields-sure n v h0 = search (memories) depth 24 fits 4000
+
+  pub new_object-sure : (n : ℕ) (v : Value) (i : ℕ) → There n v → SureValue n (new_object bare v i) (new_object (full o) v i)
+  unfolding new_object
+  new_object-sure n v i h0 = search (memories) depth 24 fits 4000
+
+  pub class_of-sure : (n : ℕ) (v : Value) → There n v → SureValue n (class_of bare v) (class_of (full o) v)
+  unfolding class_of
+  class_of-sure n (Small i) h = of_page-sure o lives n _
+  class_of-sure n (Ref k) h = search (memories, object_named-sure) depth 24 fits 4000
+
+  pub ruleset fields = (memories, fetch_field-sure, store_field-sure, count_fields-sure, new_object-sure, class_of-sure)
+
+  pub fetch_integer-sure : (n : ℕ) (v : Value) (i : ℕ) → There n v → SureAnswer n (fetch_integer bare v i) (fetch_integer (full o) v i)
+  unfolding fetch_integer
+  fetch_integer-sure n v i h0 = search (fields) depth 24 fits 4000
+
+  pub fetch_fields-sure : (n : ℕ) (v : Value) (from : ℕ) (i : ℕ) → There n v → SureValues n (fetch_fields bare v from i) (fetch_fields (full o) v from i)
+  unfolding fetch_fields
+  fetch_fields-sure n v from zero h = search fields depth 24 fits 4000
+  fetch_fields-sure n v from (suc i) h = then_value-sure o lives _ n _ _ _ _ (fetch_field-sure n v from h) (λ k l x g. then_values-sure o lives _ k _ _ _ _ (fetch_fields-sure k v (suc from) i (later_value o lives n k v l h)) (λ j e xs q. answer_values-sure o lives j _ (values_there o lives j x xs (later_value o lives k j x e g) q)))
+
+  pub store_fields-sure : (n : ℕ) (v : Value) (to : ℕ) (xs : List Value) → There n v → AllThere n xs → SureAnswer n (store_fields bare v to xs) (store_fields (full o) v to xs)
+  unfolding store_fields
+  store_fields-sure n v to [] h k = search fields depth 24 fits 4000
+  store_fields-sure n v to (x ∷ xs) h k = then_unit-sure o lives _ n _ _ _ _ (store_field-sure n v to x h (record { live = k.live.0 })) (λ j l. store_fields-sure j v (suc to) xs (later_value o lives n j v l h) (later_values o lives n j xs l (record { live = k.live.1 })))
+
+  pub transfer-sure : (n : ℕ) (i : ℕ) (v : Value) (from : ℕ) (w : Value) (to : ℕ) → There n v → There n w → SureAnswer n (transfer bare i v from w to) (transfer (full o) i v from w to)
+  unfolding transfer
+  transfer-sure n i v from w to h0 h1 = search (fields, fetch_fields-sure, store_fields-sure) depth 24 fits 4000
+
+  pub fetch_word-sure : (n : ℕ) (v : Value) (i : ℕ) → There n v → SureAnswer n (fetch_word bare v i) (fetch_word (full o) v i)
+  unfolding fetch_word
+  fetch_word-sure n v i h0 = search (fields) depth 24 fits 4000
+
+  pub fetch_byte-sure : (n : ℕ) (v : Value) (i : ℕ) → There n v → SureAnswer n (fetch_byte bare v i) (fetch_byte (full o) v i)
+  unfolding fetch_byte
+  fetch_byte-sure n v i h0 = search (fields) depth 24 fits 4000
+
+  pub store_word-sure : (n : ℕ) (v : Value) (i x : ℕ) → There n v → SureAnswer n (store_word bare v i x) (store_word (full o) v i x)
+  unfolding store_word
+  store_word-sure n v i x h0 = search (fields) depth 24 fits 4000
+
+  pub store_byte-sure : (n : ℕ) (v : Value) (i x : ℕ) → There n v → SureAnswer n (store_byte bare v i x) (store_byte (full o) v i x)
+  unfolding store_byte
+  store_byte-sure n v i x h0 = search (fields) depth 24 fits 4000
+
+  pub put-sure : (n : ℕ) (c : Value) (at : ℕ) (x : Value) → There n c → There n x → SureAnswer n (put bare c at x) (put (full o) c at x)
+  unfolding put
+  put-sure n c at x h0 h1 = search (fields) depth 24 fits 4000
+
+  pub push-sure : (n : ℕ) (x : Value) → There n x → SureAnswer n (push bare x) (push (full o) x)
+  unfolding push
+  push-sure n x h0 = search (fields, put-sure) depth 24 fits 4000
+
+  pub top-sure : (n : ℕ) → SureValue n (top bare) (top (full o))
+  unfolding top
+  top-sure n = search (fields) depth 24 fits 4000
+
+  pub under-sure : (n : ℕ) (k : ℕ) → SureValue n (under bare k) (under (full o) k)
+  unfolding under
+  under-sure n k = search (fields) depth 24 fits 4000
+
+  pub look_at_words-sure : (n : ℕ) (k : ℕ) → SureAnswer n (look_at_words bare k) (look_at_words (full o) k)
+  unfolding look_at_words
+  look_at_words-sure n k = search (fields, under-sure, top-sure) depth 24 fits 4000
+
+  pub drop_words-sure : (n : ℕ) (k : ℕ) → SureAnswer n (drop_words k) (drop_words k)
+  unfolding drop_words
+  drop_words-sure n k = search (fields) depth 24 fits 4000
+
+  pub pop-sure : (n : ℕ) → SureValue n (pop bare) (pop (full o))
+  unfolding pop
+  pop-sure n = search (fields, top-sure) depth 24 fits 4000
+
+  pub literal-sure : (n : ℕ) (v : Value) (i : ℕ) → There n v → SureValue n (literal bare v i) (literal (full o) v i)
+  unfolding literal
+  literal-sure n v i h0 = search (fields) depth 24 fits 4000
+
+  pub fetch_method_field-sure : (n : ℕ) (v : Value) (i : ℕ) → There n v → SureValue n (fetch_method_field bare v i) (fetch_method_field (full o) v i)
+  unfolding fetch_method_field
+  fetch_method_field-sure n v i h = search fields depth 24 fits 4000
+
+  pub store_method_field-sure : (n : ℕ) (v : Value) (i : ℕ) (x : Value) → There n v → There n x → SureAnswer n (store_method_field bare v i x) (store_method_field (full o) v i x)
+  unfolding store_method_field
+  store_method_field-sure n v i x h k = search fields depth 24 fits 4000
+
+  pub byte_at-sure : (n : ℕ) (v : Value) (ip : ℤ) → There n v → SureAnswer n (byte_at bare v ip) (byte_at (full o) v ip)
+  unfolding byte_at
+  byte_at-sure n v ip h0 = search (fields) depth 24 fits 4000
+
+  pub next_byte-sure : (n : ℕ) → SureAnswer n (next_byte bare) (next_byte (full o))
+  unfolding next_byte
+  next_byte-sure n = search (fields, byte_at-sure) depth 24 fits 4000
+
+  pub jump-sure : (n : ℕ) (d : ℤ) → SureAnswer n (jump d) (jump d)
+  unfolding jump
+  jump-sure n d = search (fields) depth 24 fits 4000
+
+  pub ruleset parts = (fields, fetch_word-sure, fetch_byte-sure, store_word-sure, store_byte-sure, fetch_integer-sure, transfer-sure, push-sure, under-sure, look_at_words-sure, drop_words-sure, top-sure, pop-sure, literal-sure, fetch_method_field-sure, store_method_field-sure, next_byte-sure, jump-sure)
+
+  -- headers and contexts
+
+  pub last_there : (n : ℕ) (b : Bool) (v : Option Value) → ThereIfAny n v → ThereIfAny n (if b then v else None)
+  last_there n true v h = h
+  last_there n false v h = none_there o lives n
+
+  pub from_last_there : (n : ℕ) (a : Object) (k : ℕ) → ObjectThere n a → ThereIfAny n (from_last a k)
+  from_last_there n a k h = last_there n (nat_lt (k + 1) (length a.fields)) _ (field_there o lives n a (length a.fields - (k + 1)) h)
+
+  pub method_header-sure : (n : ℕ) (v : Value) → There n v → SureValue n (method_header bare v) (method_header (full o) v)
+  unfolding method_header
+  method_header-sure n v h0 = search (fields) depth 24 fits 4000
+
+  pub literal_from_last-sure : (n : ℕ) (v : Value) (k : ℕ) → There n v → SureValue n (literal_from_last bare v k) (literal_from_last (full o) v k)
+  unfolding literal_from_last
+  literal_from_last-sure n v k h0 = search (fields, from_last_there) depth 24 fits 4000
+
+  pub primitive_number-sure : (n : ℕ) (v : Value) → SureAnswer n (primitive_number v) (primitive_number v)
+  unfolding primitive_number
+  primitive_number-sure n (Small i) = answer_itself-sure o lives n _
+  primitive_number-sure n (Ref i) = die-sure o lives _ n _
+
+  pub method_primitive-sure : (n : ℕ) (v : Value) → There n v → SureAnswer n (method_primitive bare v) (method_primitive (full o) v)
+  unfolding method_primitive
+  method_primitive-sure n v h0 = search (fields, literal_from_last-sure, primitive_number-sure) depth 24 fits 4000
+
+  pub ruleset headers = (parts, method_header-sure, literal_from_last-sure, method_primitive-sure)
+
+  pub home_by-sure : (n : ℕ) (c : Value) (v : Value) → There n c → SureValue n (home_by bare c v) (home_by (full o) c v)
+  unfolding home_by
+  home_by-sure n c (Small i) h = search parts depth 24 fits 4000
+  home_by-sure n c (Ref i) h = search parts depth 24 fits 4000
+
+  pub home_of-sure : (n : ℕ) (c : Value) → There n c → SureValue n (home_of bare c) (home_of (full o) c)
+  unfolding home_of
+  home_of-sure n c h0 = search (parts, home_by-sure) depth 24 fits 4000
+
+  pub stack_place-sure : (n : ℕ) (c : Value) (i : ℤ) → There n c → SureAnswer n (stack_place bare c i) (stack_place (full o) c i)
+  unfolding stack_place
+  stack_place-sure n c (pos i) h = search parts depth 24 fits 4000
+  stack_place-sure n c (negsuc i) h = search parts depth 24 fits 4000
+
+  pub fetch_stack_pointer-sure : (n : ℕ) (c : Value) → There n c → SureAnswer n (fetch_stack_pointer bare c) (fetch_stack_pointer (full o) c)
+  unfolding fetch_stack_pointer
+  fetch_stack_pointer-sure n c h0 = search (parts, stack_place-sure) depth 24 fits 4000
+
+  pub context_registers-sure : (n : ℕ) (c : Value) → There n c → SureRegisters n (context_registers bare c) (context_registers (full o) c)
+  unfolding context_registers
+  context_registers-sure n c h0 = search (parts, home_of-sure, fetch_stack_pointer-sure) depth 32 fits 4000
+
+  pub fetch_context_registers-sure : (n : ℕ) (c : Value) → There n c → SureAnswer n (fetch_context_registers bare c) (fetch_context_registers (full o) c)
+  unfolding fetch_context_registers
+  fetch_context_registers-sure n c h0 = search (parts, context_registers-sure) depth 24 fits 4000
+
+  pub store_context_registers-sure : (n : ℕ) → SureAnswer n (store_context_registers bare) (store_context_registers (full o))
+  unfolding store_context_registers
+  store_context_registers-sure n = search (parts) depth 24 fits 4000
+
+  pub switch-sure : (n : ℕ) (c : Value) → There n c → SureAnswer n (switch bare c) (switch (full o) c)
+  unfolding switch
+  switch-sure n c h0 = search (sures, store_context_registers-sure, fetch_context_registers-sure) depth 24 fits 4000
+
+  pub fill_context-sure : (n : ℕ) (c : Value) (m : Value) (header : Value) → There n c → There n m → SureAnswer n (fill_context bare c m header) (fill_context (full o) c m header)
+  unfolding fill_context
+  fill_context-sure n c m header h0 h1 = search (parts) depth 24 fits 4000
+
+  pub new_context-sure : (n : ℕ) (m : Value) (header : Value) → There n m → SureValue n (new_context bare m header) (new_context (full o) m header)
+  unfolding new_context
+  new_context-sure n m header h0 = search (parts, fill_context-sure) depth 24 fits 4000
+
+  pub pass_words-sure : (n : ℕ) (c : Value) (k : ℕ) → There n c → SureAnswer n (pass_words bare c k) (pass_words (full o) c k)
+  unfolding pass_words
+  pass_words-sure n c k h0 = search (parts) depth 24 fits 4000
+
+  pub activate-sure : (n : ℕ) (m : Value) (header : Value) (k : ℕ) → There n m → SureAnswer n (activate bare m header k) (activate (full o) m header k)
+  unfolding activate
+  activate-sure n m header k h0 = search (parts, new_context-sure, pass_words-sure, switch-sure) depth 32 fits 4000
+
+  -- the search for a method
+
+  pub checked_method-sure : (n : ℕ) (v : Value) → There n v → SureOption n (checked_method bare v) (checked_method (full o) v)
+  unfolding checked_method
+  checked_method-sure n v h0 = search (headers) depth 24 fits 4000
+
+  pub method_at-sure : (n : ℕ) (d : Value) (k : ℕ) → There n d → SureOption n (method_at bare d k) (method_at (full o) d k)
+  unfolding method_at
+  method_at-sure n d k h0 = search (headers, checked_method-sure) depth 24 fits 4000
+
+  -- a step that does the same from here on, and later
+  pub record SureLater (n : ℕ) (m m' : Step Births (Option Value)) : Type 0 where
+    pub at : (k : ℕ) → Later n k → SureOption k m m'
+
+  pub later_later : (n k : ℕ) (m m' : Step Births (Option Value)) → Later n k → SureLater n m m' → SureLater k m m'
+  later_later n k m m' l h = record { at = λ j e. h.at j (record { is = omega (arith, l.is, e.is) }) }
+
+  pub sure_now : (n : ℕ) (m m' : Step Births (Option Value)) → SureLater n m m' → SureOption n m m'
+  sure_now n m m' h = h.at n (record { is = omega arith })
+
+  pub place_says-sure : (n : ℕ) (d : Value) (k : ℕ) (a b : Bool) (m m' : Step Births (Option Value)) → There n d → SureLater n m m' → SureOption n (place_says bare d k a b m) (place_says (full o) d k a b m')
+  unfolding place_says
+  place_says-sure n d k true b m m' h l = method_at-sure n d k h
+  place_says-sure n d k false true m m' h l = answer_option-sure o lives n None (none_there o lives n)
+  place_says-sure n d k false false m m' h l = sure_now n m m' l
+
+  pub look_at_place-sure : (n : ℕ) (d x : Value) (k : ℕ) (m m' : Step Births (Option Value)) → There n d → SureLater n m m' → SureOption n (look_at_place bare d x k m) (look_at_place (full o) d x k m')
+  unfolding look_at_place
+  look_at_place-sure n d x k m m' h l = search (parts, later_later, place_says-sure) depth 24 fits 4000
+
+  pub look_at_places-sure : (n : ℕ) (d x : Value) (k left : ℕ) (m m' : Step Births (Option Value)) → There n d → SureLater n m m' → SureOption n (look_at_places bare d x k left m) (look_at_places (full o) d x k left m')
+  unfolding look_at_places
+  look_at_places-sure n d x k zero m m' h l = sure_now n m m' l
+  look_at_places-sure n d x k (suc left) m m' h l =
+      look_at_place-sure n d x k _ _ h (record { at = λ j e. look_at_places-sure j d x (suc k) left m m' (later_value o lives n j d e h) (later_later n j m m' e l) })
+
+  pub search_from-sure : (n : ℕ) (d x : Value) (places start : ℕ) → There n d → SureOption n (search_from bare d x places start) (search_from (full o) d x places start)
+  unfolding search_from
+  search_from-sure n d x places start h =
+      look_at_places-sure n d x start (places - start) _ _ h (record {
+        at = λ j e.
+            look_at_places-sure j d x 0 places _ _ (later_value o lives n j d e h) (record { at = λ i g. answer_option-sure o lives i None (none_there o lives i) });
+      })
+
+  pub search_dictionary-sure : (n : ℕ) (d x : Value) (places : ℕ) → There n d → There n x → SureOption n (search_dictionary bare d x places) (search_dictionary (full o) d x places)
+  unfolding search_dictionary
+  search_dictionary-sure n d x places h g = search (parts, search_from-sure) depth 24 fits 4000
+
+  pub or_above-sure : (n : ℕ) (c : Value) (a : Option Value) (f f' : Value → Step Births (Option Value)) → There n c → ThereIfAny n a
+      → ((k : ℕ) → Later n k → (v : Value) → There k v → SureOption k (f v) (f' v)) → SureOption n (or_above bare c a f) (or_above (full o) c a f')
+  unfolding or_above
+  or_above-sure n c None f f' h g s = then_value-sure o lives _ n _ _ _ _ (fetch_field-sure n c 0 h) s
+  or_above-sure n c (Some v) f f' h g s = answer_option-sure o lives n (Some v) g
+
+  pub method_in_class-sure : (n : ℕ) (c x : Value) → There n c → There n x → SureOption n (method_in_class bare c x) (method_in_class (full o) c x)
+  unfolding method_in_class
+  method_in_class-sure n c x h g = search (parts, search_dictionary-sure) depth 24 fits 4000
+
+  pub look_in_class-sure : (n : ℕ) (c x : Value) (f f' : Value → Step Births (Option Value)) → There n c → There n x
+      → ((k : ℕ) → Later n k → (v : Value) → There k v → SureOption k (f v) (f' v)) → SureOption n (look_in_class bare c x f) (look_in_class (full o) c x f')
+  unfolding look_in_class
+  look_in_class-sure n c x f f' h g s =
+      then_option-sure o lives _ n _ _ _ _ (method_in_class-sure n c x h g) (λ k l a p. or_above-sure k c a f f' (later_value o lives n k c l h) p
+      (λ j e v q. s j (record { is = omega (arith, l.is, e.is) }) v q))
+
+  pub unless_nil-sure : (n : ℕ) (b : Bool) (m m' : Step Births (Option Value)) → SureOption n m m' → SureOption n (unless_nil b m) (unless_nil b m')
+  unfolding unless_nil
+  unless_nil-sure n true m m' h = answer_option-sure o lives n None (none_there o lives n)
+  unless_nil-sure n false m m' h = h
+
+  pub end_at_nil-sure : (n : ℕ) (c : Value) (m m' : Step Births (Option Value)) → There n c → SureLater n m m' → SureOption n (end_at_nil bare c m) (end_at_nil (full o) c m')
+  unfolding end_at_nil
+  end_at_nil-sure n c m m' h l = then_value-sure o lives _ n _ _ _ _ (of_page-sure o lives n NilObject) (λ k e v g. unless_nil-sure k (same_value c v) m m' (l.at k e))
+
+  pub find_within-sure : (n : ℕ) (x : Value) (left : ℕ) (c : Value) → There n x → There n c → SureOption n (find_within bare x left c) (find_within (full o) x left c)
+  unfolding find_within
+  find_within-sure n x zero c h g = end_at_nil-sure n c _ _ g (record { at = λ k e. die-sure o lives _ k _ })
+  find_within-sure n x (suc left) c h g = end_at_nil-sure n c _ _ g (record {
+    at = λ k e.
+        look_in_class-sure k c x _ _ (later_value o lives n k c e g) (later_value o lives n k x e h)
+        (λ j l v q. find_within-sure j x left v (later_value o lives k j x l (later_value o lives n k x e h)) q);
+  })
+
+  pub find-sure : (n : ℕ) (c x : Value) → There n c → There n x → SureOption n (find bare c x) (find (full o) c x)
+  unfolding find
+  find-sure n c x h g = find_within-sure n x 32767 c g h
+
+  -- sends, returns, and what executes a method
+
+  pub argument_array-sure : (n : ℕ) (k : ℕ) → SureValue n (argument_array bare k) (argument_array (full o) k)
+  unfolding argument_array copy_arguments
+  argument_array-sure n k = search (parts) depth 24 fits 4000
+
+  pub new_message-sure : (n : ℕ) (s : Value) (a : Value) → There n s → There n a → SureValue n (new_message bare s a) (new_message (full o) s a)
+  unfolding new_message
+  new_message-sure n s a h0 h1 = search (parts) depth 24 fits 4000
+
+  pub replace_by_message-sure : (n : ℕ) (s : Value) (k : ℕ) → There n s → SureAnswer n (replace_by_message bare s k) (replace_by_message (full o) s k)
+  unfolding replace_by_message
+  replace_by_message-sure n s k h0 = search (parts, argument_array-sure, new_message-sure) depth 24 fits 4000
+
+  pub call_not_understood-sure : (n : ℕ) (s : Value) (k : ℕ) (a : Option Value) → There n s → ThereIfAny n a → SureCall n (call_not_understood bare s k a) (call_not_understood (full o) s k a)
+  unfolding call_not_understood
+  call_not_understood-sure n s k None h g = die-sure o lives _ n _
+  call_not_understood-sure n s k (Some m) h g = let p : There n m = record { live = g.live } in search (sures, replace_by_message-sure) depth 24 fits 4000
+
+  pub not_understood-sure : (n : ℕ) (c : Value) (s : Value) (k : ℕ) → There n c → There n s → SureCall n (not_understood bare c s k) (not_understood (full o) c s k)
+  unfolding not_understood
+  not_understood-sure n c s k h0 h1 = search (parts, find-sure, call_not_understood-sure) depth 24 fits 4000
+
+  pub call_found-sure : (n : ℕ) (c : Value) (s : Value) (k : ℕ) (a : Option Value) → There n c → There n s → ThereIfAny n a → SureCall n (call_found bare c s k a) (call_found (full o) c s k a)
+  unfolding call_found
+  call_found-sure n c s k None h g p = not_understood-sure n c s k h g
+  call_found-sure n c s k (Some m) h g p = answer_call-sure o lives n m k (record { live = p.live })
+
+  pub send_from-sure : (n : ℕ) (c : Value) (s : Value) (k : ℕ) → There n c → There n s → SureCall n (send_from bare c s k) (send_from (full o) c s k)
+  unfolding send_from
+  send_from-sure n c s k h0 h1 = search (parts, find-sure, call_found-sure) depth 24 fits 4000
+
+  pub send-sure : (n : ℕ) (s : Value) (k : ℕ) → There n s → SureCall n (send bare s k) (send (full o) s k)
+  unfolding send
+  send-sure n s k h0 = search (parts, send_from-sure) depth 24 fits 4000
+
+  pub send_to_super-sure : (n : ℕ) (s : Value) (k : ℕ) → There n s → SureCall n (send_to_super bare s k) (send_to_super (full o) s k)
+  unfolding send_to_super class_above
+  send_to_super-sure n s k h0 = search (headers, send_from-sure) depth 32 fits 4000
+
+  pub argument_count-sure : (n : ℕ) (i : ℤ) → SureAnswer n (argument_count i) (argument_count i)
+  unfolding argument_count
+  argument_count-sure n (pos i) = answer_itself-sure o lives n _
+  argument_count-sure n (negsuc i) = die-sure o lives _ n _
+
+  pub special_send-sure : (n : ℕ) (k : ℕ) → SureCall n (special_send bare k) (special_send (full o) k)
+  unfolding special_send
+  special_send-sure n k = search (parts, argument_count-sure, send-sure) depth 32 fits 4000
+
+  pub end-sure : (n : ℕ) (e : StepEnd) → SureAnswer n (answer e) (answer e)
+  end-sure n e = answer_itself-sure o lives n e
+
+  pub goes_on-sure : (n : ℕ) (m : Step Births Unit) (m' : Step Births Unit) → SureAnswer n m m' → SureAnswer n (goes_on m) (goes_on m')
+  unfolding goes_on
+  goes_on-sure n m m' h0 = search (sures) depth 24 fits 4000
+
+  pub respond-sure : (n : ℕ) (p : Performing) (c : Call) (v : Value) (i : ℕ) → CallThere n c → SureAnswer n (respond bare p c v i) (respond (full o) p c v i)
+  unfolding respond
+  respond-sure n p c v i h0 = search (sures, goes_on-sure, activate-sure) depth 24 fits 4000
+
+  pub execute_by-sure : (n : ℕ) (p : Performing) (c : Call) (v : Value) (flag : ℕ) → CallThere n c → SureAnswer n (execute_by bare p c v flag) (execute_by (full o) p c v flag)
+  unfolding execute_by respond_by_extension answer_field
+  execute_by-sure n p c v flag h0 = search (headers, goes_on-sure, respond-sure, activate-sure) depth 32 fits 4000
+
+  pub execute-sure : (n : ℕ) (p : Performing) (c : Call) → CallThere n c → SureAnswer n (execute bare p c) (execute (full o) p c)
+  unfolding execute
+  execute-sure n p c h0 = search (headers, execute_by-sure) depth 24 fits 4000
+
+  pub executed-sure : (n : ℕ) (m m' : Step Births Call) → SureCall n m m' → SureAnswer n (executed bare m) (executed (full o) m')
+  unfolding executed
+  executed-sure n m m' h = search (sures, execute-sure) depth 16 fits 4000
+
+  pub execute_if_any-sure : (n : ℕ) (c : Option Call) → CallThereIfAny n c → SureAnswer n (execute_if_any bare c) (execute_if_any (full o) c)
+  unfolding execute_if_any
+  execute_if_any-sure n None h = end-sure n _
+  execute_if_any-sure n (Some c) h = execute-sure n _ c (record { method = h.method })
+
+  pub executed_if_any-sure : (n : ℕ) (m m' : Step Births (Option Call)) → SureAnyCall n m m' → SureAnswer n (executed_if_any bare m) (executed_if_any (full o) m')
+  unfolding executed_if_any
+  executed_if_any-sure n m m' h = search (sures, execute_if_any-sure) depth 16 fits 4000
+
+  pub cannot_return-sure : (n : ℕ) (v : Value) → There n v → SureCall n (cannot_return bare v) (cannot_return (full o) v)
+  unfolding cannot_return
+  cannot_return-sure n v h0 = search (parts, send-sure) depth 24 fits 4000
+
+  pub return_into-sure : (n : ℕ) (c : Value) (v : Value) → There n c → There n v → SureAnswer n (return_into bare c v) (return_into (full o) c v)
+  unfolding return_into
+  return_into-sure n c v h0 h1 = search (parts, fetch_context_registers-sure) depth 32 fits 4000
+
+  pub return_to-sure : (n : ℕ) (c : Value) (v : Value) → There n c → There n v → SureAnyCall n (return_to bare c v) (return_to (full o) c v)
+  unfolding return_to return_to_context calls calls_nothing
+  return_to-sure n c v h0 h1 = search (parts, cannot_return-sure, return_into-sure) depth 32 fits 4000
+
+  pub return_to_sender-sure : (n : ℕ) (v : Value) → There n v → SureAnyCall n (return_to_sender bare v) (return_to_sender (full o) v)
+  unfolding return_to_sender
+  return_to_sender-sure n v h0 = search (parts, return_to-sure) depth 24 fits 4000
+
+  pub return_to_caller-sure : (n : ℕ) (v : Value) → There n v → SureAnyCall n (return_to_caller bare v) (return_to_caller (full o) v)
+  unfolding return_to_caller
+  return_to_caller-sure n v h0 = search (parts, return_to-sure) depth 24 fits 4000
+
+  pub jump_on-sure : (n : ℕ) (p : PageObject) (q : PageObject) (d : ℤ) → SureAnyCall n (jump_on bare p q d) (jump_on (full o) p q d)
+  unfolding jump_on must_be_boolean calls calls_nothing
+  jump_on-sure n p q d = search (parts, send-sure) depth 32 fits 4000
+
+  -- rows
+
+  pub fetch_operand-sure : (n : ℕ) (x : Operand) → SureValue n (fetch_operand bare x) (fetch_operand (full o) x)
+  unfolding fetch_operand fetch_receiver_variable fetch_temporary_variable fetch_literal_variable fetch_literal_constant
+  fetch_operand-sure n (ReceiverVariable i) = search parts depth 24 fits 4000
+  fetch_operand-sure n x = search parts depth 24 fits 4000
+
+  pub store_operand-sure : (n : ℕ) (x : Operand) (v : Value) → There n v → SureAnswer n (store_operand bare x v) (store_operand (full o) x v)
+  unfolding store_operand store_receiver_variable store_temporary_variable store_literal_variable fetch_literal_constant
+  store_operand-sure n (LiteralConstant i) v h = die-sure o lives _ n _
+  store_operand-sure n x v h = search parts depth 24 fits 4000
+
+  pub constant_value-sure : (n : ℕ) (c : Constant) → SureValue n (constant_value bare c) (constant_value (full o) c)
+  unfolding constant_value
+  constant_value-sure n constant.Nil = of_page-sure o lives n _
+  constant_value-sure n c = search parts depth 24 fits 4000
+
+  pub ruleset rows_sure = (parts, fetch_operand-sure, store_operand-sure, constant_value-sure, goes_on-sure, executed-sure, executed_if_any-sure, send-sure, send_to_super-sure, special_send-sure, return_to_sender-sure, return_to_caller-sure, jump_on-sure)
+
+  pub arithmetic_by-sure : (n : ℕ) (k : ℕ) (v : Value) → SureAnswer n (arithmetic_by bare k v) (arithmetic_by (full o) k v)
+  unfolding arithmetic_by
+  arithmetic_by-sure n k (Small i) = end-sure n _
+  arithmetic_by-sure n k (Ref i) = search rows_sure depth 24 fits 4000
+
+  pub bytecode-sure : (n : ℕ) (b : Bytecode) → SureAnswer n (bytecode bare b) (bytecode (full o) b)
+  unfolding bytecode rows arithmetic_send fetch_literal_constant
+  bytecode-sure n code.Unused = die-sure o lives _ n _
+  bytecode-sure n b = search (rows_sure, arithmetic_by-sure) depth 32 fits 4000
+
+  pub step-sure : (n : ℕ) → SureAnswer n (step bare) (step (full o))
+  unfolding step
+  step-sure n = search (parts, bytecode-sure) depth 24 fits 4000
+
+-- from births that a table shows
+
+module _ (o : Object) (c : State Table) (s : State Births) (w : Shows c s) where
+  abbrev IsThere : ℕ → Type 0
+  IsThere k = lives s.memory k × (k < length s.memory)
+
+  kept_there : (k : ℕ) → IsKept s.memory k → IsThere k
+  kept_there k h = (inl h, borne_before s.memory k h.0 h.1)
+
+  object_lives : (k : ℕ) (a : Object) → lives s.memory k → object_born s.memory k ≡ Some a → IsLiveObject IsThere a
+  object_lives k a (inl h) e = map_object (IsKept s.memory) IsThere kept_there a (w.closed k h.0 a h.1 e)
+  object_lives k a (inr l) e = let b = object_within s.memory k a e in absurd (omega arith)
+
+  stands : at.Stands o (lives s.memory) s
+  stands = record {
+    page = λ q. kept_there _ (place_of q, w.page q);
+    objects = object_lives;
+    roots = map_all (IsKept s.memory) IsThere kept_there (roots_of s) w.roots;
+    to_come = λ k l. inr l;
+    kept = λ k p e. inl (p, e);
+  }
+
+  same_transition : (x y : Transition (State Births) StepEnd) → at.DoesSame o (lives s.memory) (at.Any o (lives s.memory)) s x y → y ≡ x
+  same_transition (Died a) (Died b) h = ap (λ k. Died k) (sym h)
+  same_transition (Died a) (Went b u) h = absurd h
+  same_transition (Went a t) (Died b) h = absurd h
+  same_transition (Went a t) (Went b u) h = let e = h.0 in let f = h.1 in λ i. Went (e i) (f i)
+
+  pub misses_nothing : (step (births_with o)).run s ≡ (step births).run s
+  unfolding bare full
+  misses_nothing = same_transition ((step births).run s) ((step (births_with o)).run s) ((step-sure o (lives s.memory) 0).go s (omega arith) stands)

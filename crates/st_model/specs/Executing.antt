@@ -1,0 +1,64 @@
+-- What executes a method that was called (chapter 28). No primitive is built yet.
+use Rattle.std.specs.Prelude.{ℕ, ◌==◌, Option, Some, None, if◌then◌else◌}
+use Rattle.st_model.specs.declared.call.Performing.{Performing}
+use Rattle.st_model.specs.declared.call.Performing.TheVariants.{Allowed}
+use Rattle.st_model.specs.Values.{Value}
+use Rattle.st_model.specs.Machine.{ObjectMemory, Step, answer, ◌>>=◌, ◌>>◌}
+use Rattle.st_model.specs.Outcomes.{StepEnd, Did, NotBuilt}
+use Rattle.st_model.specs.Outcomes as outcome
+use Rattle.st_model.specs.Steps.{fetch_field, push, pop}
+use Rattle.st_model.specs.Methods.{flag_of, temporary_count, method_header, method_primitive}
+use Rattle.st_model.specs.Contexts.{activate}
+use Rattle.st_model.specs.Sends.{Call}
+
+-- a step that goes on
+unfoldable pub goes_on : {H : Type 0} → Step H Unit → Step H StepEnd
+goes_on m = do
+  m
+  answer (Did outcome.Went)
+
+-- a field of the word at the top takes its place
+unfoldable pub answer_field : {H : Type 0} → ObjectMemory H → ℕ → Step H Unit
+answer_field m i = do
+  x ← pop m
+  v ← fetch_field m x i
+  push m v
+
+-- a method of this primitive is executed, where 83 and 84 may still perform or no more; primitive 0 is none
+unfoldable pub respond : {H : Type 0} → ObjectMemory H → Performing → Call → Value → ℕ → Step H StepEnd
+respond m performing call header primitive = if primitive == 0 then goes_on (activate m call.method header call.arguments) else answer NotBuilt
+
+unfoldable pub respond_by_extension : {H : Type 0} → ObjectMemory H → Performing → Call → Value → Step H StepEnd
+respond_by_extension m performing call header = do
+  primitive ← method_primitive m call.method
+  respond m performing call header primitive
+
+-- By the header's flag: 5 answers the receiver, which stays; 6 answers the field that the temporary count names; with 7
+-- there is a header extension; with all others the method is activated.
+unfoldable pub execute_by : {H : Type 0} → ObjectMemory H → Performing → Call → Value → ℕ → Step H StepEnd
+execute_by m performing call header flag =
+    if flag == 5 then answer (Did outcome.Went) else
+    if flag == 6 then goes_on (answer_field m (temporary_count header)) else
+    if flag == 7 then respond_by_extension m performing call header else goes_on (activate m call.method header call.arguments)
+
+-- the method is executed
+unfoldable pub execute : {H : Type 0} → ObjectMemory H → Performing → Call → Step H StepEnd
+execute m performing call = do
+  header ← method_header m call.method
+  execute_by m performing call header (flag_of header)
+
+-- what a step calls is executed
+unfoldable pub executed : {H : Type 0} → ObjectMemory H → Step H Call → Step H StepEnd
+executed m step = do
+  call ← step
+  execute m Allowed call
+
+unfoldable pub execute_if_any : {H : Type 0} → ObjectMemory H → Option Call → Step H StepEnd
+execute_if_any m None = answer (Did outcome.Went)
+execute_if_any m (Some call) = execute m Allowed call
+
+-- what a step calls is executed, if it calls anything
+unfoldable pub executed_if_any : {H : Type 0} → ObjectMemory H → Step H (Option Call) → Step H StepEnd
+executed_if_any m step = do
+  call ← step
+  execute_if_any m call

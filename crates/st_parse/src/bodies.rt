@@ -1,0 +1,82 @@
+//! Statements so far, and how they end.
+
+ghost use Rattle.std.specs.Prelude.{◌≡◌, true, false, IfOk};
+ghost use Rattle.st_tree.specs.Views.{expression_view, statements_view, with_statement, no_statements};
+ghost use Rattle.st_grammar.specs.Reading.{first, period_at, statement_looks};
+ghost use Rattle.st_parse.specs.Phrases.{body_view};
+
+use crate::kinds::STATEMENT_STARTS;
+use st_grammar::leaf::{Kind, Leaf};
+use st_grammar::read::is_among;
+use st_tree::{Expression, Statement, StatementList};
+use std::alloc::{AllocError, Global};
+
+/// Statements so far, and whether another one may follow.
+#[derive(Drop)]
+pub struct Body {
+    pub statements: StatementList,
+    pub goes_on: bool,
+}
+
+/// No statement yet.
+pub fn no_statements(alloc: Global) -> Body
+    ensures { body_view result ≡ record { statements = no_statements; goes_on = true } }
+{
+    Body {
+        statements: Vec::new(alloc),
+        goes_on: true,
+    }
+}
+
+/// One more statement, which returns its value; none may follow it.
+#[tactic(auto, using(st_tree::proofs::Views::views))]
+pub fn with_return(statements: StatementList, value: Expression) -> Result<Body, AllocError>
+    ensures { IfOk result (λ b. body_view b ≡ record { statements = with_statement (statements_view statements.items) true (expression_view value); goes_on = false }) }
+{
+    let mut statements = statements;
+    let returns = true;
+    statements.push(Statement { returns, value })?;
+    let goes_on = false;
+    Ok(Body {
+        statements,
+        goes_on,
+    })
+}
+
+/// One more statement, and whether another one may follow it.
+#[tactic(auto, using(st_tree::proofs::Views::views))]
+pub fn with_value(
+    statements: StatementList,
+    value: Expression,
+    goes_on: bool,
+) -> Result<Body, AllocError>
+    ensures { IfOk result (λ b. body_view b ≡ record { statements = with_statement (statements_view statements.items) false (expression_view value); goes_on = goes_on }) }
+{
+    let mut statements = statements;
+    let returns = false;
+    statements.push(Statement { returns, value })?;
+    Ok(Body {
+        statements,
+        goes_on,
+    })
+}
+
+/// Whether a period stands first, and what is behind it.
+pub fn period(leaves: &[Leaf]) -> (bool, &[Leaf])
+    ensures { (result.0, result.1.now) ≡ period_at leaves.now }
+{
+    match leaves {
+        [leaf, rest @ ..] if is_among(&[Kind::Period], *leaf) => (true, rest),
+        _ => (false, leaves),
+    }
+}
+
+/// Whether another statement may follow, and begins.
+pub fn goes_on(body: &Body, leaves: &[Leaf]) -> bool
+    ensures { result ≡ first (statement_looks (body_view body.now)) leaves.now }
+{
+    match leaves {
+        [leaf, ..] => body.goes_on && is_among(&STATEMENT_STARTS, *leaf),
+        [] => false,
+    }
+}

@@ -1,0 +1,441 @@
+//! Expressions, statements and blocks. Each function here reads from the first leaf on, and answers what it read and the
+//! leaves behind it, or the first fault. `room` is how many more brackets may be open.
+
+ghost use Rattle.std.specs.Prelude.{◌≡◌, ◌∷◌, [], IfOk, MatchOption, true, false};
+ghost use Rattle.st_tree.specs.Views.{is_super, name_view, names_view, element_view, expression_view, expressions_view, statements_view, with_sent, block};
+ghost use Rattle.st_tree.specs.Views.{no_expressions, expression, no_statements};
+ghost use Rattle.st_grammar.specs.Trees.{name_at, sent, sent_if};
+ghost use Rattle.st_grammar.specs.Reading.{Gives, Fails, stop, checked_at, period_at, assigned_to, array_at, bracket_at, name_primary_at, constant_primary_at, array_primary_at, block_primary_at, group_primary_at, primary_at, names_step, names_at, any_unary_at, unary_at, operations_step, operations_at, any_binary_at, binary_at, parts_step, parts_at, keyword_at, messages_at, unary_message_at, binary_message_at, keyword_message_at, message_at, cascade_step, cascades_at, sends_at, any_cascade_at, cascade_at, targets_at, expression_at, returned_at, plain_at, statement_step, body_at, statements_at, parameters_step, parameters_at, argument_body_at, argument_block_at, plain_block_at, block_at};
+ghost use Rattle.st_grammar.specs.Leaves.{among};
+ghost use Rattle.st_grammar.specs.Reading.{first, message_starts, statement_looks};
+ghost use Rattle.st_parse.specs.Phrases.{parts_view, body_view};
+
+use crate::bodies::{Body, goes_on, no_statements, period, with_return, with_value};
+use crate::kinds::{KEYWORDS, NAMES, OPERATORS};
+use crate::literal::{constant_element, nested};
+use crate::names::{assigned, name_of, parameter, parameters, targets};
+use crate::sends::{
+    Parts, begins_message, checked, no_parts, operation, send_if, unary_messages, with_operation,
+    with_part, with_parts, with_unary,
+};
+use st_grammar::leaf::{Kind, Leaf};
+use st_grammar::read::{ReadError, starts, token};
+use st_tree::{Expression, NameList, StatementList};
+use std::alloc::Global;
+
+const CONSTANTS: [Kind; 2] = [Kind::Number, Kind::Constant];
+
+/// Brackets in a primary that is an expression in parentheses.
+#[cycle(reading)]
+#[tactic(auto, unfolding(st_grammar::specs::Reading::bracket_at))]
+fn inside_group<'a>(
+    alloc: Global,
+    text: &[u8],
+    room: u32,
+    leaves: &'a [Leaf],
+) -> Result<(Expression, &'a [Leaf]), ReadError>
+    ensures { Gives (λ x. (expression_view x.0, x.1.now)) result (bracket_at text.now room false leaves.now) }
+{
+    if room == 0 {
+        return Err(ReadError::too_deep(leaves));
+    }
+    let (inside, rest) = expression(alloc, text, room - 1, leaves)?;
+    let (_close, rest) = token(&[Kind::Close], rest)?;
+    Ok((inside, rest))
+}
+
+/// What is inside the brackets of a block, and its end.
+#[cycle(reading)]
+#[tactic(auto, unfolding(st_grammar::specs::Reading::bracket_at))]
+fn inside_block<'a>(
+    alloc: Global,
+    text: &[u8],
+    room: u32,
+    leaves: &'a [Leaf],
+) -> Result<(Expression, &'a [Leaf]), ReadError>
+    ensures { Gives (λ x. (expression_view x.0, x.1.now)) result (bracket_at text.now room true leaves.now) }
+{
+    if room == 0 {
+        return Err(ReadError::too_deep(leaves));
+    }
+    let (inside, rest) = block(alloc, text, room - 1, leaves)?;
+    let (_close, rest) = token(&[Kind::CloseBlock], rest)?;
+    Ok((inside, rest))
+}
+
+/// A primary: a name, a literal, a block, or an expression in parentheses.
+#[cycle(reading)]
+#[tactic(auto, unfolding(st_grammar::specs::Reading::primary_at, st_grammar::specs::Reading::name_primary_at, st_grammar::specs::Reading::constant_primary_at, st_grammar::specs::Reading::array_primary_at, st_grammar::specs::Reading::block_primary_at, st_grammar::specs::Reading::group_primary_at))]
+fn primary<'a>(
+    alloc: Global,
+    text: &[u8],
+    room: u32,
+    leaves: &'a [Leaf],
+) -> Result<(Expression, &'a [Leaf]), ReadError>
+    ensures { Gives (λ x. (expression_view x.0, x.1.now)) result (primary_at text.now (array_at text.now room) (bracket_at text.now room) leaves.now) }
+{
+    if starts(&NAMES, leaves) {
+        let (leaf, rest) = token(&NAMES, leaves)?;
+        Ok((Expression::Variable(name_of(alloc, text, leaf)?), rest))
+    } else if starts(&CONSTANTS, leaves) {
+        let (element, rest) = constant_element(alloc, text, &CONSTANTS, leaves)?;
+        Ok((Expression::Literal(element), rest))
+    } else if starts(&[Kind::Opening], leaves) {
+        let (element, rest) = nested(alloc, text, room, &[Kind::Opening], leaves)?;
+        Ok((Expression::Literal(element), rest))
+    } else if starts(&[Kind::OpenBlock], leaves) {
+        let (_open, rest) = token(&[Kind::OpenBlock], leaves)?;
+        let (inside, rest) = inside_block(alloc, text, room, rest)?;
+        Ok((inside, rest))
+    } else {
+        let (_open, rest) = token(&[Kind::Open], leaves)?;
+        let (inside, rest) = inside_group(alloc, text, room, rest)?;
+        Ok((inside, rest))
+    }
+}
+
+/// A unary expression, as an argument.
+#[cycle(reading)]
+#[tactic(auto, unfolding(st_grammar::specs::Reading::unary_at, st_grammar::specs::Reading::any_unary_at))]
+fn unary<'a>(
+    alloc: Global,
+    text: &[u8],
+    room: u32,
+    leaves: &'a [Leaf],
+) -> Result<(Expression, &'a [Leaf]), ReadError>
+    ensures { Gives (λ x. (expression_view x.0, x.1.now)) result (unary_at text.now (array_at text.now room) (bracket_at text.now room) leaves.now) }
+{
+    let (receiver, rest) = primary(alloc, text, room, leaves)?;
+    let (receiver, rest) = unary_messages(alloc, text, receiver, rest)?;
+    checked(receiver, rest)
+}
+
+/// A receiver with one binary message.
+#[cycle(reading)]
+#[tactic(auto, unfolding(st_grammar::specs::Reading::operations_step))]
+fn binary_message<'a>(
+    alloc: Global,
+    text: &[u8],
+    room: u32,
+    receiver: Expression,
+    leaves: &'a [Leaf],
+) -> Result<(Expression, &'a [Leaf]), ReadError>
+    ensures { Gives (λ x. (expression_view x.0, x.1.now)) result (operations_step text.now (array_at text.now room) (bracket_at text.now room) (expression_view receiver) leaves.now) }
+{
+    let (operator, rest) = token(&OPERATORS, leaves)?;
+    let (argument, rest) = unary(alloc, text, room, rest)?;
+    Ok((operation(alloc, text, receiver, operator, argument)?, rest))
+}
+
+/// A receiver with all binary messages that follow it.
+#[cycle(reading)]
+#[tactic(auto, unfolding(st_grammar::specs::Reading::operations_at))]
+fn binary_messages<'a>(
+    alloc: Global,
+    text: &[u8],
+    room: u32,
+    first: Expression,
+    leaves: &'a [Leaf],
+) -> Result<(Expression, &'a [Leaf]), ReadError>
+    ensures { Gives (λ x. (expression_view x.0, x.1.now)) result (operations_at text.now (array_at text.now room) (bracket_at text.now room) (expression_view first) leaves.now) }
+{
+    let mut receiver = first;
+    let mut rest = leaves;
+    while starts(&OPERATORS, rest) {
+        let (sent, after) = binary_message(alloc, text, room, receiver, rest)?;
+        receiver = sent;
+        rest = after;
+    }
+    Ok((receiver, rest))
+}
+
+/// A binary expression, as an argument.
+#[cycle(reading)]
+#[tactic(auto, unfolding(st_grammar::specs::Reading::binary_at, st_grammar::specs::Reading::any_binary_at))]
+fn binary<'a>(
+    alloc: Global,
+    text: &[u8],
+    room: u32,
+    leaves: &'a [Leaf],
+) -> Result<(Expression, &'a [Leaf]), ReadError>
+    ensures { Gives (λ x. (expression_view x.0, x.1.now)) result (binary_at text.now (array_at text.now room) (bracket_at text.now room) leaves.now) }
+{
+    let (receiver, rest) = primary(alloc, text, room, leaves)?;
+    let (receiver, rest) = unary_messages(alloc, text, receiver, rest)?;
+    let (receiver, rest) = binary_messages(alloc, text, room, receiver, rest)?;
+    checked(receiver, rest)
+}
+
+/// Parts of a keyword message with one more keyword and its argument.
+#[cycle(reading)]
+#[tactic(auto, unfolding(st_grammar::specs::Reading::parts_step), using(st_tree::proofs::Views::views))]
+fn keyword_part<'a>(
+    alloc: Global,
+    text: &[u8],
+    room: u32,
+    parts: Parts,
+    leaves: &'a [Leaf],
+) -> Result<(Parts, &'a [Leaf]), ReadError>
+    ensures { Gives (λ x. (parts_view x.0, x.1.now)) result (parts_step text.now (array_at text.now room) (bracket_at text.now room) (parts_view parts) leaves.now) }
+{
+    let (keyword, rest) = token(&KEYWORDS, leaves)?;
+    let (argument, rest) = binary(alloc, text, room, rest)?;
+    Ok((with_part(text, parts, keyword, argument)?, rest))
+}
+
+/// Parts of a keyword message with all keywords that follow, and their arguments.
+#[cycle(reading)]
+#[tactic(auto, unfolding(st_grammar::specs::Reading::parts_at))]
+fn keyword_parts<'a>(
+    alloc: Global,
+    text: &[u8],
+    room: u32,
+    first: Parts,
+    leaves: &'a [Leaf],
+) -> Result<(Parts, &'a [Leaf]), ReadError>
+    ensures { Gives (λ x. (parts_view x.0, x.1.now)) result (parts_at text.now (array_at text.now room) (bracket_at text.now room) (parts_view first) leaves.now) }
+{
+    let mut parts = first;
+    let mut rest = leaves;
+    while starts(&KEYWORDS, rest) {
+        let (longer, after) = keyword_part(alloc, text, room, parts, rest)?;
+        parts = longer;
+        rest = after;
+    }
+    Ok((parts, rest))
+}
+
+/// A receiver with the unary, binary and keyword messages that follow it.
+#[cycle(reading)]
+#[tactic(auto, unfolding(st_grammar::specs::Reading::messages_at, st_grammar::specs::Reading::keyword_at))]
+fn messages<'a>(
+    alloc: Global,
+    text: &[u8],
+    room: u32,
+    receiver: Expression,
+    leaves: &'a [Leaf],
+) -> Result<(Expression, &'a [Leaf]), ReadError>
+    ensures { Gives (λ x. (expression_view x.0, x.1.now)) result (messages_at text.now (array_at text.now room) (bracket_at text.now room) (expression_view receiver) leaves.now) }
+{
+    let (receiver, rest) = unary_messages(alloc, text, receiver, leaves)?;
+    let (receiver, rest) = binary_messages(alloc, text, room, receiver, rest)?;
+    let (parts, rest) = keyword_parts(alloc, text, room, no_parts(alloc), rest)?;
+    Ok((send_if(alloc, receiver, parts)?, rest))
+}
+
+/// A cascade with one more message.
+#[cycle(reading)]
+#[tactic(auto, unfolding(st_grammar::specs::Reading::message_at, st_grammar::specs::Reading::unary_message_at, st_grammar::specs::Reading::binary_message_at, st_grammar::specs::Reading::keyword_message_at))]
+fn message<'a>(
+    alloc: Global,
+    text: &[u8],
+    room: u32,
+    cascade: Expression,
+    leaves: &'a [Leaf],
+) -> Result<(Expression, &'a [Leaf]), ReadError>
+    ensures { Gives (λ x. (expression_view x.0, x.1.now)) result (message_at text.now (array_at text.now room) (bracket_at text.now room) (expression_view cascade) leaves.now) }
+{
+    if starts(&NAMES, leaves) {
+        with_unary(alloc, text, cascade, leaves)
+    } else if starts(&OPERATORS, leaves) {
+        let (operator, rest) = token(&OPERATORS, leaves)?;
+        let (value, rest) = unary(alloc, text, room, rest)?;
+        Ok((with_operation(alloc, text, cascade, operator, value)?, rest))
+    } else {
+        let (first, rest) = keyword_part(alloc, text, room, no_parts(alloc), leaves)?;
+        let (parts, rest) = keyword_parts(alloc, text, room, first, rest)?;
+        Ok((with_parts(cascade, parts)?, rest))
+    }
+}
+
+/// A cascade with one more message, behind its semicolon.
+#[cycle(reading)]
+#[tactic(auto, unfolding(st_grammar::specs::Reading::cascade_step))]
+fn next_message<'a>(
+    alloc: Global,
+    text: &[u8],
+    room: u32,
+    cascade: Expression,
+    leaves: &'a [Leaf],
+) -> Result<(Expression, &'a [Leaf]), ReadError>
+    ensures { Gives (λ x. (expression_view x.0, x.1.now)) result (cascade_step text.now (array_at text.now room) (bracket_at text.now room) (expression_view cascade) leaves.now) }
+{
+    let (_semicolon, rest) = token(&[Kind::Semicolon], leaves)?;
+    message(alloc, text, room, cascade, rest)
+}
+
+/// A cascade with all messages that follow it.
+#[cycle(reading)]
+#[tactic(auto, unfolding(st_grammar::specs::Reading::cascades_at))]
+fn next_messages<'a>(
+    alloc: Global,
+    text: &[u8],
+    room: u32,
+    first: Expression,
+    leaves: &'a [Leaf],
+) -> Result<(Expression, &'a [Leaf]), ReadError>
+    ensures { Gives (λ x. (expression_view x.0, x.1.now)) result (cascades_at text.now (array_at text.now room) (bracket_at text.now room) (expression_view first) leaves.now) }
+{
+    let mut cascade = first;
+    let mut rest = leaves;
+    while starts(&[Kind::Semicolon], rest) {
+        let (longer, after) = next_message(alloc, text, room, cascade, rest)?;
+        cascade = longer;
+        rest = after;
+    }
+    Ok((cascade, rest))
+}
+
+/// A receiver with the messages and the cascade that follow it, if a message does.
+#[cycle(reading)]
+#[tactic(auto, unfolding(st_grammar::specs::Reading::sends_at))]
+fn sends<'a>(
+    alloc: Global,
+    text: &[u8],
+    room: u32,
+    receiver: Expression,
+    leaves: &'a [Leaf],
+) -> Result<(Expression, &'a [Leaf]), ReadError>
+    ensures { Gives (λ x. (expression_view x.0, x.1.now)) result (sends_at text.now (array_at text.now room) (bracket_at text.now room) (expression_view receiver) leaves.now) }
+{
+    if !begins_message(leaves) {
+        return Ok((receiver, leaves));
+    }
+    let (sent, rest) = messages(alloc, text, room, receiver, leaves)?;
+    next_messages(alloc, text, room, sent, rest)
+}
+
+/// A keyword expression or a cascade.
+#[cycle(reading)]
+#[tactic(auto, unfolding(st_grammar::specs::Reading::cascade_at, st_grammar::specs::Reading::any_cascade_at))]
+fn cascade<'a>(
+    alloc: Global,
+    text: &[u8],
+    room: u32,
+    leaves: &'a [Leaf],
+) -> Result<(Expression, &'a [Leaf]), ReadError>
+    ensures { Gives (λ x. (expression_view x.0, x.1.now)) result (cascade_at text.now (array_at text.now room) (bracket_at text.now room) leaves.now) }
+{
+    let (receiver, rest) = primary(alloc, text, room, leaves)?;
+    let (sent, rest) = sends(alloc, text, room, receiver, rest)?;
+    checked(sent, rest)
+}
+
+/// An expression: assignments and a cascade.
+#[cycle(reading)]
+#[tactic(auto, unfolding(st_grammar::specs::Reading::expression_at))]
+fn expression<'a>(
+    alloc: Global,
+    text: &[u8],
+    room: u32,
+    leaves: &'a [Leaf],
+) -> Result<(Expression, &'a [Leaf]), ReadError>
+    ensures { Gives (λ x. (expression_view x.0, x.1.now)) result (expression_at text.now (array_at text.now room) (bracket_at text.now room) leaves.now) }
+{
+    let (names, rest) = targets(alloc, text, leaves)?;
+    let (value, rest) = cascade(alloc, text, room, rest)?;
+    Ok((assigned(alloc, names, value)?, rest))
+}
+
+/// Statements with one more, and the period behind it.
+#[cycle(reading)]
+#[tactic(auto, unfolding(st_grammar::specs::Reading::statement_step, st_grammar::specs::Reading::returned_at, st_grammar::specs::Reading::plain_at), using(st_tree::proofs::Views::views))]
+fn statement<'a>(
+    alloc: Global,
+    text: &[u8],
+    room: u32,
+    body: Body,
+    leaves: &'a [Leaf],
+) -> Result<(Body, &'a [Leaf]), ReadError>
+    ensures { Gives (λ x. (body_view x.0, x.1.now)) result (statement_step text.now (array_at text.now room) (bracket_at text.now room) (body_view body) leaves.now) }
+{
+    if starts(&[Kind::Return], leaves) {
+        let (_return, rest) = token(&[Kind::Return], leaves)?;
+        let (value, rest) = expression(alloc, text, room, rest)?;
+        let (_period, rest) = period(rest);
+        Ok((with_return(body.statements, value)?, rest))
+    } else {
+        let (value, rest) = expression(alloc, text, room, leaves)?;
+        let (goes_on, rest) = period(rest);
+        Ok((with_value(body.statements, value, goes_on)?, rest))
+    }
+}
+
+/// Statements with all that follow.
+#[cycle(reading)]
+#[tactic(auto, unfolding(st_grammar::specs::Reading::body_at))]
+fn all_statements<'a>(
+    alloc: Global,
+    text: &[u8],
+    room: u32,
+    first: Body,
+    leaves: &'a [Leaf],
+) -> Result<(Body, &'a [Leaf]), ReadError>
+    ensures { Gives (λ x. (body_view x.0, x.1.now)) result (body_at text.now (array_at text.now room) (bracket_at text.now room) (body_view first) leaves.now) }
+{
+    let mut body = first;
+    let mut rest = leaves;
+    while goes_on(&body, rest) {
+        let (longer, after) = statement(alloc, text, room, body, rest)?;
+        body = longer;
+        rest = after;
+    }
+    Ok((body, rest))
+}
+
+/// Statements, maybe none.
+#[cycle(reading)]
+#[tactic(auto, unfolding(st_grammar::specs::Reading::statements_at))]
+pub fn statements<'a>(
+    alloc: Global,
+    text: &[u8],
+    room: u32,
+    leaves: &'a [Leaf],
+) -> Result<(StatementList, &'a [Leaf]), ReadError>
+    ensures { Gives (λ x. (statements_view x.0.items, x.1.now)) result (statements_at text.now (array_at text.now room) (bracket_at text.now room) leaves.now) }
+{
+    let (body, rest) = all_statements(alloc, text, room, no_statements(alloc), leaves)?;
+    Ok((body.statements, rest))
+}
+
+/// A block behind its arguments.
+#[cycle(reading)]
+#[tactic(auto, unfolding(st_grammar::specs::Reading::argument_body_at), using(st_tree::proofs::Views::views))]
+fn behind_arguments<'a>(
+    alloc: Global,
+    text: &[u8],
+    room: u32,
+    names: NameList,
+    leaves: &'a [Leaf],
+) -> Result<(Expression, &'a [Leaf]), ReadError>
+    ensures { Gives (λ x. (expression_view x.0, x.1.now)) result (argument_body_at text.now (array_at text.now room) (bracket_at text.now room) (names_view names.items) leaves.now) }
+{
+    if starts(&[Kind::Bar], leaves) {
+        let (_bar, rest) = token(&[Kind::Bar], leaves)?;
+        let (body, rest) = statements(alloc, text, room, rest)?;
+        Ok((Expression::block(names, body), rest))
+    } else {
+        Ok((Expression::block(names, Vec::new(alloc)), leaves))
+    }
+}
+
+/// What is inside a block.
+#[cycle(reading)]
+#[tactic(auto, unfolding(st_grammar::specs::Reading::block_at, st_grammar::specs::Reading::argument_block_at, st_grammar::specs::Reading::plain_block_at), using(st_tree::proofs::Views::views))]
+fn block<'a>(
+    alloc: Global,
+    text: &[u8],
+    room: u32,
+    leaves: &'a [Leaf],
+) -> Result<(Expression, &'a [Leaf]), ReadError>
+    ensures { Gives (λ x. (expression_view x.0, x.1.now)) result (block_at text.now (array_at text.now room) (bracket_at text.now room) leaves.now) }
+{
+    if starts(&[Kind::Colon], leaves) {
+        let (first, rest) = parameter(alloc, text, Vec::new(alloc), leaves)?;
+        let (names, rest) = parameters(alloc, text, first, rest)?;
+        behind_arguments(alloc, text, room, names, rest)
+    } else {
+        let (body, rest) = statements(alloc, text, room, leaves)?;
+        Ok((Expression::block(Vec::new(alloc), body), rest))
+    }
+}

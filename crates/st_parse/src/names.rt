@@ -1,0 +1,99 @@
+//! Names: of variables, of those that are assigned to, and of a block's arguments.
+
+ghost use Rattle.std.specs.Prelude.{◌≡◌, IfOk, MatchOption};
+ghost use Rattle.st_tree.specs.Views.{name_view, names_view, expression_view};
+ghost use Rattle.st_grammar.specs.Trees.{name_at};
+ghost use Rattle.st_grammar.specs.Reading.{Gives, Fails, assigned_to, targets_at, parameters_step, parameters_at};
+ghost use Rattle.st_parse.specs.Phrases.{NoTarget, BeginsWithTarget};
+
+use crate::kinds::NAMES;
+use st_grammar::leaf::{Kind, Leaf, bytes_of};
+use st_grammar::read::{ReadError, is_among, starts, token};
+use st_tree::{Expression, Name, NameList};
+use std::alloc::{AllocError, Global};
+
+/// The name that a leaf is.
+pub fn name_of(alloc: Global, text: &[u8], leaf: Leaf) -> Result<Name, AllocError>
+    ensures { IfOk result (λ n. name_view n ≡ name_at text.now leaf) }
+{
+    let text = bytes_of(text, leaf.token).to_vec(alloc)?;
+    let place = leaf.place;
+    Ok(Name { text, place })
+}
+
+/// The name that stands first with an assignment behind it, and what is behind both.
+fn target(leaves: &[Leaf]) -> Option<(Leaf, &[Leaf])>
+    ensures { MatchOption result (NoTarget leaves.now) (λ x. BeginsWithTarget leaves.now x.0 x.1.now) }
+{
+    match leaves {
+        [name, assign, rest @ ..]
+            if is_among(&NAMES, *name) && is_among(&[Kind::Assign], *assign) => Some((*name, rest)),
+        _ => None,
+    }
+}
+
+/// The names that are assigned to, and what is behind them.
+#[tactic(auto, unfolding(st_grammar::specs::Reading::targets_at))]
+pub fn targets<'a>(
+    alloc: Global,
+    text: &[u8],
+    leaves: &'a [Leaf],
+) -> Result<(NameList, &'a [Leaf]), AllocError>
+    ensures { IfOk result (λ x. (names_view x.0.items, x.1.now) ≡ targets_at text.now leaves.now) }
+{
+    let mut names = Vec::new(alloc);
+    let mut rest = leaves;
+    while let Some((name, after)) = target(rest) {
+        names.push(name_of(alloc, text, name)?)?;
+        rest = after;
+    }
+    Ok((names, rest))
+}
+
+/// A value that is assigned to names, the last one first.
+pub fn assigned(alloc: Global, names: NameList, value: Expression) -> Result<Expression, AllocError>
+    ensures { IfOk result (λ e. expression_view e ≡ assigned_to (names_view names.items) (expression_view value)) }
+{
+    let mut names = names;
+    let mut value = value;
+    while let Some(name) = names.pop() {
+        value = Expression::assign(alloc, name, value)?;
+    }
+    Ok(value)
+}
+
+/// A block's arguments with one more.
+#[tactic(auto, unfolding(st_grammar::specs::Reading::parameters_step))]
+pub fn parameter<'a>(
+    alloc: Global,
+    text: &[u8],
+    mut names: NameList,
+    leaves: &'a [Leaf],
+) -> Result<(NameList, &'a [Leaf]), ReadError>
+    ensures { Gives (λ x. (names_view x.0.items, x.1.now)) result (parameters_step text.now (names_view names.items) leaves.now) }
+{
+    let (_colon, rest) = token(&[Kind::Colon], leaves)?;
+    let (leaf, rest) = token(&NAMES, rest)?;
+    names.push(name_of(alloc, text, leaf)?)?;
+    Ok((names, rest))
+}
+
+/// A block's arguments with all that follow.
+#[tactic(auto, unfolding(st_grammar::specs::Reading::parameters_at))]
+pub fn parameters<'a>(
+    alloc: Global,
+    text: &[u8],
+    first: NameList,
+    leaves: &'a [Leaf],
+) -> Result<(NameList, &'a [Leaf]), ReadError>
+    ensures { Gives (λ x. (names_view x.0.items, x.1.now)) result (parameters_at text.now (names_view first.items) leaves.now) }
+{
+    let mut names = first;
+    let mut rest = leaves;
+    while starts(&[Kind::Colon], rest) {
+        let (longer, after) = parameter(alloc, text, names, rest)?;
+        names = longer;
+        rest = after;
+    }
+    Ok((names, rest))
+}

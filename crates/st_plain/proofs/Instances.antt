@@ -1,0 +1,49 @@
+-- Which objects are instances of a class.
+use Rattle.std.proofs.Common.{◌≡◌, ◌≢◌, ℕ, ◌/◌, ◌%◌, Bool, true, false, ap, sym, ◌∙◌, arith, refl}
+use Rattle.std.specs.Prelude.{◌&&◌, ◌==◌}
+use Rattle.std.proofs.lemmas.Bool.Decides.{nat_tests}
+use Rattle.st_model.specs.Values.{Value, Small, Ref, value_of, is_small}
+use Rattle.st_model.specs.Table.{Table}
+use Rattle.st_model.specs.View.{is_live, object_of, is_instance}
+use Rattle.st_model.proofs.Pointers.{value_of-even, even_word}
+
+module _ (t : Table) where
+  pub gone_instance : (c v : Value) → is_live t v ≡ false → is_instance t c v ≡ false
+  unfolding is_instance
+  gone_instance (Small c) v h = refl
+  gone_instance (Ref c) v h = ap (λ b. b && ((object_of t v).class == c)) h
+
+  pub live_instance : (c v : Value) → is_live t v ≡ true → c ≡ Ref (object_of t v).class → is_instance t c v ≡ true
+  unfolding is_instance
+  live_instance (Small c) v h e = cc
+  live_instance (Ref c) v h e =
+      let same : (object_of t v).class ≡ c = cc in
+      let test : ((object_of t v).class == c) ≡ true = grind (arith, nat_tests) in
+      λ i. h i && test i
+
+  pub other_instance : (c d v : Value) → d ≡ Ref (object_of t v).class → d ≢ c → is_instance t c v ≡ false
+  unfolding is_instance
+  other_instance (Small c) d v e n = refl
+  other_instance (Ref c) d v e n =
+      let differ : (object_of t v).class ≢ c = λ q. n (e ∙ ap Ref q) in
+      let test : ((object_of t v).class == c) ≡ false = grind (arith, nat_tests) in
+      ap (λ b. is_live t v && b) test ∙ none (is_live t v)
+    where
+      none : (b : Bool) → (b && false) ≡ false
+      none true = refl
+      none false = refl
+
+-- two words that name the same object are the same
+pub same_word : (w u n : ℕ) → value_of w ≡ Ref n → value_of u ≡ Ref n → w ≡ u
+same_word w u n p q =
+    let first : is_small (value_of w) ≡ false = ap is_small p in
+    let second : is_small (value_of u) ≡ false = ap is_small q in
+    let a = value_of-even w first in
+    let b = value_of-even u second in
+    let half : w / 2 ≡ u / 2 = halves (sym a ∙ p) (sym b ∙ q) in
+    let even = even_word w first in
+    let even' = even_word u second in
+    omega (arith, half, even, even')
+  where
+    halves : {x y z : ℕ} → Ref x ≡ Ref z → Ref y ≡ Ref z → x ≡ y
+    halves e f = cc

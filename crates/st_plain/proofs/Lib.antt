@@ -1,0 +1,4 @@
+mod Beginning
+mod Instances
+pub mod Needing
+pub mod Room

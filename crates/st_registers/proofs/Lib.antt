@@ -1,5 +1,0 @@
-pub mod Doing
-pub mod SameWords
-pub mod Pages
-pub mod Homes
-pub mod CodeBytes

@@ -1,0 +1,104 @@
+ghost use Rattle.std.specs.Prelude.{◌≡◌, ◌<◌, ◌≤◌, ◌+◌, ◌≤ℤ◌, pos, negsuc};
+ghost use Rattle.st_model.specs.Outcomes.{end_of};
+ghost use Rattle.st_model.specs.Executing.{executed_if_any};
+ghost use Rattle.st_model.specs.Bytecodes.{short_unconditional_jump, long_offset, long_unconditional_jump, short_jump_on_false, long_jump_on_true, long_jump_on_false};
+ghost use Rattle.st_model.specs.Calls.{itself};
+ghost use Rattle.st_frames.specs.Rows.{RowMoves, RowDoes, Takes, bytecode_changes};
+
+use crate::execute::execute_if_any;
+use st_control::jump_on;
+use st_frames::{Registers, jump, next_byte};
+use st_memory::Objects;
+use st_model::{Dead, PageObject, StepEnd};
+
+/// Jumps by i plus 1.
+#[tactic(auto, using(st_frames::proofs::Doing::rows), unfolding(st_model::specs::Bytecodes::short_unconditional_jump))]
+pub fn short_unconditional_jump<O: Objects>(m: &O, r: &mut Registers, i: u8) -> Result<(), Dead>
+    requires number { i < 8 }
+    ensures does { RowMoves O.Objects.own (short_unconditional_jump i) itself m.now r.old result r.new }
+{
+    jump(m, r, i32::from(i) + 1)
+}
+
+/// How far a long jump goes: i less 4, times 256, plus the low byte.
+fn long_offset(i: u8, low: u8) -> i32
+    requires number { i < 8 }
+    ensures offset { result ≡ long_offset i low }
+    ensures least { negsuc 1023 ≤ℤ result }
+    ensures most { result ≤ℤ pos 1023 }
+{
+    (i32::from(i) - 4) * 256 + i32::from(low)
+}
+
+/// Jumps as far as i and the next byte say.
+#[tactic(auto, using(st_frames::proofs::Doing::rows), unfolding(st_model::specs::Bytecodes::long_unconditional_jump))]
+pub fn long_unconditional_jump<O: Objects>(m: &O, r: &mut Registers, i: u8) -> Result<(), Dead>
+    requires number { i < 8 }
+    ensures does { RowMoves O.Objects.own (long_unconditional_jump O.names i)
+        itself m.now r.old result r.new }
+{
+    let byte = next_byte(m, r)?;
+    jump(m, r, long_offset(i, byte))
+}
+
+/// Pops, and jumps on false by i plus 1.
+#[tactic(auto, using(st_frames::proofs::Doing::rows), unfolding(st_model::specs::Bytecodes::short_jump_on_false, st_model::specs::Executing::executed_if_any))]
+pub fn short_jump_on_false<O: Objects>(m: &mut O, r: &mut Registers, i: u8) -> Result<StepEnd, Dead>
+    requires number { i < 8 }
+    requires room { bytecode_changes ≤ O.room m.old }
+    ensures does { RowDoes O.Objects.own (executed_if_any O.names (short_jump_on_false O.names i))
+        end_of m.old r.old result m.new r.new }
+    ensures takes { Takes O.Objects.own bytecode_changes m.old m.new }
+{
+    let distance = u32::from(i) + 1;
+    let call = jump_on(
+        m,
+        r,
+        PageObject::FalseObject,
+        PageObject::TrueObject,
+        distance,
+    )?;
+    execute_if_any(m, r, call)
+}
+
+/// Pops, and jumps on true by i times 256 plus the next byte.
+#[tactic(auto, using(st_frames::proofs::Doing::rows), unfolding(st_model::specs::Bytecodes::long_jump_on_true, st_model::specs::Executing::executed_if_any))]
+pub fn long_jump_on_true<O: Objects>(m: &mut O, r: &mut Registers, i: u8) -> Result<StepEnd, Dead>
+    requires number { i < 4 }
+    requires room { bytecode_changes ≤ O.room m.old }
+    ensures does { RowDoes O.Objects.own (executed_if_any O.names (long_jump_on_true O.names i))
+        end_of m.old r.old result m.new r.new }
+    ensures takes { Takes O.Objects.own bytecode_changes m.old m.new }
+{
+    let byte = next_byte(m, r)?;
+    let distance = u32::from(i) * 256 + u32::from(byte);
+    let call = jump_on(
+        m,
+        r,
+        PageObject::TrueObject,
+        PageObject::FalseObject,
+        distance,
+    )?;
+    execute_if_any(m, r, call)
+}
+
+/// Pops, and jumps on false by i times 256 plus the next byte.
+#[tactic(auto, using(st_frames::proofs::Doing::rows), unfolding(st_model::specs::Bytecodes::long_jump_on_false, st_model::specs::Executing::executed_if_any))]
+pub fn long_jump_on_false<O: Objects>(m: &mut O, r: &mut Registers, i: u8) -> Result<StepEnd, Dead>
+    requires number { i < 4 }
+    requires room { bytecode_changes ≤ O.room m.old }
+    ensures does { RowDoes O.Objects.own (executed_if_any O.names (long_jump_on_false O.names i))
+        end_of m.old r.old result m.new r.new }
+    ensures takes { Takes O.Objects.own bytecode_changes m.old m.new }
+{
+    let byte = next_byte(m, r)?;
+    let distance = u32::from(i) * 256 + u32::from(byte);
+    let call = jump_on(
+        m,
+        r,
+        PageObject::FalseObject,
+        PageObject::TrueObject,
+        distance,
+    )?;
+    execute_if_any(m, r, call)
+}

@@ -1,0 +1,52 @@
+-- The first bytes of a roots file tell what the file chooses, or where it is wrong.
+use Rattle.std.proofs.Common.{◌≡◌, inl, inr, ⊎_elim, ℕ, ◌+◌, ◌%◌, ◌<◌, ◌≤◌, min, List, length, take, drop, slice_index, Option, Some, sym, subst, ◌∙◌, ap, arith, lit<, length-take}
+use Rattle.std.proofs.Math.Nat.{mod-lt}
+use Rattle.std.proofs.lemmas.List.{get_or-take, get_or-drop, get_or_past}
+use Rattle.std.proofs.lemmas.Bool.{cases_lt}
+use Rattle.st_outside.specs.Files.{bytes_of, IsRead}
+use Rattle.st_store.specs.Roots.{place, root_at, chosen_number, Chooses}
+use Rattle.st_store.specs.Refusals.{IsWrongFront}
+use Rattle.st_store.specs.declared.root.Root.{Root}
+use Rattle.st_store.proofs.Bytes.{root_same}
+
+module _ (file : List ℕ) (k : ℕ) (into : List ℕ) (long : length into ≡ 80) (read : IsRead file 0 k into) where
+  front_long : length (take k into) ≡ min 80 (length file)
+  front_long = omega (arith, length-take k into, read.count)
+
+  same : (i : ℕ) → i < 80 → slice_index (take k into) i ≡ slice_index file i
+  same i low = ⊎_elim
+      (λ within.
+      let there : 0 + i ≡ i = omega arith in
+      ap (λ (x : List ℕ). slice_index x i) read.bytes ∙ get_or-take k (drop 0 file) i 0 within ∙ get_or-drop 0 file i 0 ∙ ap (λ (j : ℕ). slice_index file j) there)
+      (λ past. get_or_past (take k into) i 0 (omega (arith, front_long, read.count)) ∙ sym (get_or_past file i 0 (omega (arith, read.count))))
+      (cases_lt i k)
+
+  pub chooses_front : (j : ℕ) (root : Root) (f : Option (List ℕ)) → bytes_of f ≡ file → j ≤ 1 → Chooses j root (Some (take k into)) → Chooses j root f
+  chooses_front j root f is one chosen =
+      let each : (i : ℕ) → i < 80 → slice_index (bytes_of f) i ≡ slice_index (take k into) i = λ i low. ap (λ (x : List ℕ). slice_index x i) is ∙ sym (same i low) in
+      record {
+        whole = record { long = omega (arith, chosen.whole.long, front_long, ap length is); letters = λ i low. each i (omega arith) ∙ chosen.whole.letters i low };
+        gate = ap (λ (x : ℕ). x % 2) (each 8 (lit< tt)) ∙ chosen.gate;
+        names = root_same (place j) (bytes_of f) (take k into) (λ i l u. each i (omega arith)) ∙ chosen.names;
+      }
+
+  pub wrong_front : (at : ℕ) → IsWrongFront (take k into) at → IsWrongFront file at
+  wrong_front at (inl letter) = inl (record {
+    below = letter.below;
+    right = λ i low. sym (same i (omega (arith, letter.below))) ∙ letter.right i low;
+    wrong = λ is. letter.wrong (same at (omega (arith, letter.below)) ∙ is);
+  })
+  wrong_front at (inr (inl early)) = inr (inl (record {
+    letters = λ i low. sym (same i (omega arith)) ∙ early.letters i low;
+    short = omega (arith, early.short, front_long);
+    end = omega (arith, early.end, early.short, front_long);
+  }))
+  wrong_front at (inr (inr slot)) =
+      let gate : chosen_number (take k into) ≡ chosen_number file = ap (λ (x : ℕ). x % 2) (same 8 (lit< tt)) in
+      let small : slice_index (take k into) 8 % 2 < 2 = mod-lt (slice_index (take k into) 8) (lit< tt) in
+      let root : root_at at (take k into) ≡ root_at at file = root_same at (take k into) file (λ i l u. same i (omega (arith, slot.place, small))) in
+      inr (inr (record {
+        whole = record { long = omega (arith, slot.whole.long, front_long); letters = λ i low. sym (same i (omega arith)) ∙ slot.whole.letters i low };
+        place = slot.place ∙ ap place gate;
+        above = subst (λ (r : Root). 1 < r.slot) root slot.above;
+      }))

@@ -1,0 +1,5 @@
+pub mod Bytes
+pub mod Others
+pub mod Turning
+pub mod Fronts
+pub mod Opening

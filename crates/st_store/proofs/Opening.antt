@@ -1,0 +1,149 @@
+-- What a stop leaves while a store is opened.
+use Rattle.std.proofs.Common.{◌≡◌, ◌⊎◌, inl, inr, ⊎_elim, ℕ, ◌≤◌, List, length, Option, IsTrue, refl, sym, subst, ◌∙◌, arith}
+use Rattle.std.specs.Prelude.{Result}
+use Rattle.st_outside.specs.Files.{Files, bytes_of}
+use Rattle.st_outside.specs.Stops.{Here}
+use Rattle.st_outside.specs.Runs.{LeavesOnly, Narrows, NarrowsBut, Changes, ReadsAlike, IsSynced, Makes}
+use Rattle.st_outside.specs.declared.host.Host.{Ghosts}
+use Rattle.st_outside.proofs.Joining.{weaker, moments_join, alike_join, synced_on}
+use Rattle.st_outside.proofs.Touching.{narrows_but, changes_but, but_join}
+use Rattle.st_store.specs.Names.{roots_file, changes_file, image_file}
+use Rattle.st_store.specs.Roots.{Chooses}
+use Rattle.st_store.specs.Refusals.{Fit, RefusesFront, RefusesNumbers, Refuses}
+use Rattle.st_store.specs.Stored.{Stored, Begins, Opens, IsChosen, IsReady, OpensAsOne, stored_in}
+use Rattle.st_store.specs.declared.root.Root.{Root}
+use Rattle.st_store.specs.declared.fault.StorePlace.TheVariants.{Roots, Changes as ChangesPlace}
+use Rattle.st_store.specs.declared.fault.StoreFault.{StoreFault}
+use Rattle.st_store.specs.declared.fault.StoreFault.TheVariants.{Missing, Exists, NotAStore, Disk, OutOfMemory}
+use Rattle.st_store.proofs.Turning.{opens_as, rests}
+
+pub front_refuses : (name : List ℕ) (f : Files) (e : StoreFault) → RefusesFront (f (roots_file name)) e → Refuses name f e
+front_refuses name f Missing why = why
+front_refuses name f Exists why = why
+front_refuses name f (NotAStore (Roots at)) why = inl why
+front_refuses name f (NotAStore (ChangesPlace at)) why = why
+front_refuses name f Disk why = tt
+front_refuses name f OutOfMemory why = tt
+
+pub numbers_refuse : (name : List ℕ) (f : Files) (k : ℕ) (root : Root) (e : StoreFault) → Chooses k root (f (roots_file name)) → root.slot ≤ 1
+    → RefusesNumbers k root (length (bytes_of (f (image_file name root.slot)))) (length (bytes_of (f (changes_file name)))) e → Refuses name f e
+numbers_refuse name f k root Missing chosen slot why = absurd why
+numbers_refuse name f k root Exists chosen slot why = why
+numbers_refuse name f k root (NotAStore (Roots at)) chosen slot why = inr (record { number = k; root = root; chosen = chosen; slot = slot; wrong = why })
+numbers_refuse name f k root (NotAStore (ChangesPlace at)) chosen slot why = why
+numbers_refuse name f k root Disk chosen slot why = tt
+numbers_refuse name f k root OutOfMemory chosen slot why = tt
+
+pub stored_same : (name : List ℕ) (root : Root) (f g : Files) → ((n : List ℕ) → f n ≡ g n) → stored_in name f root ≡ stored_in name g root
+stored_same name root f g same = λ i. stored_in name (λ n. same n i) root
+
+-- what is tested opens
+pub tested_opens : (name : List ℕ) (f : Files) (k : ℕ) (root : Root) → Chooses k root (f (roots_file name)) → root.slot ≤ 1
+    → Fit root (length (bytes_of (f (image_file name root.slot)))) (length (bytes_of (f (changes_file name)))) → Opens name (stored_in name f root) f
+tested_opens name f k root chosen slot fit = record {
+  number = k;
+  chosen = chosen;
+  sound = record { slot = slot; base = fit.base; limit = fit.limit };
+  image = record { long = fit.fits; is = refl };
+  changes = record { long = fit.length; is = refl };
+}
+
+module _ {D : Type 0} (host : Ghosts D) (name : List ℕ) where
+  -- what opens is chosen, once a stop leaves just what is read
+  pub looked : (m : D) (root : Root) (k : ℕ) → IsTrue host.is_told → k ≤ 1 → Chooses k root (host.files m (roots_file name)) → Opens name (stored_in name (host.files m) root) (host.files m)
+      → IsSynced host (roots_file name) m → IsSynced host (image_file name root.slot) m → IsSynced host (changes_file name) m
+      → IsChosen host m name k (stored_in name (host.files m) root)
+  looked m root k told one chosen opens roots image changes =
+      let c = stored_in name (host.files m) root in
+      record {
+        which = one;
+        roots = λ x can. subst (λ (y : Option (List ℕ)). Chooses k root y) (sym (roots.is told x can)) chosen;
+        firm = record {
+          sound = opens.sound;
+          image = λ x can. subst (λ (y : Option (List ℕ)). Begins root.image_length c.image y) (sym (image.is told x can)) opens.image;
+          changes = λ x can. subst (λ (y : Option (List ℕ)). Begins root.length c.changes y) (sym (changes.is told x can)) opens.changes;
+        };
+      }
+
+  -- the same by the names that the code has, and seen from where the opening began
+  pub looked_at : (a b m : D) (r im ch : List ℕ) (root : Root) (k : ℕ) → IsTrue host.is_told → r ≡ roots_file name → im ≡ image_file name root.slot → ch ≡ changes_file name
+      → k ≤ 1 → root.slot ≤ 1 → Chooses k root (host.files a r) → IsSynced host r b → ReadsAlike host a b → Narrows host b m → ReadsAlike host b m
+      → Fit root (length (bytes_of (host.files b im))) (length (bytes_of (host.files b ch))) → IsSynced host im m → IsSynced host ch m
+      → IsChosen host m name k (stored_in name (host.files a) root)
+  looked_at a b m r im ch root k told is_roots is_image is_changes one slot chooses roots alike narrows still fit image changes =
+      let roots_name = roots_file name in
+      let image_name = image_file name root.slot in
+      let changes_name = changes_file name in
+      let whole = alike_join host a b m alike still in
+      let chosen : Chooses k root (host.files m roots_name) =
+      subst (λ (x : Option (List ℕ)). Chooses k root x) (sym (whole.same told roots_name)) (subst (λ (x : List ℕ). Chooses k root (host.files a x)) is_roots chooses) in
+      let at_names : Fit root (length (bytes_of (host.files b image_name))) (length (bytes_of (host.files b changes_name))) =
+      subst (λ (x : List ℕ). Fit root (length (bytes_of (host.files b image_name))) (length (bytes_of (host.files b x)))) is_changes
+      (subst (λ (x : List ℕ). Fit root (length (bytes_of (host.files b x))) (length (bytes_of (host.files b ch)))) is_image fit) in
+      let fits : Fit root (length (bytes_of (host.files m image_name))) (length (bytes_of (host.files m changes_name))) =
+      subst (λ (x : Option (List ℕ)). Fit root (length (bytes_of (host.files m image_name))) (length (bytes_of x))) (sym (still.same told changes_name))
+      (subst (λ (x : Option (List ℕ)). Fit root (length (bytes_of x)) (length (bytes_of (host.files b changes_name)))) (sym (still.same told image_name)) at_names) in
+      subst (λ (x : Stored). IsChosen host m name k x) (stored_same name root (host.files m) (host.files a) (λ n. whole.same told n))
+      (looked m root k told one chosen (tested_opens name (host.files m) k root chosen slot fits)
+      (synced_on host roots_name b m (subst (λ (x : List ℕ). IsSynced host x b) is_roots roots) narrows still)
+      (subst (λ (x : List ℕ). IsSynced host x m) is_image image)
+      (subst (λ (x : List ℕ). IsSynced host x m) is_changes changes))
+
+  -- a number that is wrong for the files as the code names them
+  pub refused_at : (a b : D) (r im ch : List ℕ) (root : Root) (k : ℕ) (e : StoreFault) → IsTrue host.is_told → r ≡ roots_file name → im ≡ image_file name root.slot → ch ≡ changes_file name
+      → root.slot ≤ 1 → Chooses k root (host.files a r) → ReadsAlike host a b
+      → RefusesNumbers k root (length (bytes_of (host.files b im))) (length (bytes_of (host.files b ch))) e → Refuses name (host.files a) e
+  refused_at a b r im ch root k e told is_roots is_image is_changes slot chooses alike why =
+      let image_name = image_file name root.slot in
+      let changes_name = changes_file name in
+      let at_names : RefusesNumbers k root (length (bytes_of (host.files b image_name))) (length (bytes_of (host.files b changes_name))) e =
+      subst (λ (x : List ℕ). RefusesNumbers k root (length (bytes_of (host.files b image_name))) (length (bytes_of (host.files b x))) e) is_changes
+      (subst (λ (x : List ℕ). RefusesNumbers k root (length (bytes_of (host.files b x))) (length (bytes_of (host.files b ch))) e) is_image why) in
+      numbers_refuse name (host.files a) k root e (subst (λ (x : List ℕ). Chooses k root (host.files a x)) is_roots chooses) slot
+      (subst (λ (x : Option (List ℕ)). RefusesNumbers k root (length (bytes_of (host.files a image_name))) (length (bytes_of x)) e) (alike.same told changes_name)
+      (subst (λ (x : Option (List ℕ)). RefusesNumbers k root (length (bytes_of x)) (length (bytes_of (host.files b changes_name))) e) (alike.same told image_name) at_names))
+
+  -- no call
+  pub narrows_none : (a : D) → (IsTrue host.is_told → (f : Files) (s : List ℕ) → host.left_since a (host.moment a) f s → Here (host.may_leave a) (host.said a) f s) → Narrows host a a
+  narrows_none a only_now = record {
+    disk = omega arith;
+    say = refl;
+    alike = λ calm. record { same = λ told n. refl };
+    quiet = λ told. refl;
+    fewer = λ told n c can. can;
+    moments = λ told. record { later = omega arith; each = only_now told; before = λ t f s le left. inl left };
+  }
+
+  -- reads and syncs, and then changes to the roots file
+  pub but_roots : (a m d : D) → Narrows host a m → Changes host (roots_file name) m d → NarrowsBut host (roots_file name) a d
+  but_roots a m d narrows changes = but_join host (roots_file name) a m d (narrows_but host (roots_file name) a m narrows) (changes_but host (roots_file name) m d changes)
+
+  -- before anything is written
+  ready_here : (a : D) → IsReady host a name → (f : Files) (s : List ℕ) → Here (host.may_leave a) (host.said a) f s → (s ≡ host.said a) × OpensAsOne host a name f
+  ready_here a ready f s here =
+      let one = ready (f (roots_file name)) (here.0 (roots_file name)) in
+      let opens = opens_as host name a one.1 f one.0 one.3 (λ n other. here.0 n) one.2 in
+      (here.1, record { is = one.1; were = f; could = here.0; was = opens; now = opens })
+
+  pub only_looked : (a c : D) → IsTrue host.is_told → IsReady host a name → Narrows host a c → LeavesOnly host a c (λ f s. (s ≡ host.said a) × OpensAsOne host a name f)
+  only_looked a c told ready narrows = weaker host a c (λ f s. (s ≡ host.said a) × OpensAsOne host a name f) (Here (host.may_leave a) (host.said a)) (narrows.moments told) (ready_here a ready)
+
+  -- all the moments of an opening
+  pub opened : {R E : Type 0} (a m d : D) (c : Stored) (k : ℕ) (result : Result R E) → IsTrue host.is_told → IsReady host a name → Narrows host a m
+      → ((n : List ℕ) → host.may_leave m n (host.files m n)) → IsChosen host m name k c
+      → Makes host (Opens name) c c m d result
+      → LeavesOnly host a d (λ f s. (s ≡ host.said a) × OpensAsOne host a name f)
+  opened a m d c k result told ready narrows reads chosen makes =
+      moments_join host a m d (λ f s. (s ≡ host.said a) × OpensAsOne host a name f) (λ f s. (s ≡ host.said m) × (Opens name c f ⊎ Opens name c f))
+      (only_looked a m told ready narrows)
+      makes.moments
+      (λ f s so. (
+        so.0 ∙ narrows.quiet told,
+        record {
+          is = c;
+          were = host.files m;
+          could = λ n. narrows.fewer told n (host.files m n) (reads n);
+          was = rests host name m k c (host.files m) chosen reads;
+          now = ⊎_elim (λ x. x) (λ x. x) so.1;
+        },
+      ))

@@ -1,0 +1,4 @@
+pub mod Names
+pub mod Roots
+pub mod Stored
+pub mod Refusals

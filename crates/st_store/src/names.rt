@@ -1,0 +1,64 @@
+// The names of a store's files, which are made when it is opened.
+ghost use Rattle.std.specs.Prelude.{◌≡◌, ◌≤◌, ◌++◌, IfOk, string_bytes};
+ghost use Rattle.st_store.specs.Names.{roots_file, changes_file, image_file};
+
+use std::alloc::{AllocError, Global};
+
+#[derive(Drop)]
+pub(crate) struct Names {
+    name: String,
+    roots: String,
+    image_a: String,
+    image_b: String,
+    changes: String,
+    pub ghost roots_is: { string_bytes roots ≡ roots_file (string_bytes name) },
+    pub ghost image_a_is: { string_bytes image_a ≡ image_file (string_bytes name) 0 },
+    pub ghost image_b_is: { string_bytes image_b ≡ image_file (string_bytes name) 1 },
+    pub ghost changes_is: { string_bytes changes ≡ changes_file (string_bytes name) },
+}
+
+impl Names {
+    pub(crate) fn new(alloc: Global, name: &str) -> Result<Names, AllocError>
+        ensures { IfOk result (λ names. string_bytes names.name ≡ name.now) }
+    {
+        Ok(Names {
+            name: joined(alloc, name, "")?,
+            roots: joined(alloc, name, ".roots")?,
+            image_a: joined(alloc, name, ".a")?,
+            image_b: joined(alloc, name, ".b")?,
+            changes: joined(alloc, name, ".changes")?,
+        })
+    }
+
+    pub(crate) fn roots(&self) -> &str
+        ensures { result.now ≡ roots_file (string_bytes self.now.name) }
+    {
+        self.roots.as_str()
+    }
+
+    pub(crate) fn changes(&self) -> &str
+        ensures { result.now ≡ changes_file (string_bytes self.now.name) }
+    {
+        self.changes.as_str()
+    }
+
+    pub(crate) fn image(&self, slot: u64) -> &str
+        requires { slot ≤ 1 }
+        ensures { result.now ≡ image_file (string_bytes self.now.name) slot }
+    {
+        if slot == 0 {
+            self.image_a.as_str()
+        } else {
+            self.image_b.as_str()
+        }
+    }
+}
+
+fn joined(alloc: Global, name: &str, end: &str) -> Result<String, AllocError>
+    ensures { IfOk result (λ s. string_bytes s ≡ name.now ++ end.now) }
+{
+    let mut s = String::new(alloc);
+    s.push_str(name)?;
+    s.push_str(end)?;
+    Ok(s)
+}

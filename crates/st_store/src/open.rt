@@ -1,0 +1,131 @@
+// Opening a store, in steps of a few calls.
+ghost use Rattle.std.specs.Prelude.{◌≡◌, ◌≤◌, ◌<◌, ◌+◌, ◌^◌, ℕ, List, IsTrue, IfOk, IfErr, OnOk, MatchOption, Option, length, string_bytes};
+ghost use Rattle.st_outside.specs.Files.{Files, bytes_of};
+ghost use Rattle.st_outside.specs.Runs.{LeavesOnly, ReadsAlike, Narrows, NarrowsBut, IsSynced};
+ghost use Rattle.st_store.specs.Names.{roots_file};
+ghost use Rattle.st_store.specs.Roots.{Chooses};
+ghost use Rattle.st_store.specs.Refusals.{IsWrongNumber, Fit, RefusesFront, RefusesNumbers, Refuses, FaultHasCause};
+ghost use Rattle.st_store.specs.Stored.{Opens, IsKept, IsReady, OpensAsOne, stored_in};
+ghost use Rattle.st_store.specs.declared.fault.StoreFault.TheVariants.{NotAStore, Disk};
+ghost use Rattle.st_store.specs.declared.fault.StorePlace.TheVariants.{Roots};
+
+use crate::front::{Chosen, choose};
+use crate::names::Names;
+use crate::steps::{stage, turn};
+use crate::{Store, StoreFault, StorePlace};
+use st_outside::{Host, file_length, read_from, sync_file};
+use std::alloc::Global;
+
+fn damaged(at: u64) -> StoreFault
+    ensures { result ≡ NotAStore (Roots at) }
+{
+    StoreFault::NotAStore {
+        place: StorePlace::Roots(at),
+    }
+}
+
+/// Syncs the roots file, and reads the root that it chooses.
+#[tactic(auto, using(st_outside::proofs::Joining::reads_narrow, st_outside::proofs::Joining::narrows_join, st_outside::proofs::Joining::alike_join))]
+fn look<H: Host>(host: &mut H, roots: &str) -> Result<Chosen, StoreFault>
+    ensures number { IfOk result (λ r. r.number ≤ 1) }
+    ensures slot { IfOk result (λ r. r.root.slot ≤ 1) }
+    ensures chooses { IfOk result (λ r. IsTrue H.is_told → Chooses r.number r.root (H.files host.old roots.now)) }
+    ensures refused { IfErr result (λ e. IsTrue H.is_told → RefusesFront (H.files host.old roots.now) e) }
+    ensures synced { OnOk result (IsSynced H.Host.own roots.now host.new) }
+    ensures alike { OnOk result (ReadsAlike H.Host.own host.old host.new) }
+    ensures narrows { Narrows H.Host.own host.old host.new }
+    ensures cause { FaultHasCause (H.disk_faults host.old) (H.disk_faults host.new) result }
+{
+    sync_file(host, roots)?;
+    let length = file_length(host, roots)?;
+    let mut front = [0; 80];
+    let count = read_from(host, roots, 0, &mut front)?;
+    if length.is_none() {
+        return Err(StoreFault::Missing);
+    }
+    match choose(&front[..count]) {
+        Ok(chosen) => Ok(chosen),
+        Err(at) => Err(damaged(at)),
+    }
+}
+
+/// The first number of a root that is wrong for an image file and a changes file of these lengths.
+fn find_wrong_number(chosen: &Chosen, image: u64, changes: u64) -> Option<u64>
+    requires { chosen.now.number ≤ 1 }
+    ensures { MatchOption result (Fit chosen.now.root image changes) (λ at. IsWrongNumber chosen.now.number chosen.now.root image changes at) }
+{
+    let Chosen { number, root } = chosen;
+    let place = 16 + 32 * number;
+    if root.image_length > image {
+        return Some(place + 8);
+    }
+    if root.base > root.length {
+        return Some(place + 16);
+    }
+    if root.length > changes || root.length > 1 << 30 {
+        return Some(place + 24);
+    }
+    None
+}
+
+/// Syncs the files that a root names, and tests it against their lengths.
+#[tactic(auto, using(st_outside::proofs::Joining::reads_narrow, st_outside::proofs::Joining::narrows_join, st_outside::proofs::Joining::alike_join, st_outside::proofs::Joining::synced_on))]
+fn make_firm<H: Host>(
+    host: &mut H,
+    image: &str,
+    changes: &str,
+    chosen: &Chosen,
+) -> Result<(), StoreFault>
+    requires { chosen.now.number ≤ 1 }
+    ensures fit { OnOk result (IsTrue H.is_told → Fit chosen.now.root (length (bytes_of (H.files host.old image.now))) (length (bytes_of (H.files host.old changes.now)))) }
+    ensures refused { IfErr result (λ e. IsTrue H.is_told
+        → RefusesNumbers chosen.now.number chosen.now.root (length (bytes_of (H.files host.old image.now))) (length (bytes_of (H.files host.old changes.now))) e) }
+    ensures image { OnOk result (IsSynced H.Host.own image.now host.new) }
+    ensures changes { OnOk result (IsSynced H.Host.own changes.now host.new) }
+    ensures alike { OnOk result (ReadsAlike H.Host.own host.old host.new) }
+    ensures narrows { Narrows H.Host.own host.old host.new }
+    ensures cause { FaultHasCause (H.disk_faults host.old) (H.disk_faults host.new) result }
+{
+    sync_file(host, image)?;
+    sync_file(host, changes)?;
+    let image_length = file_length(host, image)?.unwrap_or(0);
+    let length = file_length(host, changes)?.unwrap_or(0);
+    match find_wrong_number(chosen, image_length, length) {
+        Some(at) => Err(damaged(at)),
+        None => Ok(()),
+    }
+}
+
+/// Opens the store of this name. It syncs what it reads before it tests it. Then it writes the root that isn't chosen as
+/// a copy of the chosen one, and the gate afresh. A refusal writes nothing.
+pub fn open_store<H: Host>(alloc: Global, host: &mut H, name: &str) -> Result<Store, StoreFault>
+    ensures named { IfOk result (λ store. store.name ≡ name.now) }
+    ensures opens { IfOk result (λ store. IsTrue H.is_told → Opens name.now (stored_in name.now (H.files host.old) store.root) (H.files host.old)) }
+    ensures kept { IfOk result (λ store. IsTrue H.is_told → IsKept H.Host.own host.new store (stored_in name.now (H.files host.old) store.root)) }
+    ensures refused { IfErr result (λ e. IsTrue H.is_told → Refuses name.now (H.files host.old) e) }
+    ensures writes_nothing { IfErr result (λ e. (e ≡ Disk → ⊥) → Narrows H.Host.own host.old host.new) }
+
+    // A stop at any moment leaves files that open as some that a stop before the call could leave.
+    ensures moments { IsTrue H.is_told → IsReady H.Host.own host.old name.now
+        → LeavesOnly H.Host.own host.old host.new (λ f s. (s ≡ H.said host.old) × OpensAsOne H.Host.own host.old name.now f) }
+
+    ensures only { NarrowsBut H.Host.own (roots_file name.now) host.old host.new }
+    ensures cause { FaultHasCause (H.disk_faults host.old) (H.disk_faults host.new) result }
+{
+    let names = Names::new(alloc, name)?;
+    let chosen = look(host, names.roots())?;
+    make_firm(
+        host,
+        names.image(chosen.root.slot),
+        names.changes(),
+        &chosen,
+    )?;
+    let Chosen { number, root } = chosen;
+    stage(host, &names, number, &root)?;
+    turn(host, &names, number)?;
+    Ok(Store {
+        names,
+        chosen: number,
+        root,
+    })
+}

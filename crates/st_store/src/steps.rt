@@ -1,0 +1,55 @@
+// The two steps of a commit, which opening takes too: the other root, and the gate.
+ghost use Rattle.std.specs.Prelude.{◌≡◌, ◌≤◌, ◌-◌, ℕ, List, IsTrue, OnOk, string_bytes};
+ghost use Rattle.st_outside.specs.Counts.{HasCause};
+ghost use Rattle.st_outside.specs.Runs.{Makes, Changes};
+ghost use Rattle.st_store.specs.Names.{roots_file};
+ghost use Rattle.st_store.specs.Stored.{Stored, Opens, IsFirm, IsChosen, IsStaged};
+
+use crate::Root;
+use crate::names::Names;
+use crate::root::bytes_of_root;
+use st_outside::{Host, HostFault, write_synced};
+
+/// Writes the root that isn't chosen, and syncs it. At each moment the chosen one stays.
+pub(crate) fn stage<H: Host>(
+    host: &mut H,
+    names: &Names,
+    chosen: u64,
+    root: &Root,
+) -> Result<(), HostFault>
+    requires { chosen ≤ 1 }
+    ensures makes { let name = string_bytes names.now.name in (c d : Stored) → IsTrue H.is_told
+        → IsChosen H.Host.own host.old name chosen c → IsFirm H.Host.own host.old name d → d.root ≡ root.now
+        → Makes H.Host.own (Opens name) c c host.old host.new result }
+    ensures staged { OnOk result (let name = string_bytes names.now.name in (c d : Stored) → IsTrue H.is_told
+        → IsChosen H.Host.own host.old name chosen c → IsFirm H.Host.own host.old name d → d.root ≡ root.now
+        → IsStaged H.Host.own host.new name chosen c d) }
+    ensures changes { Changes H.Host.own (roots_file (string_bytes names.now.name)) host.old host.new }
+    ensures cause { HasCause (H.disk_faults host.old) (H.disk_faults host.new) result }
+{
+    let bytes = bytes_of_root(root);
+    write_synced(host, names.roots(), 16 + 32 * (1 - chosen), &bytes)?;
+    Ok(())
+}
+
+/// Writes the gate, and syncs it. At each moment either root is chosen.
+pub(crate) fn turn<H: Host>(host: &mut H, names: &Names, gate: u64) -> Result<(), HostFault>
+    requires { gate ≤ 1 }
+    // in a commit
+    ensures makes { let name = string_bytes names.now.name in (k : ℕ) (c d : Stored) → IsTrue H.is_told
+        → gate ≡ 1 - k → IsStaged H.Host.own host.old name k c d → Makes H.Host.own (Opens name) c d host.old host.new result }
+    ensures other { OnOk result (let name = string_bytes names.now.name in (k : ℕ) (c d : Stored) → IsTrue H.is_told
+        → gate ≡ 1 - k → IsStaged H.Host.own host.old name k c d → IsChosen H.Host.own host.new name gate d) }
+
+    // in opening, where both roots are one
+    ensures keeps { let name = string_bytes names.now.name in (c : Stored) → IsTrue H.is_told
+        → IsStaged H.Host.own host.old name gate c c → Makes H.Host.own (Opens name) c c host.old host.new result }
+    ensures same { OnOk result (let name = string_bytes names.now.name in (c : Stored) → IsTrue H.is_told
+        → IsStaged H.Host.own host.old name gate c c → IsChosen H.Host.own host.new name gate c) }
+
+    ensures changes { Changes H.Host.own (roots_file (string_bytes names.now.name)) host.old host.new }
+    ensures cause { HasCause (H.disk_faults host.old) (H.disk_faults host.new) result }
+{
+    write_synced(host, names.roots(), 8, &[gate as u8])?;
+    Ok(())
+}

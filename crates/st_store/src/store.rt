@@ -1,0 +1,73 @@
+// A store that is open.
+ghost use Rattle.std.specs.Prelude.{◌≡◌, ◌≤◌, ◌-◌, ℕ, List, IsTrue, IfOk};
+ghost use Rattle.st_outside.specs.Counts.{HasCause};
+ghost use Rattle.st_store.specs.Names.{roots_file, image_file};
+
+use crate::Root;
+use crate::names::Names;
+use crate::steps::{stage, turn};
+use st_outside::{Host, HostFault};
+use std::marker::Model;
+
+/// A store that is open: its name, the number of the root that its gate chooses, and this root.
+#[derive(Drop)]
+pub struct Store {
+    pub(crate) names: Names,
+    pub(crate) chosen: u64,
+    pub(crate) root: Root,
+}
+
+impl Model for Store {
+    ghost use Rattle.std.specs.Prelude.{◌≤◌, string_bytes};
+    ghost use Rattle.st_store.specs.Stored.{StoreState};
+
+    ghost Value = { StoreState };
+
+    ghost view = { λ s. record { name = string_bytes s.names.name; chosen = s.chosen; root = s.root } };
+
+    ghost invariant = { λ s. s.chosen ≤ 1 };
+}
+
+impl Store {
+    ghost use Rattle.st_outside.specs.Runs.{Makes, Changes};
+    ghost use Rattle.st_store.specs.Stored.{Stored, Opens, IsFirm, IsKept};
+
+    /// The chosen root.
+    pub fn root(&self) -> Root
+        ensures { result ≡ self.now.root }
+    {
+        self.root
+    }
+
+    /// The name of an image file, `.a` for slot 0 and `.b` for slot 1.
+    pub fn image_name(&self, slot: u64) -> &str
+        requires { slot ≤ 1 }
+        ensures { result.now ≡ image_file self.now.name slot }
+    {
+        self.names.image(slot)
+    }
+
+    /// Makes this root the chosen one: whole, or not at all. What it names has to be firm, and the store at rest. After
+    /// an error the store is opened again.
+    pub fn commit<H: Host>(self, host: &mut H, root: Root) -> Result<Store, HostFault>
+        ensures store { IfOk result (λ store. store ≡ record { name = self.name; chosen = 1 - self.chosen; root = root }) }
+
+        // A stop at any moment leaves files that open as before or as the new root.
+        ensures makes { (c d : Stored) → IsTrue H.is_told → IsKept H.Host.own host.old self c
+            → IsFirm H.Host.own host.old self.name d → d.root ≡ root → Makes H.Host.own (Opens self.name) c d host.old host.new result }
+        ensures kept { IfOk result (λ store. (c d : Stored) → IsTrue H.is_told → IsKept H.Host.own host.old self c
+            → IsFirm H.Host.own host.old self.name d → d.root ≡ root → IsKept H.Host.own host.new store d) }
+
+        ensures changes { Changes H.Host.own (roots_file self.name) host.old host.new }
+        ensures cause { HasCause (H.disk_faults host.old) (H.disk_faults host.new) result }
+    {
+        let other = 1 - self.chosen;
+        stage(host, &self.names, self.chosen, &root)?;
+        turn(host, &self.names, other)?;
+        Ok(Store {
+            names: self.names,
+            chosen: other,
+            root,
+        })
+    }
+}

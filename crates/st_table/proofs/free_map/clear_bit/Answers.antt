@@ -1,0 +1,15 @@
+use Rattle.std.proofs.Common.{◌/◌, ◌%◌, w64, ap, ◌∙◌, arith}
+use Rattle.std.specs.Int.{bit_at}
+use Rattle.std.proofs.lemmas.Nat.Bits.{bit_at_clear_same, bit_at_clear_other}
+use Rattle.st_table.proofs.Search.{marked_same, marked_other, read_any}
+use Rattle.st_table.proofs.free_map.clear_bit.Goals as goal
+
+pub returns-clause-clear : goal.returns-clause-clear
+returns-clause-clear c =
+    let ws = c.args.words.now.items in let k = c.args.k in let within = c.requires in
+    marked_same ws k _ _ (omega (arith, within)) (bit_at_clear_same w64 c.index_mut.result.now (k % 64) (omega arith))
+
+pub returns-clause-others : goal.returns-clause-others
+returns-clause-others c i ne =
+    let ws = c.args.words.now.items in let k = c.args.k in let within = c.requires in
+    marked_other ws k _ i (omega (arith, within)) ne (λ r low other. bit_at_clear_other w64 c.index_mut.result.now (k % 64) (omega arith) r low other ∙ ap (λ w. bit_at w r) (c.index_mut.ensures.value ∙ read_any ws (k / 64) _ 0 (omega (arith, within))))
