@@ -2,7 +2,7 @@ use Rattle.std.proofs.Common.{Ok, ap, ◌∙◌}
 use Rattle.st_model.specs.Machine.{used}
 use Rattle.st_model.specs.Table.{table}
 use Rattle.st_model.specs.View.{View}
-use Rattle.st_memory.specs.Drafts.{draft_table}
+use Rattle.st_memory.specs.Noted.{drafted}
 use Rattle.st_frames.specs.Shown.{shown}
 use Rattle.st_step.proofs.Stepped.{loaded_as, used_after, plan_goes, plan_unbuilt, plan_dies}
 use Rattle.st_step.proofs.stepping.plan.Goals as goal
@@ -16,7 +16,7 @@ returns-in-Ok-Did g c =
     let base = ap (λ (x : View). x.objects) (c.step_row.ensures.takes.fixed ∙ new.fixed) in
     record {
       plans = plan_goes (used table v.objects) (shown v c.args.f.now) _ _ _ _ c.step_row.result same c.step_row.ensures.does c.in-Ok-Did.field-0-0 c.demand.result (c.in-Ok-Did.is ∙ ap (λ x. Ok x) c.in-Ok-Did.field-0-is)
-          (used_after (draft_table (g.M.Memory.view c.step_row.new.m.base.now).objects c.step_row.new.m.made c.step_row.new.m.made_count c.step_row.new.m.changes c.step_row.new.m.count) (g.M.Memory.view c.step_row.new.m.base.now).objects v.objects c.demand.result base demand.entries demand.words);
+          (used_after (drafted (g.M.Memory.view c.step_row.new.m.base.now).objects c.step_row.new.m.notes c.step_row.new.m.exchanges) (g.M.Memory.view c.step_row.new.m.base.now).objects v.objects c.demand.result base demand.entries demand.words);
     }
 
 pub returns-in-Ok-NotBuilt : goal.returns-in-Ok-NotBuilt
