@@ -80,10 +80,13 @@ module _ {D : Type 0} (host : Ghosts D) (name : List ℕ) where
       let roots = roots_file name in
       moments_join host a b c (λ f s. (s ≡ host.said a) × IsCleared host name a f) (Touched host (TornByCut (host.files b roots) 0) roots b)
       (while_looked a b told narrows) (cuts.run.moments told)
-      (λ f s so. (so.quiet ∙ narrows.quiet told, inr (came (host.may_leave b roots) (TornByCut (host.files b roots) 0) IsNoStore (f roots)
-      (λ d could torn. cut_none (host.files b roots) d (f roots)
-      (λ letters. none (subst (λ (x : Option (List ℕ)). HasLetters (bytes_of x)) (synced.is told d could ∙ alike.same told roots) letters))
-      (synced.is told d could) torn) so.own)))
+      (λ f s so. (
+        so.quiet ∙ narrows.quiet told,
+        inr (came (host.may_leave b roots) (TornByCut (host.files b roots) 0) IsNoStore (f roots)
+            (λ d could torn. cut_none (host.files b roots) d (f roots)
+            (λ letters. none (subst (λ (x : Option (List ℕ)). HasLetters (bytes_of x)) (synced.is told d could ∙ alike.same told roots) letters))
+            (synced.is told d could) torn) so.own),
+      ))
 
   pub emptied : (b c : D) → IsTrue host.is_told → IsCut 0 (host.files b (roots_file name)) (host.files c (roots_file name)) → IsSynced host (roots_file name) c
       → (x : Option (List ℕ)) → host.may_leave c (roots_file name) x → bytes_of x ≡ []
