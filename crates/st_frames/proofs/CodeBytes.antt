@@ -8,7 +8,7 @@ use Rattle.st_model.specs.declared.dead.Dead.TheVariants as dead
 use Rattle.st_model.specs.Values.{Value, word}
 use Rattle.st_model.specs.Objects.{Object, is_method, first_unit}
 use Rattle.st_model.specs.Machine.{ObjectMemory, Head, State, Transition, Died, Went, after, answer, die, ◌>>=◌, ◌>>◌}
-use Rattle.st_model.specs.Steps.{get_method, object, check, or_die, code_byte, byte_at, next_byte}
+use Rattle.st_model.specs.Steps.{object, check, or_die, code_byte, byte_at, next_byte}
 use Rattle.st_model.specs.Table.{Table}
 use Rattle.st_model.proofs.Runs.{run-then, run-next, after-went, after-died, run-answer, run-set_ip}
 use Rattle.st_frames.specs.declared.registers.Registers.{Registers as Words}

@@ -1,5 +1,5 @@
 -- Two entries in each other's place.
-use Rattle.std.proofs.Common.{◌≡◌, ◌≢◌, ℕ, ◌+◌, ◌<◌, ◌≤◌, zero, suc, Bool, true, false, List, [], ◌∷◌, length, set, refl, sym, ap, ◌∙◌, subst, arith, inl, inr, is_some, length-set}
+use Rattle.std.proofs.Common.{◌≡◌, ◌≢◌, ℕ, ◌+◌, ◌<◌, ◌≤◌, zero, suc, Bool, true, false, List, [], ◌∷◌, set, refl, sym, ap, ◌∙◌, subst, arith, inl, inr, is_some, length-set}
 use Rattle.std.specs.Prelude.{slice_get, unwrap_or, Option, Some, None, ◌==◌, if◌then◌else◌}
 use Rattle.std.specs.Option.{option_map}
 use Rattle.std.proofs.lemmas.Bool.{cases_eq, cases_lt}
@@ -7,13 +7,12 @@ use Rattle.std.proofs.lemmas.Bool.Decides.{nat_tests}
 use Rattle.std.proofs.lemmas.List.{map-set}
 use Rattle.st_model.specs.declared.oop.Oop.{Oop}
 use Rattle.st_model.specs.Values.{Value, Ref}
-use Rattle.st_model.specs.Objects.{Object}
 use Rattle.st_model.specs.Table.{Table, entry, changed, exchanged}
 use Rattle.st_model.specs.View.{with_exchanged}
 use Rattle.st_model.proofs.Exchanging.{other_of, exchanged_is}
 use Rattle.st_lists.specs.declared.entry.Entry.{Entry}
-use Rattle.st_lists.specs.Lists.{slot, entry_of, entry_object, entry_total, listed_table, IsLaidOut, IsFull, IsPlaced, IsApart, AllPlaced, AllApart}
-use Rattle.st_lists.proofs.Slots.{slice_get-slot, slot-slice_get, entry-slot, slot-entry_of}
+use Rattle.st_lists.specs.Lists.{slot, entry_object, entry_total, listed_table, IsLaidOut, IsFull}
+use Rattle.st_lists.proofs.Slots.{slice_get-slot, slot-slice_get, entry-slot}
 use Rattle.st_lists.proofs.Stores.{changed-set}
 
 -- a sum with another entry at a place

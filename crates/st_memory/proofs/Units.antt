@@ -1,14 +1,13 @@
 -- Words and bytes that are read of an object.
-use Rattle.std.proofs.Common.{◌≡◌, ℕ, ◌+◌, ◌-◌, ◌*◌, ◌<◌, ◌≤◌, zero, suc, Bool, true, false, List, [], ◌∷◌, length, Result, Ok, Err, refl, sym, ap, ◌∙◌, subst, arith}
+use Rattle.std.proofs.Common.{◌≡◌, ℕ, ◌-◌, Bool, true, false, List, Result, Err, refl, ap}
 use Rattle.std.specs.Prelude.{slice_get, nat_le, Option, Some, None, if◌then◌else◌}
-use Rattle.std.proofs.lemmas.Bool.Decides.{nat_tests}
 use Rattle.st_model.specs.declared.dead.Dead.{Dead}
 use Rattle.st_model.specs.declared.dead.Dead.TheVariants as dead
 use Rattle.st_model.specs.declared.kind.Kind.{Kind}
 use Rattle.st_model.specs.declared.kind.Kind.TheVariants as kind
 use Rattle.st_model.specs.Values.{Value, Small, Ref}
 use Rattle.st_model.specs.Objects.{Object, is_words, is_pointers, has_bytes, first_unit}
-use Rattle.st_model.specs.Machine.{State, Died, Went, die, answer, ◌>>=◌, ◌>>◌, after}
+use Rattle.st_model.specs.Machine.{State, die, answer, ◌>>=◌, ◌>>◌, after}
 use Rattle.st_model.specs.Steps.{object, object_named, found, check, or_die, fetch_word, fetch_byte}
 use Rattle.st_model.specs.Table.{Table, table, bounded_table, apart, entry}
 use Rattle.st_model.specs.Calls.{Reads, itself}
@@ -17,7 +16,7 @@ use Rattle.st_memory.specs.Tabular.{apart_tabular, bounded_tabular}
 use Rattle.st_memory.specs.declared.change.Made.{Made}
 use Rattle.st_memory.specs.declared.change.Change.{Change}
 use Rattle.st_memory.specs.Drafts.{made_object, with_made, draft_table, named_object, IsLike, Names}
-use Rattle.st_memory.proofs.Looking.{Got, here, Looks, or_got, checked, looked, look_at, step_looks, or_die_looks}
+use Rattle.st_memory.proofs.Looking.{here, Looks, or_got, checked, looked, look_at, step_looks, or_die_looks}
 use Rattle.st_memory.proofs.Drafted.{moved, given, look_base, look_made}
 use Rattle.st_memory.proofs.Moved.{read_names, look_names}
 
