@@ -10,6 +10,8 @@ pub record HostState : Type 0 where
   pub calls : ℕ
   -- the numbers of the calls that fail
   pub failing : List ℕ
+  -- the number of the last call before a stop
+  pub last_call : ℕ
   -- the room that is left: for so many bytes, in so many calls
   pub bytes_left : ℕ
   pub calls_left : ℕ
@@ -18,15 +20,15 @@ pub record HostState : Type 0 where
 
 -- a new host: no files, nothing said, no call made
 abbrev pub fresh : HostState
-fresh = record { deeds = []; calls = 0; failing = []; bytes_left = 0; calls_left = 0; disk_faults = 0; say_faults = 0 }
+fresh = record { deeds = []; calls = 0; failing = []; last_call = 2 ^ 64 - 1; bytes_left = 0; calls_left = 0; disk_faults = 0; say_faults = 0 }
 
 -- after a call that fails or only reads, but for the faults
 abbrev pub counted : HostState → HostState
 counted host = record host { calls = one_more host.calls }
 
--- The next call fails by its number. Calls are counted from 1.
+-- The next call fails by its number: it is one of those that fail, or comes after a stop. Calls are counted from 1.
 abbrev pub IsNextFailing : HostState → Type 0
-IsNextFailing host = Contains host.failing (one_more host.calls)
+IsNextFailing host = Contains host.failing (one_more host.calls) ⊎ (host.last_call < one_more host.calls)
 
 -- A call that takes so many bytes passes the room that is left.
 abbrev pub PassesRoom : HostState → ℕ → Type 0

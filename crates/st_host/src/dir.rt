@@ -1,6 +1,7 @@
 // The host of the real program. It tells nothing of what files and output hold.
 ghost use Rattle.std.specs.Prelude.{◌≡◌, ◌≤◌, false, None, [], length, IfOk};
-ghost use Rattle.st_host.specs.Untold.{untold};
+ghost use Rattle.st_outside.specs.Counts.{HasCause};
+ghost use Rattle.st_host.specs.Untold.{untold, CountsOnce};
 
 use st_outside::{Host, HostFault, SayFault};
 use std::fs::{OpenFile, OpenOptions};
@@ -13,11 +14,16 @@ use std::rt::Files;
 #[derive(Drop)]
 pub struct DirHost<R: Files + Print + Drop> {
     rt: R,
+    // A file was made in the current folder, or in another, whose name may not be on disk yet.
+    made_here: bool,
+    made_elsewhere: bool,
     disk_faults: u64,
     say_faults: u64,
 }
 
 impl<R: Files + Print + Drop> DirHost<R> {
+    ghost use Rattle.st_host.specs.Untold.{KeepsCounts};
+
     /// A host over this runtime, of which no call has failed.
     pub fn new(rt: R) -> DirHost<R>
         ensures disk { ⟦<DirHost<R> as Host>⟧.disk_faults result ≡ 0 }
@@ -25,6 +31,8 @@ impl<R: Files + Print + Drop> DirHost<R> {
     {
         DirHost {
             rt,
+            made_here: false,
+            made_elsewhere: false,
             disk_faults: 0,
             say_faults: 0,
         }
@@ -64,22 +72,59 @@ impl<R: Files + Print + Drop> DirHost<R> {
         }
     }
 
-    fn write(&self, name: &str, at: u64, bytes: &[u8]) -> io::Result<()> {
+    fn write(&mut self, name: &str, at: u64, bytes: &[u8]) -> io::Result<()>
+        ensures { KeepsCounts self.old.disk_faults self.old.say_faults self.new.disk_faults self.new.say_faults }
+    {
         let mut file = self.open_to_write(name)?;
         file.seek(SeekFrom::Start(at))?;
         file.write_all(bytes)
     }
 
+    fn set_length(&mut self, name: &str, len: u64) -> io::Result<()>
+        ensures { KeepsCounts self.old.disk_faults self.old.say_faults self.new.disk_faults self.new.say_faults }
+    {
+        let file = self.open_to_write(name)?;
+        file.set_len(len)
+    }
+
     // The file is made where there is none.
-    fn open_to_write(&self, name: &str) -> io::Result<R::File> {
+    fn open_to_write(&mut self, name: &str) -> io::Result<R::File>
+        ensures { KeepsCounts self.old.disk_faults self.old.say_faults self.new.disk_faults self.new.say_faults }
+    {
+        if self.open(name)?.is_none() {
+            match name.rsplit_once('/') {
+                Some(_) => self.made_elsewhere = true,
+                None => self.made_here = true,
+            }
+        }
         OpenOptions::new()
             .write(true)
             .create(true)
             .open(&self.rt, name)
     }
 
-    fn sync_file(&self, name: &str) -> io::Result<()> {
+    // The folder of a file that was made is synced behind it.
+    fn sync_file(&mut self, name: &str) -> io::Result<()>
+        ensures { KeepsCounts self.old.disk_faults self.old.say_faults self.new.disk_faults self.new.say_faults }
+    {
         match self.open(name)? {
+            Some(file) => file.sync_all()?,
+            None => return Ok(()),
+        }
+        match name.rsplit_once('/') {
+            Some((folder, _)) if self.made_elsewhere => self.sync_folder(folder),
+            None if self.made_here => {
+                self.sync_folder(".")?;
+                self.made_here = false;
+                Ok(())
+            }
+            _ => Ok(()),
+        }
+    }
+
+    fn sync_folder(&self, folder: &str) -> io::Result<()> {
+        let path = if folder.is_empty() { "/" } else { folder };
+        match self.open(path)? {
             Some(file) => file.sync_all(),
             None => Ok(()),
         }
@@ -109,7 +154,11 @@ impl<R: Files + Print + Drop> Host for DirHost<R> {
 
     ghost only_now = { λ _ _ _ told _. untold told };
 
-    fn length(&mut self, name: &str) -> Result<Option<u64>, HostFault> {
+    fn length(&mut self, name: &str) -> Result<Option<u64>, HostFault>
+        ensures once { CountsOnce self.old.disk_faults self.new.disk_faults result }
+        ensures cause { HasCause self.old.disk_faults self.new.disk_faults result }
+        ensures say_count { self.new.say_faults ≡ self.old.say_faults }
+    {
         match self.file_length(name) {
             Ok(length) => Ok(length),
             Err(_) => {
@@ -119,7 +168,12 @@ impl<R: Files + Print + Drop> Host for DirHost<R> {
         }
     }
 
-    fn read_at(&mut self, name: &str, at: u64, into: &mut [u8]) -> Result<usize, HostFault> {
+    fn read_at(&mut self, name: &str, at: u64, into: &mut [u8]) -> Result<usize, HostFault>
+        ensures within { IfOk result (λ k. k ≤ length into.old) }
+        ensures once { CountsOnce self.old.disk_faults self.new.disk_faults result }
+        ensures cause { HasCause self.old.disk_faults self.new.disk_faults result }
+        ensures say_count { self.new.say_faults ≡ self.old.say_faults }
+    {
         match self.read(name, at, into) {
             Ok(count) => Ok(count),
             Err(_) => {
@@ -129,7 +183,11 @@ impl<R: Files + Print + Drop> Host for DirHost<R> {
         }
     }
 
-    fn write_at(&mut self, name: &str, at: u64, bytes: &[u8]) -> Result<(), HostFault> {
+    fn write_at(&mut self, name: &str, at: u64, bytes: &[u8]) -> Result<(), HostFault>
+        ensures once { CountsOnce self.old.disk_faults self.new.disk_faults result }
+        ensures cause { HasCause self.old.disk_faults self.new.disk_faults result }
+        ensures say_count { self.new.say_faults ≡ self.old.say_faults }
+    {
         match self.write(name, at, bytes) {
             Ok(()) => Ok(()),
             Err(_) => {
@@ -139,8 +197,12 @@ impl<R: Files + Print + Drop> Host for DirHost<R> {
         }
     }
 
-    fn cut(&mut self, name: &str, len: u64) -> Result<(), HostFault> {
-        match self.open_to_write(name).and_then(|file| file.set_len(len)) {
+    fn cut(&mut self, name: &str, len: u64) -> Result<(), HostFault>
+        ensures once { CountsOnce self.old.disk_faults self.new.disk_faults result }
+        ensures cause { HasCause self.old.disk_faults self.new.disk_faults result }
+        ensures say_count { self.new.say_faults ≡ self.old.say_faults }
+    {
+        match self.set_length(name, len) {
             Ok(()) => Ok(()),
             Err(_) => {
                 self.disk_faults = self.disk_faults.saturating_add(1);
@@ -149,7 +211,11 @@ impl<R: Files + Print + Drop> Host for DirHost<R> {
         }
     }
 
-    fn sync(&mut self, name: &str) -> Result<(), HostFault> {
+    fn sync(&mut self, name: &str) -> Result<(), HostFault>
+        ensures once { CountsOnce self.old.disk_faults self.new.disk_faults result }
+        ensures cause { HasCause self.old.disk_faults self.new.disk_faults result }
+        ensures say_count { self.new.say_faults ≡ self.old.say_faults }
+    {
         match self.sync_file(name) {
             Ok(()) => Ok(()),
             Err(_) => {
@@ -159,7 +225,11 @@ impl<R: Files + Print + Drop> Host for DirHost<R> {
         }
     }
 
-    fn say(&mut self, bytes: &[u8]) -> Result<(), SayFault> {
+    fn say(&mut self, bytes: &[u8]) -> Result<(), SayFault>
+        ensures once { CountsOnce self.old.say_faults self.new.say_faults result }
+        ensures cause { HasCause self.old.say_faults self.new.say_faults result }
+        ensures disk_count { self.new.disk_faults ≡ self.old.disk_faults }
+    {
         match self.rt.write_all(bytes) {
             Ok(()) => Ok(()),
             Err(_) => {

@@ -10,10 +10,6 @@ mod stdin;
 pub use dir::DirHost;
 pub use memory::MemHost;
 pub use memory_source::MemSource;
-pub use st_outside::{
-    Host, HostFault, ReadFault, SayFault, Source, cut_file, file_length, read_from, say_all,
-    sync_file, write_bytes, write_synced,
-};
 pub use stdin::StdinSource;
 
 #[cfg(test)]

@@ -1,5 +1,5 @@
 // A host in memory. It keeps each deed, so that a stop may leave all that the contract of a host allows.
-ghost use Rattle.std.specs.Prelude.{◌≡◌, ◌⊎◌, ◌↔◌, ◌++◌, ◌∷◌, [], ◌+◌, ◌-◌, ◌<◌, ◌≤◌, ℕ, List, length, reverse, IsTrue, true, IfOk, OnOk, OnErr, IsErr, Option, Some, vec_len, vec_capacity};
+ghost use Rattle.std.specs.Prelude.{◌≡◌, ◌⊎◌, ◌↔◌, ◌++◌, ◌∷◌, [], ◌+◌, ◌-◌, ◌<◌, ◌≤◌, ℕ, min, List, length, reverse, IsTrue, true, IfOk, OnOk, OnErr, IsErr, Option, Some, vec_len, vec_capacity};
 ghost use Rattle.st_outside.specs.Counts.{one_more, Rose, HasCause};
 ghost use Rattle.st_outside.specs.Files.{length_of, bytes_of, IsRead};
 
@@ -11,14 +11,15 @@ use std::marker::Model;
 /// A host in memory, whose calls fail where it is told to.
 ///
 /// Calls of a host's methods are counted from 1 over all methods. A call fails exactly where [`MemHost::fail`]
-/// names its number, or where it passes the room that [`MemHost::room_for`] made. A call that fails changes
-/// nothing but the counts. No call of a host's methods takes memory.
+/// names its number, where it comes after a stop of [`MemHost::stop_after`], or where it passes the room that
+/// [`MemHost::room_for`] made. A call that fails changes nothing but the counts. No call of a host's methods takes memory.
 #[derive(Drop)]
 pub struct MemHost {
     log: Vec<Entry>,
     arena: Vec<u8>,
     said: Vec<u8>,
     failing: Vec<u64>,
+    last_call: u64,
     calls: u64,
     bytes_left: u64,
     calls_left: u64,
@@ -37,6 +38,7 @@ impl Model for MemHost {
       deeds = reverse (deeds_of m.log.items m.arena.items);
       calls = m.calls;
       failing = m.failing.items;
+      last_call = m.last_call;
       bytes_left = m.bytes_left;
       calls_left = m.calls_left;
       disk_faults = m.disk_faults;
@@ -60,6 +62,7 @@ impl MemHost {
             arena: Vec::new(alloc),
             said: Vec::new(alloc),
             failing: Vec::new(alloc),
+            last_call: u64::MAX,
             calls: 0,
             bytes_left: 0,
             calls_left: 0,
@@ -74,6 +77,13 @@ impl MemHost {
         ensures err { OnErr result (self.new ≡ self.old) }
     {
         self.failing.extend_from_slice(calls)
+    }
+
+    /// Stops the host as the call of this number ends: each later one fails. A stop stays.
+    pub fn stop_after(&mut self, call: u64)
+        ensures { self.new ≡ record self.old { last_call = min self.old.last_call call } }
+    {
+        self.last_call = self.last_call.min(call);
     }
 
     /// Makes room for so many more bytes, and for so many more calls that change something. Only such a call takes
@@ -134,7 +144,7 @@ impl MemHost {
         ensures counted { self.new ≡ counted self.old }
     {
         self.calls = self.calls.saturating_add(1);
-        self.failing.contains(&self.calls)
+        self.failing.contains(&self.calls) || self.last_call < self.calls
     }
 
     // Counts a disk fault.

@@ -1,9 +1,7 @@
 // What no clause says: that calls succeed, and that the outside itself is reached. All is called through the traits,
 // so that the same is asked of each host.
-use crate::{
-    DirHost, Host, HostFault, MemHost, MemSource, ReadFault, SayFault, Source, StdinSource,
-    file_length, read_from, say_all,
-};
+use crate::{DirHost, MemHost, MemSource, StdinSource};
+use st_outside::{Host, HostFault, ReadFault, SayFault, Source, file_length, read_from, say_all};
 use std::fs;
 use std::process::Abort;
 use std::test::Fail;
@@ -38,10 +36,24 @@ fn check_writes<H: Host>(rt: &impl Abort, host: &mut H, name: &str) {
     assert_eq!(rt; host.write_at(name, 3, b"xyz"), Ok(()));
     assert_eq!(rt; host.sync(name), Ok(()));
     check_file(rt, host, name, b"\0\0oxyz");
-    assert_eq!(rt; host.cut(name, 4), Ok(()));
-    check_file(rt, host, name, b"\0\0ox");
-    assert_eq!(rt; host.cut(name, 6), Ok(()));
-    check_file(rt, host, name, b"\0\0ox\0\0");
+    check_cut(rt, host, name, 5, b"\0\0oxy");
+    check_cut(rt, host, name, 7, b"\0\0oxy\0\0");
+    check_cut(rt, host, name, 0, b"");
+    check_cut(rt, host, name, 3, b"\0\0\0");
+}
+
+fn check_cut<H: Host>(rt: &impl Abort, host: &mut H, name: &str, length: u64, wanted: &[u8]) {
+    assert_eq!(rt; host.cut(name, length), Ok(()));
+    check_file(rt, host, name, wanted);
+}
+
+// Below a file there is no file, and none that is absent either.
+fn check_no_file<H: Host>(rt: &impl Abort, host: &mut H, name: &str) {
+    assert_eq!(rt; host.length(name), Err(HostFault));
+    assert_eq!(rt; host.read_at(name, 0, &mut [0; 4]), Err(HostFault));
+    assert_eq!(rt; host.write_at(name, 0, b"x"), Err(HostFault));
+    assert_eq!(rt; host.cut(name, 1), Err(HostFault));
+    assert_eq!(rt; host.sync(name), Err(HostFault));
 }
 
 fn check_says<H: Host>(rt: &impl Abort, host: &mut H, bytes: &[u8], wanted: Result<(), SayFault>) {
@@ -72,7 +84,7 @@ fn a_host_in_memory_has_the_files_that_were_put(rt: HostRuntime) -> Result<(), F
 #[test]
 fn a_host_in_memory_writes_and_cuts(rt: HostRuntime) -> Result<(), Fail> {
     let mut host = MemHost::new(rt.alloc())?;
-    host.room_for(rt.alloc(), 12, 6)?;
+    host.room_for(rt.alloc(), 14, 8)?;
     check_absent(&rt, &mut host, "a");
     check_writes(&rt, &mut host, "a");
     Ok(())
@@ -121,6 +133,7 @@ fn a_folder_writes_and_cuts(rt: HostRuntime) -> Result<(), Fail> {
     let mut host = DirHost::new(rt.clone()?);
     check_absent(&rt, &mut host, name);
     check_writes(&rt, &mut host, name);
+    check_no_file(&rt, &mut host, "st_host_a_folder_writes_and_cuts/file");
     check_says(&rt, &mut host, b"said\n", Ok(()));
     fs::remove_file(&rt, name)?;
     Ok(())
