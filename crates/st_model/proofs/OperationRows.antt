@@ -4,12 +4,12 @@ use Rattle.std.proofs.Common.{◌≡◌, ℕ, List, [], ◌∷◌, Some, None, r
 use Rattle.std.specs.Prelude.{true, false, pos}
 use Rattle.st_model.specs.declared.kind.Kind.TheVariants as kind
 use Rattle.st_model.specs.declared.dead.Dead.TheVariants as dead
-use Rattle.st_model.specs.Values.{Small, Ref}
+use Rattle.st_model.specs.Values.{Value, Small, Ref}
 use Rattle.st_model.specs.Objects.{Object, nil}
-use Rattle.st_model.specs.Machine.{State, Died, Went, empty_world, next_of, tried}
+use Rattle.st_model.specs.Machine.{State, World, Died, Went, ◌>>◌, empty_world, next_of, tried}
 use Rattle.st_model.specs.Births.{Births, births}
-use Rattle.st_model.specs.Table.{Table, table}
-use Rattle.st_model.specs.Steps.{exchange, store_byte, fetch_field}
+use Rattle.st_model.specs.Table.{Table, table, apart}
+use Rattle.st_model.specs.Steps.{exchange, set_units, fetch_word, store_word, fetch_byte, store_byte, fetch_field, fetch_method_field, store_method_field, object_at, next_instance, get_world, set_world}
 use Rattle.st_model.proofs.Opened.{opened}
 
 plain : Object
@@ -73,3 +73,85 @@ tried_field = refl
 tried_there : (tried (fetch_field table (Ref 1) 0)).run (state (table_of plain (bytes []))) ≡ Went (Some (Small 5)) (state (table_of plain (bytes [])))
 unfolding opened state table_of plain bytes
 tried_there = refl
+
+-- words, and bytes of methods: a header and one literal are bytes 0 to 3, which aren't fetched or stored as bytes
+
+words : List ℕ → Object
+words us = record { class = 2; kind = kind.Words; fields = []; units = us }
+
+method : Value → List ℕ → Object
+method literal us = record { class = 17; kind = kind.Method; fields = Small 1 ∷ literal ∷ []; units = us }
+
+stored_word : (store_word table (Ref 3) 1 9).run (state (table_of plain (words (7 ∷ 8 ∷ [])))) ≡ Went tt (state (table_of plain (words (7 ∷ 9 ∷ []))))
+unfolding opened state table_of plain words
+stored_word = refl
+
+no_words : (store_word table (Ref 3) 0 9).run (state (table_of plain (bytes (7 ∷ [])))) ≡ Died dead.Kind
+unfolding opened state table_of plain bytes
+no_words = refl
+
+fetched_word : (fetch_word table (Ref 3) 1).run (state (table_of plain (words (7 ∷ 8 ∷ [])))) ≡ Went 8 (state (table_of plain (words (7 ∷ 8 ∷ []))))
+unfolding opened state table_of plain words
+fetched_word = refl
+
+all_words : (set_units table (Ref 3) (1 ∷ 2 ∷ [])).run (state (table_of plain (words (7 ∷ 8 ∷ [])))) ≡ Went tt (state (table_of plain (words (1 ∷ 2 ∷ []))))
+unfolding opened state table_of plain words
+all_words = refl
+
+too_many_words : (set_units table (Ref 3) (1 ∷ 2 ∷ 3 ∷ [])).run (state (table_of plain (words (7 ∷ 8 ∷ [])))) ≡ Died dead.Field
+unfolding opened state table_of plain words
+too_many_words = refl
+
+bytecode_stored : (store_byte table (Ref 3) 5 9).run (state (table_of plain (method (Small 6) (7 ∷ 8 ∷ [])))) ≡ Went tt (state (table_of plain (method (Small 6) (7 ∷ 9 ∷ []))))
+unfolding opened state table_of plain method
+bytecode_stored = refl
+
+bytecode_fetched : (fetch_byte table (Ref 3) 4).run (state (table_of plain (method (Small 6) (7 ∷ 8 ∷ [])))) ≡ Went 7 (state (table_of plain (method (Small 6) (7 ∷ 8 ∷ []))))
+unfolding opened state table_of plain method
+bytecode_fetched = refl
+
+no_byte_of_a_literal : (store_byte table (Ref 3) 3 9).run (state (table_of plain (method (Small 6) (7 ∷ [])))) ≡ Died dead.Field
+unfolding opened state table_of plain method
+no_byte_of_a_literal = refl
+
+-- field 1 of a method is literal 0
+literal_fetched : (fetch_method_field table (Ref 3) 1).run (state (table_of plain (method (Small 6) []))) ≡ Went (Small 6) (state (table_of plain (method (Small 6) [])))
+unfolding opened state table_of plain method
+literal_fetched = refl
+
+literal_stored : (store_method_field table (Ref 3) 1 (Ref 1)).run (state (table_of plain (method (Small 6) []))) ≡ Went tt (state (table_of plain (method (Ref 1) [])))
+unfolding opened state table_of plain method
+literal_stored = refl
+
+-- the object of a pointer, and the next instance of a class, as steps
+
+found_at : (object_at table 3).run (state (table_of plain plain)) ≡ Went (Some (Ref 3)) (state (table_of plain plain))
+unfolding opened state table_of plain
+found_at = refl
+
+none_at : (object_at births 2).run (state (births_of plain plain)) ≡ Went None (state (births_of plain plain))
+unfolding opened state births_of plain
+none_at = refl
+
+next_one : (next_instance births (Ref 1) 1).run (state (births_of plain plain)) ≡ Went (Some (Ref 2)) (state (births_of plain plain))
+unfolding opened state births_of plain
+next_one = refl
+
+-- where new objects stand apart, exchanges and pointers of those that were there are the table's
+exchanged_apart : (exchange apart (Ref 1) (Ref 3)).run (state (table_of plain (bytes (7 ∷ [])))) ≡ Went tt (state (table_of (bytes (7 ∷ [])) plain))
+unfolding opened state table_of plain bytes
+exchanged_apart = refl
+
+-- the world is read and set whole; what it names is there
+
+displayed : Value → World
+displayed v = record (empty_world (Ref 1)) { devices = record (empty_world (Ref 1)).devices { display = v } }
+
+world_set : (set_world table (displayed (Ref 3)) >> get_world).run (state (table_of plain plain))
+    ≡ Went (displayed (Ref 3)) (record (state (table_of plain plain)) { world = displayed (Ref 3) })
+unfolding opened state table_of plain displayed
+world_set = refl
+
+world_missing : (set_world table (displayed (Ref 2))).run (state (table_of plain plain)) ≡ Died dead.Kind
+unfolding opened state table_of plain displayed
+world_missing = refl

@@ -107,7 +107,8 @@ first_instance m h class k zero = None
 first_instance m h class k (suc left) =
     if names_instance m h class (m.borne_by h k) then m.borne_by h k else first_instance m h class (suc k) left
 
--- of the kept instances of a class that bear pointers above this one, the one with the least; halved pointers end at 32767
+-- Of the kept instances of a class that bear pointers above this one, the one with the least. Pointers are halved; those up to
+-- 65534 are looked at.
 unfoldable pub next_of : {H : Type 0} → ObjectMemory H → H → ℕ → ℕ → Option ℕ
 next_of m h class after = first_instance m h class (suc after) (32767 - after)
 

@@ -241,7 +241,7 @@ transfer m n source from target to = do
 
 -- words and bytes
 
--- word i of an object of kind Words
+-- Word i of an object of kind Words. Whoever stores a word or a byte sees to it that it is below 65536 or 256.
 unfoldable pub fetch_word : {H : Type 0} → ObjectMemory H → Value → ℕ → Step H ℕ
 fetch_word m v i = do
   o ← object m v
@@ -343,7 +343,7 @@ fetch_method_field m v i = do
   check dead.Kind (is_method o.kind)
   or_die dead.Field (slice_get o.fields i)
 
--- x into it; a header is replaced by one that counts as many literals
+-- x into it; whoever stores a header sees to it that it counts as many literals as the one before
 unfoldable pub store_method_field : {H : Type 0} → ObjectMemory H → Value → ℕ → Value → Step H Unit
 store_method_field m v i x = do
   o ← object m v
