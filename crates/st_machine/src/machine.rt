@@ -16,9 +16,9 @@ use st_input::World;
 use st_memory::Memory;
 use st_model::Dead;
 
-/// A machine: its objects, its registers, and what lies round it; and, once it is dead, the cause. Between calls it is dead,
-/// or ready: the registers are what is held at their places, as `boot` and `run` leave it. Who changes the objects through
-/// `memory_mut` owes that again before the next run.
+/// A machine: its objects, its registers, and what lies round it; and, once it is dead, the cause. A run asks that it is
+/// dead, or ready: the registers are what is held at their places. `boot` and `run` leave it so; who changes the objects
+/// through `memory_mut` owes it again.
 #[derive(Drop)]
 pub struct Machine<M: Memory> {
     memory: M,
@@ -54,6 +54,8 @@ impl<M: Memory> Machine<M> {
         requires ready { self.old.death ≡ None
             → IsReady (M.view self.old.memory) self.old.frame self.old.world }
         ensures ready { self.new.death ≡ None
+            → IsReady (M.view self.new.memory) self.new.frame self.new.world }
+        ensures left { self.old.death ≡ None
             → IsReady (M.view self.new.memory) self.new.frame self.new.world }
         ensures ends { self.old.death ≡ None → EndsFrom n (shown (M.view self.old.memory) self.old.frame)
             result (shown (M.view self.new.memory) self.new.frame) }
