@@ -16,8 +16,9 @@ use st_input::World;
 use st_memory::Memory;
 use st_model::Dead;
 
-/// A machine: its objects with the registers held among them, the registers, and what lies round it; and, once it is dead,
-/// the cause.
+/// A machine: its objects, its registers, and what lies round it; and, once it is dead, the cause. A run asks that it is
+/// dead, or ready: the registers are what is held at their places. `boot` and `run` leave it so; who changes the objects
+/// through `memory_mut` owes it again.
 #[derive(Drop)]
 pub struct Machine<M: Memory> {
     memory: M,
@@ -50,8 +51,12 @@ impl<M: Memory> Machine<M> {
     /// Does n cycles, or those up to the first that doesn't go on. It ends as the book's machine does from each state over
     /// births that the machine shows. A dead machine stays as it is.
     pub fn run(&mut self, n: u32) -> RunEnd
-        requires ready { IsReady (M.view self.old.memory) self.old.frame self.old.world }
-        ensures ready { IsReady (M.view self.new.memory) self.new.frame self.new.world }
+        requires ready { self.old.death ≡ None
+            → IsReady (M.view self.old.memory) self.old.frame self.old.world }
+        ensures ready { self.new.death ≡ None
+            → IsReady (M.view self.new.memory) self.new.frame self.new.world }
+        ensures left { self.old.death ≡ None
+            → IsReady (M.view self.new.memory) self.new.frame self.new.world }
         ensures ends { self.old.death ≡ None → EndsFrom n (shown (M.view self.old.memory) self.old.frame)
             result (shown (M.view self.new.memory) self.new.frame) }
         ensures death { self.old.death ≡ None → self.new.death ≡ death_of result }

@@ -1,17 +1,18 @@
 -- What is said of a run of the code is what is said of the book's machine.
-use Rattle.std.proofs.Common.{◌≡◌, ℕ, zero, suc, ◌+◌, ◌-◌, List, ◌++◌, length, refl, sym, ap, ◌∙◌, append-nil, arith}
+use Rattle.std.proofs.Common.{◌≡◌, ℕ, ◌+◌, ◌-◌, List, ◌++◌, length, refl, sym, ap, ◌∙◌, append-nil, arith}
 use Rattle.st_model.specs.declared.demand.Demand.{Demand}
 use Rattle.st_model.specs.Outcomes.{Ending, With, Space, Unbuilt, renamed_ending}
 use Rattle.st_model.specs.Outcomes as outcome
 use Rattle.st_model.specs.Machine.{State, Transition, Died, Went}
 use Rattle.st_model.specs.Births.{Births, births}
 use Rattle.st_model.specs.Table.{Table}
-use Rattle.st_model.specs.Cycles.{cycle, run, run_of, finished, finished_of, and_on, counted}
+use Rattle.st_model.specs.Cycles.{run, finished}
 use Rattle.st_model.specs.Foreseen.{EndsShown}
 use Rattle.st_model.specs.Show.{Shows, show, raised, pointer_of}
-use Rattle.st_model.specs.Text.{state_text, ran_text, dead_text, unbuilt_text, space_text, quit_text, debugger_text, said_value, cycles_text, text_after, run_text}
+use Rattle.st_model.specs.Text.{state_text, ran_text, dead_text, unbuilt_text, space_text, text_at, run_text}
 use Rattle.st_model.specs.View.{View, IsWhole}
 use Rattle.st_model.proofs.Raised.{raised_shown}
+use Rattle.st_model.proofs.Texts.{text_is}
 use Rattle.st_model.proofs.Showing.{show_is}
 use Rattle.st_frames.specs.declared.frame.Frame.{Frame}
 use Rattle.st_frames.specs.Shown.{IsFrame, shown}
@@ -20,39 +21,6 @@ use Rattle.st_machine.specs.declared.ending.RunEnd.{RunEnd}
 use Rattle.st_machine.specs.declared.ending.RunEnd.TheVariants as end
 use Rattle.st_machine.specs.Runs.{EndsAs, AsksNothing, cycles_of, transition_at}
 use Rattle.st_once.specs.Ends.{end_text, rest_text}
-
--- What is said where so many cycles are finished and k are left, and the machine has come to this.
-abbrev text_at : ℕ → ℕ → Transition (State Births) Ending → List ℕ
-text_at n k (Died cause) = dead_text n cause
-text_at n k (Went (With outcome.Went) s) = ran_text n ++ state_text (show s)
-text_at n k (Went (With outcome.Snapshot) s) = text_after n k s
-text_at n k (Went (With outcome.Quit) s) = quit_text n ++ state_text (show s)
-text_at n k (Went (With outcome.Debugger) s) = debugger_text n ++ state_text (show s)
-text_at n k (Went (With (outcome.Say v)) s) = said_value s.memory v ++ text_after n k s
-text_at n k (Went (Space demand left) s) = space_text n demand left ++ state_text (show s)
-text_at n k (Went (Unbuilt code) s) = unbuilt_text n code ++ state_text (show s)
-
-text_is : (k n : ℕ) (s : State Births) → text_after n k s ≡ text_at (n + finished births k s) (k - finished births k s) (run births k s)
-unfolding text_after run run_of finished finished_of
-text_is zero n s = let e : n ≡ n + 0 = omega arith in ap (λ i. ran_text i ++ state_text (show s)) e
-text_is (suc k) n s = over (cycle births s) (λ t. text_is k (suc n) t)
-  where
-    over : (o : Transition (State Births) Ending)
-        → ((t : State Births) → text_after (suc n) k t ≡ text_at (suc n + finished_of (cycle births) k t) (k - finished_of (cycle births) k t) (run_of (cycle births) k t))
-        → cycles_text n o (λ t. text_after (suc n) k t)
-        ≡ text_at (n + counted o (λ t. finished_of (cycle births) k t)) (suc k - counted o (λ t. finished_of (cycle births) k t)) (and_on o (λ t. run_of (cycle births) k t))
-    over (Died cause) h = let e : n ≡ n + 0 = omega arith in ap (λ i. dead_text i cause) e
-    over (Went (With outcome.Went) t) h =
-        let d = finished_of (cycle births) k t in
-        let e : suc n + d ≡ n + suc d = omega arith in
-        let f : k - d ≡ suc k - suc d = omega arith in
-        h t ∙ (λ i. text_at (e i) (f i) (run_of (cycle births) k t))
-    over (Went (With outcome.Snapshot) t) h = let e : suc n ≡ n + 1 = omega arith in let f : k ≡ suc k - 1 = omega arith in λ i. text_after (e i) (f i) t
-    over (Went (With outcome.Quit) t) h = let e : suc n ≡ n + 1 = omega arith in ap (λ i. quit_text i ++ state_text (show t)) e
-    over (Went (With outcome.Debugger) t) h = let e : suc n ≡ n + 1 = omega arith in ap (λ i. debugger_text i ++ state_text (show t)) e
-    over (Went (With (outcome.Say v)) t) h = let e : suc n ≡ n + 1 = omega arith in let f : k ≡ suc k - 1 = omega arith in λ i. said_value t.memory v ++ text_after (e i) (f i) t
-    over (Went (Space demand left) t) h = let e : n ≡ n + 0 = omega arith in ap (λ i. space_text i demand left ++ state_text (show t)) e
-    over (Went (Unbuilt code) t) h = let e : n ≡ n + 0 = omega arith in ap (λ i. unbuilt_text i code ++ state_text (show t)) e
 
 -- an ending that names nothing is the same under other names
 

@@ -2,6 +2,7 @@
 use Rattle.std.specs.Prelude.{◌≡◌, ℕ, ◌<◌, ◌≤◌, ◌^◌, List, [], ◌∷◌, length, ◌++◌, codes, IsTrue, ⊤, Some, None}
 use Rattle.st_outside.specs.Counts.{Rose}
 use Rattle.st_outside.specs.Files.{bytes_of}
+use Rattle.st_outside.specs.Runs.{ReadsAndSays}
 use Rattle.st_outside.specs.Stops.{SaidPart}
 use Rattle.st_outside.specs.declared.host.Host.{Ghosts}
 use Rattle.st_model.specs.declared.fault.ImageFault.{ImageFault}
@@ -156,9 +157,11 @@ module _ {D : Type 0} (host : Ghosts D) where
   RefusalHasCause old new refusal.DiskFault = Rose (host.disk_faults old) (host.disk_faults new)
   RefusalHasCause old new refusal.OutOfMemory = Unit {0}
 
-  -- How a call of the program with these words ends, over the bytes of the image that they name.
+  -- How a call of the program with these words ends, over the bytes of the image that they name. It changes
+  -- no file.
   pub record CallEnds (words : List (List ℕ)) (old new : D) (status : Status) : Type 0 where
     pub usage : once_of words ≡ None → (status ≡ Usage) × SaysLastLine Usage old new
     pub once : (n : ℕ) → once_of words ≡ Some n
         → OnceEnds (bytes_of (host.files old (word words 1))) n old new status
     pub cause : StatusHasCause old new status
+    pub reads : (text : List ℕ) × ReadsAndSays host text old new

@@ -29,3 +29,15 @@ returns-clause-says g c =
     let text = run_is (g.M.Memory.view old.memory) (g.M.Memory.view new.memory) old.frame new.frame n e (g.met.M.Memory.whole old.memory) c.requires.ready.frame (g.met.M.Memory.whole new.memory)
     c.run-end.ensures.asks (c.run-end.ensures.ends c.requires.alive) in
     subst (λ (t : List ℕ). Says g.H.Host t c.args.host.now c.say_run.new.host) (ap (λ (s : State Table). ending_text n e s) same ∙ text) c.say_run.ensures.says
+
+-- a machine that wasn't dead is left ready, also where it died in the run
+
+pub say_run-requires-clause-frame : goal.say_run-requires-clause-frame
+say_run-requires-clause-frame g c =
+    let ready = c.run-end.ensures.left c.requires.alive in
+    rw c.memory.ensures (rw c.frame.ensures ready.frame)
+
+pub say_run-requires-clause-quiet : goal.say_run-requires-clause-quiet
+say_run-requires-clause-quiet g c =
+    let ready = c.run-end.ensures.left c.requires.alive in
+    rw c.memory.ensures ready.quiet
