@@ -61,7 +61,8 @@ pub fn clear<H: Host>(alloc: Global, host: &mut H, name: &str) -> Result<NewStor
     ensures named { IfOk result (λ store. store ≡ name.now) }
     ensures none { OnOk result (IsTrue H.is_told → HasLetters (bytes_of (H.files host.old (roots_file name.now))) → ⊥) }
     ensures empty { OnOk result (IsTrue H.is_told → Leaves H.Host.own host.new (roots_file name.now) (λ file. bytes_of file ≡ [])) }
-    ensures refused { IfErr result (λ e. IsTrue H.is_told → RefusesNew (H.files host.old (roots_file name.now)) e) }
+    ensures refused { IfErr result (λ e. IsTrue H.is_told
+        → RefusesNew (H.files host.old (roots_file name.now)) e) }
     ensures kind { IfErr result IsOfMaking }
     ensures writes_nothing { IfErr result (λ e. (e ≡ Disk → ⊥) → Narrows H.Host.own host.old host.new) }
 
@@ -100,7 +101,8 @@ fn prepare<H: Host>(host: &mut H, names: &Names) -> Result<(), HostFault>
         → Makes {C = Option Stored} H.Host.own (OpensMaybe name) None None host.old host.new result }
     ensures blank { OnOk result (let name = string_bytes names.now.name in IsTrue H.is_told
         → Leaves H.Host.own host.old (roots_file name) (λ file. bytes_of file ≡ []) → Leaves H.Host.own host.new (roots_file name) IsBlank) }
-    ensures emptied { OnOk result (let changes = changes_file (string_bytes names.now.name) in IsTrue H.is_told → H.files host.new changes ≡ Some []) }
+    ensures emptied { OnOk result (let changes = changes_file (string_bytes names.now.name) in IsTrue H.is_told
+        → H.files host.new changes ≡ Some []) }
     ensures changes { let name = string_bytes names.now.name in ChangesBoth H.Host.own (changes_file name) (roots_file name) host.old host.new }
     ensures cause { HasCause (H.disk_faults host.old) (H.disk_faults host.new) result }
 {
@@ -149,7 +151,8 @@ pub fn found<H: Host>(
         → IsKept H.Host.own host.new store (first_stored image_length image)) }
 
     // The files' bytes after it.
-    ensures bytes { OnOk result (IsTrue H.is_told → Leaves H.Host.own host.old (roots_file new_store) (λ file. bytes_of file ≡ [])
+    ensures bytes { OnOk result (IsTrue H.is_told
+        → Leaves H.Host.own host.old (roots_file new_store) (λ file. bytes_of file ≡ [])
         → H.files host.new (roots_file new_store) ≡ Some (first_file (first_root image_length))) }
     ensures emptied { OnOk result (IsTrue H.is_told → H.files host.new (changes_file new_store) ≡ Some []) }
 

@@ -104,7 +104,8 @@ pub fn open_store<H: Host>(alloc: Global, host: &mut H, name: &str) -> Result<St
     ensures named { IfOk result (λ store. store.name ≡ name.now) }
     ensures opens { IfOk result (λ store. IsTrue H.is_told → Opens name.now (stored_in name.now (H.files host.old) store.root) (H.files host.old)) }
     ensures kept { IfOk result (λ store. IsTrue H.is_told → IsKept H.Host.own host.new store (stored_in name.now (H.files host.old) store.root)) }
-    ensures fresh { IfOk result (λ store. IsTrue H.is_told → IsFresh store.chosen store.root (H.files host.new (roots_file name.now))) }
+    ensures fresh { IfOk result (λ store. IsTrue H.is_told
+        → IsFresh store.chosen store.root (H.files host.new (roots_file name.now))) }
     ensures refused { IfErr result (λ e. IsTrue H.is_told → Refuses name.now (H.files host.old) e) }
     ensures kind { IfErr result IsOfOpening }
     ensures writes_nothing { IfErr result (λ e. (e ≡ Disk → ⊥) → Narrows H.Host.own host.old host.new) }
