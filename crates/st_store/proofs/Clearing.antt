@@ -1,9 +1,10 @@
 -- What a stop leaves while a name is cleared.
-use Rattle.std.proofs.Common.{◌≡◌, ◌≢◌, ◌⊎◌, inl, inr, ⊎_elim, ℕ, zero, suc, ◌+◌, ◌-◌, ◌<◌, ◌≤◌, min, List, [], ◌∷◌, length, take, drop, slice_index, codes, Option, IsTrue, refl, sym, subst, ◌∙◌, ap, arith, length-take}
+use Rattle.std.proofs.Common.{◌≡◌, ◌≢◌, ◌⊎◌, inl, inr, ⊎_elim, ℕ, zero, suc, ◌+◌, ◌<◌, ◌≤◌, List, [], ◌∷◌, length, take, drop, slice_index, codes, Option, IsTrue, refl, sym, subst, ◌∙◌, ap, arith, length-take}
+use Rattle.std.specs.Prelude.{Some, None}
 use Rattle.std.proofs.lemmas.List.{get_or-take, get_or-drop, get_or_past}
 use Rattle.std.proofs.lemmas.Bool.{cases_lt, cases_eq}
-use Rattle.st_outside.specs.Files.{Files, bytes_of, IsRead, IsCut}
-use Rattle.st_outside.specs.Stops.{Comes, TornByCut, Here}
+use Rattle.st_outside.specs.Files.{bytes_of, IsRead, IsCut}
+use Rattle.st_outside.specs.Stops.{TornByCut, Here}
 use Rattle.st_outside.specs.Runs.{LeavesOnly, Narrows, NarrowsBut, ReadsAlike, Touched, Cuts, IsSynced}
 use Rattle.st_outside.specs.declared.host.Host.{Ghosts}
 use Rattle.st_outside.proofs.Joining.{weaker, moments_join}
@@ -63,12 +64,16 @@ cut_none file d c wrong is torn = ⊎_elim
     (λ none. none)
     (letters_or_none c 8 (omega arith))
 
+nothing : (xs : List ℕ) → length xs ≡ 0 → xs ≡ []
+nothing [] e = refl
+nothing (x ∷ xs) e = absurd (omega arith)
+
 empty_of : (file : Option (List ℕ)) (old : Option (List ℕ)) → IsCut 0 old file → bytes_of file ≡ []
 empty_of file old cut = nothing (bytes_of file) cut.long
-  where
-    nothing : (xs : List ℕ) → length xs ≡ 0 → xs ≡ []
-    nothing [] e = refl
-    nothing (x ∷ xs) e = absurd (omega arith)
+
+pub cut_empty : (old new : Option (List ℕ)) → IsCut 0 old new → new ≡ Some []
+cut_empty old None cut = let a = cut.there in cc
+cut_empty old (Some xs) cut = ap Some (nothing xs cut.long)
 
 module _ {D : Type 0} (host : Ghosts D) (name : List ℕ) where
   pub while_looked : (a b : D) → IsTrue host.is_told → Narrows host a b → LeavesOnly host a b (λ f s. (s ≡ host.said a) × IsCleared host name a f)
@@ -82,10 +87,13 @@ module _ {D : Type 0} (host : Ghosts D) (name : List ℕ) where
       (while_looked a b told narrows) (cuts.run.moments told)
       (λ f s so. (
         so.quiet ∙ narrows.quiet told,
-        inr (came (host.may_leave b roots) (TornByCut (host.files b roots) 0) IsNoStore (f roots)
-            (λ d could torn. cut_none (host.files b roots) d (f roots)
-            (λ letters. none (subst (λ (x : Option (List ℕ)). HasLetters (bytes_of x)) (synced.is told d could ∙ alike.same told roots) letters))
-            (synced.is told d could) torn) so.own),
+        inr (
+          none,
+          came (host.may_leave b roots) (TornByCut (host.files b roots) 0) IsNoStore (f roots)
+              (λ d could torn. cut_none (host.files b roots) d (f roots)
+              (λ letters. none (subst (λ (x : Option (List ℕ)). HasLetters (bytes_of x)) (synced.is told d could ∙ alike.same told roots) letters))
+              (synced.is told d could) torn) so.own,
+        ),
       ))
 
   pub emptied : (b c : D) → IsTrue host.is_told → IsCut 0 (host.files b (roots_file name)) (host.files c (roots_file name)) → IsSynced host (roots_file name) c

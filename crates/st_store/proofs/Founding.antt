@@ -1,21 +1,22 @@
 -- What a stop leaves while the first roots file is written.
-use Rattle.std.proofs.Common.{◌≡◌, ◌≢◌, ◌⊎◌, inl, inr, ⊎_elim, ℕ, ◌+◌, ◌-◌, ◌%◌, ◌<◌, ◌≤◌, max, List, [], ◌∷◌, ◌++◌, length, take, slice_index, codes, Option, IsTrue, refl, sym, subst, ◌∙◌, ap, arith, lit<, lit≤}
+use Rattle.std.proofs.Common.{◌≡◌, ◌≢◌, ◌⊎◌, inl, inr, ⊎_elim, ℕ, ◌+◌, ◌-◌, ◌%◌, ◌<◌, ◌≤◌, List, [], ◌∷◌, ◌++◌, length, take, slice_index, codes, Option, IsTrue, refl, sym, subst, ◌∙◌, ap, arith, lit<, lit≤}
 use Rattle.std.specs.Prelude.{Some, None, Result, OnOk, replicate}
 use Rattle.std.proofs.lemmas.List.{get_or_append_left, get_or-append_right, get_or_past}
 use Rattle.std.proofs.lemmas.Bool.{cases_lt}
-use Rattle.st_outside.specs.Files.{Files, bytes_of, IsWritten, IsCut}
-use Rattle.st_outside.specs.Stops.{Apart, Comes, TornByWrite, TornByCut}
-use Rattle.st_outside.specs.Runs.{LeavesOnly, Touched, Writes, Cuts, ChangesBoth, IsAtRest, Makes}
+use Rattle.std.proofs.lemmas.Grind.{same_number_lists}
+use Rattle.st_outside.specs.Files.{bytes_of, IsWritten}
+use Rattle.st_outside.specs.Stops.{TornByWrite, TornByCut}
+use Rattle.st_outside.specs.Runs.{Touched, Writes, Cuts, ChangesBoth, IsAtRest, Makes}
 use Rattle.st_outside.specs.declared.host.Host.{Ghosts}
 use Rattle.st_outside.proofs.Joining.{weaker}
 use Rattle.st_store.specs.Names.{roots_file, changes_file, image_file}
 use Rattle.st_store.specs.Roots.{root_at, root_bytes, Fits, Chooses}
-use Rattle.st_store.specs.Stored.{Stored, Begins, Opens, Leaves, IsFirm, IsChosen}
-use Rattle.st_store.specs.Founding.{IsNoStore, OpensMaybe, IsBlank, first_bytes, first_stored}
+use Rattle.st_store.specs.Stored.{Stored, Begins, Leaves, IsFirm}
+use Rattle.st_store.specs.Founding.{IsNoStore, OpensMaybe, IsBlank, first_bytes, first_file, first_stored}
 use Rattle.st_store.specs.declared.root.Root.{Root}
 use Rattle.st_store.proofs.Bytes.{root_same, root_inside}
 use Rattle.st_store.proofs.Others.{changes_roots, image_roots, image_changes}
-use Rattle.st_store.proofs.Turning.{came, opens_as, firm_on, write_makes}
+use Rattle.st_store.proofs.Turning.{came, opens_as, write_makes}
 use Rattle.st_store.proofs.Clearing.{letter_is, letters_or_none}
 
 -- the roots file without its letters
@@ -99,6 +100,27 @@ module _ (root : Root) where
     gate = ap (λ (x : ℕ). x % 2) (written.outside 8 (inr (omega arith)) ∙ inscribed.gate);
     names = root_same 16 (bytes_of now) (bytes_of was) (λ i l u. written.outside i (inr (omega arith))) ∙ inscribed.names;
   }
+
+-- the letters and what was written behind them are the whole file
+pub whole_written : (root : Root) (old mid new : Option (List ℕ)) → IsBlank old → IsWritten 8 (first_bytes root) old mid → IsWritten 0 (codes "ST80ROOT") mid new → new ≡ Some (first_file root)
+whole_written root old mid None blank body head = let a = head.there in cc
+whole_written root old mid (Some xs) blank body head = ap Some (same_number_lists xs (first_file root)
+    (omega (arith, head.long, body.long, blank.long, long, whole))
+    (λ i low. ⊎_elim
+    (λ front. let e : i ≡ 0 + i = omega arith in
+    ap (λ (j : ℕ). slice_index xs j) e ∙ head.inside i front ∙ sym (get_or_append_left (codes "ST80ROOT") (first_bytes root) 0 i front))
+    (λ behind. let e : i ≡ 8 + (i - 8) = omega arith in
+    head.outside i (inr behind)
+    ∙ ap (λ (j : ℕ). slice_index (bytes_of mid) j) e
+    ∙ body.inside (i - 8) (omega (arith, head.long, body.long, blank.long, long))
+    ∙ sym (get_or-append_right (codes "ST80ROOT") (first_bytes root) 8 i 0 refl behind))
+    (cases_lt i 8)))
+  where
+    long : length (first_bytes root) ≡ 72
+    long = refl
+
+    whole : length (first_file root) ≡ 80
+    whole = refl
 
 module _ {D R E : Type 0} (host : Ghosts D) (name : List ℕ) (a b : D) (result : Result R E) (told : IsTrue host.is_told) where
   -- while the changes file is emptied

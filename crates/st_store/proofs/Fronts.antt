@@ -1,13 +1,19 @@
 -- The first bytes of a roots file tell what the file chooses, or where it is wrong.
-use Rattle.std.proofs.Common.{◌≡◌, inl, inr, ⊎_elim, ℕ, ◌+◌, ◌%◌, ◌<◌, ◌≤◌, min, List, length, take, drop, slice_index, Option, Some, sym, subst, ◌∙◌, ap, arith, lit<, length-take}
+use Rattle.std.proofs.Common.{◌≡◌, inl, inr, ⊎_elim, ℕ, ◌+◌, ◌%◌, ◌<◌, ◌≤◌, min, List, length, take, drop, slice_index, Option, Some, refl, sym, subst, ◌∙◌, ap, arith, lit<, length-take}
 use Rattle.std.proofs.Math.Nat.{mod-lt}
 use Rattle.std.proofs.lemmas.List.{get_or-take, get_or-drop, get_or_past}
 use Rattle.std.proofs.lemmas.Bool.{cases_lt}
-use Rattle.st_outside.specs.Files.{bytes_of, IsRead}
+use Rattle.std.specs.Prelude.{None, IsSome}
+use Rattle.st_outside.specs.Files.{bytes_of, length_of, IsRead}
 use Rattle.st_store.specs.Roots.{place, root_at, chosen_number, Chooses}
 use Rattle.st_store.specs.Refusals.{IsWrongFront}
 use Rattle.st_store.specs.declared.root.Root.{Root}
 use Rattle.st_store.proofs.Bytes.{root_same}
+
+-- a file that has a length is there
+pub is_there : (l : Option ℕ) (file : Option (List ℕ)) → l ≡ length_of file → IsSome l → IsSome file
+is_there l None is some = subst IsSome is some
+is_there l (Some bytes) is some = refl
 
 module _ (file : List ℕ) (k : ℕ) (into : List ℕ) (long : length into ≡ 80) (read : IsRead file 0 k into) where
   front_long : length (take k into) ≡ min 80 (length file)

@@ -1,20 +1,21 @@
 -- What a stop leaves while a store is opened.
-use Rattle.std.proofs.Common.{◌≡◌, ◌⊎◌, inl, inr, ⊎_elim, ℕ, ◌≤◌, List, length, Option, IsTrue, refl, sym, subst, ◌∙◌, arith}
+use Rattle.std.proofs.Common.{◌≡◌, ◌⊎◌, inl, inr, ⊎_elim, ℕ, ◌+◌, ◌-◌, ◌<◌, ◌≤◌, List, [], ◌∷◌, length, slice_index, Option, IsTrue, refl, sym, subst, ◌∙◌, arith, lit<}
 use Rattle.std.specs.Prelude.{Result}
-use Rattle.st_outside.specs.Files.{Files, bytes_of}
+use Rattle.st_outside.specs.Files.{Files, bytes_of, IsWritten}
 use Rattle.st_outside.specs.Stops.{Here}
 use Rattle.st_outside.specs.Runs.{LeavesOnly, Narrows, NarrowsBut, Changes, ReadsAlike, IsSynced, Makes}
 use Rattle.st_outside.specs.declared.host.Host.{Ghosts}
 use Rattle.st_outside.proofs.Joining.{weaker, moments_join, alike_join, synced_on}
 use Rattle.st_outside.proofs.Touching.{narrows_but, changes_but, but_join}
 use Rattle.st_store.specs.Names.{roots_file, changes_file, image_file}
-use Rattle.st_store.specs.Roots.{Chooses}
+use Rattle.st_store.specs.Roots.{place, Chooses, IsFresh}
 use Rattle.st_store.specs.Refusals.{Fit, RefusesFront, RefusesNumbers, Refuses}
-use Rattle.st_store.specs.Stored.{Stored, Begins, Opens, IsChosen, IsReady, OpensAsOne, stored_in}
+use Rattle.st_store.specs.Stored.{Stored, Begins, Opens, IsChosen, IsStaged, IsReady, OpensAsOne, IsOpening, stored_in}
 use Rattle.st_store.specs.declared.root.Root.{Root}
 use Rattle.st_store.specs.declared.fault.StorePlace.TheVariants.{Roots, Changes as ChangesPlace}
 use Rattle.st_store.specs.declared.fault.StoreFault.{StoreFault}
 use Rattle.st_store.specs.declared.fault.StoreFault.TheVariants.{Missing, Exists, NotAStore, Disk, OutOfMemory}
+use Rattle.st_store.proofs.Bytes.{root_same}
 use Rattle.st_store.proofs.Turning.{opens_as, rests}
 
 pub front_refuses : (name : List ℕ) (f : Files) (e : StoreFault) → RefusesFront (f (roots_file name)) e → Refuses name f e
@@ -118,32 +119,44 @@ module _ {D : Type 0} (host : Ghosts D) (name : List ℕ) where
   pub but_roots : (a m d : D) → Narrows host a m → Changes host (roots_file name) m d → NarrowsBut host (roots_file name) a d
   but_roots a m d narrows changes = but_join host (roots_file name) a m d (narrows_but host (roots_file name) a m narrows) (changes_but host (roots_file name) m d changes)
 
-  -- before anything is written
-  ready_here : (a : D) → IsReady host a name → (f : Files) (s : List ℕ) → Here (host.may_leave a) (host.said a) f s → (s ≡ host.said a) × OpensAsOne host a name f
-  ready_here a ready f s here =
-      let one = ready (f (roots_file name)) (here.0 (roots_file name)) in
-      let opens = opens_as host name a one.1 f one.0 one.3 (λ n other. here.0 n) one.2 in
-      (here.1, record { is = one.1; were = f; could = here.0; was = opens; now = opens })
-
-  pub only_looked : (a c : D) → IsTrue host.is_told → IsReady host a name → Narrows host a c → LeavesOnly host a c (λ f s. (s ≡ host.said a) × OpensAsOne host a name f)
-  only_looked a c told ready narrows = weaker host a c (λ f s. (s ≡ host.said a) × OpensAsOne host a name f) (Here (host.may_leave a) (host.said a)) (narrows.moments told) (ready_here a ready)
+  pub only_looked : (a c : D) → IsTrue host.is_told → Narrows host a c → LeavesOnly host a c (λ f s. (s ≡ host.said a) × IsOpening host a name f)
+  only_looked a c told narrows = weaker host a c (λ f s. (s ≡ host.said a) × IsOpening host a name f) (Here (host.may_leave a) (host.said a)) (narrows.moments told) (λ f s here. (here.1, inl here.0))
 
   -- all the moments of an opening
-  pub opened : {R E : Type 0} (a m d : D) (c : Stored) (k : ℕ) (result : Result R E) → IsTrue host.is_told → IsReady host a name → Narrows host a m
+  pub opened : {R E : Type 0} (a m d : D) (c : Stored) (k : ℕ) (result : Result R E) → IsTrue host.is_told → Narrows host a m → ReadsAlike host a m
       → ((n : List ℕ) → host.may_leave m n (host.files m n)) → IsChosen host m name k c
       → Makes host (Opens name) c c m d result
-      → LeavesOnly host a d (λ f s. (s ≡ host.said a) × OpensAsOne host a name f)
-  opened a m d c k result told ready narrows reads chosen makes =
-      moments_join host a m d (λ f s. (s ≡ host.said a) × OpensAsOne host a name f) (λ f s. (s ≡ host.said m) × (Opens name c f ⊎ Opens name c f))
-      (only_looked a m told ready narrows)
+      → LeavesOnly host a d (λ f s. (s ≡ host.said a) × IsOpening host a name f)
+  opened a m d c k result told narrows alike reads chosen makes =
+      let read : Opens name c (host.files a) = subst (λ (g : Files). Opens name c g) (λ i n. alike.same told n i) (rests host name m k c (host.files m) chosen reads) in
+      moments_join host a m d (λ f s. (s ≡ host.said a) × IsOpening host a name f) (λ f s. (s ≡ host.said m) × (Opens name c f ⊎ Opens name c f))
+      (only_looked a m told narrows)
       makes.moments
-      (λ f s so. (
-        so.0 ∙ narrows.quiet told,
-        record {
-          is = c;
-          were = host.files m;
-          could = λ n. narrows.fewer told n (host.files m n) (reads n);
-          was = rests host name m k c (host.files m) chosen reads;
-          now = ⊎_elim (λ x. x) (λ x. x) so.1;
-        },
-      ))
+      (λ f s so. (so.0 ∙ narrows.quiet told, inr (record { is = c; read = read; now = ⊎_elim (λ x. x) (λ x. x) so.1 })))
+
+  -- Where all that each root names which could be chosen is firm, the files open at each moment as some that a stop before
+  -- could leave.
+  pub as_before : (a d : D) → ((n : List ℕ) → host.may_leave a n (host.files a n)) → IsReady host a name
+      → LeavesOnly host a d (λ f s. (s ≡ host.said a) × IsOpening host a name f) → LeavesOnly host a d (λ f s. (s ≡ host.said a) × OpensAsOne host a name f)
+  as_before a d reads ready run = weaker host a d (λ f s. (s ≡ host.said a) × OpensAsOne host a name f) (λ f s. (s ≡ host.said a) × IsOpening host a name f) run (λ f s so. (so.0, one f so.1))
+    where
+      one : (f : Files) → IsOpening host a name f → OpensAsOne host a name f
+      one f (inl could) =
+          let at = ready (f (roots_file name)) (could (roots_file name)) in
+          let opens = opens_as host name a at.1 f at.0 at.3 (λ n other. could n) at.2 in
+          record { is = at.1; were = f; could = could; was = opens; now = opens }
+      one f (inr opens) = record { is = opens.is; were = host.files a; could = reads; was = opens.read; now = opens.now }
+
+  -- both roots are one, and the gate is written
+  pub freshly : (m d : D) (k : ℕ) (c : Stored) → host.may_leave m (roots_file name) (host.files m (roots_file name)) → IsStaged host m name k c c
+      → host.may_leave d (roots_file name) (host.files d (roots_file name)) → IsChosen host d name k c
+      → IsWritten 8 (k ∷ []) (host.files m (roots_file name)) (host.files d (roots_file name)) → IsFresh k c.root (host.files d (roots_file name))
+  freshly m d k c reads staged now chosen written =
+      let was = bytes_of (host.files m (roots_file name)) in
+      let is = bytes_of (host.files d (roots_file name)) in
+      let same : (i : ℕ) → (i < 8) ⊎ (8 + 1 ≤ i) → slice_index is i ≡ slice_index was i = λ i out. written.outside i out in
+      record {
+        chosen = chosen.roots (host.files d (roots_file name)) now;
+        gate = written.inside 0 (lit< tt);
+        other = root_same (place (1 - k)) is was (λ i l u. same i (inr (omega arith))) ∙ staged.other (host.files m (roots_file name)) reads;
+      }

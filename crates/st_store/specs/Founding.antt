@@ -3,7 +3,7 @@ use Rattle.std.specs.Prelude.{◌≡◌, ◌≢◌, ◌⊎◌, ℕ, ◌<◌, Lis
 use Rattle.st_outside.specs.Files.{Files, bytes_of}
 use Rattle.st_outside.specs.declared.host.Host.{Ghosts}
 use Rattle.st_store.specs.Names.{roots_file}
-use Rattle.st_store.specs.Roots.{root_bytes}
+use Rattle.st_store.specs.Roots.{HasLetters, root_bytes}
 use Rattle.st_store.specs.Stored.{Stored, Opens}
 use Rattle.st_store.specs.declared.root.Root.{Root}
 
@@ -18,9 +18,10 @@ abbrev pub OpensMaybe : List ℕ → Option Stored → Files → Type 0
 OpensMaybe name None f = IsNoStore (f (roots_file name))
 OpensMaybe name (Some c) f = Opens name c f
 
--- nothing was changed so far, or the files of this name are no store's
+-- nothing was changed so far, or there was no store, and the files of this name are none's
 abbrev pub IsCleared : {D : Type 0} → Ghosts D → List ℕ → D → Files → Type 0
-IsCleared host name old f = ((n : List ℕ) → host.may_leave old n (f n)) ⊎ IsNoStore (f (roots_file name))
+IsCleared host name old f = ((n : List ℕ) → host.may_leave old n (f n))
+    ⊎ ((HasLetters (bytes_of (host.files old (roots_file name))) → ⊥) × IsNoStore (f (roots_file name)))
 
 -- the root of a new store: its image in slot 0, and no changes
 abbrev pub first_root : ℕ → Root
@@ -32,6 +33,10 @@ first_stored image_length image = record { root = first_root image_length; image
 -- the bytes of its roots file behind the letters: the gate, seven zero bytes, root 0, and zero bytes in the place of root 1
 abbrev pub first_bytes : Root → List ℕ
 first_bytes root = replicate 8 0 ++ (root_bytes root ++ replicate 32 0)
+
+-- the whole of it
+abbrev pub first_file : Root → List ℕ
+first_file root = codes "ST80ROOT" ++ first_bytes root
 
 -- one zero byte
 pub record IsBlank (file : Option (List ℕ)) : Type 0 where

@@ -1,5 +1,5 @@
 -- Where the files of a name are no store's: the first wrong place of the roots file.
-use Rattle.std.specs.Prelude.{◌≡◌, ◌≢◌, ◌⊎◌, ℕ, ◌+◌, ◌^◌, ◌<◌, ◌≤◌, List, length, slice_index, codes, Option, Some, None, Result, IsErrOf, ⊤}
+use Rattle.std.specs.Prelude.{◌≡◌, ◌≢◌, ◌⊎◌, ℕ, ◌+◌, ◌^◌, ◌<◌, ◌≤◌, List, length, slice_index, codes, Option, Some, None, IsSome, Result, IsErrOf, ⊤}
 use Rattle.st_outside.specs.Counts.{Rose}
 use Rattle.st_outside.specs.Files.{Files, bytes_of}
 use Rattle.st_store.specs.Names.{roots_file, changes_file, image_file}
@@ -30,6 +30,10 @@ pub record IsWrongSlot (file : List ℕ) (at : ℕ) : Type 0 where
 -- the first wrong place that the roots file shows by itself
 abbrev pub IsWrongFront : List ℕ → ℕ → Type 0
 IsWrongFront file at = IsWrongLetter file at ⊎ (EndsEarly file at ⊎ IsWrongSlot file at)
+
+-- the roots file is there, and this is the first wrong place that it shows by itself
+abbrev pub IsWrongRoots : Option (List ℕ) → ℕ → Type 0
+IsWrongRoots file at = IsSome file × IsWrongFront (bytes_of file) at
 
 -- the image is longer than its file
 pub record IsWrongImage (k : ℕ) (root : Root) (image at : ℕ) : Type 0 where
@@ -72,7 +76,7 @@ pub record NamesTooMuch (name : List ℕ) (f : Files) (at : ℕ) : Type 0 where
 abbrev pub RefusesFront : Option (List ℕ) → StoreFault → Type 0
 RefusesFront file Missing = file ≡ None
 RefusesFront file Exists = ⊥
-RefusesFront file (NotAStore (Roots at)) = IsWrongFront (bytes_of file) at
+RefusesFront file (NotAStore (Roots at)) = IsWrongRoots file at
 RefusesFront file (NotAStore (Changes at)) = ⊥
 RefusesFront file Disk = ⊤
 RefusesFront file OutOfMemory = ⊥
@@ -90,12 +94,37 @@ RefusesNumbers k root image changes OutOfMemory = ⊥
 abbrev pub Refuses : List ℕ → Files → StoreFault → Type 0
 Refuses name f Missing = f (roots_file name) ≡ None
 Refuses name f Exists = ⊥
-Refuses name f (NotAStore (Roots at)) = IsWrongFront (bytes_of (f (roots_file name))) at ⊎ NamesTooMuch name f at
+Refuses name f (NotAStore (Roots at)) = IsWrongRoots (f (roots_file name)) at ⊎ NamesTooMuch name f at
 Refuses name f (NotAStore (Changes at)) = ⊥
 Refuses name f Disk = ⊤
 Refuses name f OutOfMemory = ⊤
 
--- a disk fault comes only where its count rose
+-- Why a store isn't made where this is the roots file: there is one. The last two come from outside.
+abbrev pub RefusesNew : Option (List ℕ) → StoreFault → Type 0
+RefusesNew file Missing = ⊥
+RefusesNew file Exists = HasLetters (bytes_of file)
+RefusesNew file (NotAStore place) = ⊥
+RefusesNew file Disk = ⊤
+RefusesNew file OutOfMemory = ⊤
+
+-- the faults of opening a store, on any host
+abbrev pub IsOfOpening : StoreFault → Type 0
+IsOfOpening Missing = ⊤
+IsOfOpening Exists = ⊥
+IsOfOpening (NotAStore (Roots at)) = ⊤
+IsOfOpening (NotAStore (Changes at)) = ⊥
+IsOfOpening Disk = ⊤
+IsOfOpening OutOfMemory = ⊤
+
+-- the faults of making a store, on any host
+abbrev pub IsOfMaking : StoreFault → Type 0
+IsOfMaking Missing = ⊥
+IsOfMaking Exists = ⊤
+IsOfMaking (NotAStore place) = ⊥
+IsOfMaking Disk = ⊤
+IsOfMaking OutOfMemory = ⊤
+
+-- The count doesn't fall, and a disk fault comes only where it rose.
 pub record FaultHasCause {T : Type 0} (before now : ℕ) (result : Result T StoreFault) : Type 0 where
   pub later : before ≤ now
   pub rose : IsErrOf result Disk → Rose before now

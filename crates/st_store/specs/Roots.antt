@@ -1,6 +1,6 @@
 -- The roots file: eight letters, the gate, seven zero bytes, and two roots of four numbers each. The gate's low bit chooses
 -- one of them, and its other bits mean nothing. All numbers are big-endian.
-use Rattle.std.specs.Prelude.{◌≡◌, ◌≤◌, ◌<◌, ◌+◌, ◌*◌, ◌%◌, ◌^◌, ℕ, List, ◌++◌, length, drop, slice_index, Option, codes}
+use Rattle.std.specs.Prelude.{◌≡◌, ◌≤◌, ◌<◌, ◌+◌, ◌-◌, ◌*◌, ◌%◌, ◌^◌, ℕ, List, ◌++◌, length, drop, slice_index, Option, codes}
 use Rattle.byteorder.specs.Endian.{big_bytes, big_number}
 use Rattle.st_outside.specs.Files.{bytes_of}
 use Rattle.st_store.specs.declared.root.Root.{Root}
@@ -46,3 +46,9 @@ pub record Chooses (k : ℕ) (root : Root) (file : Option (List ℕ)) : Type 0 w
   pub whole : IsWhole file
   pub gate : chosen_number (bytes_of file) ≡ k
   pub names : root_at (place k) (bytes_of file) ≡ root
+
+-- The file chooses root k, which is this, its gate is just the number k, and the other root is this too.
+pub record IsFresh (k : ℕ) (root : Root) (file : Option (List ℕ)) : Type 0 where
+  pub chosen : Chooses k root file
+  pub gate : slice_index (bytes_of file) 8 ≡ k
+  pub other : root_at (place (1 - k)) (bytes_of file) ≡ root

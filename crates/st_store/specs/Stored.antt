@@ -1,5 +1,5 @@
 -- What a store has, and what a stop may leave of it.
-use Rattle.std.specs.Prelude.{◌≡◌, ◌≤◌, ◌^◌, ◌-◌, ℕ, List, length, take, Option}
+use Rattle.std.specs.Prelude.{◌≡◌, ◌⊎◌, ◌≤◌, ◌^◌, ◌-◌, ℕ, List, length, take, Option}
 use Rattle.st_outside.specs.Files.{Files, bytes_of}
 use Rattle.st_outside.specs.declared.host.Host.{Ghosts}
 use Rattle.st_store.specs.Names.{roots_file, changes_file, image_file}
@@ -73,6 +73,16 @@ module _ {D : Type 0} (host : Ghosts D) (h : D) where
     pub chosen : IsChosen name k c
     pub other : Leaves (roots_file name) (λ file. root_at (place (1 - k)) (bytes_of file) ≡ d.root)
     pub firm : IsFirm name d
+
+  -- what is read now opens as this, and so do these files
+  pub record OpensAsRead (name : List ℕ) (f : Files) : Type 0 where
+    pub is : Stored
+    pub read : Opens name is (host.files h)
+    pub now : Opens name is f
+
+  -- nothing was changed so far, or the files open as those that are read now
+  abbrev pub IsOpening : List ℕ → Files → Type 0
+  IsOpening name f = ((n : List ℕ) → host.may_leave h n (f n)) ⊎ OpensAsRead name f
 
   -- each root that a stop may leave chosen, the image bytes that it names and the changes up to its length are the same in
   -- every file that a stop may leave

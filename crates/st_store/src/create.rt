@@ -1,14 +1,14 @@
 // Making a store, in steps of a few calls.
-ghost use Rattle.std.specs.Prelude.{◌≡◌, ◌↔◌, ◌≤◌, ◌<◌, ◌+◌, ◌⊎◌, ◌≢◌, ◌++◌, ℕ, List, [], IsTrue, IfOk, IfErr, OnOk, Option, Some, None, length, slice_index, codes, string_bytes};
+ghost use Rattle.std.specs.Prelude.{◌≡◌, ◌↔◌, ℕ, List, [], IsTrue, IfOk, IfErr, OnOk, Option, Some, None, string_bytes};
 ghost use Rattle.st_outside.specs.Counts.{HasCause};
-ghost use Rattle.st_outside.specs.Files.{Files, bytes_of};
+ghost use Rattle.st_outside.specs.Files.{bytes_of};
 ghost use Rattle.st_outside.specs.Runs.{LeavesOnly, ReadsAlike, Narrows, NarrowsBut, Changes, ChangesBoth, IsSynced, Makes};
 ghost use Rattle.st_store.specs.Names.{roots_file, changes_file, image_file};
-ghost use Rattle.st_store.specs.Roots.{HasLetters, Fits, root_bytes};
-ghost use Rattle.st_store.specs.Founding.{OpensMaybe, IsCleared, IsBlank, first_root, first_stored, first_bytes};
-ghost use Rattle.st_store.specs.Refusals.{FaultHasCause};
+ghost use Rattle.st_store.specs.Roots.{HasLetters, Fits};
+ghost use Rattle.st_store.specs.Founding.{OpensMaybe, IsCleared, IsBlank, first_root, first_stored, first_bytes, first_file};
+ghost use Rattle.st_store.specs.Refusals.{RefusesNew, IsOfMaking, FaultHasCause};
 ghost use Rattle.st_store.specs.Stored.{Stored, Begins, Leaves, IsFirm, IsChosen, IsKept};
-ghost use Rattle.st_store.specs.declared.fault.StoreFault.TheVariants.{Exists, Disk};
+ghost use Rattle.st_store.specs.declared.fault.StoreFault.TheVariants.{Disk};
 
 use crate::front::{LETTERS, find_wrong_letter};
 use crate::names::Names;
@@ -61,10 +61,13 @@ pub fn clear<H: Host>(alloc: Global, host: &mut H, name: &str) -> Result<NewStor
     ensures named { IfOk result (λ store. store ≡ name.now) }
     ensures none { OnOk result (IsTrue H.is_told → HasLetters (bytes_of (H.files host.old (roots_file name.now))) → ⊥) }
     ensures empty { OnOk result (IsTrue H.is_told → Leaves H.Host.own host.new (roots_file name.now) (λ file. bytes_of file ≡ [])) }
-    ensures exists { IfErr result (λ e. e ≡ Exists → IsTrue H.is_told → HasLetters (bytes_of (H.files host.old (roots_file name.now)))) }
+    ensures refused { IfErr result (λ e. IsTrue H.is_told
+        → RefusesNew (H.files host.old (roots_file name.now)) e) }
+    ensures kind { IfErr result IsOfMaking }
     ensures writes_nothing { IfErr result (λ e. (e ≡ Disk → ⊥) → Narrows H.Host.own host.old host.new) }
 
-    // A stop at any moment leaves what it could leave before, or a roots file that opening refuses.
+    // A stop at any moment leaves what it could leave before, or, where there was no store, a roots file that opening
+    // refuses.
     ensures moments { IsTrue H.is_told → LeavesOnly H.Host.own host.old host.new
         (λ f s. (s ≡ H.said host.old) × IsCleared H.Host.own name.now host.old f) }
 
@@ -98,6 +101,8 @@ fn prepare<H: Host>(host: &mut H, names: &Names) -> Result<(), HostFault>
         → Makes {C = Option Stored} H.Host.own (OpensMaybe name) None None host.old host.new result }
     ensures blank { OnOk result (let name = string_bytes names.now.name in IsTrue H.is_told
         → Leaves H.Host.own host.old (roots_file name) (λ file. bytes_of file ≡ []) → Leaves H.Host.own host.new (roots_file name) IsBlank) }
+    ensures emptied { OnOk result (let changes = changes_file (string_bytes names.now.name) in IsTrue H.is_told
+        → H.files host.new changes ≡ Some []) }
     ensures changes { let name = string_bytes names.now.name in ChangesBoth H.Host.own (changes_file name) (roots_file name) host.old host.new }
     ensures cause { HasCause (H.disk_faults host.old) (H.disk_faults host.new) result }
 {
@@ -115,6 +120,8 @@ fn inscribe<H: Host>(host: &mut H, names: &Names, root: &Root) -> Result<(), Hos
     ensures chosen { OnOk result (let name = string_bytes names.now.name in (c : Stored) → IsTrue H.is_told
         → Leaves H.Host.own host.old (roots_file name) IsBlank → c.root ≡ root.now → IsFirm H.Host.own host.old name c
         → IsChosen H.Host.own host.new name 0 c) }
+    ensures bytes { OnOk result (let roots = roots_file (string_bytes names.now.name) in IsTrue H.is_told
+        → Leaves H.Host.own host.old roots IsBlank → H.files host.new roots ≡ Some (first_file root.now)) }
     ensures changes { Changes H.Host.own (roots_file (string_bytes names.now.name)) host.old host.new }
     ensures cause { HasCause (H.disk_faults host.old) (H.disk_faults host.new) result }
 {
@@ -142,6 +149,12 @@ pub fn found<H: Host>(
         → Leaves H.Host.own host.old (roots_file new_store) (λ file. bytes_of file ≡ [])
         → Leaves H.Host.own host.old (image_file new_store 0) (Begins image_length image)
         → IsKept H.Host.own host.new store (first_stored image_length image)) }
+
+    // The files' bytes after it.
+    ensures bytes { OnOk result (IsTrue H.is_told
+        → Leaves H.Host.own host.old (roots_file new_store) (λ file. bytes_of file ≡ [])
+        → H.files host.new (roots_file new_store) ≡ Some (first_file (first_root image_length))) }
+    ensures emptied { OnOk result (IsTrue H.is_told → H.files host.new (changes_file new_store) ≡ Some []) }
 
     ensures changes { ChangesBoth H.Host.own (changes_file new_store) (roots_file new_store) host.old host.new }
     ensures cause { HasCause (H.disk_faults host.old) (H.disk_faults host.new) result }

@@ -1,5 +1,5 @@
 // The first bytes of a roots file: its letters, its gate and its roots.
-ghost use Rattle.std.specs.Prelude.{◌≡◌, ◌≤◌, ◌+◌, ◌*◌, ◌<◌, MatchOption, IfOk, IfErr, Some, length};
+ghost use Rattle.std.specs.Prelude.{◌≤◌, ◌+◌, ◌*◌, ◌<◌, MatchOption, IfOk, IfErr, Some};
 ghost use Rattle.st_store.specs.Roots.{HasLetters, Chooses};
 ghost use Rattle.st_store.specs.Refusals.{IsWrongLetter, IsWrongFront};
 

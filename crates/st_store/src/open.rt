@@ -1,11 +1,11 @@
 // Opening a store, in steps of a few calls.
-ghost use Rattle.std.specs.Prelude.{◌≡◌, ◌≤◌, ◌<◌, ◌+◌, ◌^◌, ℕ, List, IsTrue, IfOk, IfErr, OnOk, MatchOption, Option, length, string_bytes};
-ghost use Rattle.st_outside.specs.Files.{Files, bytes_of};
+ghost use Rattle.std.specs.Prelude.{◌≡◌, ◌≤◌, ◌<◌, ◌+◌, IsTrue, IfOk, IfErr, OnOk, MatchOption, length};
+ghost use Rattle.st_outside.specs.Files.{bytes_of};
 ghost use Rattle.st_outside.specs.Runs.{LeavesOnly, ReadsAlike, Narrows, NarrowsBut, IsSynced};
 ghost use Rattle.st_store.specs.Names.{roots_file};
-ghost use Rattle.st_store.specs.Roots.{Chooses};
-ghost use Rattle.st_store.specs.Refusals.{IsWrongNumber, Fit, RefusesFront, RefusesNumbers, Refuses, FaultHasCause};
-ghost use Rattle.st_store.specs.Stored.{Opens, IsKept, IsReady, OpensAsOne, stored_in};
+ghost use Rattle.st_store.specs.Roots.{Chooses, IsFresh};
+ghost use Rattle.st_store.specs.Refusals.{IsWrongNumber, Fit, RefusesFront, RefusesNumbers, Refuses, IsOfOpening, FaultHasCause};
+ghost use Rattle.st_store.specs.Stored.{Opens, IsKept, IsOpening, stored_in};
 ghost use Rattle.st_store.specs.declared.fault.StoreFault.TheVariants.{NotAStore, Disk};
 ghost use Rattle.st_store.specs.declared.fault.StorePlace.TheVariants.{Roots};
 
@@ -31,6 +31,7 @@ fn look<H: Host>(host: &mut H, roots: &str) -> Result<Chosen, StoreFault>
     ensures slot { IfOk result (λ r. r.root.slot ≤ 1) }
     ensures chooses { IfOk result (λ r. IsTrue H.is_told → Chooses r.number r.root (H.files host.old roots.now)) }
     ensures refused { IfErr result (λ e. IsTrue H.is_told → RefusesFront (H.files host.old roots.now) e) }
+    ensures kind { IfErr result IsOfOpening }
     ensures synced { OnOk result (IsSynced H.Host.own roots.now host.new) }
     ensures alike { OnOk result (ReadsAlike H.Host.own host.old host.new) }
     ensures narrows { Narrows H.Host.own host.old host.new }
@@ -80,6 +81,7 @@ fn make_firm<H: Host>(
     ensures fit { OnOk result (IsTrue H.is_told → Fit chosen.now.root (length (bytes_of (H.files host.old image.now))) (length (bytes_of (H.files host.old changes.now)))) }
     ensures refused { IfErr result (λ e. IsTrue H.is_told
         → RefusesNumbers chosen.now.number chosen.now.root (length (bytes_of (H.files host.old image.now))) (length (bytes_of (H.files host.old changes.now))) e) }
+    ensures kind { IfErr result IsOfOpening }
     ensures image { OnOk result (IsSynced H.Host.own image.now host.new) }
     ensures changes { OnOk result (IsSynced H.Host.own changes.now host.new) }
     ensures alike { OnOk result (ReadsAlike H.Host.own host.old host.new) }
@@ -102,12 +104,15 @@ pub fn open_store<H: Host>(alloc: Global, host: &mut H, name: &str) -> Result<St
     ensures named { IfOk result (λ store. store.name ≡ name.now) }
     ensures opens { IfOk result (λ store. IsTrue H.is_told → Opens name.now (stored_in name.now (H.files host.old) store.root) (H.files host.old)) }
     ensures kept { IfOk result (λ store. IsTrue H.is_told → IsKept H.Host.own host.new store (stored_in name.now (H.files host.old) store.root)) }
+    ensures fresh { IfOk result (λ store. IsTrue H.is_told
+        → IsFresh store.chosen store.root (H.files host.new (roots_file name.now))) }
     ensures refused { IfErr result (λ e. IsTrue H.is_told → Refuses name.now (H.files host.old) e) }
+    ensures kind { IfErr result IsOfOpening }
     ensures writes_nothing { IfErr result (λ e. (e ≡ Disk → ⊥) → Narrows H.Host.own host.old host.new) }
 
-    // A stop at any moment leaves files that open as some that a stop before the call could leave.
-    ensures moments { IsTrue H.is_told → IsReady H.Host.own host.old name.now
-        → LeavesOnly H.Host.own host.old host.new (λ f s. (s ≡ H.said host.old) × OpensAsOne H.Host.own host.old name.now f) }
+    // A stop at any moment leaves what it could leave before, or files that open as those that were read.
+    ensures moments { IsTrue H.is_told → LeavesOnly H.Host.own host.old host.new
+        (λ f s. (s ≡ H.said host.old) × IsOpening H.Host.own host.old name.now f) }
 
     ensures only { NarrowsBut H.Host.own (roots_file name.now) host.old host.new }
     ensures cause { FaultHasCause (H.disk_faults host.old) (H.disk_faults host.new) result }

@@ -1,6 +1,7 @@
 // The two steps of a commit, which opening takes too: the other root, and the gate.
-ghost use Rattle.std.specs.Prelude.{◌≡◌, ◌≤◌, ◌-◌, ℕ, List, IsTrue, OnOk, string_bytes};
+ghost use Rattle.std.specs.Prelude.{◌≡◌, ◌≤◌, ◌-◌, ◌∷◌, ℕ, [], IsTrue, OnOk, string_bytes};
 ghost use Rattle.st_outside.specs.Counts.{HasCause};
+ghost use Rattle.st_outside.specs.Files.{IsWritten};
 ghost use Rattle.st_outside.specs.Runs.{Makes, Changes};
 ghost use Rattle.st_store.specs.Names.{roots_file};
 ghost use Rattle.st_store.specs.Stored.{Stored, Opens, IsFirm, IsChosen, IsStaged};
@@ -35,6 +36,9 @@ pub(crate) fn stage<H: Host>(
 /// Writes the gate, and syncs it. At each moment either root is chosen.
 pub(crate) fn turn<H: Host>(host: &mut H, names: &Names, gate: u64) -> Result<(), HostFault>
     requires { gate ≤ 1 }
+    ensures written { OnOk result (let roots = roots_file (string_bytes names.now.name) in IsTrue H.is_told
+        → IsWritten 8 (gate ∷ []) (H.files host.old roots) (H.files host.new roots)) }
+
     // in a commit
     ensures makes { let name = string_bytes names.now.name in (k : ℕ) (c d : Stored) → IsTrue H.is_told
         → gate ≡ 1 - k → IsStaged H.Host.own host.old name k c d → Makes H.Host.own (Opens name) c d host.old host.new result }

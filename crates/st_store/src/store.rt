@@ -1,6 +1,7 @@
 // A store that is open.
-ghost use Rattle.std.specs.Prelude.{◌≡◌, ◌≤◌, ◌-◌, ℕ, List, IsTrue, IfOk};
+ghost use Rattle.std.specs.Prelude.{◌≡◌, ◌≤◌, ◌-◌, IsTrue, IfOk, slice_index};
 ghost use Rattle.st_outside.specs.Counts.{HasCause};
+ghost use Rattle.st_outside.specs.Files.{bytes_of};
 ghost use Rattle.st_store.specs.Names.{roots_file, image_file};
 
 use crate::Root;
@@ -58,6 +59,8 @@ impl Store {
         ensures kept { IfOk result (λ store. (c d : Stored) → IsTrue H.is_told → IsKept H.Host.own host.old self c
             → IsFirm H.Host.own host.old self.name d → d.root ≡ root → IsKept H.Host.own host.new store d) }
 
+        ensures gate { IfOk result (λ store. IsTrue H.is_told
+            → slice_index (bytes_of (H.files host.new (roots_file store.name))) 8 ≡ store.chosen) }
         ensures changes { Changes H.Host.own (roots_file self.name) host.old host.new }
         ensures cause { HasCause (H.disk_faults host.old) (H.disk_faults host.new) result }
     {

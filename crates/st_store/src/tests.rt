@@ -1,7 +1,7 @@
 // What no clause says: that calls succeed, and the bytes of a store's files.
 use crate::{Root, StoreFault, StorePlace, clear, found, open_store};
 use st_host::MemHost;
-use st_outside::read_from;
+use st_outside::{file_length, read_from};
 use std::alloc::{AllocError, Global};
 use std::process::Abort;
 use std::test::Fail;
@@ -10,6 +10,11 @@ use std::test::Fail;
 const NEW: [u8; 80] = *b"ST80ROOT\0\0\0\0\0\0\0\0\
 \0\0\0\0\0\0\0\0\0\0\0\0\0\0\x04\x84\0\0\0\0\0\0\0\0\0\0\0\0\0\0\0\0\
 \0\0\0\0\0\0\0\0\0\0\0\0\0\0\0\0\0\0\0\0\0\0\0\0\0\0\0\0\0\0\0\0";
+
+// What opening makes of it: the gate is 1, and both roots are root 1.
+const OPENED: [u8; 80] = *b"ST80ROOT\x01\0\0\0\0\0\0\0\
+\0\0\0\0\0\0\0\0\0\0\0\0\0\0\0\x03\0\0\0\0\0\0\0\0\0\0\0\0\0\0\0\x02\
+\0\0\0\0\0\0\0\0\0\0\0\0\0\0\0\x03\0\0\0\0\0\0\0\0\0\0\0\0\0\0\0\x02";
 
 // Root 0 is empty, root 1 names three bytes of image and two of changes, and the gate was left torn.
 const TORN: [u8; 80] = *b"ST80ROOT\xff\0\0\0\0\0\0\0\
@@ -43,6 +48,7 @@ fn a_store_is_made(rt: HostRuntime) -> Result<(), Fail> {
     let made = clear(alloc, &mut host, "s")?;
     let store = found(made, &mut host, 1156)?;
     check_roots(&rt, &mut host, &NEW);
+    assert_eq!(rt; file_length(&mut host, "s.changes"), Ok(Some(0)));
     assert_eq!(rt; store.root().image_length, 1156);
     let again = clear(alloc, &mut host, "s").err();
     assert_eq!(rt; again, Some(StoreFault::Exists));
@@ -55,6 +61,7 @@ fn a_torn_gate_chooses_a_root(rt: HostRuntime) -> Result<(), Fail> {
     let mut host = host_with(alloc, &TORN, &[1, 2, 3])?;
     let store = open_store(alloc, &mut host, "s")?;
     assert_eq!(rt; store.root().length, 2);
+    check_roots(&rt, &mut host, &OPENED);
     let next = Root {
         length: 3,
         ..store.root()

@@ -1,11 +1,8 @@
-use Rattle.std.proofs.Common.{◌≡◌, List, ℕ, [], IsTrue, sym, ap, subst, ◌∙◌, true≢false}
+use Rattle.std.proofs.Common.{◌≡◌, List, ℕ, sym, ap, subst, ◌∙◌, true≢false}
 use Rattle.st_outside.specs.Files.{bytes_of, IsCut}
-use Rattle.st_outside.specs.Runs.{LeavesOnly, Narrows, NarrowsBut, IsSynced}
-use Rattle.st_outside.proofs.Touching.{narrows_but}
+use Rattle.st_outside.specs.Runs.{IsSynced}
 use Rattle.st_store.specs.Names.{roots_file}
 use Rattle.st_store.specs.Roots.{HasLetters}
-use Rattle.st_store.specs.Founding.{IsCleared}
-use Rattle.st_store.specs.Stored.{Leaves}
 use Rattle.st_store.proofs.Opening.{narrows_none}
 use Rattle.st_store.proofs.Clearing.{while_looked, while_cut, emptied, only_cut, cuts_as}
 use Rattle.st_store.proofs.create.clear.Goals as goal
@@ -21,8 +18,8 @@ returns-in_err-there-clause-moments g c told = while_looked g.H.Host c.args.name
 pub returns-then-there-clause-moments : goal.returns-then-there-clause-moments
 returns-then-there-clause-moments g c told = while_looked g.H.Host c.args.name.now c.args.host.now c.find_store.new.host told c.find_store.ensures.narrows
 
-pub returns-then-there-clause-exists : goal.returns-then-there-clause-exists
-returns-then-there-clause-exists g c is told =
+pub returns-then-there-clause-refused : goal.returns-then-there-clause-refused
+returns-then-there-clause-refused g c told =
     let H = g.H.Host in
     let a = c.args.host.now in
     subst (λ (y : List ℕ). HasLetters (bytes_of (H.files a (roots_file y)))) c.in_ok-names.ensures

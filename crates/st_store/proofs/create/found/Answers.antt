@@ -1,12 +1,13 @@
-use Rattle.std.proofs.Common.{◌≡◌, ℕ, List, [], Option, IsTrue, string_bytes, refl, sym, subst}
+use Rattle.std.proofs.Common.{◌≡◌, ℕ, List, [], string_bytes, refl, sym, subst, ◌∙◌}
 use Rattle.std.specs.Prelude.{Some, None}
 use Rattle.st_outside.specs.Files.{bytes_of}
-use Rattle.st_outside.specs.Runs.{Makes, ChangesBoth}
-use Rattle.st_outside.proofs.Joining.{on_err, makes_then, makes_failed, makes_of}
+use Rattle.st_outside.specs.Runs.{ChangesBoth}
+use Rattle.st_outside.proofs.Joining.{makes_then, makes_failed, makes_of}
 use Rattle.st_outside.proofs.Touching.{both_more}
 use Rattle.st_store.specs.Names.{roots_file, changes_file, image_file}
-use Rattle.st_store.specs.Stored.{Stored, Begins, Leaves}
-use Rattle.st_store.specs.Founding.{OpensMaybe, first_stored}
+use Rattle.st_store.specs.Stored.{Begins, Leaves}
+use Rattle.st_store.specs.Founding.{OpensMaybe, first_root, first_stored, first_file}
+use Rattle.st_store.proofs.Others.{changes_roots}
 use Rattle.st_store.proofs.Founding.{first_firm, maybe_as}
 use Rattle.st_store.proofs.create.found.Goals as goal
 
@@ -88,3 +89,19 @@ returns-clause-changes g c =
     let n = string_bytes c.new_store.inside.names.name in
     subst (λ (y : List ℕ). ChangesBoth g.H.Host (changes_file y) (roots_file y) c.args.host.now c.inscribe.new.host) c.new_store.view_is
     (both_more g.H.Host (changes_file n) (roots_file n) c.args.host.now c.prepare.new.host c.inscribe.new.host c.prepare.ensures.changes c.inscribe.ensures.changes)
+
+pub returns-clause-bytes : goal.returns-clause-bytes
+returns-clause-bytes g c told empty =
+    let H = g.H.Host in
+    let n = string_bytes c.new_store.inside.names.name in
+    let named : n ≡ c.args.new_store = c.new_store.view_is in
+    let none = subst (λ (y : List ℕ). Leaves H c.args.host.now (roots_file y) (λ file. bytes_of file ≡ [])) (sym named) empty in
+    subst (λ (y : List ℕ). H.files c.inscribe.new.host (roots_file y) ≡ Some (first_file (first_root c.args.image_length))) named
+    (c.in_ok-inscribe.ensures.bytes told (c.in_ok-prepare.ensures.blank told none))
+
+pub returns-clause-emptied : goal.returns-clause-emptied
+returns-clause-emptied g c told =
+    let H = g.H.Host in
+    let n = string_bytes c.new_store.inside.names.name in
+    subst (λ (y : List ℕ). H.files c.inscribe.new.host (changes_file y) ≡ Some []) c.new_store.view_is
+    ((c.inscribe.ensures.changes.others told).files (changes_file n) (changes_roots n) ∙ c.in_ok-prepare.ensures.emptied told)

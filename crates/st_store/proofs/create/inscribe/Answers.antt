@@ -1,13 +1,13 @@
-use Rattle.std.proofs.Common.{◌≡◌, ℕ, List, length, codes, Option, IsTrue, string_bytes, refl, sym, subst, ap, ◌∙◌, arith}
+use Rattle.std.proofs.Common.{◌≡◌, ℕ, List, length, codes, Option, string_bytes, refl, sym, subst, ap, ◌∙◌, arith}
 use Rattle.std.specs.Prelude.{Some, None}
 use Rattle.st_outside.proofs.Joining.{on_ok, on_err, makes_then, makes_failed}
 use Rattle.st_outside.proofs.Touching.{write_changes, changes_join}
 use Rattle.st_store.specs.Names.{roots_file}
 use Rattle.st_store.specs.Roots.{Fits, Chooses}
-use Rattle.st_store.specs.Stored.{Stored, Leaves, IsChosen}
+use Rattle.st_store.specs.Stored.{Leaves, IsChosen}
 use Rattle.st_store.specs.Founding.{OpensMaybe, first_bytes}
 use Rattle.st_store.proofs.Turning.{firm_on, writes_as, written_as, synced_as, rests}
-use Rattle.st_store.proofs.Founding.{Inscribed, inscribed_none, rest_written, letters_written, rest_makes, letters_make}
+use Rattle.st_store.proofs.Founding.{Inscribed, inscribed_none, rest_written, letters_written, whole_written, rest_makes, letters_make}
 use Rattle.st_store.proofs.create.inscribe.Goals as goal
 
 pub returns-in_err-write_synced-clause-makes : goal.returns-in_err-write_synced-clause-makes
@@ -131,3 +131,16 @@ returns-clause-changes g c =
     let begun = write_changes H (roots_file name) 8 _ a b (writes_as H name c.roots.result.now 8 _ _ a b c.roots.ensures (λ i. length c.first_bytes-bytes.result) c.write_synced.ensures.writes) in
     let d = c.write_synced-2.new.host in
     changes_join H (roots_file name) a b d begun (write_changes H (roots_file name) 0 8 b d (writes_as H name c.roots-2.result.now 0 8 8 b d c.roots-2.ensures refl c.write_synced-2.ensures.writes))
+
+pub returns-clause-bytes : goal.returns-clause-bytes
+returns-clause-bytes g c told blank =
+    let H = g.H.Host in
+    let a = c.args.host.now in
+    let b = c.write_synced.new.host in
+    let d = c.write_synced-2.new.host in
+    let name = string_bytes c.args.names.now.name in
+    let root = c.args.root.now in
+    let reads = g.met.H.Host.read_counts a (roots_file name) told in
+    let body = written_as H name c.roots.result.now 8 c.first_bytes-bytes.result (first_bytes root) a b c.roots.ensures c.first_bytes-bytes.ensures.bytes (c.in_ok-write_synced.ensures.written told) in
+    let head = written_as H name c.roots-2.result.now 0 (codes "ST80ROOT") (codes "ST80ROOT") b d c.roots-2.ensures refl (c.in_ok-write_synced-2.ensures.written told) in
+    whole_written root (H.files a (roots_file name)) (H.files b (roots_file name)) (H.files d (roots_file name)) (blank (H.files a (roots_file name)) reads) body head

@@ -1,13 +1,13 @@
-use Rattle.std.proofs.Common.{◌≡◌, ℕ, List, [], ◌∷◌, IsTrue, string_bytes, refl, sym, subst, ap}
-use Rattle.std.specs.Prelude.{Option, Some, None}
-use Rattle.st_outside.specs.Files.{bytes_of}
+use Rattle.std.proofs.Common.{ℕ, List, [], ◌∷◌, string_bytes, refl, sym, subst, ◌∙◌}
+use Rattle.std.specs.Prelude.{None}
+use Rattle.st_outside.specs.Files.{IsCut}
 use Rattle.st_outside.proofs.Joining.{on_ok, on_err, makes_then}
 use Rattle.st_outside.proofs.Touching.{cut_changes, write_changes, both_begun, both_join}
 use Rattle.st_store.specs.Names.{roots_file, changes_file}
-use Rattle.st_store.specs.Stored.{Stored}
-use Rattle.st_store.specs.Founding.{OpensMaybe, IsNoStore, IsBlank}
+use Rattle.st_store.specs.Founding.{OpensMaybe, IsBlank}
+use Rattle.st_store.proofs.Others.{changes_roots}
 use Rattle.st_store.proofs.Turning.{writes_as, written_as, synced_as}
-use Rattle.st_store.proofs.Clearing.{cuts_as}
+use Rattle.st_store.proofs.Clearing.{cuts_as, cut_empty}
 use Rattle.st_store.proofs.Founding.{empty_none, blank_none, blank_written, cut_makes, still_empty, blank_makes}
 use Rattle.st_store.proofs.create.prepare.Goals as goal
 
@@ -94,3 +94,14 @@ returns-clause-changes g c =
     let cuts = cuts_as H c.changes.result.now (changes_file name) 0 a b c.changes.ensures c.cut_synced.ensures.cuts in
     let writes = writes_as H name c.roots.result.now 0 1 1 b d c.roots.ensures refl c.write_synced.ensures.writes in
     both_join H (changes_file name) (roots_file name) a b d (cut_changes H (changes_file name) 0 a b cuts) (write_changes H (roots_file name) 0 1 b d writes)
+
+pub returns-clause-emptied : goal.returns-clause-emptied
+returns-clause-emptied g c told =
+    let H = g.H.Host in
+    let a = c.args.host.now in
+    let b = c.cut_synced.new.host in
+    let d = c.write_synced.new.host in
+    let name = string_bytes c.args.names.now.name in
+    let writes = writes_as H name c.roots.result.now 0 1 1 b d c.roots.ensures refl c.write_synced.ensures.writes in
+    let cut = subst (λ (x : List ℕ). IsCut 0 (H.files a x) (H.files b x)) c.changes.ensures (c.in_ok-cut_synced.ensures.cut told) in
+    (writes.run.others told).files (changes_file name) (changes_roots name) ∙ cut_empty (H.files a (changes_file name)) (H.files b (changes_file name)) cut

@@ -1,10 +1,11 @@
-use Rattle.std.proofs.Common.{◌≡◌, ◌∙◌, List, ℕ, Option, sym, ap, subst}
+use Rattle.std.proofs.Common.{◌≡◌, ◌∙◌, List, ℕ, Option, IsSome, sym, ap, subst}
+use Rattle.std.specs.Prelude.{not}
 use Rattle.st_outside.specs.Files.{bytes_of}
 use Rattle.st_store.specs.Refusals.{RefusesFront}
 use Rattle.st_store.specs.declared.fault.StoreFault.{StoreFault}
 use Rattle.st_store.specs.declared.fault.StoreFault.TheVariants.{NotAStore}
 use Rattle.st_store.specs.declared.fault.StorePlace.TheVariants.{Roots}
-use Rattle.st_store.proofs.Fronts.{chooses_front, wrong_front}
+use Rattle.st_store.proofs.Fronts.{is_there, chooses_front, wrong_front}
 use Rattle.st_store.proofs.open.look.Goals as goal
 
 pub returns-in-Ok-clause-chooses : goal.returns-in-Ok-clause-chooses
@@ -20,6 +21,9 @@ returns-in-Err-clause-refused g c told =
     let roots = c.args.roots.now in
     let file = g.H.Host.files c.file_length.new.host roots in
     let is : file ≡ g.H.Host.files c.args.host.now roots = c.in_ok-length.ensures.alike.same told roots ∙ c.in_ok-sync_file.ensures.alike.same told roots in
+    let some : IsSome c.in_ok-length.length = c.is_none.ensures ∙ ap not c.if-is_none.false in
+    let there : IsSome file = subst (λ (x : Option (List ℕ)). IsSome x) (sym (c.in_ok-length.ensures.alike.same told roots))
+    (is_there c.in_ok-length.length (g.H.Host.files c.sync_file.new.host roots) (c.in_ok-length.ensures.length told) some) in
     subst (λ (e : StoreFault). RefusesFront (g.H.Host.files c.args.host.now roots) e) (sym c.damaged.ensures)
     (subst (λ (x : Option (List ℕ)). RefusesFront x (NotAStore (Roots c.in-Err.at))) is
-    (wrong_front (bytes_of file) c.in_ok-count.count c.read_from.new.into (c.read_from.auto.into) (c.in_ok-count.ensures.read told) c.in-Err.at c.in-Err.ensures.wrong))
+    (there, wrong_front (bytes_of file) c.in_ok-count.count c.read_from.new.into (c.read_from.auto.into) (c.in_ok-count.ensures.read told) c.in-Err.at c.in-Err.ensures.wrong))

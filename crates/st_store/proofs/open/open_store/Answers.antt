@@ -1,26 +1,27 @@
 use Rattle.std.proofs.lemmas.Result.{err_from_is_err_and}
 use Rattle.std.proofs.Common.{◌≡◌, List, ℕ, refl, string_bytes, subst}
 use Rattle.st_outside.specs.Runs.{LeavesOnly, NarrowsBut}
-use Rattle.st_outside.proofs.Joining.{narrows_join, makes_then}
+use Rattle.st_outside.proofs.Joining.{narrows_join, alike_join, makes_then}
 use Rattle.st_outside.proofs.Touching.{narrows_but, changes_join}
 use Rattle.st_store.specs.Names.{roots_file}
+use Rattle.st_store.specs.Roots.{IsFresh}
 use Rattle.st_store.specs.Refusals.{Refuses}
-use Rattle.st_store.specs.Stored.{Opens, IsChosen, IsReady, OpensAsOne, stored_in}
-use Rattle.st_store.proofs.Opening.{looked_at, refused_at, narrows_none, only_looked, opened, but_roots}
+use Rattle.st_store.specs.Stored.{Opens, IsChosen, IsOpening, stored_in}
+use Rattle.st_store.proofs.Opening.{looked_at, refused_at, narrows_none, only_looked, opened, freshly, but_roots}
 use Rattle.st_store.proofs.open.open_store.Goals as goal
 
 pub returns-in_err-names-clause-moments : goal.returns-in_err-names-clause-moments
-returns-in_err-names-clause-moments g c told ready =
+returns-in_err-names-clause-moments g c told =
     let a = c.args.host.now in
-    only_looked g.H.Host c.args.name.now a a told ready (narrows_none g.H.Host c.args.name.now a (λ told f s left. g.met.H.Host.only_now a f s told left))
+    only_looked g.H.Host c.args.name.now a a told (narrows_none g.H.Host c.args.name.now a (λ told f s left. g.met.H.Host.only_now a f s told left))
 
 pub returns-in_err-chosen-clause-moments : goal.returns-in_err-chosen-clause-moments
-returns-in_err-chosen-clause-moments g c told ready =
-    only_looked g.H.Host c.args.name.now c.args.host.now c.look.new.host told ready c.look.ensures.narrows
+returns-in_err-chosen-clause-moments g c told =
+    only_looked g.H.Host c.args.name.now c.args.host.now c.look.new.host told c.look.ensures.narrows
 
 pub returns-in_err-make_firm-clause-moments : goal.returns-in_err-make_firm-clause-moments
-returns-in_err-make_firm-clause-moments g c told ready =
-    only_looked g.H.Host c.args.name.now c.args.host.now c.make_firm.new.host told ready
+returns-in_err-make_firm-clause-moments g c told =
+    only_looked g.H.Host c.args.name.now c.args.host.now c.make_firm.new.host told
     (narrows_join g.H.Host c.args.host.now c.look.new.host c.make_firm.new.host c.look.ensures.narrows c.make_firm.ensures.narrows)
 
 pub returns-in_err-make_firm-clause-only : goal.returns-in_err-make_firm-clause-only
@@ -46,7 +47,7 @@ returns-in_err-make_firm-clause-refused g c =
     told c.roots.ensures c.image.ensures c.changes.ensures look.slot (look.chooses told) look.alike (c.in_err-make_firm.ensures.refused told)))
 
 pub returns-in_err-stage-clause-moments : goal.returns-in_err-stage-clause-moments
-returns-in_err-stage-clause-moments g c told ready =
+returns-in_err-stage-clause-moments g c told =
     let H = g.H.Host in
     let n = string_bytes c.in_ok-names.names.name in
     let a = c.args.host.now in
@@ -60,12 +61,12 @@ returns-in_err-stage-clause-moments g c told ready =
     let narrows = narrows_join H a b m c.look.ensures.narrows c.make_firm.ensures.narrows in
     let chosen = looked_at H n a b m c.roots.result.now c.image.result.now c.changes.result.now root k told c.roots.ensures c.image.ensures c.changes.ensures
     look.number look.slot (look.chooses told) look.synced look.alike c.make_firm.ensures.narrows firm.alike (firm.fit told) firm.image firm.changes in
-    subst (λ (y : List ℕ). IsReady H a y → LeavesOnly H a c.stage.new.host (λ f s. (s ≡ H.said a) × OpensAsOne H a y f)) c.in_ok-names.ensures
-    (λ there. opened H n a m c.stage.new.host x k c.stage.result told there narrows (λ j. g.met.H.Host.read_counts m j told) chosen
-    (c.stage.ensures.makes x x told chosen chosen.firm refl)) ready
+    subst (λ (y : List ℕ). LeavesOnly H a c.stage.new.host (λ f s. (s ≡ H.said a) × IsOpening H a y f)) c.in_ok-names.ensures
+    (opened H n a m c.stage.new.host x k c.stage.result told narrows (alike_join H a b m look.alike firm.alike) (λ j. g.met.H.Host.read_counts m j told) chosen
+    (c.stage.ensures.makes x x told chosen chosen.firm refl))
 
 pub returns-in_err-turn-clause-moments : goal.returns-in_err-turn-clause-moments
-returns-in_err-turn-clause-moments g c told ready =
+returns-in_err-turn-clause-moments g c told =
     let H = g.H.Host in
     let n = string_bytes c.in_ok-names.names.name in
     let a = c.args.host.now in
@@ -79,13 +80,13 @@ returns-in_err-turn-clause-moments g c told ready =
     let narrows = narrows_join H a b m c.look.ensures.narrows c.make_firm.ensures.narrows in
     let chosen = looked_at H n a b m c.roots.result.now c.image.result.now c.changes.result.now root k told c.roots.ensures c.image.ensures c.changes.ensures
     look.number look.slot (look.chooses told) look.synced look.alike c.make_firm.ensures.narrows firm.alike (firm.fit told) firm.image firm.changes in
-    subst (λ (y : List ℕ). IsReady H a y → LeavesOnly H a c.turn.new.host (λ f s. (s ≡ H.said a) × OpensAsOne H a y f)) c.in_ok-names.ensures
-    (λ there. opened H n a m c.turn.new.host x k c.turn.result told there narrows (λ j. g.met.H.Host.read_counts m j told) chosen
+    subst (λ (y : List ℕ). LeavesOnly H a c.turn.new.host (λ f s. (s ≡ H.said a) × IsOpening H a y f)) c.in_ok-names.ensures
+    (opened H n a m c.turn.new.host x k c.turn.result told narrows (alike_join H a b m look.alike firm.alike) (λ j. g.met.H.Host.read_counts m j told) chosen
     (makes_then H (Opens n) x x m c.stage.new.host c.turn.new.host c.stage.result c.turn.result (c.stage.ensures.makes x x told chosen chosen.firm refl)
-    (c.turn.ensures.keeps x told (c.in_ok-stage.ensures.staged x x told chosen chosen.firm refl)))) ready
+    (c.turn.ensures.keeps x told (c.in_ok-stage.ensures.staged x x told chosen chosen.firm refl))))
 
 pub returns-clause-moments : goal.returns-clause-moments
-returns-clause-moments g c told ready =
+returns-clause-moments g c told =
     let H = g.H.Host in
     let n = string_bytes c.in_ok-names.names.name in
     let a = c.args.host.now in
@@ -99,10 +100,10 @@ returns-clause-moments g c told ready =
     let narrows = narrows_join H a b m c.look.ensures.narrows c.make_firm.ensures.narrows in
     let chosen = looked_at H n a b m c.roots.result.now c.image.result.now c.changes.result.now root k told c.roots.ensures c.image.ensures c.changes.ensures
     look.number look.slot (look.chooses told) look.synced look.alike c.make_firm.ensures.narrows firm.alike (firm.fit told) firm.image firm.changes in
-    subst (λ (y : List ℕ). IsReady H a y → LeavesOnly H a c.turn.new.host (λ f s. (s ≡ H.said a) × OpensAsOne H a y f)) c.in_ok-names.ensures
-    (λ there. opened H n a m c.turn.new.host x k c.turn.result told there narrows (λ j. g.met.H.Host.read_counts m j told) chosen
+    subst (λ (y : List ℕ). LeavesOnly H a c.turn.new.host (λ f s. (s ≡ H.said a) × IsOpening H a y f)) c.in_ok-names.ensures
+    (opened H n a m c.turn.new.host x k c.turn.result told narrows (alike_join H a b m look.alike firm.alike) (λ j. g.met.H.Host.read_counts m j told) chosen
     (makes_then H (Opens n) x x m c.stage.new.host c.turn.new.host c.stage.result c.turn.result (c.stage.ensures.makes x x told chosen chosen.firm refl)
-    (c.turn.ensures.keeps x told (c.in_ok-stage.ensures.staged x x told chosen chosen.firm refl)))) ready
+    (c.turn.ensures.keeps x told (c.in_ok-stage.ensures.staged x x told chosen chosen.firm refl))))
 
 pub returns-in_err-stage-clause-only : goal.returns-in_err-stage-clause-only
 returns-in_err-stage-clause-only g c =
@@ -151,3 +152,25 @@ returns-clause-kept g c told =
     look.number look.slot (look.chooses told) look.synced look.alike c.make_firm.ensures.narrows firm.alike (firm.fit told) firm.image firm.changes in
     let at : IsChosen H c.turn.new.host n k x = c.in_ok-turn.ensures.same x told (c.in_ok-stage.ensures.staged x x told chosen chosen.firm refl) in
     record { root = refl; is = subst (λ (y : List ℕ). IsChosen H c.turn.new.host n k (stored_in y (H.files a) root)) c.in_ok-names.ensures at }
+
+pub returns-clause-fresh : goal.returns-clause-fresh
+returns-clause-fresh g c told =
+    let H = g.H.Host in
+    let n = string_bytes c.in_ok-names.names.name in
+    let a = c.args.host.now in
+    let b = c.look.new.host in
+    let m = c.make_firm.new.host in
+    let k = c.in_ok-chosen.chosen.number in
+    let root = c.in_ok-chosen.chosen.root in
+    let x = stored_in n (H.files a) root in
+    let look = c.in_ok-chosen.ensures in
+    let firm = c.in_ok-make_firm.ensures in
+    let narrows = narrows_join H a b m c.look.ensures.narrows c.make_firm.ensures.narrows in
+    let chosen = looked_at H n a b m c.roots.result.now c.image.result.now c.changes.result.now root k told c.roots.ensures c.image.ensures c.changes.ensures
+    look.number look.slot (look.chooses told) look.synced look.alike c.make_firm.ensures.narrows firm.alike (firm.fit told) firm.image firm.changes in
+    let d = c.stage.new.host in
+    let e = c.turn.new.host in
+    let staged = c.in_ok-stage.ensures.staged x x told chosen chosen.firm refl in
+    subst (λ (y : List ℕ). IsFresh k root (H.files e (roots_file y))) c.in_ok-names.ensures
+    (freshly H n d e k x (g.met.H.Host.read_counts d (roots_file n) told) staged (g.met.H.Host.read_counts e (roots_file n) told)
+    (c.in_ok-turn.ensures.same x told staged) (c.in_ok-turn.ensures.written told))

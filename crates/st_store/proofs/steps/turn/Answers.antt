@@ -27,6 +27,11 @@ returns-in_err-write_synced-clause-keeps g c x told st =
     let writes = writes_as H name c.roots.result.now 8 1 1 a b c.roots.ensures refl c.write_synced.ensures.writes in
     turning H name x x a b _ told reads c.args.gate st writes (on_err _ _ c.from_residual.ensures.0)
 
+pub returns-clause-written : goal.returns-clause-written
+returns-clause-written g c told =
+    written_as g.H.Host (string_bytes c.args.names.now.name) c.roots.result.now 8 (c.args.gate ∷ []) (c.args.gate ∷ []) c.args.host.now c.write_synced.new.host
+    c.roots.ensures refl (c.in_ok-write_synced.ensures.written told)
+
 pub returns-clause-other : goal.returns-clause-other
 returns-clause-other g c k x d told is st =
     let H = g.H.Host in

@@ -1,4 +1,4 @@
-use Rattle.std.proofs.Common.{refl, string_bytes, sym, ap, subst}
+use Rattle.std.proofs.Common.{refl, string_bytes, sym, ap, subst, lit<}
 use Rattle.st_outside.specs.Runs.{Makes}
 use Rattle.st_outside.proofs.Joining.{makes_then, makes_failed, makes_of}
 use Rattle.st_store.specs.Stored.{StoreState, Opens, IsFirm, IsChosen}
@@ -50,3 +50,6 @@ returns-clause-kept g c x d told kept firm is =
     let there = subst (λ (s : StoreState). IsFirm H a s.name d) (sym c.self.view_is) firm in
     let staged = c.in_ok-stage.ensures.staged x d told chosen there is in
     record { root = is; is = c.in_ok-turn.ensures.other inside.chosen x d told refl staged }
+
+pub returns-clause-gate : goal.returns-clause-gate
+returns-clause-gate g c told = (c.in_ok-turn.ensures.written told).inside 0 (lit< tt)
