@@ -1,6 +1,6 @@
 -- The entries of definitions are read back.
-use Rattle.std.proofs.Common.{◌≡◌, ℕ, suc, leb, inl, inr, ◌+◌, ◌<◌, ◌≤◌, Bool, true, false, List, [], ◌∷◌, ◌++◌, length, refl, sym, ap, ◌∙◌, append_assoc, subst, arith}
-use Rattle.std.specs.Prelude.{◌==◌, ◌&&◌, if◌then◌else◌, reverse, IsTrue, IsFalse, Option, Some, None, All, codes}
+use Rattle.std.proofs.Common.{◌≡◌, ℕ, suc, leb, inl, inr, ◌≤◌, Bool, true, false, List, [], ◌∷◌, ◌++◌, length, refl, sym, ap, ◌∙◌, append_assoc, subst, arith}
+use Rattle.std.specs.Prelude.{◌==◌, if◌then◌else◌, reverse, IsTrue, Option, Some, None, All, codes}
 use Rattle.std.specs.Option.{option_map, option_and_then}
 use Rattle.std.specs.List.{list_all}
 use Rattle.std.specs.Int.{is_in_range}
@@ -8,10 +8,10 @@ use Rattle.std.specs.Str.{byte}
 use Rattle.std.specs.Char.{is_ascii_alphabetic, is_ascii_alphanumeric}
 use Rattle.std.proofs.lemmas.List.{append-nil, reverse-append, reverse-reverse}
 use Rattle.std.proofs.lemmas.Bool.{eqb-true, ne_eqb, leb-true, and_parts, or_cases}
-use Rattle.st_chunk.proofs.Tests.{by_test}
+use Rattle.st_chunk.proofs.Cases.{by_test}
 use Rattle.st_chunk.specs.Texts.{mark, Cut, with_chunk, cut_behind, behind_mark, cut, chunks, doubled, is_blank, is_empty}
-use Rattle.st_chunk.specs.Groups.{begins, is_name, after_blanks, trimmed, word_of, behind_word, behind, behind_blanks, quotes_doubled, quoted, inside_quotes, behind_quote, unquoted, Header, side_text, header_text, with_category, with_side, header_in, header_of, Group, Opened, closed, with_method, with_header, groups, opened, methods}
-use Rattle.st_chunk.specs.Definitions.{Definition, header_for, IsDefinition, line_feed, entry, entries, group_definitions, definitions}
+use Rattle.st_chunk.specs.Groups.{begins, is_name, after_blanks, trimmed, word_of, behind_word, behind, behind_blanks, quotes_doubled, quoted, inside_quotes, Header, side_text, header_text, with_side, header_in, header_of, Group, Opened, closed, with_method, with_header, groups, methods}
+use Rattle.st_chunk.specs.Definitions.{Definition, header_for, IsDefinition, line_feed, entry, entries, definitions}
 
 -- CUTTING
 

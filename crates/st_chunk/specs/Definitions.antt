@@ -1,5 +1,5 @@
 -- Definitions of methods, and the text that a changes file keeps of each.
-use Rattle.std.specs.Prelude.{◌≡◌, ℕ, ◌≤◌, Bool, List, [], ◌∷◌, ◌++◌, length, reverse, map, IsTrue, IsFalse, codes}
+use Rattle.std.specs.Prelude.{ℕ, ◌≤◌, Bool, List, [], ◌∷◌, ◌++◌, length, reverse, map, IsTrue, IsFalse, codes}
 use Rattle.st_chunk.specs.Texts.{mark, most, doubled, is_blank}
 use Rattle.st_chunk.specs.Groups.{begins, is_name, Header, header_text, Group}
 

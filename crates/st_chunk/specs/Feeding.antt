@@ -1,5 +1,5 @@
 -- A text that is read byte by byte: whether a mark ends a chunk is known at the byte behind it, or at the end.
-use Rattle.std.specs.Prelude.{◌≡◌, ℕ, ◌==◌, ◌≤◌, nat_lt, nat_le, Bool, List, [], ◌∷◌, ◌++◌, length, if◌then◌else◌}
+use Rattle.std.specs.Prelude.{ℕ, ◌==◌, nat_lt, nat_le, List, [], ◌∷◌, ◌++◌, length, if◌then◌else◌}
 use Rattle.st_chunk.specs.declared.cutting.Phase.{Phase}
 use Rattle.st_chunk.specs.declared.cutting.Phase.TheVariants.{Within, Marked, Told, Long, Ended}
 use Rattle.st_chunk.specs.declared.cutting.Fed.{Fed}
