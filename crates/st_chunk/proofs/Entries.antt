@@ -1,17 +1,19 @@
 -- The entries of definitions are read back.
-use Rattle.std.proofs.Common.{◌≡◌, ℕ, suc, leb, inl, inr, ◌+◌, ◌<◌, ◌≤◌, Bool, true, false, List, [], ◌∷◌, ◌++◌, length, refl, sym, ap, ◌∙◌, append_assoc, subst, arith}
-use Rattle.std.specs.Prelude.{◌==◌, ◌&&◌, if◌then◌else◌, reverse, IsTrue, IsFalse, Option, Some, None, All, codes}
+use Rattle.std.proofs.Common.{◌≡◌, ℕ, suc, leb, inl, inr, ◌≤◌, Bool, true, false, List, [], ◌∷◌, ◌++◌, length, refl, sym, ap, ◌∙◌, append_assoc, subst, arith}
+use Rattle.std.specs.Prelude.{◌==◌, if◌then◌else◌, reverse, IsTrue, Option, Some, None, All, codes}
 use Rattle.std.specs.Option.{option_map, option_and_then}
 use Rattle.std.specs.List.{list_all}
 use Rattle.std.specs.Int.{is_in_range}
 use Rattle.std.specs.Str.{byte}
 use Rattle.std.specs.Char.{is_ascii_alphabetic, is_ascii_alphanumeric}
 use Rattle.std.proofs.lemmas.List.{append-nil, reverse-append, reverse-reverse}
-use Rattle.std.proofs.lemmas.Bool.{eqb-true, ne_eqb, leb-true, and_parts, or_cases}
-use Rattle.st_chunk.proofs.Tests.{by_test}
-use Rattle.st_chunk.specs.Texts.{mark, Cut, with_chunk, cut_behind, behind_mark, cut, chunks, doubled, is_blank, is_empty}
-use Rattle.st_chunk.specs.Groups.{begins, is_name, after_blanks, trimmed, word_of, behind_word, behind, behind_blanks, quotes_doubled, quoted, inside_quotes, behind_quote, unquoted, Header, side_text, header_text, with_category, with_side, header_in, header_of, Group, Opened, closed, with_method, with_header, groups, opened, methods}
-use Rattle.st_chunk.specs.Definitions.{Definition, header_for, IsDefinition, line_feed, entry, entries, group_definitions, definitions}
+use Rattle.std.proofs.lemmas.Bool.{eqb-true, ne_eqb, leb-true, le-leb, and_parts, or_cases}
+use Rattle.st_chunk.proofs.Cases.{by_test}
+use Rattle.st_chunk.proofs.Reading.{by_bytes}
+use Rattle.st_chunk.specs.Texts.{mark, most, Cut, with_chunk, cut_behind, behind_mark, cut, doubled, is_blank, is_empty}
+use Rattle.st_chunk.specs.Groups.{begins, is_name, after_blanks, trimmed, word_of, behind_word, behind, behind_blanks, quotes_doubled, quoted, inside_quotes, Header, side_text, header_text, with_side, header_in, header_of, Group, Opened, closed, with_method, with_header, groups, methods}
+use Rattle.st_chunk.specs.Definitions.{Definition, header_for, IsDefinition, line_feed, entry, method_part, entries, definitions, definitions_in}
+use Rattle.st_chunk.specs.Feeding.{start, Account, whole, too_long, with_one, account, limited, first_told}
 
 -- CUTTING
 
@@ -213,7 +215,7 @@ definitions_back : (ds : List Definition) → definitions (groups_for ds) ≡ ds
 definitions_back [] = refl
 definitions_back (d ∷ ds) = ap (λ (x : List Definition). d ∷ x) (definitions_back ds)
 
-pub read_back : (ds : List Definition) → All IsDefinition ds → option_map definitions (groups (chunks (entries ds))) ≡ Some ds
+pub read_back : (ds : List Definition) → All IsDefinition ds → definitions_in (entries ds) ≡ Some ds
 read_back ds all = ap (λ (o : Option (List Group)). option_map definitions o) (entries_groups ds [] all refl) ∙ ap (λ (x : List Definition). Some x) (definitions_back ds)
 
 rest_blank : (ds : List Definition) (before : List ℕ) → All IsDefinition ds → is_empty before ≡ true → is_empty (cut_behind before (entries ds)).rest ≡ true
@@ -223,3 +225,21 @@ rest_blank (d ∷ ds) before all e =
 
 pub blanks_behind : (ds : List Definition) → All IsDefinition ds → IsTrue (is_empty (cut (entries ds)).rest)
 blanks_behind ds all = rest_blank ds [] all refl
+
+-- ONE METHOD
+
+first_with : (text : List ℕ) (a : Account) → first_told (with_one text a) ≡ Some text
+first_with text (whole c) = refl
+first_with text (too_long before) = refl
+
+first_limited : (text : List ℕ) (c : Cut) → length text ≤ most → first_told (limited (text ∷ c.chunks) c.rest) ≡ Some text
+first_limited text c short = rw (le-leb (length text) most short) (first_with text (limited c.chunks c.rest))
+
+-- the chunk that is told first of what stands behind the line feed
+pub method_first : (d : Definition) (rest : List ℕ) → IsDefinition d → first_told (account start (method_part d ++ rest)) ≡ Some d.text
+method_first d rest is =
+    let closing : List ℕ = mark ∷ line_feed ∷ rest in
+    ap first_told (by_bytes (method_part d ++ rest))
+    ∙ ap (λ (x : List ℕ). first_told (limited (cut x).chunks (cut x).rest)) (append_assoc (doubled d.text) (codes "! !" ++ line_feed ∷ []) rest)
+    ∙ ap (λ (c : Cut). first_told (limited c.chunks c.rest)) (cut_doubled [] d.text 32 closing refl)
+    ∙ first_limited d.text (cut_behind (32 ∷ []) closing) is.short

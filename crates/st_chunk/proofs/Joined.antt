@@ -1,10 +1,10 @@
 -- A text is that of what is cut from it.
-use Rattle.std.proofs.Common.{◌≡◌, ℕ, Bool, true, false, List, [], ◌∷◌, ◌++◌, refl, sym, ap, ◌∙◌, append_assoc}
+use Rattle.std.proofs.Common.{◌≡◌, ℕ, true, false, List, [], ◌∷◌, ◌++◌, refl, sym, ap, ◌∙◌, append_assoc}
 use Rattle.std.specs.Prelude.{◌==◌, if◌then◌else◌}
 use Rattle.std.proofs.lemmas.List.{append-nil}
 use Rattle.std.proofs.lemmas.Bool.{eqb-true}
-use Rattle.st_chunk.proofs.Tests.{by_test}
-use Rattle.st_chunk.specs.Texts.{mark, Cut, with_chunk, cut_behind, behind_mark, cut, doubled, chunk_text, joined}
+use Rattle.st_chunk.proofs.Cases.{by_test}
+use Rattle.st_chunk.specs.Texts.{mark, cut_behind, behind_mark, cut, doubled, joined}
 
 pub doubled-one : (b : ℕ) → (b == mark) ≡ false → doubled (b ∷ []) ≡ b ∷ []
 doubled-one b e = rw e

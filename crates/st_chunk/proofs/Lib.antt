@@ -1,4 +1,4 @@
-pub mod Tests
+pub mod Cases
 pub mod Reading
 pub mod Joined
 pub mod Entries

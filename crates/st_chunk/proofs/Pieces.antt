@@ -1,6 +1,6 @@
 -- Texts with their marks doubled, piece by piece.
-use Rattle.std.proofs.Common.{◌≡◌, ℕ, suc, ◌+◌, ◌-◌, ◌<◌, ◌≤◌, Bool, true, false, List, [], ◌∷◌, ◌++◌, length, take, drop, get_or, set, refl, sym, ap, ◌∙◌, subst, arith, add-one, append_assoc, inl, inr, ⊎_elim, length-append}
-use Rattle.std.specs.Prelude.{◌==◌, ◌*◌, Option, ◌⊎◌, if◌then◌else◌}
+use Rattle.std.proofs.Common.{◌≡◌, ℕ, ◌+◌, ◌-◌, ◌<◌, ◌≤◌, true, false, List, [], ◌∷◌, ◌++◌, length, take, drop, get_or, set, refl, sym, ap, ◌∙◌, arith, add-one, append_assoc, inl, inr, length-append}
+use Rattle.std.specs.Prelude.{◌==◌, ◌*◌, Option, if◌then◌else◌}
 use Rattle.std.proofs.lemmas.List.{length-set, get_or_append_left, get_or-append_right}
 use Rattle.std.proofs.lemmas.Bool.{cases_lt}
 use Rattle.std.proofs.Math.Seq.{take-suc, take-suc-set, take-add}

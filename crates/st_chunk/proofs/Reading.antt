@@ -1,13 +1,13 @@
 -- A text that is fed byte by byte gives its chunks.
-use Rattle.std.proofs.Common.{◌≡◌, ℕ, ◌+◌, ◌<◌, ◌≤◌, Bool, true, false, List, [], ◌∷◌, ◌++◌, length, refl, sym, ap, ◌∙◌, arith, length-append}
+use Rattle.std.proofs.Common.{◌≡◌, ℕ, ◌+◌, ◌<◌, ◌≤◌, true, false, List, [], ◌∷◌, ◌++◌, length, sym, ap, arith, length-append}
 use Rattle.std.specs.Prelude.{◌==◌, nat_lt, nat_le, if◌then◌else◌}
 use Rattle.std.proofs.lemmas.Bool.{le-leb, ltb-true}
 use Rattle.std.proofs.lemmas.Bool.Decides.{leb_tells}
-use Rattle.st_chunk.proofs.Tests.{by_test}
+use Rattle.st_chunk.proofs.Cases.{by_test}
 use Rattle.st_chunk.specs.declared.cutting.Phase.{Phase}
-use Rattle.st_chunk.specs.declared.cutting.Phase.TheVariants.{Within, Marked, Told, Long, Ended}
+use Rattle.st_chunk.specs.declared.cutting.Phase.TheVariants.{Within, Marked, Told}
 use Rattle.st_chunk.specs.Texts.{mark, most, Cut, with_chunk, cut_behind, behind_mark, cut}
-use Rattle.st_chunk.specs.Feeding.{State, start, with_byte, fed, fed_in, answer, carried_from, Account, whole, too_long, with_one, account_at_end, account_behind, account, limited}
+use Rattle.st_chunk.specs.Feeding.{State, start, with_byte, answer, Account, too_long, with_one, account_behind, account, limited}
 
 abbrev limited_cut : Cut → Account
 limited_cut c = limited c.chunks c.rest

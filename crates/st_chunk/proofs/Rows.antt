@@ -1,9 +1,9 @@
 -- Worked texts.
-use Rattle.std.proofs.Common.{◌≡◌, ℕ, true, false, List, [], ◌∷◌, ◌++◌, length, refl}
+use Rattle.std.proofs.Common.{◌≡◌, ℕ, true, false, List, [], ◌∷◌, length, refl}
 use Rattle.std.specs.Prelude.{codes, Some, None}
-use Rattle.st_chunk.specs.Texts.{Cut, cut, is_empty}
-use Rattle.st_chunk.specs.Groups.{Header, header_of, Group, groups}
-use Rattle.st_chunk.specs.Definitions.{Definition, entry, entries}
+use Rattle.st_chunk.specs.Texts.{cut, is_empty}
+use Rattle.st_chunk.specs.Groups.{Header, header_of, groups}
+use Rattle.st_chunk.specs.Definitions.{Definition, entry}
 
 two_chunks : cut (codes "a!b!!c! ") ≡ record { chunks = codes "a" ∷ codes "b!c" ∷ []; rest = codes " " }
 two_chunks = refl

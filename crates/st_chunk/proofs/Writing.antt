@@ -1,14 +1,22 @@
--- A write more above a floor.
-use Rattle.std.proofs.Common.{◌≡◌, ℕ, ◌≤◌, List, length, IsTrue}
-use Rattle.std.specs.Prelude.{Option}
+-- Writes behind a place of a file.
+use Rattle.std.proofs.Common.{ℕ, ◌≤◌, List, length, IsTrue, arith}
 use Rattle.st_outside.specs.Files.{bytes_of}
-use Rattle.st_outside.specs.Runs.{Writes, WritesAbove}
+use Rattle.st_outside.specs.Runs.{Writes}
 use Rattle.st_outside.specs.declared.host.Host.{Ghosts}
 use Rattle.st_outside.proofs.Touching.{write_above, above_join}
+use Rattle.st_chunk.specs.Writing.{WritesBehind}
 
 module _ {D : Type 0} (host : Ghosts D) (name : List ℕ) where
-  -- one write more, behind the floor
-  pub write_more : (floor at n : ℕ) (old mid new : D) → floor ≤ at → (IsTrue host.is_told → floor ≤ length (bytes_of (host.files mid name)))
-      → WritesAbove host floor name old mid → Writes host name at n mid new → WritesAbove host floor name old new
-  write_more floor at n old mid new low long first writes =
-      above_join host name floor old mid new first (write_above host name floor at n mid new low long writes)
+  -- one write at the place
+  pub written_behind : (at n : ℕ) (old new : D) → Writes host name at n old new → WritesBehind host name at old new
+  written_behind at n old new writes = record {
+    above = λ floor low long. write_above host name floor at n old new low long writes;
+  }
+
+  -- one write more, behind the place
+  pub write_more : (at place n : ℕ) (old mid new : D) → at ≤ place → (IsTrue host.is_told → length (bytes_of (host.files old name)) ≤ length (bytes_of (host.files mid name)))
+      → WritesBehind host name at old mid → Writes host name place n mid new → WritesBehind host name at old new
+  write_more at place n old mid new behind grown first writes = record {
+    above = λ floor low long. above_join host name floor old mid new (first.above floor low long)
+        (write_above host name floor place n mid new (omega arith) (λ told. omega (arith, long told, grown told)) writes);
+  }

@@ -1,7 +1,8 @@
 -- Definitions of methods, and the text that a changes file keeps of each.
-use Rattle.std.specs.Prelude.{◌≡◌, ℕ, ◌≤◌, Bool, List, [], ◌∷◌, ◌++◌, length, reverse, map, IsTrue, IsFalse, codes}
-use Rattle.st_chunk.specs.Texts.{mark, most, doubled, is_blank}
-use Rattle.st_chunk.specs.Groups.{begins, is_name, Header, header_text, Group}
+use Rattle.std.specs.Prelude.{ℕ, ◌≤◌, Bool, List, [], ◌∷◌, ◌++◌, length, reverse, map, IsTrue, IsFalse, Option, codes}
+use Rattle.std.specs.Option.{option_map}
+use Rattle.st_chunk.specs.Texts.{mark, most, chunks, doubled, is_blank}
+use Rattle.st_chunk.specs.Groups.{begins, is_name, Header, header_text, Group, groups}
 
 -- a class's name, whether the method is one of the class side, its category and its text
 pub record Definition : Type 0 where
@@ -27,9 +28,13 @@ pub record IsDefinition (d : Definition) : Type 0 where
 abbrev pub line_feed : ℕ
 line_feed = 10
 
+-- what an entry has behind the line feed: the method's text, a mark, and an empty chunk that closes the group
+abbrev pub method_part : Definition → List ℕ
+method_part d = doubled d.text ++ (codes "! !" ++ line_feed ∷ [])
+
 -- the text that a changes file keeps of a definition: a group with one method
 abbrev pub entry : Definition → List ℕ
-entry d = mark ∷ (doubled (header_text (header_for d)) ++ (mark ∷ line_feed ∷ (doubled d.text ++ (codes "! !" ++ line_feed ∷ []))))
+entry d = mark ∷ (doubled (header_text (header_for d)) ++ (mark ∷ line_feed ∷ method_part d))
 
 abbrev pub entries : List Definition → List ℕ
 entries [] = []
@@ -42,3 +47,7 @@ group_definitions g = map (λ text. record { class = g.header.class; meta = g.he
 abbrev pub definitions : List Group → List Definition
 definitions [] = []
 definitions (g ∷ gs) = group_definitions g ++ definitions gs
+
+-- the definitions that a text keeps
+abbrev pub definitions_in : List ℕ → Option (List Definition)
+definitions_in text = option_map definitions (groups (chunks text))

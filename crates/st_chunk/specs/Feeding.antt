@@ -1,5 +1,5 @@
 -- A text that is read byte by byte: whether a mark ends a chunk is known at the byte behind it, or at the end.
-use Rattle.std.specs.Prelude.{◌≡◌, ℕ, ◌==◌, ◌≤◌, nat_lt, nat_le, Bool, List, [], ◌∷◌, ◌++◌, length, if◌then◌else◌}
+use Rattle.std.specs.Prelude.{ℕ, ◌==◌, nat_lt, nat_le, List, [], ◌∷◌, ◌++◌, length, if◌then◌else◌, Option, Some, None}
 use Rattle.st_chunk.specs.declared.cutting.Phase.{Phase}
 use Rattle.st_chunk.specs.declared.cutting.Phase.TheVariants.{Within, Marked, Told, Long, Ended}
 use Rattle.st_chunk.specs.declared.cutting.Fed.{Fed}
@@ -93,6 +93,15 @@ account_behind goes_on s answers.Long = too_long []
 abbrev pub account : State → List ℕ → Account
 account s [] = account_at_end s.bytes s.phase
 account s (b ∷ text) = account_behind (λ t. account t text) (fed s b) (answer (fed s b).phase)
+
+abbrev pub first_of : List (List ℕ) → Option (List ℕ)
+first_of [] = None
+first_of (c ∷ cs) = Some c
+
+-- the first chunk that is told, if one is told before one is too long
+abbrev pub first_told : Account → Option (List ℕ)
+first_told (whole c) = first_of c.chunks
+first_told (too_long before) = first_of before
 
 -- What the definition tells of it: the first chunk with more bytes than a chunk may have is too long, and so is what
 -- stands behind the last one.

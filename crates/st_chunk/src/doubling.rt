@@ -1,10 +1,11 @@
 //! Text that is written with each `!` doubled.
 
-ghost use Rattle.std.specs.Prelude.{◌≡◌, ◌+◌, ◌*◌, ◌<◌, ◌≤◌, ◌^◌, min, length, take, IsTrue, IfOk, OnOk};
+ghost use Rattle.std.specs.Prelude.{◌≡◌, ◌+◌, ◌*◌, ◌<◌, ◌≤◌, ◌^◌, length, take, IsTrue, IfOk, OnOk};
 ghost use Rattle.st_outside.specs.Counts.{HasCause};
-ghost use Rattle.st_outside.specs.Files.{bytes_of, IsWritten};
-ghost use Rattle.st_outside.specs.Runs.{Writes, WritesAbove};
+ghost use Rattle.st_outside.specs.Files.{IsWritten};
+ghost use Rattle.st_outside.specs.Runs.{Writes};
 ghost use Rattle.st_chunk.specs.Texts.{doubled};
+ghost use Rattle.st_chunk.specs.Writing.{WritesBehind};
 
 use st_outside::{Host, HostFault, write_bytes};
 
@@ -53,7 +54,7 @@ pub fn doubled<H: Host>(host: &mut H, name: &str, at: u64, text: &[u8]) -> Resul
     ensures written { OnOk result (IsTrue H.is_told →
         IsWritten at (doubled text.now) (H.files host.old name.now) (H.files host.new name.now)) }
     // At each moment nothing is said, and every other file and this one's bytes before `at` are as before.
-    ensures writes { WritesAbove H.Host.own (min at (length (bytes_of (H.files host.old name.now)))) name.now host.old host.new }
+    ensures writes { WritesBehind H.Host.own name.now at host.old host.new }
     ensures cause { HasCause (H.disk_faults host.old) (H.disk_faults host.new) result }
 {
     let mut done = text.len().min(PIECE);

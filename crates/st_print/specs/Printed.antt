@@ -1,6 +1,7 @@
 -- The text of a method's tree: its tokens in order, with one space between two of them. Temporaries come before the
 -- primitive, an assignment is _, numbers stand in decimal, symbols and arrays have their #, a block with names has its |.
--- Parentheses stand exactly where the grammar would not read the tree back without them.
+-- Parentheses stand round a receiver or an argument that binds too loosely there, and round a number with a sign that
+-- stands directly behind the pattern.
 use Rattle.std.specs.Prelude.{ℕ, Bool, true, false, List, [], ◌∷◌, ◌++◌, if◌then◌else◌, Option, Some, None, codes}
 use Rattle.std.specs.Str.{byte}
 use Rattle.std.specs.Char.{is_ascii_alphabetic}

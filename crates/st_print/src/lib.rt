@@ -1,4 +1,4 @@
-//! The printer: from a method's tree to a text that means it.
+//! The printer: from a method's tree to its text.
 #![tactic(auto)]
 
 mod expression;

@@ -191,8 +191,8 @@ fn behind_first(alloc: Global, text: &[u8]) -> Result<Text, AllocError>
     }
 }
 
-/// The text of a method's tree: its tokens in order with one space between two of them, and parentheses where the grammar
-/// would not read the tree back without them. A tree that some text means is meant by this text too, places aside.
+/// The text of a method's tree: its tokens in order with one space between two of them, and parentheses round each receiver
+/// and argument that binds too loosely where it stands, and round a number with a sign directly behind the pattern.
 #[tactic(auto, using(crate::proofs::Spacing::spacing))]
 pub fn print(alloc: Global, t: &MethodTree) -> Result<Text, AllocError>
     ensures { IfOk result (λ text. text.items ≡ printed (method_view t.now)) }

@@ -1,14 +1,13 @@
 use Rattle.std.proofs.Common.{◌≡◌, ◌+◌, ◌-◌, ◌≤◌, ◌++◌, List, ℕ, length, take, drop, sym, ap, ◌∙◌, subst, arith, length-append, length-take, length-drop}
 use Rattle.std.proofs.lemmas.List.{length-take-le}
 use Rattle.st_outside.specs.Files.{IsWritten}
-use Rattle.st_outside.proofs.Touching.{write_above}
 use Rattle.st_chunk.specs.Texts.{doubled}
 use Rattle.st_chunk.proofs.Pieces.{doubled-piece, doubled-short, written_more}
-use Rattle.st_chunk.proofs.Writing.{write_more}
+use Rattle.st_chunk.proofs.Writing.{written_behind, write_more}
 use Rattle.st_chunk.proofs.doubling.doubled.Goals as goal
 
 pub returns-in_err-count-clause-writes : goal.returns-in_err-count-clause-writes
-returns-in_err-count-clause-writes g c = write_above g.H.Host c.args.name.now _ c.args.at _ c.args.host.now c.write_piece.new.host (omega arith) (omega arith) c.write_piece.ensures.writes
+returns-in_err-count-clause-writes g c = written_behind g.H.Host c.args.name.now c.args.at _ c.args.host.now c.write_piece.new.host c.write_piece.ensures.writes
 
 pub loop-done-init : goal.loop-done-init
 loop-done-init g c =
@@ -20,13 +19,13 @@ loop-done-init g c =
       few = omega (arith, count, doubled-short (take done c.args.text.now), length-take-le done c.args.text.now within);
       count = count;
       written = c.in_ok-count.ensures.written;
-      writes = write_above g.H.Host c.args.name.now _ c.args.at _ c.args.host.now c.write_piece.new.host (omega arith) (omega arith) c.write_piece.ensures.writes;
+      writes = written_behind g.H.Host c.args.name.now c.args.at _ c.args.host.now c.write_piece.new.host c.write_piece.ensures.writes;
     }
 
 pub returns-in_err-count-2-clause-writes : goal.returns-in_err-count-2-clause-writes
 returns-in_err-count-2-clause-writes g c =
     let inv = c.loop-done.invariant in
-    write_more g.H.Host c.args.name.now _ (c.args.at + c.loop-done.count) _ c.args.host.now c.loop-done.host c.write_piece-in-loop-done.new.host (omega arith)
+    write_more g.H.Host c.args.name.now c.args.at (c.args.at + c.loop-done.count) _ c.args.host.now c.loop-done.host c.write_piece-in-loop-done.new.host (omega arith)
     (λ told. omega (arith, (inv.written told).long)) inv.writes c.write_piece-in-loop-done.ensures.writes
 
 pub overflow_add-count : goal.overflow_add-count
@@ -57,6 +56,6 @@ loop-done-preserved g c =
       written = λ told. subst (λ (x : List ℕ). IsWritten c.args.at x (g.H.Host.files c.args.host.now c.args.name.now) (g.H.Host.files c.write_piece-in-loop-done.new.host c.args.name.now)) (sym joined)
           (written_more c.args.at (doubled (take done text)) (doubled piece) _ (g.H.Host.files c.loop-done.host c.args.name.now) _ (inv.written told)
           (subst (λ n. IsWritten (c.args.at + n) (doubled piece) (g.H.Host.files c.loop-done.host c.args.name.now) (g.H.Host.files c.write_piece-in-loop-done.new.host c.args.name.now)) inv.count (c.in_ok-count-2.ensures.written told)));
-      writes = write_more g.H.Host c.args.name.now _ (c.args.at + c.loop-done.count) _ c.args.host.now c.loop-done.host c.write_piece-in-loop-done.new.host (omega arith)
+      writes = write_more g.H.Host c.args.name.now c.args.at (c.args.at + c.loop-done.count) _ c.args.host.now c.loop-done.host c.write_piece-in-loop-done.new.host (omega arith)
           (λ told. omega (arith, (inv.written told).long)) inv.writes c.write_piece-in-loop-done.ensures.writes;
     }

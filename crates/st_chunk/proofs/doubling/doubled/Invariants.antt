@@ -1,7 +1,7 @@
-use Rattle.std.proofs.Common.{◌≡◌, ◌-◌, ◌*◌, ◌≤◌, min, length, take, IsTrue}
-use Rattle.st_outside.specs.Files.{bytes_of, IsWritten}
-use Rattle.st_outside.specs.Runs.{WritesAbove}
+use Rattle.std.proofs.Common.{◌≡◌, ◌-◌, ◌*◌, ◌≤◌, length, take, IsTrue}
+use Rattle.st_outside.specs.Files.{IsWritten}
 use Rattle.st_chunk.specs.Texts.{doubled}
+use Rattle.st_chunk.specs.Writing.{WritesBehind}
 use Rattle.st_chunk.proofs.doubling.doubled.Given as goal
 
 abbrev pub invariant-loop-done : goal.invariant-loop-done
@@ -10,7 +10,7 @@ invariant-loop-done g l = record {
   few : l.count ≤ 2 * l.done;
   count : l.count ≡ length (doubled (take l.done l.text));
   written : IsTrue g.H.Host.is_told → IsWritten l.at (doubled (take l.done l.text)) (g.H.Host.files l.fn.host l.name) (g.H.Host.files l.host l.name);
-  writes : WritesAbove g.H.Host (min l.at (length (bytes_of (g.H.Host.files l.fn.host l.name)))) l.name l.fn.host l.host;
+  writes : WritesBehind g.H.Host l.name l.at l.fn.host l.host;
 }
 
 abbrev pub decreases-loop-done : goal.decreases-loop-done
