@@ -1,0 +1,5 @@
+pub mod ChainFaults
+mod RowsMethods
+mod RowsForms
+mod RowsLimits
+mod RowsFar
