@@ -1,4 +1,6 @@
 pub mod ChainFaults
+pub mod Declaring
+pub mod Reporting
 mod RowsMethods
 mod RowsForms
 mod RowsLimits

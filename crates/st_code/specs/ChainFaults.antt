@@ -1,11 +1,12 @@
 -- The faults of an expression along its chain: of the names that it is assigned to, the outermost first, and of its
 -- messages from the inside out; and those of a block.
-use Rattle.std.specs.Prelude.{ℕ, List, [], ◌∷◌, Option, Some, None, false}
+use Rattle.std.specs.Prelude.{ℕ, List, [], ◌∷◌, Option, Some, None, false, is_some, ◌||◌, if◌then◌else◌}
 use Rattle.st_tree.specs.Views.{NameView, StatementsView}
 use Rattle.st_tree.specs.Chains.{LinkView, assigned, sent}
 use Rattle.st_code.specs.declared.fault.Fault.{Fault}
-use Rattle.st_emit.specs.Names.{NamesView, Scope, or_else, declared}
-use Rattle.st_code.specs.Faults.{store_fault, declare_fault, messages_fault, statements_fault}
+use Rattle.st_code.specs.declared.fault.Cause.TheVariants.{Twice}
+use Rattle.st_emit.specs.Names.{NamesView, Scope, or_else, declared, declared_as, is_among}
+use Rattle.st_code.specs.Faults.{fault_at, store_fault, declare_fault, messages_fault, statements_fault}
 
 module _ (names : NamesView) (scope : Scope) where
   abbrev pub target_fault : LinkView → Option Fault
@@ -28,3 +29,7 @@ module _ (names : NamesView) (scope : Scope) where
   -- the arguments of a block, then its statements
   abbrev pub block_fault : List NameView → StatementsView → Option Fault
   block_fault ns ss = or_else (declare_fault false 0 ns scope) (statements_fault names ss (declared false 0 ns scope))
+
+-- a name that is declared behind these
+abbrev pub among_fault : Scope → List NameView → NameView → Option Fault
+among_fault scope before n = if is_some (declared_as scope n.text) || is_among before n.text then fault_at n.place Twice else None
