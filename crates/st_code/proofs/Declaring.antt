@@ -1,5 +1,5 @@
 -- Names that are declared one after the other, and targets from the outside in.
-use Rattle.std.proofs.Common.{◌≡◌, ℕ, zero, suc, ◌+◌, ◌<◌, Bool, true, false, ◌||◌, List, [], ◌∷◌, ◌++◌, length, take, drop, get_or, Option, Some, None, refl, sym, ap, ◌∙◌, arith, append_assoc, append-nil, add-one, cond, map}
+use Rattle.std.proofs.Common.{◌≡◌, ℕ, ◌+◌, ◌<◌, Bool, true, false, ◌||◌, List, [], ◌∷◌, ◌++◌, length, take, drop, get_or, Option, Some, None, refl, sym, ap, ◌∙◌, arith, append_assoc, cond}
 use Rattle.std.specs.Prelude.{is_some, bytes_eq, if◌then◌else◌}
 use Rattle.std.proofs.lemmas.List.{at_drop_more, take_more, length-map, length-take-le}
 use Rattle.st_tree.specs.declared.tree.Name.{Name}
@@ -9,7 +9,7 @@ use Rattle.st_tree.specs.Chains.{LinkView, link_view, links_view}
 use Rattle.st_code.specs.declared.fault.Fault.{Fault}
 use Rattle.st_code.specs.declared.fault.Cause.TheVariants.{Twice}
 use Rattle.st_emit.specs.Names.{NamesView, Scope, Declared, numbered, declared, declared_as, or_else, is_among}
-use Rattle.st_code.specs.Faults.{declare_fault, twice_fault, fault_at}
+use Rattle.st_code.specs.Faults.{declare_fault, fault_at}
 use Rattle.st_code.specs.ChainFaults.{target_fault, targets_fault}
 use Rattle.st_code.proofs.ChainFaults.{or_assoc}
 

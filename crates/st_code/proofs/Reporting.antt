@@ -1,5 +1,5 @@
 -- The first of two faults is reported.
-use Rattle.std.proofs.Common.{◌≡◌, List, sym, subst, Option, Some, None, Result, Ok, Err, ap, ◌∙◌}
+use Rattle.std.proofs.Common.{◌≡◌, List, sym, subst, Option, Some, None, Result, Ok, Err}
 use Rattle.st_code.specs.declared.fault.Fault.{Fault}
 use Rattle.st_code.specs.declared.fault.CodeFault.{CodeFault}
 use Rattle.st_code.specs.declared.fault.CodeFault.TheVariants.{At, OutOfMemory}

@@ -1,5 +1,5 @@
 -- How far jumps go, by the definitions alone: 1023 bytes forward and 1024 back, and one more.
-use Rattle.std.proofs.Common.{ℕ, zero, suc, Bool, true, false, List, [], ◌∷◌, refl, Some, None}
+use Rattle.std.proofs.Common.{ℕ, zero, suc, true, false, [], ◌∷◌, refl, None}
 use Rattle.std.specs.Prelude.{codes, ◌≡◌}
 use Rattle.st_tree.specs.Views.{NameView, ExpressionView, StatementsView, MethodView, MessagesView, ExpressionsView}
 use Rattle.st_tree.specs.Views as v

@@ -1,18 +1,17 @@
 -- The code of a method: its header, literals and bytes, or why it has none.
 use Rattle.std.specs.Prelude.{ℕ, ◌+◌, ◌*◌, Bool, true, false, not, ◌&&◌, ◌||◌, ◌==◌, nat_lt, nat_le, List, [], ◌∷◌, ◌++◌, length, Option, Some, None, is_some, Result, Ok, Err, if◌then◌else◌}
 use Rattle.st_tree.specs.declared.token.Signed.{Signed}
-use Rattle.st_tree.specs.Views.{NameView, MethodView}
+use Rattle.st_tree.specs.Views.{MethodView}
 use Rattle.st_emit.specs.Bounds.{most_literals, most_variables, small_room, large_room, most_bytes, most_primitive, most_flagged, returned_fields}
 use Rattle.st_code.specs.declared.fault.Fault.{Fault}
 use Rattle.st_code.specs.declared.fault.Cause.{Cause}
 use Rattle.st_code.specs.declared.fault.Cause.TheVariants.{Literals, Temporaries, Depth, Jump, Primitive, Symbols, Size}
 use Rattle.st_emit.specs.declared.step.Constant.TheVariants.{Receiver}
-use Rattle.st_emit.specs.declared.step.Place.{Place}
 use Rattle.st_emit.specs.declared.step.Place.TheVariants.{Field}
 use Rattle.st_emit.specs.declared.step.Step.{Step}
 use Rattle.st_emit.specs.Names.{NamesView, declared, or_else}
 use Rattle.st_emit.specs.Literals.{LiteralView, number, owner, Named}
-use Rattle.st_emit.specs.Nodes.{Node, constant, variable, Body, nothing, last, next, returned}
+use Rattle.st_emit.specs.Nodes.{constant, variable, Body, nothing, returned}
 use Rattle.st_emit.specs.Resolving.{Context, names_in_statements, statements_body}
 use Rattle.st_emit.specs.Steps.{size, all_bytes, all_reach, sends_super}
 use Rattle.st_emit.specs.Emitting.{method_code}

@@ -1,4 +1,4 @@
-use Rattle.std.proofs.Common.{◌≡◌, ◌≤◌, get_or, sym, ap, ◌∙◌, subst, arith}
+use Rattle.std.proofs.Common.{◌≡◌, get_or, sym, ap, ◌∙◌, subst, arith}
 use Rattle.st_tree.specs.declared.tree.Expression.{size-Expression}
 use Rattle.st_tree.specs.Views.{ExpressionView, names_view as list_view, expression_view, statements_view, block}
 use Rattle.st_tree.proofs.Views.{expression_view-block}

@@ -1,4 +1,4 @@
-use Rattle.std.proofs.Common.{◌≡◌, ℕ, ◌+◌, ◌-◌, take, Some, None, Option, sym, ap, ◌∙◌, subst, arith, rules, length, ◌≤◌}
+use Rattle.std.proofs.Common.{◌≡◌, ℕ, ◌+◌, ◌-◌, take, Option, sym, ap, ◌∙◌, subst, arith, rules}
 use Rattle.st_tree.specs.Chains.{link_view, links_view}
 use Rattle.st_emit.specs.NameViews.{names_view, scope_view}
 use Rattle.st_emit.specs.Names.{or_else}
