@@ -1,5 +1,5 @@
 -- Parts that are added one after the other.
-use Rattle.std.proofs.Common.{◌≡◌, ℕ, ◌+◌, List, [], ◌∷◌, ◌++◌, length, drop, refl, sym, ap, ◌∙◌, append_assoc, length-append, arith}
+use Rattle.std.proofs.Common.{◌≡◌, ℕ, ◌+◌, List, [], ◌∷◌, ◌++◌, length, drop, ap, ◌∙◌, append_assoc, length-append, arith}
 use Rattle.std.specs.Prelude.{slice_set}
 use Rattle.std.proofs.Math.Seq.{set-append_seam}
 use Rattle.std.proofs.lemmas.List.{drop_at}
@@ -8,7 +8,7 @@ use Rattle.st_emit.specs.declared.level.Level.{Level}
 use Rattle.st_emit.specs.declared.draft.Draft.{Draft}
 use Rattle.st_emit.specs.Literals.{LiteralView}
 use Rattle.st_emit.specs.Views.{literals_view}
-use Rattle.st_emit.specs.Steps.{size, size_of}
+use Rattle.st_emit.specs.Steps.{size}
 use Rattle.st_emit.specs.Drafts.{Part, Adds, Goes}
 
 -- one part, and another one behind it

@@ -1,7 +1,6 @@
 -- One more link behind an expression, and a loop.
-use Rattle.std.proofs.Common.{◌≡◌, ℕ, zero, suc, ◌+◌, ◌<◌, ◌≤◌, Bool, true, false, not, ◌&&◌, All, get_or, List, [], ◌∷◌, ◌++◌, length, take, Option, Some, None, refl, sym, ap, ◌∙◌, subst, arith, append_assoc, append-nil, ◌==◌, ne_eqb, add-one, zero-add}
+use Rattle.std.proofs.Common.{◌≡◌, ℕ, zero, suc, ◌+◌, ◌<◌, ◌≤◌, Bool, true, false, ◌&&◌, All, get_or, List, [], ◌∷◌, ◌++◌, length, take, Some, None, refl, sym, ap, ◌∙◌, subst, arith, ◌==◌, ne_eqb, zero-add}
 use Rattle.std.specs.Prelude.{if◌then◌else◌}
-use Rattle.st_tree.specs.declared.tree.Expression.{Expression, size-Expression}
 use Rattle.st_tree.specs.declared.chain.Link.{Link}
 use Rattle.st_tree.specs.declared.chain.Link.TheVariants.{Assign, Send}
 use Rattle.st_tree.specs.Views.{NameView, ExpressionView, StatementsView, MessagesView, ExpressionsView, no_messages, message, no_expressions, expression, block}
@@ -17,10 +16,10 @@ use Rattle.st_emit.specs.Nodes.{Node, Body, Tail, with_tail}
 use Rattle.st_emit.specs.Nodes as nodes
 use Rattle.st_emit.specs.Emitting.{for_value, code_of}
 use Rattle.st_emit.specs.Depths.{level_of}
-use Rattle.st_emit.specs.Resolving.{Context, Message, behind, names_in, names_in_statements, names_in_messages, names_in_all, is_super, is_plain, all_plain, tailed, expression_node, statements_body, messages_of, nodes_of, form_named, formed, single_tail, sends_tail, plain_tail}
+use Rattle.st_emit.specs.Resolving.{Context, behind, names_in, names_in_statements, is_super, is_plain, all_plain, tailed, expression_node, statements_body, messages_of, nodes_of, form_named, formed, single_tail, sends_tail, plain_tail}
 use Rattle.st_emit.specs.Tails.{tail_code, tail_level}
-use Rattle.st_emit.specs.Around.{link_tail, tail_part, link_part, value_part, loop_part, shape_part, shape_part_of, message_part, cascade_part, message_of, names_in_link, names_in_repetition}
-use Rattle.st_emit.specs.Shapes.{ShapeView, plain, one_sided, two_sided, shape_of, formed_shape, two_sided_shape, statements_of, RepetitionView, repeated_by, repeated, repetition_with, repetition_of, first_repetition, IsCascade, IsOnly}
+use Rattle.st_emit.specs.Around.{link_tail, tail_part, link_part, value_part, loop_part, shape_part, shape_part_of, cascade_part, message_of, names_in_link, names_in_repetition}
+use Rattle.st_emit.specs.Shapes.{plain, one_sided, two_sided, formed_shape, two_sided_shape, statements_of, RepetitionView, repeated_by, repetition_with, repetition_of, first_repetition, IsCascade}
 use Rattle.st_emit.specs.Drafts.{Part}
 use Rattle.st_emit.specs.Sizes.{link_size, links_size}
 use Rattle.st_emit.proofs.NodeKinds.{IsTailOf, tail_kind}

@@ -6,3 +6,4 @@ pub mod NodeKinds
 pub mod Adding
 pub mod Follow
 pub mod Forms
+pub mod Members

@@ -1,5 +1,5 @@
 -- Which nodes a tree has: only assignments are assigned, and only names are constants.
-use Rattle.std.proofs.Common.{◌≡◌, ℕ, Bool, true, false, not, ◌&&◌, List, [], ◌∷◌, ◌++◌, length, Option, Some, None, refl, sym, ap, ◌∙◌, subst}
+use Rattle.std.proofs.Common.{◌≡◌, ℕ, Bool, true, false, not, ◌&&◌, List, [], ◌∷◌, ◌++◌, Option, Some, None, refl}
 use Rattle.std.specs.Prelude.{if◌then◌else◌}
 use Rattle.st_tree.specs.declared.token.Signed.{Signed}
 use Rattle.st_tree.specs.Views.{NameView, ContentView, ExpressionView, StatementsView, MessagesView, ExpressionsView}
@@ -7,17 +7,16 @@ use Rattle.st_tree.specs.Views as views
 use Rattle.st_tree.specs.Chains.{LinkView, assigned, sent}
 use Rattle.st_emit.specs.declared.step.Constant.{Constant}
 use Rattle.st_emit.specs.declared.step.Constant.TheVariants.{Receiver, True, False, Nil, Context}
-use Rattle.st_emit.specs.declared.step.Step.{Step}
 use Rattle.st_emit.specs.declared.step.Step.TheVariants.{Pop, ReturnTop, ReturnConstant}
 use Rattle.st_emit.specs.declared.form.TwoSided.TheVariants.{TrueFirst, FalseFirst}
 use Rattle.st_emit.specs.declared.form.Form.{Form}
 use Rattle.st_emit.specs.declared.form.Form.TheVariants.{Message as Plain, One, Two, Repeated}
 use Rattle.st_emit.specs.declared.level.Level.{Level}
-use Rattle.st_emit.specs.Names.{Variable, constant_named}
-use Rattle.st_emit.specs.Literals.{LiteralView, small_number, Naming, Named, named_literal}
+use Rattle.st_emit.specs.Names.{constant_named}
+use Rattle.st_emit.specs.Literals.{LiteralView, small_number, Naming, Named}
 use Rattle.st_emit.specs.Nodes.{Node, Body, Tail, with_tail}
 use Rattle.st_emit.specs.Nodes as nodes
-use Rattle.st_emit.specs.Resolving.{Context as Surroundings, behind, names_in, place_of_name, constant_or, small_or, content_node, Message, no_message, plain_tail, form_named, formed, single_tail, sends_tail, messages_of, is_super, is_plain, expression_node}
+use Rattle.st_emit.specs.Resolving.{Context as Surroundings, behind, names_in, place_of_name, constant_or, small_or, content_node, Message, plain_tail, form_named, formed, single_tail, sends_tail, messages_of, is_super, is_plain, expression_node}
 use Rattle.st_emit.specs.Emitting.{for_value, for_effect, code_of, return_code}
 use Rattle.st_emit.specs.Depths.{level_of, popped, ended, return_level}
 use Rattle.st_emit.specs.Shapes.{IsNoAssignment, returned_constant, but_context}

@@ -1,5 +1,5 @@
 -- The parts that are added to a draft, each for a part of a tree.
-use Rattle.std.specs.Prelude.{ℕ, ◌+◌, Bool, true, false, List, [], ◌∷◌, ◌++◌, length}
+use Rattle.std.specs.Prelude.{ℕ, ◌+◌, Bool, false, List, [], ◌∷◌, ◌++◌, length}
 use Rattle.st_tree.specs.declared.token.Signed.{Signed}
 use Rattle.st_tree.specs.Views.{NameView, ContentView, ExpressionView, ExpressionsView, MessagesView, StatementsView}
 use Rattle.st_tree.specs.Views as views
@@ -10,7 +10,7 @@ use Rattle.st_emit.specs.declared.form.TwoSided.TheVariants.{TrueFirst, FalseFir
 use Rattle.st_emit.specs.declared.level.Level.{Level}
 use Rattle.st_emit.specs.NameViews.{names_view, scope_view}
 use Rattle.st_emit.specs.Literals.{LiteralView, Naming}
-use Rattle.st_emit.specs.Nodes.{Node, Nodes, Body, Tail, Sending, Messages, returns}
+use Rattle.st_emit.specs.Nodes.{Node, Tail, Messages, returns}
 use Rattle.st_emit.specs.Resolving.{Context, Message, inside, no_message, expression_node, name_node, content_node, number_node, sending, statements_body, nodes_of, all_nodes, message_nodes, all_plain, sends_tail, messages_of, assign_tail, names_in_messages, names_in_statements}
 use Rattle.st_emit.specs.Emitting.{Use, for_value, for_effect, code_of, body_code, nodes_code, messages_code, method_code, send_step, choice, repeat, passes_on, other_side, leaves_on, pop_arguments, block_end, return_code}
 use Rattle.st_emit.specs.Depths.{level_of, body_level, nodes_level, messages_level, method_level, return_level, pushed, popped, beside, joined, within}

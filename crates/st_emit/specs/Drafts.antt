@@ -1,5 +1,5 @@
 -- What is added to a draft.
-use Rattle.std.specs.Prelude.{◌≡◌, ℕ, List, [], ◌∷◌, ◌++◌}
+use Rattle.std.specs.Prelude.{◌≡◌, List, [], ◌∷◌, ◌++◌}
 use Rattle.st_emit.specs.declared.step.Step.{Step}
 use Rattle.st_emit.specs.declared.level.Level.{Level}
 use Rattle.st_emit.specs.declared.draft.Draft.{Draft}

@@ -3,7 +3,7 @@ use Rattle.std.specs.Prelude.{ℕ, zero, suc, ◌+◌, Bool, true, false, List, 
 use Rattle.st_emit.specs.declared.step.Constant.{Constant}
 use Rattle.st_emit.specs.declared.step.Constant.TheVariants.{Receiver, True, False, Nil, Context}
 use Rattle.st_emit.specs.declared.step.Place.{Place}
-use Rattle.st_emit.specs.declared.step.Place.TheVariants.{Field, Temporary, Literal, Shared}
+use Rattle.st_emit.specs.declared.step.Place.TheVariants.{Temporary, Literal}
 use Rattle.st_emit.specs.declared.step.Step.{Step}
 use Rattle.st_emit.specs.declared.step.Step.TheVariants.{Push, PushConstant, PushNumber, Store, PopStore, Pop, Duplicate, Send, SendSuper, SendSpecial, ReturnConstant, ReturnTop, ReturnBlock, Jump, JumpBack, JumpIf, JumpPast}
 use Rattle.st_emit.specs.declared.form.By.{By}
@@ -14,10 +14,9 @@ use Rattle.st_emit.specs.declared.form.TwoSided.{TwoSided}
 use Rattle.st_emit.specs.declared.form.TwoSided.TheVariants.{TrueFirst, FalseFirst}
 use Rattle.st_emit.specs.declared.form.Loop.{Loop}
 use Rattle.st_emit.specs.declared.form.Loop.TheVariants.{WhileTrue, WhileFalse}
-use Rattle.st_emit.specs.Literals.{LiteralView}
 use Rattle.st_emit.specs.Steps.{size, size_of}
 use Rattle.st_emit.specs.Resolving.{first_special, block_copy}
-use Rattle.st_emit.specs.Nodes.{Sending, Node, constant, small, literal, variable, assign, block, send, one_sided, two_sided, loop, Body, nothing, last, next, returned, Messages, only, also, Nodes, none, node, count, returns}
+use Rattle.st_emit.specs.Nodes.{Node, constant, small, literal, variable, assign, block, send, one_sided, two_sided, loop, Body, nothing, last, next, returned, Messages, only, also, Nodes, none, node, count, returns}
 
 -- the value of an expression is left on the stack, or popped
 pub data Use : Type 0 where

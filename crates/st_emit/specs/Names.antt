@@ -1,5 +1,5 @@
 -- What a name means in a method of a class.
-use Rattle.std.specs.Prelude.{ℕ, ◌+◌, Bool, true, false, List, [], ◌∷◌, ◌++◌, find, Option, Some, None, option_map, if◌then◌else◌, codes, bytes_eq, nat_lt}
+use Rattle.std.specs.Prelude.{ℕ, ◌+◌, Bool, List, [], ◌∷◌, ◌++◌, find, Option, Some, None, option_map, if◌then◌else◌, codes, bytes_eq, nat_lt}
 use Rattle.std.specs.List.{list_any}
 use Rattle.st_tree.specs.Views.{NameView}
 use Rattle.st_emit.specs.Bounds.{most_fields}

@@ -1,25 +1,21 @@
 -- From a tree to its nodes: what names mean, which numbers variables have, and which places literals have.
-use Rattle.std.specs.Prelude.{ℕ, ◌+◌, Bool, true, false, not, ◌&&◌, ◌||◌, ◌==◌, List, [], ◌∷◌, ◌++◌, length, position, Option, Some, None, if◌then◌else◌, codes, bytes_eq}
+use Rattle.std.specs.Prelude.{ℕ, ◌+◌, Bool, true, false, not, ◌&&◌, ◌==◌, List, [], ◌∷◌, length, Option, Some, None, if◌then◌else◌, codes, bytes_eq}
 use Rattle.st_tree.specs.declared.token.Signed.{Signed}
 use Rattle.st_tree.specs.Views.{NameView, ContentView, ElementView, ExpressionView, StatementsView, MessagesView, ExpressionsView}
 use Rattle.st_tree.specs.Views as views
 use Rattle.st_emit.specs.declared.step.Constant.{Constant}
-use Rattle.st_emit.specs.declared.step.Constant.TheVariants.{Nil}
 use Rattle.st_emit.specs.declared.step.Place.{Place}
 use Rattle.st_emit.specs.declared.step.Place.TheVariants.{Field, Temporary, Shared}
 use Rattle.st_emit.specs.declared.form.By.{By}
 use Rattle.st_emit.specs.declared.form.By.TheVariants.{Special, SelectorAt}
-use Rattle.st_emit.specs.declared.form.OneSided.{OneSided}
 use Rattle.st_emit.specs.declared.form.OneSided.TheVariants.{IfTrue, IfFalse, And, Or}
-use Rattle.st_emit.specs.declared.form.TwoSided.{TwoSided}
 use Rattle.st_emit.specs.declared.form.TwoSided.TheVariants.{TrueFirst, FalseFirst}
-use Rattle.st_emit.specs.declared.form.Loop.{Loop}
 use Rattle.st_emit.specs.declared.form.Loop.TheVariants.{WhileTrue, WhileFalse}
 use Rattle.st_emit.specs.declared.form.Form.{Form}
 use Rattle.st_emit.specs.declared.form.Form.TheVariants.{Message as Plain, One, Two, Repeated}
 use Rattle.st_emit.specs.Names.{NamesView, Scope, Variable, temporary, field, shared, constant_named, variable_named, field_from, declared}
 use Rattle.st_emit.specs.Literals.{LiteralView, number, symbol, named, literal_of, small_number, Naming, given, ◌>>=◌, named_literal}
-use Rattle.st_emit.specs.Nodes.{Sending, Node, constant, small, literal, variable, assign, block, send, one_sided, two_sided, loop, Body, nothing, last, next, returned, Messages, only, also, Nodes, none, node, body_of, Tail, assigned, sent, sided, chosen, looped, with_tail}
+use Rattle.st_emit.specs.Nodes.{Sending, Node, constant, small, literal, variable, block, Body, nothing, last, next, returned, Messages, only, also, Nodes, none, node, body_of, Tail, assigned, sent, sided, chosen, looped, with_tail}
 
 -- what stands around a part of a tree: the names of the class, those declared there, and the number of the next variable
 -- in the order of the text

@@ -2,9 +2,9 @@
 use Rattle.std.specs.Prelude.{◌≡◌, ℕ, Bool, true, false, List, [], ◌∷◌, Option, Some, None, if◌then◌else◌}
 use Rattle.st_tree.specs.Views.{ExpressionView, ExpressionsView, StatementsView, MessagesView, no_statements, statement, no_expressions, expression, message, no_messages, statements_view}
 use Rattle.st_tree.specs.Views as views
-use Rattle.st_tree.specs.Chains.{LinkView, assigned, sent}
+use Rattle.st_tree.specs.Chains.{LinkView, sent}
 use Rattle.st_emit.specs.declared.step.Constant.{Constant}
-use Rattle.st_emit.specs.declared.step.Constant.TheVariants.{Receiver, True, False, Nil, Context}
+use Rattle.st_emit.specs.declared.step.Constant.TheVariants.{Context}
 use Rattle.st_emit.specs.declared.form.OneSided.{OneSided}
 use Rattle.st_emit.specs.declared.form.TwoSided.{TwoSided}
 use Rattle.st_emit.specs.declared.form.Loop.{Loop}

@@ -1,5 +1,5 @@
 -- How deep the parts of a tree are, by which the walks along it end.
-use Rattle.std.specs.Prelude.{ℕ, ◌<◌, ◌≤◌, List, [], ◌∷◌, max}
+use Rattle.std.specs.Prelude.{ℕ, ◌<◌, List, [], ◌∷◌, max}
 use denote.Param.Weighed.{most}
 use Rattle.st_tree.specs.declared.tree.Message.{size-Message}
 use Rattle.st_tree.specs.declared.tree.Statement.{size-Statement}

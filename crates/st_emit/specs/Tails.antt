@@ -1,14 +1,12 @@
 -- What is done to a node, as code behind the node's own. A loop has none: its node stands in it as statements.
-use Rattle.std.specs.Prelude.{ℕ, ◌+◌, Bool, true, false, List, [], ◌∷◌, ◌++◌}
+use Rattle.std.specs.Prelude.{false, List, [], ◌∷◌}
 use Rattle.st_emit.specs.declared.step.Step.{Step}
-use Rattle.st_emit.specs.declared.step.Step.TheVariants.{PushConstant, Store, Jump, JumpIf}
+use Rattle.st_emit.specs.declared.step.Step.TheVariants.{PushConstant, Store}
 use Rattle.st_emit.specs.declared.level.Level.{Level}
 use Rattle.st_emit.specs.declared.form.TwoSided.{TwoSided}
 use Rattle.st_emit.specs.declared.form.TwoSided.TheVariants.{TrueFirst, FalseFirst}
 use Rattle.st_emit.specs.Nodes.{Body, Tail, assigned, sent, sided, chosen, looped}
-use Rattle.st_emit.specs.Steps.{size, size_of}
 use Rattle.st_emit.specs.Emitting.{choice, body_code, messages_code, passes_on, other_side}
-use Rattle.st_emit.specs.Emitting as emitting
 use Rattle.st_emit.specs.Depths.{pushed, popped, beside, joined, body_level, messages_level}
 
 abbrev pub two_code : TwoSided → Body → Body → List Step

@@ -1,6 +1,5 @@
 -- What contracts see of the compiler's types.
-use Rattle.std.specs.Prelude.{ℕ, List, [], ◌∷◌, map}
-use Rattle.st_model.specs.declared.oop.Oop.{Oop}
+use Rattle.std.specs.Prelude.{List, [], ◌∷◌, map}
 use Rattle.st_emit.specs.declared.literal.Literal.{Literal, Row_of-Literal, end_of-Literal, more_of-Literal}
 use Rattle.st_emit.specs.declared.literal.Literal.TheVariants.{Number, Character, Bytes, Symbol, Array', Named, Owner}
 use Rattle.st_emit.specs.Literals.{LiteralView, number, character, bytes, symbol, array, named, owner, LiteralsView, no_literals, literal}

@@ -1,12 +1,12 @@
 //! The literals of a method.
 
 ghost use Rattle.std.specs.Prelude.{◌≡◌, IfOk};
-ghost use Rattle.st_tree.specs.Views.{content_view};
-ghost use Rattle.st_emit.specs.Literals.{shares, small_number, literal_of};
-ghost use Rattle.st_emit.specs.Views.{literal_view};
+ghost use Rattle.st_tree.specs.Views.{content_view, elements_view};
+ghost use Rattle.st_emit.specs.Literals.{shares, small_number, literal_of, members_of, array};
+ghost use Rattle.st_emit.specs.Views.{literal_view, members_view};
 
 use st_model::Oop;
-use st_tree::{Content, Signed, Text};
+use st_tree::{Content, Element, Signed, Text};
 use std::alloc::{AllocError, Global};
 
 pub type LiteralList = Vec<Literal>;
@@ -60,7 +60,29 @@ pub fn small_number(n: Signed) -> Option<usize>
     }
 }
 
-/// The literal of what stands in a tree. (The trial leaves arrays out.)
+/// A literal array.
+#[tactic(auto, using(crate::proofs::Members::array_view))]
+fn array(members: LiteralList) -> Literal
+    ensures { literal_view result ≡ array (members_view members.items) }
+{
+    Literal::Array(members)
+}
+
+/// The literals of an array's elements, in their order.
+#[cycle(arrays)]
+fn members_of(alloc: Global, elements: &[Element]) -> Result<LiteralList, AllocError>
+    ensures { IfOk result (λ ls. members_view ls.items ≡ members_of (elements_view elements.now)) }
+{
+    let mut members = Vec::new(alloc);
+    for element in elements {
+        members.push(literal_of(alloc, &element.what)?)?;
+    }
+    Ok(members)
+}
+
+/// The literal of what stands in a tree. The members of an array stand in it, each a literal of its own.
+#[cycle(arrays)]
+#[tactic(auto, using(st_tree::proofs::Views::views))]
 pub fn literal_of(alloc: Global, what: &Content) -> Result<Literal, AllocError>
     ensures { IfOk result (λ l. literal_view l ≡ literal_of (content_view what.now)) }
 {
@@ -72,7 +94,7 @@ pub fn literal_of(alloc: Global, what: &Content) -> Result<Literal, AllocError>
         Content::Character(b) => Ok(Literal::Character(*b)),
         Content::Bytes(text) => Ok(Literal::Bytes(text.to_vec(alloc)?)),
         Content::Symbol(text) => Ok(Literal::Symbol(text.to_vec(alloc)?)),
-        Content::Array(_) => Err(AllocError),
+        Content::Array(elements) => Ok(array(members_of(alloc, elements)?)),
         Content::Nil => Ok(Literal::Named(Oop::NIL)),
         Content::False => Ok(Literal::Named(Oop::FALSE)),
         Content::True => Ok(Literal::Named(Oop::TRUE)),

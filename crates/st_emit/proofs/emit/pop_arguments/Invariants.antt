@@ -1,4 +1,3 @@
-use Rattle.std.proofs.Common.{◌≡◌, ◌++◌}
 use Rattle.st_emit.specs.Around.{arguments_part}
 use Rattle.st_emit.specs.Drafts.{Goes}
 use Rattle.st_emit.proofs.emit.pop_arguments.Given as goal

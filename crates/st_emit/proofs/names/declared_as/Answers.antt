@@ -1,4 +1,4 @@
-use Rattle.std.proofs.Common.{◌≡◌, None, Some, sym, ap, ◌∙◌}
+use Rattle.std.proofs.Common.{None, Some, sym, ap, ◌∙◌}
 use Rattle.std.specs.Prelude.{option_map}
 use Rattle.st_emit.specs.NameViews.{variable_view}
 use Rattle.st_emit.proofs.Scopes.{found_turn}

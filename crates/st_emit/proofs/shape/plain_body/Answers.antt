@@ -1,4 +1,4 @@
-use Rattle.std.proofs.Common.{◌≡◌, [], sym, ap, ◌∙◌}
+use Rattle.std.proofs.Common.{[], sym, ap, ◌∙◌}
 use Rattle.st_tree.specs.Views.{expression_view, names_view, statements_view, block}
 use Rattle.st_tree.proofs.Views.{expression_view-block}
 use Rattle.st_emit.proofs.Lists.{no_items}

@@ -1,4 +1,4 @@
-use Rattle.std.proofs.Common.{◌≡◌, ap, ◌∙◌}
+use Rattle.std.proofs.Common.{ap, ◌∙◌}
 use Rattle.st_tree.specs.Views.{expression_view, expressions_view}
 use Rattle.st_emit.specs.Shapes.{repetition_with}
 use Rattle.st_emit.proofs.Shapes.{repetition_with-many}
