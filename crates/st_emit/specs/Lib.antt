@@ -13,3 +13,5 @@ pub mod Around
 pub mod Drafts
 pub mod Shapes
 pub mod Sizes
+pub mod Emits
+pub mod Found

@@ -4,10 +4,17 @@ use Rattle.std.specs.Prelude.{ℕ, ◌+◌, Bool, true, false, List}
 use Rattle.st_emit.specs.declared.step.Constant.{Constant}
 use Rattle.st_emit.specs.declared.step.Place.{Place}
 use Rattle.st_emit.specs.declared.form.By.{By}
+use Rattle.st_emit.specs.declared.form.Lookup.{Lookup}
+use Rattle.st_emit.specs.declared.form.Lookup.TheVariants.{InClass, InSuperclass}
 use Rattle.st_emit.specs.declared.form.OneSided.{OneSided}
 use Rattle.st_emit.specs.declared.form.TwoSided.{TwoSided}
 use Rattle.st_emit.specs.declared.form.Loop.{Loop}
 use Rattle.st_emit.specs.Literals.{LiteralView}
+
+-- a message to super is looked up above the class of its method
+abbrev pub is_above : Lookup → Bool
+is_above InClass = false
+is_above InSuperclass = true
 
 -- a selector, and how it is sent
 pub record Sending : Type 0 where

@@ -3,12 +3,14 @@
 ghost use Rattle.std.specs.Prelude.{◌≡◌, [], ◌∷◌, IfOk, OnOk};
 ghost use Rattle.st_tree.specs.Views.{name_view, content_view};
 ghost use Rattle.st_emit.specs.Around.{context, name_part, literal_part, number_part, send_part, arguments_part};
-ghost use Rattle.st_emit.specs.Resolving.{place_of_name, by_selector};
+ghost use Rattle.st_emit.specs.Emits.{place_at};
+ghost use Rattle.st_emit.specs.Nodes.{is_above};
+ghost use Rattle.st_emit.specs.Resolving.{by_selector};
 ghost use Rattle.st_emit.specs.Drafts.{Adds, Resolves};
 
 use crate::counting::sum;
 use crate::draft::Draft;
-use crate::form::{By, send_step};
+use crate::form::{By, Lookup, send_step};
 use crate::literal::{Literal, literal_of, small_number};
 use crate::names::{Around, Variable, constant_named, variable_named};
 use crate::selector::special_code;
@@ -18,7 +20,7 @@ use std::alloc::{AllocError, Global};
 
 /// The variable of a name. An association is named among the literals.
 pub fn place_of_name(draft: &mut Draft, around: Around<'_>, n: &Name) -> Result<Place, AllocError>
-    ensures { IfOk result (Resolves (place_of_name (context around.entry) (name_view n.now)) draft.old draft.new) }
+    ensures { IfOk result (Resolves (place_at around.entry n.now) draft.old draft.new) }
 {
     match variable_named(around.names, around.scope, &n.text)? {
         Some(Variable::Temporary { number, .. }) => Ok(Place::Temporary(number)),
@@ -70,16 +72,16 @@ pub fn literal(alloc: Global, draft: &mut Draft, what: &Content) -> Result<(), A
     draft.put_push(Step::Push(Place::Literal(place)))
 }
 
-/// How a message is sent, to super or not.
+/// How a message is sent. One to super has no code of its own.
 fn by_selector(
     alloc: Global,
     draft: &mut Draft,
-    above: bool,
+    lookup: Lookup,
     selector: &[u8],
 ) -> Result<By, AllocError>
-    ensures { IfOk result (Resolves (by_selector above selector.now) draft.old draft.new) }
+    ensures { IfOk result (Resolves (by_selector (is_above lookup) selector.now) draft.old draft.new) }
 {
-    if !above {
+    if matches!(lookup, Lookup::InClass) {
         if let Some(code) = special_code(selector) {
             return Ok(By::Special(code));
         }
@@ -92,14 +94,14 @@ fn by_selector(
 pub fn send(
     alloc: Global,
     draft: &mut Draft,
-    above: bool,
+    lookup: Lookup,
     selector: &[u8],
     arguments: usize,
 ) -> Result<(), AllocError>
-    ensures { OnOk result (Adds (send_part above selector.now arguments) draft.old draft.new) }
+    ensures { OnOk result (Adds (send_part (is_above lookup) selector.now arguments) draft.old draft.new) }
 {
-    let by = by_selector(alloc, draft, above, selector)?;
-    draft.put_pop(send_step(above, by, arguments), arguments)
+    let by = by_selector(alloc, draft, lookup, selector)?;
+    draft.put_pop(send_step(lookup, by, arguments), arguments)
 }
 
 /// Pops the arguments of a block into their variables, the last first.

@@ -2,8 +2,17 @@
 
 ghost use Rattle.std.specs.Prelude.{◌≡◌};
 ghost use Rattle.st_emit.specs.Emitting.{passes_on, other_side, leaves_on, send_step};
+ghost use Rattle.st_emit.specs.Nodes.{is_above};
 
 use crate::step::{Constant, Step};
+
+/// Where the method of a message is looked up first: in the class of the receiver, or for a message to super in the
+/// superclass of the class whose method sends it.
+#[derive(Clone, Copy)]
+pub enum Lookup {
+    InClass,
+    InSuperclass,
+}
 
 /// How a message is sent: by a code of its own, or by the place of its selector among the literals.
 #[derive(Clone, Copy)]
@@ -75,17 +84,17 @@ pub fn leaves_on(kind: Loop) -> bool
     }
 }
 
-/// The instruction that sends a message, to super or not.
-pub fn send_step(above: bool, by: By, arguments: usize) -> Step
-    ensures { result ≡ send_step above by arguments }
+/// The instruction that sends a message.
+pub fn send_step(lookup: Lookup, by: By, arguments: usize) -> Step
+    ensures { result ≡ send_step (is_above lookup) by arguments }
 {
-    match by {
-        By::Special(code) => Step::SendSpecial(code),
-        By::SelectorAt(selector) if above => Step::SendSuper {
+    match (by, lookup) {
+        (By::Special(code), _) => Step::SendSpecial(code),
+        (By::SelectorAt(selector), Lookup::InClass) => Step::Send {
             arguments,
             selector,
         },
-        By::SelectorAt(selector) => Step::Send {
+        (By::SelectorAt(selector), Lookup::InSuperclass) => Step::SendSuper {
             arguments,
             selector,
         },

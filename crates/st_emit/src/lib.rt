@@ -16,13 +16,13 @@ mod value;
 
 pub use counting::sum;
 pub use draft::Draft;
-pub use form::{By, Form, Loop, OneSided, TwoSided};
+pub use form::{By, Form, Lookup, Loop, OneSided, TwoSided};
 pub use level::Level;
 pub use literal::{Literal, LiteralList};
 pub use names::{
     Around, Frame, NamedOops, Names, TextList, Variable, constant_named, inner_scope, is_among,
     is_declared, variable_named,
 };
-pub use shape::{Repetition, Shape, Side};
+pub use shape::{Choice, Repetition, Shape, Side};
 pub use step::{Constant, Place, Step, size_of};
 pub use value::method_body;

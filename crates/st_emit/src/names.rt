@@ -1,9 +1,9 @@
 //! What a name means.
 
 ghost use Rattle.std.specs.Prelude.{◌≡◌, IfOk, option_map, is_some, false};
-ghost use Rattle.st_emit.specs.Names.{constant_named, field_named, shared_named, declared_as, own_variable, variable_named, is_among, declared};
+ghost use Rattle.st_emit.specs.Names.{constant_named, field_named, shared_named, declared_as, own_variable, is_among};
 ghost use Rattle.st_tree.specs.Views.{names_view as list_view};
-ghost use Rattle.st_emit.specs.NameViews.{frame_view, names_view, scope_view, pointer_of, IsVariable};
+ghost use Rattle.st_emit.specs.NameViews.{frame_view, names_view, scope_view, with_names, variable_at, pointer_of, IsVariable};
 
 use crate::step::Constant;
 use st_model::Oop;
@@ -128,7 +128,7 @@ pub fn variable_named(
     scope: &[Frame<'_>],
     text: &[u8],
 ) -> Result<Option<Variable>, AllocError>
-    ensures { IfOk result (IsVariable (variable_named (names_view names.now) (scope_view scope.now) text.now)) }
+    ensures { IfOk result (IsVariable (variable_at names.now scope.now text.now)) }
 {
     if let Some(variable) = declared_as(scope, text)? {
         return Ok(Some(variable));
@@ -170,7 +170,7 @@ pub fn inner_scope<'a>(
     names: &'a [Name],
     first: usize,
 ) -> Result<Vec<Frame<'a>>, AllocError>
-    ensures { IfOk result (λ inner. scope_view inner.items ≡ declared false first (list_view names.now) (scope_view scope.now)) }
+    ensures { IfOk result (λ inner. scope_view inner.items ≡ with_names first names.now scope.now) }
 {
     let mut inner = Vec::new(alloc);
     for frame in scope {

@@ -1,17 +1,15 @@
 //! Which form a message has.
 
-ghost use Rattle.std.specs.Prelude.{◌≡◌, ◌+◌, ◌<◌, ◌≤◌, [], IfSome, MatchOption, option_map, length, false};
-ghost use denote.Param.Weighed.{most};
+ghost use Rattle.std.specs.Prelude.{◌≡◌, ◌<◌, ◌≤◌, IfSome, MatchOption, option_map, length};
 ghost use Rattle.st_tree.specs.declared.tree.Expression.{size-Expression};
 ghost use Rattle.st_tree.specs.declared.tree.Message.{size-Message};
-ghost use Rattle.st_tree.specs.declared.tree.Statement.{size-Statement};
-ghost use Rattle.st_tree.specs.Views.{name_view, expression_view, expressions_view, statements_view, messages_view, assign, block, statement, message};
-ghost use Rattle.st_tree.specs.Chains.{link_view, links_view, sent};
-ghost use Rattle.st_emit.specs.Resolving.{is_super, is_plain};
-ghost use Rattle.st_emit.specs.Shapes.{shape_of, shape_view, one_sided_shape, two_sided_shape, repeated, repetition_with, repetition_of, first_repetition, repetition_view, returning, returned_constant, IsEnd, IsNoAssignment, IsCascade, IsOnly};
+ghost use Rattle.st_tree.specs.Views.{expression_view, expressions_view, statements_view};
+ghost use Rattle.st_emit.specs.Resolving.{is_super};
+ghost use Rattle.st_emit.specs.Shapes.{shape_view, one_sided_shape, two_sided_shape, repetition_view, returning, returned_constant};
+ghost use Rattle.st_emit.specs.Found.{statements_size, messages_size, IsNotPlain, IsPlain, message_shape, loop_of, loop_by, loop_among, loop_linked, first_loop, IsUnassigned, IsAssignment, IsBefore, EndsAtOnce, IsFirstOf, AreCascade, IsOnlyOf};
 ghost use Rattle.st_emit.specs.Sizes.{IsShapeBelow, link_size, links_size};
 
-use crate::form::{Form, Loop, OneSided, TwoSided};
+use crate::form::{Form, Lookup, Loop, OneSided, TwoSided};
 use crate::names::constant_named;
 use crate::selector::form_named;
 use crate::step::Constant;
@@ -30,6 +28,16 @@ pub enum Shape<'t> {
 pub enum Side<'t> {
     Constant(Constant),
     Statements(&'t [Statement]),
+}
+
+/// A conditional form behind its receiver: the boolean on which its first side is passed, that side, and the other one,
+/// whose variables are numbered from `behind` on.
+#[derive(Clone, Copy)]
+pub struct Choice<'t> {
+    pub on: bool,
+    pub first: &'t [Statement],
+    pub behind: usize,
+    pub other: Side<'t>,
 }
 
 /// A loop, with the statements of its two blocks.
@@ -53,8 +61,8 @@ pub fn is_super(e: &Expression) -> bool
 /// The statements of an expression that is a block without arguments.
 #[tactic(auto, using(st_tree::proofs::Views::views))]
 fn plain_body(e: &Expression) -> Option<&[Statement]>
-    ensures view { MatchOption result (is_plain (expression_view e.now) ≡ false) (λ b. expression_view e.now ≡ block [] (statements_view b.now)) }
-    ensures below { IfSome result (λ b. most size-Statement b.now < size-Expression e.now) }
+    ensures view { MatchOption result (IsNotPlain e.now) (λ b. IsPlain e.now b.now) }
+    ensures below { IfSome result (λ b. statements_size b.now < size-Expression e.now) }
 {
     match e {
         Expression::Variable(_) => None,
@@ -104,7 +112,7 @@ fn two_sided(side: TwoSided, m: &Message) -> Shape<'_>
 
 /// The shape of one message to another receiver than super.
 pub fn shape_of(m: &Message) -> Shape<'_>
-    ensures shape { shape_view result ≡ shape_of m.now.selector.items (expressions_view m.now.arguments.items) }
+    ensures shape { shape_view result ≡ message_shape m.now }
     ensures below { IsShapeBelow (size-Message m.now) result }
 {
     match form_named(&m.selector) {
@@ -120,9 +128,9 @@ fn repeated<'t>(
     start: &'t Expression,
     argument: &'t Expression,
 ) -> Option<Repetition<'t>>
-    ensures repetition { option_map repetition_view result ≡ repeated m.now.selector.items (expression_view start.now) (expression_view argument.now) }
-    ensures condition { IfSome result (λ r. most size-Statement r.condition.now < size-Expression start.now) }
-    ensures body { IfSome result (λ r. most size-Statement r.body.now < size-Expression argument.now) }
+    ensures repetition { option_map repetition_view result ≡ loop_of m.now start.now argument.now }
+    ensures condition { IfSome result (λ r. statements_size r.condition.now < size-Expression start.now) }
+    ensures body { IfSome result (λ r. statements_size r.body.now < size-Expression argument.now) }
 {
     let Form::Repeated(kind) = form_named(&m.selector) else {
         return None;
@@ -136,9 +144,9 @@ fn repeated<'t>(
 
 /// The loop that an expression is with its first message.
 fn repetition_with<'t>(start: &'t Expression, m: &'t Message) -> Option<Repetition<'t>>
-    ensures repetition { option_map repetition_view result ≡ repetition_with m.now.selector.items (expressions_view m.now.arguments.items) (expression_view start.now) }
-    ensures condition { IfSome result (λ r. most size-Statement r.condition.now < size-Expression start.now) }
-    ensures body { IfSome result (λ r. most size-Statement r.body.now < size-Message m.now) }
+    ensures repetition { option_map repetition_view result ≡ loop_by m.now start.now }
+    ensures condition { IfSome result (λ r. statements_size r.condition.now < size-Expression start.now) }
+    ensures body { IfSome result (λ r. statements_size r.body.now < size-Message m.now) }
 {
     match m.arguments.as_slice() {
         [a] => repeated(m, start, a),
@@ -149,9 +157,9 @@ fn repetition_with<'t>(start: &'t Expression, m: &'t Message) -> Option<Repetiti
 
 /// The loop that an expression is with the messages of its first link.
 fn repetition_among<'t>(start: &'t Expression, messages: &'t [Message]) -> Option<Repetition<'t>>
-    ensures repetition { option_map repetition_view result ≡ repetition_of (expression_view start.now) (sent (messages_view messages.now)) }
-    ensures condition { IfSome result (λ r. most size-Statement r.condition.now < size-Expression start.now) }
-    ensures body { IfSome result (λ r. most size-Statement r.body.now < most size-Message messages.now) }
+    ensures repetition { option_map repetition_view result ≡ loop_among messages.now start.now }
+    ensures condition { IfSome result (λ r. statements_size r.condition.now < size-Expression start.now) }
+    ensures body { IfSome result (λ r. statements_size r.body.now < messages_size messages.now) }
 {
     match messages {
         [m] => repetition_with(start, m),
@@ -162,9 +170,9 @@ fn repetition_among<'t>(start: &'t Expression, messages: &'t [Message]) -> Optio
 
 /// The loop that an expression is with its first link.
 fn repetition_of<'t>(start: &'t Expression, link: Link<'t>) -> Option<Repetition<'t>>
-    ensures repetition { option_map repetition_view result ≡ repetition_of (expression_view start.now) (link_view link.entry) }
-    ensures condition { IfSome result (λ r. most size-Statement r.condition.now < size-Expression start.now) }
-    ensures body { IfSome result (λ r. most size-Statement r.body.now < link_size link.entry) }
+    ensures repetition { option_map repetition_view result ≡ loop_linked link.entry start.now }
+    ensures condition { IfSome result (λ r. statements_size r.condition.now < size-Expression start.now) }
+    ensures body { IfSome result (λ r. statements_size r.body.now < link_size link.entry) }
 {
     match link {
         Link::Assign(_) => None,
@@ -174,9 +182,9 @@ fn repetition_of<'t>(start: &'t Expression, link: Link<'t>) -> Option<Repetition
 
 /// The loop that an expression begins with.
 pub fn first_repetition<'t>(start: &'t Expression, links: &[Link<'t>]) -> Option<Repetition<'t>>
-    ensures repetition { option_map repetition_view result ≡ first_repetition (expression_view start.now) (links_view links.now) }
-    ensures condition { IfSome result (λ r. most size-Statement r.condition.now < size-Expression start.now) }
-    ensures body { IfSome result (λ r. most size-Statement r.body.now < links_size links.now) }
+    ensures repetition { option_map repetition_view result ≡ first_loop links.now start.now }
+    ensures condition { IfSome result (λ r. statements_size r.condition.now < size-Expression start.now) }
+    ensures body { IfSome result (λ r. statements_size r.body.now < links_size links.now) }
 {
     match links {
         [] => None,
@@ -211,7 +219,7 @@ pub fn returned_constant(e: &Expression) -> Option<Constant>
 
 /// An assignment's target and value.
 pub fn assigned(e: &Expression) -> Option<(&Name, &Expression)>
-    ensures view { MatchOption result (IsNoAssignment (expression_view e.now)) (λ x. expression_view e.now ≡ assign (name_view x.0.now) (expression_view x.1.now)) }
+    ensures view { MatchOption result (IsUnassigned e.now) (λ x. IsAssignment e.now x.0.now x.1.now) }
     ensures below { IfSome result (λ x. size-Expression x.1.now < size-Expression e.now) }
 {
     match e {
@@ -225,11 +233,11 @@ pub fn assigned(e: &Expression) -> Option<(&Name, &Expression)>
 
 /// The first of two or more statements, if it doesn't return, and the others.
 pub fn not_last(statements: &[Statement]) -> Option<(&Expression, &[Statement])>
-    ensures view { IfSome result (λ x. statements_view statements.now ≡ statement false (expression_view x.0.now) (statements_view x.1.now)) }
-    ensures end { MatchOption result (0 < length statements.now → IsEnd (statements_view statements.now)) (λ x. 0 < length x.1.now) }
+    ensures view { IfSome result (λ x. IsBefore statements.now x.0.now x.1.now) }
+    ensures end { MatchOption result (EndsAtOnce statements.now) (λ x. 0 < length x.1.now) }
     ensures fewer { IfSome result (λ x. length x.1.now < length statements.now) }
-    ensures first { IfSome result (λ x. size-Expression x.0.now ≤ most size-Statement statements.now) }
-    ensures others { IfSome result (λ x. most size-Statement x.1.now ≤ most size-Statement statements.now) }
+    ensures first { IfSome result (λ x. size-Expression x.0.now ≤ statements_size statements.now) }
+    ensures others { IfSome result (λ x. statements_size x.1.now ≤ statements_size statements.now) }
 {
     match statements {
         [
@@ -245,11 +253,11 @@ pub fn not_last(statements: &[Statement]) -> Option<(&Expression, &[Statement])>
 
 /// The first of two or more messages, and the others.
 pub fn before_others(messages: &[Message]) -> Option<(&Message, &[Message])>
-    ensures view { IfSome result (λ x. messages_view messages.now ≡ message x.0.now.selector.items (expressions_view x.0.now.arguments.items) (messages_view x.1.now)) }
+    ensures view { IfSome result (λ x. IsFirstOf messages.now x.0.now x.1.now) }
     ensures end { MatchOption result (length messages.now ≤ 1) (λ x. 0 < length x.1.now) }
     ensures fewer { IfSome result (λ x. length x.1.now < length messages.now) }
-    ensures first { IfSome result (λ x. size-Message x.0.now ≤ most size-Message messages.now) }
-    ensures others { IfSome result (λ x. most size-Message x.1.now ≤ most size-Message messages.now) }
+    ensures first { IfSome result (λ x. size-Message x.0.now ≤ messages_size messages.now) }
+    ensures others { IfSome result (λ x. messages_size x.1.now ≤ messages_size messages.now) }
 {
     match messages {
         [m, others @ ..] if !others.is_empty() => Some((m, others)),
@@ -258,11 +266,11 @@ pub fn before_others(messages: &[Message]) -> Option<(&Message, &[Message])>
 }
 
 /// The one message to another receiver than super.
-pub fn only_message(above: bool, messages: &[Message]) -> Option<&Message>
-    ensures view { MatchOption result (IsCascade above (messages_view messages.now)) (λ m. IsOnly above (messages_view messages.now) m.now.selector.items (expressions_view m.now.arguments.items)) }
-    ensures within { IfSome result (λ m. size-Message m.now ≤ most size-Message messages.now) }
+pub fn only_message(lookup: Lookup, messages: &[Message]) -> Option<&Message>
+    ensures view { MatchOption result (AreCascade lookup messages.now) (λ m. IsOnlyOf lookup messages.now m.now) }
+    ensures within { IfSome result (λ m. size-Message m.now ≤ messages_size messages.now) }
 {
-    if above {
+    if matches!(lookup, Lookup::InSuperclass) {
         return None;
     }
     match messages {

@@ -1,25 +1,25 @@
 //! Expressions and statements as instructions. A walk goes along an expression's chain, so that it is as deep as the
 //! brackets of its text, and not as its receivers and assigned values.
 
-ghost use Rattle.std.specs.Prelude.{◌≡◌, ◌+◌, ◌<◌, ◌≤◌, ◌++◌, IfOk, OnOk, length, take, if◌then◌else◌, ◌==◌, false, None};
-ghost use denote.Param.Weighed.{most};
-ghost use Rattle.st_tree.specs.declared.tree.Statement.{size-Statement};
-ghost use Rattle.st_tree.specs.Views.{name_view, names_view, expression_view, expressions_view, messages_view, statements_view};
-ghost use Rattle.st_tree.specs.Chains.{link_view, links_view, linked, IsStart};
-ghost use Rattle.st_emit.specs.Around.{context, value_part, effect_part, values_part, message_part, cascade_part, shape_part, link_part, side_part, choice_part, loop_part, block_part, block_body_part, body_part, return_part, method_part, at_number, names_in_link, names_in_side, names_in_repetition};
-ghost use Rattle.st_emit.specs.Resolving.{is_super, names_in, names_in_all, names_in_messages, names_in_statements};
-ghost use Rattle.st_emit.specs.Shapes.{shape_view, repetition_view, side_view, first_repetition, IsEnd};
-ghost use Rattle.st_emit.specs.Drafts.{Adds, Goes};
+ghost use Rattle.std.specs.Prelude.{◌≡◌, ◌<◌, ◌≤◌, IfOk, OnOk, length, if◌then◌else◌, ◌==◌, false};
+ghost use Rattle.st_tree.specs.Views.{expression_view, statements_view};
+ghost use Rattle.st_tree.specs.Chains.{IsStart};
+ghost use Rattle.st_emit.specs.Emits.{value_at, effect_at, return_at, values_at, message_at, cascade_at, sent_at, side_at, choice_at, loop_at, link_at, chain_at, begun_at, body_at, method_at, block_at, block_body_at, after, after_all, after_messages, after_side, after_loop, after_link, after_chain, after_begun, after_statements, after_block, BeginsNoLoop, LeadsTo, CountsTo};
+ghost use Rattle.st_emit.specs.Found.{statements_size};
+ghost use Rattle.st_emit.specs.Nodes.{is_above};
+ghost use Rattle.st_emit.specs.Resolving.{is_super};
+ghost use Rattle.st_emit.specs.Shapes.{IsEnd};
+ghost use Rattle.st_emit.specs.Drafts.{Adds};
 
 use crate::counting::{names_in_statements, sum};
 use crate::draft::Draft;
 use crate::emit::{literal, name, number, place_of_name, pop_arguments, send};
-use crate::form::{TwoSided, leaves_on, other_side, passes_on};
+use crate::form::{Lookup, TwoSided, leaves_on, other_side, passes_on};
 use crate::level::{around_block, beside, joined, within};
 use crate::names::{Around, Frame, inner_scope};
 use crate::selector::BLOCK_COPY;
 use crate::shape::{
-    Repetition, Shape, Side, assigned, before_others, first_repetition, is_super, not_last,
+    Choice, Repetition, Shape, Side, assigned, before_others, first_repetition, is_super, not_last,
     only_message, returned_constant, returning, shape_of,
 };
 use crate::step::{Constant, Step, size_of};
@@ -34,8 +34,8 @@ fn values(
     around: Around<'_>,
     es: &[Expression],
 ) -> Result<usize, AllocError>
-    ensures added { OnOk result (Adds (values_part (context around.entry) (expressions_view es.now)) draft.old draft.new) }
-    ensures next { IfOk result (λ n. n ≡ around.entry.next + names_in_all (expressions_view es.now)) }
+    ensures added { OnOk result (Adds (values_at around.entry es.now) draft.old draft.new) }
+    ensures next { IfOk result (λ n. n ≡ after_all around.entry es.now) }
 {
     let mut next = around.next;
     for e in es {
@@ -50,14 +50,14 @@ fn message(
     alloc: Global,
     draft: &mut Draft,
     around: Around<'_>,
-    above: bool,
+    lookup: Lookup,
     m: &Message,
 ) -> Result<usize, AllocError>
-    ensures added { OnOk result (Adds (message_part above (context around.entry) m.now.selector.items (expressions_view m.now.arguments.items)) draft.old draft.new) }
-    ensures next { IfOk result (λ n. n ≡ around.entry.next + names_in_all (expressions_view m.now.arguments.items)) }
+    ensures added { OnOk result (Adds (message_at lookup around.entry m.now) draft.old draft.new) }
+    ensures next { IfOk result (λ n. n ≡ after_all around.entry m.now.arguments.items) }
 {
     let next = values(alloc, draft, around, &m.arguments)?;
-    send(alloc, draft, above, &m.selector, m.arguments.len())?;
+    send(alloc, draft, lookup, &m.selector, m.arguments.len())?;
     Ok(next)
 }
 
@@ -67,26 +67,26 @@ fn cascade(
     alloc: Global,
     draft: &mut Draft,
     around: Around<'_>,
-    above: bool,
+    lookup: Lookup,
     messages: &[Message],
 ) -> Result<usize, AllocError>
-    ensures added { OnOk result (Adds (cascade_part above (context around.entry) (messages_view messages.now)) draft.old draft.new) }
-    ensures next { IfOk result (λ n. n ≡ around.entry.next + names_in_messages (messages_view messages.now)) }
+    ensures added { OnOk result (Adds (cascade_at lookup around.entry messages.now) draft.old draft.new) }
+    ensures next { IfOk result (λ n. n ≡ after_messages around.entry messages.now) }
 {
     let mut next = around.next;
     let mut rest = messages;
     while let Some((m, others)) = before_others(rest) {
         draft.put_push(Step::Duplicate)?;
-        next = message(alloc, draft, Around { next, ..around }, above, m)?;
+        next = message(alloc, draft, Around { next, ..around }, lookup, m)?;
         draft.put_pop(Step::Pop, 1)?;
         rest = others;
     }
     match rest {
         [] => {
-            send(alloc, draft, above, &[], 0)?;
+            send(alloc, draft, lookup, &[], 0)?;
             Ok(next)
         }
-        [m, ..] => message(alloc, draft, Around { next, ..around }, above, m),
+        [m, ..] => message(alloc, draft, Around { next, ..around }, lookup, m),
     }
 }
 
@@ -98,8 +98,8 @@ fn side(
     around: Around<'_>,
     other: Side<'_>,
 ) -> Result<usize, AllocError>
-    ensures added { OnOk result (Adds (side_part (context around.entry) (side_view other.entry)) draft.old draft.new) }
-    ensures next { IfOk result (λ n. n ≡ around.entry.next + names_in_side (side_view other.entry)) }
+    ensures added { OnOk result (Adds (side_at around.entry other.entry) draft.old draft.new) }
+    ensures next { IfOk result (λ n. n ≡ after_side around.entry.next other.entry) }
 {
     match other {
         Side::Constant(constant) => {
@@ -117,18 +117,15 @@ fn choice(
     alloc: Global,
     draft: &mut Draft,
     around: Around<'_>,
-    on: bool,
-    first: &[Statement],
-    behind: usize,
-    other: Side<'_>,
+    form: Choice<'_>,
 ) -> Result<usize, AllocError>
-    ensures added { OnOk result (Adds (choice_part on (context around.entry) (statements_view first.now) behind (side_view other.entry)) draft.old draft.new) }
-    ensures next { IfOk result (λ n. n ≡ behind + names_in_side (side_view other.entry)) }
+    ensures added { OnOk result (Adds (choice_at around.entry form.entry) draft.old draft.new) }
+    ensures next { IfOk result (λ n. n ≡ after_side form.entry.behind form.entry.other) }
 {
     let test = draft.steps.len();
-    draft.put_pop(Step::JumpIf(on, 0), 1)?;
+    draft.put_pop(Step::JumpIf(form.on, 0), 1)?;
     let begun = draft.level;
-    body(alloc, draft, around, first)?;
+    body(alloc, draft, around, form.first)?;
     let inside = draft.size_from(test + 1)?;
     let over = draft.steps.len();
     draft.put(Step::Jump(0))?;
@@ -138,14 +135,14 @@ fn choice(
         alloc,
         draft,
         Around {
-            next: behind,
+            next: form.behind,
             ..around
         },
-        other,
+        form.other,
     )?;
     let jump = Step::Jump(draft.size_from(over + 1)?);
     draft.steps[over] = jump;
-    draft.steps[test] = Step::JumpIf(on, sum(inside, size_of(jump))?);
+    draft.steps[test] = Step::JumpIf(form.on, sum(inside, size_of(jump))?);
     draft.level = joined(ended, draft.level);
     Ok(next)
 }
@@ -158,41 +155,44 @@ fn sent(
     around: Around<'_>,
     m: &Message,
 ) -> Result<usize, AllocError>
-    ensures added { OnOk result (Adds (shape_part (context around.entry) m.now.selector.items (expressions_view m.now.arguments.items)) draft.old draft.new) }
-    ensures next { IfOk result (λ n. n ≡ around.entry.next + names_in_all (expressions_view m.now.arguments.items)) }
+    ensures added { OnOk result (Adds (sent_at around.entry m.now) draft.old draft.new) }
+    ensures next { IfOk result (λ n. n ≡ after_all around.entry m.now.arguments.items) }
 {
     match shape_of(m) {
-        Shape::Plain => message(alloc, draft, around, false, m),
+        Shape::Plain => message(alloc, draft, around, Lookup::InClass, m),
         Shape::One(side, a) => {
             let behind = sum(around.next, names_in_statements(a)?)?;
-            choice(
-                alloc,
-                draft,
-                around,
-                passes_on(side),
-                a,
+            let form = Choice {
+                on: passes_on(side),
+                first: a,
                 behind,
-                Side::Constant(other_side(side)),
-            )
+                other: Side::Constant(other_side(side)),
+            };
+            choice(alloc, draft, around, form)
         }
         Shape::Two(TwoSided::TrueFirst, a, b) => {
             let behind = sum(around.next, names_in_statements(a)?)?;
-            choice(alloc, draft, around, false, a, behind, Side::Statements(b))
+            let form = Choice {
+                on: false,
+                first: a,
+                behind,
+                other: Side::Statements(b),
+            };
+            choice(alloc, draft, around, form)
         }
         Shape::Two(TwoSided::FalseFirst, a, b) => {
             let behind = sum(around.next, names_in_statements(a)?)?;
-            choice(
-                alloc,
-                draft,
-                Around {
-                    next: behind,
-                    ..around
-                },
-                false,
-                b,
-                around.next,
-                Side::Statements(a),
-            )?;
+            let form = Choice {
+                on: false,
+                first: b,
+                behind: around.next,
+                other: Side::Statements(a),
+            };
+            let second = Around {
+                next: behind,
+                ..around
+            };
+            choice(alloc, draft, second, form)?;
             sum(behind, names_in_statements(b)?)
         }
     }
@@ -204,11 +204,11 @@ fn linked(
     alloc: Global,
     draft: &mut Draft,
     around: Around<'_>,
-    above: bool,
+    lookup: Lookup,
     link: Link<'_>,
 ) -> Result<usize, AllocError>
-    ensures added { OnOk result (Adds (link_part above (context around.entry) (link_view link.entry)) draft.old draft.new) }
-    ensures next { IfOk result (λ n. n ≡ around.entry.next + names_in_link (link_view link.entry)) }
+    ensures added { OnOk result (Adds (link_at lookup around.entry link.entry) draft.old draft.new) }
+    ensures next { IfOk result (λ n. n ≡ after_link around.entry link.entry) }
 {
     match link {
         Link::Assign(target) => {
@@ -216,9 +216,9 @@ fn linked(
             draft.put(Step::Store(place))?;
             Ok(around.next)
         }
-        Link::Send(messages) => match only_message(above, messages) {
+        Link::Send(messages) => match only_message(lookup, messages) {
             Some(m) => sent(alloc, draft, around, m),
-            None => cascade(alloc, draft, around, above, messages),
+            None => cascade(alloc, draft, around, lookup, messages),
         },
     }
 }
@@ -231,8 +231,8 @@ fn body(
     around: Around<'_>,
     statements: &[Statement],
 ) -> Result<usize, AllocError>
-    ensures added { OnOk result (Adds (body_part (context around.entry) (statements_view statements.now)) draft.old draft.new) }
-    ensures next { IfOk result (λ n. n ≡ around.entry.next + names_in_statements (statements_view statements.now)) }
+    ensures added { OnOk result (Adds (body_at around.entry statements.now) draft.old draft.new) }
+    ensures next { IfOk result (λ n. n ≡ after_statements around.entry statements.now) }
 {
     if statements.is_empty() {
         draft.put_push(Step::PushConstant(Constant::Nil))?;
@@ -251,10 +251,10 @@ fn leading<'s>(
     statements: &'s [Statement],
 ) -> Result<(usize, &'s [Statement]), AllocError>
     requires { 0 < length statements.now }
-    ensures added { IfOk result (λ x. Goes (body_part (context (at_number x.0 around.entry)) (statements_view x.1.now)) draft.new (body_part (context around.entry) (statements_view statements.now)) draft.old) }
-    ensures next { IfOk result (λ x. x.0 + names_in_statements (statements_view x.1.now) ≡ around.entry.next + names_in_statements (statements_view statements.now)) }
+    ensures added { IfOk result (λ x. LeadsTo around.entry statements.now draft.old x.0 x.1.now draft.new) }
+    ensures next { IfOk result (λ x. CountsTo around.entry statements.now x.0 x.1.now) }
     ensures end { IfOk result (λ x. IsEnd (statements_view x.1.now)) }
-    ensures within { IfOk result (λ x. most size-Statement x.1.now ≤ most size-Statement statements.now) }
+    ensures within { IfOk result (λ x. statements_size x.1.now ≤ statements_size statements.now) }
 {
     let mut next = around.next;
     let mut rest = statements;
@@ -274,11 +274,11 @@ fn last(
     statements: &[Statement],
 ) -> Result<usize, AllocError>
     requires { IsEnd (statements_view statements.now) }
-    ensures added { OnOk result (Adds (body_part (context around.entry) (statements_view statements.now)) draft.old draft.new) }
-    ensures next { IfOk result (λ n. n ≡ around.entry.next + names_in_statements (statements_view statements.now)) }
+    ensures added { OnOk result (Adds (body_at around.entry statements.now) draft.old draft.new) }
+    ensures next { IfOk result (λ n. n ≡ after_statements around.entry statements.now) }
 {
     match statements {
-        [] => Ok(around.next),
+        [] => unreachable!(),
         [
             Statement {
                 returns: true,
@@ -304,8 +304,8 @@ pub fn returned(
     around: Around<'_>,
     e: &Expression,
 ) -> Result<usize, AllocError>
-    ensures added { OnOk result (Adds (return_part (context around.entry) (expression_view e.now)) draft.old draft.new) }
-    ensures next { IfOk result (λ n. n ≡ around.entry.next + names_in (expression_view e.now)) }
+    ensures added { OnOk result (Adds (return_at around.entry e.now) draft.old draft.new) }
+    ensures next { IfOk result (λ n. n ≡ after around.entry e.now) }
 {
     if let Some(constant) = returned_constant(e) {
         draft.put_end(Step::ReturnConstant(constant))?;
@@ -324,8 +324,8 @@ pub fn effect(
     around: Around<'_>,
     e: &Expression,
 ) -> Result<usize, AllocError>
-    ensures added { OnOk result (Adds (effect_part (context around.entry) (expression_view e.now)) draft.old draft.new) }
-    ensures next { IfOk result (λ n. n ≡ around.entry.next + names_in (expression_view e.now)) }
+    ensures added { OnOk result (Adds (effect_at around.entry e.now) draft.old draft.new) }
+    ensures next { IfOk result (λ n. n ≡ after around.entry e.now) }
 {
     match assigned(e) {
         Some((target, inner)) => {
@@ -350,8 +350,8 @@ fn looped(
     around: Around<'_>,
     repetition: Repetition<'_>,
 ) -> Result<usize, AllocError>
-    ensures added { OnOk result (Adds (loop_part (context around.entry) (repetition_view repetition.entry)) draft.old draft.new) }
-    ensures next { IfOk result (λ n. n ≡ around.entry.next + names_in_repetition (repetition_view repetition.entry)) }
+    ensures added { OnOk result (Adds (loop_at around.entry repetition.entry) draft.old draft.new) }
+    ensures next { IfOk result (λ n. n ≡ after_loop around.entry repetition.entry) }
 {
     let on = leaves_on(repetition.kind);
     let begin = draft.steps.len();
@@ -379,8 +379,8 @@ fn block_body(
     names: &[Name],
     statements: &[Statement],
 ) -> Result<usize, AllocError>
-    ensures added { OnOk result (Adds (block_body_part (context around.entry) (names_view names.now) (statements_view statements.now)) draft.old draft.new) }
-    ensures next { IfOk result (λ n. n ≡ around.entry.next + (length names.now + names_in_statements (statements_view statements.now))) }
+    ensures added { OnOk result (Adds (block_body_at around.entry names.now statements.now) draft.old draft.new) }
+    ensures next { IfOk result (λ n. n ≡ after_block around.entry names.now statements.now) }
 {
     draft.level = within(names.len(), draft.level);
     pop_arguments(draft, around.next, names.len())?;
@@ -406,8 +406,8 @@ fn block(
     names: &[Name],
     statements: &[Statement],
 ) -> Result<usize, AllocError>
-    ensures added { OnOk result (Adds (block_part (context around.entry) (names_view names.now) (statements_view statements.now)) draft.old draft.new) }
-    ensures next { IfOk result (λ n. n ≡ around.entry.next + (length names.now + names_in_statements (statements_view statements.now))) }
+    ensures added { OnOk result (Adds (block_at around.entry names.now statements.now) draft.old draft.new) }
+    ensures next { IfOk result (λ n. n ≡ after_block around.entry names.now statements.now) }
 {
     draft.put_push(Step::PushConstant(Constant::Context))?;
     let size = names.len() as u128;
@@ -431,8 +431,8 @@ fn start(
     e: &Expression,
 ) -> Result<usize, AllocError>
     requires { IsStart (expression_view e.now) }
-    ensures added { OnOk result (Adds (value_part (context around.entry) (expression_view e.now)) draft.old draft.new) }
-    ensures next { IfOk result (λ n. n ≡ around.entry.next + names_in (expression_view e.now)) }
+    ensures added { OnOk result (Adds (value_at around.entry e.now) draft.old draft.new) }
+    ensures next { IfOk result (λ n. n ≡ after around.entry e.now) }
 {
     match e {
         Expression::Variable(n) => {
@@ -444,8 +444,7 @@ fn start(
             Ok(around.next)
         }
         Expression::Block { names, body } => block(alloc, draft, around, names, body),
-        Expression::Assign { .. } => Ok(around.next),
-        Expression::Send { .. } => Ok(around.next),
+        Expression::Assign { .. } | Expression::Send { .. } => unreachable!(),
     }
 }
 
@@ -460,10 +459,10 @@ fn beginning<'t>(
     links: &[Link<'t>],
 ) -> Result<(usize, usize), AllocError>
     requires { IsStart (expression_view first.now) }
-    ensures added { IfOk result (λ x. Adds (value_part (context around.entry) (linked (expression_view first.now) (links_view (take x.1 links.now)))) draft.old draft.new) }
-    ensures next { IfOk result (λ x. x.0 ≡ around.entry.next + names_in (linked (expression_view first.now) (links_view (take x.1 links.now)))) }
+    ensures added { IfOk result (λ x. Adds (begun_at around.entry first.now links.now x.1) draft.old draft.new) }
+    ensures next { IfOk result (λ x. x.0 ≡ after_begun around.entry first.now links.now x.1) }
     ensures within { IfOk result (λ x. x.1 ≤ length links.now) }
-    ensures no_loop { IfOk result (λ x. x.1 ≡ 0 → first_repetition (expression_view first.now) (links_view links.now) ≡ None) }
+    ensures no_loop { IfOk result (λ x. x.1 ≡ 0 → BeginsNoLoop first.now links.now) }
 {
     match first_repetition(first, links) {
         Some(repetition) => {
@@ -487,13 +486,13 @@ fn follow<'t>(
     links: &[Link<'t>],
 ) -> Result<usize, AllocError>
     requires { IsStart (expression_view first.now) }
-    ensures added { OnOk result (Adds (value_part (context around.entry) (linked (expression_view first.now) (links_view links.now))) draft.old draft.new) }
-    ensures next { IfOk result (λ n. n ≡ around.entry.next + names_in (linked (expression_view first.now) (links_view links.now))) }
+    ensures added { OnOk result (Adds (chain_at around.entry first.now links.now) draft.old draft.new) }
+    ensures next { IfOk result (λ n. n ≡ after_chain around.entry first.now links.now) }
 {
     let (mut next, taken) = beginning(alloc, draft, around, first, links)?;
     for i in taken..links.len() {
-        let above = is_super_behind(i, first);
-        next = linked(alloc, draft, Around { next, ..around }, above, links[i])?;
+        let lookup = lookup_behind(i, first);
+        next = linked(alloc, draft, Around { next, ..around }, lookup, links[i])?;
     }
     Ok(next)
 }
@@ -506,18 +505,22 @@ pub fn value(
     around: Around<'_>,
     e: &Expression,
 ) -> Result<usize, AllocError>
-    ensures added { OnOk result (Adds (value_part (context around.entry) (expression_view e.now)) draft.old draft.new) }
-    ensures next { IfOk result (λ n. n ≡ around.entry.next + names_in (expression_view e.now)) }
+    ensures added { OnOk result (Adds (value_at around.entry e.now) draft.old draft.new) }
+    ensures next { IfOk result (λ n. n ≡ after around.entry e.now) }
 {
     let chain = e.chain(alloc)?;
     follow(alloc, draft, around, chain.start, &chain.links)
 }
 
-/// Whether an expression with this first part is super behind i links.
-fn is_super_behind(i: usize, first: &Expression) -> bool
-    ensures { result ≡ (if i == 0 then is_super (expression_view first.now) else false) }
+/// Where the messages behind i links of this first part are looked up.
+fn lookup_behind(i: usize, first: &Expression) -> Lookup
+    ensures { is_above result ≡ (if i == 0 then is_super (expression_view first.now) else false) }
 {
-    if i == 0 { is_super(first) } else { false }
+    if i == 0 && is_super(first) {
+        Lookup::InSuperclass
+    } else {
+        Lookup::InClass
+    }
 }
 
 /// The statements of a method. Without a `^` it returns its receiver.
@@ -527,8 +530,8 @@ pub fn method_body(
     around: Around<'_>,
     statements: &[Statement],
 ) -> Result<usize, AllocError>
-    ensures added { OnOk result (Adds (method_part (context around.entry) (statements_view statements.now)) draft.old draft.new) }
-    ensures next { IfOk result (λ n. n ≡ around.entry.next + names_in_statements (statements_view statements.now)) }
+    ensures added { OnOk result (Adds (method_at around.entry statements.now) draft.old draft.new) }
+    ensures next { IfOk result (λ n. n ≡ after_statements around.entry statements.now) }
 {
     let mut next = around.next;
     for statement in statements {

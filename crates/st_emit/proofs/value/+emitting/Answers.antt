@@ -12,6 +12,7 @@ use Rattle.st_emit.specs.Emitting.{block_end}
 use Rattle.st_emit.specs.Resolving.{Context, behind, inside, is_super, names_in, names_in_all, names_in_messages, names_in_statements}
 use Rattle.st_emit.specs.Shapes.{repetition_view, side_view, first_repetition, repetition_of, returning}
 use Rattle.st_emit.specs.NameViews.{scope_view}
+use Rattle.st_emit.specs.Nodes.{is_above}
 use Rattle.st_emit.specs.Sizes.{link_size, links_size}
 use Rattle.st_emit.specs.Drafts.{Adds, Goes, step_part}
 use Rattle.st_emit.specs.Around.{context, at_number, values_part, send_part, message_part, cascade_part, body_part, effect_part, value_part, shape_part, link_part, loop_part, side_part, block_body_part, arguments_part}
@@ -28,10 +29,10 @@ message-returns-clause-added t c =
     let es = expressions_view c.args.m.now.arguments.items in
     let selector = c.args.m.now.selector.items in
     let first = subst (λ (xs : List _). Adds (values_part around (expressions_view xs)) c.args.draft.now c.values.new.draft) c.deref.ensures.value c.in_ok-next.ensures.added in
-    let second = subst (λ (text : List ℕ). Adds (send_part c.args.above text c.len.result) c.values.new.draft c.send.new.draft) c.deref-2.ensures.value c.in_ok-send.ensures in
-    adds_same (then_part (values_part around es) (send_part c.args.above selector c.len.result)) (message_part c.args.above around selector es) c.args.draft.now c.send.new.draft
-    (message_same c.args.above around selector c.args.m.now.arguments.items c.len.result (literals_view c.args.draft.now.literals.items) (c.len.ensures ∙ c.args.m.now.arguments.ok.0))
-    (adds_then (values_part around es) (send_part c.args.above selector c.len.result) c.args.draft.now c.values.new.draft c.send.new.draft first second)
+    let second = subst (λ (text : List ℕ). Adds (send_part (is_above c.args.lookup) text c.len.result) c.values.new.draft c.send.new.draft) c.deref-2.ensures.value c.in_ok-send.ensures in
+    adds_same (then_part (values_part around es) (send_part (is_above c.args.lookup) selector c.len.result)) (message_part (is_above c.args.lookup) around selector es) c.args.draft.now c.send.new.draft
+    (message_same (is_above c.args.lookup) around selector c.args.m.now.arguments.items c.len.result (literals_view c.args.draft.now.literals.items) (c.len.ensures ∙ c.args.m.now.arguments.ok.0))
+    (adds_then (values_part around es) (send_part (is_above c.args.lookup) selector c.len.result) c.args.draft.now c.values.new.draft c.send.new.draft first second)
 
 pub cascade-loop-m-preserved : goal.cascade-loop-m-preserved
 cascade-loop-m-preserved t c =
@@ -39,20 +40,20 @@ cascade-loop-m-preserved t c =
     let es = expressions_view c.in-Some.m.now.arguments.items in
     let selector = c.in-Some.m.now.selector.items in
     let others = c.in-Some.others.now in
-    let whole = cascade_part c.args.above (context c.args.around) (messages_view c.args.messages.now) in
+    let whole = cascade_part (is_above c.args.lookup) (context c.args.around) (messages_view c.args.messages.now) in
     let kept = c.loop-m.invariant in
     let found = c.in-Some.ensures in
-    let rest = subst (λ (ms : MessagesView). Goes (cascade_part c.args.above around ms) c.loop-m.draft whole c.args.draft.now) found.view kept.added in
+    let rest = subst (λ (ms : MessagesView). Goes (cascade_part (is_above c.args.lookup) around ms) c.loop-m.draft whole c.args.draft.now) found.view kept.added in
     let duplicate = step_part Duplicate pushed in
-    let one = message_part c.args.above around selector es in
+    let one = message_part (is_above c.args.lookup) around selector es in
     let pop = step_part Pop (popped 1) in
     let both : Adds (then_part duplicate one) c.loop-m.draft c.message.new.draft = adds_then duplicate one c.loop-m.draft c.put_push.new.self c.message.new.draft c.in_ok-put_push.ensures.added c.in_ok-next.ensures.added in
-    let three : Adds (message_before c.args.above around selector es) c.loop-m.draft c.put_pop.new.self = adds_then (then_part duplicate one) pop c.loop-m.draft c.message.new.draft c.put_pop.new.self both c.in_ok-put_pop.ensures.added in
-    let turned = goes_on (message_before c.args.above around selector es) (cascade_part c.args.above around (message selector es (messages_view others))) (cascade_part c.args.above (behind around (names_in_all es)) (messages_view others)) whole c.args.draft.now c.loop-m.draft c.put_pop.new.self rest three
-    (cascade_turn c.args.above around selector es others (literals_view c.loop-m.draft.literals.items) found.end) in
+    let three : Adds (message_before (is_above c.args.lookup) around selector es) c.loop-m.draft c.put_pop.new.self = adds_then (then_part duplicate one) pop c.loop-m.draft c.message.new.draft c.put_pop.new.self both c.in_ok-put_pop.ensures.added in
+    let turned = goes_on (message_before (is_above c.args.lookup) around selector es) (cascade_part (is_above c.args.lookup) around (message selector es (messages_view others))) (cascade_part (is_above c.args.lookup) (behind around (names_in_all es)) (messages_view others)) whole c.args.draft.now c.loop-m.draft c.put_pop.new.self rest three
+    (cascade_turn (is_above c.args.lookup) around selector es others (literals_view c.loop-m.draft.literals.items) found.end) in
     let names = ap names_in_messages found.view in
     record {
-      added = subst (λ (n : ℕ). Goes (cascade_part c.args.above (context (at_number n c.args.around)) (messages_view others)) c.put_pop.new.self whole c.args.draft.now) (sym c.in_ok-next.ensures.next) turned;
+      added = subst (λ (n : ℕ). Goes (cascade_part (is_above c.args.lookup) (context (at_number n c.args.around)) (messages_view others)) c.put_pop.new.self whole c.args.draft.now) (sym c.in_ok-next.ensures.next) turned;
       next = omega (arith, names, c.in_ok-next.ensures.next, kept.next);
       within = omega (arith, found.others, kept.within);
       short = omega (arith, found.fewer, kept.short);
@@ -80,7 +81,7 @@ leading-loop-first-preserved t c =
 pub choice-returns-clause-added : goal.choice-returns-clause-added
 choice-returns-clause-added t c =
     let around = context c.args.around in
-    let done = choice_done c.args.on (body_part around (statements_view c.args.first.now)) (side_part (record around { next = c.args.behind }) (side_view c.args.other))
+    let done = choice_done c.args.form.on (body_part around (statements_view c.args.form.first.now)) (side_part (record around { next = c.args.form.behind }) (side_view c.args.form.other))
     c.args.draft.now c.put_pop.new.self c.body.new.draft c.put.new.self (record c.put.new.self { level = c.beside-draft.result }) c.side.new.draft
     c.len-test.result c.len-over.result c.in_ok-inside.inside c.in_ok-size_from.field-0 c.in_ok-sum.field-0
     c.in_ok-put_pop.ensures.added c.in_ok-body.ensures.added c.in_ok-put.ensures.added refl refl c.beside-draft.ensures c.in_ok-next.ensures.added
@@ -162,10 +163,10 @@ follow-loop-i-preserved t c =
     let link = c.index-links-i.result in
     let start = expression_view c.args.first.now in
     let so_far = linked start (links_view (take i links)) in
-    let above : c.is_super_behind-above.result ≡ is_super so_far = c.is_super_behind-above.ensures ∙ super_at i start links (omega arith) in
+    let above : is_above c.lookup_behind-lookup.result ≡ is_super so_far = c.lookup_behind-lookup.ensures ∙ super_at i start links (omega arith) in
     let at : c.loop-i.next ≡ around.next + names_in so_far = kept.next in
     let link_at = λ (b : Bool) (n : ℕ). Adds (link_part b (record around { next = n }) (link_view link)) c.loop-i.draft c.linked.new.draft in
-    let one = subst (λ (b : Bool). link_at b (around.next + names_in so_far)) above (subst (λ (n : ℕ). link_at c.is_super_behind-above.result n) at c.in_ok-next-2.ensures.added) in
+    let one = subst (λ (b : Bool). link_at b (around.next + names_in so_far)) above (subst (λ (n : ℕ). link_at (is_above c.lookup_behind-lookup.result) n) at c.in_ok-next-2.ensures.added) in
     let two = adds_then (value_part around so_far) (link_part (is_super so_far) (behind around (names_in so_far)) (link_view link)) c.args.draft.now c.loop-i.draft c.linked.new.draft kept.added one in
     let no_loop = ap (λ l. repetition_of so_far (link_view l)) c.index-links-i.is ∙ no_loop_at i start links link c.loop-i-test.true (λ zero. c.in_ok-next.ensures.no_loop (omega arith)) in
     let three = adds_same _ (value_part around (with_link (link_view link) so_far)) c.args.draft.now c.linked.new.draft (link_behind (link_view link) so_far around (literals_view c.args.draft.now.literals.items) no_loop) two in
@@ -191,8 +192,8 @@ linked-returns-in-Some-clause-added t c =
     let es = expressions_view c.in-Some.m.now.arguments.items in
     let same = shape_same selector es around (literals_view c.args.draft.now.literals.items) in
     let whole : LinkView → Bool → Type 0 = λ l b. Adds (link_part b around l) c.args.draft.now c.sent.new.draft in
-    let weaken : Adds (shape_part around selector es) c.args.draft.now c.sent.new.draft → Adds (link_part c.args.above around (link_view c.args.link)) c.args.draft.now c.sent.new.draft =
-    λ a. subst (λ (l : LinkView). whole l c.args.above) (ap sent (sym only.view) ∙ ap link_view (sym c.in-Send.is)) (subst (λ (b : Bool). whole (sent (message selector es no_messages)) b) (sym only.not_above) (adds_same (shape_part around selector es) (link_part false around (sent (message selector es no_messages))) c.args.draft.now c.sent.new.draft same a)) in
+    let weaken : Adds (shape_part around selector es) c.args.draft.now c.sent.new.draft → Adds (link_part (is_above c.args.lookup) around (link_view c.args.link)) c.args.draft.now c.sent.new.draft =
+    λ a. subst (λ (l : LinkView). whole l (is_above c.args.lookup)) (ap sent (sym only.view) ∙ ap link_view (sym c.in-Send.is)) (subst (λ (b : Bool). whole (sent (message selector es no_messages)) b) (sym only.not_above) (adds_same (shape_part around selector es) (link_part false around (sent (message selector es no_messages))) c.args.draft.now c.sent.new.draft same a)) in
     on_ok_weaker c.sent.result weaken c.sent.ensures.added
 
 pub beginning-returns-in_ok-next-in-Some-clause-added : goal.beginning-returns-in_ok-next-in-Some-clause-added

@@ -8,11 +8,12 @@ use Rattle.st_tree.specs.Chains.{linked, links_view}
 use Rattle.st_emit.specs.Resolving.{names_in, names_in_all, names_in_messages, names_in_statements}
 use Rattle.st_emit.specs.Around.{context, at_number, values_part, cascade_part, body_part, value_part}
 use Rattle.st_emit.specs.Drafts.{Adds, Goes}
+use Rattle.st_emit.specs.Nodes.{is_above}
 use Rattle.st_emit.specs.Sizes.{link_size, links_size, side_size}
 use Rattle.st_emit.proofs.value.+emitting.Given as goal
 
 abbrev pub decreases-choice : goal.decreases-choice
-decreases-choice l = 32 * max (most size-Statement l.first.now) (side_size l.other) + 28
+decreases-choice l = 32 * max (most size-Statement l.form.first.now) (side_size l.form.other) + 28
 
 abbrev pub decreases-side : goal.decreases-side
 decreases-side l = 32 * side_size l.other + 27
@@ -76,7 +77,7 @@ invariant-values-loop-e l = record {
 
 abbrev pub invariant-cascade-loop-m : goal.invariant-cascade-loop-m
 invariant-cascade-loop-m l = record {
-  added : Goes (cascade_part l.above (context (at_number l.next l.around)) (messages_view l.rest)) l.draft (cascade_part l.above (context l.around) (messages_view l.fn.messages)) l.fn.draft;
+  added : Goes (cascade_part (is_above l.lookup) (context (at_number l.next l.around)) (messages_view l.rest)) l.draft (cascade_part (is_above l.lookup) (context l.around) (messages_view l.fn.messages)) l.fn.draft;
   next : l.next + names_in_messages (messages_view l.rest) ≡ l.around.next + names_in_messages (messages_view l.fn.messages);
   within : most size-Message l.rest ≤ most size-Message l.fn.messages;
   short : length l.rest ≤ length l.fn.messages;
