@@ -19,7 +19,7 @@ use Rattle.st_emit.specs.Literals.{LiteralView, Naming}
 use Rattle.st_emit.specs.Nodes.{is_above}
 use Rattle.st_emit.specs.Resolving.{place_of_name, names_in, names_in_all, names_in_messages, names_in_statements}
 use Rattle.st_emit.specs.Shapes.{side_view, repetition_view, first_repetition}
-use Rattle.st_emit.specs.Drafts.{Part, Goes}
+use Rattle.st_emit.specs.Drafts.{Part, Adds, Goes}
 use Rattle.st_emit.specs.Around.{context, at_number, value_part, effect_part, values_part, message_part, cascade_part, shape_part, link_part, side_part, choice_part, loop_part, block_part, block_body_part, body_part, return_part, method_part, names_in_link, names_in_side, names_in_repetition}
 
 -- the variable of a name
@@ -95,13 +95,14 @@ chain_at a e ls = value_part (context a) (chained e ls)
 abbrev pub after_chain : Around → Expression → List Link → ℕ
 after_chain a e ls = a.next + names_in (chained e ls)
 
--- a first part with the first n links
-abbrev pub begun_at : Around → Expression → List Link → (n : ℕ) → List LiteralView → Part
-begun_at a e ls n = chain_at a e (take n ls)
+-- a draft with a first part and its first n links more
+abbrev pub Begins : Around → Expression → List Link → (n : ℕ) → (old new : Draft) → Type 0
+Begins a e ls n old new = Adds (chain_at a e (take n ls)) old new
 
 abbrev pub after_begun : Around → Expression → List Link → (n : ℕ) → ℕ
 after_begun a e ls n = after_chain a e (take n ls)
 
+-- no loop begins here
 abbrev pub BeginsNoLoop : Expression → List Link → Type 0
 BeginsNoLoop e ls = first_repetition (expression_view e) (links_view ls) ≡ None
 
@@ -128,8 +129,9 @@ CountsTo a ss n rest = n + names_in_statements (statements_view rest) ≡ after_
 abbrev pub block_at : Around → List Name → List Statement → List LiteralView → Part
 block_at a ns ss = block_part (context a) (names_view ns) (statements_view ss)
 
-abbrev pub block_body_at : Around → List Name → List Statement → List LiteralView → Part
-block_body_at a ns ss = block_body_part (context a) (names_view ns) (statements_view ss)
+-- its body
+abbrev pub code_in : Around → List Name → List Statement → List LiteralView → Part
+code_in a ns ss = block_body_part (context a) (names_view ns) (statements_view ss)
 
 abbrev pub after_block : Around → List Name → List Statement → ℕ
 after_block a ns ss = a.next + (length ns + names_in_statements (statements_view ss))

@@ -1,5 +1,6 @@
 -- What is found in a part of a tree, as the code holds it.
-use Rattle.std.specs.Prelude.{◌≡◌, ℕ, ◌<◌, false, List, [], length, Option}
+use Rattle.std.specs.Prelude.{◌≡◌, ℕ, ◌<◌, false, List, [], length, Option, MatchOption}
+use Rattle.std.specs.Borrow.{Bor}
 use denote.Param.Weighed.{most}
 use Rattle.st_tree.specs.declared.tree.Name.{Name}
 use Rattle.st_tree.specs.declared.tree.Expression.{Expression}
@@ -70,8 +71,8 @@ EndsAtOnce ss = 0 < length ss → IsEnd (statements_view ss)
 abbrev pub IsFirstOf : List Message → Message → List Message → Type 0
 IsFirstOf ms m others = messages_view ms ≡ message m.selector.items (expressions_view m.arguments.items) (messages_view others)
 
-abbrev pub AreCascade : Lookup → List Message → Type 0
-AreCascade lookup ms = IsCascade (is_above lookup) (messages_view ms)
-
-abbrev pub IsOnlyOf : Lookup → List Message → Message → Type 0
-IsOnlyOf lookup ms m = IsOnly (is_above lookup) (messages_view ms) m.selector.items (expressions_view m.arguments.items)
+-- the one message of these, or none where they are a cascade or go to super
+abbrev pub IsOnlyOrNone : Lookup → List Message → Option (Bor Message) → Type 0
+IsOnlyOrNone lookup ms found =
+    MatchOption found (IsCascade (is_above lookup) (messages_view ms))
+    (λ m. IsOnly (is_above lookup) (messages_view ms) m.now.selector.items (expressions_view m.now.arguments.items))

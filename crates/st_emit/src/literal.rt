@@ -9,6 +9,7 @@ use st_model::Oop;
 use st_tree::{Content, Element, Signed, Text};
 use std::alloc::{AllocError, Global};
 
+/// The literals of a method in the order of their places, or the members of a literal array.
 pub type LiteralList = Vec<Literal>;
 
 /// A literal. `Named` is an association, nil, false or true, and `Owner` the association of the method's class.

@@ -10,6 +10,7 @@ use st_model::Oop;
 use st_tree::{Name, Text};
 use std::alloc::{AllocError, Global};
 
+/// Names as their bytes.
 pub type TextList = Vec<Text>;
 
 /// Names that are shared, each with its association.

@@ -6,7 +6,9 @@ ghost use Rattle.st_tree.specs.declared.tree.Message.{size-Message};
 ghost use Rattle.st_tree.specs.Views.{expression_view, expressions_view, statements_view};
 ghost use Rattle.st_emit.specs.Resolving.{is_super};
 ghost use Rattle.st_emit.specs.Shapes.{shape_view, one_sided_shape, two_sided_shape, repetition_view, returning, returned_constant};
-ghost use Rattle.st_emit.specs.Found.{statements_size, messages_size, IsNotPlain, IsPlain, message_shape, loop_of, loop_by, loop_among, loop_linked, first_loop, IsUnassigned, IsAssignment, IsBefore, EndsAtOnce, IsFirstOf, AreCascade, IsOnlyOf};
+ghost use Rattle.st_emit.specs.Found.{statements_size, messages_size, message_shape, loop_of, loop_by, loop_among, loop_linked};
+ghost use Rattle.st_emit.specs.Found.{first_loop, IsNotPlain, IsPlain, IsUnassigned, IsAssignment, IsBefore, EndsAtOnce};
+ghost use Rattle.st_emit.specs.Found.{IsFirstOf, IsOnlyOrNone};
 ghost use Rattle.st_emit.specs.Sizes.{IsShapeBelow, link_size, links_size};
 
 use crate::form::{Form, Lookup, Loop, OneSided, TwoSided};
@@ -267,7 +269,7 @@ pub fn before_others(messages: &[Message]) -> Option<(&Message, &[Message])>
 
 /// The one message to another receiver than super.
 pub fn only_message(lookup: Lookup, messages: &[Message]) -> Option<&Message>
-    ensures view { MatchOption result (AreCascade lookup messages.now) (λ m. IsOnlyOf lookup messages.now m.now) }
+    ensures view { IsOnlyOrNone lookup messages.now result }
     ensures within { IfSome result (λ m. size-Message m.now ≤ messages_size messages.now) }
 {
     if matches!(lookup, Lookup::InSuperclass) {

@@ -4,7 +4,10 @@
 ghost use Rattle.std.specs.Prelude.{◌≡◌, ◌<◌, ◌≤◌, IfOk, OnOk, length, if◌then◌else◌, ◌==◌, false};
 ghost use Rattle.st_tree.specs.Views.{expression_view, statements_view};
 ghost use Rattle.st_tree.specs.Chains.{IsStart};
-ghost use Rattle.st_emit.specs.Emits.{value_at, effect_at, return_at, values_at, message_at, cascade_at, sent_at, side_at, choice_at, loop_at, link_at, chain_at, begun_at, body_at, method_at, block_at, block_body_at, after, after_all, after_messages, after_side, after_loop, after_link, after_chain, after_begun, after_statements, after_block, BeginsNoLoop, LeadsTo, CountsTo};
+ghost use Rattle.st_emit.specs.Emits.{value_at, effect_at, return_at, values_at, message_at, cascade_at, sent_at, side_at, choice_at};
+ghost use Rattle.st_emit.specs.Emits.{loop_at, link_at, chain_at, body_at, method_at, block_at, code_in};
+ghost use Rattle.st_emit.specs.Emits.{after, after_all, after_messages, after_side, after_loop, after_link, after_chain};
+ghost use Rattle.st_emit.specs.Emits.{after_begun, after_statements, after_block, Begins, BeginsNoLoop, LeadsTo, CountsTo};
 ghost use Rattle.st_emit.specs.Found.{statements_size};
 ghost use Rattle.st_emit.specs.Nodes.{is_above};
 ghost use Rattle.st_emit.specs.Resolving.{is_super};
@@ -379,7 +382,7 @@ fn block_body(
     names: &[Name],
     statements: &[Statement],
 ) -> Result<usize, AllocError>
-    ensures added { OnOk result (Adds (block_body_at around.entry names.now statements.now) draft.old draft.new) }
+    ensures added { OnOk result (Adds (code_in around.entry names.now statements.now) draft.old draft.new) }
     ensures next { IfOk result (λ n. n ≡ after_block around.entry names.now statements.now) }
 {
     draft.level = within(names.len(), draft.level);
@@ -459,7 +462,7 @@ fn beginning<'t>(
     links: &[Link<'t>],
 ) -> Result<(usize, usize), AllocError>
     requires { IsStart (expression_view first.now) }
-    ensures added { IfOk result (λ x. Adds (begun_at around.entry first.now links.now x.1) draft.old draft.new) }
+    ensures added { IfOk result (λ x. Begins around.entry first.now links.now x.1 draft.old draft.new) }
     ensures next { IfOk result (λ x. x.0 ≡ after_begun around.entry first.now links.now x.1) }
     ensures within { IfOk result (λ x. x.1 ≤ length links.now) }
     ensures no_loop { IfOk result (λ x. x.1 ≡ 0 → BeginsNoLoop first.now links.now) }
