@@ -1,0 +1,37 @@
+-- The first fault of an expression along its chain: the targets from the outside in, what the chain starts with, and the
+-- messages from the inside out. So the walk is two loops.
+use Rattle.std.proofs.Common.{◌≡◌, List, [], ◌∷◌, Option, Some, None, refl, sym, ap, ◌∙◌}
+use Rattle.st_tree.specs.Views.{ExpressionView}
+use Rattle.st_tree.specs.Chains.{LinkView, assigned, sent, with_link, linked}
+use Rattle.st_code.specs.declared.fault.Fault.{Fault}
+use Rattle.st_emit.specs.Names.{NamesView, Scope, or_else}
+use Rattle.st_code.specs.Faults.{store_fault, expression_fault, messages_fault}
+use Rattle.st_code.specs.ChainFaults.{targets_fault, all_sent_fault}
+
+pub or_none : (f : Option Fault) → or_else f None ≡ f
+or_none None = refl
+or_none (Some f) = refl
+
+pub or_assoc : (f g h : Option Fault) → or_else (or_else f g) h ≡ or_else f (or_else g h)
+or_assoc None g h = refl
+or_assoc (Some f) g h = refl
+
+pub chain_fault : (names : NamesView) (scope : Scope) (e : ExpressionView) (ls : List LinkView)
+    → expression_fault names (linked e ls) scope ≡ or_else (targets_fault names scope ls) (or_else (expression_fault names e scope) (all_sent_fault names scope ls))
+chain_fault names scope e [] = sym (or_none (expression_fault names e scope))
+chain_fault names scope e (assigned target ∷ ls) =
+    let f = expression_fault names e scope in
+    let t = store_fault names scope target in
+    let ts = targets_fault names scope ls in
+    let ms = all_sent_fault names scope ls in
+    chain_fault names scope (with_link (assigned target) e) ls
+    ∙ ap (or_else ts) (or_assoc t f ms)
+    ∙ sym (or_assoc ts t (or_else f ms))
+chain_fault names scope e (sent m ∷ ls) =
+    let f = expression_fault names e scope in
+    let s = messages_fault names m scope in
+    let ts = targets_fault names scope ls in
+    let ms = all_sent_fault names scope ls in
+    chain_fault names scope (with_link (sent m) e) ls
+    ∙ ap (or_else ts) (or_assoc f s ms)
+    ∙ ap (λ x. or_else x (or_else f (or_else s ms))) (sym (or_none ts))

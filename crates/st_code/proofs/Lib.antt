@@ -1,0 +1,7 @@
+pub mod ChainFaults
+pub mod Declaring
+pub mod Reporting
+mod RowsMethods
+mod RowsForms
+mod RowsLimits
+mod RowsFar

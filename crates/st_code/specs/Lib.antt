@@ -1,0 +1,4 @@
+pub mod Faults
+pub mod ChainFaults
+pub mod Methods
+pub mod Reported

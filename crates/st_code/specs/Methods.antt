@@ -1,0 +1,138 @@
+-- The code of a method: its header, literals and bytes, or why it has none.
+use Rattle.std.specs.Prelude.{ℕ, ◌+◌, ◌*◌, Bool, true, false, not, ◌&&◌, ◌||◌, ◌==◌, nat_lt, nat_le, List, [], ◌∷◌, ◌++◌, length, Option, Some, None, is_some, Result, Ok, Err, if◌then◌else◌}
+use Rattle.st_tree.specs.declared.token.Signed.{Signed}
+use Rattle.st_tree.specs.Views.{MethodView}
+use Rattle.st_emit.specs.Bounds.{most_literals, most_variables, small_room, large_room, most_bytes, most_primitive, most_flagged, returned_fields}
+use Rattle.st_code.specs.declared.fault.Fault.{Fault}
+use Rattle.st_code.specs.declared.fault.Cause.{Cause}
+use Rattle.st_code.specs.declared.fault.Cause.TheVariants.{Literals, Temporaries, Depth, Jump, Primitive, Symbols, Size}
+use Rattle.st_emit.specs.declared.step.Constant.TheVariants.{Receiver}
+use Rattle.st_emit.specs.declared.step.Place.TheVariants.{Field}
+use Rattle.st_emit.specs.declared.step.Step.{Step}
+use Rattle.st_emit.specs.Names.{NamesView, declared, or_else}
+use Rattle.st_emit.specs.Literals.{LiteralView, number, owner, Named}
+use Rattle.st_emit.specs.Nodes.{constant, variable, Body, nothing, returned}
+use Rattle.st_emit.specs.Resolving.{Context, names_in_statements, statements_body}
+use Rattle.st_emit.specs.Steps.{size, all_bytes, all_reach, sends_super}
+use Rattle.st_emit.specs.Emitting.{method_code}
+use Rattle.st_emit.specs.declared.level.Level.{Level}
+use Rattle.st_emit.specs.Depths.{empty, method_level}
+use Rattle.st_code.specs.Faults.{fault_at, method_fault}
+
+-- what a method is made of
+pub record PartsView : Type 0 where
+  pub selector : List ℕ
+  pub header : ℕ
+  pub literals : List LiteralView
+  pub bytes : List ℕ
+
+module _ (tree : MethodView) (names : NamesView) where
+  -- BODY
+
+  -- the arguments are numbered first, then the temporaries, then the arguments of blocks in the order of the text
+  abbrev pub own_variables : ℕ
+  own_variables = length tree.arguments + length tree.temporaries
+
+  abbrev pub variables : ℕ
+  variables = own_variables + names_in_statements tree.body
+
+  abbrev pub context : Context
+  context = record {
+    names = names;
+    scope = declared true (length tree.arguments) tree.temporaries (declared false 0 tree.arguments []);
+    next = own_variables;
+  }
+
+  -- the method's nodes, and the literals that its code names
+  abbrev pub body : Named Body
+  body = statements_body tree.body context []
+
+  abbrev pub steps : List Step
+  steps = method_code body.part
+
+  abbrev pub depth : Level
+  depth = method_level body.part empty
+
+  -- FLAG
+
+  abbrev pub is_unary : Bool
+  is_unary = length tree.arguments == 0 && length tree.temporaries == 0
+
+  -- a method that does no more than to return its receiver, or a variable of the receiver
+  abbrev pub simple_flag : Body → ℕ
+  simple_flag nothing = 5
+  simple_flag (returned (constant Receiver)) = 5
+  simple_flag (returned (variable (Field n))) = if nat_lt n returned_fields then 6 else 0
+  simple_flag _ = 0
+
+  abbrev pub flag : ℕ
+  flag = if is_some tree.primitive || nat_lt most_flagged (length tree.arguments) then 7 else (if is_unary then simple_flag body.part else length tree.arguments)
+
+  -- what stands in the header in place of a temporary count where the flag is 6
+  abbrev pub returned_field : Body → ℕ
+  returned_field (returned (variable (Field n))) = n
+  returned_field _ = 0
+
+  abbrev pub header_count : ℕ
+  header_count = if flag == 6 then returned_field body.part else variables
+
+  -- LITERALS
+
+  abbrev pub primitive_number : Option Signed → ℕ
+  primitive_number None = 0
+  primitive_number (Some n) = n.size
+
+  -- the number of arguments and the primitive
+  abbrev pub extension : LiteralView
+  extension = number (record { minus = false; size = length tree.arguments * 256 + primitive_number tree.primitive })
+
+  abbrev pub last_literals : List LiteralView
+  last_literals = if flag == 7 then extension ∷ owner ∷ [] else (if sends_super steps then owner ∷ [] else [])
+
+  abbrev pub literals : List LiteralView
+  literals = body.literals ++ last_literals
+
+  -- HEADER
+
+  abbrev pub passes : ℕ → Bool
+  passes room = nat_lt room (variables + depth.greatest) || nat_lt room depth.blocks
+
+  abbrev pub is_large : Bool
+  is_large = passes small_room
+
+  abbrev pub header : ℕ
+  header = flag * 8192 + header_count * 256 + (if is_large then 128 else 0) + length literals * 2 + 1
+
+  abbrev pub parts : PartsView
+  parts = record { selector = tree.selector; header = header; literals = literals; bytes = all_bytes steps }
+
+  -- FAULTS
+
+  abbrev pub fault_if : Bool → Cause → Option Fault
+  fault_if wrong cause = if wrong then fault_at 0 cause else None
+
+  abbrev pub is_primitive : Option Signed → Bool
+  is_primitive None = true
+  is_primitive (Some n) = not n.minus && nat_le 1 n.size && nat_le n.size most_primitive
+
+  -- the faults of a method as a whole, in their order
+  abbrev pub whole_fault : Option Fault
+  whole_fault =
+      or_else (fault_if (not names.symbols) Symbols)
+      (or_else (fault_if (not (is_primitive tree.primitive)) Primitive)
+      (or_else (fault_if (nat_lt most_literals (length literals)) Literals)
+      (or_else (fault_if (nat_lt most_variables variables) Temporaries)
+      (or_else (fault_if (passes large_room) Depth)
+      (or_else (fault_if (not (all_reach steps)) Jump)
+      (fault_if (nat_lt most_bytes (length literals * 2 + 2 + size steps)) Size))))))
+
+  abbrev pub fault : Option Fault
+  fault = or_else (method_fault names tree) whole_fault
+
+  abbrev pub parts_or : Option Fault → Result PartsView Fault
+  parts_or None = Ok parts
+  parts_or (Some f) = Err f
+
+  -- THE CODE: the parts of the method, or its first fault
+  abbrev pub code : Result PartsView Fault
+  code = parts_or fault

@@ -1,0 +1,283 @@
+//! The faults of names and numbers, each at its token: the first one in the text. A walk goes along an expression's
+//! chain: the assigned names from the outside in, what the chain starts with, and the messages from the inside out.
+
+ghost use Rattle.std.specs.Prelude.{◌≡◌, [], true, false};
+ghost use Rattle.st_tree.specs.Views.{number, name_view, names_view as list_view, content_view, elements_view, expression_view, expressions_view, messages_view, statements_view};
+ghost use Rattle.st_tree.specs.Chains.{link_view, links_view, linked, IsStart};
+ghost use Rattle.st_code.specs.Faults.{read_fault, store_fault, declare_fault, content_fault, elements_fault, expression_fault, expressions_fault, messages_fault, statements_fault};
+ghost use Rattle.st_emit.specs.Names.{declared};
+ghost use Rattle.st_emit.specs.NameViews.{names_view, scope_view};
+ghost use Rattle.st_code.specs.ChainFaults.{target_fault, targets_fault, among_fault, all_sent_fault, block_fault};
+ghost use Rattle.st_code.specs.Reported.{Reports};
+
+use crate::fault::{Cause, CodeFault, Fault};
+use st_emit::{
+    Around, Frame, Variable, constant_named, inner_scope, is_among, is_declared, variable_named,
+};
+use st_tree::{Content, Element, Expression, Link, Message, Name, Signed, Statement};
+use std::alloc::Global;
+
+/// The size of the least number.
+const LEAST_SIZE: u128 = 16_384;
+
+/// A name that is read has to mean something.
+fn read(around: Around<'_>, n: &Name) -> Result<(), CodeFault>
+    ensures { Reports (read_fault (names_view around.entry.names.now) (scope_view around.entry.scope.now) (name_view n.now)) result }
+{
+    if constant_named(&n.text).is_some() {
+        return Ok(());
+    }
+    match variable_named(around.names, around.scope, &n.text)? {
+        Some(_) => Ok(()),
+        None => {
+            let fault = Fault {
+                place: n.place,
+                cause: Cause::Unknown,
+            };
+            Err(fault.into())
+        }
+    }
+}
+
+/// A name that is stored into has to mean what may be stored into.
+fn stored(around: Around<'_>, n: &Name) -> Result<(), CodeFault>
+    ensures { Reports (store_fault (names_view around.entry.names.now) (scope_view around.entry.scope.now) (name_view n.now)) result }
+{
+    if constant_named(&n.text).is_some() {
+        return Err(Fault {
+            place: n.place,
+            cause: Cause::Store,
+        }
+        .into());
+    }
+    match variable_named(around.names, around.scope, &n.text)? {
+        Some(
+            Variable::Temporary {
+                assignable: false,
+                ..
+            },
+        ) => Err(Fault {
+            place: n.place,
+            cause: Cause::Store,
+        }
+        .into()),
+        Some(_) => Ok(()),
+        None => Err(Fault {
+            place: n.place,
+            cause: Cause::Unknown,
+        }
+        .into()),
+    }
+}
+
+/// A name that is declared may not be in scope already, nor among those before it.
+fn once(scope: &[Frame<'_>], before: &[Name], n: &Name) -> Result<(), CodeFault>
+    ensures { Reports (among_fault (scope_view scope.now) (list_view before.now) (name_view n.now)) result }
+{
+    if is_declared(scope, &n.text) {
+        return Err(Fault {
+            place: n.place,
+            cause: Cause::Twice,
+        }
+        .into());
+    }
+    if is_among(before, &n.text) {
+        return Err(Fault {
+            place: n.place,
+            cause: Cause::Twice,
+        }
+        .into());
+    }
+    Ok(())
+}
+
+/// Names that are declared one after the other: none may be in scope already.
+pub fn declare(scope: &[Frame<'_>], assignable: bool, names: &[Name]) -> Result<(), CodeFault>
+    ensures { Reports (declare_fault assignable 0 (list_view names.now) (scope_view scope.now)) result }
+{
+    for (i, n) in names.iter().enumerate() {
+        once(scope, &names[..i], n)?;
+    }
+    Ok(())
+}
+
+/// A number has to be one that is not below the least.
+fn number(place: u32, n: Signed) -> Result<(), CodeFault>
+    ensures { Reports (content_fault place (number n)) result }
+{
+    if n.minus && n.size > LEAST_SIZE {
+        return Err(Fault {
+            place,
+            cause: Cause::Number,
+        }
+        .into());
+    }
+    Ok(())
+}
+
+/// The elements of a literal array.
+#[cycle(literals)]
+fn elements(es: &[Element]) -> Result<(), CodeFault>
+    ensures { Reports (elements_fault (elements_view es.now)) result }
+{
+    for e in es {
+        content(e.place, &e.what)?;
+    }
+    Ok(())
+}
+
+/// A literal.
+#[cycle(literals)]
+#[tactic(auto, using(st_tree::proofs::Views::views))]
+fn content(place: u32, what: &Content) -> Result<(), CodeFault>
+    ensures { Reports (content_fault place (content_view what.now)) result }
+{
+    match what {
+        Content::Number(n) => number(place, *n),
+        Content::Array(es) => elements(es),
+        Content::Character(_) => Ok(()),
+        Content::Bytes(_) => Ok(()),
+        Content::Symbol(_) => Ok(()),
+        Content::Nil => Ok(()),
+        Content::False => Ok(()),
+        Content::True => Ok(()),
+    }
+}
+
+/// The name to which a link assigns.
+fn target(around: Around<'_>, link: Link<'_>) -> Result<(), CodeFault>
+    ensures { Reports (target_fault (names_view around.entry.names.now) (scope_view around.entry.scope.now) (link_view link.entry)) result }
+{
+    match link {
+        Link::Assign(name) => stored(around, name),
+        Link::Send(_) => Ok(()),
+    }
+}
+
+/// The names to which the value of a chain's start is assigned, the outermost first.
+fn targets(around: Around<'_>, links: &[Link<'_>]) -> Result<(), CodeFault>
+    ensures { Reports (targets_fault (names_view around.entry.names.now) (scope_view around.entry.scope.now) (links_view links.now)) result }
+{
+    let mut left = links.len();
+    while left > 0 {
+        left -= 1;
+        target(around, links[left])?;
+    }
+    Ok(())
+}
+
+/// The arguments of a message.
+#[cycle(faults)]
+#[tactic(auto, using(crate::proofs::Reporting::reporting))]
+fn expressions(alloc: Global, around: Around<'_>, es: &[Expression]) -> Result<(), CodeFault>
+    ensures { Reports (expressions_fault (names_view around.entry.names.now) (expressions_view es.now) (scope_view around.entry.scope.now)) result }
+{
+    for e in es {
+        expression(alloc, around, e)?;
+    }
+    Ok(())
+}
+
+/// Messages.
+#[cycle(faults)]
+#[tactic(auto, using(crate::proofs::Reporting::reporting))]
+fn messages(alloc: Global, around: Around<'_>, ms: &[Message]) -> Result<(), CodeFault>
+    ensures { Reports (messages_fault (names_view around.entry.names.now) (messages_view ms.now) (scope_view around.entry.scope.now)) result }
+{
+    for m in ms {
+        expressions(alloc, around, &m.arguments)?;
+    }
+    Ok(())
+}
+
+/// The messages of a chain, from the inside out.
+#[cycle(faults)]
+#[tactic(auto, using(crate::proofs::Reporting::reporting))]
+fn sent(alloc: Global, around: Around<'_>, links: &[Link<'_>]) -> Result<(), CodeFault>
+    ensures { Reports (all_sent_fault (names_view around.entry.names.now) (scope_view around.entry.scope.now) (links_view links.now)) result }
+{
+    for link in links {
+        if let Link::Send(ms) = *link {
+            messages(alloc, around, ms)?;
+        }
+    }
+    Ok(())
+}
+
+/// A block.
+#[cycle(faults)]
+#[tactic(auto, using(crate::proofs::Reporting::reporting))]
+fn block(
+    alloc: Global,
+    around: Around<'_>,
+    arguments: &[Name],
+    body: &[Statement],
+) -> Result<(), CodeFault>
+    ensures { Reports (block_fault (names_view around.entry.names.now) (scope_view around.entry.scope.now) (list_view arguments.now) (statements_view body.now)) result }
+{
+    declare(around.scope, false, arguments)?;
+    let scope = inner_scope(alloc, around.scope, arguments, 0)?;
+    let inner = Around {
+        names: around.names,
+        scope: &scope,
+        next: around.next,
+    };
+    statements(alloc, inner, body)
+}
+
+/// What a chain starts with.
+#[cycle(faults)]
+#[tactic(auto, using(st_tree::proofs::Views::views))]
+fn start(alloc: Global, around: Around<'_>, e: &Expression) -> Result<(), CodeFault>
+    requires { IsStart (expression_view e.now) }
+    ensures { Reports (expression_fault (names_view around.entry.names.now) (expression_view e.now) (scope_view around.entry.scope.now)) result }
+{
+    match e {
+        Expression::Variable(n) => read(around, n),
+        Expression::Literal(element) => content(element.place, &element.what),
+        Expression::Block {
+            names: arguments,
+            body,
+        } => block(alloc, around, arguments, body),
+        Expression::Assign { .. } => Ok(()),
+        Expression::Send { .. } => Ok(()),
+    }
+}
+
+/// A chain.
+#[cycle(faults)]
+#[tactic(auto, using(crate::proofs::Reporting::reporting))]
+fn chain<'t>(
+    alloc: Global,
+    around: Around<'_>,
+    first: &'t Expression,
+    links: &[Link<'t>],
+) -> Result<(), CodeFault>
+    requires { IsStart (expression_view first.now) }
+    ensures { Reports (expression_fault (names_view around.entry.names.now) (linked (expression_view first.now) (links_view links.now)) (scope_view around.entry.scope.now)) result }
+{
+    targets(around, links)?;
+    start(alloc, around, first)?;
+    sent(alloc, around, links)
+}
+
+/// An expression.
+#[cycle(faults)]
+fn expression(alloc: Global, around: Around<'_>, e: &Expression) -> Result<(), CodeFault>
+    ensures { Reports (expression_fault (names_view around.entry.names.now) (expression_view e.now) (scope_view around.entry.scope.now)) result }
+{
+    let parts = e.chain(alloc)?;
+    chain(alloc, around, parts.start, &parts.links)
+}
+
+/// Statements.
+#[cycle(faults)]
+#[tactic(auto, using(crate::proofs::Reporting::reporting))]
+pub fn statements(alloc: Global, around: Around<'_>, ss: &[Statement]) -> Result<(), CodeFault>
+    ensures { Reports (statements_fault (names_view around.entry.names.now) (statements_view ss.now) (scope_view around.entry.scope.now)) result }
+{
+    for s in ss {
+        expression(alloc, around, &s.value)?;
+    }
+    Ok(())
+}

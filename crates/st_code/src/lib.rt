@@ -1,0 +1,8 @@
+//! The compiler: from a method's tree and the names of its class to its header, literals and bytecodes.
+#![tactic(auto)]
+
+mod checking;
+mod fault;
+
+pub use fault::{Cause, CodeFault, Fault};
+pub use st_emit::{Literal, LiteralList, NamedOops, Names, TextList};

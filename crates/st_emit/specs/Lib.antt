@@ -1,0 +1,17 @@
+pub mod Bounds
+pub mod Literals
+pub mod Names
+pub mod Nodes
+pub mod Resolving
+pub mod Steps
+pub mod Emitting
+pub mod Depths
+pub mod Tails
+pub mod Views
+pub mod NameViews
+pub mod Around
+pub mod Drafts
+pub mod Shapes
+pub mod Sizes
+pub mod Emits
+pub mod Found

@@ -1,0 +1,78 @@
+//! How many block arguments a part of a tree declares.
+
+ghost use Rattle.std.specs.Prelude.{◌≡◌, ◌+◌, IfOk};
+ghost use Rattle.st_tree.specs.Views.{expression_view, expressions_view, messages_view, statements_view};
+ghost use Rattle.st_emit.specs.Resolving.{names_in, names_in_all, names_in_messages, names_in_statements};
+
+use st_tree::{Expression, Message, Statement};
+use std::alloc::AllocError;
+
+/// A sum of counts. One that passes every memory is want of memory.
+pub fn sum(a: usize, b: usize) -> Result<usize, AllocError>
+    ensures { IfOk result (λ n. n ≡ a + b) }
+{
+    a.checked_add(b).ok_or(AllocError)
+}
+
+/// The block arguments in expressions.
+#[cycle(counting)]
+fn names_in_all(es: &[Expression]) -> Result<usize, AllocError>
+    ensures { IfOk result (λ n. n ≡ names_in_all (expressions_view es.now)) }
+{
+    let mut total = 0;
+    for e in es {
+        total = sum(total, names_in(e)?)?;
+    }
+    Ok(total)
+}
+
+/// The block arguments in messages.
+#[cycle(counting)]
+fn names_in_messages(messages: &[Message]) -> Result<usize, AllocError>
+    ensures { IfOk result (λ n. n ≡ names_in_messages (messages_view messages.now)) }
+{
+    let mut total = 0;
+    for m in messages {
+        total = sum(total, names_in_all(&m.arguments)?)?;
+    }
+    Ok(total)
+}
+
+/// The block arguments in an expression. It goes down the receivers and the assigned values by a loop.
+#[cycle(counting)]
+#[tactic(auto, using(st_tree::proofs::Views::views))]
+fn names_in(e: &Expression) -> Result<usize, AllocError>
+    ensures { IfOk result (λ n. n ≡ names_in (expression_view e.now)) }
+{
+    let mut total = 0;
+    let mut inner = e;
+    'down: loop {
+        match inner {
+            Expression::Variable(_) | Expression::Literal(_) => return Ok(total),
+            Expression::Block { names, body } => {
+                let inside = sum(names.len(), names_in_statements(body)?)?;
+                return sum(total, inside);
+            }
+            Expression::Assign { value, .. } => inner = value,
+            Expression::Send { receiver, messages } => {
+                total = sum(total, names_in_messages(messages)?)?;
+                inner = receiver;
+            }
+        }
+    }
+}
+
+/// The block arguments in statements, up to one after `^`.
+#[cycle(counting)]
+pub fn names_in_statements(statements: &[Statement]) -> Result<usize, AllocError>
+    ensures { IfOk result (λ n. n ≡ names_in_statements (statements_view statements.now)) }
+{
+    let mut total = 0;
+    for s in statements {
+        total = sum(total, names_in(&s.value)?)?;
+        if s.returns {
+            return Ok(total);
+        }
+    }
+    Ok(total)
+}

@@ -1,0 +1,28 @@
+//! Instructions of a method's tree: what its names mean, which messages have a form of their own, its literals in the
+//! order in which its code names them, and how many words the code has on the stack.
+#![tactic(auto)]
+
+mod counting;
+mod draft;
+mod emit;
+mod form;
+mod level;
+mod literal;
+mod names;
+mod selector;
+mod shape;
+mod step;
+mod value;
+
+pub use counting::sum;
+pub use draft::Draft;
+pub use form::{By, Form, Lookup, Loop, OneSided, TwoSided};
+pub use level::Level;
+pub use literal::{Literal, LiteralList};
+pub use names::{
+    Around, Frame, NamedOops, Names, TextList, Variable, constant_named, inner_scope, is_among,
+    is_declared, variable_named,
+};
+pub use shape::{Choice, Repetition, Shape, Side};
+pub use step::{Constant, Place, Step, size_of};
+pub use value::method_body;

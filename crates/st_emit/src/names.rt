@@ -1,0 +1,186 @@
+//! What a name means.
+
+ghost use Rattle.std.specs.Prelude.{◌≡◌, IfOk, option_map, is_some, false};
+ghost use Rattle.st_emit.specs.Names.{constant_named, field_named, shared_named, declared_as, own_variable, is_among};
+ghost use Rattle.st_tree.specs.Views.{names_view as list_view};
+ghost use Rattle.st_emit.specs.NameViews.{frame_view, names_view, scope_view, with_names, variable_at, pointer_of, IsVariable};
+
+use crate::step::Constant;
+use st_model::Oop;
+use st_tree::{Name, Text};
+use std::alloc::{AllocError, Global};
+
+/// Names as their bytes.
+pub type TextList = Vec<Text>;
+
+/// Names that are shared, each with its association.
+pub type NamedOops = Vec<(Text, Oop)>;
+
+/// The names of a class: its instance variables in order, what its pools and the globals share, and whether the image
+/// has a symbol table.
+#[derive(Debug, Drop)]
+pub struct Names {
+    pub fields: TextList,
+    pub shared: NamedOops,
+    pub symbols: bool,
+}
+
+/// Names that are declared together: the arguments or the temporaries of the method, or the arguments of a block. They
+/// are numbered from `first` on, and only temporaries are assignable.
+#[derive(Clone, Copy)]
+pub struct Frame<'a> {
+    pub names: &'a [Name],
+    pub first: usize,
+    pub assignable: bool,
+}
+
+/// What stands around a part of a tree: the names of the class, those that are declared there, and the number of the
+/// next variable in the order of the text.
+#[derive(Clone, Copy)]
+pub struct Around<'a> {
+    pub names: &'a Names,
+    pub scope: &'a [Frame<'a>],
+    pub next: usize,
+}
+
+/// A variable of the method or of a block, an instance variable, or the value of an association.
+#[derive(Clone, Copy)]
+pub enum Variable {
+    Temporary { number: usize, assignable: bool },
+    Field(usize),
+    Shared(Oop),
+}
+
+/// The pseudo variable of a name.
+pub fn constant_named(text: &[u8]) -> Option<Constant>
+    ensures { result ≡ constant_named text.now }
+{
+    if text == b"self".as_slice() || text == b"super".as_slice() {
+        Some(Constant::Receiver)
+    } else if text == b"true".as_slice() {
+        Some(Constant::True)
+    } else if text == b"false".as_slice() {
+        Some(Constant::False)
+    } else if text == b"nil".as_slice() {
+        Some(Constant::Nil)
+    } else if text == b"thisContext".as_slice() {
+        Some(Constant::Context)
+    } else {
+        None
+    }
+}
+
+/// The number of an instance variable. The first 64 have one.
+fn field_named(names: &Names, text: &[u8]) -> Option<usize>
+    ensures { result ≡ field_named (names_view names.now) text.now }
+{
+    for (i, name) in names.fields.iter().enumerate() {
+        if name.as_slice() == text {
+            return if i < 64 { Some(i) } else { None };
+        }
+    }
+    None
+}
+
+/// The association of a name that is shared.
+fn shared_named(names: &Names, text: &[u8]) -> Option<Oop>
+    ensures { option_map pointer_of result ≡ shared_named (names_view names.now) text.now }
+{
+    for (name, oop) in &names.shared {
+        if name.as_slice() == text {
+            return Some(*oop);
+        }
+    }
+    None
+}
+
+/// The variable of a name among those that are declared together.
+fn declared_in(frame: Frame<'_>, text: &[u8]) -> Result<Option<Variable>, AllocError>
+    ensures { IfOk result (IsVariable (own_variable (declared_as (frame_view frame.entry) text.now))) }
+{
+    let names = frame.names;
+    for (i, name) in names.iter().enumerate() {
+        if name.text.as_slice() == text {
+            let number = frame.first.checked_add(i).ok_or(AllocError)?;
+            return Ok(Some(Variable::Temporary {
+                number,
+                assignable: frame.assignable,
+            }));
+        }
+    }
+    Ok(None)
+}
+
+/// The variable of a name that is declared in a scope.
+fn declared_as(scope: &[Frame<'_>], text: &[u8]) -> Result<Option<Variable>, AllocError>
+    ensures { IfOk result (IsVariable (own_variable (declared_as (scope_view scope.now) text.now))) }
+{
+    for frame in scope {
+        if let Some(variable) = declared_in(*frame, text)? {
+            return Ok(Some(variable));
+        }
+    }
+    Ok(None)
+}
+
+/// The variable of a name: those of the method first, then the receiver's, then what is shared.
+pub fn variable_named(
+    names: &Names,
+    scope: &[Frame<'_>],
+    text: &[u8],
+) -> Result<Option<Variable>, AllocError>
+    ensures { IfOk result (IsVariable (variable_at names.now scope.now text.now)) }
+{
+    if let Some(variable) = declared_as(scope, text)? {
+        return Ok(Some(variable));
+    }
+    if let Some(field) = field_named(names, text) {
+        return Ok(Some(Variable::Field(field)));
+    }
+    Ok(shared_named(names, text).map(Variable::Shared))
+}
+
+/// Whether a name is among these.
+pub fn is_among(names: &[Name], text: &[u8]) -> bool
+    ensures { result ≡ is_among (list_view names.now) text.now }
+{
+    for name in names {
+        if name.text.as_slice() == text {
+            return true;
+        }
+    }
+    false
+}
+
+/// Whether a name is declared in a scope.
+pub fn is_declared(scope: &[Frame<'_>], text: &[u8]) -> bool
+    ensures { result ≡ is_some (declared_as (scope_view scope.now) text.now) }
+{
+    for frame in scope {
+        if is_among(frame.names, text) {
+            return true;
+        }
+    }
+    false
+}
+
+/// A scope with more names, the arguments of a block.
+pub fn inner_scope<'a>(
+    alloc: Global,
+    scope: &[Frame<'a>],
+    names: &'a [Name],
+    first: usize,
+) -> Result<Vec<Frame<'a>>, AllocError>
+    ensures { IfOk result (λ inner. scope_view inner.items ≡ with_names first names.now scope.now) }
+{
+    let mut inner = Vec::new(alloc);
+    for frame in scope {
+        inner.push(*frame)?;
+    }
+    inner.push(Frame {
+        names,
+        first,
+        assignable: false,
+    })?;
+    Ok(inner)
+}

@@ -1,0 +1,110 @@
+//! Selectors that have a code or a form of their own.
+
+ghost use Rattle.std.specs.Prelude.{◌≡◌, ◌<◌, IfSome, length};
+ghost use Rattle.st_emit.specs.Names.{field_from};
+ghost use Rattle.st_emit.specs.NameViews.{texts_now};
+ghost use Rattle.st_emit.specs.Resolving.{special_selector, special_code, form_named};
+
+use crate::form::{Form, Loop, OneSided, TwoSided};
+
+/// The code of the first special selector.
+const FIRST_SPECIAL: u8 = 176;
+
+/// The code of `blockCopy:`.
+pub const BLOCK_COPY: u8 = 200;
+
+/// Its place among the special selectors.
+const BLOCK_COPY_PLACE: usize = 24;
+
+/// The selectors that have a code of their own, in the order of their codes.
+const SPECIAL_SELECTORS: [&[u8]; 32] = [
+    b"+",
+    b"-",
+    b"<",
+    b">",
+    b"<=",
+    b">=",
+    b"=",
+    b"~=",
+    b"*",
+    b"/",
+    b"\\\\",
+    b"@",
+    b"bitShift:",
+    b"//",
+    b"bitAnd:",
+    b"bitOr:",
+    b"at:",
+    b"at:put:",
+    b"size",
+    b"next",
+    b"nextPut:",
+    b"atEnd",
+    b"==",
+    b"class",
+    b"blockCopy:",
+    b"value",
+    b"value:",
+    b"do:",
+    b"new",
+    b"new:",
+    b"x",
+    b"y",
+];
+
+/// The place of the first of these texts that is this one.
+fn place_in(texts: &[&[u8]], text: &[u8]) -> Option<usize>
+    ensures place { result ≡ field_from 0 (texts_now texts.now) text.now }
+    ensures within { IfSome result (λ k. k < length texts.now) }
+{
+    for (i, other) in texts.iter().enumerate() {
+        if *other == text {
+            return Some(i);
+        }
+    }
+    None
+}
+
+/// The place of a selector among the special ones.
+fn special_selector(text: &[u8]) -> Option<usize>
+    ensures place { result ≡ special_selector text.now }
+    ensures few { IfSome result (λ k. k < 32) }
+{
+    place_in(&SPECIAL_SELECTORS, text)
+}
+
+/// The code of a special selector. Only blocks send `blockCopy:` by its code.
+pub fn special_code(text: &[u8]) -> Option<u8>
+    ensures { result ≡ special_code text.now }
+{
+    match special_selector(text) {
+        Some(BLOCK_COPY_PLACE) => None,
+        Some(special) => Some(FIRST_SPECIAL + special as u8),
+        None => None,
+    }
+}
+
+/// What a selector says of its form.
+pub fn form_named(text: &[u8]) -> Form
+    ensures { result ≡ form_named text.now }
+{
+    if text == b"ifTrue:".as_slice() {
+        Form::One(OneSided::IfTrue)
+    } else if text == b"ifFalse:".as_slice() {
+        Form::One(OneSided::IfFalse)
+    } else if text == b"and:".as_slice() {
+        Form::One(OneSided::And)
+    } else if text == b"or:".as_slice() {
+        Form::One(OneSided::Or)
+    } else if text == b"ifTrue:ifFalse:".as_slice() {
+        Form::Two(TwoSided::TrueFirst)
+    } else if text == b"ifFalse:ifTrue:".as_slice() {
+        Form::Two(TwoSided::FalseFirst)
+    } else if text == b"whileTrue:".as_slice() {
+        Form::Repeated(Loop::WhileTrue)
+    } else if text == b"whileFalse:".as_slice() {
+        Form::Repeated(Loop::WhileFalse)
+    } else {
+        Form::Message
+    }
+}
