@@ -2,3 +2,4 @@ pub mod Faults
 pub mod ChainFaults
 pub mod Methods
 pub mod Reported
+pub mod MethodDrafts

@@ -9,7 +9,7 @@ use Rattle.st_code.specs.declared.fault.Cause.TheVariants.{Literals, Temporaries
 use Rattle.st_emit.specs.declared.step.Constant.TheVariants.{Receiver}
 use Rattle.st_emit.specs.declared.step.Place.TheVariants.{Field}
 use Rattle.st_emit.specs.declared.step.Step.{Step}
-use Rattle.st_emit.specs.Names.{NamesView, declared, or_else}
+use Rattle.st_emit.specs.Names.{NamesView, Scope, declared, or_else}
 use Rattle.st_emit.specs.Literals.{LiteralView, number, owner, Named}
 use Rattle.st_emit.specs.Nodes.{constant, variable, Body, nothing, returned}
 use Rattle.st_emit.specs.Resolving.{Context, names_in_statements, statements_body}
@@ -26,6 +26,10 @@ pub record PartsView : Type 0 where
   pub literals : List LiteralView
   pub bytes : List ℕ
 
+-- what a method declares, its temporaries numbered from a number on
+abbrev pub scope_from : ℕ → MethodView → Scope
+scope_from first m = declared true first m.temporaries (declared false 0 m.arguments [])
+
 module _ (tree : MethodView) (names : NamesView) where
   -- BODY
 
@@ -39,7 +43,7 @@ module _ (tree : MethodView) (names : NamesView) where
   abbrev pub context : Context
   context = record {
     names = names;
-    scope = declared true (length tree.arguments) tree.temporaries (declared false 0 tree.arguments []);
+    scope = scope_from (length tree.arguments) tree;
     next = own_variables;
   }
 

@@ -3,6 +3,7 @@
 
 mod checking;
 mod fault;
+mod method;
 
 pub use fault::{Cause, CodeFault, Fault};
 pub use st_emit::{Literal, LiteralList, NamedOops, Names, TextList};
