@@ -5,3 +5,4 @@ mod RowsMethods
 mod RowsForms
 mod RowsLimits
 mod RowsFar
+pub mod ShortCode

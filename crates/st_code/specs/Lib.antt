@@ -3,3 +3,5 @@ pub mod ChainFaults
 pub mod Methods
 pub mod Reported
 pub mod MethodDrafts
+pub mod Simple
+pub mod Coded

@@ -17,6 +17,8 @@ use Rattle.st_emit.specs.Steps.{size, all_bytes, all_reach, sends_super}
 use Rattle.st_emit.specs.Emitting.{method_code}
 use Rattle.st_emit.specs.declared.level.Level.{Level}
 use Rattle.st_emit.specs.Depths.{empty, method_level}
+use Rattle.st_code.specs.declared.simple.Simple.{Simple}
+use Rattle.st_code.specs.declared.simple.Simple.TheVariants.{Itself, ItsField}
 use Rattle.st_code.specs.Faults.{fault_at, method_fault}
 
 -- what a method is made of
@@ -25,6 +27,71 @@ pub record PartsView : Type 0 where
   pub header : ℕ
   pub literals : List LiteralView
   pub bytes : List ℕ
+
+-- FLAG
+
+-- a method that does no more than to return its receiver, or a variable of the receiver
+abbrev pub simple : Body → Option Simple
+simple nothing = Some Itself
+simple (returned (constant Receiver)) = Some Itself
+simple (returned (variable (Field n))) = Some (ItsField n)
+simple _ = None
+
+abbrev pub simple_flag : Option Simple → ℕ
+simple_flag None = 0
+simple_flag (Some Itself) = 5
+simple_flag (Some (ItsField n)) = if nat_lt n returned_fields then 6 else 0
+
+abbrev pub has_variables : MethodView → Bool
+has_variables m = not (length m.arguments == 0 && length m.temporaries == 0)
+
+abbrev pub flag_of : MethodView → Option Simple → ℕ
+flag_of m s =
+    if is_some m.primitive || nat_lt most_flagged (length m.arguments) then 7
+    else (if has_variables m then length m.arguments else simple_flag s)
+
+-- what stands in the header in place of a temporary count where the flag is 6
+abbrev pub returned_field : Option Simple → ℕ
+returned_field (Some (ItsField n)) = n
+returned_field _ = 0
+
+abbrev pub count_of : (flag : ℕ) → Option Simple → (variables : ℕ) → ℕ
+count_of flag s variables = if flag == 6 then returned_field s else variables
+
+-- LAST LITERALS
+
+abbrev pub primitive_number : Option Signed → ℕ
+primitive_number None = 0
+primitive_number (Some n) = n.size
+
+-- the number of arguments and the primitive
+abbrev pub extension : MethodView → LiteralView
+extension m = number (record { minus = false; size = length m.arguments * 256 + primitive_number m.primitive })
+
+abbrev pub last_of : MethodView → (flag : ℕ) → List Step → List LiteralView
+last_of m flag steps = if flag == 7 then extension m ∷ owner ∷ [] else (if sends_super steps then owner ∷ [] else [])
+
+-- WHOLE METHODS
+
+-- variables and words on the stack pass the room of a context
+abbrev pub passes : (room variables : ℕ) → Level → Bool
+passes room variables depth = nat_lt room (variables + depth.greatest) || nat_lt room depth.blocks
+
+abbrev pub fault_if : Bool → Cause → Option Fault
+fault_if wrong cause = if wrong then fault_at 0 cause else None
+
+abbrev pub is_primitive : Option Signed → Bool
+is_primitive None = true
+is_primitive (Some n) = not n.minus && nat_le 1 n.size && nat_le n.size most_primitive
+
+-- what passes the bounds of a method
+abbrev pub bounds_fault : (literals variables : ℕ) → Level → List Step → Option Fault
+bounds_fault literals variables depth steps =
+    or_else (fault_if (nat_lt most_literals literals) Literals)
+    (or_else (fault_if (nat_lt most_variables variables) Temporaries)
+    (or_else (fault_if (passes large_room variables depth) Depth)
+    (or_else (fault_if (not (all_reach steps)) Jump)
+    (fault_if (nat_lt most_bytes (literals * 2 + 2 + size steps)) Size))))
 
 -- what a method declares, its temporaries numbered from a number on
 abbrev pub scope_from : ℕ → MethodView → Scope
@@ -59,50 +126,24 @@ module _ (tree : MethodView) (names : NamesView) where
 
   -- FLAG
 
-  abbrev pub is_unary : Bool
-  is_unary = length tree.arguments == 0 && length tree.temporaries == 0
-
-  -- a method that does no more than to return its receiver, or a variable of the receiver
-  abbrev pub simple_flag : Body → ℕ
-  simple_flag nothing = 5
-  simple_flag (returned (constant Receiver)) = 5
-  simple_flag (returned (variable (Field n))) = if nat_lt n returned_fields then 6 else 0
-  simple_flag _ = 0
-
   abbrev pub flag : ℕ
-  flag = if is_some tree.primitive || nat_lt most_flagged (length tree.arguments) then 7 else (if is_unary then simple_flag body.part else length tree.arguments)
-
-  -- what stands in the header in place of a temporary count where the flag is 6
-  abbrev pub returned_field : Body → ℕ
-  returned_field (returned (variable (Field n))) = n
-  returned_field _ = 0
+  flag = flag_of tree (simple body.part)
 
   abbrev pub header_count : ℕ
-  header_count = if flag == 6 then returned_field body.part else variables
+  header_count = count_of flag (simple body.part) variables
 
   -- LITERALS
 
-  abbrev pub primitive_number : Option Signed → ℕ
-  primitive_number None = 0
-  primitive_number (Some n) = n.size
-
-  -- the number of arguments and the primitive
-  abbrev pub extension : LiteralView
-  extension = number (record { minus = false; size = length tree.arguments * 256 + primitive_number tree.primitive })
-
   abbrev pub last_literals : List LiteralView
-  last_literals = if flag == 7 then extension ∷ owner ∷ [] else (if sends_super steps then owner ∷ [] else [])
+  last_literals = last_of tree flag steps
 
   abbrev pub literals : List LiteralView
   literals = body.literals ++ last_literals
 
   -- HEADER
 
-  abbrev pub passes : ℕ → Bool
-  passes room = nat_lt room (variables + depth.greatest) || nat_lt room depth.blocks
-
   abbrev pub is_large : Bool
-  is_large = passes small_room
+  is_large = passes small_room variables depth
 
   abbrev pub header : ℕ
   header = flag * 8192 + header_count * 256 + (if is_large then 128 else 0) + length literals * 2 + 1
@@ -112,23 +153,12 @@ module _ (tree : MethodView) (names : NamesView) where
 
   -- FAULTS
 
-  abbrev pub fault_if : Bool → Cause → Option Fault
-  fault_if wrong cause = if wrong then fault_at 0 cause else None
-
-  abbrev pub is_primitive : Option Signed → Bool
-  is_primitive None = true
-  is_primitive (Some n) = not n.minus && nat_le 1 n.size && nat_le n.size most_primitive
-
   -- the faults of a method as a whole, in their order
   abbrev pub whole_fault : Option Fault
   whole_fault =
       or_else (fault_if (not names.symbols) Symbols)
       (or_else (fault_if (not (is_primitive tree.primitive)) Primitive)
-      (or_else (fault_if (nat_lt most_literals (length literals)) Literals)
-      (or_else (fault_if (nat_lt most_variables variables) Temporaries)
-      (or_else (fault_if (passes large_room) Depth)
-      (or_else (fault_if (not (all_reach steps)) Jump)
-      (fault_if (nat_lt most_bytes (length literals * 2 + 2 + size steps)) Size))))))
+      (bounds_fault (length literals) variables depth steps))
 
   abbrev pub fault : Option Fault
   fault = or_else (method_fault names tree) whole_fault
