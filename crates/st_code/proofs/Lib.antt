@@ -6,3 +6,4 @@ mod RowsForms
 mod RowsLimits
 mod RowsFar
 pub mod ShortCode
+pub mod Completed

@@ -77,12 +77,22 @@ last_of m flag steps = if flag == 7 then extension m ∷ owner ∷ [] else (if s
 abbrev pub passes : (room variables : ℕ) → Level → Bool
 passes room variables depth = nat_lt room (variables + depth.greatest) || nat_lt room depth.blocks
 
+-- the large context flag, at its place in the header
+abbrev pub room_bit : (variables : ℕ) → Level → ℕ
+room_bit variables depth = if passes small_room variables depth then 128 else 0
+
 abbrev pub fault_if : Bool → Cause → Option Fault
 fault_if wrong cause = if wrong then fault_at 0 cause else None
 
 abbrev pub is_primitive : Option Signed → Bool
 is_primitive None = true
 is_primitive (Some n) = not n.minus && nat_le 1 n.size && nat_le n.size most_primitive
+
+abbrev pub symbols_fault : Bool → Option Fault
+symbols_fault symbols = fault_if (not symbols) Symbols
+
+abbrev pub primitive_fault : Option Signed → Option Fault
+primitive_fault primitive = fault_if (not (is_primitive primitive)) Primitive
 
 -- what passes the bounds of a method
 abbrev pub bounds_fault : (literals variables : ℕ) → Level → List Step → Option Fault
@@ -142,11 +152,8 @@ module _ (tree : MethodView) (names : NamesView) where
 
   -- HEADER
 
-  abbrev pub is_large : Bool
-  is_large = passes small_room variables depth
-
   abbrev pub header : ℕ
-  header = flag * 8192 + header_count * 256 + (if is_large then 128 else 0) + length literals * 2 + 1
+  header = flag * 8192 + header_count * 256 + room_bit variables depth + length literals * 2 + 1
 
   abbrev pub parts : PartsView
   parts = record { selector = tree.selector; header = header; literals = literals; bytes = all_bytes steps }
@@ -156,9 +163,7 @@ module _ (tree : MethodView) (names : NamesView) where
   -- the faults of a method as a whole, in their order
   abbrev pub whole_fault : Option Fault
   whole_fault =
-      or_else (fault_if (not names.symbols) Symbols)
-      (or_else (fault_if (not (is_primitive tree.primitive)) Primitive)
-      (bounds_fault (length literals) variables depth steps))
+      or_else (symbols_fault names.symbols) (or_else (primitive_fault tree.primitive) (bounds_fault (length literals) variables depth steps))
 
   abbrev pub fault : Option Fault
   fault = or_else (method_fault names tree) whole_fault

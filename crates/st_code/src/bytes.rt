@@ -169,3 +169,67 @@ fn jump_code(short: u8, long: u8, d: usize) -> Code
     }
     long_jump(long, d)
 }
+
+/// The bytes of an instruction that comes to its place.
+fn code_of(step: Step) -> Code
+    requires { reaches step ≡ true }
+    ensures { code_view result ≡ bytes_of step }
+{
+    match step {
+        Step::Push(place) => push_code(place),
+        Step::PushConstant(constant) => Code::One(constant_byte(constant)),
+        Step::PushNumber(n) => Code::One(small_byte(n)),
+        Step::Store(place) => Code::Two(129, long_place(place)),
+        Step::PopStore(place) => pop_code(place),
+        Step::Pop => Code::One(135),
+        Step::Duplicate => Code::One(136),
+        Step::Send {
+            arguments,
+            selector,
+        } => send_code(arguments, selector),
+        Step::SendSuper {
+            arguments,
+            selector,
+        } => long_send(133, 134, arguments, selector),
+        Step::SendSpecial(code) => Code::One(code),
+        Step::ReturnConstant(constant) => Code::One(return_byte(constant)),
+        Step::ReturnTop => Code::One(124),
+        Step::ReturnBlock => Code::One(125),
+        Step::Jump(d) => jump_code(144, 164, d),
+        Step::JumpBack(d) => long_jump(160, MOST_BACK - d),
+        Step::JumpIf(true, d) => long_jump(168, d),
+        Step::JumpIf(false, d) => jump_code(152, 172, d),
+        Step::JumpPast(d) => long_jump(164, d),
+    }
+}
+
+/// The bytes of one instruction more.
+fn put(bytes: &mut Text, code: Code) -> Result<(), AllocError>
+    ensures { OnOk result (bytes.new.items ≡ bytes.old.items ++ code_view code) }
+{
+    match code {
+        Code::One(a) => bytes.push(a)?,
+        Code::Two(a, b) => {
+            bytes.push(a)?;
+            bytes.push(b)?;
+        }
+        Code::Three(a, b, c) => {
+            bytes.push(a)?;
+            bytes.push(b)?;
+            bytes.push(c)?;
+        }
+    }
+    Ok(())
+}
+
+/// The bytes of instructions that all come to their places.
+pub fn all_bytes(alloc: Global, steps: &[Step]) -> Result<Text, AllocError>
+    requires { all_reach steps.now ≡ true }
+    ensures { IfOk result (λ bytes. bytes.items ≡ all_bytes steps.now) }
+{
+    let mut bytes = Vec::new(alloc);
+    for step in steps {
+        put(&mut bytes, code_of(*step))?;
+    }
+    Ok(bytes)
+}

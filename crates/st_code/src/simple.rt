@@ -1,6 +1,6 @@
 //! Methods that do no more than to return their receiver, or a variable of it.
 
-ghost use Rattle.std.specs.Prelude.{◌≡◌};
+ghost use Rattle.std.specs.Prelude.{◌≡◌, ◌≤◌};
 ghost use Rattle.st_tree.specs.Views.{method_view};
 ghost use Rattle.st_code.specs.Methods.{simple_flag, flag_of, count_of};
 ghost use Rattle.st_code.specs.Simple.{simple_by};
@@ -28,7 +28,8 @@ pub fn simple_by(steps: &[Step]) -> Option<Simple>
 
 /// The flag of a method that is simple, or not.
 pub fn flag_of(t: &MethodTree, simple: Option<Simple>) -> u16
-    ensures { result ≡ flag_of (method_view t.now) simple }
+    ensures flag { result ≡ flag_of (method_view t.now) simple }
+    ensures small { result ≤ 7 }
 {
     let arguments = t.arguments.len();
     if t.primitive.is_some() || arguments > 4 {
@@ -41,10 +42,12 @@ pub fn flag_of(t: &MethodTree, simple: Option<Simple>) -> u16
 }
 
 /// What stands in a header in place of a temporary count.
-pub fn count_of(flag: u16, simple: Option<Simple>, variables: usize) -> usize
-    ensures { result ≡ count_of flag simple variables }
+pub fn count_of(t: &MethodTree, simple: Option<Simple>, variables: usize) -> usize
+    requires { variables ≤ 31 }
+    ensures count { result ≡ count_of (flag_of (method_view t.now) simple) simple variables }
+    ensures small { result ≤ 31 }
 {
-    if flag != 6 {
+    if flag_of(t, simple) != 6 {
         return variables;
     }
     match simple {
