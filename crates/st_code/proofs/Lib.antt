@@ -5,3 +5,5 @@ mod RowsMethods
 mod RowsForms
 mod RowsLimits
 mod RowsFar
+pub mod ShortCode
+pub mod Completed

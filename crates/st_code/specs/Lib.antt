@@ -2,3 +2,6 @@ pub mod Faults
 pub mod ChainFaults
 pub mod Methods
 pub mod Reported
+pub mod MethodDrafts
+pub mod Simple
+pub mod Coded
