@@ -6,15 +6,16 @@ ghost use Rattle.st_code.specs.Methods.{passes, symbols_fault, primitive_fault, 
 ghost use Rattle.st_code.specs.MethodDrafts.{bounds_of, IsWithin};
 ghost use Rattle.st_code.specs.Reported.{Reports, reported};
 
+use crate::bytes::all_reach;
 use crate::fault::{Cause, CodeFault, Fault};
 use crate::method::MethodDraft;
-use crate::bytes::all_reach;
 use st_emit::{Level, Names, sum};
 use st_tree::Signed;
 use std::alloc::AllocError;
 
 /// The words that a small and a large context have room for.
 const SMALL_ROOM: usize = 12;
+
 const LARGE_ROOM: usize = 32;
 
 /// Whether variables and words on the stack pass the room of a context.
