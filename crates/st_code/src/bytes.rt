@@ -10,6 +10,7 @@ use std::alloc::{AllocError, Global};
 
 /// How far a jump of two bytes goes forward, and back.
 const MOST_FORWARD: usize = 1_023;
+
 const MOST_BACK: usize = 1_024;
 
 /// The bytes of one instruction.

@@ -18,10 +18,10 @@ returns c =
     record {
       steps = c.in_ok-put_last.ensures.steps ∙ c.in_ok-made.ensures.steps;
       literals =
-      c.in_ok-put_last.ensures.literals
-      ∙ ap (λ (ls : List LiteralView). ls ++ last_of tree c.flag_of-flag.result made.draft.steps.items) c.in_ok-made.ensures.literals
-      ∙ ap (λ (f : ℕ). own ++ last_of tree f made.draft.steps.items) same
-      ∙ ap (λ (ss : List Step). own ++ last_of tree (flag tree names) ss) c.in_ok-made.ensures.steps;
+          c.in_ok-put_last.ensures.literals
+          ∙ ap (λ (ls : List LiteralView). ls ++ last_of tree c.flag_of-flag.result made.draft.steps.items) c.in_ok-made.ensures.literals
+          ∙ ap (λ (f : ℕ). own ++ last_of tree f made.draft.steps.items) same
+          ∙ ap (λ (ss : List Step). own ++ last_of tree (flag tree names) ss) c.in_ok-made.ensures.steps;
       level = c.in_ok-put_last.ensures.level ∙ c.in_ok-made.ensures.level;
       variables = c.in_ok-made.ensures.variables;
     }
