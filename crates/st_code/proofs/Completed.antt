@@ -1,5 +1,5 @@
 -- The parts that are made of a method's code are those of its tree.
-use Rattle.std.proofs.Common.{◌≡◌, ℕ, ◌+◌, ◌*◌, List, length, Option, refl, sym, ap, ◌∙◌}
+use Rattle.std.proofs.Common.{◌≡◌, ℕ, ◌+◌, ◌*◌, List, length, Option, sym, ap, ◌∙◌}
 use Rattle.std.proofs.lemmas.List.{length-map}
 use Rattle.st_tree.specs.Views.{MethodView}
 use Rattle.st_emit.specs.declared.step.Step.{Step}
@@ -10,7 +10,7 @@ use Rattle.st_emit.specs.Steps.{all_bytes}
 use Rattle.st_emit.specs.Views.{literal_view, literals_view}
 use Rattle.st_code.specs.declared.simple.Simple.{Simple}
 use Rattle.st_code.specs.declared.method.MethodDraft.{MethodDraft}
-use Rattle.st_code.specs.Methods.{PartsView, body, steps, literals, variables, depth, simple, flag_of, flag, count_of, room_bit, header, parts}
+use Rattle.st_code.specs.Methods.{PartsView, body, steps, literals, variables, depth, simple, flag_of, count_of, room_bit, header, parts}
 use Rattle.st_code.specs.Simple.{simple_by}
 use Rattle.st_code.specs.MethodDrafts.{IsWhole, header_of}
 use Rattle.st_code.proofs.ShortCode.{simple_by_nodes}

@@ -1,11 +1,10 @@
 -- A method's instructions say whether it is simple, as its nodes do: every other one has more instructions.
-use Rattle.std.proofs.Common.{◌≡◌, ℕ, ◌+◌, ◌≤◌, Bool, List, [], ◌∷◌, ◌++◌, length, Option, Some, None, refl, ap, ◌∙◌, arith, append_assoc}
+use Rattle.std.proofs.Common.{◌≡◌, ◌≤◌, Bool, List, [], ◌∷◌, ◌++◌, length, None, refl, arith}
 use Rattle.std.proofs.lemmas.List.{length-append}
-use Rattle.st_emit.specs.declared.step.Constant.{Constant}
 use Rattle.st_emit.specs.declared.step.Constant.TheVariants.{Receiver, True, False, Nil, Context}
 use Rattle.st_emit.specs.declared.step.Place.TheVariants.{Field, Temporary, Literal, Shared}
 use Rattle.st_emit.specs.declared.step.Step.{Step}
-use Rattle.st_emit.specs.declared.step.Step.TheVariants.{PushConstant, Store, PopStore, Pop, Duplicate, SendSpecial, ReturnTop, Jump, JumpBack, JumpIf, JumpPast, ReturnConstant}
+use Rattle.st_emit.specs.declared.step.Step.TheVariants.{PushConstant, Store, PopStore, Pop}
 use Rattle.st_emit.specs.declared.form.TwoSided.TheVariants.{TrueFirst, FalseFirst}
 use Rattle.st_emit.specs.Nodes.{Node, Body, nothing, last, next, returned, Messages, only, also}
 use Rattle.st_emit.specs.Nodes as nodes

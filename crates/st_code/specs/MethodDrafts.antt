@@ -1,14 +1,15 @@
 -- A method's code as it is made.
-use Rattle.std.specs.Prelude.{◌≡◌, ℕ, ◌+◌, ◌*◌, ◌≤◌, true, List, length, Option}
+use Rattle.std.specs.Prelude.{◌≡◌, ℕ, ◌+◌, ◌*◌, ◌≤◌, ◌++◌, true, length, Option}
 use Rattle.st_tree.specs.Views.{MethodView}
+use Rattle.st_emit.specs.declared.draft.Draft.{Draft}
 use Rattle.st_emit.specs.Names.{NamesView}
 use Rattle.st_emit.specs.Bounds.{most_literals, most_variables}
-use Rattle.st_emit.specs.Steps.{all_reach}
+use Rattle.st_emit.specs.Steps.{all_reach, size}
 use Rattle.st_emit.specs.Views.{literals_view}
 use Rattle.st_code.specs.declared.method.MethodDraft.{MethodDraft}
 use Rattle.st_code.specs.declared.fault.Fault.{Fault}
 use Rattle.st_code.specs.declared.compiler.MethodParts.{MethodParts}
-use Rattle.st_code.specs.Methods.{PartsView, body, steps, depth, variables, literals, bounds_fault, flag_of, count_of, room_bit}
+use Rattle.st_code.specs.Methods.{PartsView, body, steps, depth, variables, literals, bounds_fault, flag_of, count_of, room_bit, last_of}
 use Rattle.st_code.specs.Simple.{simple_by}
 
 -- the instructions of a method's body, the literals that they name, its depth and its variables
@@ -43,3 +44,11 @@ header_of m made =
 
 abbrev pub parts_view : MethodParts → PartsView
 parts_view p = record { selector = p.selector.items; header = p.header; literals = literals_view p.literals.items; bytes = p.bytes.items }
+
+-- the last literals stand behind the others
+abbrev pub HasLast : MethodView → (flag : ℕ) → (old new : Draft) → Type 0
+HasLast m flag old new = literals_view new.literals.items ≡ literals_view old.literals.items ++ last_of m flag old.steps.items
+
+-- how many bytes a method has, with its header and its literals
+abbrev pub size_with : MethodDraft → ℕ
+size_with made = length made.draft.literals.items * 2 + 2 + size made.draft.steps.items

@@ -5,7 +5,7 @@ ghost use Rattle.st_tree.specs.Views.{method_view};
 ghost use Rattle.st_emit.specs.NameViews.{names_view};
 ghost use Rattle.st_emit.specs.Views.{literal_view, literals_view};
 ghost use Rattle.st_code.specs.Methods.{extension, last_of, primitive_fault, fault, code};
-ghost use Rattle.st_code.specs.MethodDrafts.{IsWhole, IsWithin, header_of, parts_view};
+ghost use Rattle.st_code.specs.MethodDrafts.{HasLast, IsWhole, IsWithin, header_of, parts_view};
 ghost use Rattle.st_code.specs.Reported.{IsFault, Reports};
 
 use crate::bytes::{all_bytes, sends_super};
@@ -44,7 +44,7 @@ fn extension(t: &MethodTree) -> Literal
 /// The literals that no instruction names: the extension and the association of the method's class.
 fn put_last(draft: &mut Draft, t: &MethodTree, flag: u16) -> Result<(), AllocError>
     requires { primitive_fault t.now.primitive ≡ None }
-    ensures literals { OnOk result (literals_view draft.new.literals.items ≡ literals_view draft.old.literals.items ++ last_of (method_view t.now) flag draft.old.steps.items) }
+    ensures literals { OnOk result (HasLast (method_view t.now) flag draft.old draft.new) }
     ensures steps { draft.new.steps.items ≡ draft.old.steps.items }
     ensures level { draft.new.level ≡ draft.old.level }
 {

@@ -3,7 +3,7 @@
 ghost use Rattle.std.specs.Prelude.{◌≡◌, ◌+◌, ◌*◌, ◌≤◌, length, IfOk, OnOk};
 ghost use Rattle.st_emit.specs.Steps.{size};
 ghost use Rattle.st_code.specs.Methods.{passes, symbols_fault, primitive_fault, room_bit};
-ghost use Rattle.st_code.specs.MethodDrafts.{bounds_of, IsWithin};
+ghost use Rattle.st_code.specs.MethodDrafts.{bounds_of, size_with, IsWithin};
 ghost use Rattle.st_code.specs.Reported.{Reports, reported};
 
 use crate::bytes::all_reach;
@@ -55,7 +55,7 @@ pub fn primitive(number: Option<Signed>) -> Result<(), CodeFault>
 
 /// How many bytes a method has, with its header and its literals.
 fn bytes_within(made: &MethodDraft) -> Result<usize, AllocError>
-    ensures { IfOk result (λ n. n ≡ length made.now.draft.literals.items * 2 + 2 + size made.now.draft.steps.items) }
+    ensures { IfOk result (λ n. n ≡ size_with made.now) }
 {
     let literals = made.draft.literals.len();
     let pointers = sum(literals, literals)?;

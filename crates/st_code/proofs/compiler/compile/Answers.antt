@@ -1,4 +1,4 @@
-use Rattle.std.proofs.Common.{◌≡◌, Ok, ap, ◌∙◌}
+use Rattle.std.proofs.Common.{Ok, ap, ◌∙◌}
 use Rattle.st_tree.specs.Views.{method_view}
 use Rattle.st_emit.specs.NameViews.{names_view}
 use Rattle.st_emit.specs.Steps.{all_bytes}
