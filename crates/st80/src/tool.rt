@@ -40,16 +40,18 @@ pub fn tool<H: Host, S: Source>(
     }
 }
 
-/// The exit code of such a call, which is the number of its status.
+/// The exit code of such a call, which is the number of its status. Nothing is written to a file, and nothing
+/// is taken from the script.
 pub fn exit_code<H: Host, S: Source>(
     alloc: Global,
     words: &[String],
     host: &mut H,
     script: &mut S,
 ) -> ExitCode
-    ensures { let texts = map string_bytes words.now in
+    ensures ends { let texts = map string_bytes words.now in
         (status : Status) × (exit_status result ≡ number_of status)
         × CallEnds H.Host.own texts host.old host.new status }
+    ensures script { script.new ≡ script.old }
 {
     ExitCode::from(tool(alloc, words, host, script).number())
 }
