@@ -12,3 +12,6 @@ mod whole;
 pub use compiler::{MethodParts, compile};
 pub use fault::{Cause, CodeFault, Fault};
 pub use st_emit::{Literal, LiteralList, NamedOops, Names, TextList};
+
+#[cfg(test)]
+mod tests;
