@@ -2,3 +2,5 @@ pub mod Appending
 pub mod Walking
 pub mod Windows
 pub mod Doing
+pub mod Leaving
+pub mod Replaying

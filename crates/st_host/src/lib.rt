@@ -5,11 +5,13 @@ mod dir;
 mod log;
 mod memory;
 mod memory_source;
+mod replay;
 mod stdin;
 
 pub use dir::DirHost;
 pub use memory::MemHost;
 pub use memory_source::MemSource;
+pub use replay::Leave;
 pub use stdin::StdinSource;
 
 #[cfg(test)]

@@ -1,7 +1,7 @@
 // The log of a host in memory: its deeds as entries, and the bytes of all of them one after the other.
-ghost use Rattle.std.specs.Prelude.{◌≡◌, ◌++◌, ◌∷◌, [], ◌+◌, ◌<◌, ◌≤◌, length, List, ℕ, Option, None, OnOk, OnErr, vec_len, vec_capacity};
+ghost use Rattle.std.specs.Prelude.{◌≡◌, ◌++◌, ◌∷◌, [], ◌+◌, ◌<◌, ◌≤◌, length, List, ℕ, Option, None, OnOk, OnErr, IfSome, vec_len, vec_capacity};
 ghost use Rattle.st_outside.specs.Files.{bytes_of, length_of};
-ghost use Rattle.st_host.specs.Log.{entry_of, arena_size, file_of, changed, said_with, IsWindow, Overlays, Clears};
+ghost use Rattle.st_host.specs.Log.{entry_of, deed_of, deeds_of, arena_size, file_of, changed, said_with, IsWindow, Overlays, Clears};
 ghost use Rattle.st_host.specs.declared.log.Kind.TheVariants.{Put};
 
 use std::alloc::AllocError;
@@ -22,6 +22,39 @@ pub(crate) struct Entry {
     pub(crate) kind: Kind,
     pub(crate) name: usize,
     pub(crate) bytes: usize,
+}
+
+/// The first deed of a log, and what is behind it.
+#[derive(Clone, Copy, Drop)]
+pub(crate) struct First<'a> {
+    pub(crate) kind: Kind,
+    pub(crate) name: &'a [u8],
+    pub(crate) bytes: &'a [u8],
+    pub(crate) later: &'a [Entry],
+    pub(crate) rest: &'a [u8],
+}
+
+/// The first deed of a log. None where it has none.
+pub(crate) fn split_first<'a>(log: &'a [Entry], arena: &'a [u8]) -> Option<First<'a>>
+    requires { arena_size log.now ≡ length arena.now }
+    ensures deed { IfSome result (λ first.
+        deeds_of log.now arena.now ≡ deed_of first.kind first.name.now first.bytes.now ∷ deeds_of first.later.now first.rest.now) }
+    ensures size { IfSome result (λ first. arena_size first.later.now ≡ length first.rest.now) }
+    ensures fewer { IfSome result (λ first. length first.later.now < length log.now) }
+    ensures none { (result ≡ None) → log.now ≡ [] }
+{
+    let [entry, later @ ..] = log else {
+        return None;
+    };
+    let (name, rest) = arena.split_at(entry.name);
+    let (bytes, rest) = rest.split_at(entry.bytes);
+    Some(First {
+        kind: entry.kind,
+        name,
+        bytes,
+        later,
+        rest,
+    })
 }
 
 /// Appends a deed, for which there is room.

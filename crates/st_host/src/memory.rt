@@ -4,6 +4,7 @@ ghost use Rattle.st_outside.specs.Counts.{one_more, Rose, HasCause};
 ghost use Rattle.st_outside.specs.Files.{length_of, bytes_of, IsRead};
 
 use crate::log::{Entry, Kind, append, append_file, append_said, window};
+use crate::replay::{Leave, replayed};
 use st_outside::{Host, HostFault, SayFault};
 use std::alloc::{AllocError, Global};
 use std::marker::Model;
@@ -50,7 +51,8 @@ impl Model for MemHost {
 
 impl MemHost {
     ghost use Rattle.st_host.specs.HostState.{fresh, counted, with_file, with_deed, IsNextFailing, PassesRoom, ReadsOrFails};
-    ghost use Rattle.st_host.specs.Deeds.{said_after, files_after};
+    ghost use Rattle.st_host.specs.Deeds.{Synced, said_after, files_after};
+    ghost use Rattle.st_host.specs.Leave.{IsStopped, with_done, with_copy};
     ghost use Rattle.st_host.specs.Log.{deed_of, IsWindow};
 
     /// A host without files, of which no call was made. It has room for nothing.
@@ -129,13 +131,69 @@ impl MemHost {
         &self.said
     }
 
+    /// A host after a stop of this one, with what the stop left of its files. It has no room.
+    pub fn after_stop(self, alloc: Global, how: Leave) -> Result<MemHost, AllocError>
+        ensures { IfOk result (λ host. IsStopped how self host) }
+    {
+        let host = replayed(alloc, how, &self.log, &self.arena)?;
+        Ok(host)
+    }
+
+    /// Does a deed besides the room.
+    pub(crate) fn repeat(
+        &mut self,
+        alloc: Global,
+        kind: Kind,
+        name: &[u8],
+        bytes: &[u8],
+    ) -> Result<(), AllocError>
+        ensures { OnOk result (self.new ≡ with_done (deed_of kind name.now bytes.now) self.old) }
+    {
+        self.room_for(alloc, (name.len() + bytes.len()) as u64, 1)?;
+        self.add_deed(kind, name, bytes);
+        Ok(())
+    }
+
+    /// The same to a file, which is synced behind it.
+    pub(crate) fn repeat_synced(
+        &mut self,
+        alloc: Global,
+        kind: Kind,
+        name: &[u8],
+        bytes: &[u8],
+    ) -> Result<(), AllocError>
+        ensures { OnOk result (self.new ≡ with_done (Synced name.now) (with_done (deed_of kind name.now bytes.now) self.old)) }
+    {
+        self.repeat(alloc, kind, name, bytes)?;
+        self.repeat(alloc, Kind::Synced, name, &[])?;
+        Ok(())
+    }
+
+    /// Puts a file there as it reads in another host, unless it is absent there.
+    pub(crate) fn copy(
+        &mut self,
+        alloc: Global,
+        from: &MemHost,
+        name: &[u8],
+    ) -> Result<(), AllocError>
+        ensures { OnOk result (self.new ≡ with_copy name.now (files_after from.now.deeds name.now) self.old) }
+    {
+        let Some(length) = from.window(name, 0, &mut []) else {
+            return Ok(());
+        };
+        let mut bytes = vec![in alloc; 0; length as usize]?;
+        from.window(name, 0, &mut bytes);
+        self.repeat(alloc, Kind::Put, name, &bytes)?;
+        Ok(())
+    }
+
     // The length of a file. The slice takes its bytes from a place on.
     #[tactic(auto, using(crate::proofs::Walking::files_after_walk))]
-    fn window(&self, name: &str, at: u64, into: &mut [u8]) -> Option<u64>
+    fn window(&self, name: &[u8], at: u64, into: &mut [u8]) -> Option<u64>
         ensures length { result ≡ length_of (files_after self.now.deeds name.now) }
         ensures window { IsWindow (bytes_of (files_after self.now.deeds name.now)) at into.new }
     {
-        window(&self.log, &self.arena, name.as_bytes(), at, into)
+        window(&self.log, &self.arena, name, at, into)
     }
 
     // Counts a call, and says whether it is one of those that fail.
@@ -224,7 +282,7 @@ impl Host for MemHost {
         ensures cause { HasCause self.old.disk_faults self.new.disk_faults result }
     {
         self.begin_read()?;
-        Ok(self.window(name, 0, &mut []))
+        Ok(self.window(name.as_bytes(), 0, &mut []))
     }
 
     fn read_at(&mut self, name: &str, at: u64, into: &mut [u8]) -> Result<usize, HostFault>
@@ -234,7 +292,7 @@ impl Host for MemHost {
         ensures cause { HasCause self.old.disk_faults self.new.disk_faults result }
     {
         self.begin_read()?;
-        let length = self.window(name, at, into).unwrap_or(0);
+        let length = self.window(name.as_bytes(), at, into).unwrap_or(0);
         Ok(into.len().min(length.saturating_sub(at) as usize))
     }
 
