@@ -1,7 +1,8 @@
 // What no clause says: that calls succeed, and that the outside itself is reached. All is called through the traits,
 // so that the same is asked of each host.
-use crate::{DirHost, MemHost, MemSource, StdinSource};
+use crate::{DirHost, Leave, MemHost, MemSource, StdinSource};
 use st_outside::{Host, HostFault, ReadFault, SayFault, Source, file_length, read_from, say_all};
+use std::alloc::Global;
 use std::fs;
 use std::process::Abort;
 use std::test::Fail;
@@ -112,6 +113,48 @@ fn a_host_in_memory_fails_where_it_is_told_to(rt: HostRuntime) -> Result<(), Fai
     check_says(&rt, &mut host, b"x", Ok(()));
     check_says(&rt, &mut host, b"y", Err(SayFault));
     assert_eq!(rt; host.said(), b"x".as_slice());
+    Ok(())
+}
+
+// Writes past the last sync into a file that was put, and into one that was synced, and makes a third.
+fn write_past_a_sync<H: Host>(rt: &impl Abort, host: &mut H) {
+    assert_eq!(rt; host.write_at("synced", 0, b"abc"), Ok(()));
+    assert_eq!(rt; host.sync("synced"), Ok(()));
+    assert_eq!(rt; host.write_at("synced", 1, b"xy"), Ok(()));
+    assert_eq!(rt; host.write_at("put", 2, b"xyz"), Ok(()));
+    assert_eq!(rt; host.write_at("made", 1, b"z"), Ok(()));
+}
+
+// A host that was stopped then.
+fn stopped_host(rt: &impl Abort, alloc: Global, how: Leave) -> Result<MemHost, Fail> {
+    let mut host = MemHost::new(alloc)?;
+    host.put(alloc, "put", b"abc")?;
+    host.room_for(alloc, 34, 5)?;
+    write_past_a_sync(rt, &mut host);
+    Ok(host.after_stop(alloc, how)?)
+}
+
+#[test]
+fn a_stop_leaves_files_as_at_their_last_sync(rt: HostRuntime) -> Result<(), Fail> {
+    let mut host = stopped_host(&rt, rt.alloc(), Leave::Old)?;
+    check_file(&rt, &mut host, "put", b"abc");
+    check_file(&rt, &mut host, "synced", b"abc");
+    check_length(&rt, &mut host, "made", Ok(None));
+    Ok(())
+}
+
+#[test]
+fn a_stop_leaves_what_was_written_or_ones(rt: HostRuntime) -> Result<(), Fail> {
+    let rows: [(Leave, &[u8], &[u8], &[u8]); 2] = [
+        (Leave::New, b"abxyz", b"axy", b"\0z"),
+        (Leave::Ones, b"ab\xFF\xFF\xFF", b"a\xFF\xFF", b"\0\xFF"),
+    ];
+    for (how, put, synced, made) in rows {
+        let mut host = stopped_host(&rt, rt.alloc(), how)?;
+        check_file(&rt, &mut host, "put", put);
+        check_file(&rt, &mut host, "synced", synced);
+        check_file(&rt, &mut host, "made", made);
+    }
     Ok(())
 }
 
