@@ -1,7 +1,7 @@
 use st_model::Oop;
 
 /// Words that lie one after another. A block without an owner is a hole, or nothing where it has no words.
-#[derive(Clone, Copy, Debug, PartialEq, Eq)]
+#[derive(Clone, Copy)]
 pub struct Block {
     /// The pointer whose object the words are, or 0, which no object bears.
     pub owner: Oop,

@@ -1,7 +1,7 @@
 use st_model::{Kind, Oop};
 
 /// What the table keeps of an object.
-#[derive(Clone, Copy, Debug, PartialEq, Eq)]
+#[derive(Clone, Copy)]
 pub struct Entry {
     /// The place of the object's first word in the heap.
     pub at: u32,
