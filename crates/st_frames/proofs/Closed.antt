@@ -1,14 +1,15 @@
 -- What a memory says of itself makes the state that it shows closed.
-use Rattle.std.proofs.Common.{◌≡◌, ℕ, List, [], ◌∷◌, ◌++◌, Option, Some, None, true, refl, is_some}
+use Rattle.std.proofs.Common.{◌≡◌, ℕ, suc, List, [], ◌∷◌, ◌++◌, Option, Some, None, true, refl, is_some, subst}
+use Rattle.std.specs.Prelude.{◌-◌, length, replicate, slice_index_or}
 use Rattle.st_model.specs.Values.{Value, Small, Ref, value, AllLive, IsLive}
 use Rattle.st_model.specs.Objects.{Object, nil, place_of}
-use Rattle.st_model.specs.declared.page.PageObject.TheVariants.{NilObject}
-use Rattle.st_model.specs.Machine.{table_root, head_roots, device_roots, empty_world}
+use Rattle.st_model.specs.declared.place.RootPlace.TheVariants as place
+use Rattle.st_model.specs.Machine.{Devices, World, table_root, head_roots, device_roots}
 use Rattle.st_model.specs.Table.{Table, entry}
 use Rattle.st_model.specs.Show.{IsUsed, IsClosed}
 use Rattle.st_model.specs.View.{View, is_live, IsKnown, IsWhole}
 use Rattle.st_frames.specs.declared.frame.Frame.{Frame}
-use Rattle.st_frames.specs.Shown.{shown, IsFrame}
+use Rattle.st_frames.specs.Shown.{shown, filled, IsReady}
 use Rattle.st_frames.proofs.Known.{known_active, known_home, known_method, known_receiver}
 
 some_used : (x : Option Object) → is_some x ≡ true → (o : Object) × x ≡ Some o
@@ -35,13 +36,32 @@ root_live : (t : Table) (r : Option Value) → ((x : Value) → r ≡ Some x →
 root_live t None f = tt
 root_live t (Some x) f = (live_used t x (f x refl), tt)
 
-pub is_closed : (v : View) (f : Frame) → IsWhole v → IsFrame v f → IsClosed (shown v f)
-is_closed v f w frame =
+-- what stands before others in a list of what is known
+all_live : (t : Table) (xs ys : List Value) → ((k : ℕ) → IsKnown t (slice_index_or (xs ++ ys) k nil)) → AllLive (IsUsed t) xs
+all_live t [] ys h = tt
+all_live t (x ∷ xs) ys h = (known_live t x (h 0), all_live t xs ys (λ k. h (suc k)))
+
+-- what the memory holds for the devices is there
+devices_live : (v : View) (d : Devices) → IsWhole v → v.held.devices ≡ filled d → AllLive (IsUsed v.objects) (device_roots d)
+devices_live v d w e =
+    let t = v.objects in
+    let at : (p : Devices → Value) → IsKnown t (p v.held.devices) → IsLive (IsUsed t) (p (filled d)) = λ p k. known_live t (p (filled d)) (subst (λ (x : Devices). IsKnown t (p x)) e k) in
+    (at (λ x. x.new_process) (w.held place.NewProcess),
+     (at (λ x. x.display) (w.held place.Display),
+      (at (λ x. x.cursor) (w.held place.Cursor),
+       (at (λ x. x.input_semaphore) (w.held place.InputSemaphore),
+        (at (λ x. x.timer) (w.held place.Timer),
+         (at (λ x. x.low_space) (w.held place.LowSpace),
+          all_live t d.pending (replicate (4096 - length d.pending) nil)
+          (λ k. subst (λ (x : Devices). IsKnown t (slice_index_or x.pending k nil)) e (w.held (place.Pending k)))))))))
+
+pub is_closed : (v : View) (f : Frame) (world : World) → IsWhole v → IsReady v f world → IsClosed (shown v f world)
+is_closed v f world w ready =
+    let frame = ready.frame in
     let t = v.objects in
     let page : (n : ℕ) → is_live t (Ref n) ≡ true → IsUsed t n = used t in
-    let empty = used t (place_of NilObject) (w.complete.page NilObject) in
     let tables = both_live (IsUsed t) (table_root v.head.globals) (table_root v.head.symbols) (root_live t v.head.globals w.complete.globals) (root_live t v.head.symbols w.complete.symbols) in
-    let devices : AllLive (IsUsed t) (device_roots (empty_world nil).devices) = (empty, (empty, (empty, (empty, (empty, (empty, tt)))))) in
+    let devices = devices_live v world.devices w ready.devices in
     record {
       objects = w.complete.objects;
       page = λ q. used t (place_of q) (w.complete.page q);
@@ -51,7 +71,7 @@ is_closed v f w frame =
           known_live t (value f.home) (known_home w frame),
           (
             known_live t (value f.method) (known_method w frame),
-            (known_live t (value f.receiver) (known_receiver w frame), both_live (IsUsed t) (head_roots v.head) (device_roots (empty_world nil).devices) tables devices),
+            (known_live t (value f.receiver) (known_receiver w frame), both_live (IsUsed t) (head_roots v.head) (device_roots world.devices) tables devices),
           ),
         ),
       );
