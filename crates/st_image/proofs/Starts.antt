@@ -1,17 +1,18 @@
 -- The tenth row, and the state in which the machine begins.
-use Rattle.std.proofs.Common.{◌≡◌, ℕ, ◌<◌, List, length, refl, sym, ap, ◌∙◌, arith, inl, inr}
+use Rattle.std.proofs.Common.{◌≡◌, ℕ, ◌<◌, List, length, refl, sym, ap, ◌∙◌, arith, inl, inr, Ok, Err}
 use Rattle.st_model.specs.declared.dead.Dead.{Dead}
 use Rattle.st_model.specs.declared.fault.ImageFault.{ImageFault}
 use Rattle.st_model.specs.declared.fault.ImageFault.TheVariants.{Short, Scheduler}
 use Rattle.st_model.specs.declared.head.ImageHead.{ImageHead}
-use Rattle.st_model.specs.Machine.{State, Registers, Died, Went}
+use Rattle.st_model.specs.Objects.{nil}
+use Rattle.st_model.specs.Machine.{State, Died, Went, empty_world}
 use Rattle.st_model.specs.Table.{Table, table}
 use Rattle.st_model.specs.View.{View, no_devices, empty_view, nothing_held}
 use Rattle.st_model.specs.Contexts.{fetch_scheduled_registers}
 use Rattle.st_model.specs.Start.{start_view, start, idle_state, idle_registers}
 use Rattle.st_model.specs.Faults.{Fails, row, Sooner, short_fails, IsImageFault, IsWellFormed}
 use Rattle.st_frames.specs.declared.frame.Frame.{Frame}
-use Rattle.st_frames.specs.Shown.{StaysFrame, with_registers, shown}
+use Rattle.st_frames.specs.Shown.{StaysFrame, FetchesFrame, shown}
 use Rattle.st_image.specs.declared.error.ReadImage.{ReadImage}
 use Rattle.st_image.specs.declared.error.ReadImage.TheVariants.{Fault, OutOfMemory}
 use Rattle.st_image.specs.Rows.{IsReadFault, IsCleanBelow}
@@ -41,23 +42,27 @@ unfolding Fails
 is_well_formed h bytes s clean went Scheduler fails = let a = sym went ∙ fails.1 in cc
 is_well_formed h bytes s clean went g fails = clean g (omega arith) fails
 
+-- the registers that are fetched from the one memory are those of the other
+abbrev Fetches : View → View → Frame → Type 0
+Fetches v w f = FetchesFrame (fetch_scheduled_registers table) v (Ok f) w
+
 -- the registers that are fetched from a memory of the image's objects are those of the start
 pub start_went : (h : ImageHead) (bytes : List ℕ) (v w : View) (f : Frame) → v ≡ start_view h bytes
-    → ((r : Registers) → (fetch_scheduled_registers table).run (with_registers v r) ≡ Went tt (shown w f)) → start h bytes ≡ Went tt (shown w f)
+    → Fetches v w f → start h bytes ≡ Went tt (shown w f (empty_world nil))
 unfolding start
-start_went h bytes v w f e fetched = ap (λ (u : View). (fetch_scheduled_registers table).run (idle_state u)) (sym e) ∙ fetched idle_registers
+start_went h bytes v w f e fetched = ap (λ (u : View). (fetch_scheduled_registers table).run (idle_state u)) (sym e) ∙ fetched idle_registers (empty_world nil)
 
 pub start_died : (h : ImageHead) (bytes : List ℕ) (v : View) (cause : Dead) → v ≡ start_view h bytes
-    → ((r : Registers) → (fetch_scheduled_registers table).run (with_registers v r) ≡ Died cause) → start h bytes ≡ Died cause
+    → FetchesFrame (fetch_scheduled_registers table) v (Err cause) v → start h bytes ≡ Died cause
 unfolding start
-start_died h bytes v cause e fetched = ap (λ (u : View). (fetch_scheduled_registers table).run (idle_state u)) (sym e) ∙ fetched idle_registers
+start_died h bytes v cause e fetched = ap (λ (u : View). (fetch_scheduled_registers table).run (idle_state u)) (sym e) ∙ fetched idle_registers (empty_world nil)
 
 start_devices : (h : ImageHead) (bytes : List ℕ) → (start_view h bytes).held.devices ≡ no_devices
 unfolding start_view empty_view nothing_held
 start_devices h bytes = refl
 
 pub is_start : (h : ImageHead) (bytes : List ℕ) (v w : View) (f : Frame) → v ≡ start_view h bytes → w.objects ≡ v.objects → w.head ≡ v.head → StaysFrame v w f
-    → ((r : Registers) → (fetch_scheduled_registers table).run (with_registers v r) ≡ Went tt (shown w f)) → IsStart h bytes w f
+    → Fetches v w f → IsStart h bytes w f
 is_start h bytes v w f e objects head stays fetched = record {
   objects = objects ∙ ap (λ (u : View). u.objects) e;
   head = head ∙ ap (λ (u : View). u.head) e;

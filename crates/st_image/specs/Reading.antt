@@ -1,7 +1,8 @@
 -- What the reading of an image answers.
 use Rattle.std.specs.Prelude.{◌≡◌, ℕ, List}
 use Rattle.st_model.specs.declared.head.ImageHead.{ImageHead}
-use Rattle.st_model.specs.Machine.{Went}
+use Rattle.st_model.specs.Objects.{nil}
+use Rattle.st_model.specs.Machine.{Went, empty_world}
 use Rattle.st_model.specs.View.{View, no_devices}
 use Rattle.st_model.specs.Start.{start_view, start}
 use Rattle.st_frames.specs.declared.frame.Frame.{Frame}
@@ -14,4 +15,4 @@ pub record IsStart (h : ImageHead) (bytes : List ℕ) (v : View) (f : Frame) : T
   pub head : v.head ≡ (start_view h bytes).head
   pub devices : v.held.devices ≡ no_devices
   pub frame : IsFrame v f
-  pub state : start h bytes ≡ Went tt (shown v f)
+  pub state : start h bytes ≡ Went tt (shown v f (empty_world nil))

@@ -3,7 +3,7 @@ use Rattle.std.proofs.Common.{◌≡◌, ℕ, ◌+◌, ◌-◌, List, ◌++◌, 
 use Rattle.st_model.specs.declared.demand.Demand.{Demand}
 use Rattle.st_model.specs.Outcomes.{Ending, With, Space, Unbuilt, renamed_ending}
 use Rattle.st_model.specs.Outcomes as outcome
-use Rattle.st_model.specs.Machine.{State, Transition, Died, Went}
+use Rattle.st_model.specs.Machine.{State, World, Transition, Died, Went}
 use Rattle.st_model.specs.Births.{Births, births}
 use Rattle.st_model.specs.Table.{Table}
 use Rattle.st_model.specs.Cycles.{run, finished}
@@ -15,7 +15,7 @@ use Rattle.st_model.proofs.Raised.{raised_shown}
 use Rattle.st_model.proofs.Texts.{text_is}
 use Rattle.st_model.proofs.Showing.{show_is}
 use Rattle.st_frames.specs.declared.frame.Frame.{Frame}
-use Rattle.st_frames.specs.Shown.{IsFrame, shown}
+use Rattle.st_frames.specs.Shown.{IsReady, shown}
 use Rattle.st_frames.proofs.Closed.{is_closed}
 use Rattle.st_machine.specs.declared.ending.RunEnd.{RunEnd}
 use Rattle.st_machine.specs.declared.ending.RunEnd.TheVariants as end
@@ -81,10 +81,10 @@ module _ (n d k : ℕ) (c : State Table) (places : length c.memory ≡ 32768) wh
 begun : (n : ℕ) (s : State Births) → run_text n s ≡ text_at (finished births n s) (n - finished births n s) (run births n s)
 begun n s = let e : 0 + finished births n s ≡ finished births n s = omega arith in text_is n 0 s ∙ ap (λ i. text_at i (n - finished births n s) (run births n s)) e
 
-pub run_is : (v w : View) (f g : Frame) (n : ℕ) (e : RunEnd) → IsWhole v → IsFrame v f → IsWhole w → AsksNothing e
-    → ((s : State Births) → Shows (shown v f) s → EndsAs n s e (shown w g))
-    → end_text n e ++ rest_text e (shown w g) ≡ run_text n (raised (shown v f))
-run_is v w f g n e whole frame whole_after asks ends =
-    let s = raised (shown v f) in
-    let end = ends s (raised_shown (shown v f) (is_closed v f whole frame)) in
-    sym (begun n s ∙ said n (finished births n s) (n - finished births n s) (shown w g) whole_after.places e asks end.count (run births n s) end.ends)
+pub run_is : (v u : View) (f g : Frame) (w x : World) (n : ℕ) (e : RunEnd) → IsWhole v → IsReady v f w → IsWhole u → AsksNothing e
+    → ((s : State Births) → Shows (shown v f w) s → EndsAs n s e (shown u g x))
+    → end_text n e ++ rest_text e (shown u g x) ≡ run_text n (raised (shown v f w))
+run_is v u f g w x n e whole ready whole_after asks ends =
+    let s = raised (shown v f w) in
+    let end = ends s (raised_shown (shown v f w) (is_closed v f w whole ready)) in
+    sym (begun n s ∙ said n (finished births n s) (n - finished births n s) (shown u g x) whole_after.places e asks end.count (run births n s) end.ends)

@@ -3,10 +3,9 @@ ghost use Rattle.st_outside.specs.Files.{bytes_of};
 ghost use Rattle.st_outside.specs.Runs.{OnlyReads};
 ghost use Rattle.st_model.specs.Image.{image_head};
 ghost use Rattle.st_model.specs.View.{no_devices};
-ghost use Rattle.st_frames.specs.Shown.{IsFrame};
+ghost use Rattle.st_frames.specs.Shown.{IsFrame, IsReady};
 ghost use Rattle.st_image.specs.Reading.{IsStart};
 ghost use Rattle.st_once.specs.Ends.{IsReadable, IsRefusal, RefusalHasCause};
-ghost use Rattle.st_machine.specs.Machines.{IsReady};
 
 use crate::refusal::Refusal;
 use st_frames::Loaded;
