@@ -3,20 +3,15 @@ use Rattle.std.proofs.Common.{◌≡◌, ℕ, ◌+◌, ◌-◌, List, ◌++◌, 
 use Rattle.st_model.specs.declared.demand.Demand.{Demand}
 use Rattle.st_model.specs.Outcomes.{Ending, With, Space, Unbuilt, renamed_ending}
 use Rattle.st_model.specs.Outcomes as outcome
-use Rattle.st_model.specs.Machine.{State, World, Transition, Died, Went}
+use Rattle.st_model.specs.Machine.{State, Transition, Died, Went}
 use Rattle.st_model.specs.Births.{Births, births}
 use Rattle.st_model.specs.Table.{Table}
 use Rattle.st_model.specs.Cycles.{run, finished}
 use Rattle.st_model.specs.Foreseen.{EndsShown}
-use Rattle.st_model.specs.Show.{Shows, show, raised, pointer_of}
+use Rattle.st_model.specs.Show.{Shows, show, pointer_of}
 use Rattle.st_model.specs.Text.{state_text, ran_text, dead_text, unbuilt_text, space_text, text_at, run_text}
-use Rattle.st_model.specs.View.{View, IsWhole}
-use Rattle.st_model.proofs.Raised.{raised_shown}
 use Rattle.st_model.proofs.Texts.{text_is}
 use Rattle.st_model.proofs.Showing.{show_is}
-use Rattle.st_frames.specs.declared.frame.Frame.{Frame}
-use Rattle.st_frames.specs.Shown.{IsReady, shown}
-use Rattle.st_frames.proofs.Closed.{is_closed}
 use Rattle.st_machine.specs.declared.ending.RunEnd.{RunEnd}
 use Rattle.st_machine.specs.declared.ending.RunEnd.TheVariants as end
 use Rattle.st_machine.specs.Runs.{EndsAs, AsksNothing, cycles_of, transition_at}
@@ -81,10 +76,5 @@ module _ (n d k : ℕ) (c : State Table) (places : length c.memory ≡ 32768) wh
 begun : (n : ℕ) (s : State Births) → run_text n s ≡ text_at (finished births n s) (n - finished births n s) (run births n s)
 begun n s = let e : 0 + finished births n s ≡ finished births n s = omega arith in text_is n 0 s ∙ ap (λ i. text_at i (n - finished births n s) (run births n s)) e
 
-pub run_is : (v u : View) (f g : Frame) (w x : World) (n : ℕ) (e : RunEnd) → IsWhole v → IsReady v f w → IsWhole u → AsksNothing e
-    → ((s : State Births) → Shows (shown v f w) s → EndsAs n s e (shown u g x))
-    → end_text n e ++ rest_text e (shown u g x) ≡ run_text n (raised (shown v f w))
-run_is v u f g w x n e whole ready whole_after asks ends =
-    let s = raised (shown v f w) in
-    let end = ends s (raised_shown (shown v f w) (is_closed v f w whole ready)) in
-    sym (begun n s ∙ said n (finished births n s) (n - finished births n s) (shown u g x) whole_after.places e asks end.count (run births n s) end.ends)
+pub run_is : (s : State Births) (c : State Table) (n : ℕ) (e : RunEnd) → length c.memory ≡ 32768 → AsksNothing e → EndsAs n s e c → end_text n e ++ rest_text e c ≡ run_text n s
+run_is s c n e places asks end = sym (begun n s ∙ said n (finished births n s) (n - finished births n s) c places e asks end.count (run births n s) end.ends)

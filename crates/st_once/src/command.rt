@@ -2,7 +2,9 @@ ghost use Rattle.std.specs.Prelude.{◌≡◌, ℕ, List, OnOk, None};
 ghost use Rattle.st_outside.specs.Counts.{HasCause};
 ghost use Rattle.st_outside.specs.Files.{bytes_of};
 ghost use Rattle.st_outside.specs.Runs.{ReadsAndSays, SaysAll};
-ghost use Rattle.st_model.specs.Show.{raised};
+ghost use Rattle.st_model.specs.Machine.{State};
+ghost use Rattle.st_model.specs.Births.{Births};
+ghost use Rattle.st_model.specs.Show.{Shows};
 ghost use Rattle.st_model.specs.Text.{run_text};
 ghost use Rattle.st_frames.specs.Shown.{IsReady, shown};
 ghost use Rattle.st_report.specs.Saying.{Says};
@@ -25,10 +27,11 @@ fn run_and_report<H: Host, M: Memory>(
 ) -> Result<(), SayFault>
     requires ready { IsReady (M.view machine.old.memory) machine.old.frame machine.old.world }
     requires alive { machine.old.death ≡ None }
-    ensures all { let state = raised (shown (M.view machine.old.memory) machine.old.frame machine.old.world) in
-        OnOk result (SaysAll H.Host.own (run_text cycles state) host.old host.new) }
-    ensures says { let state = raised (shown (M.view machine.old.memory) machine.old.frame machine.old.world) in
-        Says H.Host.own (run_text cycles state) host.old host.new }
+    ensures all { let first = shown (M.view machine.old.memory) machine.old.frame machine.old.world in
+        (s : State Births) → Shows first s →
+        OnOk result (SaysAll H.Host.own (run_text cycles s) host.old host.new) }
+    ensures says { let first = shown (M.view machine.old.memory) machine.old.frame machine.old.world in
+        (s : State Births) → Shows first s → Says H.Host.own (run_text cycles s) host.old host.new }
     ensures cause { HasCause (H.say_faults host.old) (H.say_faults host.new) result }
 {
     let end = machine.run(cycles);
