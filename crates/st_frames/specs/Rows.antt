@@ -42,7 +42,8 @@ pub record Takes {M : Type 0} (o : Ghosts M) (most : ℕ) (old new : M) : Type 0
   pub fixed : o.fixed new ≡ o.fixed old
 
 -- how many changes are made at most: by what activates a method; by a send, which may make a Message; by a jump on a
--- condition and by a return, which may send; and by a bytecode
+-- condition and by a return, which may send; by each of these with the activation of what was called; and by a bytecode,
+-- of which a return makes the most
 abbrev pub activation_changes : ℕ
 activation_changes = 8
 
@@ -55,5 +56,14 @@ jump_changes = 7
 abbrev pub return_changes : ℕ
 return_changes = 8
 
+abbrev pub executed_send_changes : ℕ
+executed_send_changes = send_changes + activation_changes
+
+abbrev pub executed_jump_changes : ℕ
+executed_jump_changes = jump_changes + activation_changes
+
+abbrev pub executed_return_changes : ℕ
+executed_return_changes = return_changes + activation_changes
+
 abbrev pub bytecode_changes : ℕ
-bytecode_changes = 16
+bytecode_changes = executed_return_changes

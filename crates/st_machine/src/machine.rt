@@ -54,8 +54,9 @@ impl<M: Memory> Machine<M> {
             → IsReady (M.view self.new.memory) self.new.frame self.new.world }
         ensures left { self.old.death ≡ None
             → IsReady (M.view self.new.memory) self.new.frame self.new.world }
-        ensures ends { self.old.death ≡ None → let first = shown (M.view self.old.memory) self.old.frame self.old.world in
-            EndsFrom n first result (shown (M.view self.new.memory) self.new.frame self.new.world) }
+        ensures ends { let first = shown (M.view self.old.memory) self.old.frame self.old.world in
+            let last = shown (M.view self.new.memory) self.new.frame self.new.world in
+            self.old.death ≡ None → EndsFrom n first result last }
         ensures death { self.old.death ≡ None → self.new.death ≡ death_of result }
         ensures dead { (cause : _) → self.old.death ≡ Some cause
             → (result ≡ DeadEnd 0 cause) × (self.new ≡ self.old) }

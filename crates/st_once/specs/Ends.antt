@@ -16,7 +16,7 @@ use Rattle.st_model.specs.Start.{begin}
 use Rattle.st_model.specs.Text.{numbers_text, ran_text, dead_text, unbuilt_text, space_text, quit_text, debugger_text, state_text, run_text}
 use Rattle.st_machine.specs.declared.ending.RunEnd.{RunEnd}
 use Rattle.st_machine.specs.declared.ending.RunEnd.TheVariants as end
-use Rattle.st_once.specs.Words.{once_of, word}
+use Rattle.st_once.specs.Words.{once_of, word_at}
 use Rattle.st_once.specs.declared.refusal.Refusal.{Refusal}
 use Rattle.st_once.specs.declared.refusal.Refusal.TheVariants as refusal
 use Rattle.st_once.specs.declared.status.Status.{Status}
@@ -162,6 +162,6 @@ module _ {D : Type 0} (host : Ghosts D) where
   pub record CallEnds (words : List (List ℕ)) (old new : D) (status : Status) : Type 0 where
     pub usage : once_of words ≡ None → (status ≡ Usage) × SaysLastLine Usage old new
     pub once : (n : ℕ) → once_of words ≡ Some n
-        → OnceEnds (bytes_of (host.files old (word words 1))) n old new status
+        → OnceEnds (bytes_of (host.files old (word_at words 1))) n old new status
     pub cause : StatusHasCause old new status
     pub reads : (text : List ℕ) × ReadsAndSays host text old new

@@ -16,20 +16,24 @@ loop-done-init g c = record {
 
 pub returns-in-Some-clause-ends : goal.returns-in-Some-clause-ends
 returns-in-Some-clause-ends g c = λ s h.
-    let v = g.M.Memory.view c.cycle.new.m in
-    let start = shown (g.M.Memory.view c.loop-done.m) c.loop-done.f c.loop-done.w in
-    let sound : IsSound (shown v c.cycle.new.f c.cycle.new.w) = record { places = (g.met.M.Memory.whole c.cycle.new.m).places; closed = is_closed v c.cycle.new.f c.cycle.new.w (g.met.M.Memory.whole c.cycle.new.m) c.cycle.ensures.ready } in
-    ends_here c.loop-done.done s start (g.met.M.Memory.whole c.loop-done.m).places (c.loop-done.invariant.shows s h) c.args.n c.cycle.result c.in-Some.end (shown v c.cycle.new.f c.cycle.new.w) c.loop-done-test.true c.cycle.ensures.cycle (sym c.in-Some.ensures) sound
+    let v = g.M.Memory.view c.loop-done.m in
+    let whole = g.met.M.Memory.whole c.loop-done.m in
+    let start = shown v c.loop-done.f c.loop-done.w in
+    let sound : IsSound start = record { places = whole.places; closed = is_closed v c.loop-done.f c.loop-done.w whole c.loop-done.invariant.ready } in
+    let after = shown (g.M.Memory.view c.cycle.new.m) c.cycle.new.f c.cycle.new.w in
+    ends_here c.loop-done.done s start sound whole.most_entries (c.loop-done.invariant.shows s h) c.args.n c.cycle.result c.in-Some.end after c.loop-done-test.true c.cycle.ensures.cycle (sym c.in-Some.ensures)
 
 pub loop-done-preserved : goal.loop-done-preserved
 loop-done-preserved g c =
-    let v = g.M.Memory.view c.cycle.new.m in
-    let start = shown (g.M.Memory.view c.loop-done.m) c.loop-done.f c.loop-done.w in
-    let sound : IsSound (shown v c.cycle.new.f c.cycle.new.w) = record { places = (g.met.M.Memory.whole c.cycle.new.m).places; closed = is_closed v c.cycle.new.f c.cycle.new.w (g.met.M.Memory.whole c.cycle.new.m) c.cycle.ensures.ready } in
+    let v = g.M.Memory.view c.loop-done.m in
+    let whole = g.met.M.Memory.whole c.loop-done.m in
+    let start = shown v c.loop-done.f c.loop-done.w in
+    let sound : IsSound start = record { places = whole.places; closed = is_closed v c.loop-done.f c.loop-done.w whole c.loop-done.invariant.ready } in
+    let after = shown (g.M.Memory.view c.cycle.new.m) c.cycle.new.f c.cycle.new.w in
     record {
       ready = c.cycle.ensures.ready;
       world = c.cycle.ensures.world ∙ c.loop-done.invariant.world;
-      shows = λ s h. goes_further c.loop-done.done s start (g.met.M.Memory.whole c.loop-done.m).places (c.loop-done.invariant.shows s h) c.cycle.result (shown v c.cycle.new.f c.cycle.new.w) c.cycle.ensures.cycle (sym c.in_default.ensures) sound;
+      shows = λ s h. goes_further c.loop-done.done s start sound whole.most_entries (c.loop-done.invariant.shows s h) c.cycle.result after c.cycle.ensures.cycle (sym c.in_default.ensures);
     }
 
 pub returns-clause-ends : goal.returns-clause-ends
