@@ -10,6 +10,8 @@ pub mod Methods
 pub mod Contexts
 pub mod Lookup
 pub mod Sends
+pub mod Primitives
+pub mod Storage
 pub mod Executing
 pub mod Returns
 pub mod Bytecodes
