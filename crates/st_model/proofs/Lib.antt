@@ -49,3 +49,4 @@ mod DecodedRows
 pub mod Opened
 mod Rows
 mod SendRows
+mod StorageRows
