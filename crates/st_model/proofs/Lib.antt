@@ -46,6 +46,7 @@ pub mod Making
 mod ImageRows
 mod OperationRows
 mod DecodedRows
+mod IntegerRows
 pub mod Opened
 mod Rows
 mod SendRows

@@ -10,6 +10,7 @@ pub mod Methods
 pub mod Contexts
 pub mod Lookup
 pub mod Sends
+pub mod Integers
 pub mod Executing
 pub mod Returns
 pub mod Bytecodes
