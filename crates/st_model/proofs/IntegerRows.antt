@@ -3,11 +3,11 @@ use Rattle.std.proofs.Common.{◌≡◌, ℕ, List, [], ◌∷◌, ◌++◌, Opt
 use Rattle.std.specs.Prelude.{map, ℤ, pos, neg_ℤ}
 use Rattle.st_model.specs.declared.integers.IntAnswer.{IntAnswer}
 use Rattle.st_model.specs.declared.integers.IntAnswer.TheVariants.{Number, Truth, Point}
-use Rattle.st_model.specs.Integers.{number, exact_quotient, modulo, quotient_down, quotient, binary}
+use Rattle.st_model.specs.Integers.{within_range, exact_quotient, modulo, quotient_down, quotient, binary}
 
 -- opens what they compute
 unfoldable pub computed : Unit {0}
-unfolding number exact_quotient modulo quotient_down quotient binary
+unfolding within_range exact_quotient modulo quotient_down quotient binary
 computed = tt
 
 abbrev minus : ℕ → ℤ

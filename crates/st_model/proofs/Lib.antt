@@ -4,6 +4,7 @@ pub mod StepsSame
 pub mod ContextsSame
 pub mod LookupSame
 pub mod SendsSame
+pub mod PrimitivesSame
 pub mod ExecutingSame
 pub mod ReturnsSame
 pub mod BytecodesSame
@@ -50,3 +51,4 @@ mod IntegerRows
 pub mod Opened
 mod Rows
 mod SendRows
+mod ArithmeticRows

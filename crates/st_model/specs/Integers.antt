@@ -10,8 +10,8 @@ is_zero (pos n) = n == 0
 is_zero (negsuc n) = false
 
 -- the integer, where there is a SmallInteger of it: from -16384 to 16383
-unfoldable pub number : ℤ → Option IntAnswer
-number z = if int_lt z (negsuc 16383) then None else if int_lt (pos 16383) z then None else Some (Number z)
+unfoldable pub within_range : ℤ → Option IntAnswer
+within_range z = if int_lt z (negsuc 16383) then None else if int_lt (pos 16383) z then None else Some (Number z)
 
 -- The quotient toward minus infinity. That of Euclid, whose remainder is not below 0, is it where the divisor is above 0.
 abbrev pub floor_quotient : ℤ → ℤ → ℤ
@@ -19,19 +19,19 @@ floor_quotient a b = if int_lt b (pos 0) then int_div_euclid (neg_ℤ a) (neg_�
 
 -- 10: the quotient, where nothing remains
 unfoldable pub exact_quotient : ℤ → ℤ → Option IntAnswer
-exact_quotient a b = if is_zero b then None else if is_zero (int_rem a b) then number (int_div a b) else None
+exact_quotient a b = if is_zero b then None else if is_zero (int_rem a b) then within_range (int_div a b) else None
 
 -- 11: what remains of the quotient toward minus infinity
 unfoldable pub modulo : ℤ → ℤ → Option IntAnswer
-modulo a b = if is_zero b then None else number (a -ℤ (b *ℤ floor_quotient a b))
+modulo a b = if is_zero b then None else within_range (a -ℤ (b *ℤ floor_quotient a b))
 
 -- 12
 unfoldable pub quotient_down : ℤ → ℤ → Option IntAnswer
-quotient_down a b = if is_zero b then None else number (floor_quotient a b)
+quotient_down a b = if is_zero b then None else within_range (floor_quotient a b)
 
 -- 13: the quotient toward 0
 unfoldable pub quotient : ℤ → ℤ → Option IntAnswer
-quotient a b = if is_zero b then None else number (int_div a b)
+quotient a b = if is_zero b then None else within_range (int_div a b)
 
 -- 17: a times 2 to the power b, toward minus infinity
 abbrev pub shifted : ℤ → ℤ → ℤ
@@ -42,21 +42,21 @@ shifted a (negsuc b) = int_div_euclid a (pos (2 ^ suc b))
 -- exclusive or of all bits in two's complement; 18 the Point of both.
 unfoldable pub binary : ℕ → ℤ → ℤ → Option IntAnswer
 binary n a b =
-    if n == 1 then number (a +ℤ b) else
-    if n == 2 then number (a -ℤ b) else
+    if n == 1 then within_range (a +ℤ b) else
+    if n == 2 then within_range (a -ℤ b) else
     if n == 3 then Some (Truth (int_lt a b)) else
     if n == 4 then Some (Truth (int_lt b a)) else
     if n == 5 then Some (Truth (int_le a b)) else
     if n == 6 then Some (Truth (int_le b a)) else
     if n == 7 then Some (Truth (int_eq a b)) else
     if n == 8 then Some (Truth (not (int_eq a b))) else
-    if n == 9 then number (a *ℤ b) else
+    if n == 9 then within_range (a *ℤ b) else
     if n == 10 then exact_quotient a b else
     if n == 11 then modulo a b else
     if n == 12 then quotient_down a b else
     if n == 13 then quotient a b else
-    if n == 14 then number (int_bit_and w16 a b) else
-    if n == 15 then number (int_bit_or w16 a b) else
-    if n == 16 then number (int_bit_xor w16 a b) else
-    if n == 17 then number (shifted a b) else
+    if n == 14 then within_range (int_bit_and w16 a b) else
+    if n == 15 then within_range (int_bit_or w16 a b) else
+    if n == 16 then within_range (int_bit_xor w16 a b) else
+    if n == 17 then within_range (shifted a b) else
     if n == 18 then Some (Point a b) else None

@@ -11,6 +11,8 @@ pub mod Contexts
 pub mod Lookup
 pub mod Sends
 pub mod Integers
+pub mod Primitives
+pub mod Arithmetic
 pub mod Executing
 pub mod Returns
 pub mod Bytecodes
