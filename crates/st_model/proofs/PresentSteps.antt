@@ -24,8 +24,8 @@ use Rattle.st_model.specs.Lookup.{checked_method, method_at, place_says, look_at
 use Rattle.st_model.specs.Sends.{Call, copy_arguments, argument_array, new_message, replace_by_message, call_not_understood, not_understood, call_found, send_from, send, class_above, send_to_super, argument_count, special_send}
 use Rattle.st_model.specs.declared.integers.IntAnswer.{IntAnswer}
 use Rattle.st_model.specs.declared.integers.IntAnswer.TheVariants.{Number, Truth, Point}
-use Rattle.st_model.specs.Primitives.{pop_words, answer_with, succeed, primitive, taking}
-use Rattle.st_model.specs.Arithmetic.{truth, new_point, value_of_answer, integer_under, integer_answer, arithmetic, equivalence, receiver_class, flush_cache}
+use Rattle.st_model.specs.Primitives.{pop_words, answer_with, succeed, primitive, taking, truth}
+use Rattle.st_model.specs.Arithmetic.{new_point, value_of_answer, integer_under, integer_answer, arithmetic, equivalence, receiver_class, flush_cache}
 use Rattle.st_model.specs.Executing.{goes_on, answer_field, or_activate, respond, respond_by_extension, execute_by, execute, executed, execute_if_any, executed_if_any}
 use Rattle.st_model.specs.Returns.{calls, calls_nothing, cannot_return, return_into, return_to_context, return_to, return_to_sender, return_to_caller, must_be_boolean, jump_on}
 use Rattle.st_model.specs.Bytecodes.{fetch_receiver_variable, fetch_temporary_variable, fetch_literal_constant, fetch_literal_variable, fetch_operand, store_receiver_variable, store_temporary_variable, store_literal_variable, store_operand, constant_value, or_send, arithmetic_by, arithmetic_send, primitive_send, rows, bytecode, step}
@@ -462,7 +462,8 @@ module _ (o : Object) (lives : ℕ → Type 0) where
 
   pub truth-sure : (n : ℕ) (b : Bool) → SureValue n (truth bare b) (truth (full o) b)
   unfolding truth
-  truth-sure n b = search sures
+  truth-sure n true = search sures
+  truth-sure n false = search sures
 
   pub new_point-sure : (n : ℕ) (x y : ℤ) → SureValue n (new_point bare x y) (new_point (full o) x y)
   unfolding new_point

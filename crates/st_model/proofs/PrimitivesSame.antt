@@ -1,12 +1,12 @@
 -- Primitives over births do the same over pointers: how one is tried, those on SmallIntegers, and those of any receiver.
-use Rattle.std.proofs.Common.{◌≡◌, ℕ, zero, suc, Option, Some, None, Bool}
+use Rattle.std.proofs.Common.{◌≡◌, ℕ, zero, suc, Option, Some, None, Bool, true, false}
 use Rattle.std.specs.Prelude.{ℤ}
 use Rattle.st_model.specs.declared.integers.IntAnswer.{IntAnswer}
 use Rattle.st_model.specs.declared.integers.IntAnswer.TheVariants.{Number, Truth, Point}
 use Rattle.st_model.specs.Values.{Value}
 use Rattle.st_model.specs.Machine.{ObjectMemory, Step}
-use Rattle.st_model.specs.Primitives.{pop_words, answer_with, succeed, primitive, taking}
-use Rattle.st_model.specs.Arithmetic.{truth, new_point, value_of_answer, integer_under, integer_answer, arithmetic, equivalence, receiver_class, flush_cache}
+use Rattle.st_model.specs.Primitives.{pop_words, answer_with, succeed, primitive, taking, truth}
+use Rattle.st_model.specs.Arithmetic.{new_point, value_of_answer, integer_under, integer_answer, arithmetic, equivalence, receiver_class, flush_cache}
 use Rattle.st_model.proofs.Same.{Simulation, ValueSame, SameValue, SameAnswer, strict, steps_same}
 use Rattle.st_model.proofs.StepsSame.{parts_same}
 
@@ -47,7 +47,8 @@ module _ {H K : Type 0} {M : ObjectMemory H} {N : ObjectMemory K} (sim : Simulat
 
   pub truth-same : (b c : Bool) → c ≡ b → SameValue sim (truth M b) (truth N c)
   unfolding truth
-  truth-same b c e = search parts_same
+  truth-same true c e = rw e (search parts_same)
+  truth-same false c e = rw e (search parts_same)
 
   new_point-same : (x y : ℤ) → SameValue sim (new_point M x y) (new_point N x y)
   unfolding new_point

@@ -4,15 +4,11 @@ use Rattle.st_model.specs.declared.dead.Dead.TheVariants as dead
 use Rattle.st_model.specs.declared.integers.IntAnswer.{IntAnswer}
 use Rattle.st_model.specs.declared.integers.IntAnswer.TheVariants.{Number, Truth, Point}
 use Rattle.st_model.specs.Values.{Value, small_integer}
-use Rattle.st_model.specs.Objects.{FalseObject, TrueObject, PointClass}
+use Rattle.st_model.specs.Objects.{PointClass}
 use Rattle.st_model.specs.Machine.{ObjectMemory, Step, answer, ◌>>=◌, ◌>>◌}
 use Rattle.st_model.specs.Steps.{of_page, new_object, class_of, same_value, store_field, integer_or_die, or_die, top, under, look_at_words, drop_words}
 use Rattle.st_model.specs.Integers.{binary}
-use Rattle.st_model.specs.Primitives.{answer_with, primitive}
-
--- true or false
-unfoldable pub truth : {H : Type 0} → ObjectMemory H → Bool → Step H Value
-truth m b = if b then of_page m TrueObject else of_page m FalseObject
+use Rattle.st_model.specs.Primitives.{answer_with, primitive, truth}
 
 -- a new Point of two integers
 unfoldable pub new_point : {H : Type 0} → ObjectMemory H → ℤ → ℤ → Step H Value

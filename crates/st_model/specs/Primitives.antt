@@ -1,8 +1,9 @@
 -- Primitives (chapter 29): how one is tried, and the numbers and fields that several of them use.
 use Rattle.std.specs.Prelude.{ℕ, zero, suc, ◌+◌, ◌==◌, Option, Some, None, Bool, true, false, if◌then◌else◌}
 use Rattle.st_model.specs.Values.{Value}
+use Rattle.st_model.specs.Objects.{FalseObject, TrueObject}
 use Rattle.st_model.specs.Machine.{ObjectMemory, Step, answer, tried, ◌>>=◌, ◌>>◌}
-use Rattle.st_model.specs.Steps.{push, pop}
+use Rattle.st_model.specs.Steps.{of_page, push, pop}
 
 -- pops n words, the top one first
 unfoldable pub pop_words : {H : Type 0} → ObjectMemory H → ℕ → Step H Unit
@@ -34,3 +35,8 @@ primitive m n conditions effect = do
 -- it is tried with this number of arguments alone, and fails with any other
 unfoldable pub taking : {H : Type 0} → ℕ → ℕ → Step H Bool → Step H Bool
 taking n arguments m = if arguments == n then m else answer false
+
+-- true or false, as an answer
+unfoldable pub truth : {H : Type 0} → ObjectMemory H → Bool → Step H Value
+truth m true = of_page m TrueObject
+truth m false = of_page m FalseObject
