@@ -4,6 +4,7 @@ pub mod StepsSame
 pub mod ContextsSame
 pub mod LookupSame
 pub mod SendsSame
+pub mod PrimitivesSame
 pub mod ExecutingSame
 pub mod ReturnsSame
 pub mod BytecodesSame
@@ -46,7 +47,9 @@ pub mod Making
 mod ImageRows
 mod OperationRows
 mod DecodedRows
+mod IntegerRows
 pub mod Opened
 mod Rows
 mod SendRows
+mod ArithmeticRows
 mod StorageRows

@@ -22,9 +22,13 @@ use Rattle.st_model.specs.Methods.{from_last, method_header, literal_from_last, 
 use Rattle.st_model.specs.Contexts.{home_by, home_of, stack_place, fetch_stack_pointer, context_registers, fetch_context_registers, store_context_registers, switch, fill_context, new_context, pass_words, activate}
 use Rattle.st_model.specs.Lookup.{checked_method, method_at, place_says, look_at_place, look_at_places, search_from, search_dictionary, or_above, method_in_class, look_in_class, unless_nil, end_at_nil, find_within, find}
 use Rattle.st_model.specs.Sends.{Call, copy_arguments, argument_array, new_message, replace_by_message, call_not_understood, not_understood, call_found, send_from, send, class_above, send_to_super, argument_count, special_send}
-use Rattle.st_model.specs.Executing.{goes_on, answer_field, respond, respond_by_extension, execute_by, execute, executed, execute_if_any, executed_if_any}
+use Rattle.st_model.specs.declared.integers.IntAnswer.{IntAnswer}
+use Rattle.st_model.specs.declared.integers.IntAnswer.TheVariants.{Number, Truth, Point}
+use Rattle.st_model.specs.Primitives.{pop_words, answer_with, succeed, primitive, taking, truth}
+use Rattle.st_model.specs.Arithmetic.{new_point, value_of_answer, integer_under, integer_answer, arithmetic, equivalence, receiver_class, flush_cache}
+use Rattle.st_model.specs.Executing.{goes_on, answer_field, or_activate, respond, respond_by_extension, execute_by, execute, executed, execute_if_any, executed_if_any}
 use Rattle.st_model.specs.Returns.{calls, calls_nothing, cannot_return, return_into, return_to_context, return_to, return_to_sender, return_to_caller, must_be_boolean, jump_on}
-use Rattle.st_model.specs.Bytecodes.{fetch_receiver_variable, fetch_temporary_variable, fetch_literal_constant, fetch_literal_variable, fetch_operand, store_receiver_variable, store_temporary_variable, store_literal_variable, store_operand, constant_value, arithmetic_by, arithmetic_send, rows, bytecode, step}
+use Rattle.st_model.specs.Bytecodes.{fetch_receiver_variable, fetch_temporary_variable, fetch_literal_constant, fetch_literal_variable, fetch_operand, store_receiver_variable, store_temporary_variable, store_literal_variable, store_operand, constant_value, or_send, arithmetic_by, arithmetic_send, primitive_send, rows, bytecode, step}
 use Rattle.st_model.proofs.Names.{map_all, map_object}
 use Rattle.st_model.proofs.BirthLemmas.{borne_before, object_within}
 use Rattle.st_model.proofs.Started.{lives}
@@ -430,9 +434,80 @@ module _ (o : Object) (lives : ℕ → Type 0) where
   unfolding goes_on
   goes_on-sure n m m' h0 = search (sures) depth 24 fits 4000
 
+  -- primitives
+
+  pub pop_words-sure : (n : ℕ) (k : ℕ) → SureAnswer n (pop_words bare k) (pop_words (full o) k)
+  unfolding pop_words
+  pop_words-sure n zero = answer_itself-sure o lives n _
+  pop_words-sure n (suc k) = then_value-sure o lives _ n _ _ _ _ (pop-sure n) (λ m l x g. pop_words-sure m k)
+
+  pub answer_with-sure : (n : ℕ) (k : ℕ) (v : Value) → There n v → SureAnswer n (answer_with bare k v) (answer_with (full o) k v)
+  unfolding answer_with
+  answer_with-sure n k v h0 = search (parts, pop_words-sure) depth 24 fits 4000
+
+  pub succeed-sure : {A : Type 0} (n : ℕ) (k : ℕ) (f f' : A → Step Births Value) (a : Option A) → ((x : A) → SureValue n (f x) (f' x))
+      → SureAnswer n (succeed bare k f a) (succeed (full o) k f' a)
+  unfolding succeed
+  succeed-sure n k f f' None h = answer_itself-sure o lives n _
+  succeed-sure n k f f' (Some x) h = search (parts, h, answer_with-sure) depth 24 fits 4000
+
+  pub primitive-sure : {A : Type 0} (n : ℕ) (k : ℕ) (p p' : Step Births A) (f f' : A → Step Births Value) → SureAnswer n p p'
+      → ((m : ℕ) (x : A) → Later n m → SureValue m (f x) (f' x)) → SureAnswer n (primitive bare k p f) (primitive (full o) k p' f')
+  unfolding primitive
+  primitive-sure n k p p' f f' h l = search (parts, succeed-sure) depth 24 fits 4000
+
+  pub taking-sure : (n : ℕ) (k arguments : ℕ) (p p' : Step Births Bool) → SureAnswer n p p' → SureAnswer n (taking k arguments p) (taking k arguments p')
+  unfolding taking
+  taking-sure n k arguments p p' h = search sures
+
+  pub truth-sure : (n : ℕ) (b : Bool) → SureValue n (truth bare b) (truth (full o) b)
+  unfolding truth
+  truth-sure n true = search sures
+  truth-sure n false = search sures
+
+  pub new_point-sure : (n : ℕ) (x y : ℤ) → SureValue n (new_point bare x y) (new_point (full o) x y)
+  unfolding new_point
+  new_point-sure n x y = search parts depth 24 fits 4000
+
+  pub value_of_answer-sure : (n : ℕ) (a : IntAnswer) → SureValue n (value_of_answer bare a) (value_of_answer (full o) a)
+  unfolding value_of_answer
+  value_of_answer-sure n (Number i) = search sures
+  value_of_answer-sure n (Truth b) = truth-sure n b
+  value_of_answer-sure n (Point x y) = new_point-sure n x y
+
+  pub integer_under-sure : (n : ℕ) (k : ℕ) → SureAnswer n (integer_under bare k) (integer_under (full o) k)
+  unfolding integer_under
+  integer_under-sure n k = search parts depth 24 fits 4000
+
+  pub integer_answer-sure : (n : ℕ) (k : ℕ) → SureAnswer n (integer_answer bare k) (integer_answer (full o) k)
+  unfolding integer_answer
+  integer_answer-sure n k = search (parts, integer_under-sure) depth 24 fits 4000
+
+  pub arithmetic-sure : (n : ℕ) (k : ℕ) → SureAnswer n (arithmetic bare k) (arithmetic (full o) k)
+  unfolding arithmetic
+  arithmetic-sure n k = search (primitive-sure, integer_answer-sure, value_of_answer-sure)
+
+  pub equivalence-sure : (n : ℕ) → SureAnswer n (equivalence bare) (equivalence (full o))
+  unfolding equivalence
+  equivalence-sure n = search (parts, truth-sure, answer_with-sure) depth 24 fits 4000
+
+  pub receiver_class-sure : (n : ℕ) → SureAnswer n (receiver_class bare) (receiver_class (full o))
+  unfolding receiver_class
+  receiver_class-sure n = search (parts, answer_with-sure) depth 24 fits 4000
+
+  pub flush_cache-sure : (n : ℕ) (k : ℕ) → SureAnswer n (flush_cache bare k) (flush_cache (full o) k)
+  unfolding flush_cache
+  flush_cache-sure n k = search parts depth 24 fits 4000
+
+  pub ruleset primitives_sure = (arithmetic-sure, equivalence-sure, receiver_class-sure, flush_cache-sure)
+
+  pub or_activate-sure : (n : ℕ) (c : Call) (v : Value) (p p' : Step Births Bool) → CallThere n c → SureAnswer n p p' → SureAnswer n (or_activate bare c v p) (or_activate (full o) c v p')
+  unfolding or_activate
+  or_activate-sure n c v p p' h0 h1 = search (sures, goes_on-sure, activate-sure) depth 24 fits 4000
+
   pub respond-sure : (n : ℕ) (p : Performing) (c : Call) (v : Value) (i : ℕ) → CallThere n c → SureAnswer n (respond bare p c v i) (respond (full o) p c v i)
   unfolding respond
-  respond-sure n p c v i h0 = search (sures, goes_on-sure, activate-sure) depth 24 fits 4000
+  respond-sure n p c v i h0 = search (sures, goes_on-sure, activate-sure, or_activate-sure, primitives_sure) depth 24 fits 4000
 
   pub execute_by-sure : (n : ℕ) (p : Performing) (c : Call) (v : Value) (flag : ℕ) → CallThere n c → SureAnswer n (execute_by bare p c v flag) (execute_by (full o) p c v flag)
   unfolding execute_by respond_by_extension answer_field
@@ -498,15 +573,19 @@ module _ (o : Object) (lives : ℕ → Type 0) where
 
   pub ruleset rows_sure = (parts, fetch_operand-sure, store_operand-sure, constant_value-sure, goes_on-sure, executed-sure, executed_if_any-sure, send-sure, send_to_super-sure, special_send-sure, return_to_sender-sure, return_to_caller-sure, jump_on-sure)
 
+  pub or_send-sure : (n : ℕ) (k : ℕ) (p p' : Step Births Bool) → SureAnswer n p p' → SureAnswer n (or_send bare k p) (or_send (full o) k p')
+  unfolding or_send
+  or_send-sure n k p p' h = search rows_sure depth 24 fits 4000
+
   pub arithmetic_by-sure : (n : ℕ) (k : ℕ) (v : Value) → SureAnswer n (arithmetic_by bare k v) (arithmetic_by (full o) k v)
   unfolding arithmetic_by
-  arithmetic_by-sure n k (Small i) = end-sure n _
+  arithmetic_by-sure n k (Small i) = search (or_send-sure, arithmetic-sure)
   arithmetic_by-sure n k (Ref i) = search rows_sure depth 24 fits 4000
 
   pub bytecode-sure : (n : ℕ) (b : Bytecode) → SureAnswer n (bytecode bare b) (bytecode (full o) b)
-  unfolding bytecode rows arithmetic_send fetch_literal_constant
+  unfolding bytecode rows arithmetic_send primitive_send fetch_literal_constant
   bytecode-sure n code.Unused = die-sure o lives _ n _
-  bytecode-sure n b = search (rows_sure, arithmetic_by-sure) depth 32 fits 4000
+  bytecode-sure n b = search (rows_sure, arithmetic_by-sure, equivalence-sure, receiver_class-sure) depth 32 fits 4000
 
   pub step-sure : (n : ℕ) → SureAnswer n (step bare) (step (full o))
   unfolding step

@@ -10,7 +10,9 @@ pub mod Methods
 pub mod Contexts
 pub mod Lookup
 pub mod Sends
+pub mod Integers
 pub mod Primitives
+pub mod Arithmetic
 pub mod Storage
 pub mod Executing
 pub mod Returns
