@@ -5,6 +5,7 @@ pub mod ContextsSame
 pub mod LookupSame
 pub mod SendsSame
 pub mod PrimitivesSame
+mod StorageSame
 pub mod ExecutingSame
 pub mod ReturnsSame
 pub mod BytecodesSame

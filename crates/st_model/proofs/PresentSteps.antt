@@ -17,7 +17,7 @@ use Rattle.st_model.specs.Machine.{Registers, State, Transition, Died, Went, Ste
 use Rattle.st_model.specs.Births.{Births, births, births_with, object_born}
 use Rattle.st_model.specs.Table.{Table}
 use Rattle.st_model.specs.Show.{Shows, IsKept}
-use Rattle.st_model.specs.Steps.{same_value, new_object, class_of, or_die, check, fetch_field, store_field, integer_or_die, fetch_integer, count_fields, fetch_fields, store_fields, fetch_word, fetch_byte, store_word, store_byte, transfer, put, push, top, under, look_at_words, drop_words, pop, literal, fetch_method_field, store_method_field, byte_at, next_byte, jump}
+use Rattle.st_model.specs.Steps.{same_value, fetch_kind, fetch_size, fetch_bytes, new_object, class_of, or_die, check, fetch_field, store_field, integer_or_die, fetch_integer, count_fields, fetch_fields, store_fields, fetch_word, fetch_byte, store_word, store_byte, transfer, put, push, top, under, look_at_words, drop_words, pop, literal, fetch_method_field, store_method_field, byte_at, next_byte, jump}
 use Rattle.st_model.specs.Methods.{from_last, method_header, literal_from_last, primitive_number, method_primitive}
 use Rattle.st_model.specs.Contexts.{home_by, home_of, stack_place, fetch_stack_pointer, context_registers, fetch_context_registers, store_context_registers, switch, fill_context, new_context, pass_words, activate}
 use Rattle.st_model.specs.Lookup.{checked_method, method_at, place_says, look_at_place, look_at_places, search_from, search_dictionary, or_above, method_in_class, look_in_class, unless_nil, end_at_nil, find_within, find}
@@ -33,7 +33,7 @@ use Rattle.st_model.proofs.Names.{map_all, map_object}
 use Rattle.st_model.proofs.BirthLemmas.{borne_before, object_within}
 use Rattle.st_model.proofs.Started.{lives}
 use Rattle.st_model.proofs.Present as at
-use Rattle.st_model.proofs.Present.{bare, full, then_value-sure, then_values-sure, then_option-sure, then_object-sure, then_registers-sure, then_call-sure, then_any_call-sure, then_answer-sure, then_unit-sure, if-sure, die-sure, later_value, later_values, later_option, later_object, later_call, small_there, small_integer_there, class_there, field_there, none_there, some_there, no_values_there, values_there, registers_there, method_there, answer_value-sure, answer_values-sure, answer_option-sure, answer_registers-sure, answer_call-sure, answer_some_call-sure, answer_no_call-sure, answer_itself-sure, get_active-sure, get_home-sure, get_method-sure, get_receiver-sure, get_ip-sure, get_sp-sure, set_ip-sure, set_sp-sure, of_page-sure, object_named-sure, object-sure, set_field-sure, make-sure, set_registers-sure, half_word-sure, exchange-sure, set_units-sure, then_world-sure, later_world, get_world-sure, set_world-sure, object_at-sure, next_instance-sure, tried_value-sure, tried_itself-sure}
+use Rattle.st_model.proofs.Present.{bare, full, then_value-sure, then_values-sure, then_option-sure, then_object-sure, then_registers-sure, then_call-sure, then_any_call-sure, then_answer-sure, then_unit-sure, if-sure, die-sure, later_value, later_values, later_option, later_object, later_call, small_there, small_integer_there, class_there, field_there, none_there, some_there, no_values_there, values_there, registers_there, method_there, answer_value-sure, answer_values-sure, answer_option-sure, answer_registers-sure, answer_call-sure, answer_some_call-sure, answer_no_call-sure, answer_itself-sure, get_active-sure, get_home-sure, get_method-sure, get_receiver-sure, get_ip-sure, get_sp-sure, set_ip-sure, set_sp-sure, of_page-sure, object_named-sure, object-sure, set_field-sure, make-sure, set_registers-sure, half_word-sure, exchange-sure, set_units-sure, then_world-sure, later_world, get_world-sure, set_world-sure, get_free-sure, object_at-sure, next_instance-sure, tried_value-sure, tried_itself-sure}
 
 module _ (o : Object) (lives : ℕ → Type 0) where
   abbrev pub There : ℕ → Value → Type 0
@@ -78,7 +78,7 @@ module _ (o : Object) (lives : ℕ → Type 0) where
   abbrev pub SureAnswer : {A : Type 0} → ℕ → Step Births A → Step Births A → Type 0
   SureAnswer n m m' = at.SureAnswer o lives n m m'
 
-  pub ruleset sures = (then_value-sure, then_values-sure, then_option-sure, then_object-sure, then_registers-sure, then_call-sure, then_any_call-sure, then_answer-sure, then_unit-sure, if-sure, die-sure, later_value, later_values, later_option, later_object, later_call, small_there, small_integer_there, class_there, field_there, none_there, some_there, no_values_there, values_there, registers_there, method_there, answer_value-sure, answer_values-sure, answer_option-sure, answer_registers-sure, answer_call-sure, answer_some_call-sure, answer_no_call-sure, answer_itself-sure, get_active-sure, get_home-sure, get_method-sure, get_receiver-sure, get_ip-sure, get_sp-sure, set_ip-sure, set_sp-sure, of_page-sure, object-sure, set_field-sure, make-sure, set_registers-sure, half_word-sure, exchange-sure, set_units-sure, then_world-sure, later_world, get_world-sure, set_world-sure, object_at-sure, next_instance-sure, tried_value-sure, tried_itself-sure)
+  pub ruleset sures = (then_value-sure, then_values-sure, then_option-sure, then_object-sure, then_registers-sure, then_call-sure, then_any_call-sure, then_answer-sure, then_unit-sure, if-sure, die-sure, later_value, later_values, later_option, later_object, later_call, small_there, small_integer_there, class_there, field_there, none_there, some_there, no_values_there, values_there, registers_there, method_there, answer_value-sure, answer_values-sure, answer_option-sure, answer_registers-sure, answer_call-sure, answer_some_call-sure, answer_no_call-sure, answer_itself-sure, get_active-sure, get_home-sure, get_method-sure, get_receiver-sure, get_ip-sure, get_sp-sure, set_ip-sure, set_sp-sure, of_page-sure, object-sure, set_field-sure, make-sure, set_registers-sure, half_word-sure, exchange-sure, set_units-sure, then_world-sure, later_world, get_world-sure, set_world-sure, get_free-sure, object_at-sure, next_instance-sure, tried_value-sure, tried_itself-sure)
 
   pub check-sure : (n : ℕ) (cause : Dead) (b : Bool) → SureAnswer n (check cause b) (check cause b)
   unfolding check
@@ -159,6 +159,19 @@ module _ (o : Object) (lives : ℕ → Type 0) where
   unfolding store_byte
   store_byte-sure n v i x h0 = search (fields) depth 24 fits 4000
 
+  pub fetch_kind-sure : (n : ℕ) (v : Value) → There n v → SureAnswer n (fetch_kind bare v) (fetch_kind (full o) v)
+  unfolding fetch_kind
+  fetch_kind-sure n v h0 = search (fields) depth 24 fits 4000
+
+  pub fetch_size-sure : (n : ℕ) (v : Value) → There n v → SureAnswer n (fetch_size bare v) (fetch_size (full o) v)
+  unfolding fetch_size
+  fetch_size-sure n v h0 = search (fields) depth 24 fits 4000
+
+  pub fetch_bytes-sure : (n : ℕ) (v : Value) (from i : ℕ) → There n v → SureAnswer n (fetch_bytes bare v from i) (fetch_bytes (full o) v from i)
+  unfolding fetch_bytes
+  fetch_bytes-sure n v from zero h = search fields depth 24 fits 4000
+  fetch_bytes-sure n v from (suc i) h = then_answer-sure o lives _ n _ _ _ _ (fetch_byte-sure n v from h) (λ k l b. then_answer-sure o lives _ k _ _ _ _ (fetch_bytes-sure k v (suc from) i (later_value o lives n k v l h)) (λ j e bs. answer_itself-sure o lives j _))
+
   pub put-sure : (n : ℕ) (c : Value) (at : ℕ) (x : Value) → There n c → There n x → SureAnswer n (put bare c at x) (put (full o) c at x)
   unfolding put
   put-sure n c at x h0 h1 = search (fields) depth 24 fits 4000
@@ -211,7 +224,7 @@ module _ (o : Object) (lives : ℕ → Type 0) where
   unfolding jump
   jump-sure n d = search (fields) depth 24 fits 4000
 
-  pub ruleset parts = (fields, fetch_word-sure, fetch_byte-sure, store_word-sure, store_byte-sure, fetch_integer-sure, transfer-sure, push-sure, under-sure, look_at_words-sure, drop_words-sure, top-sure, pop-sure, literal-sure, fetch_method_field-sure, store_method_field-sure, next_byte-sure, jump-sure)
+  pub ruleset parts = (fields, fetch_word-sure, fetch_byte-sure, store_word-sure, store_byte-sure, fetch_kind-sure, fetch_size-sure, fetch_bytes-sure, fetch_integer-sure, transfer-sure, push-sure, under-sure, look_at_words-sure, drop_words-sure, top-sure, pop-sure, literal-sure, fetch_method_field-sure, store_method_field-sure, next_byte-sure, jump-sure)
 
   -- headers and contexts
 

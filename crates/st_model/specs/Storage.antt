@@ -14,11 +14,18 @@ use Rattle.st_model.specs.Primitives.{primitive, taking, truth, check_class, che
 
 -- Elements. An index counts from 1, behind the fixed fields, and a place from 0 over all of an object.
 
+-- how many literals a method has, as its header counts them
+unfoldable pub count_literals : {H : Type 0} → ObjectMemory H → Value → Step H ℕ
+count_literals m v = do
+  header ← method_header m v
+  bits ← bits_or_die header
+  answer (literal_count (Small bits))
+
 unfoldable pub first_by : {H : Type 0} → ObjectMemory H → Value → Bool → Step H ℕ
 first_by m v false = answer 0
 first_by m v true = do
-  header ← method_header m v
-  answer (2 * literal_count header + 2)
+  n ← count_literals m v
+  answer (2 * n + 2)
 
 -- the first place that has an element: in a Method that of its first bytecode
 unfoldable pub first_place : {H : Type 0} → ObjectMemory H → Value → Step H ℕ
@@ -334,9 +341,9 @@ primitive_at_end m = do
 -- the field that an index names
 unfoldable pub method_place : {H : Type 0} → ObjectMemory H → Value → ℕ → Step H ℕ
 method_place m r i = do
-  header ← method_header m r
+  n ← count_literals m r
   check dead.Field (nat_le 1 i)
-  check dead.Field (nat_le i (literal_count header + 1))
+  check dead.Field (nat_le i (n + 1))
   answer (i - 1)
 
 unfoldable pub place_in_method : {H : Type 0} → ObjectMemory H → Value → Value → Step H ℕ
@@ -359,9 +366,9 @@ primitive_object_at m = do
 -- a header, which counts as many literals as the one before
 unfoldable pub check_header : {H : Type 0} → ObjectMemory H → Value → Value → Step H Unit
 check_header m r b = do
-  header ← method_header m r
+  n ← count_literals m r
   bits ← bits_or_die b
-  check dead.Field (literal_count (Small bits) == literal_count header)
+  check dead.Field (literal_count (Small bits) == n)
 
 -- into a place after the first anything may be stored
 unfoldable pub check_method_field : {H : Type 0} → ObjectMemory H → Value → Value → Bool → Step H Unit
