@@ -6,6 +6,7 @@ pub mod LookupSame
 pub mod SendsSame
 pub mod PrimitivesSame
 mod StorageSame
+pub mod Deeds
 pub mod ExecutingSame
 pub mod ReturnsSame
 pub mod BytecodesSame

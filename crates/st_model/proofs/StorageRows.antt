@@ -60,6 +60,10 @@ state depth t = record {
   head = record { entries = 100; words = 1000; globals = None; symbols = None };
 }
 
+-- with other capacities
+holding : ℕ → ℕ → State Table → State Table
+holding entries words s = record s { head = record { entries = entries; words = words; globals = None; symbols = None } }
+
 -- primitive k with n arguments, where these words are the stack
 trying : ℕ → ℕ → List Value → List (Option Object) → Transition (State Table) Bool
 unfolding state objects
@@ -332,6 +336,12 @@ left : (trying 112 0 (nil ∷ []) [] ≡ done (Small 943 ∷ []) [])
     × (trying 115 0 (nil ∷ []) [] ≡ done (Small 82 ∷ []) [])
 unfolding opened trying done state objects pointers class
 left = (refl, refl)
+
+-- with 20057 words, or 20018 entries, as many are free as before the new number of two bytes
+left_before : ((storage table 112 0).run (holding 100 20057 (state 1 (objects None (nil ∷ []) []))) ≡ Went true (holding 100 20057 (state 1 (objects (large (32 ∷ 78 ∷ [])) (Ref 5 ∷ []) []))))
+    × ((storage table 115 0).run (holding 20018 20057 (state 1 (objects None (nil ∷ []) []))) ≡ Went true (holding 20018 20057 (state 1 (objects (large (32 ∷ 78 ∷ [])) (Ref 5 ∷ []) []))))
+unfolding opened holding state objects large bytes pointers class
+left_before = (refl, refl)
 
 -- 128: an object of kind Bytes is said, and is the answer
 said : ((primitive_say table (Ref 31)).run (state 1 (objects None (Ref 31 ∷ []) (string (65 ∷ []) ∷ []))) ≡ done (Ref 31 ∷ []) (string (65 ∷ []) ∷ []))

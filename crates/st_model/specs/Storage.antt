@@ -336,7 +336,7 @@ primitive_at_end m = do
   r ← top m
   primitive m 0 (is_at_end m r) (λ b. truth m b)
 
--- Methods. Index 1 is the header, and the literals follow.
+-- Methods. Index 1 is the header, and index 2 the first literal.
 
 -- the field that an index names
 unfoldable pub method_place : {H : Type 0} → ObjectMemory H → Value → ℕ → Step H ℕ
@@ -356,7 +356,7 @@ header_or_literal m r a = do
   i ← place_in_method m r a
   fetch_method_field m r i
 
--- 68: the header of the Method r, or its literal a - 1
+-- 68: the header of the Method r, or the literal that the index a names
 unfoldable pub primitive_object_at : {H : Type 0} → ObjectMemory H → Step H Bool
 primitive_object_at m = do
   r ← under m 1
@@ -386,7 +386,7 @@ store_in_method m r b i = do
   store_method_field m r i b
   answer b
 
--- 69: b becomes the header of the Method r, or its literal a - 1
+-- 69: b becomes the header of the Method r, or the literal that the index a names
 unfoldable pub primitive_object_at_put : {H : Type 0} → ObjectMemory H → Step H Bool
 primitive_object_at_put m = do
   r ← under m 2
@@ -624,11 +624,11 @@ primitive_replace m = do
   d ← top m
   primitive m 4 (replacing m r a b c d) (λ p. replace_and_answer m r c p)
 
--- 112: how many words are free; no primitive that takes no argument comes after another has made an object
+-- 112: how many words are free before the number is made
 unfoldable pub primitive_core_left : {H : Type 0} → ObjectMemory H → Step H Bool
 primitive_core_left m = primitive m 0 (get_free m) (λ free. number m free.words)
 
--- 115: how many entries are free
+-- 115: how many entries are free before the number is made
 unfoldable pub primitive_oops_left : {H : Type 0} → ObjectMemory H → Step H Bool
 primitive_oops_left m = primitive m 0 (get_free m) (λ free. number m free.entries)
 
@@ -636,7 +636,7 @@ primitive_oops_left m = primitive m 0 (get_free m) (λ free. number m free.entri
 unfoldable pub primitive_say : {H : Type 0} → ObjectMemory H → Value → Step H Bool
 primitive_say m r = primitive m 0 (check_bytes m r) (λ u. answer r)
 
--- the primitives of this page that only go on, by their numbers, each with its number of arguments
+-- the primitives of this file that only go on, by their numbers, each with its number of arguments
 unfoldable pub storage : {H : Type 0} → ObjectMemory H → ℕ → ℕ → Step H Bool
 storage m k n =
     if k == 60 then taking 1 n (primitive_at m) else
