@@ -24,6 +24,7 @@ pub mod Bounded
 pub mod Closed
 pub mod Going
 pub mod Reclaiming
+pub mod OnTop
 pub mod CyclesShown
 pub mod Runs
 pub mod Tabular
