@@ -332,6 +332,14 @@ impl<'a, M: Memory> Objects for Draft<'a, M> {
         }
     }
 
+    fn fetch_byte(&self, o: Word, i: u32) -> Result<u8, Dead> {
+        let before = self.exchanges.word_before(o);
+        match self.find_made(before) {
+            Some(_) => Err(Dead::Kind),
+            None => self.base.fetch_byte(before, i),
+        }
+    }
+
     fn free(&self) -> Demand {
         let made = self.demand();
         let free = self.base.free();

@@ -1,15 +1,27 @@
 ghost use Rattle.std.specs.Prelude.{◌≡◌, ◌+◌, ◌≤◌, ℕ, [], true, false, IfOk, IfErr, IfSome, IfNone};
 ghost use Rattle.st_model.specs.Values.{value, word};
+ghost use Rattle.st_model.specs.Objects.{has_bytes};
 ghost use Rattle.st_model.specs.Table.{table, bounded_table};
 ghost use Rattle.st_model.specs.Machine.{is_there};
 ghost use Rattle.st_model.specs.Steps.{object};
 ghost use Rattle.st_model.specs.Calls.{Reads, Changes, itself};
 ghost use Rattle.st_model.specs.View.{IsKnown, Has, Lacks, is_live, object_of};
 
+use crate::body::first_unit;
 use crate::memory::Memory;
 use crate::objects::Objects;
 use crate::transfer::copy_fields;
 use st_model::{Dead, Demand, Kind, Oop, Word, literals};
+
+/// Whether an object of this kind has bytes.
+fn has_bytes(kind: Kind) -> bool
+    ensures { result ≡ has_bytes kind }
+{
+    match kind {
+        Kind::Pointers | Kind::Words => false,
+        Kind::Bytes | Kind::Method => true,
+    }
+}
 
 /// The object that a word names.
 #[tactic(auto, using(st_model::proofs::Runs::runs, crate::proofs::Wide::far, crate::proofs::Wide::lacks, crate::proofs::Wide::small_not_live))]
@@ -202,6 +214,22 @@ impl<M: Memory> Objects for M {
         }
         if i < self.size(object) {
             Ok(self.word(object, i))
+        } else {
+            Err(Dead::Field)
+        }
+    }
+
+    #[tactic(auto, using(st_model::proofs::Runs::runs, st_model::proofs::Runs::tests, crate::proofs::Wide::bounded), unfolding(st_model::specs::Steps::fetch_byte))]
+    fn fetch_byte(&self, o: Word, i: u32) -> Result<u8, Dead> {
+        let object = live_object(self, o)?;
+        if !has_bytes(self.kind(object)) {
+            return Err(Dead::Kind);
+        }
+        if i < first_unit(self, object) {
+            return Err(Dead::Field);
+        }
+        if i < self.size(object) {
+            Ok(self.byte(object, i))
         } else {
             Err(Dead::Field)
         }

@@ -4,7 +4,7 @@ ghost use Rattle.st_model.specs.Objects.{place_of};
 ghost use Rattle.st_model.specs.declared.page.PageObject.TheVariants.{MethodClass};
 ghost use Rattle.st_model.specs.Machine.{ObjectMemory, Head, is_there, used};
 ghost use Rattle.st_model.specs.Table.{Table, IsTabular};
-ghost use Rattle.st_model.specs.Steps.{fetch_field, count_fields, class_of, literal, byte_at, fetch_word, store_field, transfer, exchange, new_object};
+ghost use Rattle.st_model.specs.Steps.{fetch_field, count_fields, class_of, literal, byte_at, fetch_word, fetch_byte, store_field, transfer, exchange, new_object};
 ghost use Rattle.st_model.specs.Methods.{method_header, literal_from_last};
 ghost use Rattle.st_model.specs.Lookup.{half_word};
 ghost use Rattle.st_model.specs.Calls.{Reads, Changes, itself};
@@ -72,6 +72,10 @@ pub trait Objects {
     /// Word i of an object of kind Words.
     fn fetch_word(&self, o: Word, i: u32) -> Result<u16, Dead>
         ensures { Reads (fetch_word names (word o) i) itself (table self.now) result };
+
+    /// Byte i of an object of kind Bytes or Method. A method's header and literals count, but aren't read so.
+    fn fetch_byte(&self, o: Word, i: u32) -> Result<u8, Dead>
+        ensures { Reads (fetch_byte names (word o) i) itself (table self.now) result };
 
     /// How many entries and words of the capacities the objects leave.
     fn free(&self) -> Demand
