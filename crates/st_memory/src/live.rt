@@ -8,6 +8,7 @@ ghost use Rattle.st_model.specs.Calls.{Reads, Changes, itself};
 ghost use Rattle.st_model.specs.View.{IsKnown, Has, Lacks, is_live, object_of};
 
 use crate::body::first_unit;
+use crate::made::Made;
 use crate::memory::Memory;
 use crate::objects::Objects;
 use crate::transfer::copy_fields;
@@ -293,17 +294,28 @@ impl<M: Memory> Objects for M {
         Ok(())
     }
 
-    fn new_object(&mut self, class: Word, n: u32) -> Result<Word, Dead> {
-        let class = live_object(self, class)?;
+    fn make(&mut self, class: Word, kind: Kind, size: u32, literals: u32) -> Result<Word, Dead> {
+        let object = live_object(self, class)?;
+        let made = Made {
+            class,
+            kind,
+            size,
+            literals,
+        };
         let needed = Demand {
             entries: 1,
-            words: n + 2,
+            words: made.words(),
         };
         if Memory::room(self, needed) {
-            Ok(Word::from(self.make(class, Kind::Pointers, n, 0)))
+            Ok(Word::from(Memory::make(self, object, kind, size, literals)))
         } else {
             Ok(Word::NIL)
         }
+    }
+
+    #[tactic(auto, unfolding(st_model::specs::Steps::new_object))]
+    fn new_object(&mut self, class: Word, n: u32) -> Result<Word, Dead> {
+        Objects::make(self, class, Kind::Pointers, n, 0)
     }
 
     ghost tabular = { bounded_tabular };
