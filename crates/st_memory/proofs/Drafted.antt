@@ -9,20 +9,20 @@ use Rattle.st_model.specs.declared.word.Word.{Word}
 use Rattle.st_model.specs.Values.{Value, Small, Ref, word, value_of}
 use Rattle.st_model.specs.Objects.{Object, is_pointers, is_method, nil}
 use Rattle.st_model.specs.Machine.{Step, Died, Went, is_there}
-use Rattle.st_model.specs.Steps.{fetch_field, count_fields, class_of, literal, byte_at}
+use Rattle.st_model.specs.Steps.{fetch_field, count_fields, class_of, literal, fetch_method_field, byte_at}
 use Rattle.st_model.specs.Methods.{method_header, literal_from_last}
 use Rattle.st_model.specs.Table.{Table, table, bounded_table, apart, entry}
 use Rattle.st_model.specs.View.{nothing, is_live, object_of, Lacks, SmallInteger, Gone, OtherKind}
 use Rattle.st_model.specs.Calls.{Reads, itself}
 use Rattle.st_model.proofs.Pointers.{value_of-pointer}
-use Rattle.st_model.proofs.Tabular.{fetch_field-as, count_fields-as, class_of-as, literal-as, byte_at-as, method_header-as, literal_from_last-as}
+use Rattle.st_model.proofs.Tabular.{fetch_field-as, count_fields-as, class_of-as, literal-as, fetch_method_field-as, byte_at-as, method_header-as, literal_from_last-as}
 use Rattle.st_memory.specs.declared.made.Made.{Made}
 use Rattle.st_memory.specs.declared.change.Change.{Change}
 use Rattle.st_memory.specs.Tabular.{apart_tabular, bounded_tabular}
 use Rattle.st_memory.specs.Drafts.{with_made, field_value, draft_table, HasField, IsLike, AreLike, named_object}
 use Rattle.st_memory.specs.Making.{made_object, alone}
 use Rattle.st_memory.proofs.Fresh.{class_fresh, kind_fresh, fields_fresh}
-use Rattle.st_memory.proofs.Looking.{Got, result_got, Looks, reads_got, got_reads, reads_moved, or_got, checked, looked, look_at, fetch_looks, count_looks, header_looks, literal_looks, last_looks, byte_looks, class_in, class_look, class_looks, look_same, look_alike, method_same, count_same, class_look_alike, class_look_same, counted, uncounted, fetch_died, fetch_is}
+use Rattle.st_memory.proofs.Looking.{Got, result_got, Looks, reads_got, got_reads, reads_moved, or_got, checked, looked, look_at, fetch_looks, count_looks, header_looks, literal_looks, method_field_looks, last_looks, byte_looks, class_in, class_look, class_looks, look_same, look_alike, method_same, count_same, class_look_alike, class_look_same, counted, uncounted, fetch_died, fetch_is}
 use Rattle.st_memory.proofs.Writing.{field_like}
 use Rattle.st_memory.proofs.Replaying.{replayed_like}
 
@@ -159,6 +159,12 @@ module _ (t : Table) (ms : List Made) (n : ℕ) (cs : List Change) (k : ℕ) (v 
 
   pub literal_made : (i : ℕ) (m : Made) (r : Result Word Dead) → named_object start v ≡ Some (made_object m) → Reads (literal table (Ref 0) i) word (alone (made_object m)) r → Reads (literal apart v i) word now r
   literal_made i m r e h = method_made (literal apart v i) (literal table v i) (literal table (Ref 0) i) word _ dead.Field (literal_looks v i) (literal_looks (Ref 0) i) (literal-as apart_tabular v i) r m e h
+
+  pub method_field_base : (i : ℕ) (r : Result Word Dead) → named_object start v ≡ named_object t v → Reads (fetch_method_field bounded_table v i) word t r → Reads (fetch_method_field apart v i) word now r
+  method_field_base i r e h = method_base (fetch_method_field bounded_table v i) (fetch_method_field apart v i) (fetch_method_field table v i) word _ dead.Field (method_field_looks v i) (fetch_method_field-as bounded_tabular v i) (fetch_method_field-as apart_tabular v i) r e h
+
+  pub method_field_made : (i : ℕ) (m : Made) (r : Result Word Dead) → named_object start v ≡ Some (made_object m) → Reads (fetch_method_field table (Ref 0) i) word (alone (made_object m)) r → Reads (fetch_method_field apart v i) word now r
+  method_field_made i m r e h = method_made (fetch_method_field apart v i) (fetch_method_field table v i) (fetch_method_field table (Ref 0) i) word _ dead.Field (method_field_looks v i) (method_field_looks (Ref 0) i) (fetch_method_field-as apart_tabular v i) r m e h
 
   pub last_base : (j : ℕ) (r : Result Word Dead) → named_object start v ≡ named_object t v → Reads (literal_from_last bounded_table v j) word t r → Reads (literal_from_last apart v j) word now r
   last_base j r e h = method_base (literal_from_last bounded_table v j) (literal_from_last apart v j) (literal_from_last table v j) word _ dead.Field (last_looks v j) (literal_from_last-as bounded_tabular v j) (literal_from_last-as apart_tabular v j) r e h

@@ -13,14 +13,14 @@ use Rattle.st_model.specs.Values.{Value, Small, Ref, word, is_small}
 use Rattle.st_model.specs.Objects.{Object, place_of, nil, is_pointers, is_words, is_method, has_bytes, words_of, first_unit}
 use Rattle.st_model.specs.Formed.{fresh, IsMakeable}
 use Rattle.st_model.specs.Machine.{Step, Went, is_there}
-use Rattle.st_model.specs.Steps.{count_fields, literal, byte_at, fetch_word, fetch_byte, code_byte}
+use Rattle.st_model.specs.Steps.{count_fields, literal, fetch_method_field, byte_at, fetch_word, fetch_byte, code_byte}
 use Rattle.st_model.specs.Methods.{method_header, literal_from_last, from_last}
 use Rattle.st_model.specs.Table.{Table, table}
 use Rattle.st_model.specs.Calls.{Reads, itself}
 use Rattle.st_model.proofs.Words.{value_of-nil}
 use Rattle.st_model.proofs.Pointers.{value_of-odd, value_of-even}
 use Rattle.st_memory.specs.Making.{alone, CanMake}
-use Rattle.st_memory.proofs.Looking.{Looks, result_got, got_reads, or_got, checked, look_at, count_looks, header_looks, literal_looks, last_looks, byte_looks, word_looks, fetch_byte_looks, byte_in}
+use Rattle.st_memory.proofs.Looking.{Looks, result_got, got_reads, or_got, checked, look_at, count_looks, header_looks, literal_looks, method_field_looks, last_looks, byte_looks, word_looks, fetch_byte_looks, byte_in}
 
 got_nth : {A : Type 0} (n i : ℕ) (x : A) → i < n → slice_get (replicate n x) i ≡ Some x
 got_nth zero i x l = absurd (omega (arith, l))
@@ -331,6 +331,33 @@ module _ (c : ℕ) (k : Kind) (n l : ℕ) (e : is_method k ≡ true) where
       (ap (or_got dead.Ip) (code_by i false false (grind (arith, nat_tests, f, a)) (grind (arith, nat_tests, b)) ∙ bytes_out k c n l i method_bytes (omega (arith, q, a)) h))
 
 pub ruleset codes = (code_wrong, code_below, code_before, code_far, code_right, code_past)
+
+-- the header and the literals as fields
+
+pub method_field_wrong : (c : ℕ) (k : Kind) (n l i : ℕ) → is_method k ≡ false → Reads (fetch_method_field table (Ref 0) i) word (alone (fresh c k n l)) (Err dead.Kind)
+method_field_wrong c k n l i e = wrong_kind (fetch_method_field table (Ref 0) i) is_method (λ (o : Object). slice_get o.fields i) dead.Field word (method_field_looks (Ref 0) i) c k n l e
+
+module _ (c : ℕ) (k : Kind) (n l i : ℕ) (e : is_method k ≡ true) where
+  method_field_by : (r : Result Word Dead) → or_got dead.Field (slice_get (Small l ∷ replicate l nil) i) ≡ result_got word r → Reads (fetch_method_field table (Ref 0) i) word (alone (fresh c k n l)) r
+  method_field_by r h =
+      right_kind (fetch_method_field table (Ref 0) i) is_method (λ (o : Object). slice_get o.fields i) dead.Field word (method_field_looks (Ref 0) i) c k n l r e
+      (elim k as (λ x. is_method x ≡ true → or_got dead.Field (slice_get (fresh c x n l).fields i) ≡ result_got word r) [ kind.Pointers ↦ λ q. cc | kind.Words ↦ λ q. cc | kind.Bytes ↦ λ q. cc | kind.Method ↦ λ q. h ] e)
+
+  pub method_field_header : i ≡ 0 → Reads (fetch_method_field table (Ref 0) i) word (alone (fresh c k n l)) (Ok (record { 0 = 2 * l + 1 }))
+  method_field_header z = method_field_by (Ok (record { 0 = 2 * l + 1 })) (ap (λ j. or_got dead.Field (slice_get (Small l ∷ replicate l nil) j)) z ∙ ap (λ x. Went x tt) (sym (value_of-odd l)))
+
+  pub method_field_literal : 0 < i → i ≤ l → Reads (fetch_method_field table (Ref 0) i) word (alone (fresh c k n l)) (Ok (record { 0 = 2 }))
+  method_field_literal p h =
+      let q : i ≡ suc (i - 1) = omega (arith, p) in
+      method_field_by (Ok (record { 0 = 2 }))
+      (ap (or_got dead.Field) (ap (slice_get (Small l ∷ replicate l nil)) q ∙ got_nth l (i - 1) nil (omega (arith, p, h))) ∙ ap (λ x. Went x tt) (sym value_of-nil))
+
+  pub method_field_past : l < i → Reads (fetch_method_field table (Ref 0) i) word (alone (fresh c k n l)) (Err dead.Field)
+  method_field_past h =
+      let q : i ≡ suc (i - 1) = omega (arith, h) in
+      method_field_by (Err dead.Field) (ap (or_got dead.Field) (ap (slice_get (Small l ∷ replicate l nil)) q ∙ got_none l (i - 1) nil (omega (arith, h))))
+
+pub ruleset method_fields = (method_field_wrong, method_field_header, method_field_literal, method_field_past)
 
 pub ruleset counts = (count_wrong, count_right)
 

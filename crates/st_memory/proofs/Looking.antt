@@ -9,7 +9,7 @@ use Rattle.st_model.specs.Values.{Value, Small, Ref}
 use Rattle.st_model.specs.declared.page.PageObject.TheVariants.{SmallIntegerClass}
 use Rattle.st_model.specs.Objects.{Object, is_pointers, is_words, is_method, has_bytes, first_unit, place_of, nil}
 use Rattle.st_model.specs.Machine.{State, Transition, Died, Went, Step, after, answer, die, empty_world, ◌>>=◌, ◌>>◌}
-use Rattle.st_model.specs.Steps.{object, object_named, found, check, or_die, of_page, fetch_field, count_fields, class_of, literal, byte_at, code_byte, fetch_word, fetch_byte}
+use Rattle.st_model.specs.Steps.{object, object_named, found, check, or_die, of_page, fetch_field, count_fields, class_of, literal, fetch_method_field, byte_at, code_byte, fetch_word, fetch_byte}
 use Rattle.st_model.specs.Methods.{method_header, literal_from_last, from_last}
 use Rattle.st_model.specs.Table.{Table, table, entry}
 use Rattle.st_model.specs.View.{nothing, is_live, object_of}
@@ -112,6 +112,10 @@ header_looks v = step_looks is_method (λ o. slice_get o.fields 0) dead.Field v
 pub literal_looks : (v : Value) (i : ℕ) → Looks (literal table v i) (look_at is_method (λ o. slice_get o.fields (i + 1)) dead.Field v)
 unfolding literal
 literal_looks v i = step_looks is_method (λ o. slice_get o.fields (i + 1)) dead.Field v
+
+pub method_field_looks : (v : Value) (i : ℕ) → Looks (fetch_method_field table v i) (look_at is_method (λ o. slice_get o.fields i) dead.Field v)
+unfolding fetch_method_field
+method_field_looks v i = step_looks is_method (λ o. slice_get o.fields i) dead.Field v
 
 pub last_looks : (v : Value) (k : ℕ) → Looks (literal_from_last table v k) (look_at is_method (λ o. from_last o k) dead.Field v)
 unfolding literal_from_last

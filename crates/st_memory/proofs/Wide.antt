@@ -11,12 +11,12 @@ use Rattle.st_model.specs.declared.kind.Kind.{Kind}
 use Rattle.st_model.specs.declared.page.PageObject.{PageObject}
 use Rattle.st_model.specs.Objects.{Object, is_pointers, nil}
 use Rattle.st_model.specs.Formed.{fresh}
-use Rattle.st_model.specs.Steps.{object, object_named, found, stored_at, store_at, set_field, made, make_named, make, fetch_field, count_fields, class_of, literal, byte_at, store_field, transfer, fetch_word, fetch_byte, of_page}
+use Rattle.st_model.specs.Steps.{object, object_named, found, stored_at, store_at, set_field, made, make_named, make, fetch_field, count_fields, class_of, literal, fetch_method_field, byte_at, store_field, transfer, fetch_word, fetch_byte, of_page}
 use Rattle.st_model.specs.Methods.{method_header, literal_from_last}
 use Rattle.st_model.specs.Table.{Table, table, bounded_table, entry, first_free, placed}
 use Rattle.st_model.specs.Lookup.{half_word, pointer_if}
 use Rattle.st_model.specs.View.{View, IsWhole, Lacks, SmallInteger, Gone, OtherKind, TooFew, is_live, object_of, fits, demand_of}
-use Rattle.st_model.proofs.Tabular.{fetch_field-as, count_fields-as, class_of-as, literal-as, byte_at-as, method_header-as, literal_from_last-as, store_field-as, transfer-as, fetch_word-as, fetch_byte-as, of_page-as}
+use Rattle.st_model.proofs.Tabular.{fetch_field-as, count_fields-as, class_of-as, literal-as, fetch_method_field-as, byte_at-as, method_header-as, literal_from_last-as, store_field-as, transfer-as, fetch_word-as, fetch_byte-as, of_page-as}
 use Rattle.st_model.proofs.TableLemmas.{entry_past}
 use Rattle.st_model.proofs.Words.{value_of-nil}
 use Rattle.st_memory.specs.Tabular.{bounded_tabular}
@@ -97,8 +97,11 @@ fetch_byte-bounded v i = fetch_byte-as bounded_tabular v i
 pub of_page-bounded : (q : PageObject) → of_page bounded_table q ≡ of_page table q
 of_page-bounded q = of_page-as bounded_tabular q
 
+pub fetch_method_field-bounded : (v : Value) (i : ℕ) → fetch_method_field bounded_table v i ≡ fetch_method_field table v i
+fetch_method_field-bounded v i = fetch_method_field-as bounded_tabular v i
+
 -- a bounded memory does as the table does, but where it makes objects
-pub ruleset bounded = (fetch_field-bounded, count_fields-bounded, class_of-bounded, literal-bounded, byte_at-bounded, method_header-bounded, literal_from_last-bounded, store_field-bounded, transfer-bounded, fetch_word-bounded, fetch_byte-bounded, of_page-bounded)
+pub ruleset bounded = (fetch_method_field-bounded, fetch_field-bounded, count_fields-bounded, class_of-bounded, literal-bounded, byte_at-bounded, method_header-bounded, literal_from_last-bounded, store_field-bounded, transfer-bounded, fetch_word-bounded, fetch_byte-bounded, of_page-bounded)
 
 -- why an object lacks fields
 

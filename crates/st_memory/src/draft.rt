@@ -318,6 +318,14 @@ impl<'a, M: Memory> Objects for Draft<'a, M> {
         }
     }
 
+    fn fetch_method_field(&self, method: Word, i: u32) -> Result<Word, Dead> {
+        let before = self.exchanges.word_before(method);
+        match self.find_made(before) {
+            Some(made) => made.fetch_method_field(i),
+            None => self.base.fetch_method_field(before, i),
+        }
+    }
+
     fn byte_at(&self, method: Word, ip: i32) -> Result<u8, Dead> {
         let before = self.exchanges.word_before(method);
         match self.find_made(before) {

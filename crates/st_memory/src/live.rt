@@ -7,7 +7,7 @@ ghost use Rattle.st_model.specs.Steps.{object};
 ghost use Rattle.st_model.specs.Calls.{Reads, Changes, itself};
 ghost use Rattle.st_model.specs.View.{IsKnown, Has, Lacks, is_live, object_of};
 
-use crate::body::first_unit;
+use crate::body::{count_fields, first_unit};
 use crate::made::Made;
 use crate::memory::Memory;
 use crate::objects::Objects;
@@ -179,6 +179,19 @@ impl<M: Memory> Objects for M {
         let count = literals(self.pointer(object, 0));
         if k < count {
             Ok(Word::from(self.pointer(object, count - k)))
+        } else {
+            Err(Dead::Field)
+        }
+    }
+
+    #[tactic(auto, using(st_model::proofs::Runs::runs, crate::proofs::Wide::bounded), unfolding(st_model::specs::Steps::fetch_method_field))]
+    fn fetch_method_field(&self, method: Word, i: u32) -> Result<Word, Dead> {
+        let object = live_object(self, method)?;
+        if !self.kind(object).is_method() {
+            return Err(Dead::Kind);
+        }
+        if i < count_fields(self, object) {
+            Ok(Word::from(self.pointer(object, i)))
         } else {
             Err(Dead::Field)
         }

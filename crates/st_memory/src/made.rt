@@ -2,7 +2,7 @@ ghost use Rattle.std.specs.Prelude.{◌≡◌, ◌≤◌, IfOk};
 ghost use Rattle.st_model.specs.Values.{Ref, word};
 ghost use Rattle.st_model.specs.Objects.{words_of};
 ghost use Rattle.st_model.specs.Table.{table};
-ghost use Rattle.st_model.specs.Steps.{count_fields, literal, byte_at, fetch_word, fetch_byte};
+ghost use Rattle.st_model.specs.Steps.{count_fields, literal, fetch_method_field, byte_at, fetch_word, fetch_byte};
 ghost use Rattle.st_model.specs.Methods.{method_header, literal_from_last};
 ghost use Rattle.st_model.specs.Calls.{Reads, itself};
 ghost use Rattle.st_memory.specs.Making.{IsMade, made_object, alone};
@@ -72,6 +72,25 @@ impl Made {
             return Err(Dead::Kind);
         }
         if i < self.literals {
+            Ok(Word::NIL)
+        } else {
+            Err(Dead::Field)
+        }
+    }
+
+    /// Field i of a method.
+    #[tactic(auto, using(crate::proofs::Fresh::method_fields))]
+    pub fn fetch_method_field(self, i: u32) -> Result<Word, Dead>
+        requires { IsMade self }
+        ensures { Reads (fetch_method_field table (Ref 0) i) word (alone (made_object self)) result }
+    {
+        if !self.kind.is_method() {
+            return Err(Dead::Kind);
+        }
+        if i == 0 {
+            return Ok(Word(2 * self.literals + 1));
+        }
+        if i <= self.literals {
             Ok(Word::NIL)
         } else {
             Err(Dead::Field)

@@ -4,7 +4,7 @@ ghost use Rattle.st_model.specs.Objects.{place_of};
 ghost use Rattle.st_model.specs.declared.page.PageObject.TheVariants.{MethodClass};
 ghost use Rattle.st_model.specs.Machine.{ObjectMemory, Head, is_there, used};
 ghost use Rattle.st_model.specs.Table.{Table, IsTabular};
-ghost use Rattle.st_model.specs.Steps.{fetch_field, count_fields, class_of, literal, byte_at, fetch_word, fetch_byte, store_field, transfer, exchange, make, new_object};
+ghost use Rattle.st_model.specs.Steps.{fetch_field, count_fields, class_of, literal, fetch_method_field, byte_at, fetch_word, fetch_byte, store_field, transfer, exchange, make, new_object};
 ghost use Rattle.st_model.specs.Methods.{method_header, literal_from_last};
 ghost use Rattle.st_model.specs.Lookup.{half_word};
 ghost use Rattle.st_model.specs.Calls.{Reads, Changes, itself};
@@ -65,6 +65,10 @@ pub trait Objects {
     /// The literal of a method with k literals behind it.
     fn literal_from_last(&self, method: Word, k: u32) -> Result<Word, Dead>
         ensures { Reads (literal_from_last names (word method) k) word (table self.now) result };
+
+    /// Field i of a method: its header, or literal i - 1.
+    fn fetch_method_field(&self, method: Word, i: u32) -> Result<Word, Dead>
+        ensures { Reads (fetch_method_field names (word method) i) word (table self.now) result };
 
     /// Byte `ip` of a method, counted from 0, where that is one of its bytecodes and at most 16381.
     fn byte_at(&self, method: Word, ip: i32) -> Result<u8, Dead>
