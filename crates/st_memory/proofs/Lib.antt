@@ -4,6 +4,7 @@ mod Copying
 pub mod Drafted
 pub mod Exchanged
 pub mod Freeing
+pub mod Fresh
 pub mod Keeping
 pub mod Looking
 pub mod Moved

@@ -6,15 +6,17 @@ ghost use Rattle.st_model.specs.Machine.{used};
 ghost use Rattle.st_model.specs.Steps.{count_fields};
 ghost use Rattle.st_model.specs.Calls.{Reads, itself};
 ghost use Rattle.st_model.specs.View.{Has, Lacks};
-ghost use Rattle.st_memory.specs.Drafts.{AllThere, made_object, field_value, after_change, replayed, highest, HasField, named_object, IsOrigin, AreOf};
+ghost use Rattle.st_memory.specs.Drafts.{AllThere, field_value, after_change, replayed, highest, HasField, named_object, IsOrigin, AreOf};
+ghost use Rattle.st_memory.specs.Making.{IsMade, made_object};
 ghost use Rattle.st_memory.specs.Noted.{with_noted, noted, drafted, count_of};
 
-use crate::change::{Change, Exchange, Made, Origin};
+use crate::change::{Change, Exchange, Origin};
 use crate::exchanges::Exchanges;
+use crate::made::Made;
 use crate::memory::Memory;
 use crate::notes::Notes;
 use crate::objects::Objects;
-use st_model::{Dead, Demand, Oop, Word};
+use st_model::{Dead, Demand, Kind, Oop, Word};
 
 /// A memory as it would be after a row, whose changes are noted and not made. It takes 24 changes, new objects and exchanges
 /// together. Exchanges stand behind all other changes: what changes an object that was exchanged is noted of the word
@@ -85,7 +87,7 @@ impl<'a, M: Memory> Draft<'a, M> {
     fn find_made(&self, o: Word) -> Option<Made>
         ensures found { let base = (M.view self.now.base.now).objects in
             IfSome result (λ m. named_object (with_noted base self.now.notes) (word o) ≡ Some (made_object m)) }
-        ensures small { IfSome result (λ m. m.size ≤ 65533) }
+        ensures sized { IfSome result (λ m. IsMade m) }
         ensures none { let base = (M.view self.now.base.now).objects in
             IfNone result (named_object (with_noted base self.now.notes) (word o) ≡ named_object base (word o)) }
     {
@@ -100,7 +102,7 @@ impl<'a, M: Memory> Draft<'a, M> {
         ensures small { IfOk result (λ n. n ≤ 131066) }
     {
         match self.find_made(o) {
-            Some(made) => Ok(made.size),
+            Some(made) => made.count_fields(),
             None => self.base.count_fields(o),
         }
     }
@@ -295,7 +297,7 @@ impl<'a, M: Memory> Objects for Draft<'a, M> {
     fn method_header(&self, method: Word) -> Result<Word, Dead> {
         let before = self.exchanges.word_before(method);
         match self.find_made(before) {
-            Some(_) => Err(Dead::Kind),
+            Some(made) => made.method_header(),
             None => self.base.method_header(before),
         }
     }
@@ -303,7 +305,7 @@ impl<'a, M: Memory> Objects for Draft<'a, M> {
     fn literal(&self, method: Word, i: u32) -> Result<Word, Dead> {
         let before = self.exchanges.word_before(method);
         match self.find_made(before) {
-            Some(_) => Err(Dead::Kind),
+            Some(made) => made.literal(i),
             None => self.base.literal(before, i),
         }
     }
@@ -311,15 +313,23 @@ impl<'a, M: Memory> Objects for Draft<'a, M> {
     fn literal_from_last(&self, method: Word, k: u32) -> Result<Word, Dead> {
         let before = self.exchanges.word_before(method);
         match self.find_made(before) {
-            Some(_) => Err(Dead::Kind),
+            Some(made) => made.literal_from_last(k),
             None => self.base.literal_from_last(before, k),
+        }
+    }
+
+    fn fetch_method_field(&self, method: Word, i: u32) -> Result<Word, Dead> {
+        let before = self.exchanges.word_before(method);
+        match self.find_made(before) {
+            Some(made) => made.fetch_method_field(i),
+            None => self.base.fetch_method_field(before, i),
         }
     }
 
     fn byte_at(&self, method: Word, ip: i32) -> Result<u8, Dead> {
         let before = self.exchanges.word_before(method);
         match self.find_made(before) {
-            Some(_) => Err(Dead::Kind),
+            Some(made) => made.byte_at(ip),
             None => self.base.byte_at(before, ip),
         }
     }
@@ -327,8 +337,16 @@ impl<'a, M: Memory> Objects for Draft<'a, M> {
     fn fetch_word(&self, o: Word, i: u32) -> Result<u16, Dead> {
         let before = self.exchanges.word_before(o);
         match self.find_made(before) {
-            Some(_) => Err(Dead::Kind),
+            Some(made) => made.fetch_word(i),
             None => self.base.fetch_word(before, i),
+        }
+    }
+
+    fn fetch_byte(&self, o: Word, i: u32) -> Result<u8, Dead> {
+        let before = self.exchanges.word_before(o);
+        match self.find_made(before) {
+            Some(made) => made.fetch_byte(i),
+            None => self.base.fetch_byte(before, i),
         }
     }
 
@@ -400,15 +418,25 @@ impl<'a, M: Memory> Objects for Draft<'a, M> {
         Ok(())
     }
 
-    fn new_object(&mut self, class: Word, n: u32) -> Result<Word, Dead> {
+    fn make(&mut self, class: Word, kind: Kind, size: u32, literals: u32) -> Result<Word, Dead> {
         if class.is_small() {
             return Err(Dead::Small);
         }
         if !self.is_there(class) {
             return Err(Dead::Kind);
         }
-        let o = self.notes.add(Made { class, size: n });
+        let o = self.notes.add(Made {
+            class,
+            kind,
+            size,
+            literals,
+        });
         Ok(o)
+    }
+
+    #[tactic(auto, unfolding(st_model::specs::Steps::new_object))]
+    fn new_object(&mut self, class: Word, n: u32) -> Result<Word, Dead> {
+        self.make(class, Kind::Pointers, n, 0)
     }
 
     ghost tabular = { apart_tabular };

@@ -4,14 +4,15 @@ ghost use Rattle.st_model.specs.Objects.{place_of};
 ghost use Rattle.st_model.specs.declared.page.PageObject.TheVariants.{MethodClass};
 ghost use Rattle.st_model.specs.Machine.{ObjectMemory, Head, is_there, used};
 ghost use Rattle.st_model.specs.Table.{Table, IsTabular};
-ghost use Rattle.st_model.specs.Steps.{fetch_field, count_fields, class_of, literal, byte_at, fetch_word, store_field, transfer, exchange, new_object};
+ghost use Rattle.st_model.specs.Steps.{fetch_field, count_fields, class_of, literal, fetch_method_field, byte_at, fetch_word, fetch_byte, store_field, transfer, exchange, make, new_object};
 ghost use Rattle.st_model.specs.Methods.{method_header, literal_from_last};
 ghost use Rattle.st_model.specs.Lookup.{half_word};
 ghost use Rattle.st_model.specs.Calls.{Reads, Changes, itself};
 ghost use Rattle.st_model.specs.View.{View};
 ghost use Rattle.st_memory.specs.Left.{left_of};
+ghost use Rattle.st_memory.specs.Making.{CanMake};
 
-use st_model::{Dead, Demand, Word};
+use st_model::{Dead, Demand, Kind, Word};
 
 /// The objects that the row of a bytecode reads and changes: those of a memory, or those of a draft over one, which
 /// tells what a row would do. Each call does what the step of its name in the definitions does, and dies as that does.
@@ -65,6 +66,10 @@ pub trait Objects {
     fn literal_from_last(&self, method: Word, k: u32) -> Result<Word, Dead>
         ensures { Reads (literal_from_last names (word method) k) word (table self.now) result };
 
+    /// Field i of a method: its header, or literal i - 1.
+    fn fetch_method_field(&self, method: Word, i: u32) -> Result<Word, Dead>
+        ensures { Reads (fetch_method_field names (word method) i) word (table self.now) result };
+
     /// Byte `ip` of a method, counted from 0, where that is one of its bytecodes and at most 16381.
     fn byte_at(&self, method: Word, ip: i32) -> Result<u8, Dead>
         ensures { Reads (byte_at names (word method) ip) itself (table self.now) result };
@@ -72,6 +77,10 @@ pub trait Objects {
     /// Word i of an object of kind Words.
     fn fetch_word(&self, o: Word, i: u32) -> Result<u16, Dead>
         ensures { Reads (fetch_word names (word o) i) itself (table self.now) result };
+
+    /// Byte i of an object of kind Bytes or Method. A method's header and literals count, but aren't read so.
+    fn fetch_byte(&self, o: Word, i: u32) -> Result<u8, Dead>
+        ensures { Reads (fetch_byte names (word o) i) itself (table self.now) result };
 
     /// How many entries and words of the capacities the objects leave.
     fn free(&self) -> Demand
@@ -106,6 +115,17 @@ pub trait Objects {
     fn exchange(&mut self, a: Word, b: Word) -> Result<(), Dead>
         requires { 1 ≤ room self.old }
         ensures exchanges { Changes (exchange names (word a) (word b)) itself
+            (table self.old) (head self.old) result (table self.new) }
+        ensures head { head self.new ≡ head self.old }
+        ensures room { room self.old ≤ room self.new + 1 }
+        ensures fixed { fixed self.new ≡ fixed self.old };
+
+    /// A new object of this class, kind, size and number of literals, with nil in its fields and literals, and words and
+    /// bytes of 0.
+    fn make(&mut self, class: Word, kind: Kind, size: u32, literals: u32) -> Result<Word, Dead>
+        requires room { 1 ≤ room self.old }
+        requires makeable { CanMake (word class) kind size literals }
+        ensures makes { Changes (make names (word class) kind size literals) word
             (table self.old) (head self.old) result (table self.new) }
         ensures head { head self.new ≡ head self.old }
         ensures room { room self.old ≤ room self.new + 1 }
