@@ -7,6 +7,7 @@ pub mod SendsSame
 pub mod PrimitivesSame
 mod StorageSame
 pub mod Deeds
+pub mod Leaving
 pub mod ExecutingSame
 pub mod ReturnsSame
 pub mod BytecodesSame
