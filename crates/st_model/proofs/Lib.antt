@@ -4,6 +4,9 @@ pub mod StepsSame
 pub mod ContextsSame
 pub mod LookupSame
 pub mod SendsSame
+pub mod PrimitivesSame
+mod StorageSame
+pub mod Deeds
 pub mod ExecutingSame
 pub mod ReturnsSame
 pub mod BytecodesSame
@@ -46,6 +49,9 @@ pub mod Making
 mod ImageRows
 mod OperationRows
 mod DecodedRows
+mod IntegerRows
 pub mod Opened
 mod Rows
 mod SendRows
+mod ArithmeticRows
+mod StorageRows

@@ -1,0 +1,46 @@
+use crate::word::Word;
+
+/// What a primitive leaves to be done on the memory once receiver and arguments are popped and the answer is pushed: a change
+/// of words or bytes, or of a Method's header or literals. Where there is no such place, nothing is done.
+#[derive(Clone, Copy)]
+pub enum Deed {
+    /// Nothing is left to be done.
+    Nothing,
+    /// A word is stored in an object of kind Words, at a place counted from 0.
+    StoreWord {
+        object: Word,
+        place: u32,
+        word: u16,
+    },
+    /// A byte is stored in an object of kind Bytes or Method, at a place counted from 0; of a Method from the first
+    /// bytecode on.
+    StoreByte {
+        object: Word,
+        place: u32,
+        byte: u8,
+    },
+    /// The bytes of an object become those of a number, where it has as many.
+    StoreNumber {
+        object: Word,
+        number: u32,
+    },
+    /// The bytes of an object from `first` to `last`, counted from 1, become those of another from `from` on.
+    ReplaceBytes {
+        target: Word,
+        source: Word,
+        first: u32,
+        last: u32,
+        from: u32,
+    },
+    /// A Method's header becomes another one that counts as many literals.
+    StoreHeader {
+        method: Word,
+        header: Word,
+    },
+    /// Literal `number` of a Method, counted from 0, becomes another value that is there.
+    StoreLiteral {
+        method: Word,
+        number: u32,
+        value: Word,
+    },
+}
