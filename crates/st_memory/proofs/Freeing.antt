@@ -61,13 +61,13 @@ free_same (None ∷ t) (None ∷ u) j zero l same = refl
 free_same (None ∷ t) (None ∷ u) j (suc i) l same = free_same t u (suc j) i (omega (arith, l)) (λ k m. same (suc k) (omega (arith, m)))
 free_same (Some a ∷ t) (Some b ∷ u) j i l same = free_same t u (suc j) i (omega (arith, l)) (λ k m. same (suc k) (omega (arith, m)))
 
-free_rest : (t u : Table) (j i : ℕ) → length t ≡ length u → ((k : ℕ) → k < length t → is_some (entry t k) ≡ is_some (entry u k)) → free_place (without_first t) j i ≡ free_place (without_first u) j i
+pub free_rest : (t u : Table) (j i : ℕ) → length t ≡ length u → ((k : ℕ) → k < length t → is_some (entry t k) ≡ is_some (entry u k)) → free_place (without_first t) j i ≡ free_place (without_first u) j i
 free_rest [] [] j i l same = refl
 free_rest [] (f ∷ u) j i l same = absurd (omega (arith, l))
 free_rest (e ∷ t) [] j i l same = absurd (omega (arith, l))
 free_rest (e ∷ t) (f ∷ u) j i l same = free_same t u j i (omega (arith, l)) (λ k m. same (suc k) (omega (arith, m)))
 
-entry_taken : (t : Table) (n k : ℕ) → k < n → entry (take n t) k ≡ entry t k
+pub entry_taken : (t : Table) (n k : ℕ) → k < n → entry (take n t) k ≡ entry t k
 entry_taken [] zero k l = refl
 entry_taken [] (suc n) k l = refl
 entry_taken (e ∷ t) zero k l = absurd (omega (arith, l))

@@ -1,3 +1,4 @@
+mod Bearing
 pub mod Behind
 pub mod Bodies
 mod Copying

@@ -1,3 +1,4 @@
+pub mod Bearing
 pub mod Drafts
 pub mod Left
 pub mod Making

@@ -1,11 +1,13 @@
-ghost use Rattle.std.specs.Prelude.{◌≡◌, ◌<◌, ◌≤◌, ◌+◌, ◌-◌, ◌*◌, Some, IfSome, IfNone, IfOk, IfErr};
+ghost use Rattle.std.specs.Option.{option_map};
+ghost use Rattle.std.specs.Prelude.{is_some, ◌≡◌, ◌<◌, ◌≤◌, ◌+◌, ◌-◌, ◌*◌, Some, IfSome, IfNone, IfOk, IfErr};
 ghost use Rattle.st_model.specs.Values.{word, Ref};
 ghost use Rattle.st_model.specs.Objects.{one, words_of};
-ghost use Rattle.st_model.specs.Table.{apart, total_used, free_place, without_first};
+ghost use Rattle.st_model.specs.Table.{apart, entry, total_used, free_place, without_first, borne_apart};
 ghost use Rattle.st_model.specs.Machine.{used};
-ghost use Rattle.st_model.specs.Steps.{count_fields};
+ghost use Rattle.st_model.specs.Steps.{count_fields, named_or_not};
 ghost use Rattle.st_model.specs.Calls.{Reads, itself};
 ghost use Rattle.st_model.specs.View.{Has, Lacks};
+ghost use Rattle.st_memory.specs.Bearing.{IsNumberOf, instance_at};
 ghost use Rattle.st_memory.specs.Drafts.{AllThere, field_value, after_change, replayed, highest, HasField, named_object, IsOrigin, AreOf};
 ghost use Rattle.st_memory.specs.Making.{IsMade, made_object};
 ghost use Rattle.st_memory.specs.Noted.{with_noted, noted, drafted, count_of};
@@ -230,6 +232,87 @@ impl<'a, M: Memory> Draft<'a, M> {
         32768 + left
     }
 
+    /// Whether an object of the memory bears the pointer of which this is half.
+    fn is_taken(&self, place: u32) -> bool
+        ensures { result ≡ is_some (entry (M.view self.now.base.now).objects place) }
+    {
+        if place > 32767 {
+            return false;
+        }
+        self.base.live(Oop((2 * place) as u16))
+    }
+
+    /// The number of the place behind one whose number is given.
+    fn next_number(&self, place: u32, number: u32) -> u32
+        requires place { 0 < place }
+        requires number { let base = (M.view self.now.base.now).objects in
+            IsNumberOf base self.now.notes.made_count place number }
+        ensures { let base = (M.view self.now.base.now).objects in
+            IsNumberOf base self.now.notes.made_count (place + 1) result }
+    {
+        if number == self.notes.made_count {
+            return number;
+        }
+        if self.is_taken(place) {
+            number
+        } else {
+            number + 1
+        }
+    }
+
+    /// The number of a place.
+    fn number_of(&self, place: u32) -> u32
+        requires { 0 < place }
+        ensures { let base = (M.view self.now.base.now).objects in
+            IsNumberOf base self.now.notes.made_count place result }
+    {
+        let mut number = 0;
+        for before in 1..place {
+            if number == self.notes.made_count {
+                return number;
+            }
+            number = self.next_number(before, number);
+        }
+        number
+    }
+
+    /// The object that bears or will bear the pointer of which this is half.
+    fn bearer(&self, place: u32, number: u32) -> Option<Word>
+        requires place { 0 < place }
+        requires number { let base = (M.view self.now.base.now).objects in
+            IsNumberOf base self.now.notes.made_count place number }
+        ensures { let now = drafted (M.view self.now.base.now).objects self.now.notes self.now.exchanges in
+            option_map word result ≡ named_or_not (borne_apart now place) }
+    {
+        if self.is_taken(place) {
+            return Some(Word(2 * place));
+        }
+        if number < self.notes.made_count {
+            Some(Word(65536 + 2 * number))
+        } else {
+            None
+        }
+    }
+
+    /// That object, where it is an instance of a class.
+    fn instance_at(&self, class: Word, place: u32, number: u32) -> Option<Word>
+        requires place { 0 < place }
+        requires number { let base = (M.view self.now.base.now).objects in
+            IsNumberOf base self.now.notes.made_count place number }
+        ensures { let now = drafted (M.view self.now.base.now).objects self.now.notes self.now.exchanges in
+            option_map word result ≡ named_or_not (instance_at now (word class) place) }
+    {
+        let o = match self.bearer(place, number) {
+            Some(o) => o,
+            None => return None,
+        };
+        let own = match self.fetch_class(o) {
+            Ok(own) => own,
+            Err(_) => return None,
+        };
+        if own.same(class) { Some(o) } else { None }
+    }
+
     /// Whether an object of kind Pointers has n fields, from one on; else the cause of which a step dies.
     fn check_fields(&self, o: Word, from: u32, n: u32) -> Result<(), Dead>
         ensures has { let now = drafted (M.view self.now.base.now).objects self.now.notes self.now.exchanges in
@@ -348,6 +431,28 @@ impl<'a, M: Memory> Objects for Draft<'a, M> {
             Some(made) => made.fetch_byte(i),
             None => self.base.fetch_byte(before, i),
         }
+    }
+
+    fn object_at(&self, half: u32) -> Option<Word> {
+        if half == 0 {
+            return None;
+        }
+        self.bearer(half, self.number_of(half))
+    }
+
+    fn next_instance(&self, class: Word, after: u32) -> Option<Word> {
+        if after > 32766 {
+            return None;
+        }
+        let mut number = self.number_of(after + 1);
+        for place in after + 1..32768 {
+            let instance = self.instance_at(class, place, number);
+            if instance.is_some() {
+                return instance;
+            }
+            number = self.next_number(place, number);
+        }
+        None
     }
 
     fn free(&self) -> Demand {

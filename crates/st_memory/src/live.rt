@@ -249,6 +249,32 @@ impl<M: Memory> Objects for M {
         }
     }
 
+    #[tactic(auto, using(crate::proofs::Bearing::bearers))]
+    fn object_at(&self, half: u32) -> Option<Word> {
+        if half > 32767 {
+            return None;
+        }
+        if self.live(Oop((2 * half) as u16)) {
+            Some(Word(2 * half))
+        } else {
+            None
+        }
+    }
+
+    fn next_instance(&self, class: Word, after: u32) -> Option<Word> {
+        if after > 32767 {
+            return None;
+        }
+        let class = match live_object(self, class) {
+            Ok(class) => class,
+            Err(_) => return None,
+        };
+        match self.next_of(class, 2 * after) {
+            Some(o) => Some(Word::from(o)),
+            None => None,
+        }
+    }
+
     fn free(&self) -> Demand {
         let used = self.used();
         let capacity = self.capacity();

@@ -1,10 +1,11 @@
+ghost use Rattle.std.specs.Option.{option_map};
 ghost use Rattle.std.specs.Prelude.{◌≡◌, ◌≢◌, ℕ, ◌+◌, ◌≤◌, IfOk};
 ghost use Rattle.st_model.specs.Values.{Ref, word};
 ghost use Rattle.st_model.specs.Objects.{place_of};
 ghost use Rattle.st_model.specs.declared.page.PageObject.TheVariants.{MethodClass};
 ghost use Rattle.st_model.specs.Machine.{ObjectMemory, Head, is_there, used};
 ghost use Rattle.st_model.specs.Table.{Table, IsTabular};
-ghost use Rattle.st_model.specs.Steps.{fetch_field, count_fields, class_of, literal, fetch_method_field, byte_at, fetch_word, fetch_byte, store_field, transfer, exchange, make, new_object};
+ghost use Rattle.st_model.specs.Steps.{fetch_field, count_fields, class_of, literal, fetch_method_field, byte_at, fetch_word, fetch_byte, store_field, transfer, exchange, make, new_object, object_at, next_instance};
 ghost use Rattle.st_model.specs.Methods.{method_header, literal_from_last};
 ghost use Rattle.st_model.specs.Lookup.{half_word};
 ghost use Rattle.st_model.specs.Calls.{Reads, Changes, itself};
@@ -81,6 +82,14 @@ pub trait Objects {
     /// Byte i of an object of kind Bytes or Method. A method's header and literals count, but aren't read so.
     fn fetch_byte(&self, o: Word, i: u32) -> Result<u8, Dead>
         ensures { Reads (fetch_byte names (word o) i) itself (table self.now) result };
+
+    /// The object that bears the pointer of which this is half, or will bear it once it is made.
+    fn object_at(&self, half: u32) -> Option<Word>
+        ensures { Reads (object_at names half) (option_map word) (table self.now) (Ok result) };
+
+    /// Of the instances of a class that bear pointers above the one of which `after` is half, the one with the least.
+    fn next_instance(&self, class: Word, after: u32) -> Option<Word>
+        ensures { Reads (next_instance names (word class) after) (option_map word) (table self.now) (Ok result) };
 
     /// How many entries and words of the capacities the objects leave.
     fn free(&self) -> Demand
