@@ -12,6 +12,7 @@ pub mod Moved
 mod Moving
 pub mod Renaming
 pub mod Replaying
+pub mod Sizes
 pub mod Storing
 mod Swapping
 pub mod Units

@@ -370,6 +370,22 @@ impl<'a, M: Memory> Objects for Draft<'a, M> {
         }
     }
 
+    fn fetch_kind(&self, o: Word) -> Result<Kind, Dead> {
+        let before = self.exchanges.word_before(o);
+        match self.find_made(before) {
+            Some(made) => Ok(made.kind),
+            None => self.base.fetch_kind(before),
+        }
+    }
+
+    fn fetch_size(&self, o: Word) -> Result<u32, Dead> {
+        let before = self.exchanges.word_before(o);
+        match self.find_made(before) {
+            Some(made) => Ok(made.size),
+            None => self.base.fetch_size(before),
+        }
+    }
+
     fn half_word(&self, o: Word) -> u32 {
         match self.find_number(o) {
             Some(number) => self.free_place(number),

@@ -137,6 +137,18 @@ impl<M: Memory> Objects for M {
         Ok(Word::from(Memory::class_of(self, object)))
     }
 
+    #[tactic(auto, using(st_model::proofs::Runs::runs, crate::proofs::Sizes::kinds), unfolding(st_model::specs::Steps::fetch_kind))]
+    fn fetch_kind(&self, o: Word) -> Result<Kind, Dead> {
+        let object = live_object(self, o)?;
+        Ok(self.kind(object))
+    }
+
+    #[tactic(auto, using(st_model::proofs::Runs::runs, crate::proofs::Sizes::kinds), unfolding(st_model::specs::Steps::fetch_size))]
+    fn fetch_size(&self, o: Word) -> Result<u32, Dead> {
+        let object = live_object(self, o)?;
+        Ok(self.size(object))
+    }
+
     #[tactic(auto, using(crate::proofs::Wide::halves, crate::proofs::Wide::far))]
     fn half_word(&self, o: Word) -> u32 {
         if o.is_small() {

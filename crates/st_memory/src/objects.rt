@@ -3,14 +3,13 @@ ghost use Rattle.std.specs.Prelude.{◌≡◌, ◌≢◌, ℕ, ◌+◌, ◌≤�
 ghost use Rattle.st_model.specs.Values.{Ref, word};
 ghost use Rattle.st_model.specs.Objects.{place_of};
 ghost use Rattle.st_model.specs.declared.page.PageObject.TheVariants.{MethodClass};
-ghost use Rattle.st_model.specs.Machine.{ObjectMemory, Head, is_there, used};
+ghost use Rattle.st_model.specs.Machine.{ObjectMemory, Head, is_there};
 ghost use Rattle.st_model.specs.Table.{Table, IsTabular};
-ghost use Rattle.st_model.specs.Steps.{fetch_field, count_fields, class_of, literal, fetch_method_field, byte_at, fetch_word, fetch_byte, store_field, transfer, exchange, make, new_object, object_at, next_instance};
+ghost use Rattle.st_model.specs.Steps.{fetch_field, count_fields, class_of, literal, fetch_method_field, byte_at, fetch_word, fetch_byte, store_field, transfer, exchange, make, new_object, object_at, next_instance, fetch_kind, fetch_size, get_free};
 ghost use Rattle.st_model.specs.Methods.{method_header, literal_from_last};
 ghost use Rattle.st_model.specs.Lookup.{half_word};
 ghost use Rattle.st_model.specs.Calls.{Reads, Changes, itself};
 ghost use Rattle.st_model.specs.View.{View};
-ghost use Rattle.st_memory.specs.Left.{left_of};
 ghost use Rattle.st_memory.specs.Making.{CanMake};
 
 use st_model::{Dead, Demand, Kind, Word};
@@ -49,6 +48,15 @@ pub trait Objects {
     /// The class of an object.
     fn fetch_class(&self, o: Word) -> Result<Word, Dead>
         ensures { Reads (class_of names (word o)) word (table self.now) result };
+
+    /// Of what kind an object is.
+    fn fetch_kind(&self, o: Word) -> Result<Kind, Dead>
+        ensures { Reads (fetch_kind names (word o)) itself (table self.now) result };
+
+    /// How many fields, words or bytes an object has; a method's header and literals count as bytes.
+    fn fetch_size(&self, o: Word) -> Result<u32, Dead>
+        ensures size { Reads (fetch_size names (word o)) itself (table self.now) result }
+        ensures small { IfOk result (λ n. n ≤ 131066) };
 
     /// Half of a word: the bits of a SmallInteger, or half of the pointer that an object bears or will bear; 0 where there
     /// is no object.
@@ -93,7 +101,7 @@ pub trait Objects {
 
     /// How many entries and words of the capacities the objects leave.
     fn free(&self) -> Demand
-        ensures { result ≡ left_of (head self.now) (used names (table self.now)) };
+        ensures { Changes (get_free names) itself (table self.now) (head self.now) (Ok result) (table self.now) };
 
     /// Stores x in field i of an object of kind Pointers.
     fn store_field(&mut self, o: Word, i: u32, x: Word) -> Result<(), Dead>
