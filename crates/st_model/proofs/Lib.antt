@@ -4,6 +4,10 @@ pub mod StepsSame
 pub mod ContextsSame
 pub mod LookupSame
 pub mod SendsSame
+pub mod PrimitivesSame
+mod StorageSame
+pub mod Deeds
+pub mod Leaving
 pub mod ExecutingSame
 pub mod ReturnsSame
 pub mod BytecodesSame
@@ -21,6 +25,7 @@ pub mod Bounded
 pub mod Closed
 pub mod Going
 pub mod Reclaiming
+pub mod OnTop
 pub mod CyclesShown
 pub mod Runs
 pub mod Tabular
@@ -46,6 +51,9 @@ pub mod Making
 mod ImageRows
 mod OperationRows
 mod DecodedRows
+mod IntegerRows
 pub mod Opened
 mod Rows
 mod SendRows
+mod ArithmeticRows
+mod StorageRows
