@@ -4,7 +4,7 @@ use Rattle.st_outside.specs.Counts.{Rose, HasCause}
 use Rattle.st_outside.specs.Files.{Files, bytes_of, KeepsBelow}
 use Rattle.st_outside.specs.Stops.{Apart, Comes, comes, Follows, Torn, TornByWrite, TornByCut, Here, Elapses}
 use Rattle.st_outside.specs.Names.{same_or_other}
-use Rattle.st_outside.specs.Runs.{ReadsAlike, Narrows, Touched, Touches, Writes, Cuts, Syncs, WritesAbove, Elsewhere, Changes, NarrowsBut, ChangesBoth}
+use Rattle.st_outside.specs.Runs.{ReadsAlike, OnlyReads, Narrows, Touched, Touches, Writes, Cuts, Syncs, WritesAbove, Elsewhere, Changes, NarrowsBut, ChangesBoth}
 use Rattle.st_outside.specs.declared.host.Host.{Ghosts}
 use Rattle.st_outside.proofs.Rising.{rose_first, rose_second}
 use Rattle.st_outside.proofs.Joining.{weaker, moments_join, moments_once}
@@ -164,6 +164,16 @@ module _ {D : Type 0} (host : Ghosts D) (name : List ℕ) where
     quiet = λ told. second.quiet told ∙ first.quiet told;
     moments = λ told. moments_join host old mid new (Elsewhere host name old) (Elsewhere host name mid) (first.moments told) (second.moments told)
         (λ f s so. (so.0 ∙ first.quiet told, λ n other. (first.others told).fewer n (f n) other (so.1 n other)));
+  }
+
+  -- a run that only reads, and reads one file
+  pub reads_change : (old new : D) → OnlyReads host old new → (IsTrue host.is_told → (n : List ℕ) → n ≢ name → host.files new n ≡ host.files old n) → Changes host name old new
+  reads_change old new run others = record {
+    disk = run.disk;
+    say = run.say;
+    others = λ told. record { files = others told; fewer = λ n c other. (run.stops told).fewer n c; more = λ n c other. (run.stops told).more n c };
+    quiet = run.quiet;
+    moments = λ told. weaker host old new (Elsewhere host name old) (Here (host.may_leave old) (host.said old)) (run.moments told) (λ f s here. (here.1, λ n other. here.0 n));
   }
 
   pub narrows_but : (old new : D) → Narrows host old new → NarrowsBut host name old new
