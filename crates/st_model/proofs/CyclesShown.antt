@@ -22,10 +22,10 @@ use Rattle.st_model.proofs.BytecodesSame.{step-same}
 use Rattle.st_model.proofs.TableLemmas.{entry_before}
 use Rattle.st_model.proofs.BirthLemmas.{borne_before}
 use Rattle.st_model.proofs.SettledLemmas.{some_is}
-use Rattle.st_model.proofs.HeapsSame.{Naming, cycle_simulation}
+use Rattle.st_model.proofs.HeapsSame.{Naming, cycle_simulation, same_used}
 use Rattle.st_model.proofs.Started.{naming, states_start, heaps_start}
 use Rattle.st_model.proofs.Ended.{reclaimed}
-use Rattle.st_model.proofs.HeapsApart.{apart_simulation, states_apart, used_apart, used_same}
+use Rattle.st_model.proofs.HeapsApart.{apart_simulation, states_apart, used_apart}
 use Rattle.st_model.proofs.Bounded.{bounded_same}
 use Rattle.st_model.proofs.Closed.{step_sound}
 use Rattle.st_model.proofs.Going.{step_names_top}
@@ -109,7 +109,7 @@ module _ (c : State Table) (s : State Births) (w : Shows c s) (places : length c
   done_within o u (Died k) e h f = absurd h.1
   done_within o u (Went p d) e (inl h) f = absurd h.1
   done_within o u (Went p d) e (inr h) f =
-      let q = used_same c s w places u.memory d.memory h.2.memory in
+      let q = same_used (naming c s w) u.memory d.memory h.2.memory in
       let r : is_over (used table d.memory) c.head ≡ false = ap (λ x. is_over x c.head) q ∙ (heads_alike (used births u.memory) ∙ f) in
       let g : (step table).run c ≡ Went (Did (renamed_outcome (naming c s w).name o)) d = e ∙ ap (λ x. Went x d) h.1 in
       record {
@@ -138,7 +138,7 @@ module _ (c : State Table) (s : State Births) (w : Shows c s) (places : length c
   same_code = code_of ((next_byte births).run s) ((next_byte table).run c) ((next_byte-same (cycle_simulation (naming c s w))).go s c (states_start c s w))
 
   used_before : used table c.memory ≡ used births s.memory
-  used_before = used_same c s w places s.memory c.memory (heaps_start c s w)
+  used_before = same_used (naming c s w) s.memory c.memory (heaps_start c s w)
 
   pub same_free : free_space table c ≡ free_space births s
   same_free = let e = used_before in let f = w.head in ap (λ (a : Head). less (capacity_of a) (used table c.memory)) f ∙ ap (λ x. less (capacity_of s.head) x) e
@@ -219,9 +219,11 @@ sound_done c x o (Went (Did a) d) p l e f =
     let r = step_sound c.head l c d (Did a) p refl e in
     let g : reclaim table d ≡ x = cc in
     let h : a ≡ o = cc in
-    let live = outcome_stays d r.0.closed a (λ v q. step_names_top bounded_table c d v (e ∙ ap (λ (y : Outcome). Went (Did y) d) q)) in
-    (subst IsSound g (reclaim_sound d r.0), sym (ap (λ (y : State Table). y.head) g) ∙ (reclaim_head d ∙ r.1),
-     subst (λ (y : Outcome). IsLiveOutcome (IsUsed x.memory) y) h (subst (λ (y : State Table). IsLiveOutcome (IsUsed y.memory) a) g live))
+    let live = outcome_stays d r.0.closed a (λ v q. step_names_top bounded_table c d v (e ∙ ap (λ (y : Outcome). Went (Did y) d) q)) in (
+      subst IsSound g (reclaim_sound d r.0),
+      sym (ap (λ (y : State Table). y.head) g) ∙ (reclaim_head d ∙ r.1),
+      subst (λ (y : Outcome). IsLiveOutcome (IsUsed x.memory) y) h (subst (λ (y : State Table). IsLiveOutcome (IsUsed y.memory) a) g live),
+    )
 
 sound_if_room : (c d x : State Table) (o : Outcome) (b : Bool) → IsSound c → c.head.entries ≤ 32767 → done_if_room c d b ≡ Went (With o) x → IsSound x × (x.head ≡ c.head) × IsLiveOutcome (IsUsed x.memory) o
 sound_if_room c d x o true p l e = cc

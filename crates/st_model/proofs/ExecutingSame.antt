@@ -1,11 +1,12 @@
 -- Executing a method over births does the same over pointers.
-use Rattle.std.proofs.Common.{◌≡◌, ℕ, Option, Some, None, refl}
+use Rattle.std.proofs.Common.{◌≡◌, ℕ, Bool, Option, Some, None, refl}
 use Rattle.st_model.specs.declared.call.Performing.{Performing}
 use Rattle.st_model.specs.Values.{Value, renamed}
 use Rattle.st_model.specs.Machine.{ObjectMemory, Step}
 use Rattle.st_model.specs.Sends.{Call}
-use Rattle.st_model.specs.Executing.{goes_on, answer_field, respond, respond_by_extension, execute_by, execute, executed, execute_if_any, executed_if_any}
+use Rattle.st_model.specs.Executing.{goes_on, answer_field, or_activate, respond, respond_by_extension, execute_by, execute, executed, execute_if_any, executed_if_any}
 use Rattle.st_model.proofs.Same.{Simulation, ValueSame, CallSame, AnyCallSame, SameAnswer, SameCall, SameAnyCall, SameEnd, renamed_call, steps_same}
+use Rattle.st_model.proofs.PrimitivesSame.{arithmetic-same, equivalence-same, receiver_class-same, flush_cache-same}
 use Rattle.st_model.proofs.ContextsSame.{headers_same, activate-same, temporary_count-same}
 
 module _ {H K : Type 0} {M : ObjectMemory H} {N : ObjectMemory K} (sim : Simulation M N) (makes : sim.makes) where
@@ -13,10 +14,17 @@ module _ {H K : Type 0} {M : ObjectMemory H} {N : ObjectMemory K} (sim : Simulat
   unfolding goes_on
   goes_on-same m n h = search steps_same depth 16 fits 4000
 
+  or_activate-same : (c : Call) (v w : Value) (m : Step H Bool) (n : Step K Bool) → ValueSame sim c.method (renamed sim.name c.method) → ValueSame sim v w
+      → SameAnswer sim m n → SameEnd sim (or_activate M c v m) (or_activate N (renamed_call sim.name c) w n)
+  unfolding or_activate
+  or_activate-same c v w m n h k l = search (steps_same, goes_on-same, activate-same) depth 16 fits 4000
+
+  ruleset primitives_same = (arithmetic-same, equivalence-same, receiver_class-same, flush_cache-same)
+
   respond-same : (p : Performing) (c : Call) (v w : Value) (n : ℕ) → ValueSame sim c.method (renamed sim.name c.method) → ValueSame sim v w
       → SameEnd sim (respond M p c v n) (respond N p (renamed_call sim.name c) w n)
   unfolding respond
-  respond-same p c v w n h k = search (steps_same, goes_on-same, activate-same) depth 16 fits 4000
+  respond-same p c v w n h k = search (steps_same, goes_on-same, activate-same, or_activate-same, primitives_same) depth 24 fits 4000
 
   execute_by-same : (p : Performing) (c : Call) (v w : Value) (flag other : ℕ) → ValueSame sim c.method (renamed sim.name c.method) → ValueSame sim v w → other ≡ flag
       → SameEnd sim (execute_by M p c v flag) (execute_by N p (renamed_call sim.name c) w other)

@@ -10,8 +10,8 @@ use Rattle.st_model.specs.Outcomes.{Outcome, StepEnd, Did, NotBuilt}
 use Rattle.st_model.specs.Outcomes as outcome
 use Rattle.st_model.specs.Machine.{ObjectMemory, State, Transition, Died, Went, Step, answer, die, after, ◌>>=◌, ◌>>◌}
 use Rattle.st_model.specs.Sends.{Call}
-use Rattle.st_model.specs.Executing.{goes_on, respond, respond_by_extension, execute_by, execute, executed, execute_if_any, executed_if_any}
-use Rattle.st_model.specs.Bytecodes.{arithmetic_by, arithmetic_send, bytecode, step}
+use Rattle.st_model.specs.Executing.{goes_on, or_activate, respond, respond_by_extension, execute_by, execute, executed, execute_if_any, executed_if_any}
+use Rattle.st_model.specs.Bytecodes.{or_send, arithmetic_by, arithmetic_send, primitive_send, bytecode, step}
 use Rattle.st_model.specs.Foreseen.{NamesTop}
 
 -- a step that is done only as one that went
@@ -57,7 +57,7 @@ module _ {H : Type 0} where
 
   module _ (m : ObjectMemory H) where
     execute_goes : (p : Performing) (c : Call) → OnlyGoes (execute m p c)
-    unfolding execute execute_by respond_by_extension respond
+    unfolding execute execute_by respond_by_extension respond or_activate
     execute_goes p c = search goings depth 16 fits 4000
 
     executed_goes : (s : Step H Call) → OnlyGoes (executed m s)
@@ -74,12 +74,12 @@ module _ {H : Type 0} where
     executed_if_any_goes s = search (goings, execute_if_any_goes)
 
     arithmetic_by_goes : (k : ℕ) (v : Value) → OnlyGoes (arithmetic_by m k v)
-    unfolding arithmetic_by
-    arithmetic_by_goes k (Small n) = not_built_goes
+    unfolding arithmetic_by or_send
+    arithmetic_by_goes k (Small n) = search (goings, executed_goes)
     arithmetic_by_goes k (Ref n) = executed_goes _
 
     bytecode_goes : (b : Bytecode) → OnlyGoes (bytecode m b)
-    unfolding bytecode arithmetic_send
+    unfolding bytecode arithmetic_send primitive_send
     bytecode_goes code.Unused = dead_goes _
     bytecode_goes b = search (goings, executed_goes, executed_if_any_goes, arithmetic_by_goes)
 

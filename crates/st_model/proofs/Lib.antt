@@ -4,6 +4,10 @@ pub mod StepsSame
 pub mod ContextsSame
 pub mod LookupSame
 pub mod SendsSame
+pub mod PrimitivesSame
+mod StorageSame
+pub mod Deeds
+pub mod Leaving
 pub mod ExecutingSame
 pub mod ReturnsSame
 pub mod BytecodesSame
@@ -47,6 +51,10 @@ pub mod Making
 mod ImageRows
 mod OperationRows
 mod DecodedRows
+mod IntegerRows
+mod Floors
 pub mod Opened
 mod Rows
 mod SendRows
+mod ArithmeticRows
+mod StorageRows

@@ -8,7 +8,7 @@ use Rattle.st_model.specs.Values.{Value, Small, Ref, IsLive}
 use Rattle.st_model.specs.Objects.{Object, is_pointers}
 use Rattle.st_model.specs.Outcomes.{Outcome, IsLiveOutcome}
 use Rattle.st_model.specs.Outcomes as outcome
-use Rattle.st_model.specs.Machine.{State, Died, Went, answer, die, after, ◌>>=◌, ◌>>◌}
+use Rattle.st_model.specs.Machine.{State, Went, answer, die, after, ◌>>=◌, ◌>>◌}
 use Rattle.st_model.specs.Steps.{found, object_named, object, check, or_die, fetch_field, get_sp, get_active, top}
 use Rattle.st_model.specs.Table.{Table, table, bounded_table, entry}
 use Rattle.st_model.specs.Settled.{reclaim}

@@ -15,29 +15,29 @@ use Rattle.st_model.specs.Foreseen.{foreseen_cycle}
 use Rattle.st_model.proofs.Opened.{opened}
 
 -- an object of kind Pointers, by half the pointer of its class
-pointers : ℕ → List Value → Option Object
+unfoldable pub pointers : ℕ → List Value → Option Object
 pointers class fields = Some (record { class = class; kind = kind.Pointers; fields = fields; units = [] })
 
-plain : List Value → Option Object
+unfoldable pub plain : List Value → Option Object
 unfolding pointers
 plain fields = pointers 6 fields
 
-method : List Value → List ℕ → Option Object
+unfoldable pub method : List Value → List ℕ → Option Object
 method fields bytes = Some (record { class = 17; kind = kind.Method; fields = fields; units = bytes })
 
 -- the active context, with these pointers in stored form and these two words on its stack
-active : ℕ → ℕ → Value → Value → Option Object
+unfoldable pub active : ℕ → ℕ → Value → Value → Option Object
 unfolding pointers
 active ip sp x y = pointers 11 (nil ∷ Small ip ∷ Small sp ∷ Ref 32 ∷ nil ∷ nil ∷ x ∷ y ∷ replicate 10 nil)
 
 -- a context of the method 72, with this argument
-activation : ℕ → Value → Option Object
+unfoldable pub activation : ℕ → Value → Option Object
 unfolding pointers
 activation ip x = pointers 11 (Ref 31 ∷ Small ip ∷ Small 1 ∷ Ref 36 ∷ nil ∷ Small 16383 ∷ x ∷ replicate 11 nil)
 
 -- the image's objects, with the one whose class is understood under the selector 66 or 42, those of pointers 10, 18 and
 -- 20, the active context, and the literals and bytes of its method
-objects : ℕ → Option Object → Option Object → Option Object → Option Object → List Value → List ℕ → Table
+unfoldable pub objects : ℕ → Option Object → Option Object → Option Object → Option Object → List Value → List ℕ → Table
 unfolding plain pointers method
 objects selector at10 at18 at20 context literals bytes =
     None ∷ plain [] ∷ plain [] ∷ plain [] ∷ plain (nil ∷ Ref 29 ∷ []) ∷ at10 ∷ plain (nil ∷ Ref 34 ∷ Small 0 ∷ []) ∷ plain [] ∷ plain [] ∷ at18 ∷ at20
@@ -46,13 +46,13 @@ objects selector at10 at18 at20 context literals bytes =
     ∷ context ∷ method literals bytes ∷ Some (record { class = 28; kind = kind.Bytes; fields = []; units = 43 ∷ [] })
     ∷ plain (Small 1 ∷ Ref 35 ∷ Ref selector ∷ []) ∷ pointers 8 (Ref 36 ∷ []) ∷ method (Small 4224 ∷ []) (120 ∷ []) ∷ []
 
-state : ℕ → Registers → Table → State Table
+unfoldable pub state : ℕ → Registers → Table → State Table
 state entries r t = record { memory = t; registers = r; world = empty_world nil; head = record { entries = entries; words = 1048576; globals = None; symbols = None } }
 
-in_sender : ℤ → ℕ → Registers
+unfoldable pub in_sender : ℤ → ℕ → Registers
 in_sender ip sp = record { active = Ref 31; home = Ref 31; method = Ref 32; receiver = nil; ip = ip; sp = sp }
 
-in_method : ℕ → Registers
+unfoldable pub in_method : ℕ → Registers
 in_method context = record { active = Ref context; home = Ref context; method = Ref 36; receiver = Small 16383; ip = pos 2; sp = 6 }
 
 -- the header counts two literals
@@ -113,7 +113,7 @@ foreseen_not_understood : run_of foreseen_cycle 3 (at_first 31 21) ≡ Went (Wit
 unfolding opened at_first activation in_method state in_sender objects active literals bytes plain pointers method
 foreseen_not_understood = refl
 
--- the special send 176 to a SmallInteger would try a primitive first
-unbuilt : run table 3 (state 32767 (in_sender (pos 4) 5) (objects 33 None None None (active 5 0 nil nil) (Small 1 ∷ Small 16383 ∷ []) (32 ∷ 118 ∷ 176 ∷ []))) ≡ Went (Unbuilt 176) (state 32767 (in_sender (pos 6) 7) (objects 33 None None None (active 5 0 (Small 16383) (Small 1)) (Small 1 ∷ Small 16383 ∷ []) (32 ∷ 118 ∷ 176 ∷ [])))
+-- the special send 200 would try a primitive first
+unbuilt : run table 3 (state 32767 (in_sender (pos 4) 5) (objects 33 None None None (active 5 0 nil nil) (Small 1 ∷ Small 16383 ∷ []) (32 ∷ 118 ∷ 200 ∷ []))) ≡ Went (Unbuilt 200) (state 32767 (in_sender (pos 6) 7) (objects 33 None None None (active 5 0 (Small 16383) (Small 1)) (Small 1 ∷ Small 16383 ∷ []) (32 ∷ 118 ∷ 200 ∷ [])))
 unfolding opened at_first activation in_method state in_sender objects active literals bytes plain pointers method
 unbuilt = refl

@@ -1,5 +1,5 @@
 -- The bytecodes, a definition for each group of rows of the book's table (chapter 28), and the step that does one.
-use Rattle.std.specs.Prelude.{ℕ, ◌+◌, ◌*◌, Option, ℤ, pos, ◌+ℤ◌, ◌-ℤ◌, ◌*ℤ◌}
+use Rattle.std.specs.Prelude.{ℕ, ◌+◌, ◌*◌, ◌==◌, Option, Bool, if◌then◌else◌, ℤ, pos, ◌+ℤ◌, ◌-ℤ◌, ◌*ℤ◌}
 use Rattle.st_model.specs.declared.dead.Dead.TheVariants as dead
 use Rattle.st_model.specs.declared.bytecode.Operand.{Operand}
 use Rattle.st_model.specs.declared.bytecode.Operand.TheVariants.{ReceiverVariable, TemporaryVariable, LiteralConstant, LiteralVariable}
@@ -9,11 +9,13 @@ use Rattle.st_model.specs.declared.bytecode.Bytecode.{Bytecode}
 use Rattle.st_model.specs.declared.bytecode.Bytecode.TheVariants as code
 use Rattle.st_model.specs.Values.{Value, Small, Ref}
 use Rattle.st_model.specs.Objects.{NilObject, FalseObject, TrueObject}
-use Rattle.st_model.specs.Outcomes.{StepEnd, NotBuilt}
+use Rattle.st_model.specs.Outcomes.{StepEnd, Did, NotBuilt}
+use Rattle.st_model.specs.Outcomes as outcome
 use Rattle.st_model.specs.Decoded.{decoded, operand_of, selector_of, arguments_of}
 use Rattle.st_model.specs.Machine.{ObjectMemory, Step, answer, die, ◌>>=◌}
 use Rattle.st_model.specs.Steps.{get_active, get_home, get_method, get_receiver, fetch_field, store_field, of_page, push, top, under, pop, literal, next_byte, jump}
 use Rattle.st_model.specs.Sends.{Call, send, send_to_super, special_send}
+use Rattle.st_model.specs.Arithmetic.{arithmetic, arithmetic_number, equivalence, receiver_class}
 use Rattle.st_model.specs.Executing.{goes_on, executed, executed_if_any}
 use Rattle.st_model.specs.Returns.{return_to_sender, return_to_caller, jump_on}
 
@@ -229,15 +231,25 @@ long_jump_on_false m i = do
   b ← next_byte m
   jump_on m FalseObject TrueObject (pos (i * 256 + b))
 
+-- a primitive was tried: where it failed, the special selector of this number is sent
+unfoldable pub or_send : {H : Type 0} → ObjectMemory H → ℕ → Step H Bool → Step H StepEnd
+or_send m k primitive = do
+  succeeded ← primitive
+  if succeeded then answer (Did outcome.Went) else executed m (special_send m k)
+
 -- 176 to 191: a primitive is tried first where the receiver of one argument is a SmallInteger
 unfoldable pub arithmetic_by : {H : Type 0} → ObjectMemory H → ℕ → Value → Step H StepEnd
-arithmetic_by m k (Small n) = answer NotBuilt
+arithmetic_by m k (Small n) = or_send m k (arithmetic m (arithmetic_number k))
 arithmetic_by m k (Ref n) = executed m (special_send m k)
 
 unfoldable pub arithmetic_send : {H : Type 0} → ObjectMemory H → ℕ → Step H StepEnd
 arithmetic_send m k = do
   receiver ← under m 1
   arithmetic_by m k receiver
+
+-- 198 and 199: the primitives 110 and 111 are done; those of 200 to 202 aren't built
+unfoldable pub primitive_send : {H : Type 0} → ObjectMemory H → ℕ → Step H StepEnd
+primitive_send m k = if k == 22 then goes_on (equivalence m) else if k == 23 then goes_on (receiver_class m) else answer NotBuilt
 
 -- opens the rows
 unfoldable pub rows : Unit {0}
@@ -272,7 +284,7 @@ bytecode m (code.LongJumpOnTrue i) = executed_if_any m (long_jump_on_true m i)
 bytecode m (code.LongJumpOnFalse i) = executed_if_any m (long_jump_on_false m i)
 bytecode m (code.ArithmeticSend k) = arithmetic_send m k
 bytecode m (code.SpecialSend k) = executed m (special_send m k)
-bytecode m (code.PrimitiveSend k) = answer NotBuilt
+bytecode m (code.PrimitiveSend k) = primitive_send m k
 bytecode m (code.LiteralSend i n) = executed m (send_literal m i n)
 
 -- the next bytecode

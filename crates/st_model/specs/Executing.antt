@@ -1,5 +1,5 @@
--- What executes a method that was called (chapter 28). No primitive is built yet.
-use Rattle.std.specs.Prelude.{ℕ, ◌==◌, Option, Some, None, if◌then◌else◌}
+-- What executes a method that was called (chapter 28), by its primitive where it has one.
+use Rattle.std.specs.Prelude.{ℕ, ◌==◌, Option, Some, None, Bool, ◌&&◌, ◌||◌, nat_le, if◌then◌else◌}
 use Rattle.st_model.specs.declared.call.Performing.{Performing}
 use Rattle.st_model.specs.declared.call.Performing.TheVariants.{Allowed}
 use Rattle.st_model.specs.Values.{Value}
@@ -10,6 +10,7 @@ use Rattle.st_model.specs.Steps.{fetch_field, push, pop}
 use Rattle.st_model.specs.Methods.{flag_of, temporary_count, method_header, method_primitive}
 use Rattle.st_model.specs.Contexts.{activate}
 use Rattle.st_model.specs.Sends.{Call}
+use Rattle.st_model.specs.Arithmetic.{arithmetic, equivalence, receiver_class, flush_cache}
 
 -- a step that goes on
 unfoldable pub goes_on : {H : Type 0} → Step H Unit → Step H StepEnd
@@ -24,9 +25,29 @@ answer_field m i = do
   v ← fetch_field m x i
   push m v
 
--- a method of this primitive is executed, where 83 and 84 may still perform or no more; primitive 0 is none
+-- a primitive was tried: where it failed, the method is activated
+unfoldable pub or_activate : {H : Type 0} → ObjectMemory H → Call → Value → Step H Bool → Step H StepEnd
+or_activate m call header primitive = do
+  succeeded ← primitive
+  if succeeded then answer (Did outcome.Went) else goes_on (activate m call.method header call.arguments)
+
+abbrev pub is_from : ℕ → ℕ → ℕ → Bool
+is_from first last n = nat_le first n && nat_le n last
+
+-- the numbers whose primitives aren't built
+abbrev pub is_unbuilt : ℕ → Bool
+is_unbuilt n = is_from 60 88 n || (is_from 90 102 n || (n == 105 || (is_from 112 116 n || n == 128)))
+
+-- A method of this primitive is executed, where 83 and 84 may still perform or no more; 0 is none. A primitive that is given
+-- another number of arguments than its own fails. Always fail, and activate the method as 0 does, 21 to 37, 40 to 54, 103 and
+-- 104, which are optional in the book, and the numbers that the book doesn't name.
 unfoldable pub respond : {H : Type 0} → ObjectMemory H → Performing → Call → Value → ℕ → Step H StepEnd
-respond m performing call header primitive = if primitive == 0 then goes_on (activate m call.method header call.arguments) else answer NotBuilt
+respond m performing call header primitive =
+    if is_from 1 18 primitive && call.arguments == 1 then or_activate m call header (arithmetic m primitive) else
+    if primitive == 89 then goes_on (flush_cache m call.arguments) else
+    if primitive == 110 && call.arguments == 1 then goes_on (equivalence m) else
+    if primitive == 111 && call.arguments == 0 then goes_on (receiver_class m) else
+    if is_unbuilt primitive then answer NotBuilt else goes_on (activate m call.method header call.arguments)
 
 unfoldable pub respond_by_extension : {H : Type 0} → ObjectMemory H → Performing → Call → Value → Step H StepEnd
 respond_by_extension m performing call header = do

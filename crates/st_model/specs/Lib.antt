@@ -10,6 +10,11 @@ pub mod Methods
 pub mod Contexts
 pub mod Lookup
 pub mod Sends
+pub mod Integers
+pub mod Primitives
+pub mod Arithmetic
+pub mod Storage
+pub mod Deeds
 pub mod Executing
 pub mod Returns
 pub mod Bytecodes

@@ -1,0 +1,10 @@
+/// What a primitive on two SmallIntegers answers. Its integers are from -16384 to 16383.
+#[derive(Clone, Copy, Debug, PartialEq, Eq)]
+pub enum IntAnswer {
+    /// This SmallInteger.
+    Number(i16),
+    /// true or false.
+    Truth(bool),
+    /// The Point of these two.
+    Point(i16, i16),
+}
