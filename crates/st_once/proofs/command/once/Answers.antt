@@ -1,6 +1,5 @@
 use Rattle.std.proofs.Common.{◌≡◌, List, ℕ, ◌++◌, ◌∙◌, refl, sym, ap, subst}
 use Rattle.st_outside.specs.declared.host.Host.{Ghosts}
-use Rattle.st_outside.specs.Runs.{SaysAll, OnlyReads, ReadsAndSays}
 use Rattle.st_outside.proofs.Joining.{reads_first}
 use Rattle.st_model.specs.Objects.{nil}
 use Rattle.st_model.specs.Machine.{World, State, empty_world}
@@ -13,7 +12,6 @@ use Rattle.st_model.proofs.Raised.{raised_shown}
 use Rattle.st_frames.specs.declared.frame.Frame.{Frame}
 use Rattle.st_frames.specs.Shown.{IsReady, shown}
 use Rattle.st_frames.proofs.Closed.{is_closed}
-use Rattle.st_report.specs.Saying.{Says}
 use Rattle.st_image.specs.Reading.{IsStart}
 use Rattle.st_once.specs.Ends.{IsReport}
 use Rattle.st_once.proofs.command.once.Goals as goal

@@ -1,4 +1,4 @@
-use Rattle.std.proofs.Common.{◌≡◌, List, ℕ, ◌++◌, OnOk, sym, subst, ap, ◌∙◌}
+use Rattle.std.proofs.Common.{◌≡◌, List, ℕ, OnOk, sym, subst, ap, ◌∙◌}
 use Rattle.st_outside.specs.Runs.{SaysAll}
 use Rattle.st_model.specs.Machine.{State, World}
 use Rattle.st_model.specs.Table.{Table}
