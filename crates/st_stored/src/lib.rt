@@ -1,0 +1,7 @@
+//! Objects as words of a heap: the size, the class and the body of each in a block of its own, which an entry of the table
+//! names.
+#![tactic(auto)]
+
+mod store;
+
+pub use store::Store;
