@@ -1,5 +1,6 @@
 pub mod Tying
 pub mod Runs
 pub mod Storing
+pub mod Forming
 pub mod Totals
 pub mod Swapping
