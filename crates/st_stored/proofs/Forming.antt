@@ -37,6 +37,12 @@ words_of-stored s sound =
     by_kind Method n third odd within some =
         let h = half_count (n - (2 + (literals_of (value_of third) + 1))) odd (λ o. let l = some o in omega (arith, l)) in omega (arith, h, within)
 
+pub unit_words : (u : Stored) (j : ℕ) → is_words u.kind ≡ true → unit_at u j ≡ cell u (2 + field_count u + j)
+unit_words u j words = ap (λ b. if b then cell u (2 + field_count u + j) else byte_of (cell u (2 + field_count u + j / 2)) j) words
+
+pub unit_bytes : (u : Stored) (j : ℕ) → is_words u.kind ≡ false → unit_at u j ≡ byte_of (cell u (2 + field_count u + j / 2)) j
+unit_bytes u j bytes = ap (λ b. if b then cell u (2 + field_count u + j) else byte_of (cell u (2 + field_count u + j / 2)) j) bytes
+
 -- a Method has a field
 pub some_field : (k : Kind) (n third : ℕ) → is_method k ≡ true → 0 < fields_in k n third
 some_field Pointers n third h = cc
@@ -90,12 +96,6 @@ module _ (s : Stored) (i w : ℕ) (within : i < length s.cells) where
   same_class : 2 ≤ i → cell t 1 / 2 ≡ cell s 1 / 2
   same_class above = ap (λ x. x / 2) (cell_other 1 (omega (arith, above)))
 
-  unit_words : (u : Stored) (j : ℕ) → is_words u.kind ≡ true → unit_at u j ≡ cell u (2 + field_count u + j)
-  unit_words u j words = ap (λ b. if b then cell u (2 + field_count u + j) else byte_of (cell u (2 + field_count u + j / 2)) j) words
-
-  unit_bytes : (u : Stored) (j : ℕ) → is_words u.kind ≡ false → unit_at u j ≡ byte_of (cell u (2 + field_count u + j / 2)) j
-  unit_bytes u j bytes = ap (λ b. if b then cell u (2 + field_count u + j) else byte_of (cell u (2 + field_count u + j / 2)) j) bytes
-
   same_unit : ((m : ℕ) → cell t (2 + field_count t + m) ≡ cell s (2 + field_count s + m)) → (j : ℕ) → unit_at t j ≡ unit_at s j
   same_unit same j = λ x. if is_words s.kind then same j x else byte_of (same (j / 2) x) j
 
@@ -137,8 +137,8 @@ object-word s at w sound words below =
     let same = same_count s (2 + field_count s + at) w within (λ method e. let none = no_method s.kind words method in absurd none) in
     let place = 2 + field_count s + at in
     (within, same, object-unit s place at w w within (omega arith) below same
-    (unit_words s place w within (with_cell s place w) at words ∙ ap (λ n. cell (with_cell s place w) (2 + n + at)) same ∙ cell_here s place w within)
-    (λ j ne. unit_words s place w within (with_cell s place w) j words ∙ ap (λ n. cell (with_cell s place w) (2 + n + j)) same ∙ cell_other s place w within (2 + field_count s + j) (λ z. ne (omega (arith, z))) ∙ sym (unit_words s place w within s j words)))
+    (unit_words (with_cell s place w) at words ∙ ap (λ n. cell (with_cell s place w) (2 + n + at)) same ∙ cell_here s place w within)
+    (λ j ne. unit_words (with_cell s place w) j words ∙ ap (λ n. cell (with_cell s place w) (2 + n + j)) same ∙ cell_other s place w within (2 + field_count s + j) (λ z. ne (omega (arith, z))) ∙ sym (unit_words s j words)))
   where
     no_method : (k : Kind) → is_words k ≡ true → is_method k ≡ true → ⊥
     no_method Pointers a b = cc
@@ -157,8 +157,8 @@ object-byte s at w v sound bytes below here half =
     let within : place < length s.cells = omega (arith, below, count, f) in
     let same = same_count s place w within (λ method e. let some = some_field s.kind (length s.cells) (cell s 2) method in absurd (omega (arith, some, e))) in
     (within, same, object-unit s place at w v within (omega arith) below same
-    (unit_bytes s place w within (with_cell s place w) at bytes ∙ ap (λ n. byte_of (cell (with_cell s place w) (2 + n + at / 2)) at) same ∙ ap (λ x. byte_of x at) (cell_here s place w within) ∙ here)
-    (λ j ne. unit_bytes s place w within (with_cell s place w) j bytes ∙ ap (λ n. byte_of (cell (with_cell s place w) (2 + n + j / 2)) j) same ∙ by_word within j ne (j / 2 == at / 2) refl ∙ sym (unit_bytes s place w within s j bytes)))
+    (unit_bytes (with_cell s place w) at bytes ∙ ap (λ n. byte_of (cell (with_cell s place w) (2 + n + at / 2)) at) same ∙ ap (λ x. byte_of x at) (cell_here s place w within) ∙ here)
+    (λ j ne. unit_bytes (with_cell s place w) j bytes ∙ ap (λ n. byte_of (cell (with_cell s place w) (2 + n + j / 2)) j) same ∙ by_word within j ne (j / 2 == at / 2) refl ∙ sym (unit_bytes s j bytes)))
   where
     by_word : 2 + field_count s + at / 2 < length s.cells → (j : ℕ) → j ≢ at → (b : Bool) → (j / 2 == at / 2) ≡ b → byte_of (cell (with_cell s (2 + field_count s + at / 2) w) (2 + field_count s + j / 2)) j ≡ byte_of (cell s (2 + field_count s + j / 2)) j
     by_word within j ne true m =

@@ -2,6 +2,9 @@
 //! names.
 #![tactic(auto)]
 
+mod adding;
+mod objects;
 mod store;
 
+pub use objects::Objects;
 pub use store::Store;
