@@ -170,11 +170,3 @@ object-byte s at w v sound bytes below here half =
     by_word within j ne false m =
         let differ : j / 2 ≢ at / 2 = λ z. grind (arith, m, z) in
         ap (λ x. byte_of x j) (cell_other s (2 + field_count s + at / 2) w within (2 + field_count s + j / 2) (λ z. differ (omega (arith, z))))
-
--- the halves of a word one of which is another byte
-
-even_half : (w v j : ℕ) → v < 256 → ((v * 256 + w % 256) / 256 ≡ v) × ((v * 256 + w % 256) % 256 ≡ w % 256)
-even_half w v j small = (omega arith, omega arith)
-
-odd_half : (w v : ℕ) → w < 65536 → v < 256 → ((w / 256 * 256 + v) / 256 ≡ w / 256) × ((w / 256 * 256 + v) % 256 ≡ v)
-odd_half w v big small = (omega arith, omega arith)

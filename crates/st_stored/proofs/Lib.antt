@@ -4,5 +4,7 @@ pub mod Storing
 pub mod Forming
 pub mod Fresh
 pub mod Living
+pub mod Changing
+pub mod Placing
 pub mod Totals
 pub mod Swapping

@@ -1,4 +1,5 @@
 ghost use Rattle.std.specs.Prelude.{◌≡◌, ◌≢◌, ◌<◌, ◌≤◌, ◌+◌, ◌/◌, ◌%◌, ℕ, length, true, false, Some, None, IfSome, IfNone, IfOk, slice_get, slice_set};
+ghost use Rattle.st_model.specs.declared.oop.Oop.{Oop as Pointer};
 ghost use Rattle.st_model.specs.Values.{value, Ref, is_small};
 ghost use Rattle.st_model.specs.Objects.{one, words_of};
 ghost use Rattle.st_model.specs.Table.{entry, total_used, first_free, placed};
@@ -7,7 +8,7 @@ ghost use Rattle.st_model.specs.View.{is_live, object_of, with_exchanged, with_s
 ghost use Rattle.st_table.specs.Entries.{place};
 ghost use Rattle.st_stored.specs.Stored.{stored, HasStored};
 ghost use Rattle.st_stored.specs.Stores.{stored_of};
-ghost use Rattle.st_stored.specs.Forms.{AllSound, field_count};
+ghost use Rattle.st_stored.specs.Forms.{AllSound, field_count, byte_of};
 
 use crate::adding::Form;
 use crate::store::Store;
@@ -124,5 +125,117 @@ impl Objects {
         ensures room { room_of self.new ≡ room_of self.old }
     {
         self.store.set_word(o, 2 + at, v.0);
+    }
+
+    /// Stores v in unit `at`.
+    pub fn set_unit(&mut self, o: Oop, at: u32, v: u16)
+        requires live { is_live (objects_of self.old) (value o) ≡ true }
+        requires range { at < length (object_of (objects_of self.old) (value o)).units }
+        requires small { v < unit_limit (object_of (objects_of self.old) (value o)).kind }
+        ensures objects { objects_of self.new ≡ with_unit (objects_of self.old) (value o) at v }
+        ensures room { room_of self.new ≡ room_of self.old }
+    {
+        let first = 2 + self.stored_fields(o);
+        if self.store.kind(o).is_words() {
+            self.store.set_word(o, first + at, v);
+        } else {
+            let half = first + at / 2;
+            let word = with_byte(self.store.word(o, half), at, v);
+            self.store.set_word(o, half, word);
+        }
+    }
+
+    /// Exchanges the objects of two pointers.
+    pub fn exchange(&mut self, a: Oop, b: Oop)
+        requires first { is_live (objects_of self.old) (value a) ≡ true }
+        requires second { is_live (objects_of self.old) (value b) ≡ true }
+        ensures objects { objects_of self.new ≡ with_exchanged (objects_of self.old) (value a) (value b) }
+        ensures room { room_of self.new ≡ room_of self.old }
+    {
+        self.store.exchange(a, b);
+    }
+
+    /// Takes an object away.
+    pub fn remove(&mut self, o: Oop)
+        requires { is_live (objects_of self.old) (value o) ≡ true }
+        ensures objects { objects_of self.new ≡ slice_set (objects_of self.old) (place o) None }
+        ensures room { room_of self.new ≡ room_of self.old }
+    {
+        let words = u32::from(self.store.word(o, 0));
+        self.store.free(o, words);
+    }
+
+    /// A new object at a free pointer, with fields of nil, units of 0 and, in a Method, its literal count.
+    pub fn place(&mut self, at: Oop, class: Oop, kind: Kind, size: u32, literals: u32)
+        requires even { is_small (value at) ≡ false }
+        requires borne { at.0 ≢ 0 }
+        requires free { is_live (objects_of self.old) (value at) ≡ false }
+        requires class { is_small (value class) ≡ false }
+        requires makeable { IsMakeable (class.0 / 2) kind size literals }
+        requires words { total_used words_of (objects_of self.old) + words_of (fresh (class.0 / 2) kind size literals) ≤ room_of self.old }
+        ensures objects { objects_of self.new ≡ with_object (objects_of self.old) (value at) (fresh (class.0 / 2) kind size literals) }
+        ensures room { room_of self.new ≡ room_of self.old }
+    {
+        let form = Form::new(class, kind, size, literals);
+        form.store(&mut self.store, at);
+    }
+
+    /// The least free pointer.
+    fn least_free(&self) -> Oop
+        requires { first_free (objects_of self.now) < 32768 }
+        ensures least { value result ≡ Ref (first_free (objects_of self.now)) }
+        ensures borne { result.0 ≢ 0 }
+    {
+        self.store.least_free().unwrap()
+    }
+
+    /// A new object at the least free pointer.
+    pub fn make(&mut self, class: Oop, kind: Kind, size: u32, literals: u32) -> Oop
+        requires left { first_free (objects_of self.old) < 32768 }
+        requires class { is_small (value class) ≡ false }
+        requires makeable { IsMakeable (class.0 / 2) kind size literals }
+        requires words { total_used words_of (objects_of self.old) + words_of (fresh (class.0 / 2) kind size literals) ≤ room_of self.old }
+        ensures pointer { value result ≡ Ref (first_free (objects_of self.old)) }
+        ensures objects { objects_of self.new ≡ placed (objects_of self.old) (fresh (class.0 / 2) kind size literals) }
+        ensures room { room_of self.new ≡ room_of self.old }
+    {
+        let at = self.least_free();
+        self.place(at, class, kind, size, literals);
+        at
+    }
+
+    /// How many objects there are, and how many words they have.
+    pub fn used(&self) -> Demand
+        ensures { result ≡ record { entries = total_used one (objects_of self.now); words = total_used words_of (objects_of self.now) } }
+    {
+        self.store.used
+    }
+
+    /// The least pointer of an object above `after`.
+    pub fn next_live(&self, after: u32) -> Option<Oop>
+        ensures found { IfSome result (λ o. (is_live (objects_of self.now) (value o) ≡ true) × (after < o.0)) }
+        ensures least { IfSome result (λ o. (p : Pointer) → after < p.0 → p.0 < o.0 → is_live (objects_of self.now) (value p) ≡ false) }
+        ensures none { IfNone result ((p : Pointer) → after < p.0 → is_live (objects_of self.now) (value p) ≡ false) }
+    {
+        for k in after / 2 + 1..32768 {
+            let o = Oop((2 * k) as u16);
+            if self.live(o) {
+                return Some(o);
+            }
+        }
+        None
+    }
+}
+
+/// A word with another byte in one half: the upper one for an even place.
+fn with_byte(word: u16, at: u32, byte: u16) -> u16
+    requires { byte < 256 }
+    ensures here { byte_of result at ≡ byte }
+    ensures other { (j : ℕ) → j % 2 ≢ at % 2 → byte_of result j ≡ byte_of word j }
+{
+    if at % 2 == 0 {
+        byte * 256 + word % 256
+    } else {
+        word / 256 * 256 + byte
     }
 }
