@@ -1,8 +1,8 @@
 -- How large an object of its form can be.
-use Rattle.std.proofs.Common.{◌≡◌, ℕ, ◌+◌, ◌*◌, ◌/◌, ◌≤◌, true, false, length, refl, ap, arith}
+use Rattle.std.proofs.Common.{◌≡◌, ℕ, ◌+◌, ◌*◌, ◌/◌, ◌≤◌, false, length, refl, ap, arith}
 use Rattle.st_model.specs.declared.kind.Kind.{Kind}
 use Rattle.st_model.specs.declared.kind.Kind.TheVariants.{Pointers, Words, Bytes, Method}
-use Rattle.st_model.specs.Objects.{Object, is_words, holds_fields, words_of}
+use Rattle.st_model.specs.Objects.{Object, is_words, holds_fields}
 use Rattle.st_model.specs.Formed.{IsFormed}
 use Rattle.std.specs.Prelude.{if◌then◌else◌}
 

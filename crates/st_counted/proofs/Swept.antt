@@ -1,9 +1,9 @@
 -- Marking what is needed and taking the rest away, place by place.
-use Rattle.std.proofs.Common.{◌≡◌, ◌≢◌, ℕ, zero, suc, ◌+◌, ◌*◌, ◌<◌, ◌≤◌, Bool, true, false, List, [], ◌∷◌, ◌++◌, length, take, set, refl, sym, ap, ◌∙◌, arith, is_some}
+use Rattle.std.proofs.Common.{◌≡◌, ◌≢◌, ℕ, zero, suc, ◌+◌, ◌*◌, ◌<◌, ◌≤◌, Bool, true, false, List, [], ◌∷◌, length, take, set, refl, sym, ap, ◌∙◌, arith, is_some}
 use Rattle.std.specs.Prelude.{slice_get, unwrap_or, Option, Some, None, if◌then◌else◌}
 use Rattle.std.proofs.lemmas.List.{take_more}
 use Rattle.std.proofs.lemmas.Option.{get_or_from_slice_get}
-use Rattle.st_model.specs.Values.{Value, Small, Ref, value_of}
+use Rattle.st_model.specs.Values.{Value, Ref, value_of}
 use Rattle.st_model.specs.Objects.{Object, one, nil}
 use Rattle.st_model.specs.Table.{Table, entry, total_used, settled_table}
 use Rattle.st_model.specs.Settled.{or, names, any_names}

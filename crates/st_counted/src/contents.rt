@@ -43,7 +43,8 @@ impl Contents {
 
     /// No objects under a head, and nothing held.
     pub fn new(alloc: Global, head: Head) -> Result<Contents, AllocError>
-        ensures empty { IfOk result (λ c. counted_view c ≡ empty_view (head_of head.capacity head.globals head.symbols)) }
+        ensures empty { let empty = empty_view (head_of head.capacity head.globals head.symbols) in
+            IfOk result (λ c. counted_view c ≡ empty) }
         ensures room { IfOk result HasRoom }
         ensures head { IfOk result (λ c. c.head ≡ head) }
     {
@@ -60,7 +61,8 @@ impl Contents {
 
     /// Marks the roots and what the objects refer to, and no other name of an object.
     fn mark_needed(&mut self)
-        ensures marked { (n : ℕ) → n < 32768 → is_marked self.new.marks.names.items n ≡ is_needed (counted_view self.old) n }
+        ensures marked { (n : ℕ) → n < 32768
+            → is_marked self.new.marks.names.items n ≡ is_needed (counted_view self.old) n }
         ensures rest { self.new ≡ record self.old { marks = self.new.marks } }
     {
         self.marks.clear(32768);
@@ -77,7 +79,8 @@ impl Contents {
             (counted_view self.new).objects ≡ settled_table v.objects (is_needed v) }
         ensures held { (counted_view self.new).held ≡ (counted_view self.old).held }
         ensures head { (counted_view self.new).head ≡ (counted_view self.old).head }
-        ensures gone { total_used one (counted_view self.new).objects + result ≡ total_used one (counted_view self.old).objects }
+        ensures gone { total_used one (counted_view self.new).objects + result
+            ≡ total_used one (counted_view self.old).objects }
         ensures room { HasRoom self.old → HasRoom self.new }
     {
         self.mark_needed();

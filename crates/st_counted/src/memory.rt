@@ -73,9 +73,7 @@ impl Memory for CountedMemory {
 
     fn set_byte(&mut self, o: Oop, at: u32, v: u8) {
         let first = 2 * self.contents.objects.count_fields(o);
-        self.contents
-            .objects
-            .set_unit(o, at - first, u16::from(v));
+        self.contents.objects.set_unit(o, at - first, u16::from(v));
     }
 
     fn room(&self, d: Demand) -> bool {

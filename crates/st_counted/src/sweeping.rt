@@ -23,7 +23,8 @@ fn pointer_of(k: usize) -> Oop
 /// Marks what stands in the fields of an object.
 fn mark_fields(objects: &Objects, o: Oop, marks: &mut Marks)
     requires { is_live (objects_of objects.now) (value o) ≡ true }
-    ensures { AddsMarks marks.old.names.items marks.new.names.items (any_names (object_of (objects_of objects.now) (value o)).fields) }
+    ensures { let fields = (object_of (objects_of objects.now) (value o)).fields in
+        AddsMarks marks.old.names.items marks.new.names.items (any_names fields) }
 {
     for i in 0..objects.count_fields(o) {
         marks.mark(objects.field(o, i));
@@ -33,7 +34,8 @@ fn mark_fields(objects: &Objects, o: Oop, marks: &mut Marks)
 /// Marks what the object at a place refers to.
 fn mark_object(objects: &Objects, k: usize, marks: &mut Marks)
     requires { k < 32768 }
-    ensures { AddsMarks marks.old.names.items marks.new.names.items (object_names (entry (objects_of objects.now) k)) }
+    ensures { let named = object_names (entry (objects_of objects.now) k) in
+        AddsMarks marks.old.names.items marks.new.names.items named }
 {
     let o = pointer_of(k);
     if objects.live(o) {
@@ -54,8 +56,10 @@ pub fn mark_references(objects: &Objects, marks: &mut Marks)
 /// Takes the object at a place away, where its name isn't marked.
 fn drop_unmarked(objects: &mut Objects, marks: &Marks, k: usize)
     requires { k < 32768 }
-    ensures here { entry (objects_of objects.new) k ≡ (if is_marked marks.now.names.items k then entry (objects_of objects.old) k else None) }
-    ensures others { (j : ℕ) → j ≢ k → entry (objects_of objects.new) j ≡ entry (objects_of objects.old) j }
+    ensures here { let was = entry (objects_of objects.old) k in
+        entry (objects_of objects.new) k ≡ (if is_marked marks.now.names.items k then was else None) }
+    ensures others { (j : ℕ) → j ≢ k
+        → entry (objects_of objects.new) j ≡ entry (objects_of objects.old) j }
     ensures fewer { total_used one (objects_of objects.new) ≤ total_used one (objects_of objects.old) }
     ensures places { length (objects_of objects.new) ≡ length (objects_of objects.old) }
     ensures room { room_of objects.new ≡ room_of objects.old }
@@ -68,8 +72,10 @@ fn drop_unmarked(objects: &mut Objects, marks: &Marks, k: usize)
 
 /// Takes away each object whose name is not marked, and answers how many there were.
 pub fn keep_marked(objects: &mut Objects, marks: &Marks) -> u32
-    ensures objects { objects_of objects.new ≡ settled_table (objects_of objects.old) (is_marked marks.now.names.items) }
-    ensures gone { total_used one (objects_of objects.new) + result ≡ total_used one (objects_of objects.old) }
+    ensures objects { let marked = is_marked marks.now.names.items in
+        objects_of objects.new ≡ settled_table (objects_of objects.old) marked }
+    ensures gone { total_used one (objects_of objects.new) + result
+        ≡ total_used one (objects_of objects.old) }
     ensures room { room_of objects.new ≡ room_of objects.old }
 {
     let before = objects.used().entries;

@@ -1,19 +1,19 @@
 -- What a change of what is stored is for the table of objects.
-use Rattle.std.proofs.Common.{◌≡◌, ◌≢◌, ℕ, zero, suc, ◌+◌, ◌*◌, ◌/◌, ◌%◌, ◌<◌, ◌≤◌, Bool, true, false, List, [], ◌∷◌, Option, Some, None, length, get_or, set, is_some, refl, sym, ap, ◌∙◌, subst, arith, inl, inr, ◌⊎◌}
+use Rattle.std.proofs.Common.{◌≡◌, ◌≢◌, ℕ, zero, suc, ◌+◌, ◌*◌, ◌/◌, ◌%◌, ◌<◌, ◌≤◌, Bool, true, false, List, [], ◌∷◌, Option, Some, None, length, set, is_some, refl, sym, ap, ◌∙◌, subst, arith, inl, inr, ◌⊎◌}
 use Rattle.std.specs.Prelude.{◌==◌, if◌then◌else◌}
 use Rattle.std.specs.Option.{option_map}
 use Rattle.std.proofs.lemmas.Bool.Decides.{nat_tests}
-use Rattle.std.proofs.lemmas.List.{length-map, map-set, get_or-set_same, get_or-set_other}
+use Rattle.std.proofs.lemmas.List.{map-set, get_or-set_same, get_or-set_other}
 use Rattle.st_model.specs.declared.oop.Oop.{Oop}
 use Rattle.st_model.specs.Values.{Value, Small, Ref, value, value_of, is_small}
 use Rattle.st_model.specs.Objects.{Object, one, words_of, with_field, object_with_unit}
-use Rattle.st_model.specs.Table.{Table, entry, changed, exchanged, total_used, first_free}
+use Rattle.st_model.specs.Table.{Table, entry, changed, total_used, first_free}
 use Rattle.st_model.specs.View.{is_live, object_of, with_object, with_stored, with_unit, with_exchanged}
 use Rattle.st_model.proofs.Exchanging.{exchanged_is}
 use Rattle.st_model.proofs.Making.{first_free_is}
-use Rattle.st_model.proofs.Pointers.{value_of-even, value_of-pointer, even_word}
-use Rattle.st_model.proofs.TableLemmas.{first_free-start, first_free-none, entry_past}
-use Rattle.st_stored.specs.Stored.{Stored, slot, stored, HasStored, IsUnused, IsLeastUnused, total, one_stored, stored_words, exchanged_stored}
+use Rattle.st_model.proofs.Pointers.{value_of-even, even_word}
+use Rattle.st_model.proofs.TableLemmas.{first_free-start, first_free-none}
+use Rattle.st_stored.specs.Stored.{Stored, slot, IsUnused, IsLeastUnused, total, one_stored, stored_words, exchanged_stored}
 use Rattle.st_stored.specs.Forms.{object_from, objects_in, IsSound, AllSound}
 use Rattle.st_stored.proofs.Forming.{words_of-stored}
 use Rattle.st_stored.proofs.Living.{entry-stored, is_some-entry, live_ref, even_value, IsKnown}

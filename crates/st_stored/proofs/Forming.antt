@@ -1,13 +1,11 @@
 -- What a written word changes of a stored object.
-use Rattle.std.proofs.Common.{◌≡◌, ◌≢◌, ℕ, ◌+◌, ◌-◌, ◌*◌, ◌/◌, ◌%◌, ◌<◌, ◌≤◌, Bool, true, false, List, length, get_or, set, map, refl, sym, ap, ◌∙◌, subst, arith, length-set, cond}
+use Rattle.std.proofs.Common.{◌≡◌, ◌≢◌, ℕ, ◌+◌, ◌-◌, ◌*◌, ◌/◌, ◌%◌, ◌<◌, ◌≤◌, Bool, true, false, length, set, map, refl, sym, ap, ◌∙◌, arith, length-set}
 use Rattle.std.specs.Prelude.{◌==◌, if◌then◌else◌}
-use Rattle.std.proofs.lemmas.Bool.{cases_eq}
-use Rattle.std.proofs.lemmas.Bool.Decides.{nat_tests}
 use Rattle.std.proofs.lemmas.List.{length-map, map-set, get_or-set_same, get_or-set_other}
 use Rattle.st_model.specs.declared.kind.Kind.{Kind}
 use Rattle.st_model.specs.declared.kind.Kind.TheVariants.{Pointers, Words, Bytes, Method}
-use Rattle.st_model.specs.Values.{Value, value_of}
-use Rattle.st_model.specs.Objects.{Object, is_words, is_method, is_pointers, words_of, with_field, object_with_unit}
+use Rattle.st_model.specs.Values.{value_of}
+use Rattle.st_model.specs.Objects.{is_words, is_method, words_of, with_field, object_with_unit}
 use Rattle.st_model.specs.Formed.{literals_of}
 use Rattle.st_stored.specs.Stored.{Stored, run, with_cell}
 use Rattle.st_stored.specs.Forms.{cell, fields_in, field_count, units_in, unit_count, byte_of, unit_at, object_from, IsSound}
@@ -135,10 +133,13 @@ object-word s at w sound words below =
     let count : unit_count s ≡ length s.cells - (2 + field_count s) = ap (λ b. if b then length s.cells - (2 + field_count s) else 2 * (length s.cells - (2 + field_count s)) - (if s.odd then 1 else 0)) words in
     let within : 2 + field_count s + at < length s.cells = omega (arith, below, count, f) in
     let same = same_count s (2 + field_count s + at) w within (λ method e. let none = no_method s.kind words method in absurd none) in
-    let place = 2 + field_count s + at in
-    (within, same, object-unit s place at w w within (omega arith) below same
-    (unit_words (with_cell s place w) at words ∙ ap (λ n. cell (with_cell s place w) (2 + n + at)) same ∙ cell_here s place w within)
-    (λ j ne. unit_words (with_cell s place w) j words ∙ ap (λ n. cell (with_cell s place w) (2 + n + j)) same ∙ cell_other s place w within (2 + field_count s + j) (λ z. ne (omega (arith, z))) ∙ sym (unit_words s j words)))
+    let place = 2 + field_count s + at in (
+      within,
+      same,
+      object-unit s place at w w within (omega arith) below same
+          (unit_words (with_cell s place w) at words ∙ ap (λ n. cell (with_cell s place w) (2 + n + at)) same ∙ cell_here s place w within)
+          (λ j ne. unit_words (with_cell s place w) j words ∙ ap (λ n. cell (with_cell s place w) (2 + n + j)) same ∙ cell_other s place w within (2 + field_count s + j) (λ z. ne (omega (arith, z))) ∙ sym (unit_words s j words)),
+    )
   where
     no_method : (k : Kind) → is_words k ≡ true → is_method k ≡ true → ⊥
     no_method Pointers a b = cc
@@ -155,10 +156,13 @@ object-byte s at w v sound bytes below here half =
     let odd : ℕ = if s.odd then 1 else 0 in
     let count : unit_count s ≡ 2 * (length s.cells - (2 + field_count s)) - odd = ap (λ b. if b then length s.cells - (2 + field_count s) else 2 * (length s.cells - (2 + field_count s)) - odd) bytes in
     let within : place < length s.cells = omega (arith, below, count, f) in
-    let same = same_count s place w within (λ method e. let some = some_field s.kind (length s.cells) (cell s 2) method in absurd (omega (arith, some, e))) in
-    (within, same, object-unit s place at w v within (omega arith) below same
-    (unit_bytes (with_cell s place w) at bytes ∙ ap (λ n. byte_of (cell (with_cell s place w) (2 + n + at / 2)) at) same ∙ ap (λ x. byte_of x at) (cell_here s place w within) ∙ here)
-    (λ j ne. unit_bytes (with_cell s place w) j bytes ∙ ap (λ n. byte_of (cell (with_cell s place w) (2 + n + j / 2)) j) same ∙ by_word within j ne (j / 2 == at / 2) refl ∙ sym (unit_bytes s j bytes)))
+    let same = same_count s place w within (λ method e. let some = some_field s.kind (length s.cells) (cell s 2) method in absurd (omega (arith, some, e))) in (
+      within,
+      same,
+      object-unit s place at w v within (omega arith) below same
+          (unit_bytes (with_cell s place w) at bytes ∙ ap (λ n. byte_of (cell (with_cell s place w) (2 + n + at / 2)) at) same ∙ ap (λ x. byte_of x at) (cell_here s place w within) ∙ here)
+          (λ j ne. unit_bytes (with_cell s place w) j bytes ∙ ap (λ n. byte_of (cell (with_cell s place w) (2 + n + j / 2)) j) same ∙ by_word within j ne (j / 2 == at / 2) refl ∙ sym (unit_bytes s j bytes)),
+    )
   where
     by_word : 2 + field_count s + at / 2 < length s.cells → (j : ℕ) → j ≢ at → (b : Bool) → (j / 2 == at / 2) ≡ b → byte_of (cell (with_cell s (2 + field_count s + at / 2) w) (2 + field_count s + j / 2)) j ≡ byte_of (cell s (2 + field_count s + j / 2)) j
     by_word within j ne true m =

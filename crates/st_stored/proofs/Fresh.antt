@@ -1,21 +1,19 @@
 -- The words of a new object are those of the object that is wanted.
-use Rattle.std.proofs.Common.{◌≡◌, ◌≢◌, ℕ, ◌+◌, ◌-◌, ◌*◌, ◌/◌, ◌%◌, ◌<◌, ◌≤◌, zero, suc, Bool, true, false, List, [], ◌∷◌, length, get_or, map, replicate, refl, sym, ap, ◌∙◌, subst, arith, inl, inr}
+use Rattle.std.proofs.Common.{◌≡◌, ◌≢◌, ℕ, ◌+◌, ◌-◌, ◌*◌, ◌/◌, ◌%◌, ◌<◌, ◌≤◌, zero, suc, Bool, true, false, List, [], ◌∷◌, length, get_or, map, replicate, refl, sym, ap, ◌∙◌, arith, inl, inr}
 use Rattle.std.specs.Prelude.{◌==◌, ◌&&◌, nat_lt, nat_eq, if◌then◌else◌}
 use Rattle.std.proofs.lemmas.Bool.{cases_lt}
-use Rattle.std.proofs.lemmas.Bool.Decides.{nat_tests}
 use Rattle.std.proofs.lemmas.List.{length-map, length-replicate, get_or-replicate, get_or_past, ext_get_or, get_or-map}
-use Rattle.st_model.specs.declared.kind.Kind.{Kind}
 use Rattle.st_model.specs.declared.kind.Kind.TheVariants.{Pointers, Words, Bytes, Method}
 use Rattle.st_model.specs.declared.oop.Oop.{Oop}
 use Rattle.st_model.specs.Values.{Value, Small, value_of}
-use Rattle.st_model.specs.Objects.{Object, nil, is_words, is_method, words_of}
+use Rattle.st_model.specs.Objects.{Object, nil, is_words, is_method}
 use Rattle.st_model.specs.Formed.{literals_of, IsMakeable, fresh}
 use Rattle.st_model.proofs.Pointers.{value_of-odd, value_of-pointer}
 use Rattle.st_stored.specs.declared.adding.Form.{Form}
 use Rattle.st_stored.specs.Stored.{Stored, run}
-use Rattle.st_stored.specs.Forms.{cell, fields_in, field_count, units_in, unit_count, byte_of, unit_at, object_from, IsSound}
+use Rattle.st_stored.specs.Forms.{cell, field_count, unit_count, byte_of, unit_at, object_from, IsSound}
 use Rattle.st_stored.specs.Fresh.{new_cell, new_stored, IsForm}
-use Rattle.st_stored.proofs.Runs.{length-run, get_or-run, run_same}
+use Rattle.st_stored.proofs.Runs.{length-run, get_or-run}
 
 run_const : (f : ℕ → ℕ) (n w : ℕ) → ((i : ℕ) → i < n → f i ≡ w) → run f n ≡ replicate n w
 run_const f n w h = ext_get_or 0 (run f n) (replicate n w) (length-run f n ∙ sym (length-replicate n w)) (λ i l.

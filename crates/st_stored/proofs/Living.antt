@@ -1,13 +1,13 @@
 -- Objects of the table and what is stored.
-use Rattle.std.proofs.Common.{◌≡◌, ◌≢◌, ℕ, zero, suc, ◌+◌, ◌-◌, ◌*◌, ◌/◌, ◌%◌, ◌<◌, Bool, true, false, List, [], ◌∷◌, Option, Some, None, length, get_or, set, map, is_some, refl, sym, ap, ◌∙◌, subst, arith}
+use Rattle.std.proofs.Common.{◌≡◌, ℕ, zero, suc, ◌+◌, ◌-◌, ◌*◌, ◌/◌, ◌%◌, ◌<◌, Bool, true, false, List, [], ◌∷◌, Option, Some, None, length, is_some, refl, sym, ap, ◌∙◌, arith}
 use Rattle.std.specs.Prelude.{◌==◌, ◌↔◌, IsTrue, unwrap_or, slice_get, if◌then◌else◌}
 use Rattle.std.specs.Option.{option_map}
-use Rattle.std.proofs.lemmas.List.{length-map, map-set, get_or-map, get_or-set_same, get_or-set_other}
+use Rattle.std.proofs.lemmas.List.{length-map, get_or-map}
 use Rattle.std.proofs.lemmas.Option.{slice_get-get_or}
 use Rattle.st_model.specs.declared.oop.Oop.{Oop}
 use Rattle.st_model.specs.Values.{Value, Small, Ref, value, value_of, is_small}
-use Rattle.st_model.specs.Objects.{Object, nil}
-use Rattle.st_model.specs.Table.{Table, entry, changed}
+use Rattle.st_model.specs.Objects.{nil}
+use Rattle.st_model.specs.Table.{Table, entry}
 use Rattle.st_model.specs.View.{nothing, is_live, object_of}
 use Rattle.st_model.proofs.Pointers.{value_of-even, even_word}
 use Rattle.st_stored.specs.Stored.{Stored, run, slot, stored, nothing_stored, HasStored}

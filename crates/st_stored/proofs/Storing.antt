@@ -1,13 +1,12 @@
 -- What changes of the heap and the table leave of what is stored.
-use Rattle.std.proofs.Common.{◌≡◌, ◌≢◌, ℕ, zero, suc, ◌+◌, ◌*◌, ◌/◌, ◌<◌, ◌≤◌, Bool, true, false, List, [], ◌∷◌, Option, Some, None, length, get_or, set, map, replicate, refl, sym, ap, ◌∙◌, subst, arith, inl, inr, length-set, is_some}
+use Rattle.std.proofs.Common.{◌≡◌, ◌≢◌, ℕ, zero, suc, ◌+◌, ◌/◌, ◌<◌, Bool, true, false, List, [], ◌∷◌, Option, Some, None, length, get_or, set, map, refl, sym, ap, ◌∙◌, arith, inl, inr, length-set, is_some}
 use Rattle.std.specs.Prelude.{◌==◌, unwrap_or}
 use Rattle.std.specs.Option.{option_map}
 use Rattle.std.proofs.lemmas.Bool.{cases_lt}
 use Rattle.std.proofs.lemmas.List.{length-map, map-set, ext_get_or, get_or-set_same, get_or-set_other}
-use Rattle.st_model.specs.declared.oop.Oop.{Oop}
 use Rattle.st_table.specs.declared.entry.Entry.{Entry}
 use Rattle.st_heap.specs.declared.block.Block.{Block}
-use Rattle.st_heap.specs.Blocks.{none, block, block_at, entry_at, moved_entry, IsLaid, IsTied, KeepsBlocks, HoldsPlace}
+use Rattle.st_heap.specs.Blocks.{block, block_at, entry_at, moved_entry, IsLaid, IsTied, KeepsBlocks, HoldsPlace}
 use Rattle.st_heap.specs.declared.heap.Heap.{Heap}
 use Rattle.st_heap.specs.Heaps.{words_of, blocks_of}
 use Rattle.st_heap.proofs.Laying.{entered_owner, entry_inside}

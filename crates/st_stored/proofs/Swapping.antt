@@ -5,7 +5,7 @@ use Rattle.std.proofs.lemmas.List.{set-set, set_comm, get_or-set_same, get_or-se
 use Rattle.st_model.specs.declared.oop.Oop.{Oop}
 use Rattle.st_table.specs.declared.entry.Entry.{Entry}
 use Rattle.st_heap.specs.declared.block.Block.{Block}
-use Rattle.st_heap.specs.Blocks.{none, block, block_at, entry_at, moved_entry, with_owner, exchanged_entries, exchanged_blocks}
+use Rattle.st_heap.specs.Blocks.{block, block_at, entry_at, moved_entry, with_owner, exchanged_entries, exchanged_blocks}
 use Rattle.st_heap.proofs.Laying.{entry_inside}
 use Rattle.st_stored.specs.Stored.{stored_at, stored_all, exchanged_stored}
 use Rattle.st_stored.proofs.Storing.{slot_entry, lengths_all, set_all}
@@ -93,9 +93,11 @@ module _ (es : List (Option Entry)) (a b : Oop) (e f : Entry) (is_e : get_or es 
 
       by_case : (t : Bool) → (a.0 / 2 == b.0 / 2) ≡ t → (h : Entry) × (get_or (set (exchanged_entries es a b) (a.0 / 2) (Some x)) (b.0 / 2) None ≡ Some h) × (h.at ≡ e.at)
       by_case true m =
-          let z : a.0 / 2 ≡ b.0 / 2 = grind (arith, m) in
-          (x, ap (λ i. get_or (set (exchanged_entries es a b) (a.0 / 2) (Some x)) i None) (sym z) ∙ get_or-set_same (exchanged_entries es a b) (a.0 / 2) (Some x) None (omega (arith, inside_a, long)),
-          at ∙ sym at_f ∙ ap (λ i. entry_at (get_or es i None)) (sym z) ∙ at_e)
+          let z : a.0 / 2 ≡ b.0 / 2 = grind (arith, m) in (
+            x,
+            ap (λ i. get_or (set (exchanged_entries es a b) (a.0 / 2) (Some x)) i None) (sym z) ∙ get_or-set_same (exchanged_entries es a b) (a.0 / 2) (Some x) None (omega (arith, inside_a, long)),
+            at ∙ sym at_f ∙ ap (λ i. entry_at (get_or es i None)) (sym z) ∙ at_e,
+          )
       by_case false m =
           let ne : b.0 / 2 ≢ a.0 / 2 = λ z. grind (arith, m, z) in
           let r = place_after (get_or es (b.0 / 2) None) f (entry_at (get_or es (a.0 / 2) None)) is_f in

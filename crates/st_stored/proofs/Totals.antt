@@ -1,5 +1,5 @@
 -- How many are stored, and how many words they have.
-use Rattle.std.proofs.Common.{◌≡◌, ◌≢◌, Bool, true, false, length-set, ℕ, zero, suc, ◌+◌, ◌<◌, ◌≤◌, List, [], ◌∷◌, Option, Some, None, length, set, refl, sym, ap, ◌∙◌, arith}
+use Rattle.std.proofs.Common.{◌≡◌, ◌≢◌, Bool, true, false, length-set, ℕ, zero, suc, ◌+◌, ◌<◌, ◌≤◌, List, [], ◌∷◌, Option, Some, None, length, set, refl, ap, ◌∙◌, arith}
 use Rattle.std.specs.Prelude.{◌==◌}
 use Rattle.std.proofs.lemmas.List.{get_or-set_same, get_or-set_other}
 use Rattle.st_stored.specs.Stored.{Stored, slot, total, one_stored, stored_words, used_of, exchanged_stored}

@@ -1,11 +1,11 @@
 -- What a stored object is: a word of its size in words, one of its class, and its body. Fields and words are a word each;
 -- bytes are two to a word, the first one in the upper half.
-use Rattle.std.specs.Prelude.{◌≡◌, ◌+◌, ◌-◌, ◌*◌, ◌/◌, ◌%◌, ◌<◌, ◌≤◌, ◌==◌, ℕ, Bool, true, false, List, Option, Some, length, map, slice_index, nat_lt, ◌&&◌, if◌then◌else◌}
+use Rattle.std.specs.Prelude.{◌≡◌, ◌+◌, ◌-◌, ◌*◌, ◌/◌, ◌%◌, ◌<◌, ◌≤◌, ◌==◌, ℕ, Bool, true, List, Option, Some, length, map, slice_index, if◌then◌else◌}
 use Rattle.std.specs.Option.{option_map}
 use Rattle.st_model.specs.declared.kind.Kind.{Kind}
 use Rattle.st_model.specs.declared.kind.Kind.TheVariants.{Pointers, Words, Bytes, Method}
 use Rattle.st_model.specs.Values.{value_of}
-use Rattle.st_model.specs.Objects.{Object, is_words, is_method}
+use Rattle.st_model.specs.Objects.{Object, is_words}
 use Rattle.st_model.specs.Formed.{literals_of}
 use Rattle.st_model.specs.Table.{Table}
 use Rattle.st_stored.specs.Stored.{Stored, run, slot}

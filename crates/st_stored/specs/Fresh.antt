@@ -1,5 +1,5 @@
 -- The words of a new object.
-use Rattle.std.specs.Prelude.{◌≡◌, ◌+◌, ◌*◌, ◌≤◌, ℕ, true, false, nat_lt, ◌==◌, ◌&&◌, if◌then◌else◌}
+use Rattle.std.specs.Prelude.{◌+◌, ◌*◌, ◌≤◌, ℕ, nat_lt, ◌==◌, ◌&&◌, if◌then◌else◌}
 use Rattle.st_model.specs.Objects.{is_method}
 use Rattle.st_stored.specs.declared.adding.Form.{Form}
 use Rattle.st_stored.specs.Stored.{Stored, run}

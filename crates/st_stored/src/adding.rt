@@ -97,7 +97,8 @@ impl Form {
         requires unused { IsUnused (stored_of store.old) at }
         requires form { IsForm self.now }
         requires room { (used_of (stored_of store.old)).words + self.now.words ≤ capacity_of store.old }
-        ensures stored { stored_of store.new ≡ slice_set (stored_of store.old) (place at) (Some (new_stored self.now)) }
+        ensures stored { stored_of store.new
+            ≡ slice_set (stored_of store.old) (place at) (Some (new_stored self.now)) }
         ensures capacity { capacity_of store.new ≡ capacity_of store.old }
     {
         store.take(at, self.kind, self.odd, self.words);

@@ -1,5 +1,4 @@
-//! Objects as words of a heap: the size, the class and the body of each in a block of its own, which an entry of the table
-//! names.
+//! Objects as words of a heap: size, class and body of each are in a block of its own, which an entry of the table names.
 #![tactic(auto)]
 
 mod adding;

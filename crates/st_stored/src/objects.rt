@@ -172,8 +172,10 @@ impl Objects {
         requires free { is_live (objects_of self.old) (value at) ≡ false }
         requires class { is_small (value class) ≡ false }
         requires makeable { IsMakeable (class.0 / 2) kind size literals }
-        requires words { total_used words_of (objects_of self.old) + words_of (fresh (class.0 / 2) kind size literals) ≤ room_of self.old }
-        ensures objects { objects_of self.new ≡ with_object (objects_of self.old) (value at) (fresh (class.0 / 2) kind size literals) }
+        requires words { let new = fresh (class.0 / 2) kind size literals in
+            total_used words_of (objects_of self.old) + words_of new ≤ room_of self.old }
+        ensures objects { let new = fresh (class.0 / 2) kind size literals in
+            objects_of self.new ≡ with_object (objects_of self.old) (value at) new }
         ensures room { room_of self.new ≡ room_of self.old }
     {
         let form = Form::new(class, kind, size, literals);
@@ -194,9 +196,11 @@ impl Objects {
         requires left { first_free (objects_of self.old) < 32768 }
         requires class { is_small (value class) ≡ false }
         requires makeable { IsMakeable (class.0 / 2) kind size literals }
-        requires words { total_used words_of (objects_of self.old) + words_of (fresh (class.0 / 2) kind size literals) ≤ room_of self.old }
+        requires words { let new = fresh (class.0 / 2) kind size literals in
+            total_used words_of (objects_of self.old) + words_of new ≤ room_of self.old }
         ensures pointer { value result ≡ Ref (first_free (objects_of self.old)) }
-        ensures objects { objects_of self.new ≡ placed (objects_of self.old) (fresh (class.0 / 2) kind size literals) }
+        ensures objects { let new = fresh (class.0 / 2) kind size literals in
+            objects_of self.new ≡ placed (objects_of self.old) new }
         ensures room { room_of self.new ≡ room_of self.old }
     {
         let at = self.least_free();
@@ -206,16 +210,20 @@ impl Objects {
 
     /// How many objects there are, and how many words they have.
     pub fn used(&self) -> Demand
-        ensures { result ≡ record { entries = total_used one (objects_of self.now); words = total_used words_of (objects_of self.now) } }
+        ensures { let t = objects_of self.now in
+            result ≡ record { entries = total_used one t; words = total_used words_of t } }
     {
         self.store.used
     }
 
     /// The least pointer of an object above `after`.
     pub fn next_live(&self, after: u32) -> Option<Oop>
-        ensures found { IfSome result (λ o. (is_live (objects_of self.now) (value o) ≡ true) × (after < o.0)) }
-        ensures least { IfSome result (λ o. (p : Pointer) → after < p.0 → p.0 < o.0 → is_live (objects_of self.now) (value p) ≡ false) }
-        ensures none { IfNone result ((p : Pointer) → after < p.0 → is_live (objects_of self.now) (value p) ≡ false) }
+        ensures found { IfSome result (λ o. (is_live (objects_of self.now) (value o) ≡ true)
+            × (after < o.0)) }
+        ensures least { IfSome result (λ o. (p : Pointer) → after < p.0 → p.0 < o.0
+            → is_live (objects_of self.now) (value p) ≡ false) }
+        ensures none { IfNone result ((p : Pointer) → after < p.0
+            → is_live (objects_of self.now) (value p) ≡ false) }
     {
         for k in after / 2 + 1..32768 {
             let o = Oop((2 * k) as u16);

@@ -1,7 +1,6 @@
-use Rattle.std.proofs.Common.{◌≡◌, ℕ, ◌<◌, ◌≤◌, length, sym, ap, ◌∙◌, arith, inl, inr}
-use Rattle.std.specs.Prelude.{None, if◌then◌else◌}
+use Rattle.std.proofs.Common.{sym, ◌∙◌, arith, inl, inr}
 use Rattle.std.proofs.lemmas.Bool.{cases_lt}
-use Rattle.st_model.specs.Table.{Table, entry, settled_table}
+use Rattle.st_model.specs.Table.{settled_table}
 use Rattle.st_model.specs.Settled.{is_marked}
 use Rattle.st_model.proofs.Reclaiming.{length-settled}
 use Rattle.st_model.proofs.TableLemmas.{entry_past}

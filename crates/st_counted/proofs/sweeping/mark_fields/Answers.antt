@@ -1,4 +1,4 @@
-use Rattle.std.proofs.Common.{◌≡◌, ◌+◌, ◌<◌, length, take, sym, ap, ◌∙◌, arith}
+use Rattle.std.proofs.Common.{◌<◌, length, take, sym, ap, ◌∙◌, arith}
 use Rattle.st_model.specs.Values.{value}
 use Rattle.st_model.specs.Settled.{or, names, any_names, is_marked}
 use Rattle.st_model.specs.View.{object_of}

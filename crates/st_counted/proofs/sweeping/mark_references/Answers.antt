@@ -1,4 +1,4 @@
-use Rattle.std.proofs.Common.{◌≡◌, ℕ, length, ap, ◌∙◌, sym, arith}
+use Rattle.std.proofs.Common.{◌≡◌, ℕ, length, ap, ◌∙◌, arith}
 use Rattle.st_model.specs.Table.{entry}
 use Rattle.st_model.specs.Settled.{or, any_below, object_names, is_marked}
 use Rattle.st_lists.specs.Plain.{is_referred}

@@ -1,4 +1,4 @@
-use Rattle.std.proofs.Common.{◌≡◌, length, ap, ◌∙◌, arith}
+use Rattle.std.proofs.Common.{ap, ◌∙◌, arith}
 use Rattle.st_model.specs.Table.{settled_table}
 use Rattle.st_model.specs.Settled.{is_marked}
 use Rattle.st_model.proofs.Rounds.{settled_same}

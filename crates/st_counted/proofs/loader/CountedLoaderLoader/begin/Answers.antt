@@ -1,4 +1,4 @@
-use Rattle.std.proofs.Common.{◌≡◌, sym, subst}
+use Rattle.std.proofs.Common.{sym, subst}
 use Rattle.st_model.specs.View.{head_of}
 use Rattle.st_model.specs.Loading.{IsLoading}
 use Rattle.st_model.proofs.LoadingLemmas.{loading_empty}

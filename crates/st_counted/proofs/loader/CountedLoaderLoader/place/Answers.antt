@@ -1,11 +1,9 @@
-use Rattle.std.proofs.Common.{◌≢◌, ◌/◌, ◌<◌, length, refl, ap, ◌∙◌, arith}
-use Rattle.st_model.specs.Objects.{words_of}
+use Rattle.std.proofs.Common.{◌≢◌, ◌/◌, ◌<◌, refl, ◌∙◌, arith}
 use Rattle.st_model.specs.Formed.{fresh}
-use Rattle.st_model.specs.Table.{total_used}
 use Rattle.st_model.specs.Values.{value}
-use Rattle.st_model.proofs.FormedLemmas.{formed_fresh, fresh_parts}
+use Rattle.st_model.proofs.FormedLemmas.{formed_fresh}
 use Rattle.st_model.proofs.Pointers.{value_of-even, even_word}
-use Rattle.st_model.proofs.LoadingLemmas.{loading_placed, total_used-with_object}
+use Rattle.st_model.proofs.LoadingLemmas.{loading_placed}
 use Rattle.st_counted.specs.Counted.{counted_view}
 use Rattle.st_counted.proofs.loader.CountedLoaderLoader.place.Goals as goal
 

@@ -1,11 +1,9 @@
-use Rattle.std.proofs.Common.{◌<◌, refl, ap, sym, subst, ◌∙◌, arith}
+use Rattle.std.proofs.Common.{◌<◌, refl, sym, subst, ◌∙◌, arith}
 use Rattle.std.proofs.lemmas.Grind.{common_steps}
-use Rattle.st_model.specs.Objects.{words_of}
-use Rattle.st_model.specs.Table.{total_used}
 use Rattle.st_model.specs.Values.{value}
 use Rattle.st_model.specs.View.{object_of}
 use Rattle.st_model.proofs.FormedLemmas.{unit_limit-byte}
-use Rattle.st_model.proofs.LoadingLemmas.{loading_unit, total_used-with_unit}
+use Rattle.st_model.proofs.LoadingLemmas.{loading_unit}
 use Rattle.st_counted.specs.Counted.{counted_view}
 use Rattle.st_counted.proofs.loader.CountedLoaderLoader.set_byte.Goals as goal
 

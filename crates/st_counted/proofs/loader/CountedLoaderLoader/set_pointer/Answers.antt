@@ -1,9 +1,7 @@
-use Rattle.std.proofs.Common.{◌<◌, refl, ap, ◌∙◌, arith}
-use Rattle.st_model.specs.Objects.{words_of}
-use Rattle.st_model.specs.Table.{total_used}
+use Rattle.std.proofs.Common.{◌<◌, refl, ◌∙◌, arith}
 use Rattle.st_model.specs.Values.{value}
 use Rattle.st_model.proofs.Pointers.{IsWord-value_of}
-use Rattle.st_model.proofs.LoadingLemmas.{loading_stored, total_used-with_stored}
+use Rattle.st_model.proofs.LoadingLemmas.{loading_stored}
 use Rattle.st_counted.specs.Counted.{counted_view}
 use Rattle.st_counted.proofs.loader.CountedLoaderLoader.set_pointer.Goals as goal
 

@@ -1,6 +1,5 @@
 use Rattle.std.proofs.Common.{◌≡◌, ◌+◌, ◌/◌, ◌%◌, false, sym, subst}
 use Rattle.std.specs.Prelude.{nat_eq}
-use Rattle.st_stored.specs.declared.adding.Form.{Form}
 use Rattle.st_model.specs.declared.kind.Kind.{Kind}
 use Rattle.st_model.specs.Formed.{IsMakeable, fresh}
 use Rattle.st_stored.specs.Forms.{object_from, IsSound}

@@ -1,7 +1,5 @@
-use Rattle.std.proofs.Common.{◌≡◌, ℕ, ◌+◌, ◌-◌, ◌*◌, ◌/◌, ◌%◌, ◌<◌, ◌≤◌, Bool, true, false, List, Option, Some, None, length, get_or, set, refl, sym, ap, ◌∙◌, subst, arith, length-set}
+use Rattle.std.proofs.Common.{◌≡◌, ◌/◌, ◌%◌, sym, ap, ◌∙◌, arith}
 use Rattle.st_model.specs.Objects.{Object}
-use Rattle.st_stored.specs.Stored.{Stored, stored}
-use Rattle.st_stored.specs.Forms.{cell, field_count, object_from, IsSound}
 use Rattle.st_model.specs.Values.{Ref}
 use Rattle.st_stored.proofs.Living.{live_stored, known, even_value}
 use Rattle.st_stored.specs.Stores.{stored_of}

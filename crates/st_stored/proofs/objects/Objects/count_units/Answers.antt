@@ -1,8 +1,6 @@
-use Rattle.std.proofs.Common.{◌≡◌, ℕ, ◌+◌, ◌-◌, ◌*◌, ◌/◌, ◌%◌, ◌<◌, ◌≤◌, Bool, true, false, List, Option, Some, None, length, get_or, set, refl, sym, ap, ◌∙◌, subst, arith, length-set}
+use Rattle.std.proofs.Common.{◌≡◌, ◌/◌, true, false, length, sym, ap, ◌∙◌, arith}
 use Rattle.st_model.specs.Objects.{Object}
-use Rattle.st_stored.specs.Stored.{Stored, stored}
-use Rattle.st_stored.specs.Forms.{cell, field_count, object_from, IsSound}
-use Rattle.std.proofs.lemmas.Grind.{common_steps}
+use Rattle.st_stored.specs.Stored.{stored}
 use Rattle.st_model.specs.Objects.{is_words}
 use Rattle.st_stored.proofs.Living.{live_stored, known, count_words, count_bytes}
 use Rattle.st_stored.specs.Stores.{stored_of}

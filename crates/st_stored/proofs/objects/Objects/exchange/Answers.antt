@@ -1,7 +1,6 @@
-use Rattle.std.proofs.Common.{◌≡◌, ◌≢◌, ℕ, ◌+◌, ◌-◌, ◌*◌, ◌/◌, ◌%◌, ◌<◌, ◌≤◌, Bool, true, false, List, Option, Some, None, length, get_or, set, is_some, refl, sym, ap, ◌∙◌, subst, arith, length-set}
-use Rattle.st_model.specs.Objects.{Object}
-use Rattle.st_stored.specs.Stored.{Stored, stored, with_cell}
-use Rattle.st_stored.specs.Forms.{cell, field_count, object_from, IsSound, AllSound}
+use Rattle.std.proofs.Common.{◌/◌, List, Option, sym, ap, ◌∙◌, subst}
+use Rattle.st_stored.specs.Stored.{Stored, stored}
+use Rattle.st_stored.specs.Forms.{AllSound}
 use Rattle.st_stored.specs.Forms.{objects_in}
 use Rattle.st_stored.proofs.Living.{live_stored, known}
 use Rattle.st_stored.proofs.Changing.{exchanged_objects, exchanged_sound}

@@ -1,7 +1,7 @@
-use Rattle.std.proofs.Common.{◌≡◌, ◌≢◌, ℕ, ◌+◌, ◌-◌, ◌*◌, ◌/◌, ◌%◌, ◌<◌, ◌≤◌, Bool, true, false, List, Option, Some, None, length, get_or, set, is_some, refl, sym, ap, ◌∙◌, subst, arith, length-set}
+use Rattle.std.proofs.Common.{◌≡◌, ◌*◌, true, List, Option, Some, None, is_some, refl, sym, ap, ◌∙◌, subst, arith}
 use Rattle.std.specs.Prelude.{IfSome, IfNone}
 use Rattle.st_model.specs.declared.oop.Oop.{Oop}
-use Rattle.st_model.specs.Values.{Ref, value_of}
+use Rattle.st_model.specs.Values.{Ref}
 use Rattle.st_model.specs.Table.{first_free}
 use Rattle.st_stored.specs.Stored.{Stored, IsUnused, IsLeastUnused}
 use Rattle.st_stored.specs.Forms.{objects_in}

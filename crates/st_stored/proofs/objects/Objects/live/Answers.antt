@@ -1,4 +1,3 @@
-use Rattle.std.proofs.Common.{◌≡◌, ℕ, ◌+◌, ◌-◌, ◌*◌, ◌/◌, ◌%◌, ◌<◌, ◌≤◌, Bool, true, false, List, Option, Some, None, length, get_or, set, refl, sym, ap, ◌∙◌, subst, arith, length-set}
 use Rattle.st_stored.proofs.Living.{live_test}
 use Rattle.st_stored.specs.Stores.{stored_of}
 use Rattle.st_stored.proofs.objects.Objects.live.Goals as goal

@@ -1,10 +1,7 @@
-use Rattle.std.proofs.Common.{◌≡◌, ◌≢◌, ℕ, ◌+◌, ◌-◌, ◌*◌, ◌/◌, ◌%◌, ◌<◌, ◌≤◌, Bool, true, false, List, Option, Some, None, length, get_or, set, is_some, refl, sym, ap, ◌∙◌, subst, arith, length-set}
-use Rattle.st_model.specs.Values.{Ref}
+use Rattle.std.proofs.Common.{◌/◌, sym, ap, ◌∙◌, arith}
 use Rattle.st_model.specs.Formed.{fresh}
-use Rattle.st_model.specs.Table.{first_free}
 use Rattle.st_model.specs.View.{is_live, with_object}
 use Rattle.st_model.proofs.Making.{placed_object}
-use Rattle.st_model.proofs.TableLemmas.{first_free-none}
 use Rattle.st_stored.specs.Forms.{objects_in}
 use Rattle.st_stored.proofs.Placing.{length-objects, free_dead}
 use Rattle.st_stored.specs.Stores.{stored_of}

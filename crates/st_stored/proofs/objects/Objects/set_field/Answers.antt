@@ -1,7 +1,7 @@
-use Rattle.std.proofs.Common.{◌≡◌, ◌≢◌, ℕ, ◌+◌, ◌-◌, ◌*◌, ◌/◌, ◌%◌, ◌<◌, ◌≤◌, Bool, true, false, List, Option, Some, None, length, get_or, set, is_some, refl, sym, ap, ◌∙◌, subst, arith, length-set}
+use Rattle.std.proofs.Common.{◌+◌, ◌/◌, ◌<◌, List, Option, length, sym, ap, ◌∙◌, subst, arith}
 use Rattle.st_model.specs.Objects.{Object}
 use Rattle.st_stored.specs.Stored.{Stored, stored, with_cell}
-use Rattle.st_stored.specs.Forms.{cell, field_count, object_from, IsSound, AllSound}
+use Rattle.st_stored.specs.Forms.{field_count, AllSound}
 use Rattle.st_model.specs.Values.{value_of}
 use Rattle.st_model.specs.Objects.{is_method}
 use Rattle.st_stored.specs.Forms.{objects_in}

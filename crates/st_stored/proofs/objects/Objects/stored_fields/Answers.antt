@@ -1,8 +1,6 @@
-use Rattle.std.proofs.Common.{◌≡◌, ℕ, ◌+◌, ◌-◌, ◌*◌, ◌/◌, ◌%◌, ◌<◌, ◌≤◌, Bool, true, false, List, Option, Some, None, length, get_or, set, refl, sym, ap, ◌∙◌, subst, arith, length-set}
-use Rattle.st_model.specs.Objects.{Object}
-use Rattle.st_stored.specs.Stored.{Stored, stored}
-use Rattle.st_stored.specs.Forms.{cell, field_count, object_from, IsSound}
-use Rattle.st_model.specs.declared.kind.Kind.{Kind}
+use Rattle.std.proofs.Common.{◌≡◌, ◌/◌, true, length, sym, ap, ◌∙◌, arith}
+use Rattle.st_stored.specs.Stored.{stored}
+use Rattle.st_stored.specs.Forms.{cell}
 use Rattle.st_model.specs.Objects.{is_method}
 use Rattle.st_stored.proofs.Forming.{some_field}
 use Rattle.st_stored.proofs.Living.{sound_stored}

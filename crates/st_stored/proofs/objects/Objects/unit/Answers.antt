@@ -1,10 +1,10 @@
-use Rattle.std.proofs.Common.{◌≡◌, ◌≢◌, ℕ, ◌+◌, ◌-◌, ◌*◌, ◌/◌, ◌%◌, ◌<◌, ◌≤◌, Bool, true, false, List, Option, Some, None, length, get_or, set, refl, sym, ap, ◌∙◌, subst, arith, length-set}
+use Rattle.std.proofs.Common.{◌≡◌, ◌≢◌, ℕ, ◌+◌, ◌/◌, ◌%◌, ◌<◌, true, false, Some, length, sym, ap, ◌∙◌, subst, arith}
 use Rattle.st_model.specs.Objects.{Object}
-use Rattle.st_stored.specs.Stored.{Stored, stored}
-use Rattle.st_stored.specs.Forms.{cell, field_count, object_from, IsSound}
+use Rattle.st_stored.specs.Stored.{stored}
+use Rattle.st_stored.specs.Forms.{cell, object_from}
 use Rattle.std.specs.Prelude.{slice_get, ◌==◌, if◌then◌else◌}
 use Rattle.st_model.specs.Objects.{is_words}
-use Rattle.st_stored.specs.Forms.{byte_of, unit_at}
+use Rattle.st_stored.specs.Forms.{byte_of}
 use Rattle.st_stored.proofs.Forming.{length-units, unit_words, unit_bytes}
 use Rattle.st_stored.proofs.Living.{live_stored, known, unit_is, word_within, byte_within}
 use Rattle.st_stored.specs.Stores.{stored_of}

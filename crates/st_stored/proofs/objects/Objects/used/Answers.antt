@@ -1,4 +1,4 @@
-use Rattle.std.proofs.Common.{◌≡◌, ◌≢◌, ℕ, ◌+◌, ◌-◌, ◌*◌, ◌/◌, ◌%◌, ◌<◌, ◌≤◌, Bool, true, false, List, Option, Some, None, length, get_or, set, is_some, refl, sym, ap, ◌∙◌, subst, arith, length-set}
+use Rattle.std.proofs.Common.{sym, ◌∙◌}
 use Rattle.st_stored.proofs.Changing.{total_one, total_words}
 use Rattle.st_stored.specs.Stores.{stored_of}
 use Rattle.st_stored.proofs.objects.Objects.used.Goals as goal

@@ -1,9 +1,6 @@
-use Rattle.std.proofs.Common.{◌≡◌, ℕ, ◌/◌, List, Option, Some, None, length, get_or, set, is_some, refl, sym, ap, ◌∙◌, subst, length-set}
-use Rattle.st_model.specs.declared.oop.Oop.{Oop}
+use Rattle.std.proofs.Common.{◌≡◌, ◌/◌, List, Option, Some, None, length, get_or, set, is_some, refl, sym, ap, ◌∙◌, subst, length-set}
 use Rattle.st_table.specs.declared.entry.Entry.{Entry}
-use Rattle.st_table.specs.Entries.{HasEntry}
-use Rattle.st_heap.specs.declared.block.Block.{Block}
-use Rattle.st_heap.specs.Blocks.{held, exchanged_entries, exchanged_blocks, entry_at, moved_entry, IsTied}
+use Rattle.st_heap.specs.Blocks.{exchanged_entries, exchanged_blocks, entry_at, moved_entry, IsTied}
 use Rattle.st_heap.specs.Heaps.{words_of, blocks_of}
 use Rattle.st_stored.specs.Stored.{stored_at, stored_all, used_of}
 use Rattle.st_stored.proofs.Storing.{slot_entry, same_all}
@@ -39,7 +36,7 @@ invariant_of-self c =
     let ws = words_of s.heap in
     let old = blocks_of s.heap in
     let now = same_all ws (words_of c.exchange.new.self) (exchanged_blocks old s.table c.args.a c.args.b) bs (set (set moved a (Some x)) b (Some y)) c.set_entry-2.new.self c.exchange.ensures.words c.exchange.ensures.blocks is
-        ∙ exchanged_all ws old s.table c.args.a c.args.b e f x y c.entry-first.ensures c.entry-second.ensures refl refl in
+    ∙ exchanged_all ws old s.table c.args.a c.args.b e f x y c.entry-first.ensures c.entry-second.ensures refl refl in
     let tied : IsTied moved bs = subst (λ (es : List (Option Entry)). IsTied es bs) c.exchange.ensures.entries c.exchange.ensures.tied in
     let once = tied_entry moved bs a first.0 x tied first.1 (sym first.2) in
     let twice = tied_entry (set moved a (Some x)) bs b second.0 y once second.1 (sym second.2) in
@@ -67,4 +64,3 @@ returns-clause-stored c =
     let is : c.set_entry-2.new.self ≡ set (set moved a (Some x)) b (Some y) = c.set_entry-2.ensures ∙ ap (λ es. set es b (Some y)) (c.set_entry.ensures ∙ ap (λ es. set es a (Some x)) c.exchange.ensures.entries) in
     same_all ws (words_of c.exchange.new.self) (exchanged_blocks old s.table c.args.a c.args.b) (blocks_of c.exchange.new.self) (set (set moved a (Some x)) b (Some y)) c.set_entry-2.new.self c.exchange.ensures.words c.exchange.ensures.blocks is
     ∙ exchanged_all ws old s.table c.args.a c.args.b e f x y c.entry-first.ensures c.entry-second.ensures refl refl
-

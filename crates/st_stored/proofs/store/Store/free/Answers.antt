@@ -1,12 +1,11 @@
-use Rattle.std.proofs.Common.{◌≡◌, ℕ, ◌+◌, ◌-◌, ◌<◌, ◌≤◌, ◌/◌, List, Option, Some, None, length, set, refl, sym, ap, ◌∙◌, subst, arith, length-set}
+use Rattle.std.proofs.Common.{◌≡◌, ◌-◌, ◌/◌, List, Option, None, length, set, refl, sym, ap, ◌∙◌, arith, length-set}
 use Rattle.st_model.specs.declared.demand.Demand.{Demand}
 use Rattle.st_table.specs.declared.entry.Entry.{Entry}
-use Rattle.st_heap.specs.declared.block.Block.{Block}
 use Rattle.st_heap.specs.Blocks.{block_at, given_back, with_owner}
 use Rattle.st_heap.specs.Heaps.{words_of, blocks_of}
-use Rattle.st_heap.proofs.Laying.{entered_owner, entry_inside}
+use Rattle.st_heap.proofs.Laying.{entered_owner}
 use Rattle.st_heap.proofs.Taking.{tied_given}
-use Rattle.st_stored.specs.Stored.{Stored, stored_at, stored_all, total, one_stored, stored_words, used_of, AreTied}
+use Rattle.st_stored.specs.Stored.{Stored, stored_at, stored_all, total, one_stored, stored_words, used_of}
 use Rattle.st_stored.proofs.Storing.{length_entry, stored_entry, slot_entry, lengths_all, set_all, same_all}
 use Rattle.st_stored.proofs.Swapping.{owner_set}
 use Rattle.st_stored.proofs.Totals.{total_gone, slot_inside}

@@ -1,5 +1,5 @@
-use Rattle.std.proofs.Common.{◌≡◌, ℕ, ◌+◌, ◌/◌, None, refl, sym, ap, ◌∙◌, arith}
-use Rattle.st_heap.specs.Blocks.{none, block, held}
+use Rattle.std.proofs.Common.{◌≡◌, ℕ, ◌+◌, ◌/◌, None, sym, ap, ◌∙◌}
+use Rattle.st_heap.specs.Blocks.{block, held}
 use Rattle.st_heap.specs.Heaps.{words_of, blocks_of}
 use Rattle.st_stored.specs.Stored.{slot, stored_all, one_stored, stored_words}
 use Rattle.st_stored.proofs.Storing.{none_stored}

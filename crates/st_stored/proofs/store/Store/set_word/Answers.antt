@@ -1,4 +1,4 @@
-use Rattle.std.proofs.Common.{◌≡◌, ◌+◌, ◌<◌, ◌/◌, List, Some, length, set, sym, ap, ◌∙◌, subst, arith, length-set}
+use Rattle.std.proofs.Common.{◌/◌, List, Some, set, sym, ap, ◌∙◌, subst, arith, length-set}
 use Rattle.st_heap.specs.declared.block.Block.{Block}
 use Rattle.st_heap.specs.Blocks.{held}
 use Rattle.st_heap.specs.Heaps.{words_of, blocks_of}
@@ -58,4 +58,3 @@ returns-clause-stored c =
     let below = entry_below ws bs s.table k e c.args.i is c.requires.range in
     words_set s.heap c.set_word.new.self s.table e c.args.i c.args.w c.set_word.ensures.words c.set_word.ensures.blocks ∙ word_set ws bs s.heap.end s.heap.free s.table s.heap.laid (tied_of s.table bs s.tied) k e c.args.i c.args.w is below
     ∙ ap (λ (t : Stored). set (stored_all ws bs s.table) k (Some (with_cell t c.args.i c.args.w))) (sym (stored_entry ws bs s.table k e is))
-

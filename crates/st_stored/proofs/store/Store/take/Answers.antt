@@ -1,4 +1,4 @@
-use Rattle.std.proofs.Common.{◌≡◌, ℕ, ◌+◌, ◌<◌, ◌≤◌, ◌/◌, List, Option, Some, None, length, set, refl, sym, ap, ◌∙◌, subst, arith, length-set}
+use Rattle.std.proofs.Common.{◌≡◌, ◌+◌, ◌<◌, ◌/◌, List, Option, Some, length, set, refl, sym, ap, ◌∙◌, arith, length-set}
 use Rattle.st_model.specs.declared.demand.Demand.{Demand}
 use Rattle.st_table.specs.declared.entry.Entry.{Entry}
 use Rattle.st_heap.specs.declared.block.Block.{Block}

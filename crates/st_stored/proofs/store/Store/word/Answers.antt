@@ -1,4 +1,4 @@
-use Rattle.std.proofs.Common.{◌≡◌, ◌+◌, ◌<◌, ◌/◌, length, get_or, sym, ap, ◌∙◌, arith}
+use Rattle.std.proofs.Common.{◌/◌, get_or, sym, ap, ◌∙◌, arith}
 use Rattle.st_heap.specs.Heaps.{words_of, blocks_of}
 use Rattle.st_stored.specs.Stored.{Stored}
 use Rattle.st_stored.proofs.Runs.{get_or-run}
