@@ -32,8 +32,15 @@ const LIMIT: u64 = 1 << 30;
 impl Changes {
     ghost use Rattle.std.specs.Prelude.{◌≡◌, ◌↔◌, Some, IsTrue, OnOk, OnErr};
     ghost use Rattle.st_chunk.specs.Definitions.{IsDefinition, entry};
-    ghost use Rattle.st_changes.specs.Views.{definition_of};
+    ghost use Rattle.st_changes.specs.Views.{definition_of, definitions_of};
     ghost use Rattle.st_changes.specs.States.{FitsBehind};
+
+    /// The definitions, in order.
+    pub fn definitions(&self) -> &[Definition]
+        ensures { definitions_of result.now ≡ self.now.listed }
+    {
+        self.listed.as_slice()
+    }
 
     /// Whether the changes file has at most 2^30 bytes with the entry of this definition behind it.
     pub fn fits(&self, definition: &Definition) -> bool

@@ -14,3 +14,6 @@ mod writing;
 pub use changes::Changes;
 pub use definition::Definition;
 pub use loading::load;
+
+#[cfg(test)]
+mod tests;
