@@ -1,8 +1,7 @@
 -- A change of words or bytes, or of a Method's header or literals, commutes with what reads and stores fields of objects of kind
 -- Pointers: with popping, pushing and storing fields. So a deed may be left until after these.
 use Rattle.std.proofs.Common.{◌≡◌, ◌≢◌, ℕ, zero, suc, ◌+◌, List, [], ◌∷◌, length, Option, Some, None, Bool, true, false, refl, sym, ◌∙◌, ap, arith, inl, inr, ◌⊎◌, is_some, length-set}
-use Rattle.std.specs.Prelude.{◌-◌, ◌==◌, ◌&&◌, slice_get, nat_lt, nat_le, if◌then◌else◌}
-use Rattle.std.proofs.lemmas.Bool.Decides.{nat_tests}
+use Rattle.std.specs.Prelude.{◌-◌, ◌&&◌, slice_get, nat_lt, nat_le, if◌then◌else◌}
 use Rattle.st_model.specs.declared.dead.Dead.{Dead}
 use Rattle.st_model.specs.declared.dead.Dead.TheVariants as dead
 use Rattle.st_model.specs.declared.kind.Kind.{Kind}
@@ -10,13 +9,12 @@ use Rattle.st_model.specs.declared.kind.Kind.TheVariants as kind
 use Rattle.st_model.specs.declared.deed.Deed.{Deed}
 use Rattle.st_model.specs.declared.deed.Deed.TheVariants.{Nothing, StoreWord, StoreByte, StoreNumber, ReplaceBytes, StoreHeader, StoreLiteral}
 use Rattle.st_model.specs.Values.{Value, Small, Ref, word}
-use Rattle.st_model.specs.Objects.{Object, is_pointers, is_words, is_bytes, is_method, has_bytes, first_unit, with_field, with_units, object_with_unit, words_of, one}
+use Rattle.st_model.specs.Objects.{Object, is_pointers, is_words, is_method, has_bytes, first_unit, with_field, object_with_unit, words_of, one}
 use Rattle.st_model.specs.Machine.{ObjectMemory, State, Transition, Died, Went, Step, is_there, used, answer, die, after, ◌>>=◌, ◌>>◌}
 use Rattle.st_model.specs.Table.{Table, table, entry, changed, total_used, IsTabular}
 use Rattle.st_model.specs.Steps.{get_active, get_sp, set_sp, found, object_named, object, stored_at, store_at, set_field, check, or_die, fetch_field, store_field, count_fields, put, push, top, pop}
 use Rattle.st_model.specs.Primitives.{bytes_of_number, pop_words, answer_with}
-use Rattle.st_model.specs.Storage.{Replacing, replaced_bytes}
-use Rattle.st_model.specs.Deeds.{changed_object, changed_by, word_stored, byte_stored, bytes_stored, units_at, bytes_replaced, counts_literals, header_stored, literal_stored, deed_done, over}
+use Rattle.st_model.specs.Deeds.{changed_object, changed_by, word_stored, byte_stored, bytes_stored, bytes_from, counts_literals, header_stored, literal_stored, deed_done, over}
 use Rattle.st_model.proofs.TableLemmas.{changed-some, changed-other}
 use Rattle.st_model.proofs.Bounded.{total-changed}
 
@@ -295,12 +293,6 @@ no_words kind.Words e = cc
 no_words kind.Bytes e = cc
 no_words kind.Method e = cc
 
-no_bytes : (k : Kind) → is_pointers k ≡ true → is_bytes k ≡ false
-no_bytes kind.Pointers e = refl
-no_bytes kind.Words e = cc
-no_bytes kind.Bytes e = cc
-no_bytes kind.Method e = cc
-
 no_method : (k : Kind) → is_pointers k ≡ true → is_method k ≡ false
 no_method kind.Pointers e = refl
 no_method kind.Words e = cc
@@ -313,10 +305,6 @@ bytes_or_method kind.Words e = cc
 bytes_or_method kind.Bytes e = cc
 bytes_or_method kind.Method e = cc
 
-both_hold : (a b : Bool) → (a && b) ≡ true → (a ≡ true) × (b ≡ true)
-both_hold true b e = (refl, e)
-both_hold false b e = cc
-
 not_both : (a b : Bool) → a ≡ false → (a && b) ≡ false
 not_both a b e = rw e refl
 
@@ -326,17 +314,22 @@ words-with_unit o i x = rw (length-set o.units i x) refl
 words-with_field : (o : Object) (i : ℕ) (x : Value) → words_of (with_field o i x) ≡ words_of o
 words-with_field o i x = rw (length-set o.fields i x) refl
 
-words-with_units : (o : Object) (us : List ℕ) → (length us == length o.units) ≡ true → words_of (with_units o us) ≡ words_of o
-words-with_units o us f = let e : length us ≡ length o.units = grind (arith, nat_tests) in rw e refl
-
 word_keeps : (i x : ℕ) → Keeps (word_stored i x)
 word_keeps i x = keeps_if (λ o. is_words o.kind) (λ o. object_with_unit o i x) (λ o e. (refl, words-with_unit o i x)) (λ o e. no_words o.kind e)
 
 byte_keeps : (i x : ℕ) → Keeps (byte_stored i x)
 byte_keeps i x = keeps_if (λ o. has_bytes o.kind && nat_le (first_unit o) i) (λ o. object_with_unit o (i - first_unit o) x) (λ o e. (refl, words-with_unit o _ x)) (λ o e. not_both _ _ (bytes_or_method o.kind e))
 
-bytes_keeps : (us : Object → List ℕ) → Keeps (λ o. bytes_stored (us o) o)
-bytes_keeps us = keeps_if (λ o. is_bytes o.kind && (length (us o) == length o.units)) (λ o. with_units o (us o)) (λ o e. (refl, words-with_units o (us o) (both_hold _ _ e).1)) (λ o e. not_both _ _ (no_bytes o.kind e))
+then_keeps : (f g : Object → Object) → Keeps f → Keeps g → Keeps (λ o. g (f o))
+then_keeps f g h k = record {
+  kind = λ o. k.kind (f o) ∙ h.kind o;
+  words = λ o. k.words (f o) ∙ h.words o;
+  pointers = λ o e. ap g (h.pointers o e) ∙ k.pointers o e;
+}
+
+bytes_keeps : (i : ℕ) (bs : List ℕ) → Keeps (bytes_stored i bs)
+bytes_keeps i [] = record { kind = λ o. refl; words = λ o. refl; pointers = λ o e. refl }
+bytes_keeps i (b ∷ bs) = then_keeps (byte_stored i b) (bytes_stored (suc i) bs) (byte_keeps i b) (bytes_keeps (suc i) bs)
 
 header_keeps : (x : Value) → Keeps (header_stored x)
 header_keeps x = keeps_if (λ o. is_method o.kind && counts_literals x (slice_get o.fields 0)) (λ o. with_field o 0 x) (λ o e. (refl, words-with_field o 0 x)) (λ o e. not_both _ _ (no_method o.kind e))
@@ -345,11 +338,12 @@ literal_keeps : (i : ℕ) (x : Value) (known : Bool) → Keeps (literal_stored i
 literal_keeps i x known = keeps_if (λ o. is_method o.kind && known) (λ o. with_field o (i + 1) x) (λ o e. (refl, words-with_field o (i + 1) x)) (λ o e. not_both _ _ (no_method o.kind e))
 
 -- what a deed reads besides of a table stays where a field is stored
-units_stay : (t : Table) (n : ℕ) (o : Object) (i : ℕ) (x : Value) (v : Value) → entry t n ≡ Some o → units_at (changed t n (with_field o i x)) v ≡ units_at t v
-units_stay t n o i x (Small k) e = refl
-units_stay t n o i x (Ref k) e = elim (number_cases k n) [
-  | inl j ↦ rw (j, changed-some t n (with_field o i x) o e, e) refl
-  | inr d ↦ rw (changed-other t n k (with_field o i x) d) refl
+bytes_stay : (t : Table) (n : ℕ) (o : Object) (i : ℕ) (x : Value) (v : Value) (from k : ℕ) → entry t n ≡ Some o → is_pointers o.kind ≡ true
+    → bytes_from (changed t n (with_field o i x)) v from k ≡ bytes_from t v from k
+bytes_stay t n o i x (Small j) from k e h = refl
+bytes_stay t n o i x (Ref j) from k e h = elim (number_cases j n) [
+  | inl q ↦ rw (q, changed-some t n (with_field o i x) o e, e, length-set o.fields i x) refl
+  | inr d ↦ rw (changed-other t n j (with_field o i x) d) refl
 ]
 
 there_stays : (t : Table) (n : ℕ) (o : Object) (i : ℕ) (x v : Value) → entry t n ≡ Some o → is_there table (changed t n (with_field o i x)) v ≡ is_there table t v
@@ -367,16 +361,14 @@ pub deed_leaves : (d : Deed) → LeavesPointers (deed_done d)
 deed_leaves Nothing = record { alike = λ t n. alike_itself (λ o. o) (record { kind = λ o. refl; words = λ o. refl; pointers = λ o e. refl }) (entry t n); stores = λ t n o i x e h. refl }
 deed_leaves (StoreWord o i x) = by_leaves _ _ (word_keeps i x)
 deed_leaves (StoreByte o i x) = by_leaves _ _ (byte_keeps i x)
-deed_leaves (StoreNumber o k) = by_leaves _ _ (bytes_keeps (λ p. bytes_of_number k))
-deed_leaves (ReplaceBytes o c first last from) =
-    let p : Replacing = record { first = first; last = last; from = from } in
-    let f : List ℕ → Object → Object = λ vs. bytes_replaced vs p in
-    let k : (vs : List ℕ) → Keeps (f vs) = λ vs. bytes_keeps (λ q. replaced_bytes q.units vs p) in
+deed_leaves (StoreNumber o k) = by_leaves _ _ (bytes_keeps 0 (bytes_of_number k))
+deed_leaves (ReplaceBytes o c to from count) =
+    let f : List ℕ → Object → Object = λ vs. bytes_stored to vs in
     record {
-      alike = λ t n. alike_by (f (units_at t (word c))) (k _) (word o) t n;
+      alike = λ t n. alike_by (f (bytes_from t (word c) from count)) (bytes_keeps to (bytes_from t (word c) from count)) (word o) t n;
       stores = λ t n q i x e h.
-          ap (λ vs. changed_by (f vs) (changed t n (with_field q i x)) (word o)) (units_stay t n q i x (word c) e)
-          ∙ stores_by (f (units_at t (word c))) (k _) (word o) t n q (with_field q i x) e refl h;
+          ap (λ vs. changed_by (f vs) (changed t n (with_field q i x)) (word o)) (bytes_stay t n q i x (word c) from count e h)
+          ∙ stores_by (f (bytes_from t (word c) from count)) (bytes_keeps to (bytes_from t (word c) from count)) (word o) t n q (with_field q i x) e refl h;
     }
 deed_leaves (StoreHeader o x) = by_leaves _ _ (header_keeps (word x))
 deed_leaves (StoreLiteral o j y) =
@@ -396,8 +388,8 @@ module _ (weight : Object → ℕ) (w : (f : Object → Object) → Keeps f → 
   deed_total Nothing t = refl
   deed_total (StoreWord o i x) t = by_keeps _ _ t (word_keeps i x)
   deed_total (StoreByte o i x) t = by_keeps _ _ t (byte_keeps i x)
-  deed_total (StoreNumber o k) t = by_keeps _ _ t (bytes_keeps (λ p. bytes_of_number k))
-  deed_total (ReplaceBytes o c first last from) t = by_keeps _ _ t (bytes_keeps (λ q. replaced_bytes q.units (units_at t (word c)) (record { first = first; last = last; from = from })))
+  deed_total (StoreNumber o k) t = by_keeps _ _ t (bytes_keeps 0 (bytes_of_number k))
+  deed_total (ReplaceBytes o c to from count) t = by_keeps _ _ t (bytes_keeps to (bytes_from t (word c) from count))
   deed_total (StoreHeader o x) t = by_keeps _ _ t (header_keeps (word x))
   deed_total (StoreLiteral o i x) t = by_keeps _ _ t (literal_keeps i (word x) _)
 

@@ -7,6 +7,7 @@ pub mod SendsSame
 pub mod PrimitivesSame
 mod StorageSame
 pub mod Deeds
+pub mod Leaving
 pub mod ExecutingSame
 pub mod ReturnsSame
 pub mod BytecodesSame
@@ -24,6 +25,7 @@ pub mod Bounded
 pub mod Closed
 pub mod Going
 pub mod Reclaiming
+pub mod OnTop
 pub mod CyclesShown
 pub mod Runs
 pub mod Tabular
@@ -50,6 +52,7 @@ mod ImageRows
 mod OperationRows
 mod DecodedRows
 mod IntegerRows
+mod Floors
 pub mod Opened
 mod Rows
 mod SendRows

@@ -17,7 +17,7 @@ use Rattle.st_model.specs.Machine.{Registers, State, Transition, Died, Went, Ste
 use Rattle.st_model.specs.Births.{Births, births, births_with, object_born}
 use Rattle.st_model.specs.Table.{Table}
 use Rattle.st_model.specs.Show.{Shows, IsKept}
-use Rattle.st_model.specs.Steps.{same_value, fetch_kind, fetch_size, fetch_bytes, new_object, class_of, or_die, check, fetch_field, store_field, integer_or_die, fetch_integer, count_fields, fetch_fields, store_fields, fetch_word, fetch_byte, store_word, store_byte, transfer, put, push, top, under, look_at_words, drop_words, pop, literal, fetch_method_field, store_method_field, byte_at, next_byte, jump}
+use Rattle.st_model.specs.Steps.{same_value, fetch_kind, fetch_size, fetch_bytes, store_bytes, new_object, class_of, or_die, check, fetch_field, store_field, integer_or_die, fetch_integer, count_fields, fetch_fields, store_fields, fetch_word, fetch_byte, store_word, store_byte, transfer, put, push, top, under, look_at_words, drop_words, pop, literal, fetch_method_field, store_method_field, byte_at, next_byte, jump}
 use Rattle.st_model.specs.Methods.{from_last, method_header, literal_from_last, primitive_number, method_primitive}
 use Rattle.st_model.specs.Contexts.{home_by, home_of, stack_place, fetch_stack_pointer, context_registers, fetch_context_registers, store_context_registers, switch, fill_context, new_context, pass_words, activate}
 use Rattle.st_model.specs.Lookup.{checked_method, method_at, place_says, look_at_place, look_at_places, search_from, search_dictionary, or_above, method_in_class, look_in_class, unless_nil, end_at_nil, find_within, find}
@@ -175,6 +175,11 @@ module _ (o : Object) (lives : ℕ → Type 0) where
   fetch_bytes-sure n v from zero h = search fields depth 24 fits 4000
   fetch_bytes-sure n v from (suc i) h = then_answer-sure o lives _ n _ _ _ _ (fetch_byte-sure n v from h) (λ k l b. then_answer-sure o lives _ k _ _ _ _ (fetch_bytes-sure k v (suc from) i (later_value o lives n k v l h)) (λ j e bs. answer_itself-sure o lives j _))
 
+  pub store_bytes-sure : (n : ℕ) (v : Value) (to : ℕ) (bs : List ℕ) → There n v → SureAnswer n (store_bytes bare v to bs) (store_bytes (full o) v to bs)
+  unfolding store_bytes
+  store_bytes-sure n v to [] h = search fields depth 24 fits 4000
+  store_bytes-sure n v to (b ∷ bs) h = then_unit-sure o lives _ n _ _ _ _ (store_byte-sure n v to b h) (λ j l. store_bytes-sure j v (suc to) bs (later_value o lives n j v l h))
+
   pub put-sure : (n : ℕ) (c : Value) (at : ℕ) (x : Value) → There n c → There n x → SureAnswer n (put bare c at x) (put (full o) c at x)
   unfolding put
   put-sure n c at x h0 h1 = search (fields) depth 24 fits 4000
@@ -227,7 +232,7 @@ module _ (o : Object) (lives : ℕ → Type 0) where
   unfolding jump
   jump-sure n d = search (fields) depth 24 fits 4000
 
-  pub ruleset parts = (fields, fetch_word-sure, fetch_byte-sure, store_word-sure, store_byte-sure, fetch_kind-sure, fetch_size-sure, fetch_bytes-sure, fetch_integer-sure, transfer-sure, push-sure, under-sure, look_at_words-sure, drop_words-sure, top-sure, pop-sure, literal-sure, fetch_method_field-sure, store_method_field-sure, next_byte-sure, jump-sure)
+  pub ruleset parts = (fields, fetch_word-sure, fetch_byte-sure, store_word-sure, store_byte-sure, fetch_kind-sure, fetch_size-sure, fetch_bytes-sure, store_bytes-sure, fetch_integer-sure, transfer-sure, push-sure, under-sure, look_at_words-sure, drop_words-sure, top-sure, pop-sure, literal-sure, fetch_method_field-sure, store_method_field-sure, next_byte-sure, jump-sure)
 
   -- headers and contexts
 

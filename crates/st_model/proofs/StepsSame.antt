@@ -12,7 +12,7 @@ use Rattle.st_model.specs.Formed.{fresh_with}
 use Rattle.st_model.specs.Show.{renamed_registers, renamed_world, renamed_option}
 use Rattle.std.specs.Option.{option_map}
 use Rattle.std.proofs.lemmas.Bool.Decides.{nat_tests}
-use Rattle.st_model.specs.Steps.{get_active, get_home, get_method, get_receiver, get_ip, get_sp, set_ip, set_sp, found, object_named, object, stored_at, store_at, set_field, exchanged_there, exchange_named, exchange, fit_units, units_set, set_units_at, set_units, get_world, world_set, set_world, get_free, named_or_not, object_at, next_instance, fetch_kind, fetch_size, fetch_bytes, fetch_word, store_word, fetch_byte, store_byte, made, make_named, make, registers_set, set_registers, new_of, are_there, of_page, new_object, class_of, or_die, check, fetch_field, store_field, integer_or_die, fetch_integer, count_fields, fetch_fields, store_fields, transfer, put, push, under, look_at_words, drop_words, top, pop, literal, fetch_method_field, store_method_field, byte_at, next_byte, jump}
+use Rattle.st_model.specs.Steps.{get_active, get_home, get_method, get_receiver, get_ip, get_sp, set_ip, set_sp, found, object_named, object, stored_at, store_at, set_field, exchanged_there, exchange_named, exchange, fit_units, units_set, set_units_at, set_units, get_world, world_set, set_world, get_free, named_or_not, object_at, next_instance, fetch_kind, fetch_size, fetch_bytes, store_bytes, fetch_word, store_word, fetch_byte, store_byte, made, make_named, make, registers_set, set_registers, new_of, are_there, of_page, new_object, class_of, or_die, check, fetch_field, store_field, integer_or_die, fetch_integer, count_fields, fetch_fields, store_fields, transfer, put, push, under, look_at_words, drop_words, top, pop, literal, fetch_method_field, store_method_field, byte_at, next_byte, jump}
 use Rattle.st_model.specs.Calls.{itself}
 use Rattle.st_model.proofs.Same.{length-renamed, then_object-same, answer_itself-same, OptionSame, Simulation, StateSame, TransitionSame, StaysOver, Anything, IsLiveOption, IsLiveRegisters, IsLiveWorld, ValueSame, ValuesSame, OptionalSame, RegistersSame, WorldSame, SameValue, SameValues, SameOption, SameWorld, SameObject, SameAnswer, is_there-renamed, all_there-renamed, value_there, values_there, both, some_object, same_value-same, steps_same, then_unit-same, over_value, over_values, over_object, with_field-renamed, stored_is_live}
 use Rattle.st_model.proofs.Names.{map_all, device_part, with_devices}
@@ -563,6 +563,11 @@ module _ {H K : Type 0} {M : ObjectMemory H} {N : ObjectMemory K} (sim : Simulat
   fetch_bytes-same v w from zero h = search fields_same depth 16 fits 4000
   fetch_bytes-same v w from (suc n) h = search (fields_same, fetch_byte-same, fetch_bytes-same v w (suc from) n) depth 16 fits 4000
 
+  pub store_bytes-same : (v w : Value) (to : ℕ) (bs : List ℕ) → ValueSame sim v w → SameAnswer sim (store_bytes M v to bs) (store_bytes N w to bs)
+  unfolding store_bytes
+  store_bytes-same v w to [] h = search fields_same depth 16 fits 4000
+  store_bytes-same v w to (b ∷ bs) h = search (fields_same, store_byte-same, store_bytes-same v w (suc to) bs) depth 16 fits 4000
+
   -- the stack
 
   put-same : (c d : Value) (at : ℕ) (x y : Value) → ValueSame sim c d → ValueSame sim x y → SameAnswer sim (put M c at x) (put N d at y)
@@ -619,4 +624,4 @@ module _ {H K : Type 0} {M : ObjectMemory H} {N : ObjectMemory K} (sim : Simulat
   unfolding jump
   jump-same d = search fields_same depth 16 fits 4000
 
-  pub ruleset parts_same = (fields_same, fetch_integer-same, transfer-same, fetch_word-same, store_word-same, fetch_byte-same, store_byte-same, fetch_kind-same, fetch_size-same, fetch_bytes-same, push-same, under-same, look_at_words-same, drop_words-same, top-same, pop-same, literal-same, fetch_method_field-same, store_method_field-same, next_byte-same, jump-same)
+  pub ruleset parts_same = (fields_same, fetch_integer-same, transfer-same, fetch_word-same, store_word-same, fetch_byte-same, store_byte-same, fetch_kind-same, fetch_size-same, fetch_bytes-same, store_bytes-same, push-same, under-same, look_at_words-same, drop_words-same, top-same, pop-same, literal-same, fetch_method_field-same, store_method_field-same, next_byte-same, jump-same)

@@ -5,7 +5,7 @@ use Rattle.st_model.specs.declared.kind.Kind.TheVariants as kind
 use Rattle.st_model.specs.Values.{Value, Small, Ref, small_integer}
 use Rattle.st_model.specs.Objects.{PageObject, FalseObject, TrueObject, LargeClass, is_pointers, is_bytes}
 use Rattle.st_model.specs.Machine.{ObjectMemory, Step, answer, die, tried, ◌>>=◌, ◌>>◌}
-use Rattle.st_model.specs.Steps.{of_page, class_of, same_value, check, fetch_kind, fetch_size, fetch_field, fetch_bytes, set_units, make, push, pop}
+use Rattle.st_model.specs.Steps.{of_page, class_of, same_value, check, fetch_kind, fetch_size, fetch_field, fetch_bytes, store_bytes, make, push, pop}
 
 -- pops n words, the top one first
 unfoldable pub pop_words : {H : Type 0} → ObjectMemory H → ℕ → Step H Unit
@@ -110,7 +110,7 @@ unfoldable pub new_large : {H : Type 0} → ObjectMemory H → List ℕ → Step
 new_large m bytes = do
   class ← of_page m LargeClass
   o ← make m class kind.Bytes (length bytes) 0
-  set_units m o bytes
+  store_bytes m o 0 bytes
   answer o
 
 -- the SmallInteger of a number, or above 16383 a new LargePositiveInteger

@@ -296,6 +296,13 @@ fetch_bytes m v from (suc n) = do
   bs ← fetch_bytes m v (suc from) n
   answer (b ∷ bs)
 
+-- these into the bytes from one on
+unfoldable pub store_bytes : {H : Type 0} → ObjectMemory H → Value → ℕ → List ℕ → Step H Unit
+store_bytes m v to [] = answer tt
+store_bytes m v to (b ∷ bs) = do
+  store_byte m v to b
+  store_bytes m v (suc to) bs
+
 -- the stack
 
 -- x into the field of a context, where that is a place of its stack: within its fields, and at most 16388

@@ -1,13 +1,13 @@
 -- The primitives that read and store objects, make, exchange and find them (chapter 29: array and stream, storage management
 -- and system primitives). Each names what it succeeds by, its conditions in their order, and its effect, which gives its answer.
-use Rattle.std.specs.Prelude.{ℕ, ◌+◌, ◌-◌, ◌*◌, ◌/◌, ◌==◌, ◌&&◌, ◌||◌, ◌++◌, not, List, take, drop, Bool, true, false, nat_lt, nat_le, if◌then◌else◌, ℤ, pos, nat_abs, ◌-ℤ◌, int_lt, int_le}
+use Rattle.std.specs.Prelude.{ℕ, ◌+◌, ◌-◌, ◌*◌, ◌/◌, ◌==◌, ◌&&◌, ◌||◌, not, Bool, true, false, nat_lt, nat_le, if◌then◌else◌, ℤ, pos, nat_abs, ◌-ℤ◌, int_lt, int_le}
 use Rattle.st_model.specs.declared.dead.Dead.TheVariants as dead
 use Rattle.st_model.specs.declared.kind.Kind.{Kind}
 use Rattle.st_model.specs.declared.kind.Kind.TheVariants as kind
 use Rattle.st_model.specs.Values.{Value, Small}
 use Rattle.st_model.specs.Objects.{ArrayClass, StringClass, CharacterClass, MethodClass, Characters, is_method}
 use Rattle.st_model.specs.Machine.{ObjectMemory, Step, answer, die, ◌>>=◌, ◌>>◌}
-use Rattle.st_model.specs.Steps.{of_page, object, class_of, same_value, check, or_die, fetch_kind, fetch_size, fetch_field, store_field, fetch_integer, fetch_word, store_word, fetch_byte, store_byte, set_units, fetch_method_field, store_method_field, exchange, make, object_at, next_instance, get_free, top, under}
+use Rattle.st_model.specs.Steps.{of_page, class_of, same_value, check, or_die, fetch_kind, fetch_size, fetch_field, store_field, fetch_integer, fetch_word, store_word, fetch_byte, store_byte, fetch_bytes, store_bytes, fetch_method_field, store_method_field, exchange, make, object_at, next_instance, get_free, top, under}
 use Rattle.st_model.specs.Methods.{literal_count, method_header}
 use Rattle.st_model.specs.Lookup.{half_word}
 use Rattle.st_model.specs.Primitives.{primitive, taking, truth, check_class, check_bytes, bits_or_die, positive_small, byte_or_die, positive_value, number, number_of, has_pointers, has_words, is_indexable, fixed_count, specification, fixed_fields}
@@ -603,15 +603,11 @@ replacing m r a b c d = do
   from ← positive_small d
   checked_replacing m r c (record { first = first; last = last; from = from })
 
--- these bytes with those from first to last replaced by others from a place on, as both were before
-abbrev pub replaced_bytes : List ℕ → List ℕ → Replacing → List ℕ
-replaced_bytes us vs p = take (p.first - 1) us ++ (take (p.last + 1 - p.first) (drop (p.from - 1) vs) ++ drop p.last us)
-
+-- the bytes are as they were before any is stored
 unfoldable pub replace_and_answer : {H : Type 0} → ObjectMemory H → Value → Value → Replacing → Step H Value
 replace_and_answer m r c p = do
-  target ← object m r
-  source ← object m c
-  set_units m r (replaced_bytes target.units source.units p)
+  bytes ← fetch_bytes m c (p.from - 1) (p.last + 1 - p.first)
+  store_bytes m r (p.first - 1) bytes
   answer r
 
 -- 105: bytes a to b of r become those of c from d on

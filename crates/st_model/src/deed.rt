@@ -19,18 +19,19 @@ pub enum Deed {
         place: u32,
         byte: u8,
     },
-    /// The bytes of an object become those of a number, where it has as many.
+    /// The bytes of a number, the low one first, are stored in an object.
     StoreNumber {
         object: Word,
         number: u32,
     },
-    /// The bytes of an object from `first` to `last`, counted from 1, become those of another from `from` on.
+    /// `count` bytes of an object from place `to` on, counted from 0, become those of another from place `from` on, as they
+    /// were before.
     ReplaceBytes {
         target: Word,
         source: Word,
-        first: u32,
-        last: u32,
+        to: u32,
         from: u32,
+        count: u32,
     },
     /// A Method's header becomes another one that counts as many literals.
     StoreHeader {
