@@ -1,14 +1,13 @@
 -- What bytes stand in an object while others are copied there one after the other.
-use Rattle.std.proofs.Common.{◌≡◌, ◌≢◌, ℕ, zero, suc, ◌+◌, ◌-◌, ◌*◌, ◌<◌, ◌≤◌, true, false, Bool, List, [], ◌∷◌, ◌++◌, length, take, drop, refl, sym, ap, ◌∙◌, subst, arith, is_some, inl, inr, ◌⊎◌}
-use Rattle.std.specs.Prelude.{slice_get, slice_set, unwrap_or, Option, Some, None, if◌then◌else◌}
-use Rattle.std.proofs.lemmas.List.{length-take}
+use Rattle.std.proofs.Common.{◌≡◌, ◌≢◌, ℕ, zero, suc, ◌+◌, ◌-◌, ◌*◌, ◌<◌, ◌≤◌, true, false, List, [], ◌∷◌, ◌++◌, length, take, drop, refl, sym, ap, ◌∙◌, subst, arith, is_some, inl, inr}
+use Rattle.std.specs.Prelude.{slice_get, slice_set, unwrap_or, Some, None, if◌then◌else◌}
 use Rattle.st_model.specs.declared.kind.Kind.{Kind}
 use Rattle.st_model.specs.declared.kind.Kind.TheVariants as kind
 use Rattle.st_model.specs.Values.{Value, Small, Ref}
 use Rattle.st_model.specs.Objects.{Object, is_bytes, is_pointers, is_words, holds_fields, with_units, object_with_unit, first_unit, size_of}
 use Rattle.st_model.specs.Table.{Table, entry, changed}
 use Rattle.st_model.specs.View.{View, IsWhole, is_live, object_of, with_unit, nothing}
-use Rattle.st_model.proofs.TableLemmas.{changed-some, changed-none, changed-other}
+use Rattle.st_model.proofs.TableLemmas.{changed-other}
 use Rattle.st_model.proofs.Transfers.{same_or_not}
 use Rattle.st_memory.specs.Copied.{HasBytes, laid, with_units_in, with_bytes_of}
 use Rattle.st_memory.proofs.Bodies.{no_fields}

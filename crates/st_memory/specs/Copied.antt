@@ -1,7 +1,7 @@
 -- Bytes of one object that become those of another.
 use Rattle.std.specs.Prelude.{◌≡◌, ℕ, zero, suc, ◌+◌, ◌≤◌, true, List, [], ◌∷◌, take, drop, length}
 use Rattle.st_model.specs.Values.{Value, Small, Ref}
-use Rattle.st_model.specs.Objects.{Object, is_bytes, with_units}
+use Rattle.st_model.specs.Objects.{is_bytes, with_units}
 use Rattle.st_model.specs.Table.{Table, changed}
 use Rattle.st_model.specs.View.{is_live, object_of}
 

@@ -1,8 +1,7 @@
-use Rattle.std.proofs.Common.{refl, suc, subst, sym, ap, ◌∙◌, arith, ◌≡◌, ◌<◌, ◌+◌, ◌-◌}
+use Rattle.std.proofs.Common.{refl, suc, ap, ◌∙◌, arith, ◌≡◌, ◌+◌}
 use Rattle.st_model.specs.Values.{value}
-use Rattle.st_model.specs.View.{object_of}
-use Rattle.st_memory.specs.Copied.{laid, with_bytes_of}
-use Rattle.st_memory.proofs.Laying.{has_source, has_target, no_words, first_is_none, above_first, below_size, bytes_with, bytes_from, length-with, none_laid, first_more, last_more}
+use Rattle.st_memory.specs.Copied.{with_bytes_of}
+use Rattle.st_memory.proofs.Laying.{has_source, has_target, no_words, first_is_none, above_first, below_size, bytes_with, length-with, none_laid, first_more}
 use Rattle.st_memory.proofs.bytes.copy_from_first.Goals as goal
 
 pub byte-byte-requires-clause-live : goal.byte-byte-requires-clause-live
