@@ -7,7 +7,7 @@ ghost use Rattle.st_model.specs.Births.{Births};
 ghost use Rattle.st_model.specs.Show.{Shows};
 ghost use Rattle.st_model.specs.Text.{run_text};
 ghost use Rattle.st_frames.specs.Shown.{IsReady, shown};
-ghost use Rattle.st_report.specs.Saying.{Says};
+ghost use Rattle.st_outside.specs.Telling.{Says};
 ghost use Rattle.st_once.specs.Ends.{OnceEnds, StatusHasCause};
 
 use crate::image::start;

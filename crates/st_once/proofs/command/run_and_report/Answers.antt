@@ -3,7 +3,7 @@ use Rattle.st_outside.specs.Runs.{SaysAll}
 use Rattle.st_model.specs.Machine.{State, World}
 use Rattle.st_model.specs.Table.{Table}
 use Rattle.st_frames.specs.Shown.{IsReady, shown}
-use Rattle.st_report.specs.Saying.{Says}
+use Rattle.st_outside.specs.Telling.{Says}
 use Rattle.st_once.specs.Ends.{ending_text}
 use Rattle.st_once.proofs.Reported.{run_is}
 use Rattle.st_once.proofs.command.run_and_report.Goals as goal
