@@ -73,7 +73,8 @@ impl<R: Files + Print + Drop> DirHost<R> {
     }
 
     fn write(&mut self, name: &str, at: u64, bytes: &[u8]) -> io::Result<()>
-        ensures { KeepsCounts self.old.disk_faults self.old.say_faults self.new.disk_faults self.new.say_faults }
+        ensures { KeepsCounts self.old.disk_faults self.old.say_faults
+            self.new.disk_faults self.new.say_faults }
     {
         let mut file = self.open_to_write(name)?;
         file.seek(SeekFrom::Start(at))?;
@@ -81,7 +82,8 @@ impl<R: Files + Print + Drop> DirHost<R> {
     }
 
     fn set_length(&mut self, name: &str, len: u64) -> io::Result<()>
-        ensures { KeepsCounts self.old.disk_faults self.old.say_faults self.new.disk_faults self.new.say_faults }
+        ensures { KeepsCounts self.old.disk_faults self.old.say_faults
+            self.new.disk_faults self.new.say_faults }
     {
         let file = self.open_to_write(name)?;
         file.set_len(len)
@@ -89,7 +91,8 @@ impl<R: Files + Print + Drop> DirHost<R> {
 
     // The file is made where there is none.
     fn open_to_write(&mut self, name: &str) -> io::Result<R::File>
-        ensures { KeepsCounts self.old.disk_faults self.old.say_faults self.new.disk_faults self.new.say_faults }
+        ensures { KeepsCounts self.old.disk_faults self.old.say_faults
+            self.new.disk_faults self.new.say_faults }
     {
         if self.open(name)?.is_none() {
             match name.rsplit_once('/') {
@@ -105,7 +108,8 @@ impl<R: Files + Print + Drop> DirHost<R> {
 
     // The folder of a file that this host has made since is synced behind it. No clause says so.
     fn sync_file(&mut self, name: &str) -> io::Result<()>
-        ensures { KeepsCounts self.old.disk_faults self.old.say_faults self.new.disk_faults self.new.say_faults }
+        ensures { KeepsCounts self.old.disk_faults self.old.say_faults
+            self.new.disk_faults self.new.say_faults }
     {
         match self.open(name)? {
             Some(file) => file.sync_all()?,

@@ -38,7 +38,8 @@ pub(crate) struct First<'a> {
 pub(crate) fn split_first<'a>(log: &'a [Entry], arena: &'a [u8]) -> Option<First<'a>>
     requires { arena_size log.now ≡ length arena.now }
     ensures deed { IfSome result (λ first.
-        deeds_of log.now arena.now ≡ deed_of first.kind first.name.now first.bytes.now ∷ deeds_of first.later.now first.rest.now) }
+        deeds_of log.now arena.now
+        ≡ deed_of first.kind first.name.now first.bytes.now ∷ deeds_of first.later.now first.rest.now) }
     ensures size { IfSome result (λ first. arena_size first.later.now ≡ length first.rest.now) }
     ensures fewer { IfSome result (λ first. length first.later.now < length log.now) }
     ensures none { (result ≡ None) → log.now ≡ [] }

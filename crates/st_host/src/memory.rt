@@ -162,7 +162,8 @@ impl MemHost {
         name: &[u8],
         bytes: &[u8],
     ) -> Result<(), AllocError>
-        ensures { OnOk result (self.new ≡ with_done (Synced name.now) (with_done (deed_of kind name.now bytes.now) self.old)) }
+        ensures { OnOk result (self.new
+            ≡ with_done (Synced name.now) (with_done (deed_of kind name.now bytes.now) self.old)) }
     {
         self.repeat(alloc, kind, name, bytes)?;
         self.repeat(alloc, Kind::Synced, name, &[])?;
@@ -240,7 +241,8 @@ impl MemHost {
     fn add_deed(&mut self, kind: Kind, name: &[u8], bytes: &[u8])
         requires calls { 0 < self.old.calls_left }
         requires bytes { length name.now + length bytes.now ≤ self.old.bytes_left }
-        ensures { self.new ≡ with_deed (deed_of kind name.now bytes.now) (length name.now + length bytes.now) self.old }
+        ensures { self.new
+            ≡ with_deed (deed_of kind name.now bytes.now) (length name.now + length bytes.now) self.old }
     {
         append_said(&mut self.said, kind, bytes);
         append(&mut self.log, &mut self.arena, kind, name, bytes);
@@ -286,7 +288,8 @@ impl Host for MemHost {
     }
 
     fn read_at(&mut self, name: &str, at: u64, into: &mut [u8]) -> Result<usize, HostFault>
-        ensures read { IfOk result (λ k. IsRead (bytes_of (files_after self.old.deeds name.now)) at k into.new) }
+        ensures read { IfOk result (λ k.
+            IsRead (bytes_of (files_after self.old.deeds name.now)) at k into.new) }
         ensures within { IfOk result (λ k. k ≤ length into.old) }
         ensures exactly { ReadsOrFails self.old self.new result }
         ensures cause { HasCause self.old.disk_faults self.new.disk_faults result }
@@ -297,7 +300,8 @@ impl Host for MemHost {
     }
 
     fn write_at(&mut self, name: &str, at: u64, bytes: &[u8]) -> Result<(), HostFault>
-        ensures exactly { ChangesOrFails (Wrote name.now at bytes.now) (length name.now + length bytes.now) (at + length bytes.now)
+        ensures exactly { ChangesOrFails (Wrote name.now at bytes.now)
+            (length name.now + length bytes.now) (at + length bytes.now)
             self.old self.new result }
         ensures cause { HasCause self.old.disk_faults self.new.disk_faults result }
     {

@@ -51,7 +51,8 @@ impl Replay {
     ) -> Result<(), AllocError>
         requires { IsReplay self.old }
         ensures how { self.new.how ≡ self.old.how }
-        ensures reads { OnOk result (self.new.reads.deeds ≡ deed_of kind name.now bytes.now ∷ self.old.reads.deeds) }
+        ensures reads { OnOk result (self.new.reads.deeds
+            ≡ deed_of kind name.now bytes.now ∷ self.old.reads.deeds) }
         ensures left { OnOk result (IsReplay self.new) }
     {
         self.reads.repeat(alloc, kind, name, bytes)?;

@@ -52,7 +52,8 @@ pub trait Host {
 
         ensures stops { IsTrue is_told → SameStops (may_leave self.old) (may_leave self.new) }
         ensures time { IsTrue is_told →
-            Elapses (moment self.old) (moment self.new) (left_since self.old) (left_since self.new) (Here (may_leave self.new) (said self.new)) }
+            Elapses (moment self.old) (moment self.new) (left_since self.old) (left_since self.new)
+            (Here (may_leave self.new) (said self.new)) }
 
         ensures cause { HasCause (disk_faults self.old) (disk_faults self.new) result }
         ensures say_count { say_faults self.new ≡ say_faults self.old };
@@ -72,7 +73,8 @@ pub trait Host {
 
         ensures stops { IsTrue is_told → SameStops (may_leave self.old) (may_leave self.new) }
         ensures time { IsTrue is_told →
-            Elapses (moment self.old) (moment self.new) (left_since self.old) (left_since self.new) (Here (may_leave self.new) (said self.new)) }
+            Elapses (moment self.old) (moment self.new) (left_since self.old) (left_since self.new)
+            (Here (may_leave self.new) (said self.new)) }
 
         ensures cause { HasCause (disk_faults self.old) (disk_faults self.new) result }
         ensures say_count { say_faults self.new ≡ say_faults self.old };
@@ -91,7 +93,8 @@ pub trait Host {
             Follows (TornByWrite (files self.old name.now) at (length bytes.now))
             (may_leave self.old name.now) (may_leave self.new name.now) }
         ensures time { IsTrue is_told →
-            Elapses (moment self.old) (moment self.new) (left_since self.old) (left_since self.new) (Here (may_leave self.new) (said self.new)) }
+            Elapses (moment self.old) (moment self.new) (left_since self.old) (left_since self.new)
+            (Here (may_leave self.new) (said self.new)) }
 
         ensures cause { HasCause (disk_faults self.old) (disk_faults self.new) result }
         ensures say_count { say_faults self.new ≡ say_faults self.old };
@@ -110,7 +113,8 @@ pub trait Host {
             Follows (TornByCut (files self.old name.now) len)
             (may_leave self.old name.now) (may_leave self.new name.now) }
         ensures time { IsTrue is_told →
-            Elapses (moment self.old) (moment self.new) (left_since self.old) (left_since self.new) (Here (may_leave self.new) (said self.new)) }
+            Elapses (moment self.old) (moment self.new) (left_since self.old) (left_since self.new)
+            (Here (may_leave self.new) (said self.new)) }
 
         ensures cause { HasCause (disk_faults self.old) (disk_faults self.new) result }
         ensures say_count { say_faults self.new ≡ say_faults self.old };
@@ -129,7 +133,8 @@ pub trait Host {
         ensures stops { IsTrue is_told →
             (c : Option (List ℕ)) → may_leave self.new name.now c → may_leave self.old name.now c }
         ensures time { IsTrue is_told →
-            Elapses (moment self.old) (moment self.new) (left_since self.old) (left_since self.new) (Here (may_leave self.new) (said self.new)) }
+            Elapses (moment self.old) (moment self.new) (left_since self.old) (left_since self.new)
+            (Here (may_leave self.new) (said self.new)) }
 
         ensures cause { HasCause (disk_faults self.old) (disk_faults self.new) result }
         ensures say_count { say_faults self.new ≡ say_faults self.old };
@@ -142,7 +147,8 @@ pub trait Host {
         ensures alike { IsTrue is_told → (n : List ℕ) → files self.new n ≡ files self.old n }
         ensures stops { IsTrue is_told → SameStops (may_leave self.old) (may_leave self.new) }
         ensures time { IsTrue is_told →
-            Elapses (moment self.old) (moment self.new) (left_since self.old) (left_since self.new) (WhileSaying (may_leave self.new) (said self.old) bytes.now) }
+            Elapses (moment self.old) (moment self.new) (left_since self.old) (left_since self.new)
+            (WhileSaying (may_leave self.new) (said self.old) bytes.now) }
 
         ensures cause { HasCause (say_faults self.old) (say_faults self.new) result }
         ensures disk_count { disk_faults self.new ≡ disk_faults self.old };

@@ -107,7 +107,8 @@ pub fn number(minus: bool, text: &[u8]) -> Front
 
 /// What stands behind `r`, where digits before these bytes are a radix.
 fn behind_radix(rest: &[u8]) -> Option<&[u8]>
-    ensures { MatchOption result (IsFalse (makes_radix rest.now)) (λ behind. IsTrue (makes_radix rest.now) × (rest.now ≡ byte "r" ∷ behind.now)) }
+    ensures { MatchOption result (IsFalse (makes_radix rest.now))
+        (λ behind. IsTrue (makes_radix rest.now) × (rest.now ≡ byte "r" ∷ behind.now)) }
 {
     match rest {
         [b'r', behind @ ..] => match behind {

@@ -89,7 +89,8 @@ fn selector(text: &[u8]) -> usize
 
 /// How many bytes the keyword has that begins the text, if one does.
 fn keyword(text: &[u8]) -> Option<usize>
-    ensures exact { MatchOption result (IsFalse (begins_keyword text.now)) (λ n. IsTrue (begins_keyword text.now) × (n ≡ prefix_len is_ascii_alphanumeric text.now + 1)) }
+    ensures exact { MatchOption result (IsFalse (begins_keyword text.now)) (λ n.
+        IsTrue (begins_keyword text.now) × (n ≡ prefix_len is_ascii_alphanumeric text.now + 1)) }
     ensures within { IfSome result (λ n. n ≤ length text.now) }
 {
     let (name, rest) = text.split_at(letters_and_digits(text));

@@ -106,7 +106,7 @@ fn prepare<H: Host>(host: &mut H, names: &Names) -> Result<(), HostFault>
         → Makes {C = Option Stored} H.Host.own (OpensMaybe name) None None host.old host.new result }
     ensures blank { OnOk result (let name = string_bytes names.now.name in IsTrue H.is_told
         → Leaves H.Host.own host.old (roots_file name) (λ file. bytes_of file ≡ [])
-            → Leaves H.Host.own host.new (roots_file name) IsBlank) }
+        → Leaves H.Host.own host.new (roots_file name) IsBlank) }
     ensures emptied { OnOk result (let changes = changes_file (string_bytes names.now.name) in
         IsTrue H.is_told
         → H.files host.new changes ≡ Some []) }
@@ -124,11 +124,11 @@ fn prepare<H: Host>(host: &mut H, names: &Names) -> Result<(), HostFault>
 fn inscribe<H: Host>(host: &mut H, names: &Names, root: &Root) -> Result<(), HostFault>
     ensures makes { let name = string_bytes names.now.name in (c : Stored) → IsTrue H.is_told
         → Leaves H.Host.own host.old (roots_file name) IsBlank → c.root ≡ root.now
-            → IsFirm H.Host.own host.old name c
+        → IsFirm H.Host.own host.old name c
         → Makes {C = Option Stored} H.Host.own (OpensMaybe name) None (Some c) host.old host.new result }
     ensures chosen { OnOk result (let name = string_bytes names.now.name in (c : Stored) → IsTrue H.is_told
         → Leaves H.Host.own host.old (roots_file name) IsBlank → c.root ≡ root.now
-            → IsFirm H.Host.own host.old name c
+        → IsFirm H.Host.own host.old name c
         → IsChosen H.Host.own host.new name 0 c) }
     ensures bytes { OnOk result (let roots = roots_file (string_bytes names.now.name) in IsTrue H.is_told
         → Leaves H.Host.own host.old roots IsBlank → H.files host.new roots ≡ Some (first_file root.now)) }
@@ -148,14 +148,18 @@ pub fn found<H: Host>(
     host: &mut H,
     image_length: u64,
 ) -> Result<Store, HostFault>
-    ensures store { IfOk result (λ store. store ≡ record { name = new_store; chosen = 0;
-        root = first_root image_length }) }
+    ensures store { IfOk result (λ store. store ≡ record {
+      name = new_store;
+      chosen = 0;
+      root = first_root image_length;
+    }) }
 
     // A stop at any moment leaves files that are no store's, or open as the new one.
     ensures makes { (image : List ℕ) → IsTrue H.is_told
         → Leaves H.Host.own host.old (roots_file new_store) (λ file. bytes_of file ≡ [])
         → Leaves H.Host.own host.old (image_file new_store 0) (Begins image_length image)
-        → Makes {C = Option Stored} H.Host.own (OpensMaybe new_store) None (Some (first_stored image_length image)) host.old host.new result }
+        → Makes {C = Option Stored} H.Host.own (OpensMaybe new_store)
+        None (Some (first_stored image_length image)) host.old host.new result }
     ensures kept { IfOk result (λ store. (image : List ℕ) → IsTrue H.is_told
         → Leaves H.Host.own host.old (roots_file new_store) (λ file. bytes_of file ≡ [])
         → Leaves H.Host.own host.old (image_file new_store 0) (Begins image_length image)

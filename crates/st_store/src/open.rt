@@ -82,9 +82,11 @@ fn make_firm<H: Host>(
 ) -> Result<(), StoreFault>
     requires { chosen.now.number ≤ 1 }
     ensures fit { OnOk result (IsTrue H.is_told
-        → Fit chosen.now.root (length (bytes_of (H.files host.old image.now))) (length (bytes_of (H.files host.old changes.now)))) }
+        → Fit chosen.now.root (length (bytes_of (H.files host.old image.now)))
+        (length (bytes_of (H.files host.old changes.now)))) }
     ensures refused { IfErr result (λ e. IsTrue H.is_told
-        → RefusesNumbers chosen.now.number chosen.now.root (length (bytes_of (H.files host.old image.now))) (length (bytes_of (H.files host.old changes.now))) e) }
+        → RefusesNumbers chosen.now.number chosen.now.root (length (bytes_of (H.files host.old image.now)))
+        (length (bytes_of (H.files host.old changes.now))) e) }
     ensures kind { IfErr result IsOfOpening }
     ensures image { OnOk result (IsSynced H.Host.own image.now host.new) }
     ensures changes { OnOk result (IsSynced H.Host.own changes.now host.new) }

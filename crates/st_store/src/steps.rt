@@ -43,7 +43,7 @@ pub(crate) fn turn<H: Host>(host: &mut H, names: &Names, gate: u64) -> Result<()
     // in a commit
     ensures makes { let name = string_bytes names.now.name in (k : ℕ) (c d : Stored) → IsTrue H.is_told
         → gate ≡ 1 - k → IsStaged H.Host.own host.old name k c d → Makes H.Host.own (Opens name) c d
-            host.old host.new result }
+        host.old host.new result }
     ensures other { OnOk result (let name = string_bytes names.now.name in (k : ℕ) (c d : Stored)
         → IsTrue H.is_told
         → gate ≡ 1 - k → IsStaged H.Host.own host.old name k c d → IsChosen H.Host.own host.new name gate d) }
@@ -51,7 +51,7 @@ pub(crate) fn turn<H: Host>(host: &mut H, names: &Names, gate: u64) -> Result<()
     // in opening, where both roots are one
     ensures keeps { let name = string_bytes names.now.name in (c : Stored) → IsTrue H.is_told
         → IsStaged H.Host.own host.old name gate c c → Makes H.Host.own (Opens name) c c
-            host.old host.new result }
+        host.old host.new result }
     ensures same { OnOk result (let name = string_bytes names.now.name in (c : Stored) → IsTrue H.is_told
         → IsStaged H.Host.own host.old name gate c c → IsChosen H.Host.own host.new name gate c) }
 

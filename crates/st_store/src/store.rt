@@ -65,13 +65,16 @@ impl Store {
     /// Makes this root the chosen one: whole, or not at all. What it names has to be firm, and the store at rest. After
     /// an error the store is opened again.
     pub fn commit<H: Host>(self, host: &mut H, root: Root) -> Result<Store, HostFault>
-        ensures store { IfOk result (λ store. store ≡ record { name = self.name; chosen = 1 - self.chosen;
-            root = root }) }
+        ensures store { IfOk result (λ store. store ≡ record {
+          name = self.name;
+          chosen = 1 - self.chosen;
+          root = root;
+        }) }
 
         // A stop at any moment leaves files that open as before or as the new root.
         ensures makes { (c d : Stored) → IsTrue H.is_told → IsKept H.Host.own host.old self c
             → IsFirm H.Host.own host.old self.name d → d.root ≡ root → Makes H.Host.own (Opens self.name) c d
-                host.old host.new result }
+            host.old host.new result }
         ensures kept { IfOk result (λ store. (c d : Stored) → IsTrue H.is_told
             → IsKept H.Host.own host.old self c
             → IsFirm H.Host.own host.old self.name d → d.root ≡ root → IsKept H.Host.own host.new store d) }

@@ -27,7 +27,8 @@ impl Expression {
     #[tactic(auto, using(crate::proofs::Views::views))]
     pub fn chain(&self, alloc: Global) -> Result<Chain<'_>, AllocError>
         ensures start { IfOk result (λ c. IsStart (expression_view c.start.now)) }
-        ensures whole { IfOk result (λ c. linked (expression_view c.start.now) (links_view c.links.items) ≡ expression_view self.now) }
+        ensures whole { IfOk result (λ c.
+            linked (expression_view c.start.now) (links_view c.links.items) ≡ expression_view self.now) }
         ensures within { IfOk result (IsWithin self.now) }
     {
         let mut start = self;

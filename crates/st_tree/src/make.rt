@@ -40,7 +40,8 @@ impl Expression {
         receiver: Expression,
         messages: MessageList,
     ) -> Result<Expression, AllocError>
-        ensures { IfOk result (λ e. expression_view e ≡ send (expression_view receiver) (messages_view messages.items)) }
+        ensures { IfOk result (λ e.
+            expression_view e ≡ send (expression_view receiver) (messages_view messages.items)) }
     {
         let receiver = Box::new(alloc, receiver)?;
         Ok(Expression::Send { receiver, messages })

@@ -59,7 +59,7 @@ fn push_heading<M: Memory, H: Host>(
     requires end { end_of piece.old ≤ 2 ^ 40 }
     ensures { let object = object_of (M.view m.now).objects (value o) in
         Pushes H.Host.own name.now (word_bytes (words_of object) ++ word_bytes (2 * object.class))
-            host.old host.new piece.old piece.new result }
+        host.old host.new piece.old piece.new result }
 {
     push_word(piece, host, name, count_words(m, o) as u16)?;
     push_word(piece, host, name, m.class_of(o).0)

@@ -23,7 +23,7 @@ pub fn push_fields<M: Memory, H: Host>(
     requires end { end_of piece.old ≤ 2 ^ 41 }
     ensures { let object = object_of (M.view m.now).objects (value o) in
         Pushes H.Host.own name.now (flat_map word_bytes (map word_of object.fields))
-            host.old host.new piece.old piece.new result }
+        host.old host.new piece.old piece.new result }
 {
     for i in 0..count_fields(m, o) {
         push_word(piece, host, name, m.pointer(o, i).0)?;
@@ -44,7 +44,7 @@ fn push_words<M: Memory, H: Host>(
     requires end { end_of piece.old ≤ 2 ^ 41 }
     ensures { let object = object_of (M.view m.now).objects (value o) in
         Pushes H.Host.own name.now (flat_map word_bytes object.units)
-            host.old host.new piece.old piece.new result }
+        host.old host.new piece.old piece.new result }
 {
     for i in 0..count_units(m, o, count_fields(m, o)) {
         push_word(piece, host, name, m.word(o, i))?;
@@ -104,7 +104,7 @@ fn push_filled<M: Memory, H: Host>(
     requires end { end_of piece.old ≤ 2 ^ 41 }
     ensures { let object = object_of (M.view m.now).objects (value o) in
         Pushes H.Host.own name.now (object.units ++ filler (length object.units))
-            host.old host.new piece.old piece.new result }
+        host.old host.new piece.old piece.new result }
 {
     push_bytes(m, o, piece, host, name)?;
     push_filler(piece, host, name, count_units(m, o, count_fields(m, o)))
@@ -122,7 +122,7 @@ pub fn push_units<M: Memory, H: Host>(
     requires end { end_of piece.old ≤ 2 ^ 41 }
     ensures { let object = object_of (M.view m.now).objects (value o) in
         Pushes H.Host.own name.now (unit_bytes object.kind object.units)
-            host.old host.new piece.old piece.new result }
+        host.old host.new piece.old piece.new result }
 {
     match m.kind(o) {
         Kind::Pointers => Ok(()),
