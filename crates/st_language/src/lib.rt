@@ -1,5 +1,5 @@
-//! The crates of method texts together. There is nothing here but tests: of texts that are generated and compiled, and of the
-//! time that the worst texts take.
+//! The crates of method texts together. There is nothing here but tests: of texts that are compiled, from a table and from
+//! a generator.
 #![tactic(auto)]
 
 #[cfg(test)]
