@@ -58,3 +58,6 @@ impl Loader for CountedLoader {
         CountedMemory::new(self.contents)
     }
 }
+
+#[cfg(test)]
+mod tests;

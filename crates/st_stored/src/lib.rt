@@ -6,4 +6,3 @@ mod objects;
 mod store;
 
 pub use objects::Objects;
-pub use store::Store;

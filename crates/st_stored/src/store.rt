@@ -15,9 +15,9 @@ use std::alloc::{AllocError, Global};
 #[derive(Drop)]
 pub struct Store {
     /// The blocks.
-    pub heap: Heap,
+    heap: Heap,
     /// For each pointer under which one is stored, its place, its kind and its odd mark.
-    pub table: Table,
+    table: Table,
     /// How many blocks there are, and how many words they have.
     pub used: Demand,
     ghost tied: { AreTied table (blocks_of heap) },
