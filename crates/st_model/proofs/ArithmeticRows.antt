@@ -1,16 +1,17 @@
 -- Worked rows of the primitives on SmallIntegers, and of those that any receiver has, as special sends and as primitives of a
 -- method. The image is that of the rows of sends.
-use Rattle.std.proofs.Common.{◌≡◌, ℕ, ◌+◌, [], ◌∷◌, ◌++◌, None, Option, refl}
+use Rattle.std.proofs.Common.{◌≡◌, ℕ, ◌+◌, List, [], ◌∷◌, ◌++◌, None, Option, refl}
 use Rattle.std.specs.Prelude.{map, replicate, pos}
+use Rattle.st_model.specs.declared.dead.Dead.TheVariants as dead
 use Rattle.st_model.specs.declared.call.Performing.TheVariants.{Allowed}
 use Rattle.st_model.specs.Values.{Value, Small, Ref}
 use Rattle.st_model.specs.Objects.{Object, nil}
 use Rattle.st_model.specs.Outcomes.{StepEnd, Did, NotBuilt, With, Ending}
 use Rattle.st_model.specs.Outcomes as outcome
-use Rattle.st_model.specs.Machine.{State, Transition, Went}
+use Rattle.st_model.specs.Machine.{State, Transition, Died, Went}
 use Rattle.st_model.specs.Table.{Table, table}
 use Rattle.st_model.specs.Arithmetic.{arithmetic_number}
-use Rattle.st_model.specs.Executing.{respond}
+use Rattle.st_model.specs.Executing.{respond, execute}
 use Rattle.st_model.specs.Cycles.{run}
 use Rattle.st_model.proofs.Opened.{opened}
 use Rattle.st_model.proofs.SendRows.{pointers, plain, method, active, activation, objects, state, in_sender, in_method}
@@ -105,3 +106,40 @@ failing = refl
 waiting : map (responds 1 (Small 5) (Small 6)) (60 ∷ 88 ∷ 90 ∷ 102 ∷ 105 ∷ 112 ∷ 116 ∷ 128 ∷ []) ≡ replicate 8 (Went NotBuilt (called (Small 5) (Small 6)))
 unfolding opened responds called state in_sender objects active plain pointers method
 waiting = refl
+
+-- special sends alone, with so many words on the stack
+alone : ℕ → Value → Value → ℕ → State Table
+unfolding state in_sender objects active plain pointers method
+alone depth x y code = state 32767 (in_sender (pos 4) (5 + depth)) (objects 33 None None None (active 5 0 x y) (Small 1 ∷ Small 16383 ∷ []) (code ∷ []))
+
+done_alone : ℕ → Value → Value → ℕ → Transition (State Table) Ending
+unfolding state in_sender objects active plain pointers method
+done_alone depth x y code = Went (With outcome.Went) (state 32767 (in_sender (pos 5) (5 + depth)) (objects 33 None None None (active 5 0 x y) (Small 1 ∷ Small 16383 ∷ []) (code ∷ [])))
+
+-- with too few words on the stack they die
+short : map (run table 1) (alone 0 nil nil 199 ∷ alone 1 (Small 1) (Small 1) 198 ∷ alone 1 (Small 1) (Small 1) 176 ∷ alone 0 (Small 1) (Small 1) 191 ∷ []) ≡ replicate 4 (Died dead.Sp)
+unfolding opened alone state in_sender objects active plain pointers method
+short = refl
+
+-- where the primitive isn't tried or fails, the table is asked, which here has no selector for these: a receiver or an argument
+-- that is no SmallInteger, and -16384 by -1
+asked : map (run table 1) (alone 2 (Small 5) nil 191 ∷ alone 2 nil (Small 5) 177 ∷ alone 2 (Small 16384) (Small 32767) 189 ∷ []) ≡ replicate 3 (Died dead.Field)
+unfolding opened alone state in_sender objects active plain pointers method
+asked = refl
+
+-- -16384 by -1 leaves 0; -7 by 2 leaves 1 and is -4, and -7 shifted by -1 is -4
+rounded_down : map (run table 1) (alone 2 (Small 16384) (Small 32767) 186 ∷ alone 2 (Small 32761) (Small 2) 186 ∷ alone 2 (Small 32761) (Small 2) 189 ∷ alone 2 (Small 32761) (Small 32767) 188 ∷ [])
+    ≡ done_alone 1 (Small 0) (Small 32767) 186 ∷ done_alone 1 (Small 1) (Small 2) 186 ∷ done_alone 1 (Small 32764) (Small 2) 189 ∷ done_alone 1 (Small 32764) (Small 32767) 188 ∷ []
+unfolding opened alone done_alone state in_sender objects active plain pointers method
+rounded_down = refl
+
+-- a method with these fields is executed, on 5 and 6
+executes : List Value → Transition (State Table) StepEnd
+unfolding state in_sender objects active plain pointers method
+executes literals = (execute table Allowed (record { method = Ref 32; arguments = 1 })).run (state 32767 (in_sender (pos 4) 7) (objects 33 None None None (active 5 0 (Small 5) (Small 6)) literals (0 ∷ [])))
+
+-- flag 7 wants two literals, the first of them a SmallInteger; of that 8 bits are the number, here 1
+extensions : executes (Small 28672 ∷ []) ∷ executes (Small 28673 ∷ Small 1 ∷ []) ∷ executes (Small 28674 ∷ nil ∷ nil ∷ []) ∷ executes (Small 28674 ∷ Small 257 ∷ nil ∷ []) ∷ []
+    ≡ Died dead.Field ∷ Died dead.Field ∷ Died dead.NotSmall ∷ Went (Did outcome.Went) (state 32767 (in_sender (pos 4) 6) (objects 33 None None None (active 5 0 (Small 11) (Small 6)) (Small 28674 ∷ Small 257 ∷ nil ∷ []) (0 ∷ []))) ∷ []
+unfolding opened executes state in_sender objects active plain pointers method
+extensions = refl

@@ -52,6 +52,7 @@ mod ImageRows
 mod OperationRows
 mod DecodedRows
 mod IntegerRows
+mod Floors
 pub mod Opened
 mod Rows
 mod SendRows

@@ -41,7 +41,8 @@ integer_answer m n = do
 unfoldable pub arithmetic : {H : Type 0} → ObjectMemory H → ℕ → Step H Bool
 arithmetic m n = primitive m 1 (integer_answer m n) (value_of_answer m)
 
--- 176 to 191 are + - < > <= >= = ~= * / \\ of the primitives 1 to 11, and @ bitShift: // bitAnd: bitOr: of 18 17 12 14 15
+-- 176 to 186 are + - < > <= >= = ~= * / \\ and try 1 to 11; 187 to 191 are @ bitShift: // bitAnd: bitOr: and try 18 17 12 14
+-- 15. So for the last two, of k 14 and 15, the primitive has the number k.
 abbrev pub arithmetic_number : ℕ → ℕ
 arithmetic_number k = if nat_lt k 11 then k + 1 else if k == 11 then 18 else if k == 12 then 17 else if k == 13 then 12 else k
 

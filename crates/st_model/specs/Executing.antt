@@ -38,9 +38,9 @@ is_from first last n = nat_le first n && nat_le n last
 abbrev pub is_unbuilt : ℕ → Bool
 is_unbuilt n = is_from 60 88 n || (is_from 90 102 n || (n == 105 || (is_from 112 116 n || n == 128)))
 
--- A method of this primitive is executed, where 83 and 84 may still perform or no more. A primitive that is given another
--- number of arguments than its own fails, and so do all numbers that are no primitive's: 21 to 37, 40 to 54, 103, 104 and
--- those that the book doesn't name. A method without a primitive has the number 0.
+-- A method of this primitive is executed, where 83 and 84 may still perform or no more; 0 is none. A primitive that is given
+-- another number of arguments than its own fails. Always fail, and activate the method as 0 does, 21 to 37, 40 to 54, 103 and
+-- 104, which are optional in the book, and the numbers that the book doesn't name.
 unfoldable pub respond : {H : Type 0} → ObjectMemory H → Performing → Call → Value → ℕ → Step H StepEnd
 respond m performing call header primitive =
     if is_from 1 18 primitive && call.arguments == 1 then or_activate m call header (arithmetic m primitive) else

@@ -13,7 +13,8 @@ is_zero (negsuc n) = false
 unfoldable pub within_range : ℤ → Option IntAnswer
 within_range z = if int_lt z (negsuc 16383) then None else if int_lt (pos 16383) z then None else Some (Number z)
 
--- The quotient toward minus infinity. That of Euclid, whose remainder is not below 0, is it where the divisor is above 0.
+-- The quotient toward minus infinity: where the divisor is above 0 it is Euclid's, whose remainder is never below 0. That it is
+-- the greatest integer not beyond what is divided is shown in proofs/Floors.antt.
 abbrev pub floor_quotient : ℤ → ℤ → ℤ
 floor_quotient a b = if int_lt b (pos 0) then int_div_euclid (neg_ℤ a) (neg_ℤ b) else int_div_euclid a b
 
@@ -21,11 +22,11 @@ floor_quotient a b = if int_lt b (pos 0) then int_div_euclid (neg_ℤ a) (neg_�
 unfoldable pub exact_quotient : ℤ → ℤ → Option IntAnswer
 exact_quotient a b = if is_zero b then None else if is_zero (int_rem a b) then within_range (int_div a b) else None
 
--- 11: what remains of the quotient toward minus infinity
+-- 11: the remainder of the division toward minus infinity
 unfoldable pub modulo : ℤ → ℤ → Option IntAnswer
 modulo a b = if is_zero b then None else within_range (a -ℤ (b *ℤ floor_quotient a b))
 
--- 12
+-- 12: the quotient toward minus infinity
 unfoldable pub quotient_down : ℤ → ℤ → Option IntAnswer
 quotient_down a b = if is_zero b then None else within_range (floor_quotient a b)
 
@@ -39,7 +40,7 @@ shifted a (pos b) = a *ℤ pos (2 ^ b)
 shifted a (negsuc b) = int_div_euclid a (pos (2 ^ suc b))
 
 -- Primitive n of a and b, or none where it fails: 1 2 9 sum, difference, product; 3 to 8 < > <= >= = ~=; 14 15 16 and, or,
--- exclusive or of all bits in two's complement; 18 the Point of both.
+-- exclusive or of all bits in two's complement, which never leave the range; 18 the Point of both.
 unfoldable pub binary : ℕ → ℤ → ℤ → Option IntAnswer
 binary n a b =
     if n == 1 then within_range (a +ℤ b) else
