@@ -1,12 +1,11 @@
--- What functions of the code read together.
-use Rattle.std.specs.Prelude.{ℕ}
+-- What functions of the code do together.
+use Rattle.std.specs.Prelude.{ℕ, Bool, true}
 use Rattle.st_model.specs.Values.{Value}
-use Rattle.st_model.specs.Machine.{ObjectMemory, Step, answer, ◌>>=◌}
-use Rattle.st_model.specs.Steps.{fetch_bytes}
-use Rattle.st_model.specs.Primitives.{number_of_bytes}
+use Rattle.st_model.specs.Machine.{ObjectMemory, Step, answer, ◌>>=◌, ◌>>◌}
+use Rattle.st_model.specs.Primitives.{answer_with}
 
--- the number that n bytes say from one on
-unfoldable pub number_read : {H : Type 0} → ObjectMemory H → Value → ℕ → ℕ → Step H ℕ
-number_read m v from n = do
-  bytes ← fetch_bytes m v from n
-  answer (number_of_bytes bytes)
+-- the answer takes the place of receiver and n arguments, and the primitive has succeeded
+unfoldable pub succeed_with : {H : Type 0} → ObjectMemory H → ℕ → Value → Step H Bool
+succeed_with m n v = do
+  answer_with m n v
+  answer true

@@ -10,7 +10,7 @@ use st_memory::Objects;
 use st_model::{Dead, Word};
 
 /// How many literals a method has, as its header counts them.
-#[tactic(auto, using(st_frames::proofs::Doing::rows, crate::proofs::Popping::counts), unfolding(st_model::specs::Storage::count_literals))]
+#[tactic(auto, using(st_frames::proofs::Doing::rows, crate::proofs::Tries::counts), unfolding(st_model::specs::Storage::count_literals))]
 pub fn count_literals<O: Objects>(m: &O, r: &Registers, v: Word) -> Result<u32, Dead>
     ensures does { RowReads O.Objects.own (count_literals O.names (word v)) itself m.now r.now result }
     ensures few { IfOk result (λ n. n < 64) }

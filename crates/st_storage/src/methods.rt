@@ -4,7 +4,7 @@ ghost use Rattle.st_model.specs.Calls.{itself};
 ghost use Rattle.st_model.specs.Storage.{method_place, place_in_method, header_or_literal, primitive_object_at};
 ghost use Rattle.st_frames.specs.Rows.{RowReads, RowDoes, Takes};
 
-use crate::answering::answer_with;
+use crate::answering::succeed_with;
 use crate::elements::count_literals;
 use crate::numbers::positive_small;
 use st_frames::{Registers, top, under};
@@ -48,7 +48,7 @@ fn header_or_literal<O: Objects>(m: &O, r: &Registers, method: Word, index: Word
 }
 
 /// Primitive 68: the header of the receiver, a Method, or the literal that the argument numbers.
-#[tactic(auto, using(crate::proofs::Popping::tries), unfolding(st_model::specs::Storage::primitive_object_at))]
+#[tactic(auto, using(crate::proofs::Tries::tries), unfolding(st_model::specs::Storage::primitive_object_at))]
 pub fn primitive_object_at<O: Objects>(m: &mut O, r: &mut Registers) -> Result<bool, Dead>
     requires room { 1 ≤ O.room m.old }
     ensures does { RowDoes O.Objects.own (primitive_object_at O.names) itself m.old r.old result m.new r.new }
@@ -58,8 +58,7 @@ pub fn primitive_object_at<O: Objects>(m: &mut O, r: &mut Registers) -> Result<b
     let index = top(m, r)?;
     match header_or_literal(m, r, receiver, index) {
         Ok(answer) => {
-            answer_with(m, r, 1, answer)?;
-            Ok(true)
+            succeed_with(m, r, 1, answer)
         }
         Err(_) => Ok(false),
     }

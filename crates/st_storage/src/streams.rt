@@ -5,7 +5,7 @@ ghost use Rattle.st_model.specs.Primitives.{truth};
 ghost use Rattle.st_model.specs.Storage.{has_characters, is_at_end, primitive_at_end};
 ghost use Rattle.st_frames.specs.Rows.{RowReads, RowDoes, Takes};
 
-use crate::answering::answer_with;
+use crate::answering::succeed_with;
 use st_frames::{Registers, fetch_integer, page, top};
 use st_memory::Objects;
 use st_model::{Dead, PageObject, Word};
@@ -53,7 +53,7 @@ fn truth<O: Objects>(m: &O, r: &Registers, holds: bool) -> Word
 }
 
 /// Primitive 67: whether the receiver, a stream, is at its end.
-#[tactic(auto, using(crate::proofs::Popping::tries), unfolding(st_model::specs::Storage::primitive_at_end))]
+#[tactic(auto, using(crate::proofs::Tries::tries), unfolding(st_model::specs::Storage::primitive_at_end))]
 pub fn primitive_at_end<O: Objects>(m: &mut O, r: &mut Registers) -> Result<bool, Dead>
     requires room { 1 ≤ O.room m.old }
     ensures does { RowDoes O.Objects.own (primitive_at_end O.names) itself m.old r.old result m.new r.new }
@@ -63,8 +63,7 @@ pub fn primitive_at_end<O: Objects>(m: &mut O, r: &mut Registers) -> Result<bool
     match is_at_end(m, r, receiver) {
         Ok(holds) => {
             let answer = truth(m, r, holds);
-            answer_with(m, r, 0, answer)?;
-            Ok(true)
+            succeed_with(m, r, 0, answer)
         }
         Err(_) => Ok(false),
     }

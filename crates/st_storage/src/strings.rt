@@ -4,7 +4,7 @@ ghost use Rattle.st_model.specs.Calls.{itself};
 ghost use Rattle.st_model.specs.Storage.{fetch_character, place_in_bytes, character_at, primitive_string_at};
 ghost use Rattle.st_frames.specs.Rows.{RowReads, RowDoes, Takes};
 
-use crate::answering::answer_with;
+use crate::answering::succeed_with;
 use crate::elements::place_at;
 use crate::numbers::check_bytes;
 use st_frames::{Registers, page, top, under};
@@ -42,7 +42,7 @@ fn character_at<O: Objects>(m: &O, r: &Registers, string: Word, index: Word) -> 
 }
 
 /// Primitive 63: the Character that the argument numbers in the receiver.
-#[tactic(auto, using(crate::proofs::Popping::tries), unfolding(st_model::specs::Storage::primitive_string_at))]
+#[tactic(auto, using(crate::proofs::Tries::tries), unfolding(st_model::specs::Storage::primitive_string_at))]
 pub fn primitive_string_at<O: Objects>(m: &mut O, r: &mut Registers) -> Result<bool, Dead>
     requires room { 1 ≤ O.room m.old }
     ensures does { RowDoes O.Objects.own (primitive_string_at O.names) itself m.old r.old result m.new r.new }
@@ -52,8 +52,7 @@ pub fn primitive_string_at<O: Objects>(m: &mut O, r: &mut Registers) -> Result<b
     let index = top(m, r)?;
     match character_at(m, r, receiver, index) {
         Ok(answer) => {
-            answer_with(m, r, 1, answer)?;
-            Ok(true)
+            succeed_with(m, r, 1, answer)
         }
         Err(_) => Ok(false),
     }

@@ -6,9 +6,9 @@ use Rattle.st_model.specs.declared.dead.Dead.TheVariants as dead
 use Rattle.st_model.specs.Values.{Value, Small, Ref, value_of, is_small}
 use Rattle.st_model.specs.Machine.{ObjectMemory, State, Transition, Died, Went, Step, answer, die, after, tried, ◌>>=◌, ◌>>◌}
 use Rattle.st_model.specs.Table.{Table}
-use Rattle.st_model.specs.Steps.{fetch_byte, fetch_bytes, pop, check}
-use Rattle.st_model.specs.Primitives.{pop_words, answer_with, succeed, primitive, bits_or_die, positive_small, large_value, positive_value, number_of_bytes}
-use Rattle.st_storage.specs.Reading.{number_read}
+use Rattle.st_model.specs.Steps.{pop}
+use Rattle.st_model.specs.Primitives.{pop_words, answer_with, succeed, primitive, bits_or_die, }
+use Rattle.st_storage.specs.Reading.{succeed_with}
 use Rattle.st_model.proofs.Runs.{run-passed, run-failed, run-some, run-none}
 use Rattle.st_frames.proofs.Doing.{rows}
 use Rattle.st_model.specs.Methods.{literal_count}
@@ -46,46 +46,6 @@ bits-large w s e = bits_large (w % 2 == 1) (w / 2) s e
 
 pub ruleset bits = (bits-small, bits-large)
 
-pub value-small : (m : ObjectMemory Table) (v : Value) (s : State Table) → is_small v ≡ true → (positive_value m v).run s ≡ (positive_small v).run s
-unfolding positive_value
-value-small m (Small n) s e = refl
-value-small m (Ref n) s e = cc
-
-pub value-large : (m : ObjectMemory Table) (v : Value) (s : State Table) → is_small v ≡ false → (positive_value m v).run s ≡ (large_value m v).run s
-unfolding positive_value
-value-large m (Small n) s e = cc
-value-large m (Ref n) s e = refl
-
-pub ruleset values = (value-small, value-large)
-
-pub reads-none : (m : ObjectMemory Table) (v : Value) (from n : ℕ) (s : State Table) → n ≡ 0 → (number_read m v from n).run s ≡ Went 0 s
-unfolding number_read fetch_bytes ◌>>=◌ after answer
-reads-none m v from n s e = rw e refl
-
-numbered : (b : ℕ) (x : Transition (State Table) (List ℕ))
-    → after (after x (λ bs t. Went (b ∷ bs) t)) (λ bs t. Went (number_of_bytes bs) t) ≡ after (after x (λ bs t. Went (number_of_bytes bs) t)) (λ k t. Went (b + 256 * k) t)
-unfolding after
-numbered b (Died k) = refl
-numbered b (Went bs t) = refl
-
-read_on : (m : ObjectMemory Table) (v : Value) (from n : ℕ) (x : Transition (State Table) ℕ)
-    → after (after x (λ b t. (fetch_bytes m v (suc from) n >>= (λ bs. answer (b ∷ bs))).run t)) (λ bs t. Went (number_of_bytes bs) t)
-    ≡ after x (λ b t. (number_read m v (suc from) n >>= (λ k. answer (b + 256 * k))).run t)
-unfolding after ◌>>=◌ answer number_read
-read_on m v from n (Died k) = refl
-read_on m v from n (Went b t) = numbered b ((fetch_bytes m v (suc from) n).run t)
-
-pub reads-more : (m : ObjectMemory Table) (v : Value) (from n : ℕ) (s : State Table) → n ≢ 0
-    → (number_read m v from n).run s ≡ (fetch_byte m v from >>= (λ b. number_read m v (from + 1) (n - 1) >>= (λ k. answer (b + 256 * k)))).run s
-unfolding number_read fetch_bytes ◌>>=◌ answer
-reads-more m v from zero s d = absurd (d refl)
-reads-more m v from (suc n) s d =
-    let e : from + 1 ≡ suc from = omega arith in
-    let f : suc n - 1 ≡ n = omega arith in
-    rw (e, f) (read_on m v from n ((fetch_byte m v from).run s))
-
-pub ruleset reads = (reads-none, reads-more)
-
 -- what a header counts, of the bits of its word
 pub counts-bits : (n : ℕ) → literal_count (Small n) ≡ n % 64
 counts-bits n = refl
@@ -98,18 +58,20 @@ unfolding primitive succeed tried ◌>>=◌ after answer
 primitive-failed m n c f s k e = rw e refl
 
 module _ {A : Type 0} (m : ObjectMemory Table) (n : ℕ) (c : Step Table A) (f : A → Step Table Value) (s : State Table) (a : A) where
-  pub primitive-done : (v : Value) (t u : State Table) → c.run s ≡ Went a s → (f a).run s ≡ Went v t → (answer_with m n v).run t ≡ Went tt u → (primitive m n c f).run s ≡ Went true u
-  unfolding primitive succeed tried ◌>>=◌ ◌>>◌ after answer
-  primitive-done v t u e h k = rw (e, h, k) refl
+  pub primitive-held : (v : Value) (t : State Table) (x : Transition (State Table) Bool) → c.run s ≡ Went a s → (f a).run s ≡ Went v t → (succeed_with m n v).run t ≡ x → (primitive m n c f).run s ≡ x
+  unfolding primitive succeed tried succeed_with ◌>>=◌ ◌>>◌ after answer
+  primitive-held v t x e h k = rw (e, h) k
 
   pub primitive-unmade : (k : Dead) → c.run s ≡ Went a s → (f a).run s ≡ Died k → (primitive m n c f).run s ≡ Died k
   unfolding primitive succeed tried ◌>>=◌ ◌>>◌ after answer
   primitive-unmade k e h = rw (e, h) refl
 
-  pub primitive-unanswered : (v : Value) (t : State Table) (k : Dead) → c.run s ≡ Went a s → (f a).run s ≡ Went v t → (answer_with m n v).run t ≡ Died k → (primitive m n c f).run s ≡ Died k
-  unfolding primitive succeed tried ◌>>=◌ ◌>>◌ after answer
-  primitive-unanswered v t k e h i = rw (e, h, i) refl
+-- its conditions give the answer
+pub primitive-given : (m : ObjectMemory Table) (n : ℕ) (c : Step Table Value) (s : State Table) (v : Value) (x : Transition (State Table) Bool) → c.run s ≡ Went v s → (succeed_with m n v).run s ≡ x
+    → (primitive m n c answer).run s ≡ x
+unfolding primitive succeed tried succeed_with ◌>>=◌ ◌>>◌ after answer
+primitive-given m n c s v x e k = rw e k
 
-pub ruleset tries = (rows, primitive-failed, primitive-done, primitive-unmade, primitive-unanswered)
+pub ruleset tries = (rows, primitive-given, primitive-failed, primitive-held, primitive-unmade)
 
 pub ruleset options = (run-some, run-none)
