@@ -35,7 +35,14 @@ fn run_and_report<H: Host, M: Memory>(
     ensures cause { HasCause (H.say_faults host.old) (H.say_faults host.new) result }
 {
     let end = machine.run(cycles);
-    say_run(host, machine.memory(), &machine.frame(), machine.world(), cycles, end)
+    say_run(
+        host,
+        machine.memory(),
+        &machine.frame(),
+        machine.world(),
+        cycles,
+        end,
+    )
 }
 
 /// The command `once`: runs cycles of the machine of an image, and says what it shows then.

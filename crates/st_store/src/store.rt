@@ -2,7 +2,7 @@
 ghost use Rattle.std.specs.Prelude.{◌≡◌, ◌≤◌, ◌-◌, IsTrue, IfOk, slice_index};
 ghost use Rattle.st_outside.specs.Counts.{HasCause};
 ghost use Rattle.st_outside.specs.Files.{bytes_of};
-ghost use Rattle.st_store.specs.Names.{roots_file, image_file};
+ghost use Rattle.st_store.specs.Names.{roots_file, changes_file, image_file};
 
 use crate::Root;
 use crate::names::Names;
@@ -38,6 +38,20 @@ impl Store {
         ensures { result ≡ self.now.root }
     {
         self.root
+    }
+
+    /// The store's name.
+    pub fn name(&self) -> &str
+        ensures { result.now ≡ self.now.name }
+    {
+        self.names.name()
+    }
+
+    /// The name of the changes file.
+    pub fn changes_name(&self) -> &str
+        ensures { result.now ≡ changes_file self.now.name }
+    {
+        self.names.changes()
     }
 
     /// The name of an image file, `.a` for slot 0 and `.b` for slot 1.

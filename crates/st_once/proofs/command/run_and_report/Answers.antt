@@ -32,5 +32,4 @@ returns-clause-says g c = λ s shows.
 pub say_run-requires : goal.say_run-requires
 say_run-requires g c =
     let ready = c.run-end.ensures.left c.requires.alive in
-    subst (λ (w : World). IsReady (g.M.Memory.view c.memory.result.now) c.frame.result w) (sym c.world.ensures)
-    (rw c.memory.ensures (rw c.frame.ensures ready))
+    record { ready = subst (λ (w : World). IsReady (g.M.Memory.view c.memory.result.now) c.frame.result w) (sym c.world.ensures) (rw c.memory.ensures (rw c.frame.ensures ready)) }
