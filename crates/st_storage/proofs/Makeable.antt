@@ -1,12 +1,12 @@
 -- What may be made.
-use Rattle.std.proofs.Common.{◌≡◌, ◌≢◌, ℕ, zero, suc, ◌+◌, ◌<◌, ◌≤◌, Bool, true, false, refl, ap, sym, arith, length}
-use Rattle.std.specs.Prelude.{◌/◌, ◌==◌, not, replicate}
+use Rattle.std.proofs.Common.{◌≡◌, ◌≢◌, ℕ, zero, suc, ◌<◌, ◌≤◌, false, refl, ap, sym, arith, length}
+use Rattle.std.specs.Prelude.{◌==◌, replicate}
 use Rattle.std.proofs.lemmas.Bool.Decides.{nat_tests}
 use Rattle.st_model.specs.declared.kind.Kind.{Kind}
 use Rattle.st_model.specs.declared.kind.Kind.TheVariants as kind
 use Rattle.st_model.specs.Values.{Value, Small, Ref}
-use Rattle.st_model.specs.Objects.{is_method, words_of, nil}
-use Rattle.st_model.specs.Formed.{fresh, IsMakeable}
+use Rattle.st_model.specs.Objects.{is_method, nil}
+use Rattle.st_model.specs.Formed.{IsMakeable}
 use Rattle.st_model.specs.Steps.{same_value}
 use Rattle.st_model.specs.Storage.{body_words}
 use Rattle.st_memory.specs.Making.{CanMake}

@@ -9,3 +9,9 @@ unfoldable pub succeed_with : {H : Type 0} → ObjectMemory H → ℕ → Value 
 succeed_with m n v = do
   answer_with m n v
   answer true
+
+-- so does what a step answers
+unfoldable pub succeed_by : {H : Type 0} → ObjectMemory H → ℕ → Step H Value → Step H Bool
+succeed_by m n step = do
+  v ← step
+  succeed_with m n v

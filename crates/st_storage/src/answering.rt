@@ -23,12 +23,7 @@ fn pop_words<O: Objects>(m: &O, r: &mut Registers, n: u32) -> Result<(), Dead>
 
 /// Pops receiver and n arguments, and pushes the answer.
 #[tactic(auto, using(st_frames::proofs::Doing::rows), unfolding(st_model::specs::Primitives::answer_with))]
-fn answer_with<O: Objects>(
-    m: &mut O,
-    r: &mut Registers,
-    n: u32,
-    answer: Word,
-) -> Result<(), Dead>
+fn answer_with<O: Objects>(m: &mut O, r: &mut Registers, n: u32, answer: Word) -> Result<(), Dead>
     requires few { n < 256 }
     requires room { 1 ≤ O.room m.old }
     ensures does { RowDoes O.Objects.own (answer_with O.names n (word answer))

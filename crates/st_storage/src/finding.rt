@@ -2,6 +2,7 @@ ghost use Rattle.std.specs.Prelude.{◌≡◌, ◌<◌, ◌≤◌, ◌+◌, IfOk
 ghost use Rattle.st_model.specs.Values.{word};
 ghost use Rattle.st_model.specs.Calls.{itself};
 ghost use Rattle.st_model.specs.Storage.{check_object, check_objects, exchange_and_answer, primitive_become, half_pointer, kept_object_at, primitive_as_object, first_kept_instance, primitive_some_instance, instance_after, primitive_next_instance};
+ghost use Rattle.st_storage.specs.Reading.{succeed_by};
 ghost use Rattle.st_frames.specs.Rows.{RowReads, RowDoes, Takes};
 
 use crate::answering::succeed_with;
@@ -22,26 +23,33 @@ fn check_object<O: Objects>(m: &O, r: &Registers, v: Word) -> Result<(), Dead>
 /// Two objects.
 #[tactic(auto, using(st_frames::proofs::Doing::rows), unfolding(st_model::specs::Storage::check_objects))]
 fn check_objects<O: Objects>(m: &O, r: &Registers, v: Word, w: Word) -> Result<(), Dead>
-    ensures does { RowReads O.Objects.own (check_objects O.names (word v) (word w)) itself m.now r.now result }
+    ensures does { RowReads O.Objects.own (check_objects O.names (word v) (word w))
+        itself m.now r.now result }
 {
     check_object(m, r, v)?;
     check_object(m, r, w)
 }
 
 /// Exchanges what two words name, and answers the first.
-#[tactic(auto, using(st_frames::proofs::Doing::rows), unfolding(st_model::specs::Storage::exchange_and_answer))]
-fn exchange_and_answer<O: Objects>(m: &mut O, r: &Registers, v: Word, w: Word) -> Result<Word, Dead>
-    requires room { 1 ≤ O.room m.old }
-    ensures does { RowDoes O.Objects.own (exchange_and_answer O.names (word v) (word w))
-        word m.old r.now result m.new r.now }
-    ensures takes { Takes O.Objects.own 1 m.old m.new }
+#[tactic(auto, using(st_frames::proofs::Doing::rows), unfolding(crate::specs::Reading::succeed_by, st_model::specs::Storage::exchange_and_answer))]
+fn exchange_and_answer<O: Objects>(
+    m: &mut O,
+    r: &mut Registers,
+    v: Word,
+    w: Word,
+) -> Result<bool, Dead>
+    requires room { 2 ≤ O.room m.old }
+    ensures does { RowDoes O.Objects.own
+        (succeed_by O.names 1 (exchange_and_answer O.names (word v) (word w)))
+        itself m.old r.old result m.new r.new }
+    ensures takes { Takes O.Objects.own 2 m.old m.new }
 {
     m.exchange(v, w)?;
-    Ok(v)
+    succeed_with(m, r, 1, v)
 }
 
 /// Primitive 72: receiver and argument, which are objects, become each other.
-#[tactic(auto, using(crate::proofs::Tries::tries), unfolding(st_model::specs::Storage::primitive_become))]
+#[tactic(auto, using(crate::proofs::Tries::effects), unfolding(st_model::specs::Storage::primitive_become))]
 pub fn primitive_become<O: Objects>(m: &mut O, r: &mut Registers) -> Result<bool, Dead>
     requires room { 2 ≤ O.room m.old }
     ensures does { RowDoes O.Objects.own (primitive_become O.names) itself m.old r.old result m.new r.new }
@@ -50,10 +58,7 @@ pub fn primitive_become<O: Objects>(m: &mut O, r: &mut Registers) -> Result<bool
     let receiver = under(m, r, 1)?;
     let argument = top(m, r)?;
     match check_objects(m, r, receiver, argument) {
-        Ok(_objects) => {
-            let answer = exchange_and_answer(m, r, receiver, argument)?;
-            succeed_with(m, r, 1, answer)
-        }
+        Ok(_objects) => exchange_and_answer(m, r, receiver, argument),
         Err(_) => Ok(false),
     }
 }

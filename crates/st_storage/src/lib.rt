@@ -11,7 +11,9 @@ mod numbers;
 mod streams;
 mod strings;
 
-pub use finding::{primitive_as_object, primitive_become, primitive_next_instance, primitive_some_instance};
+pub use finding::{
+    primitive_as_object, primitive_become, primitive_next_instance, primitive_some_instance,
+};
 pub use making::primitive_new;
 pub use methods::primitive_object_at;
 pub use streams::primitive_at_end;

@@ -6,6 +6,7 @@ ghost use Rattle.st_model.specs.Calls.{itself};
 ghost use Rattle.st_model.specs.Storage.{check_not_method_class, kind_of_fixed, fixed_specification, primitive_new};
 ghost use Rattle.st_model.specs.Steps.{make};
 ghost use Rattle.st_model.specs.Primitives.{fixed_count};
+ghost use Rattle.st_storage.specs.Reading.{succeed_by};
 ghost use Rattle.st_frames.specs.Rows.{RowReads, RowDoes, Takes};
 
 use crate::answering::succeed_with;
@@ -57,20 +58,22 @@ fn fixed_specification<O: Objects>(m: &O, r: &Registers, class: Word) -> Result<
     }
 }
 
-/// A new instance of a class, by its specification.
-#[tactic(auto, using(st_frames::proofs::Doing::rows, crate::proofs::Makeable::makeable))]
-fn new_fixed<O: Objects>(m: &mut O, r: &Registers, class: Word, s: u32) -> Result<Word, Dead>
-    requires room { 1 ≤ O.room m.old }
+/// Answers a new instance of a class, by its specification.
+#[tactic(auto, using(st_frames::proofs::Doing::rows, crate::proofs::Makeable::makeable), unfolding(crate::specs::Reading::succeed_by))]
+fn answer_fixed<O: Objects>(m: &mut O, r: &mut Registers, class: Word, s: u32) -> Result<bool, Dead>
+    requires room { 2 ≤ O.room m.old }
     requires other { word class ≢ Ref (place_of MethodClass) }
-    ensures does { RowDoes O.Objects.own (make O.names (word class) (kind_of_fixed s) (fixed_count s) 0)
-        word m.old r.now result m.new r.now }
-    ensures takes { Takes O.Objects.own 1 m.old m.new }
+    ensures does { RowDoes O.Objects.own
+        (succeed_by O.names 0 (make O.names (word class) (kind_of_fixed s) (fixed_count s) 0))
+        itself m.old r.old result m.new r.new }
+    ensures takes { Takes O.Objects.own 2 m.old m.new }
 {
-    m.make(class, kind_of_fixed(s), fixed_count(s), 0)
+    let answer = m.make(class, kind_of_fixed(s), fixed_count(s), 0)?;
+    succeed_with(m, r, 0, answer)
 }
 
 /// Primitive 70: a new instance of the receiver, which has no indexed fields.
-#[tactic(auto, using(crate::proofs::Tries::tries), unfolding(st_model::specs::Storage::primitive_new))]
+#[tactic(auto, using(crate::proofs::Tries::effects), unfolding(st_model::specs::Storage::primitive_new))]
 pub fn primitive_new<O: Objects>(m: &mut O, r: &mut Registers) -> Result<bool, Dead>
     requires room { 2 ≤ O.room m.old }
     ensures does { RowDoes O.Objects.own (primitive_new O.names) itself m.old r.old result m.new r.new }
@@ -78,10 +81,7 @@ pub fn primitive_new<O: Objects>(m: &mut O, r: &mut Registers) -> Result<bool, D
 {
     let receiver = top(m, r)?;
     match fixed_specification(m, r, receiver) {
-        Ok(s) => {
-            let answer = new_fixed(m, r, receiver, s)?;
-            succeed_with(m, r, 0, answer)
-        }
+        Ok(s) => answer_fixed(m, r, receiver, s),
         Err(_) => Ok(false),
     }
 }

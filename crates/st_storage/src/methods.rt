@@ -39,7 +39,12 @@ fn place_in_method<O: Objects>(m: &O, r: &Registers, method: Word, index: Word) 
 
 /// The header or literal that a word names in a Method.
 #[tactic(auto, using(st_frames::proofs::Doing::rows), unfolding(st_model::specs::Storage::header_or_literal))]
-fn header_or_literal<O: Objects>(m: &O, r: &Registers, method: Word, index: Word) -> Result<Word, Dead>
+fn header_or_literal<O: Objects>(
+    m: &O,
+    r: &Registers,
+    method: Word,
+    index: Word,
+) -> Result<Word, Dead>
     ensures does { RowReads O.Objects.own (header_or_literal O.names (word method) (word index))
         word m.now r.now result }
 {
@@ -57,9 +62,7 @@ pub fn primitive_object_at<O: Objects>(m: &mut O, r: &mut Registers) -> Result<b
     let receiver = under(m, r, 1)?;
     let index = top(m, r)?;
     match header_or_literal(m, r, receiver, index) {
-        Ok(answer) => {
-            succeed_with(m, r, 1, answer)
-        }
+        Ok(answer) => { succeed_with(m, r, 1, answer) }
         Err(_) => Ok(false),
     }
 }

@@ -38,11 +38,7 @@ pub fn positive_small<O: Objects>(m: &O, r: &Registers, v: Word) -> Result<u32, 
     ensures small { IfOk result (λ n. n < 16384) }
 {
     let n = bits_or_die(m, r, v)?;
-    if n < 16384 {
-        Ok(n)
-    } else {
-        Err(Dead::Field)
-    }
+    if n < 16384 { Ok(n) } else { Err(Dead::Field) }
 }
 
 /// Whether the instances of a specification have pointers.

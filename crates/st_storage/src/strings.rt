@@ -51,9 +51,7 @@ pub fn primitive_string_at<O: Objects>(m: &mut O, r: &mut Registers) -> Result<b
     let receiver = under(m, r, 1)?;
     let index = top(m, r)?;
     match character_at(m, r, receiver, index) {
-        Ok(answer) => {
-            succeed_with(m, r, 1, answer)
-        }
+        Ok(answer) => { succeed_with(m, r, 1, answer) }
         Err(_) => Ok(false),
     }
 }
