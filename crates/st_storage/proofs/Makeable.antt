@@ -1,0 +1,58 @@
+-- What may be made.
+use Rattle.std.proofs.Common.{◌≡◌, ◌≢◌, ℕ, zero, suc, ◌<◌, ◌≤◌, false, refl, ap, sym, arith, length}
+use Rattle.std.specs.Prelude.{◌==◌, replicate}
+use Rattle.std.proofs.lemmas.Bool.Decides.{nat_tests}
+use Rattle.st_model.specs.declared.kind.Kind.{Kind}
+use Rattle.st_model.specs.declared.kind.Kind.TheVariants as kind
+use Rattle.st_model.specs.Values.{Value, Small, Ref}
+use Rattle.st_model.specs.Objects.{is_method, nil}
+use Rattle.st_model.specs.Formed.{IsMakeable}
+use Rattle.st_model.specs.Steps.{same_value}
+use Rattle.st_model.specs.Storage.{body_words}
+use Rattle.st_memory.specs.Making.{CanMake}
+
+replicated : {A : Type 0} (n : ℕ) (a : A) → length (replicate n a) ≡ n
+replicated zero a = refl
+replicated (suc n) a = ap (λ k. suc k) (replicated n a)
+
+no_method_class : (n : ℕ) → (let v : Value = Ref n in v ≢ Ref 17) → (n == 17) ≡ false
+no_method_class n d = let e : n ≢ 17 = λ q. d (ap Ref q) in grind (arith, nat_tests)
+
+makeable_of : (n size : ℕ) (k : Kind) → (n == 17) ≡ false → is_method k ≡ false → body_words k size ≤ 65533 → IsMakeable n k size 0
+makeable_of n size kind.Pointers d e l = record { kind = sym d; body = let q = replicated size nil in omega (arith, q, l); few = omega arith; none = λ x. refl; header = λ x. cc }
+makeable_of n size kind.Words d e l = record { kind = sym d; body = let z : ℕ = 0 in let q = replicated size z in omega (arith, q, l); few = omega arith; none = λ x. refl; header = λ x. cc }
+makeable_of n size kind.Bytes d e l = record { kind = sym d; body = let z : ℕ = 0 in let q = replicated size z in omega (arith, q, l); few = omega arith; none = λ x. refl; header = λ x. cc }
+makeable_of n size kind.Method d e l = cc
+
+pub can_make : (v : Value) (size : ℕ) (k : Kind) → v ≢ Ref 17 → is_method k ≡ false → body_words k size ≤ 65533 → CanMake v k size 0
+can_make (Small n) size k d e l = tt
+can_make (Ref n) size k d e l = makeable_of n size k (no_method_class n d) e l
+
+small_body : (k : Kind) (n : ℕ) → n < 2048 → body_words k n ≤ 65533
+small_body kind.Pointers n l = omega (arith, l)
+small_body kind.Words n l = omega (arith, l)
+small_body kind.Bytes n l = omega (arith, l)
+small_body kind.Method n l = omega (arith, l)
+
+pub can_make_fixed : (v : Value) (size : ℕ) (k : Kind) → v ≢ Ref 17 → is_method k ≡ false → size < 2048 → CanMake v k size 0
+can_make_fixed v size k d e l = can_make v size k d e (small_body k size l)
+
+pub ruleset makeable = (can_make, can_make_fixed)
+
+-- a word that isn't the same as another's value is another
+pub other_value : (v w : Value) → same_value v w ≡ false → v ≢ w
+other_value (Small a) (Small b) e q = let p : a ≡ b = cc in grind (arith, nat_tests)
+other_value (Small a) (Ref b) e q = cc
+other_value (Ref a) (Small b) e q = cc
+other_value (Ref a) (Ref b) e q = let p : a ≡ b = cc in grind (arith, nat_tests)
+
+pub ruleset classes = (other_value)
+
+-- a body of at most 65533 words has a size of 32 bits
+pub small_size : (k : Kind) (n : ℕ) → body_words k n ≤ 65533 → n ≤ 131066
+small_size kind.Pointers n l = omega (arith, l)
+small_size kind.Words n l = omega (arith, l)
+small_size kind.Bytes n l = omega (arith, l)
+small_size kind.Method n l = omega (arith, l)
+
+pub ruleset sizes = (small_size)

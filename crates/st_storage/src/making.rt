@@ -1,0 +1,87 @@
+ghost use Rattle.std.specs.Prelude.{◌≡◌, ◌≢◌, ◌<◌, ◌≤◌, ◌+◌, IfOk, false};
+ghost use Rattle.st_model.specs.Values.{Ref, word};
+ghost use Rattle.st_model.specs.Objects.{place_of, is_method};
+ghost use Rattle.st_model.specs.declared.page.PageObject.TheVariants.{MethodClass};
+ghost use Rattle.st_model.specs.Calls.{itself};
+ghost use Rattle.st_model.specs.Storage.{check_not_method_class, kind_of_fixed, fixed_specification, primitive_new};
+ghost use Rattle.st_model.specs.Steps.{make};
+ghost use Rattle.st_model.specs.Primitives.{fixed_count};
+ghost use Rattle.st_storage.specs.Reading.{succeed_by};
+ghost use Rattle.st_frames.specs.Rows.{RowReads, RowDoes, Takes};
+
+use crate::answering::succeed_with;
+use crate::numbers::{fixed_count, has_pointers, is_indexable, specification};
+use st_frames::{Registers, page, top};
+use st_memory::Objects;
+use st_model::{Dead, Kind, PageObject, Word};
+
+/// Any class but CompiledMethod.
+#[tactic(auto, using(st_frames::proofs::Doing::rows, crate::proofs::Tries::tests, crate::proofs::Makeable::classes), unfolding(st_model::specs::Storage::check_not_method_class))]
+fn check_not_method_class<O: Objects>(m: &O, r: &Registers, class: Word) -> Result<(), Dead>
+    ensures does { RowReads O.Objects.own (check_not_method_class O.names (word class))
+        itself m.now r.now result }
+    ensures other { IfOk result (λ u. word class ≢ Ref (place_of MethodClass)) }
+{
+    let methods = page(m, PageObject::MethodClass);
+    if class.same(methods) {
+        Err(Dead::Kind)
+    } else {
+        Ok(())
+    }
+}
+
+/// The kind of an instance with fixed fields alone.
+fn kind_of_fixed(specification: u32) -> Kind
+    ensures kind { result ≡ kind_of_fixed specification }
+    ensures other { is_method result ≡ false }
+{
+    if has_pointers(specification) {
+        Kind::Pointers
+    } else {
+        Kind::Words
+    }
+}
+
+/// The specification of a class that isn't indexable, nor CompiledMethod.
+#[tactic(auto, using(st_frames::proofs::Doing::rows, crate::proofs::Tries::tests), unfolding(st_model::specs::Storage::fixed_specification))]
+fn fixed_specification<O: Objects>(m: &O, r: &Registers, class: Word) -> Result<u32, Dead>
+    ensures does { RowReads O.Objects.own (fixed_specification O.names (word class))
+        itself m.now r.now result }
+    ensures other { IfOk result (λ s. word class ≢ Ref (place_of MethodClass)) }
+{
+    let s = specification(m, r, class)?;
+    check_not_method_class(m, r, class)?;
+    if is_indexable(s) {
+        Err(Dead::Kind)
+    } else {
+        Ok(s)
+    }
+}
+
+/// Answers a new instance of a class, by its specification.
+#[tactic(auto, using(st_frames::proofs::Doing::rows, crate::proofs::Makeable::makeable), unfolding(crate::specs::Reading::succeed_by))]
+fn answer_fixed<O: Objects>(m: &mut O, r: &mut Registers, class: Word, s: u32) -> Result<bool, Dead>
+    requires room { 2 ≤ O.room m.old }
+    requires other { word class ≢ Ref (place_of MethodClass) }
+    ensures does { RowDoes O.Objects.own
+        (succeed_by O.names 0 (make O.names (word class) (kind_of_fixed s) (fixed_count s) 0))
+        itself m.old r.old result m.new r.new }
+    ensures takes { Takes O.Objects.own 2 m.old m.new }
+{
+    let answer = m.make(class, kind_of_fixed(s), fixed_count(s), 0)?;
+    succeed_with(m, r, 0, answer)
+}
+
+/// Primitive 70: a new instance of the receiver, which has no indexed fields.
+#[tactic(auto, using(crate::proofs::Tries::effects), unfolding(st_model::specs::Storage::primitive_new))]
+pub fn primitive_new<O: Objects>(m: &mut O, r: &mut Registers) -> Result<bool, Dead>
+    requires room { 2 ≤ O.room m.old }
+    ensures does { RowDoes O.Objects.own (primitive_new O.names) itself m.old r.old result m.new r.new }
+    ensures takes { Takes O.Objects.own 2 m.old m.new }
+{
+    let receiver = top(m, r)?;
+    match fixed_specification(m, r, receiver) {
+        Ok(s) => answer_fixed(m, r, receiver, s),
+        Err(_) => Ok(false),
+    }
+}
