@@ -7,6 +7,7 @@ use st_host::{MemHost, MemSource};
 use st_image::{HeadValues, ReadImage, read, write};
 use st_lookup::find;
 use st_memory::Memory;
+use st_method::primitive;
 use st_model::{Dead, ImageFault, Oop};
 use st_once::Status;
 use st_outside::{Host, file_length, read_from};
@@ -322,12 +323,21 @@ fn check_find<M: Memory>(rt: &impl Abort, m: &M) {
     assert_eq!(rt; find(m, Oop(4), Oop(66)), Err(Dead::Field));
 }
 
+/// The first of the two literals of the sending image's first method is the integer 16383, whose lower 8 bits name primitive 255.
+fn check_primitive<M: Memory>(rt: &impl Abort, m: &M) {
+    let method = Oop(64);
+    assert!(rt; m.live(method));
+    assert!(rt; m.kind(method).is_method());
+    assert_eq!(rt; primitive(m, method), Ok(255));
+}
+
 #[test]
 fn registers_and_methods_are_reached_over_a_memory(rt: HostRuntime) -> Result<(), Fail> {
     let image = sending_image(rt.alloc(), 32767, 66)?;
     match read::<PlainLoader>(rt.alloc(), &image, &HeadValues::NONE) {
         Ok(mut loaded) => {
             check_find(&rt, &loaded.memory);
+            check_primitive(&rt, &loaded.memory);
             check_stack(&rt, &mut loaded.memory, &mut loaded.frame);
             check_fetch(&rt, &mut loaded.memory);
         }
