@@ -1,5 +1,5 @@
 -- Home contexts, and registers that are set and stored.
-use Rattle.std.proofs.Common.{◌≡◌, ◌<◌, ℕ, Bool, true, false, refl, subst, ap, ◌∙◌, arith}
+use Rattle.std.proofs.Common.{◌≡◌, ◌<◌, ℕ, Bool, true, false, refl, sym, subst, ap, ◌∙◌, arith}
 use Rattle.std.proofs.lemmas.Bool.Decides.{nat_tests}
 use Rattle.std.specs.Prelude.{◌&&◌, if◌then◌else◌, ◌/◌, ◌%◌, ◌==◌}
 use Rattle.st_model.specs.declared.word.Word.{Word}
@@ -27,22 +27,22 @@ home-method m c (Ref n) s e = run-answer c s
 
 pub ruleset homes = (home-block, home-method)
 
-set_by : (t : Table) (a : Head) (r q : Words) (b : Bool) → b ≡ true → registers_set (registers_in q) (row_state t a r) b ≡ Went tt (row_state t a q)
+set_by : (t : Table) (a : Head) (r q : Words) (b : Bool) → q.world.now ≡ r.world.now → b ≡ true → registers_set (registers_in q) (row_state t a r) b ≡ Went tt (row_state t a q)
 unfolding registers_set row_state
-set_by t a r q true e = refl
-set_by t a r q false e = cc
+set_by t a r q true w e = λ i. Went tt (record { memory = t; registers = registers_in q; world = sym w i; head = a })
+set_by t a r q false w e = cc
 
 unset_by : (t : Table) (a : Head) (r : Words) (f : Fetched) (b : Bool) → b ≡ false → registers_set (fetched_in f) (row_state t a r) b ≡ Died dead.Kind
 unfolding registers_set
 unset_by t a r f true e = cc
 unset_by t a r f false e = refl
 
-pub registers-set : (m : ObjectMemory Table) (t : Table) (a : Head) (r q : Words) (f : Fetched) → registers_in q ≡ fetched_in f → are_there m t (fetched_in f) ≡ true
+pub registers-set : (m : ObjectMemory Table) (t : Table) (a : Head) (r q : Words) (f : Fetched) → registers_in q ≡ fetched_in f → q.world.now ≡ r.world.now → are_there m t (fetched_in f) ≡ true
     → (set_registers m (fetched_in f)).run (row_state t a r) ≡ Went tt (row_state t a q)
 unfolding set_registers row_state
-registers-set m t a r q f same e =
+registers-set m t a r q f same w e =
     subst (λ (x : Registers). registers_set x (row_state t a r) (are_there m t x) ≡ Went tt (row_state t a q)) same
-    (set_by t a r q (are_there m t (registers_in q)) (ap (λ (x : Registers). are_there m t x) same ∙ e))
+    (set_by t a r q (are_there m t (registers_in q)) w (ap (λ (x : Registers). are_there m t x) same ∙ e))
 
 pub registers-unset : (m : ObjectMemory Table) (t : Table) (a : Head) (r : Words) (f : Fetched) → are_there m t (fetched_in f) ≡ false
     → (set_registers m (fetched_in f)).run (row_state t a r) ≡ Died dead.Kind

@@ -6,8 +6,7 @@ use Rattle.st_model.specs.declared.dead.Dead.TheVariants as dead
 use Rattle.st_model.specs.declared.word.Word.{Word}
 use Rattle.st_model.specs.declared.page.PageObject.TheVariants.{SchedulerAssociation}
 use Rattle.st_model.specs.Values.{Value, Small, Ref, word}
-use Rattle.st_model.specs.Objects.{nil}
-use Rattle.st_model.specs.Machine.{Registers, State, Died, Went, answer, ◌>>=◌, empty_world}
+use Rattle.st_model.specs.Machine.{Registers, State, Died, Went, answer, ◌>>=◌}
 use Rattle.st_model.specs.Contexts.{home_by, home_of, stack_place, fetch_stack_pointer, context_registers, fetch_context_registers, scheduled_context, fetch_scheduled_registers}
 use Rattle.st_model.specs.Table.{Table, table, bounded_table}
 use Rattle.st_model.specs.Steps.{are_there, fetch_integer, integer_or_die, set_registers, registers_set}
@@ -67,13 +66,13 @@ context-same = λ i. do
   process ← fetch_field-as bounded_tabular scheduler 1 i
   fetch_field-as bounded_tabular process 1 i
 
-module _ (v w : View) where
-  of_table : (c : Value) (x : Result Frame Dead) → FetchesFrame (fetch_context_registers bounded_table c) v x w → FetchesFrame (fetch_context_registers table c) v x w
-  of_table c x h = subst (λ step. FetchesFrame step v x w) (fetch-same c) h
+module _ (v u : View) where
+  of_table : (c : Value) (x : Result Frame Dead) → FetchesFrame (fetch_context_registers bounded_table c) v x u → FetchesFrame (fetch_context_registers table c) v x u
+  of_table c x h = subst (λ step. FetchesFrame step v x u) (fetch-same c) h
 
-  no_registers : (c : Value) (cause : Dead) → Reads (context_registers bounded_table c) fetched_in v.objects (Err cause) → FetchesFrame (fetch_context_registers bounded_table c) v (Err cause) w
+  no_registers : (c : Value) (cause : Dead) → Reads (context_registers bounded_table c) fetched_in v.objects (Err cause) → FetchesFrame (fetch_context_registers bounded_table c) v (Err cause) u
   unfolding fetch_context_registers
-  no_registers c cause k = λ r. simp (run-then, k (with_registers v r) refl, after-died) refl
+  no_registers c cause k = λ r w. simp (run-then, k (with_registers v r w) refl, after-died) refl
 
   unset : (q : Registers) (s : State Table) (b : Bool) → b ≡ false → registers_set q s b ≡ Died dead.Kind
   unfolding registers_set
@@ -85,40 +84,40 @@ module _ (v w : View) where
   unset_at q s e = unset q s (are_there bounded_table s.memory q) e
 
   not_there : (c : Value) (q : Fetched) → Reads (context_registers bounded_table c) fetched_in v.objects (Ok q)
-      → are_there bounded_table v.objects (fetched_in q) ≡ false → FetchesFrame (fetch_context_registers bounded_table c) v (Err dead.Kind) w
+      → are_there bounded_table v.objects (fetched_in q) ≡ false → FetchesFrame (fetch_context_registers bounded_table c) v (Err dead.Kind) u
   unfolding fetch_context_registers
-  not_there c q k e = λ r. simp (run-then, k (with_registers v r) refl, after-went, unset_at (fetched_in q) (with_registers v r) e) refl
+  not_there c q k e = λ r w. simp (run-then, k (with_registers v r w) refl, after-went, unset_at (fetched_in q) (with_registers v r w) e) refl
 
   all_there : (c : Value) (q : Fetched) (f : Frame) → Reads (context_registers bounded_table c) fetched_in v.objects (Ok q)
-      → are_there bounded_table v.objects (fetched_in q) ≡ true → registers_of f ≡ fetched_in q → w.objects ≡ v.objects → w.head ≡ v.head
-      → FetchesFrame (fetch_context_registers bounded_table c) v (Ok f) w
+      → are_there bounded_table v.objects (fetched_in q) ≡ true → registers_of f ≡ fetched_in q → u.objects ≡ v.objects → u.head ≡ v.head
+      → FetchesFrame (fetch_context_registers bounded_table c) v (Ok f) u
   unfolding fetch_context_registers
-  all_there c q f k e same o a = λ r.
-      simp (run-then, k (with_registers v r) refl, after-went, run-set_registers bounded_table (fetched_in q) (with_registers v r) e)
-      (λ i. Went tt (record { memory = sym o i; registers = sym same i; world = empty_world nil; head = sym a i }))
+  all_there c q f k e same o a = λ r w.
+      simp (run-then, k (with_registers v r w) refl, after-went, run-set_registers bounded_table (fetched_in q) (with_registers v r w) e)
+      (λ i. Went tt (record { memory = sym o i; registers = sym same i; world = w; head = sym a i }))
 
-  pub dead-registers : (c : Value) (cause : Dead) → Reads (context_registers bounded_table c) fetched_in v.objects (Err cause) → FetchesFrame (fetch_context_registers table c) v (Err cause) w
+  pub dead-registers : (c : Value) (cause : Dead) → Reads (context_registers bounded_table c) fetched_in v.objects (Err cause) → FetchesFrame (fetch_context_registers table c) v (Err cause) u
   dead-registers c cause k = of_table c (Err cause) (no_registers c cause k)
 
   pub dead-there : (c : Value) (q : Fetched) → Reads (context_registers bounded_table c) fetched_in v.objects (Ok q)
-      → are_there bounded_table v.objects (fetched_in q) ≡ false → FetchesFrame (fetch_context_registers table c) v (Err dead.Kind) w
+      → are_there bounded_table v.objects (fetched_in q) ≡ false → FetchesFrame (fetch_context_registers table c) v (Err dead.Kind) u
   dead-there c q k e = of_table c (Err dead.Kind) (not_there c q k e)
 
   pub fetched-frame : (c : Value) (q : Fetched) (f : Frame) → Reads (context_registers bounded_table c) fetched_in v.objects (Ok q)
-      → are_there bounded_table v.objects (fetched_in q) ≡ true → registers_of f ≡ fetched_in q → w.objects ≡ v.objects → w.head ≡ v.head
-      → FetchesFrame (fetch_context_registers table c) v (Ok f) w
+      → are_there bounded_table v.objects (fetched_in q) ≡ true → registers_of f ≡ fetched_in q → u.objects ≡ v.objects → u.head ≡ v.head
+      → FetchesFrame (fetch_context_registers table c) v (Ok f) u
   fetched-frame c q f k e same o a = of_table c (Ok f) (all_there c q f k e same o a)
 
   -- the scheduled context, over the table
   context_read : (x : Result Word Dead) → Reads (scheduled_context bounded_table) word v.objects x → Reads (scheduled_context table) word v.objects x
   context_read x h = subst (λ step. Reads step word v.objects x) context-same h
 
-  pub dead-context : (cause : Dead) → Reads (scheduled_context bounded_table) word v.objects (Err cause) → FetchesFrame (fetch_scheduled_registers table) v (Err cause) w
+  pub dead-context : (cause : Dead) → Reads (scheduled_context bounded_table) word v.objects (Err cause) → FetchesFrame (fetch_scheduled_registers table) v (Err cause) u
   unfolding fetch_scheduled_registers
-  dead-context cause h = λ r. simp (run-then, context_read (Err cause) h (with_registers v r) refl, after-died) refl
+  dead-context cause h = λ r w. simp (run-then, context_read (Err cause) h (with_registers v r w) refl, after-died) refl
 
   pub scheduled-fetched : (c : Word) (x : Result Frame Dead) → Reads (scheduled_context bounded_table) word v.objects (Ok c)
-      → FetchesFrame (fetch_context_registers table (word c)) v x w → FetchesFrame (fetch_scheduled_registers table) v x w
+      → FetchesFrame (fetch_context_registers table (word c)) v x u → FetchesFrame (fetch_scheduled_registers table) v x u
   unfolding fetch_scheduled_registers
-  scheduled-fetched c (Ok f) h k = λ r. simp (run-then, context_read (Ok c) h (with_registers v r) refl, after-went) (k r)
-  scheduled-fetched c (Err cause) h k = λ r. simp (run-then, context_read (Ok c) h (with_registers v r) refl, after-went) (k r)
+  scheduled-fetched c (Ok f) h k = λ r w. simp (run-then, context_read (Ok c) h (with_registers v r w) refl, after-went) (k r w)
+  scheduled-fetched c (Err cause) h k = λ r w. simp (run-then, context_read (Ok c) h (with_registers v r w) refl, after-went) (k r w)

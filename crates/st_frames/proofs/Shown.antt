@@ -2,8 +2,7 @@
 use Rattle.std.proofs.Common.{◌≡◌, ℕ, refl}
 use Rattle.std.specs.Prelude.{ℤ}
 use Rattle.st_model.specs.Values.{value}
-use Rattle.st_model.specs.Machine.{Went, empty_world}
-use Rattle.st_model.specs.Objects.{nil}
+use Rattle.st_model.specs.Machine.{World, Went}
 use Rattle.st_model.specs.Steps.{get_active, get_home, get_method, get_receiver, get_ip, get_sp, set_ip, set_sp}
 use Rattle.st_model.proofs.Runs.{run-then, run-next, after-went, after-died, run-answer, run-die, run-passed, run-failed}
 use Rattle.st_model.specs.Table.{Table}
@@ -11,39 +10,39 @@ use Rattle.st_model.specs.View.{View}
 use Rattle.st_frames.specs.declared.frame.Frame.{Frame}
 use Rattle.st_frames.specs.Shown.{shown, registers_of}
 
-pub shown_stored : (v w : View) (f : Frame) (t : Table) → w.objects ≡ t → w.head ≡ v.head → shown w f ≡ record (shown v f) { memory = t }
-shown_stored v w f t e a = λ i. record { memory = e i; registers = registers_of f; world = empty_world nil; head = a i }
+pub shown_stored : (v u : View) (f : Frame) (w : World) (t : Table) → u.objects ≡ t → u.head ≡ v.head → shown u f w ≡ record (shown v f w) { memory = t }
+shown_stored v u f w t e a = λ i. record { memory = e i; registers = registers_of f; world = w; head = a i }
 
-module _ (v : View) (f : Frame) where
-  pub shown-active : get_active.run (shown v f) ≡ Went (value f.active) (shown v f)
+module _ (v : View) (f : Frame) (w : World) where
+  pub shown-active : get_active.run (shown v f w) ≡ Went (value f.active) (shown v f w)
   unfolding get_active
   shown-active = refl
 
-  pub shown-home : get_home.run (shown v f) ≡ Went (value f.home) (shown v f)
+  pub shown-home : get_home.run (shown v f w) ≡ Went (value f.home) (shown v f w)
   unfolding get_home
   shown-home = refl
 
-  pub shown-method : get_method.run (shown v f) ≡ Went (value f.method) (shown v f)
+  pub shown-method : get_method.run (shown v f w) ≡ Went (value f.method) (shown v f w)
   unfolding get_method
   shown-method = refl
 
-  pub shown-receiver : get_receiver.run (shown v f) ≡ Went (value f.receiver) (shown v f)
+  pub shown-receiver : get_receiver.run (shown v f w) ≡ Went (value f.receiver) (shown v f w)
   unfolding get_receiver
   shown-receiver = refl
 
-  pub shown-ip : get_ip.run (shown v f) ≡ Went f.ip (shown v f)
+  pub shown-ip : get_ip.run (shown v f w) ≡ Went f.ip (shown v f w)
   unfolding get_ip
   shown-ip = refl
 
-  pub shown-sp : get_sp.run (shown v f) ≡ Went f.sp (shown v f)
+  pub shown-sp : get_sp.run (shown v f w) ≡ Went f.sp (shown v f w)
   unfolding get_sp
   shown-sp = refl
 
-  pub shown-set_ip : (n : ℤ) → (set_ip n).run (shown v f) ≡ Went tt (shown v (record f { ip = n }))
+  pub shown-set_ip : (n : ℤ) → (set_ip n).run (shown v f w) ≡ Went tt (shown v (record f { ip = n }) w)
   unfolding set_ip
   shown-set_ip n = refl
 
-  pub shown-set_sp : (n : ℕ) → (set_sp n).run (shown v f) ≡ Went tt (shown v (record f { sp = n }))
+  pub shown-set_sp : (n : ℕ) → (set_sp n).run (shown v f w) ≡ Went tt (shown v (record f { sp = n }) w)
   unfolding set_sp
   shown-set_sp n = refl
 

@@ -2,8 +2,7 @@
 use Rattle.std.specs.Prelude.{◌≡◌, ℕ, ◌+◌, ◌≤◌, Result}
 use Rattle.st_model.specs.declared.dead.Dead.{Dead}
 use Rattle.st_model.specs.Values.{word}
-use Rattle.st_model.specs.Objects.{nil}
-use Rattle.st_model.specs.Machine.{Registers, Head, State, Step, empty_world}
+use Rattle.st_model.specs.Machine.{Registers, Head, State, Step}
 use Rattle.st_model.specs.Table.{Table}
 use Rattle.st_model.specs.Calls.{Does}
 use Rattle.st_memory.specs.declared.objects.Objects.{Ghosts}
@@ -16,9 +15,9 @@ registers_in r = record { active = word r.active; home = word r.home; method = w
 abbrev pub fetched_in : Fetched → Registers
 fetched_in f = record { active = word f.active; home = word f.home; method = word f.method; receiver = word f.receiver; ip = f.ip; sp = f.sp }
 
--- no input word waits, no signal is pending and nothing is held but the registers
+-- the state over the table, with the world that the registers have beside them
 unfoldable pub row_state : Table → Head → Words → State Table
-row_state t a r = record { memory = t; registers = registers_in r; world = empty_world nil; head = a }
+row_state t a r = record { memory = t; registers = registers_in r; world = r.world.now; head = a }
 
 -- the state that objects and registers make
 abbrev pub state_of : {M : Type 0} → Ghosts M → M → Words → State Table
@@ -28,13 +27,14 @@ state_of o m r = row_state (o.table m) (o.head m) r
 abbrev pub RowReads : {M A B : Type 0} → Ghosts M → Step Table A → (B → A) → M → Words → Result B Dead → Type 0
 RowReads o step f m r result = Does step f (state_of o m r) result (state_of o m r)
 
+-- the call is this step, and leaves the world that the registers have beside them
+pub record RowDoes {M A B : Type 0} (o : Ghosts M) (step : Step Table A) (f : B → A) (m : M) (r : Words) (result : Result B Dead) (n : M) (q : Words) : Type 0 where
+  pub does : Does step f (state_of o m r) result (state_of o n q)
+  pub world : q.world.now ≡ r.world.now
+
 -- the call is this step, which leaves the objects as they are
 abbrev pub RowMoves : {M A B : Type 0} → Ghosts M → Step Table A → (B → A) → M → Words → Result B Dead → Words → Type 0
-RowMoves o step f m old result new = Does step f (state_of o m old) result (state_of o m new)
-
--- the call is this step
-abbrev pub RowDoes : {M A B : Type 0} → Ghosts M → Step Table A → (B → A) → M → Words → Result B Dead → M → Words → Type 0
-RowDoes o step f m r result n q = Does step f (state_of o m r) result (state_of o n q)
+RowMoves o step f m old result new = RowDoes o step f m old result m new
 
 -- the call takes at most so many changes, and leaves what is fixed
 pub record Takes {M : Type 0} (o : Ghosts M) (most : ℕ) (old new : M) : Type 0 where
@@ -42,7 +42,8 @@ pub record Takes {M : Type 0} (o : Ghosts M) (most : ℕ) (old new : M) : Type 0
   pub fixed : o.fixed new ≡ o.fixed old
 
 -- how many changes are made at most: by what activates a method; by a send, which may make a Message; by a jump on a
--- condition and by a return, which may send; and by a bytecode
+-- condition and by a return, which may send; by each of these with the activation of what was called; and by a bytecode,
+-- of which a return makes the most
 abbrev pub activation_changes : ℕ
 activation_changes = 8
 
@@ -55,5 +56,14 @@ jump_changes = 7
 abbrev pub return_changes : ℕ
 return_changes = 8
 
+abbrev pub executed_send_changes : ℕ
+executed_send_changes = send_changes + activation_changes
+
+abbrev pub executed_jump_changes : ℕ
+executed_jump_changes = jump_changes + activation_changes
+
+abbrev pub executed_return_changes : ℕ
+executed_return_changes = return_changes + activation_changes
+
 abbrev pub bytecode_changes : ℕ
-bytecode_changes = 16
+bytecode_changes = executed_return_changes

@@ -104,6 +104,7 @@ fn set_registers<O: Objects>(m: &O, r: &mut Registers, new: &Fetched) -> Result<
         receiver: new.receiver,
         ip: new.ip,
         sp: new.sp,
+        world: r.world,
     };
     Ok(())
 }

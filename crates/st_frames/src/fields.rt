@@ -3,8 +3,8 @@ ghost use Rattle.st_model.specs.Values.{value};
 ghost use Rattle.st_model.specs.View.{IsKnown};
 ghost use Rattle.st_model.specs.Table.{table};
 ghost use Rattle.st_model.specs.Steps.{fetch_field, store_field, count_fields};
-ghost use Rattle.st_model.specs.Calls.{Does, Reads, itself};
-ghost use Rattle.st_frames.specs.Shown.{shown};
+ghost use Rattle.st_model.specs.Calls.{Reads, itself};
+ghost use Rattle.st_frames.specs.Shown.{FrameDoes};
 
 use crate::frame::Frame;
 use st_memory::Memory;
@@ -35,8 +35,8 @@ pub fn fetch_field<M: Memory>(m: &M, o: Oop, i: u32) -> Result<Oop, Dead>
 pub fn store_field<M: Memory>(m: &mut M, f: &Frame, o: Oop, i: u32, x: Oop) -> Result<(), Dead>
     requires object { IsKnown (M.view m.old).objects (value o) }
     requires known { IsKnown (M.view m.old).objects (value x) }
-    ensures stores { Does (store_field table (value o) i (value x))
-        itself (shown (M.view m.old) f.now) result (shown (M.view m.new) f.now) }
+    ensures stores { FrameDoes (store_field table (value o) i (value x))
+        itself (M.view m.old) f.now result (M.view m.new) f.now }
     ensures held { (M.view m.new).held ≡ (M.view m.old).held }
     ensures err { OnErr result (M.view m.new ≡ M.view m.old) }
 {

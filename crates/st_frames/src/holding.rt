@@ -12,13 +12,15 @@ use crate::context::{are_there, read_registers, read_scheduled_context};
 use crate::fetched::Fetched;
 use crate::frame::Frame;
 use crate::registers::Registers;
+use st_input::World;
 use st_memory::{Memory, live_value};
 use st_model::{Dead, Oop, RootPlace, Word};
 
 /// The registers, as the row of a bytecode works on them.
-pub fn load<M: Memory>(m: &M, f: &Frame) -> Registers
+pub fn load<'a, M: Memory>(m: &M, f: &Frame, w: &'a World) -> Registers<'a>
     requires { IsFrame (M.view m.now) f.now }
-    ensures { registers_in result ≡ registers_of f.now }
+    ensures registers { registers_in result ≡ registers_of f.now }
+    ensures world { result.world.now ≡ w.now }
 {
     Registers {
         active: Word(u32::from(f.active.0)),
@@ -27,6 +29,7 @@ pub fn load<M: Memory>(m: &M, f: &Frame) -> Registers
         receiver: Word(u32::from(f.receiver.0)),
         ip: f.ip,
         sp: f.sp,
+        world: w,
     }
 }
 

@@ -1,11 +1,12 @@
 ghost use Rattle.std.specs.Prelude.{◌≤◌, ◌≤ℤ◌, pos, negsuc};
 ghost use Rattle.st_frames.specs.Narrow.{IsNarrow};
 
+use st_input::World;
 use st_model::Word;
 
-/// The registers of the interpreter (chapter 27), as the rows of bytecodes work on them.
+/// The registers of the interpreter (chapter 27), as the rows of bytecodes work on them, and the world, which they read.
 #[derive(Clone, Copy)]
-pub struct Registers {
+pub struct Registers<'a> {
     /// The active context.
     pub active: Word,
     /// The home context: the active one, or that of the block that it runs.
@@ -18,6 +19,8 @@ pub struct Registers {
     pub ip: i32,
     /// The number of the active context's field that holds the top of the stack; from 5 to 16388.
     pub sp: u32,
+    /// What lies round the machine.
+    pub world: &'a World,
     pub ghost active_narrow: { IsNarrow active },
     pub ghost home_narrow: { IsNarrow home },
     pub ghost method_narrow: { IsNarrow method },

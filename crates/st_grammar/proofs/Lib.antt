@@ -6,6 +6,8 @@ pub mod Bracketed
 pub mod Cascades
 pub mod Expressions
 pub mod Faulty
+pub mod FormedLeaves
+pub mod FormedTrees
 pub mod Heights
 pub mod KindSets
 pub mod Lists

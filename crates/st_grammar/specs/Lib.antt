@@ -4,3 +4,4 @@ pub mod Phrases
 pub mod Reading
 pub mod Texts
 pub mod Trees
+pub mod Formed

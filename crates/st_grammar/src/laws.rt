@@ -3,6 +3,7 @@
 ghost use Rattle.std.specs.Prelude.{◌≡◌, ℕ, List};
 ghost use Rattle.st_tree.specs.Views.{MethodView};
 ghost use Rattle.st_grammar.specs.Texts.{Means, HasFault};
+ghost use Rattle.st_grammar.specs.Formed.{IsWellFormed};
 
 /// A text has at most one tree.
 pub fn one_tree()
@@ -13,4 +14,10 @@ pub fn one_tree()
 pub fn one_fault()
     ensures one { (text : List ℕ) (place other cause reason : ℕ) → HasFault text place cause → HasFault text other reason → (place ≡ other) × (cause ≡ reason) }
     ensures none { (text : List ℕ) (t : MethodView) (place cause : ℕ) → Means text t → HasFault text place cause → ⊥ }
+{}
+
+/// What a text means is well-formed: its names are names, each selector fits its arguments, no number is too great, and
+/// `super`, `^`, nil, false and true stand where they may.
+pub fn formed_tree()
+    ensures { (text : List ℕ) (t : MethodView) → Means text t → IsWellFormed t }
 {}

@@ -1,4 +1,4 @@
-ghost use Rattle.std.specs.Prelude.{◌≡◌, map, IfOk};
+ghost use Rattle.std.specs.Prelude.{◌≡◌, map, length, IfOk};
 ghost use Rattle.st_model.specs.Values.{value};
 ghost use Rattle.st_model.specs.Objects.{nil};
 ghost use Rattle.st_model.specs.Machine.{empty_world};
@@ -87,5 +87,47 @@ impl World {
             low_entries: 0,
             low_words: 0,
         })
+    }
+
+    /// How many input words wait.
+    pub fn waiting_count(&self) -> u32
+        ensures { result ≡ length self.now.waiting }
+    {
+        self.waiting.len() as u32
+    }
+
+    /// How many signals are pending.
+    pub fn pending_count(&self) -> u32
+        ensures { result ≡ length self.now.devices.pending }
+    {
+        self.pending.len() as u32
+    }
+
+    /// The mouse's place, from the left.
+    pub fn mouse_x(&self) -> u16
+        ensures { result ≡ self.now.mouse_x }
+    {
+        self.mouse_x
+    }
+
+    /// The mouse's place, from the top.
+    pub fn mouse_y(&self) -> u16
+        ensures { result ≡ self.now.mouse_y }
+    {
+        self.mouse_y
+    }
+
+    /// The second clock.
+    pub fn second_clock(&self) -> u32
+        ensures { result ≡ self.now.second_clock }
+    {
+        self.second_clock
+    }
+
+    /// The millisecond clock.
+    pub fn millisecond_clock(&self) -> u32
+        ensures { result ≡ self.now.millisecond_clock }
+    {
+        self.millisecond_clock
     }
 }

@@ -14,7 +14,8 @@ use st_model::{Dead, Oop, Word};
 /// without one. Dead where `look_up` is. It serves whoever has a memory and pointers and is no row of a bytecode.
 pub fn find<M: Memory>(m: &M, class: Oop, selector: Oop) -> Result<Option<Oop>, Dead>
     ensures finds { Reads (find table (value class) (value selector)) found (M.view m.now).objects result }
-    ensures known { IfOk result (λ method. IfSome method (λ o. is_live (M.view m.now).objects (value o) ≡ true)) }
+    ensures known { IfOk result (λ method.
+        IfSome method (λ o. is_live (M.view m.now).objects (value o) ≡ true)) }
 {
     match look_up(m, Word::from(class), Word::from(selector))? {
         Some(method) => Ok(live_value(m, method)),

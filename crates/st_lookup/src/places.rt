@@ -88,7 +88,8 @@ fn search_from<O: Objects>(
 ) -> Result<Option<Word>, Dead>
     requires order { start < places }
     requires small { places < 262144 }
-    ensures { Reads (search_from O.names (word dictionary) (word selector) places start) found_word (O.table m.now) result }
+    ensures { Reads (search_from O.names (word dictionary) (word selector) places start)
+        found_word (O.table m.now) result }
 {
     match look_at_places(m, dictionary, selector, start, places)? {
         Search::Ends(method) => return Ok(method),
@@ -110,7 +111,8 @@ pub fn search_dictionary<O: Objects>(
 ) -> Result<Option<Word>, Dead>
     requires some { 1 ≤ places }
     requires small { places < 262144 }
-    ensures { Reads (search_dictionary O.names (word dictionary) (word selector) places) found_word (O.table m.now) result }
+    ensures { Reads (search_dictionary O.names (word dictionary) (word selector) places)
+        found_word (O.table m.now) result }
 {
     let half = m.half_word(selector);
     search_from(m, dictionary, selector, places, half & (places - 1))

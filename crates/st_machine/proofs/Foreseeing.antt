@@ -7,7 +7,7 @@ use Rattle.st_model.specs.declared.demand.Demand.{Demand}
 use Rattle.st_model.specs.declared.halt.Halt.TheVariants as halt
 use Rattle.st_model.specs.Outcomes.{Outcome, StepEnd, Did, NotBuilt, Ending, With, Space, Unbuilt}
 use Rattle.st_model.specs.Outcomes as outcome
-use Rattle.st_model.specs.Machine.{State, Transition, Died, Went, Step, answer, ◌>>=◌, ◌>>◌, used, is_over}
+use Rattle.st_model.specs.Machine.{State, World, Transition, Died, Went, Step, answer, ◌>>=◌, ◌>>◌, used, is_over}
 use Rattle.st_model.specs.Table.{Table, table, apart, bounded_table}
 use Rattle.st_model.specs.Bytecodes.{step}
 use Rattle.st_model.specs.Settled.{reclaim}
@@ -134,9 +134,10 @@ byte_of : (x : Result ℕ Dead) (d : State Table) → byte_answered (transition_
 byte_of (Ok b) d = refl
 byte_of (Err cause) d = refl
 
-pub code_is : (v : View) (f : Frame) (r : Words) (x : Result ℕ Dead) (d : State Table) → registers_in r ≡ registers_of f → Does (next_byte bounded_table) itself (row_state v.objects v.head r) x d
-    → next_code table (shown v f) ≡ answered x
+pub code_is : (v : View) (f : Frame) (w : World) (r : Words) (x : Result ℕ Dead) (d : State Table) → registers_in r ≡ registers_of f → r.world.now ≡ w
+    → Does (next_byte bounded_table) itself (row_state v.objects v.head r) x d → next_code table (shown v f w) ≡ answered x
 unfolding next_code
-code_is v f r x d same h =
-    let e : (next_byte table).run (shown v f) ≡ transition_of itself x d = ap (λ (m : Step Table ℕ). m.run (shown v f)) (sym byte-same) ∙ (ap (λ (s : State Table). (next_byte bounded_table).run s) (sym (loaded v f r same)) ∙ h) in
+code_is v f w r x d same world h =
+    let e : (next_byte table).run (shown v f w) ≡ transition_of itself x d =
+    ap (λ (m : Step Table ℕ). m.run (shown v f w)) (sym byte-same) ∙ (ap (λ (s : State Table). (next_byte bounded_table).run s) (sym (loaded v f w r same world)) ∙ h) in
     ap byte_answered e ∙ byte_of x d

@@ -1,17 +1,17 @@
 -- Cycles over a table, one after the other, show the run over the births.
 use Rattle.std.proofs.Common.{◌≡◌, ℕ, suc, ◌+◌, ◌-◌, ◌<◌, false, Ok, Err, refl, ap, sym, ◌∙◌, subst, arith}
-use Rattle.std.specs.Prelude.{◌≤◌, length, Result, Option, Some, None, IfSome}
+use Rattle.std.specs.Prelude.{◌≤◌, Result, Option, Some, None, IfSome}
 use Rattle.st_model.specs.declared.dead.Dead.{Dead}
-use Rattle.st_model.specs.Outcomes.{Outcome, Ending, With, IsLiveOutcome, renamed_ending}
+use Rattle.st_model.specs.Outcomes.{Ending, With, IsLiveEnding, renamed_ending}
 use Rattle.st_model.specs.Outcomes as outcome
 use Rattle.st_model.specs.Machine.{State, Transition, Died, Went}
 use Rattle.st_model.specs.Births.{Births, births, pointer_of}
 use Rattle.st_model.specs.Table.{Table}
 use Rattle.st_model.specs.Cycles.{cycle, run, run_of, finished, finished_of}
-use Rattle.st_model.specs.Show.{Shows, IsUsed}
+use Rattle.st_model.specs.Show.{Shows, IsKept}
 use Rattle.st_model.specs.Foreseen.{foreseen_cycle, IsSound, EndsShown}
 use Rattle.st_model.specs.Calls.{transition_of}
-use Rattle.st_model.proofs.CyclesShown.{cycle_shown}
+use Rattle.st_model.proofs.CyclesShown.{sound_shown}
 use Rattle.st_model.specs.declared.outcome.Outcome.TheVariants as code_outcome
 use Rattle.st_model.specs.Values.{value}
 use Rattle.st_machine.specs.declared.cycling.CycleEnd.{CycleEnd}
@@ -32,20 +32,15 @@ pub none_so_far : (s : State Births) (c : State Table) → Shows c s → SoFar 0
 unfolding run run_of
 none_so_far s c h = record { state = s; ran = refl; shows = h }
 
-module _ (k : ℕ) (s : State Births) (c : State Table) (places : length c.memory ≡ 32768) (far : SoFar k s c) where
+module _ (k : ℕ) (s : State Births) (c : State Table) (sound : IsSound c) (few : c.head.entries ≤ 32767) (far : SoFar k s c) where
   -- the births' next cycle is shown by the table's
-  shown_next : (o : Transition (State Table) Ending) → foreseen_cycle c ≡ o → ((e : Outcome) (x : State Table) → o ≡ Went (With e) x → IsSound x) → EndsShown o (cycle births far.state)
-  shown_next o e sound =
-      subst (λ x. EndsShown x (cycle births far.state)) e
-      (cycle_shown c far.state far.shows places (λ p x q. (sound p x (sym e ∙ q), subst (λ y. IsLiveOutcome (IsUsed x.memory) y) (sym (only_went c p x q)) tt)))
-
-  sound_of : (a : Ending) (d : State Table) → IsSound d → (e : Outcome) (x : State Table) → Went a d ≡ Went (With e) x → IsSound x
-  sound_of a d sound e x q = let same : d ≡ x = cc in subst (λ y. IsSound y) same sound
+  shown_next : (o : Transition (State Table) Ending) → foreseen_cycle c ≡ o → EndsShown o (cycle births far.state)
+  shown_next o e = subst (λ x. EndsShown x (cycle births far.state)) e (sound_shown c far.state far.shows sound few)
 
   ended_shown : (a : Ending) (d : State Table) (o : Transition (State Births) Ending) → EndsShown (Went a d) o
-      → (b : Ending) × (u : State Births) × (o ≡ Went b u) × (a ≡ renamed_ending (pointer_of u.memory) b) × Shows d u
+      → (b : Ending) × (u : State Births) × (o ≡ Went b u) × (a ≡ renamed_ending (pointer_of u.memory) b) × Shows d u × IsLiveEnding (IsKept u.memory) b
   ended_shown a d (Died cause) h = absurd h
-  ended_shown a d (Went b u) h = (b, u, refl, h.0, h.1)
+  ended_shown a d (Went b u) h = (b, u, refl, h.0, h.1, h.2)
 
   pub only_goes : (f : ℕ → ℕ) (b : Ending) → With outcome.Went ≡ renamed_ending f b → b ≡ With outcome.Went
   only_goes f (With outcome.Went) e = refl
@@ -60,21 +55,21 @@ module _ (k : ℕ) (s : State Births) (c : State Table) (places : length c.memor
   unfolding run_of
   one_cycle u e = rw e refl
 
-  one_more : (d : State Table) → foreseen_cycle c ≡ Went (With outcome.Went) d → IsSound d → SoFar (k + 1) s d
+  one_more : (d : State Table) → foreseen_cycle c ≡ Went (With outcome.Went) d → SoFar (k + 1) s d
   unfolding run
-  one_more d e sound =
-      let next = ended_shown (With outcome.Went) d (cycle births far.state) (shown_next (Went (With outcome.Went) d) e (sound_of (With outcome.Went) d sound)) in
+  one_more d e =
+      let next = ended_shown (With outcome.Went) d (cycle births far.state) (shown_next (Went (With outcome.Went) d) e) in
       let went : cycle births far.state ≡ Went (With outcome.Went) next.1 = next.2 ∙ ap (λ x. Went x next.1) (only_goes (pointer_of next.1.memory) next.0 next.3) in
       record { state = next.1; ran = run_on (cycle births) k 1 s far.state far.ran ∙ one_cycle next.1 went; shows = next.4 }
 
   split : (n : ℕ) → k < n → n ≡ k + suc (n - suc k)
   split n l = omega arith
 
-  stops : (n : ℕ) (x : Result CycleEnd Dead) (e : RunEnd) (a : Ending) (d : State Table) → k < n → foreseen_cycle c ≡ transition_of ending_of x d → Stops x k e d a → IsSound d → EndsAs n s e d
+  stops : (n : ℕ) (x : Result CycleEnd Dead) (e : RunEnd) (a : Ending) (d : State Table) → k < n → foreseen_cycle c ≡ transition_of ending_of x d → Stops x k e d a → EndsAs n s e d
   unfolding run finished
-  stops n x e a d l q t sound =
+  stops n x e a d l q t =
       let r = q ∙ t.ended in
-      let next = ended_shown a d (cycle births far.state) (shown_next (Went a d) r (sound_of a d sound)) in
+      let next = ended_shown a d (cycle births far.state) (shown_next (Went a d) r) in
       let b = next.0 in
       let u = next.1 in
       let goes : goes_on b ≡ false = sym (renamed_goes (pointer_of u.memory) b) ∙ (sym (ap goes_on next.3) ∙ t.goes) in
@@ -83,7 +78,7 @@ module _ (k : ℕ) (s : State Births) (c : State Table) (places : length c.memor
       let last : run_of (cycle births) (k + suc j) s ≡ Went b u = run_on (cycle births) k (suc j) s far.state far.ran ∙ run_stops (cycle births) j far.state u b next.2 goes in
       let count : finished_of (cycle births) (k + suc j) s ≡ k + cycles_in a =
       finished_on (cycle births) k (suc j) s far.state far.ran ∙ ap (λ i. k + i) (finished_stops (cycle births) j far.state u b next.2 goes ∙ cycles) in
-      let shown : EndsShown (transition_at e d) (Went b u) = subst (λ y. EndsShown y (Went b u)) (sym t.same) (next.3, next.4) in
+      let shown : EndsShown (transition_at e d) (Went b u) = subst (λ y. EndsShown y (Went b u)) (sym t.same) (next.3, next.4, next.5) in
       record {
         ends = subst (λ y. EndsShown (transition_at e d) y) (sym (ap (λ i. run_of (cycle births) i s) (split n l) ∙ last)) shown;
         count = ap (λ i. finished_of (cycle births) i s) (split n l) ∙ (count ∙ sym (t.count n));
@@ -96,7 +91,7 @@ module _ (k : ℕ) (s : State Births) (c : State Table) (places : length c.memor
   dies : (n : ℕ) (cause : Dead) (d : State Table) → k < n → foreseen_cycle c ≡ Died cause → EndsAs n s (run_ends.Dead k cause) d
   unfolding run finished
   dies n cause d l e =
-      let died = died_shown cause (cycle births far.state) (shown_next (Died cause) e (λ p x q. absurd (cc))) in
+      let died = died_shown cause (cycle births far.state) (shown_next (Died cause) e) in
       let j = n - suc k in
       let last : run_of (cycle births) (k + suc j) s ≡ Died cause = run_on (cycle births) k (suc j) s far.state far.ran ∙ run_dies (cycle births) j far.state cause died in
       let none = finished_dies (cycle births) j far.state cause died in
@@ -106,12 +101,12 @@ module _ (k : ℕ) (s : State Births) (c : State Table) (places : length c.memor
         count = ap (λ i. finished_of (cycle births) i s) (split n l) ∙ (count ∙ omega (arith, none));
       }
 
-  pub ends_here : (n : ℕ) (x : Result CycleEnd Dead) (e : RunEnd) (d : State Table) → k < n → foreseen_cycle c ≡ transition_of ending_of x d → run_end x k ≡ Some e → IsSound d → EndsAs n s e d
-  ends_here n (Ok end) e d l q h sound = stops n (Ok end) e (ending_of end) d l q (run_end_stops k d (Ok end) e h) sound
-  ends_here n (Err cause) e d l q h sound = subst (λ y. EndsAs n s y d) (sym (run_end_stops k d (Err cause) e h)) (dies n cause d l q)
+  pub ends_here : (n : ℕ) (x : Result CycleEnd Dead) (e : RunEnd) (d : State Table) → k < n → foreseen_cycle c ≡ transition_of ending_of x d → run_end x k ≡ Some e → EndsAs n s e d
+  ends_here n (Ok end) e d l q h = stops n (Ok end) e (ending_of end) d l q (run_end_stops k d (Ok end) e h)
+  ends_here n (Err cause) e d l q h = subst (λ y. EndsAs n s y d) (sym (run_end_stops k d (Err cause) e h)) (dies n cause d l q)
 
-  pub goes_further : (x : Result CycleEnd Dead) (d : State Table) → foreseen_cycle c ≡ transition_of ending_of x d → run_end x k ≡ None → IsSound d → SoFar (k + 1) s d
-  goes_further x d q h sound = one_more d (q ∙ run_end_goes k d x h) sound
+  pub goes_further : (x : Result CycleEnd Dead) (d : State Table) → foreseen_cycle c ≡ transition_of ending_of x d → run_end x k ≡ None → SoFar (k + 1) s d
+  goes_further x d q h = one_more d (q ∙ run_end_goes k d x h)
 
 -- no cycle asks for anything
 
@@ -134,7 +129,7 @@ ran_all k s c far =
     let z : k + 0 ≡ k = omega arith in
     let count = finished_on (cycle births) k 0 s far.state far.ran in
     record {
-      ends = subst (λ o. EndsShown (Went (With outcome.Went) c) o) (sym far.ran) (refl, far.shows);
+      ends = subst (λ o. EndsShown (Went (With outcome.Went) c) o) (sym far.ran) (refl, far.shows, tt);
       count = ap (λ i. finished_of (cycle births) i s) (sym z) ∙ (count ∙ omega arith);
     }
 

@@ -1,14 +1,14 @@
 ghost use Rattle.std.specs.Prelude.{◌≡◌, OnOk};
 ghost use Rattle.st_model.specs.Table.{table};
-ghost use Rattle.st_model.specs.View.{no_devices};
 ghost use Rattle.st_model.specs.Machine.{used};
 ghost use Rattle.st_model.specs.Cycles.{next_code, less, capacity_of};
 ghost use Rattle.st_model.specs.Foreseen.{foreseen_cycle};
 ghost use Rattle.st_model.specs.Calls.{transition_of};
-ghost use Rattle.st_frames.specs.Shown.{IsFrame, StaysFrame, shown};
+ghost use Rattle.st_frames.specs.Shown.{IsFrame, IsReady, shown};
 ghost use Rattle.st_machine.specs.Runs.{ending_of};
 
 use st_frames::{Frame, load, next_byte};
+use st_input::World;
 use st_memory::Memory;
 use st_model::{Dead, Demand, Halt, Outcome};
 use st_step::{plan, step};
@@ -37,11 +37,11 @@ fn free_space<M: Memory>(m: &M) -> Demand
 }
 
 /// The code of the next bytecode, where there is one.
-fn next_code<M: Memory>(m: &M, f: &Frame) -> u8
+fn next_code<M: Memory>(m: &M, f: &Frame, w: &World) -> u8
     requires frame { IsFrame (M.view m.now) f.now }
-    ensures { result ≡ next_code table (shown (M.view m.now) f.now) }
+    ensures { result ≡ next_code table (shown (M.view m.now) f.now w.now) }
 {
-    let mut r = load(m, f);
+    let mut r = load(m, f, w);
     match next_byte(m, &mut r) {
         Ok(code) => code,
         Err(_) => 0,
@@ -49,24 +49,24 @@ fn next_code<M: Memory>(m: &M, f: &Frame) -> u8
 }
 
 /// One cycle: the next bytecode is foreseen, and done where there is room for what it makes; then what nothing supports any
-/// more is dropped. Else all is left as it was.
-pub fn cycle<M: Memory>(m: &mut M, f: &mut Frame) -> Result<CycleEnd, Dead>
-    requires frame { IsFrame (M.view m.old) f.old }
-    requires quiet { (M.view m.old).held.devices ≡ no_devices }
-    ensures cycle { foreseen_cycle (shown (M.view m.old) f.old)
-        ≡ transition_of ending_of result (shown (M.view m.new) f.new) }
-    ensures frame { StaysFrame (M.view m.old) (M.view m.new) f.new }
+/// more is dropped. For want of room, and at a primitive that isn't built, what is shown stays as it was.
+pub fn cycle<M: Memory>(m: &mut M, f: &mut Frame, w: &mut World) -> Result<CycleEnd, Dead>
+    requires ready { IsReady (M.view m.old) f.old w.old }
+    ensures cycle { foreseen_cycle (shown (M.view m.old) f.old w.old)
+        ≡ transition_of ending_of result (shown (M.view m.new) f.new w.new) }
+    ensures ready { IsReady (M.view m.new) f.new w.new }
+    ensures world { w.new ≡ w.old }
 {
-    let demand = match plan(m, f) {
+    let demand = match plan(m, f, w) {
         Ok(demand) => demand,
         Err(Halt::Dead(cause)) => return Err(cause),
-        Err(Halt::Unbuilt) => return Ok(CycleEnd::Unbuilt(next_code(m, f))),
+        Err(Halt::Unbuilt) => return Ok(CycleEnd::Unbuilt(next_code(m, f, w))),
     };
     if !m.room(demand) {
         let left = free_space(m);
         return Ok(CycleEnd::Space { demand, left });
     }
-    let outcome = step(m, f);
+    let outcome = step(m, f, w);
     m.settle();
     Ok(CycleEnd::With(outcome))
 }

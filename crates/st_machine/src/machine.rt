@@ -1,11 +1,8 @@
 ghost use Rattle.std.specs.Prelude.{◌≡◌, Some, None};
 ghost use Rattle.std.specs.Borrow.{sem};
-ghost use Rattle.st_model.specs.Objects.{nil};
-ghost use Rattle.st_model.specs.Machine.{empty_world};
 ghost use Rattle.st_model.specs.Show.{Shows, raised};
-ghost use Rattle.st_model.specs.View.{no_devices};
-ghost use Rattle.st_frames.specs.Shown.{IsFrame, shown};
-ghost use Rattle.st_machine.specs.Machines.{IsReady, lends_memory};
+ghost use Rattle.st_frames.specs.Shown.{IsReady, shown};
+ghost use Rattle.st_machine.specs.Machines.{lends_memory};
 ghost use Rattle.st_machine.specs.Runs.{EndsFrom, AsksNothing, CountsCycles, death_of};
 ghost use Rattle.st_machine.specs.declared.ending.RunEnd.TheVariants.{Dead as DeadEnd};
 
@@ -17,8 +14,8 @@ use st_memory::Memory;
 use st_model::Dead;
 
 /// A machine: its objects, its registers, and what lies round it; and, once it is dead, the cause. A run asks that it is
-/// dead, or ready: the registers are what is held at their places. `boot` and `run` leave it so; who changes the objects
-/// through `memory_mut` owes it again.
+/// dead, or ready: the memory holds the registers at their places, and what the world names. `boot` and `run` leave it so;
+/// who changes the objects through `memory_mut` owes it again.
 #[derive(Drop)]
 pub struct Machine<M: Memory> {
     memory: M,
@@ -28,17 +25,16 @@ pub struct Machine<M: Memory> {
 }
 
 impl<M: Memory> Machine<M> {
-    /// A machine over a memory with registers, in a new world. It shows births: its objects, by rising pointer.
+    /// A machine over a memory with registers, in a world. It shows births: its objects, by rising pointer.
     pub fn boot(loaded: Loaded<M>, world: World) -> Machine<M>
-        requires frame { IsFrame (M.view loaded.memory) loaded.frame }
-        requires quiet { (M.view loaded.memory).held.devices ≡ no_devices }
-        requires empty { world ≡ empty_world nil }
+        requires ready { IsReady (M.view loaded.memory) loaded.frame world }
         ensures ready { IsReady (M.view result.memory) result.frame result.world }
         ensures memory { M.view result.memory ≡ M.view loaded.memory }
         ensures frame { result.frame ≡ loaded.frame }
+        ensures world { result.world ≡ world }
         ensures alive { result.death ≡ None }
-        ensures shows { Shows (shown (M.view result.memory) result.frame)
-            (raised (shown (M.view result.memory) result.frame)) }
+        ensures shows { let state = shown (M.view result.memory) result.frame result.world in
+            Shows state (raised state) }
     {
         Machine {
             memory: loaded.memory,
@@ -49,7 +45,8 @@ impl<M: Memory> Machine<M> {
     }
 
     /// Does n cycles, or those up to the first that doesn't go on. It ends as the book's machine does from each state over
-    /// births that the machine shows. A dead machine stays as it is.
+    /// births that the machine shows, and shows then what that comes to: objects, registers and world. A dead machine stays
+    /// as it is.
     pub fn run(&mut self, n: u32) -> RunEnd
         requires ready { self.old.death ≡ None
             → IsReady (M.view self.old.memory) self.old.frame self.old.world }
@@ -57,8 +54,9 @@ impl<M: Memory> Machine<M> {
             → IsReady (M.view self.new.memory) self.new.frame self.new.world }
         ensures left { self.old.death ≡ None
             → IsReady (M.view self.new.memory) self.new.frame self.new.world }
-        ensures ends { self.old.death ≡ None → EndsFrom n (shown (M.view self.old.memory) self.old.frame)
-            result (shown (M.view self.new.memory) self.new.frame) }
+        ensures ends { let first = shown (M.view self.old.memory) self.old.frame self.old.world in
+            let last = shown (M.view self.new.memory) self.new.frame self.new.world in
+            self.old.death ≡ None → EndsFrom n first result last }
         ensures death { self.old.death ≡ None → self.new.death ≡ death_of result }
         ensures dead { (cause : _) → self.old.death ≡ Some cause
             → (result ≡ DeadEnd 0 cause) × (self.new ≡ self.old) }
@@ -69,7 +67,7 @@ impl<M: Memory> Machine<M> {
         if let Some(cause) = self.death {
             return RunEnd::Dead { done: 0, cause };
         }
-        let end = running::run(&mut self.memory, &mut self.frame, n);
+        let end = running::run(&mut self.memory, &mut self.frame, &mut self.world, n);
         if let RunEnd::Dead { done: _, cause } = end {
             self.death = Some(cause);
         }

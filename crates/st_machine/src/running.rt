@@ -1,11 +1,11 @@
 ghost use Rattle.std.specs.Prelude.{◌≡◌, ◌<◌};
-ghost use Rattle.st_model.specs.View.{no_devices};
-ghost use Rattle.st_frames.specs.Shown.{IsFrame, StaysFrame, shown};
+ghost use Rattle.st_frames.specs.Shown.{IsReady, shown};
 ghost use Rattle.st_machine.specs.Runs.{EndsFrom, AsksNothing, CountsCycles, run_end};
 
 use crate::cycling::{CycleEnd, cycle};
 use crate::ending::RunEnd;
 use st_frames::Frame;
+use st_input::World;
 use st_memory::Memory;
 use st_model::{Dead, Outcome};
 
@@ -37,16 +37,17 @@ fn run_end(end: Result<CycleEnd, Dead>, done: u32) -> Option<RunEnd>
 
 /// Does n cycles, or those up to the first that doesn't go on. It ends as the book's machine does from each state over
 /// births that is shown here.
-pub fn run<M: Memory>(m: &mut M, f: &mut Frame, n: u32) -> RunEnd
-    requires frame { IsFrame (M.view m.old) f.old }
-    requires quiet { (M.view m.old).held.devices ≡ no_devices }
-    ensures ends { EndsFrom n (shown (M.view m.old) f.old) result (shown (M.view m.new) f.new) }
-    ensures frame { StaysFrame (M.view m.old) (M.view m.new) f.new }
+pub fn run<M: Memory>(m: &mut M, f: &mut Frame, w: &mut World, n: u32) -> RunEnd
+    requires ready { IsReady (M.view m.old) f.old w.old }
+    ensures ends { EndsFrom n (shown (M.view m.old) f.old w.old)
+        result (shown (M.view m.new) f.new w.new) }
+    ensures ready { IsReady (M.view m.new) f.new w.new }
+    ensures world { w.new ≡ w.old }
     ensures asks { AsksNothing result }
     ensures counts { CountsCycles n result }
 {
     for done in 0..n {
-        if let Some(end) = run_end(cycle(m, f), done) {
+        if let Some(end) = run_end(cycle(m, f, w), done) {
             return end;
         }
     }

@@ -1,18 +1,19 @@
 -- Objects that are made behind a table.
 use Rattle.std.proofs.Common.{◌≡◌, ℕ, ◌+◌, ◌-◌, ◌*◌, ◌/◌, ◌<◌, ◌≤◌, zero, suc, true, false, Bool, List, [], ◌∷◌, ◌++◌, length, take, drop, set, refl, sym, ap, ◌∙◌, subst, arith, append_assoc}
 use Rattle.std.specs.Prelude.{slice_index_or, unwrap_or, Option, Some, None, if◌then◌else◌}
-use Rattle.std.proofs.lemmas.List.{length-take, length-map, length-append, length-replicate}
+use Rattle.std.proofs.lemmas.List.{length-take, length-map, length-append}
 use Rattle.st_model.specs.Values.{Value, Small, Ref, word, value_of, is_small}
-use Rattle.st_model.specs.Objects.{Object, is_pointers, with_field, nil, one, words_of}
+use Rattle.st_model.specs.Objects.{Object, is_pointers, with_field, one, words_of}
 use Rattle.st_model.specs.Table.{Table, entry, changed, joined, total_used}
 use Rattle.st_model.specs.View.{nothing, object_of, with_stored}
 use Rattle.st_model.proofs.Pointers.{value_of-even, value_of-pointer}
 use Rattle.st_model.proofs.WholeLemmas.{length-changed, total_used-changed}
 use Rattle.st_model.proofs.FormedLemmas.{words_of-with_field}
-use Rattle.st_memory.specs.declared.change.Made.{Made}
+use Rattle.st_memory.specs.declared.made.Made.{Made}
 use Rattle.st_memory.specs.declared.change.Change.{Change}
 use Rattle.st_memory.specs.declared.change.Change.TheVariants.{Field, Fields}
-use Rattle.st_memory.specs.Drafts.{made_object, made_table, with_made, draft_table, written, all_written, pointer_fields, after_change, no_change, replayed, named_object, highest}
+use Rattle.st_memory.specs.Drafts.{made_table, with_made, draft_table, written, all_written, pointer_fields, after_change, no_change, replayed, named_object, highest}
+use Rattle.st_memory.specs.Making.{made_object}
 
 -- tables end to end
 
@@ -264,12 +265,11 @@ found_made t ms n v k d few places e l =
     ap (named_object (with_made t ms n)) e ∙ ap (entry (with_made t ms n)) q ∙ made_entry t ms n few k d l
 
 -- what one more object takes
-pub total_more : (ms : List Made) (n : ℕ) (m : Made) → n < length ms → total_used words_of (made_table (take (n + 1) (set ms n m))) ≡ total_used words_of (made_table (take n ms)) + (m.size + 2)
+pub total_more : (ms : List Made) (n : ℕ) (m : Made) → n < length ms → total_used words_of (made_table (take (n + 1) (set ms n m))) ≡ total_used words_of (made_table (take n ms)) + words_of (made_object m)
 total_more ms n m l =
     let e : n + 1 ≡ suc n = omega arith in
     let joins = total-append words_of (made_table (take n ms)) (Some (made_object m) ∷ []) in
-    let long = length-replicate m.size nil in
-    let one : total_used words_of (Some (made_object m) ∷ []) ≡ m.size + 2 = omega (arith, long) in
+    let one : total_used words_of (Some (made_object m) ∷ []) ≡ words_of (made_object m) = omega arith in
     ap (λ k. total_used words_of (made_table (take k (set ms n m)))) e
     ∙ ap (λ xs. total_used words_of (made_table xs)) (take_more ms n m l)
     ∙ ap (total_used words_of) (map_more (take n ms) m)

@@ -42,7 +42,7 @@ most_units {v} x whole live =
     let formed = formed_object v x whole live in
     most_words (is_words o.kind) (length o.fields) (length o.units) (λ words. ap length (formed.fieldless (words_hold o.kind words))) formed.size
 
-live_small : (t : Table) (v : Value) → is_live t v ≡ true → is_small v ≡ false
+pub live_small : (t : Table) (v : Value) → is_live t v ≡ true → is_small v ≡ false
 unfolding is_live
 live_small t (Small n) live = cc
 live_small t (Ref n) live = refl

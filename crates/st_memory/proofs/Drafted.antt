@@ -1,8 +1,7 @@
 -- What the calls of a draft that only read come to.
-use Rattle.std.proofs.Common.{◌≡◌, ℕ, ◌*◌, ◌/◌, ◌<◌, ◌≤◌, zero, suc, Bool, true, false, List, [], ◌∷◌, length, replicate, Result, Ok, Err, refl, sym, ap, ◌∙◌, subst, arith, is_some}
+use Rattle.std.proofs.Common.{◌≡◌, ℕ, ◌*◌, ◌/◌, ◌<◌, ◌≤◌, zero, suc, Bool, true, false, List, [], ◌∷◌, length, Result, Ok, Err, refl, sym, ap, ◌∙◌, subst, arith, is_some}
 use Rattle.std.specs.Prelude.{ℤ, slice_get, unwrap_or, Option, Some, None, IfSome, IfNone}
 use Rattle.std.specs.Result.{is_ok}
-use Rattle.std.proofs.lemmas.List.{length-replicate}
 use Rattle.st_model.specs.declared.dead.Dead.{Dead}
 use Rattle.st_model.specs.declared.dead.Dead.TheVariants as dead
 use Rattle.st_model.specs.declared.kind.Kind.{Kind}
@@ -10,18 +9,20 @@ use Rattle.st_model.specs.declared.word.Word.{Word}
 use Rattle.st_model.specs.Values.{Value, Small, Ref, word, value_of}
 use Rattle.st_model.specs.Objects.{Object, is_pointers, is_method, nil}
 use Rattle.st_model.specs.Machine.{Step, Died, Went, is_there}
-use Rattle.st_model.specs.Steps.{fetch_field, count_fields, class_of, literal, byte_at}
+use Rattle.st_model.specs.Steps.{fetch_field, count_fields, class_of, literal, fetch_method_field, byte_at}
 use Rattle.st_model.specs.Methods.{method_header, literal_from_last}
 use Rattle.st_model.specs.Table.{Table, table, bounded_table, apart, entry}
 use Rattle.st_model.specs.View.{nothing, is_live, object_of, Lacks, SmallInteger, Gone, OtherKind}
 use Rattle.st_model.specs.Calls.{Reads, itself}
 use Rattle.st_model.proofs.Pointers.{value_of-pointer}
-use Rattle.st_model.proofs.Tabular.{fetch_field-as, count_fields-as, class_of-as, literal-as, byte_at-as, method_header-as, literal_from_last-as}
-use Rattle.st_memory.specs.declared.change.Made.{Made}
+use Rattle.st_model.proofs.Tabular.{fetch_field-as, count_fields-as, class_of-as, literal-as, fetch_method_field-as, byte_at-as, method_header-as, literal_from_last-as}
+use Rattle.st_memory.specs.declared.made.Made.{Made}
 use Rattle.st_memory.specs.declared.change.Change.{Change}
 use Rattle.st_memory.specs.Tabular.{apart_tabular, bounded_tabular}
-use Rattle.st_memory.specs.Drafts.{made_object, with_made, field_value, draft_table, HasField, IsLike, AreLike, named_object}
-use Rattle.st_memory.proofs.Looking.{Got, result_got, Looks, reads_got, got_reads, reads_moved, or_got, checked, looked, look_at, fetch_looks, count_looks, header_looks, literal_looks, last_looks, byte_looks, class_in, class_look, class_looks, look_same, look_alike, method_same, count_same, class_look_alike, class_look_same, counted, uncounted, fetch_died, fetch_is}
+use Rattle.st_memory.specs.Drafts.{with_made, field_value, draft_table, HasField, IsLike, AreLike, named_object}
+use Rattle.st_memory.specs.Making.{made_object, alone}
+use Rattle.st_memory.proofs.Fresh.{class_fresh, kind_fresh, fields_fresh}
+use Rattle.st_memory.proofs.Looking.{Got, result_got, Looks, reads_got, got_reads, reads_moved, or_got, checked, looked, look_at, fetch_looks, count_looks, header_looks, literal_looks, method_field_looks, last_looks, byte_looks, class_in, class_look, class_looks, look_same, look_alike, method_same, count_same, class_look_alike, class_look_same, counted, uncounted, fetch_died, fetch_is}
 use Rattle.st_memory.proofs.Writing.{field_like}
 use Rattle.st_memory.proofs.Replaying.{replayed_like}
 
@@ -77,11 +78,6 @@ past_end [] i l = refl
 past_end (x ∷ xs) zero l = absurd (omega (arith, l))
 past_end (x ∷ xs) (suc i) l = past_end xs i (omega (arith, l))
 
-got_replicate : {A : Type 0} (n i : ℕ) (x : A) → i < n → slice_get (replicate n x) i ≡ Some x
-got_replicate zero i x l = absurd (omega (arith, l))
-got_replicate (suc n) zero x l = refl
-got_replicate (suc n) (suc i) x l = got_replicate n i x (omega (arith, l))
-
 got_field : (xs : List Value) (i : ℕ) → i < length xs → (y : Value) × (slice_get xs i ≡ Some y)
 got_field [] i l = absurd (omega (arith, l))
 got_field (x ∷ xs) zero l = (x, refl)
@@ -122,15 +118,21 @@ module _ (t : Table) (ms : List Made) (n : ℕ) (cs : List Change) (k : ℕ) (v 
   pub count_base : (r : Result ℕ Dead) → named_object start v ≡ named_object t v → Reads (count_fields bounded_table v) itself t r → Reads (count_fields apart v) itself now r
   count_base r e h = moved (count_fields bounded_table v) (count_fields apart v) (count_fields table v) itself _ (count_looks v) (count_fields-as apart_tabular v) t now r (count_fields-as bounded_tabular v) (look_base is_pointers _ dead.Field count_same e) h
 
-  pub count_made : (m : Made) → named_object start v ≡ Some (made_object m) → Reads (count_fields apart v) itself now (Ok m.size)
-  count_made m e = given (count_fields bounded_table v) (count_fields apart v) (count_fields table v) itself _ (count_looks v) (count_fields-as apart_tabular v) t now (Ok m.size) (look_made is_pointers (λ (o : Object). Some (length o.fields)) dead.Field count_same m e ∙ ap (λ c. Went c tt) (length-replicate m.size nil))
+  module _ {A B : Type 0} (Q R S : Step Table A) (f : B → A) (test : Kind → Bool) (g : Object → Option A) (cause : Dead) (same : (x y : Object) → IsLike x y → test y.kind ≡ true → g x ≡ g y)
+      (looks : Looks R (look_at test g cause v)) (first : Looks S (look_at test g cause (Ref 0))) (q : Q ≡ R) (r : Result B Dead) where
+    -- what is read of a made object is what is read of it alone
+    pub made_reads : (m : Made) → named_object start v ≡ Some (made_object m) → Reads S f (alone (made_object m)) r → Reads Q f now r
+    made_reads m e h = given Q Q R f _ looks q t now r (look_made test g cause same m e ∙ reads_got S (look_at test g cause (Ref 0)) f first (alone (made_object m)) r h)
+
+  pub count_made : (m : Made) (r : Result ℕ Dead) → named_object start v ≡ Some (made_object m) → Reads (count_fields table (Ref 0)) itself (alone (made_object m)) r → Reads (count_fields apart v) itself now r
+  count_made m r e h = made_reads (count_fields apart v) (count_fields table v) (count_fields table (Ref 0)) itself is_pointers (λ (o : Object). Some (length o.fields)) dead.Field count_same (count_looks v) (count_looks (Ref 0)) (count_fields-as apart_tabular v) r m e h
 
   pub class_base : (r : Result Word Dead) → named_object start v ≡ named_object t v → Reads (class_of bounded_table v) word t r → Reads (class_of apart v) word now r
   class_base r e h = moved (class_of bounded_table v) (class_of apart v) (class_of table v) word _ (class_looks v) (class_of-as apart_tabular v) t now r (class_of-as bounded_tabular v) (class_look_alike now start v like ∙ class_look_same start t v e) h
 
   class_named : (m : Made) (w : Value) → named_object start w ≡ Some (made_object m) → class_look w start ≡ Went (Ref (m.class.0 / 2)) tt
   class_named m (Small j) e = cc
-  class_named m (Ref j) e = ap class_in e
+  class_named m (Ref j) e = ap class_in e ∙ ap (λ c. Went (Ref c) tt) (class_fresh (m.class.0 / 2) m.kind m.size m.literals)
 
   pub class_made : (m : Made) → named_object start v ≡ Some (made_object m) → Reads (class_of apart v) word now (Ok (record { 0 = m.class.0 / 2 * 2 }))
   class_made m e =
@@ -142,33 +144,39 @@ module _ (t : Table) (ms : List Made) (n : ℕ) (cs : List Change) (k : ℕ) (v 
     pub method_base : named_object start v ≡ named_object t v → Reads P f t r → Reads Q f now r
     method_base e h = moved P Q R f _ looks q t now r p (look_base is_method g cause (method_same g) e) h
 
-    -- no made object is a method
-    pub method_made : (m : Made) → named_object start v ≡ Some (made_object m) → r ≡ Err dead.Kind → Reads Q f now r
-    method_made m e k = given P Q R f _ looks q t now r (look_made is_method g cause (method_same g) m e ∙ ap (result_got f) (sym k))
+  module _ {A B : Type 0} (Q R S : Step Table A) (f : B → A) (g : Object → Option A) (cause : Dead) (looks : Looks R (look_at is_method g cause v)) (first : Looks S (look_at is_method g cause (Ref 0))) (q : Q ≡ R) (r : Result B Dead) where
+    pub method_made : (m : Made) → named_object start v ≡ Some (made_object m) → Reads S f (alone (made_object m)) r → Reads Q f now r
+    method_made m e h = made_reads Q R S f is_method g cause (method_same g) looks first q r m e h
 
   pub header_base : (r : Result Word Dead) → named_object start v ≡ named_object t v → Reads (method_header bounded_table v) word t r → Reads (method_header apart v) word now r
   header_base r e h = method_base (method_header bounded_table v) (method_header apart v) (method_header table v) word _ dead.Field (header_looks v) (method_header-as bounded_tabular v) (method_header-as apart_tabular v) r e h
 
-  pub header_made : (m : Made) → named_object start v ≡ Some (made_object m) → Reads (method_header apart v) word now (Err dead.Kind)
-  header_made m e = method_made (method_header bounded_table v) (method_header apart v) (method_header table v) word _ dead.Field (header_looks v) (method_header-as bounded_tabular v) (method_header-as apart_tabular v) (Err dead.Kind) m e refl
+  pub header_made : (m : Made) (r : Result Word Dead) → named_object start v ≡ Some (made_object m) → Reads (method_header table (Ref 0)) word (alone (made_object m)) r → Reads (method_header apart v) word now r
+  header_made m r e h = method_made (method_header apart v) (method_header table v) (method_header table (Ref 0)) word _ dead.Field (header_looks v) (header_looks (Ref 0)) (method_header-as apart_tabular v) r m e h
 
   pub literal_base : (i : ℕ) (r : Result Word Dead) → named_object start v ≡ named_object t v → Reads (literal bounded_table v i) word t r → Reads (literal apart v i) word now r
   literal_base i r e h = method_base (literal bounded_table v i) (literal apart v i) (literal table v i) word _ dead.Field (literal_looks v i) (literal-as bounded_tabular v i) (literal-as apart_tabular v i) r e h
 
-  pub literal_made : (i : ℕ) (m : Made) → named_object start v ≡ Some (made_object m) → Reads (literal apart v i) word now (Err dead.Kind)
-  literal_made i m e = method_made (literal bounded_table v i) (literal apart v i) (literal table v i) word _ dead.Field (literal_looks v i) (literal-as bounded_tabular v i) (literal-as apart_tabular v i) (Err dead.Kind) m e refl
+  pub literal_made : (i : ℕ) (m : Made) (r : Result Word Dead) → named_object start v ≡ Some (made_object m) → Reads (literal table (Ref 0) i) word (alone (made_object m)) r → Reads (literal apart v i) word now r
+  literal_made i m r e h = method_made (literal apart v i) (literal table v i) (literal table (Ref 0) i) word _ dead.Field (literal_looks v i) (literal_looks (Ref 0) i) (literal-as apart_tabular v i) r m e h
+
+  pub method_field_base : (i : ℕ) (r : Result Word Dead) → named_object start v ≡ named_object t v → Reads (fetch_method_field bounded_table v i) word t r → Reads (fetch_method_field apart v i) word now r
+  method_field_base i r e h = method_base (fetch_method_field bounded_table v i) (fetch_method_field apart v i) (fetch_method_field table v i) word _ dead.Field (method_field_looks v i) (fetch_method_field-as bounded_tabular v i) (fetch_method_field-as apart_tabular v i) r e h
+
+  pub method_field_made : (i : ℕ) (m : Made) (r : Result Word Dead) → named_object start v ≡ Some (made_object m) → Reads (fetch_method_field table (Ref 0) i) word (alone (made_object m)) r → Reads (fetch_method_field apart v i) word now r
+  method_field_made i m r e h = method_made (fetch_method_field apart v i) (fetch_method_field table v i) (fetch_method_field table (Ref 0) i) word _ dead.Field (method_field_looks v i) (method_field_looks (Ref 0) i) (fetch_method_field-as apart_tabular v i) r m e h
 
   pub last_base : (j : ℕ) (r : Result Word Dead) → named_object start v ≡ named_object t v → Reads (literal_from_last bounded_table v j) word t r → Reads (literal_from_last apart v j) word now r
   last_base j r e h = method_base (literal_from_last bounded_table v j) (literal_from_last apart v j) (literal_from_last table v j) word _ dead.Field (last_looks v j) (literal_from_last-as bounded_tabular v j) (literal_from_last-as apart_tabular v j) r e h
 
-  pub last_made : (j : ℕ) (m : Made) → named_object start v ≡ Some (made_object m) → Reads (literal_from_last apart v j) word now (Err dead.Kind)
-  last_made j m e = method_made (literal_from_last bounded_table v j) (literal_from_last apart v j) (literal_from_last table v j) word _ dead.Field (last_looks v j) (literal_from_last-as bounded_tabular v j) (literal_from_last-as apart_tabular v j) (Err dead.Kind) m e refl
+  pub last_made : (j : ℕ) (m : Made) (r : Result Word Dead) → named_object start v ≡ Some (made_object m) → Reads (literal_from_last table (Ref 0) j) word (alone (made_object m)) r → Reads (literal_from_last apart v j) word now r
+  last_made j m r e h = method_made (literal_from_last apart v j) (literal_from_last table v j) (literal_from_last table (Ref 0) j) word _ dead.Field (last_looks v j) (last_looks (Ref 0) j) (literal_from_last-as apart_tabular v j) r m e h
 
   pub byte_base : (ip : ℤ) (r : Result ℕ Dead) → named_object start v ≡ named_object t v → Reads (byte_at bounded_table v ip) itself t r → Reads (byte_at apart v ip) itself now r
   byte_base ip r e h = method_base (byte_at bounded_table v ip) (byte_at apart v ip) (byte_at table v ip) itself _ dead.Ip (byte_looks v ip) (byte_at-as bounded_tabular v ip) (byte_at-as apart_tabular v ip) r e h
 
-  pub byte_made : (ip : ℤ) (m : Made) → named_object start v ≡ Some (made_object m) → Reads (byte_at apart v ip) itself now (Err dead.Kind)
-  byte_made ip m e = method_made (byte_at bounded_table v ip) (byte_at apart v ip) (byte_at table v ip) itself _ dead.Ip (byte_looks v ip) (byte_at-as bounded_tabular v ip) (byte_at-as apart_tabular v ip) (Err dead.Kind) m e refl
+  pub byte_made : (ip : ℤ) (m : Made) (r : Result ℕ Dead) → named_object start v ≡ Some (made_object m) → Reads (byte_at table (Ref 0) ip) itself (alone (made_object m)) r → Reads (byte_at apart v ip) itself now r
+  byte_made ip m r e h = method_made (byte_at apart v ip) (byte_at table v ip) (byte_at table (Ref 0) ip) itself _ dead.Ip (byte_looks v ip) (byte_looks (Ref 0) ip) (byte_at-as apart_tabular v ip) r m e h
 
   -- what is there
 
@@ -233,8 +241,10 @@ module _ (t : Table) (ms : List Made) (n : ℕ) (cs : List Change) (k : ℕ) (v 
   pub made_field : (m : Made) (i : ℕ) → named_object start v ≡ Some (made_object m) → HasField start v i → field_value start v i ≡ Some nil
   made_field m i e has =
       let is = object_named_is start v (made_object m) e in
-      let l : i < m.size = let a = subst (λ (o : Object). i < length o.fields) is has.place in let b = length-replicate m.size nil in omega (arith, a, b) in
-      ap (λ (o : Object). slice_get o.fields i) is ∙ got_replicate m.size i nil l
+      let pointers = subst (λ (o : Object). is_pointers o.kind ≡ true) is has.pointers in
+      let within = subst (λ (o : Object). i < length o.fields) is has.place in
+      ap (λ (o : Object). slice_get o.fields i) is
+      ∙ fields_fresh (m.class.0 / 2) m.kind m.size m.literals i (ap is_pointers (sym (kind_fresh (m.class.0 / 2) m.kind m.size m.literals)) ∙ pointers) within
 
   pub base_field : (i : ℕ) (r : Result Word Dead) → named_object start v ≡ named_object t v → HasField start v i → Reads (fetch_field bounded_table v i) word t r → (x : Word) × (r ≡ Ok x) × (field_value start v i ≡ Some (word x))
   base_field i r e has h =

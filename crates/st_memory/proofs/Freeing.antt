@@ -12,9 +12,9 @@ use Rattle.st_model.specs.Table.{Table, entry, apart, bounded_table, free_place,
 use Rattle.st_model.specs.View.{is_live}
 use Rattle.st_model.specs.Calls.{Reads, itself}
 use Rattle.st_model.proofs.Pointers.{value_of-pointer}
-use Rattle.st_memory.specs.declared.change.Made.{Made}
+use Rattle.st_memory.specs.declared.made.Made.{Made}
 use Rattle.st_memory.specs.declared.change.Change.{Change}
-use Rattle.st_memory.specs.Drafts.{with_made, draft_table, named_object}
+use Rattle.st_memory.specs.Drafts.{with_made, draft_table, named_object, no_made}
 use Rattle.st_memory.proofs.Looking.{some_state}
 use Rattle.st_memory.proofs.Replaying.{replayed_like}
 use Rattle.st_memory.proofs.Behind.{base_entry, made_entry, entry_past, draft_length}
@@ -61,13 +61,13 @@ free_same (None ∷ t) (None ∷ u) j zero l same = refl
 free_same (None ∷ t) (None ∷ u) j (suc i) l same = free_same t u (suc j) i (omega (arith, l)) (λ k m. same (suc k) (omega (arith, m)))
 free_same (Some a ∷ t) (Some b ∷ u) j i l same = free_same t u (suc j) i (omega (arith, l)) (λ k m. same (suc k) (omega (arith, m)))
 
-free_rest : (t u : Table) (j i : ℕ) → length t ≡ length u → ((k : ℕ) → k < length t → is_some (entry t k) ≡ is_some (entry u k)) → free_place (without_first t) j i ≡ free_place (without_first u) j i
+pub free_rest : (t u : Table) (j i : ℕ) → length t ≡ length u → ((k : ℕ) → k < length t → is_some (entry t k) ≡ is_some (entry u k)) → free_place (without_first t) j i ≡ free_place (without_first u) j i
 free_rest [] [] j i l same = refl
 free_rest [] (f ∷ u) j i l same = absurd (omega (arith, l))
 free_rest (e ∷ t) [] j i l same = absurd (omega (arith, l))
 free_rest (e ∷ t) (f ∷ u) j i l same = free_same t u j i (omega (arith, l)) (λ k m. same (suc k) (omega (arith, m)))
 
-entry_taken : (t : Table) (n k : ℕ) → k < n → entry (take n t) k ≡ entry t k
+pub entry_taken : (t : Table) (n k : ℕ) → k < n → entry (take n t) k ≡ entry t k
 entry_taken [] zero k l = refl
 entry_taken [] (suc n) k l = refl
 entry_taken (e ∷ t) zero k l = absurd (omega (arith, l))
@@ -95,7 +95,7 @@ module _ (t : Table) (ms : List Made) (n : ℕ) (cs : List Change) (k : ℕ) (pl
 
   half_of_made : (i : ℕ) → i < n → pointer_if apart now (32768 + i) (entry now (32768 + i)) ≡ free_place (without_first t) 1 i
   half_of_made i l =
-      let there = live_now (32768 + i) ∙ ap (λ p. is_some (entry (with_made t ms n) (p + i))) (sym places) ∙ ap is_some (made_entry t ms n few i (record { class = record { 0 = 0 }; size = 0 }) l) in
+      let there = live_now (32768 + i) ∙ ap (λ p. is_some (entry (with_made t ms n) (p + i))) (sym places) ∙ ap is_some (made_entry t ms n few i (no_made) l) in
       let high : nat_lt (32768 + i) 32768 ≡ false = grind (arith, nat_tests) in
       let off : 32768 + i - 32768 ≡ i = omega arith in
       half_if (entry now (32768 + i)) (32768 + i) _ there

@@ -1,5 +1,5 @@
 -- What stands in fields is there, and stays there whatever is changed or made.
-use Rattle.std.proofs.Common.{◌≡◌, ℕ, ◌+◌, ◌<◌, ◌≤◌, ◌⊎◌, inl, inr, zero, suc, true, false, Bool, List, [], ◌∷◌, length, take, drop, replicate, refl, sym, ap, ◌∙◌, subst, arith, is_some}
+use Rattle.std.proofs.Common.{◌≡◌, ℕ, ◌+◌, ◌/◌, ◌<◌, ◌≤◌, ◌⊎◌, inl, inr, zero, suc, true, false, Bool, List, [], ◌∷◌, length, take, drop, refl, sym, ap, ◌∙◌, subst, arith, is_some}
 use Rattle.std.specs.Prelude.{slice_get, unwrap_or, Option, Some, None, if◌then◌else◌}
 use Rattle.std.proofs.lemmas.Bool.{cases_eq, cases_lt}
 use Rattle.std.proofs.lemmas.List.{append-nil}
@@ -12,10 +12,12 @@ use Rattle.st_model.specs.Table.{Table, table, apart, entry, joined}
 use Rattle.st_model.specs.View.{View, IsWhole, nothing, is_live, object_of, with_stored}
 use Rattle.st_model.proofs.Runs.{known_there}
 use Rattle.st_model.proofs.WholeLemmas.{field_known, formed_live}
-use Rattle.st_memory.specs.declared.change.Made.{Made}
+use Rattle.st_memory.specs.declared.made.Made.{Made}
 use Rattle.st_memory.specs.declared.change.Change.{Change}
 use Rattle.st_memory.specs.declared.change.Change.TheVariants.{Field, Fields}
-use Rattle.st_memory.specs.Drafts.{AllThere, AreLike, HasField, made_object, with_made, field_value, written, all_written, pointer_fields, after_change, replayed, draft_table}
+use Rattle.st_memory.specs.Drafts.{AllThere, AreLike, HasField, with_made, field_value, written, all_written, pointer_fields, after_change, replayed, draft_table}
+use Rattle.st_memory.specs.Making.{made_object}
+use Rattle.st_memory.proofs.Fresh.{there_fresh}
 use Rattle.st_memory.proofs.Writing.{written_like, written_here, written_else}
 use Rattle.st_memory.proofs.Replaying.{got_take, got_drop, replayed_like}
 use Rattle.st_memory.proofs.Behind.{entry_past, entry_joined, base_entry}
@@ -158,19 +160,14 @@ module _ (t : Table) (o : Object) where
       none : {b : Option Value} → b ≡ None → b ≡ Some y → ⊥
       none p q = cc
 
-got_nils : (n j : ℕ) (y : Value) → slice_get (replicate n nil) j ≡ Some y → nil ≡ y
-got_nils zero j y e = cc
-got_nils (suc n) zero y e = cc
-got_nils (suc n) (suc j) y e = got_nils n j y e
-
-pub closed_joined : (t : Table) (m : Made) → AllThere t → is_there table t nil ≡ true → AllThere (joined t (made_object m))
+pub closed_joined : (t : Table) (m : Made) → m.literals ≤ 63 → AllThere t → is_there table t nil ≡ true → AllThere (joined t (made_object m))
 unfolding object_of
-closed_joined t m closed known v j y e = there_joined t (made_object m) y (there v e)
+closed_joined t m few closed known v j y e = there_joined t (made_object m) y (there v e)
   where
     there : (v : Value) → field_value (joined t (made_object m)) v j ≡ Some y → is_there table t y ≡ true
     there (Small n) e = cc
     there (Ref n) e = elim (fields_joined t (made_object m) n j y e) [
-      | inl p ↦ subst (λ z. is_there table t z ≡ true) (got_nils m.size j y p.1) known
+      | inl p ↦ there_fresh t known (m.class.0 / 2) m.kind m.size m.literals j y few p.1
       | inr f ↦ closed (Ref n) j y f
     ]
 

@@ -1,15 +1,18 @@
+mod Bearing
 pub mod Behind
 pub mod Bodies
 mod Copying
 pub mod Drafted
 pub mod Exchanged
 pub mod Freeing
+pub mod Fresh
 pub mod Keeping
 pub mod Looking
 pub mod Moved
 mod Moving
 pub mod Renaming
 pub mod Replaying
+pub mod Sizes
 pub mod Storing
 mod Swapping
 pub mod Units

@@ -1,15 +1,15 @@
 -- Steps that only look at one object.
-use Rattle.std.proofs.Common.{◌≡◌, ℕ, ◌+◌, ◌<◌, Bool, true, false, length, Result, Ok, Err, refl, sym, ap, ◌∙◌, arith, is_some}
-use Rattle.std.specs.Prelude.{ℤ, pos, slice_get, unwrap_or, Option, Some, None}
+use Rattle.std.proofs.Common.{◌≡◌, ℕ, ◌+◌, ◌-◌, ◌<◌, Bool, true, false, length, Result, Ok, Err, refl, sym, ap, ◌∙◌, arith, is_some}
+use Rattle.std.specs.Prelude.{ℤ, pos, slice_get, unwrap_or, nat_le, Option, Some, None, if◌then◌else◌}
 use Rattle.st_model.specs.declared.dead.Dead.{Dead}
 use Rattle.st_model.specs.declared.dead.Dead.TheVariants as dead
 use Rattle.st_model.specs.declared.kind.Kind.{Kind}
 use Rattle.st_model.specs.declared.kind.Kind.TheVariants as kind
 use Rattle.st_model.specs.Values.{Value, Small, Ref}
 use Rattle.st_model.specs.declared.page.PageObject.TheVariants.{SmallIntegerClass}
-use Rattle.st_model.specs.Objects.{Object, is_pointers, is_method, place_of, nil}
+use Rattle.st_model.specs.Objects.{Object, is_pointers, is_words, is_method, has_bytes, first_unit, place_of, nil}
 use Rattle.st_model.specs.Machine.{State, Transition, Died, Went, Step, after, answer, die, empty_world, ◌>>=◌, ◌>>◌}
-use Rattle.st_model.specs.Steps.{object, object_named, found, check, or_die, of_page, fetch_field, count_fields, class_of, literal, byte_at, code_byte}
+use Rattle.st_model.specs.Steps.{object, object_named, found, check, or_die, of_page, fetch_field, count_fields, class_of, literal, fetch_method_field, byte_at, code_byte, fetch_word, fetch_byte}
 use Rattle.st_model.specs.Methods.{method_header, literal_from_last, from_last}
 use Rattle.st_model.specs.Table.{Table, table, entry}
 use Rattle.st_model.specs.View.{nothing, is_live, object_of}
@@ -113,6 +113,10 @@ pub literal_looks : (v : Value) (i : ℕ) → Looks (literal table v i) (look_at
 unfolding literal
 literal_looks v i = step_looks is_method (λ o. slice_get o.fields (i + 1)) dead.Field v
 
+pub method_field_looks : (v : Value) (i : ℕ) → Looks (fetch_method_field table v i) (look_at is_method (λ o. slice_get o.fields i) dead.Field v)
+unfolding fetch_method_field
+method_field_looks v i = step_looks is_method (λ o. slice_get o.fields i) dead.Field v
+
 pub last_looks : (v : Value) (k : ℕ) → Looks (literal_from_last table v k) (look_at is_method (λ o. from_last o k) dead.Field v)
 unfolding literal_from_last
 last_looks v k = step_looks is_method (λ o. from_last o k) dead.Field v
@@ -120,6 +124,30 @@ last_looks v k = step_looks is_method (λ o. from_last o k) dead.Field v
 pub byte_looks : (v : Value) (ip : ℤ) → Looks (byte_at table v ip) (look_at is_method (λ o. code_byte o ip) dead.Ip v)
 unfolding byte_at
 byte_looks v ip = step_looks is_method (λ o. code_byte o ip) dead.Ip v
+
+-- byte i of an object, where that is none of its header or literals
+abbrev pub byte_in : ℕ → Object → Option ℕ
+byte_in i o = if nat_le (first_unit o) i then slice_get o.units (i - first_unit o) else None
+
+pub word_looks : (v : Value) (i : ℕ) → Looks (fetch_word table v i) (look_at is_words (λ o. slice_get o.units i) dead.Field v)
+unfolding fetch_word
+word_looks v i = step_looks is_words (λ o. slice_get o.units i) dead.Field v
+
+twice_checked : (b c : Bool) (x : Option ℕ) (s : State Table) → (check dead.Kind b >> (check dead.Field c >> or_die dead.Field x)).run s ≡ here s (checked b (or_got dead.Field (if c then x else None)))
+unfolding ◌>>◌ ◌>>=◌ after check die answer
+twice_checked true true x s = or_die_looks dead.Field x s
+twice_checked true false x s = refl
+twice_checked false c x s = refl
+
+found_byte : (e : Option Object) (i : ℕ) (s : State Table) → (found e >>= (λ o. check dead.Kind (has_bytes o.kind) >> (check dead.Field (nat_le (first_unit o) i) >> or_die dead.Field (slice_get o.units (i - first_unit o))))).run s ≡ here s (looked has_bytes (byte_in i) dead.Field e)
+unfolding found ◌>>=◌ after die answer
+found_byte None i s = refl
+found_byte (Some o) i s = twice_checked (has_bytes o.kind) (nat_le (first_unit o) i) (slice_get o.units (i - first_unit o)) s
+
+pub fetch_byte_looks : (v : Value) (i : ℕ) → Looks (fetch_byte table v i) (look_at has_bytes (byte_in i) dead.Field v)
+unfolding fetch_byte object object_named die ◌>>=◌ after
+fetch_byte_looks (Small n) i s = refl
+fetch_byte_looks (Ref n) i s = found_byte (entry s.memory n) i s
 
 abbrev pub class_in : Option Object → Got Value
 class_in None = Died dead.Kind

@@ -8,22 +8,23 @@ use Rattle.st_model.specs.declared.word.Word.{Word}
 use Rattle.st_model.specs.Values.{Value, Small, Ref, word, is_small}
 use Rattle.st_model.specs.Objects.{Object, is_pointers, is_method}
 use Rattle.st_model.specs.Machine.{Step, is_there}
-use Rattle.st_model.specs.Steps.{fetch_field, count_fields, class_of, literal, byte_at, code_byte}
+use Rattle.st_model.specs.Steps.{fetch_field, count_fields, class_of, literal, fetch_method_field, byte_at, code_byte}
 use Rattle.st_model.specs.Methods.{method_header, literal_from_last, from_last}
 use Rattle.st_model.specs.Table.{Table, table, apart, joined}
 use Rattle.st_model.specs.View.{is_live, object_of, Has, Lacks, TooFew}
 use Rattle.st_model.specs.Calls.{Reads, itself}
-use Rattle.st_model.proofs.Tabular.{fetch_field-as, count_fields-as, class_of-as, literal-as, byte_at-as, method_header-as, literal_from_last-as}
-use Rattle.st_memory.specs.declared.change.Made.{Made}
+use Rattle.st_model.proofs.Tabular.{fetch_field-as, count_fields-as, class_of-as, literal-as, fetch_method_field-as, byte_at-as, method_header-as, literal_from_last-as}
+use Rattle.st_memory.specs.declared.made.Made.{Made}
 use Rattle.st_memory.specs.declared.change.Change.{Change}
 use Rattle.st_memory.specs.declared.change.Change.TheVariants.{Field, Fields}
 use Rattle.st_memory.specs.declared.change.Exchange.{Exchange}
 use Rattle.st_memory.specs.declared.notes.Notes.{Notes}
 use Rattle.st_memory.specs.declared.exchanges.Exchanges.{Exchanges}
 use Rattle.st_memory.specs.Tabular.{apart_tabular}
-use Rattle.st_memory.specs.Drafts.{named_object, made_object, with_made, after_change, no_change, highest, draft_table, exchanged_by, value_first, AreOf, Names}
+use Rattle.st_memory.specs.Drafts.{named_object, with_made, after_change, no_change, highest, draft_table, exchanged_by, value_first, AreOf, Names}
+use Rattle.st_memory.specs.Making.{made_object}
 use Rattle.st_memory.specs.Noted.{noted}
-use Rattle.st_memory.proofs.Looking.{Got, Looks, looked, look_at, class_in, class_look, fetch_looks, count_looks, header_looks, literal_looks, last_looks, byte_looks, class_looks, counted}
+use Rattle.st_memory.proofs.Looking.{Got, Looks, looked, look_at, class_in, class_look, fetch_looks, count_looks, header_looks, literal_looks, method_field_looks, last_looks, byte_looks, class_looks, counted}
 use Rattle.st_memory.proofs.Drafted.{given, taken, lacks_died}
 use Rattle.st_memory.proofs.Exchanged.{names_all, there_all, field_all, fields_all}
 use Rattle.st_memory.proofs.Keeping.{there_apart}
@@ -71,6 +72,9 @@ module _ {t u : Table} {v w : Value} (names : Names t u v w) where
 
   pub literal_names : (i : ℕ) (r : Result Word Dead) → Reads (literal apart w i) word u r → Reads (literal apart v i) word t r
   literal_names i r h = read_names (literal apart v i) (literal apart w i) (literal table v i) (literal table w i) word _ _ (literal_looks v i) (literal_looks w i) (literal-as apart_tabular v i) (literal-as apart_tabular w i) (look_names is_method (λ o. slice_get o.fields (i + 1)) dead.Field) r h
+
+  pub method_field_names : (i : ℕ) (r : Result Word Dead) → Reads (fetch_method_field apart w i) word u r → Reads (fetch_method_field apart v i) word t r
+  method_field_names i r h = read_names (fetch_method_field apart v i) (fetch_method_field apart w i) (fetch_method_field table v i) (fetch_method_field table w i) word _ _ (method_field_looks v i) (method_field_looks w i) (fetch_method_field-as apart_tabular v i) (fetch_method_field-as apart_tabular w i) (look_names is_method (λ o. slice_get o.fields i) dead.Field) r h
 
   pub last_names : (k : ℕ) (r : Result Word Dead) → Reads (literal_from_last apart w k) word u r → Reads (literal_from_last apart v k) word t r
   last_names k r h = read_names (literal_from_last apart v k) (literal_from_last apart w k) (literal_from_last table v k) (literal_from_last table w k) word _ _ (last_looks v k) (last_looks w k) (literal_from_last-as apart_tabular v k) (literal_from_last-as apart_tabular w k) (look_names is_method (λ o. from_last o k) dead.Field) r h

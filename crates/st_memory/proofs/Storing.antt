@@ -1,18 +1,18 @@
 -- What the calls of a draft that change something come to.
-use Rattle.std.proofs.Common.{◌≡◌, ℕ, ◌+◌, ◌*◌, ◌/◌, ◌<◌, ◌≤◌, inl, inr, zero, suc, true, false, ◌≢◌, List, [], ◌∷◌, length, take, drop, replicate, get_or, Ok, Err, refl, sym, ap, ◌∙◌, subst, arith, is_some}
+use Rattle.std.proofs.Common.{◌≡◌, ℕ, ◌+◌, ◌*◌, ◌/◌, ◌<◌, ◌≤◌, inl, inr, zero, suc, true, false, ◌≢◌, List, [], ◌∷◌, length, take, drop, get_or, Ok, Err, refl, sym, ap, ◌∙◌, subst, arith, is_some}
 use Rattle.std.specs.Prelude.{nat_lt, slice_get, Option, Some, None, if◌then◌else◌}
 use Rattle.std.proofs.lemmas.Bool.{cases_lt}
 use Rattle.std.proofs.lemmas.Bool.Decides.{nat_tests}
 use Rattle.std.proofs.Math.Seq.{drop-cons}
 use Rattle.st_model.specs.declared.dead.Dead.{Dead}
 use Rattle.st_model.specs.declared.dead.Dead.TheVariants as dead
-use Rattle.st_model.specs.declared.kind.Kind.TheVariants as kind
+use Rattle.st_model.specs.declared.kind.Kind.{Kind}
 use Rattle.st_model.specs.declared.word.Word.{Word}
 use Rattle.st_model.specs.Values.{Value, Small, Ref, word, is_small}
 use Rattle.st_model.specs.Objects.{Object, is_pointers, nil}
 use Rattle.st_model.specs.Machine.{Head, State, Died, Went, is_there, die}
-use Rattle.st_model.specs.Formed.{IsWord}
-use Rattle.st_model.specs.Steps.{transfer, store_field, set_field, store_at, stored_at, new_object, make, make_named, made, new_of}
+use Rattle.st_model.specs.Formed.{IsWord, fresh}
+use Rattle.st_model.specs.Steps.{transfer, store_field, set_field, store_at, stored_at, make, make_named, made, new_of}
 use Rattle.st_model.specs.Table.{Table, table, apart, entry, joined}
 use Rattle.st_model.specs.View.{IsKnown, is_live, object_of, with_stored, with_fields, field_of, fields_from, Has, Lacks, SmallInteger, Gone, OtherKind, TooFew}
 use Rattle.st_model.specs.Calls.{Changes, itself}
@@ -20,11 +20,11 @@ use Rattle.st_model.proofs.Pointers.{value_of-even}
 use Rattle.st_model.proofs.Runs.{run-then, run-next, after-went, after-died, run-small, run-gone, run-live, run-passed, run-failed, run-set_field}
 use Rattle.st_model.proofs.Copies.{AreKnown, run-transfer_none, run-transfer, run-transfer_unread, run-transfer_unwritten}
 use Rattle.st_model.proofs.Tabular.{store_field-as, transfer-as}
-use Rattle.st_memory.specs.declared.change.Made.{Made}
+use Rattle.st_memory.specs.declared.made.Made.{Made}
 use Rattle.st_memory.specs.declared.change.Change.{Change}
 use Rattle.st_memory.specs.declared.change.Change.TheVariants.{Fields}
 use Rattle.st_memory.specs.Tabular.{apart_tabular}
-use Rattle.st_memory.specs.Drafts.{AllThere, made_object, with_made, draft_table, written, all_written, after_change}
+use Rattle.st_memory.specs.Drafts.{AllThere, with_made, draft_table, written, all_written, after_change}
 use Rattle.st_memory.proofs.Writing.{written_like}
 use Rattle.st_memory.proofs.Behind.{entry_past, length_replayed, length-with_made}
 use Rattle.st_memory.proofs.Replaying.{back, back_value}
@@ -193,36 +193,36 @@ module _ (t u : Table) (source target : Word) (from to : ℕ) (a : Head) where
 
 -- the call that makes an object
 
-module _ (t u : Table) (class : Word) (n : ℕ) (a : Head) where
-  new_small : (v : Value) → is_small v ≡ true → (s : State Table) → (new_object apart v n).run s ≡ Died dead.Small
-  unfolding new_object make die
-  new_small (Small k) h s = refl
-  new_small (Ref k) h s = cc
+module _ (t u : Table) (class : Word) (k : Kind) (n l : ℕ) (a : Head) where
+  new_small : (v : Value) → is_small v ≡ true → (s : State Table) → (make apart v k n l).run s ≡ Died dead.Small
+  unfolding make die
+  new_small (Small j) h s = refl
+  new_small (Ref j) h s = cc
 
-  pub makes_small : is_small (word class) ≡ true → Changes (new_object apart (word class) n) word t a (Err dead.Small) u
+  pub makes_small : is_small (word class) ≡ true → Changes (make apart (word class) k n l) word t a (Err dead.Small) u
   makes_small h = λ s over g. new_small (word class) h s
 
-  new_absent : (v : Value) (s : State Table) → is_small v ≡ false → is_there apart s.memory v ≡ false → (new_object apart v n).run s ≡ Died dead.Kind
-  unfolding new_object make make_named made
-  new_absent (Small k) s h e = cc
-  new_absent (Ref k) s h e = ap (λ b. made apart (new_of apart s.memory k kind.Pointers n 0) s b true) e
+  new_absent : (v : Value) (s : State Table) → is_small v ≡ false → is_there apart s.memory v ≡ false → (make apart v k n l).run s ≡ Died dead.Kind
+  unfolding make make_named made
+  new_absent (Small j) s h e = cc
+  new_absent (Ref j) s h e = ap (λ b. made apart (new_of apart s.memory j k n l) s b true) e
 
-  pub makes_absent : is_small (word class) ≡ false → is_there apart t (word class) ≡ false → Changes (new_object apart (word class) n) word t a (Err dead.Kind) u
+  pub makes_absent : is_small (word class) ≡ false → is_there apart t (word class) ≡ false → Changes (make apart (word class) k n l) word t a (Err dead.Kind) u
   makes_absent h e = λ s over g. new_absent (word class) s h (ap (λ w. is_there apart w (word class)) over ∙ e)
 
-  new_there : (v : Value) (k : ℕ) (s : State Table) → v ≡ Ref k → is_there apart s.memory v ≡ true
-      → (new_object apart v n).run s ≡ Went (Ref (length s.memory)) (record s { memory = joined s.memory (record { class = k; kind = kind.Pointers; fields = replicate n nil; units = [] }) })
-  unfolding new_object make make_named made
-  new_there (Small j) k s q e = cc
-  new_there (Ref j) k s q e =
-      let same : j ≡ k = cc in
-      ap (λ b. made apart (new_of apart s.memory j kind.Pointers n 0) s b true) e
-      ∙ ap (λ c. Went (Ref (length s.memory)) (record s { memory = joined s.memory (record { class = c; kind = kind.Pointers; fields = replicate n nil; units = [] }) })) same
+  new_there : (v : Value) (c : ℕ) (s : State Table) → v ≡ Ref c → is_there apart s.memory v ≡ true
+      → (make apart v k n l).run s ≡ Went (Ref (length s.memory)) (record s { memory = joined s.memory (fresh c k n l) })
+  unfolding make make_named made
+  new_there (Small j) c s q e = cc
+  new_there (Ref j) c s q e =
+      let same : j ≡ c = cc in
+      ap (λ b. made apart (new_of apart s.memory j k n l) s b true) e
+      ∙ ap (λ i. Went (Ref (length s.memory)) (record s { memory = joined s.memory (fresh i k n l) })) same
 
-  pub makes : (o : Word) → is_small (word class) ≡ false → is_there apart t (word class) ≡ true → word o ≡ Ref (length t) → u ≡ joined t (made_object (record { class = class; size = n }))
-      → Changes (new_object apart (word class) n) word t a (Ok o) u
+  pub makes : (o : Word) → is_small (word class) ≡ false → is_there apart t (word class) ≡ true → word o ≡ Ref (length t) → u ≡ joined t (fresh (class.0 / 2) k n l)
+      → Changes (make apart (word class) k n l) word t a (Ok o) u
   makes o h e name is = λ s over g.
       new_there (word class) (class.0 / 2) s (value_of-even class.0 h) (ap (λ w. is_there apart w (word class)) over ∙ e)
-      ∙ ap (λ w. Went (Ref (length w)) (record s { memory = joined w (made_object (record { class = class; size = n })) })) over
-      ∙ ap (λ w. Went w (record s { memory = joined t (made_object (record { class = class; size = n })) })) (sym name)
+      ∙ ap (λ w. Went (Ref (length w)) (record s { memory = joined w (fresh (class.0 / 2) k n l) })) over
+      ∙ ap (λ w. Went w (record s { memory = joined t (fresh (class.0 / 2) k n l) })) (sym name)
       ∙ ap (λ w. Went (word o) (record s { memory = w })) (sym is)

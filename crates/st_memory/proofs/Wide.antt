@@ -1,7 +1,5 @@
 -- What rows do with the objects of a memory.
-use Rattle.std.proofs.Common.{◌≡◌, ◌<◌, ◌≤◌, ◌+◌, ℕ, Bool, true, false, Option, Some, None, refl, sym, ap, ◌∙◌, subst, length, is_some, arith, inl, inr, ◌≢◌}
-use Rattle.std.proofs.lemmas.List.{length-replicate}
-use Rattle.std.proofs.lemmas.Bool.{cases_eq}
+use Rattle.std.proofs.Common.{◌≡◌, ◌<◌, ◌≤◌, ◌+◌, ℕ, Bool, true, false, Option, Some, None, refl, sym, ap, ◌∙◌, subst, length, is_some, arith}
 use Rattle.std.proofs.lemmas.Bool.Decides.{nat_tests}
 use Rattle.std.proofs.lemmas.Grind.{common_steps}
 use Rattle.std.specs.Prelude.{if◌then◌else◌, ◌/◌, ◌%◌, ◌==◌, ℤ}
@@ -9,17 +7,16 @@ use Rattle.st_model.specs.Values.{Value, Small, Ref, value_of, is_small}
 use Rattle.st_model.specs.Machine.{State, Went, Died, answer, die, ◌>>=◌, is_there, has_room}
 use Rattle.st_model.specs.declared.dead.Dead.{Dead}
 use Rattle.st_model.specs.declared.dead.Dead.TheVariants as dead
-use Rattle.st_model.specs.declared.kind.Kind.TheVariants as kind
+use Rattle.st_model.specs.declared.kind.Kind.{Kind}
 use Rattle.st_model.specs.declared.page.PageObject.{PageObject}
-use Rattle.st_model.specs.declared.page.PageObject.TheVariants as page
-use Rattle.st_model.specs.Objects.{Object, place_of, is_pointers, words_of, nil}
-use Rattle.st_model.specs.Formed.{fresh, IsMakeable}
-use Rattle.st_model.specs.Steps.{object, object_named, found, stored_at, store_at, set_field, made, make_named, make, new_object, fetch_field, count_fields, class_of, literal, byte_at, store_field, transfer, fetch_word, fetch_byte, of_page}
+use Rattle.st_model.specs.Objects.{Object, is_pointers, nil}
+use Rattle.st_model.specs.Formed.{fresh}
+use Rattle.st_model.specs.Steps.{object, object_named, found, stored_at, store_at, set_field, made, make_named, make, fetch_field, count_fields, class_of, literal, fetch_method_field, byte_at, store_field, transfer, fetch_word, fetch_byte, of_page}
 use Rattle.st_model.specs.Methods.{method_header, literal_from_last}
 use Rattle.st_model.specs.Table.{Table, table, bounded_table, entry, first_free, placed}
 use Rattle.st_model.specs.Lookup.{half_word, pointer_if}
 use Rattle.st_model.specs.View.{View, IsWhole, Lacks, SmallInteger, Gone, OtherKind, TooFew, is_live, object_of, fits, demand_of}
-use Rattle.st_model.proofs.Tabular.{fetch_field-as, count_fields-as, class_of-as, literal-as, byte_at-as, method_header-as, literal_from_last-as, store_field-as, transfer-as, fetch_word-as, fetch_byte-as, of_page-as}
+use Rattle.st_model.proofs.Tabular.{fetch_field-as, count_fields-as, class_of-as, literal-as, fetch_method_field-as, byte_at-as, method_header-as, literal_from_last-as, store_field-as, transfer-as, fetch_word-as, fetch_byte-as, of_page-as}
 use Rattle.st_model.proofs.TableLemmas.{entry_past}
 use Rattle.st_model.proofs.Words.{value_of-nil}
 use Rattle.st_memory.specs.Tabular.{bounded_tabular}
@@ -100,8 +97,11 @@ fetch_byte-bounded v i = fetch_byte-as bounded_tabular v i
 pub of_page-bounded : (q : PageObject) → of_page bounded_table q ≡ of_page table q
 of_page-bounded q = of_page-as bounded_tabular q
 
+pub fetch_method_field-bounded : (v : Value) (i : ℕ) → fetch_method_field bounded_table v i ≡ fetch_method_field table v i
+fetch_method_field-bounded v i = fetch_method_field-as bounded_tabular v i
+
 -- a bounded memory does as the table does, but where it makes objects
-pub ruleset bounded = (fetch_field-bounded, count_fields-bounded, class_of-bounded, literal-bounded, byte_at-bounded, method_header-bounded, literal_from_last-bounded, store_field-bounded, transfer-bounded, fetch_word-bounded, fetch_byte-bounded, of_page-bounded)
+pub ruleset bounded = (fetch_method_field-bounded, fetch_field-bounded, count_fields-bounded, class_of-bounded, literal-bounded, byte_at-bounded, method_header-bounded, literal_from_last-bounded, store_field-bounded, transfer-bounded, fetch_word-bounded, fetch_byte-bounded, of_page-bounded)
 
 -- why an object lacks fields
 
@@ -170,9 +170,6 @@ pub ruleset classes = (class_of_small, class_of_object)
 
 -- new objects
 
-words_of_fresh : (class n : ℕ) → words_of (fresh class kind.Pointers n 0) ≡ n + 2
-words_of_fresh class n = let e : 0 / 2 ≡ 0 = refl in rw (length-replicate n nil) (omega (arith, e))
-
 room_is : (v : View) (o : Object) → has_room bounded_table v.head v.objects o ≡ fits v (demand_of o)
 room_is v o = refl
 
@@ -203,67 +200,62 @@ run_set_gone (Ref n) i x s e k = rw k (store_gone n i x s (entry s.memory n))
 
 -- a new object's class is there, and there is room for it, or not
 
-new_gone : (n : ℕ) (class : ℕ) (s : State Table) (a : Option Object) (k : Dead) → (found a).run s ≡ Died k → (b : Bool) → made bounded_table (fresh class kind.Pointers n 0) s (is_some a) b ≡ Died k
-unfolding found made answer die
-new_gone n class s None k e b = let q : dead.Kind ≡ k = cc in ap (λ c. Died c) q
-new_gone n class s (Some o) k e b = cc
+module _ (k : Kind) (n l : ℕ) where
+  new_gone : (class : ℕ) (s : State Table) (a : Option Object) (d : Dead) → (found a).run s ≡ Died d → (b : Bool) → made bounded_table (fresh class k n l) s (is_some a) b ≡ Died d
+  unfolding found made answer die
+  new_gone class s None d e b = let q : dead.Kind ≡ d = cc in ap (λ c. Died c) q
+  new_gone class s (Some o) d e b = cc
 
-pub new_died : (v : Value) (n : ℕ) (s : State Table) (k : Dead) → (object table v).run s ≡ Died k → (new_object bounded_table v n).run s ≡ Died k
-unfolding new_object make make_named object object_named die
-new_died (Small c) n s k e = let q : dead.Small ≡ k = cc in ap (λ c. Died c) q
-new_died (Ref c) n s k e = new_gone n c s (entry s.memory c) k e (has_room bounded_table s.head s.memory (fresh c kind.Pointers n 0))
+  pub new_died : (v : Value) (s : State Table) (d : Dead) → (object table v).run s ≡ Died d → (make bounded_table v k n l).run s ≡ Died d
+  unfolding make make_named object object_named die
+  new_died (Small c) s d e = let q : dead.Small ≡ d = cc in ap (λ c. Died c) q
+  new_died (Ref c) s d e = new_gone c s (entry s.memory c) d e (has_room bounded_table s.head s.memory (fresh c k n l))
 
-new_there : (n class : ℕ) (s : State Table) (a b : Bool) → a ≡ true → b ≡ true
-    → made bounded_table (fresh class kind.Pointers n 0) s a b ≡ Went (Ref (first_free s.memory)) (record s { memory = placed s.memory (fresh class kind.Pointers n 0) })
-unfolding made
-new_there n class s a b e f = rw (e, f) refl
+  new_there : (class : ℕ) (s : State Table) (a b : Bool) → a ≡ true → b ≡ true
+      → made bounded_table (fresh class k n l) s a b ≡ Went (Ref (first_free s.memory)) (record s { memory = placed s.memory (fresh class k n l) })
+  unfolding made
+  new_there class s a b e f = rw (e, f) refl
 
-pub new_made : (c n : ℕ) (s : State Table) → is_live s.memory (Ref c) ≡ true → has_room bounded_table s.head s.memory (fresh c kind.Pointers n 0) ≡ true
-    → (new_object bounded_table (Ref c) n).run s ≡ Went (Ref (first_free s.memory)) (record s { memory = placed s.memory (fresh c kind.Pointers n 0) })
-unfolding new_object make make_named is_live
-new_made c n s e f = new_there n c s (is_some (entry s.memory c)) (has_room bounded_table s.head s.memory (fresh c kind.Pointers n 0)) e f
+  new_made : (c : ℕ) (s : State Table) → is_live s.memory (Ref c) ≡ true → has_room bounded_table s.head s.memory (fresh c k n l) ≡ true
+      → (make bounded_table (Ref c) k n l).run s ≡ Went (Ref (first_free s.memory)) (record s { memory = placed s.memory (fresh c k n l) })
+  unfolding make make_named is_live
+  new_made c s e f = new_there c s (is_some (entry s.memory c)) (has_room bounded_table s.head s.memory (fresh c k n l)) e f
 
-new_not : (n class : ℕ) (s : State Table) (a b : Bool) → a ≡ true → b ≡ false → made bounded_table (fresh class kind.Pointers n 0) s a b ≡ Went nil s
-unfolding made
-new_not n class s a b e f = rw (e, f) refl
+  new_not : (class : ℕ) (s : State Table) (a b : Bool) → a ≡ true → b ≡ false → made bounded_table (fresh class k n l) s a b ≡ Went nil s
+  unfolding made
+  new_not class s a b e f = rw (e, f) refl
 
-pub new_full : (c n : ℕ) (s : State Table) → is_live s.memory (Ref c) ≡ true → has_room bounded_table s.head s.memory (fresh c kind.Pointers n 0) ≡ false
-    → (new_object bounded_table (Ref c) n).run s ≡ Went nil s
-unfolding new_object make make_named is_live
-new_full c n s e f = new_not n c s (is_some (entry s.memory c)) (has_room bounded_table s.head s.memory (fresh c kind.Pointers n 0)) e f
+  new_full : (c : ℕ) (s : State Table) → is_live s.memory (Ref c) ≡ true → has_room bounded_table s.head s.memory (fresh c k n l) ≡ false
+      → (make bounded_table (Ref c) k n l).run s ≡ Went nil s
+  unfolding make make_named is_live
+  new_full c s e f = new_not c s (is_some (entry s.memory c)) (has_room bounded_table s.head s.memory (fresh c k n l)) e f
 
-other_class : (c : ℕ) (v : Value) → v ≡ Ref c → v ≢ Ref (place_of page.MethodClass) → (c == place_of page.MethodClass) ≡ false
-other_class c v e d = elim (cases_eq c (place_of page.MethodClass)) [
-  | inl q ↦ absurd (d (e ∙ ap Ref q))
-  | inr q ↦ grind (arith, nat_tests)
-]
+  room_here : (v : View) (s : State Table) (c : ℕ) (b : Bool) → s.memory ≡ v.objects → s.head ≡ v.head → fits v (demand_of (fresh c k n l)) ≡ b
+      → has_room bounded_table s.head s.memory (fresh c k n l) ≡ b
+  room_here v s c b is head room = rw (is, head) room
 
-pub makeable : (t : Table) (w n : ℕ) → is_live t (value_of w) ≡ true → value_of w ≢ Ref (place_of page.MethodClass) → n ≤ 65533 → IsMakeable (w / 2) kind.Pointers n 0
-makeable t w n live d l = record {
-  kind = sym (other_class (w / 2) (value_of w) (named_word t w live) d);
-  body = rw (words_of_fresh (w / 2) n) (omega (arith, l));
-  few = omega arith;
-  none = λ e. refl;
-  header = λ e. cc;
-}
+  -- the class is named by x, and by the pointer w
+  module _ (v : View) (x : Value) (w : ℕ) (s : State Table) (is : s.memory ≡ v.objects) (head : s.head ≡ v.head) (same : value_of w ≡ x) (live : is_live v.objects (value_of w) ≡ true) where
+    named_here : x ≡ Ref (w / 2)
+    named_here = sym same ∙ named_word v.objects w live
 
-room_here : (v : View) (s : State Table) (c n : ℕ) (b : Bool) → s.memory ≡ v.objects → s.head ≡ v.head → fits v (record { entries = 1; words = n + 2 }) ≡ b
-    → has_room bounded_table s.head s.memory (fresh c kind.Pointers n 0) ≡ b
-room_here v s c n b is head room = rw (is, head, words_of_fresh c n) room
+    live_here : is_live s.memory (Ref (w / 2)) ≡ true
+    live_here = subst (λ (t : Table). is_live t (Ref (w / 2)) ≡ true) (sym is) (subst (λ (y : Value). is_live v.objects y ≡ true) (named_word v.objects w live) live)
 
-module _ (v : View) (x : Value) (w n : ℕ) (s : State Table) (is : s.memory ≡ v.objects) (head : s.head ≡ v.head) (same : value_of w ≡ x) (live : is_live v.objects (value_of w) ≡ true) where
-  named_here : x ≡ Ref (w / 2)
-  named_here = sym same ∙ named_word v.objects w live
+    pub made_here : (t : Table) (y : Value) → fits v (demand_of (fresh (w / 2) k n l)) ≡ true → y ≡ Ref (first_free v.objects) → t ≡ placed v.objects (fresh (w / 2) k n l)
+        → (make bounded_table x k n l).run s ≡ Went y (record s { memory = t })
+    made_here t y room e f = rw (named_here, e, f)
+        (subst (λ (u : Table). (make bounded_table (Ref (w / 2)) k n l).run s ≡ Went (Ref (first_free u)) (record s { memory = placed u (fresh (w / 2) k n l) })) is
+        (new_made (w / 2) s live_here (room_here v s (w / 2) true is head room)))
 
-  live_here : is_live s.memory (Ref (w / 2)) ≡ true
-  live_here = subst (λ (t : Table). is_live t (Ref (w / 2)) ≡ true) (sym is) (subst (λ (y : Value). is_live v.objects y ≡ true) (named_word v.objects w live) live)
+    pub full_here : fits v (demand_of (fresh (w / 2) k n l)) ≡ false → (make bounded_table x k n l).run s ≡ Went (value_of 2) (record s { memory = v.objects })
+    full_here room = rw named_here
+        (new_full (w / 2) s live_here (room_here v s (w / 2) false is head room) ∙ (λ i. Went (sym value_of-nil i) (record s { memory = is i })))
 
-  pub made_here : (t : Table) (y : Value) → fits v (record { entries = 1; words = n + 2 }) ≡ true → y ≡ Ref (first_free v.objects) → t ≡ placed v.objects (fresh (w / 2) kind.Pointers n 0)
-      → (new_object bounded_table x n).run s ≡ Went y (record s { memory = t })
-  made_here t y room e f = rw (named_here, e, f)
-      (subst (λ (u : Table). (new_object bounded_table (Ref (w / 2)) n).run s ≡ Went (Ref (first_free u)) (record s { memory = placed u (fresh (w / 2) kind.Pointers n 0) })) is
-      (new_made (w / 2) n s live_here (room_here v s (w / 2) n true is head room)))
-
-  pub full_here : fits v (record { entries = 1; words = n + 2 }) ≡ false → (new_object bounded_table x n).run s ≡ Went (value_of 2) (record s { memory = v.objects })
-  full_here room = rw named_here
-      (new_full (w / 2) n s live_here (room_here v s (w / 2) n false is head room) ∙ (λ i. Went (sym value_of-nil i) (record s { memory = is i })))
+-- two words of one object have one half
+pub half_same : (t : Table) (w x : ℕ) → value_of w ≡ value_of x → is_live t (value_of w) ≡ true → w / 2 ≡ x / 2
+half_same t w x e live =
+    let a = named_word t w live in
+    let b = named_word t x (subst (λ (y : Value). is_live t y ≡ true) e live) in
+    let q = sym a ∙ e ∙ b in
+    cc

@@ -1,22 +1,19 @@
 -- What a draft says: the objects of a table, those that a row makes behind them, and the changes of fields, one after the
 -- other.
-use Rattle.std.specs.Prelude.{◌≡◌, ℕ, zero, suc, ◌<◌, ◌/◌, ◌==◌, true, false, List, [], ◌∷◌, ◌++◌, map, take, drop, length, replicate, max, slice_get, slice_index_or, Option, Some, None, if◌then◌else◌}
+use Rattle.std.specs.Prelude.{◌≡◌, ℕ, zero, suc, ◌<◌, ◌==◌, true, false, List, [], ◌∷◌, ◌++◌, map, take, drop, length, max, slice_get, slice_index_or, Option, Some, None, if◌then◌else◌}
 use Rattle.st_model.specs.declared.kind.Kind.TheVariants as kind
 use Rattle.st_model.specs.Values.{Value, Small, Ref, word, is_small}
-use Rattle.st_model.specs.Objects.{Object, nil, is_pointers}
+use Rattle.st_model.specs.Objects.{Object, is_pointers}
 use Rattle.st_model.specs.Machine.{is_there}
 use Rattle.st_model.specs.Table.{Table, table, entry}
 use Rattle.st_model.specs.View.{is_live, object_of, with_stored, with_exchanged}
-use Rattle.st_memory.specs.declared.change.Made.{Made}
+use Rattle.st_memory.specs.declared.made.Made.{Made}
+use Rattle.st_memory.specs.Making.{made_object}
 use Rattle.st_memory.specs.declared.change.Exchange.{Exchange}
 use Rattle.st_memory.specs.declared.change.Change.{Change}
 use Rattle.st_memory.specs.declared.change.Change.TheVariants.{Field, Fields}
 use Rattle.st_memory.specs.declared.change.Origin.{Origin}
 use Rattle.st_memory.specs.declared.change.Origin.TheVariants.{FromValue, FromPlace}
-
--- a new object of kind Pointers, with fields of nil
-abbrev pub made_object : Made → Object
-made_object m = record { class = m.class.0 / 2; kind = kind.Pointers; fields = replicate m.size nil; units = [] }
 
 abbrev pub made_table : List Made → Table
 made_table made = map (λ m. Some (made_object m)) made
@@ -92,7 +89,7 @@ IsOrigin start t u o i (FromValue x) = field_value u o i ≡ Some (word x)
 IsOrigin start t u o i (FromPlace p j) = HasField start (word p) j × (field_value u o i ≡ field_value t (word p) j)
 
 abbrev pub no_made : Made
-no_made = record { class = record { 0 = 0 }; size = 0 }
+no_made = record { class = record { 0 = 0 }; kind = kind.Pointers; size = 0; literals = 0 }
 
 -- whatever stands in a field is there
 abbrev pub AllThere : Table → Type 0

@@ -1,4 +1,5 @@
+pub mod Bearing
 pub mod Drafts
-pub mod Left
+pub mod Making
 pub mod Noted
 pub mod Tabular

@@ -1,6 +1,6 @@
 ghost use Rattle.std.specs.Prelude.{◌≡◌, ◌+◌, ◌*◌, ◌≤◌, length, slice_get, Some, true, false};
 ghost use Rattle.st_model.specs.Values.{value};
-ghost use Rattle.st_model.specs.Objects.{is_pointers};
+ghost use Rattle.st_model.specs.Objects.{is_pointers, first_unit};
 ghost use Rattle.st_model.specs.View.{is_live, object_of};
 
 use crate::memory::Memory;
@@ -45,5 +45,18 @@ pub fn unit_at<M: Memory>(m: &M, o: Oop, fields: u32, i: u32) -> u32
         u32::from(m.word(o, i))
     } else {
         u32::from(m.byte(o, 2 * fields + i))
+    }
+}
+
+/// The place of an object's first word or byte; a Method's header and literals count as bytes.
+#[tactic(auto, using(crate::proofs::Bodies::bodies))]
+pub fn first_unit<M: Memory>(m: &M, o: Oop) -> u32
+    requires live { is_live (M.view m.now).objects (value o) ≡ true }
+    requires kind { is_pointers (object_of (M.view m.now).objects (value o)).kind ≡ false }
+    ensures { result ≡ first_unit (object_of (M.view m.now).objects (value o)) }
+{
+    match m.kind(o) {
+        Kind::Pointers | Kind::Words | Kind::Bytes => 0,
+        Kind::Method => 2 * literals(m.pointer(o, 0)) + 2,
     }
 }

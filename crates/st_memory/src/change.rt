@@ -1,14 +1,5 @@
 use st_model::Word;
 
-/// An object that a row makes: of kind Pointers, with fields of nil.
-#[derive(Clone, Copy)]
-pub struct Made {
-    /// The object's class.
-    pub class: Word,
-    /// How many fields it has.
-    pub size: u32,
-}
-
 /// A change of fields that a row makes.
 #[derive(Clone, Copy)]
 pub enum Change {

@@ -1,20 +1,24 @@
-ghost use Rattle.std.specs.Prelude.{◌≡◌, ◌<◌, ◌≤◌, ◌+◌, ◌-◌, ◌*◌, Some, IfSome, IfNone, IfOk, IfErr};
+ghost use Rattle.std.specs.Option.{option_map};
+ghost use Rattle.std.specs.Prelude.{is_some, ◌≡◌, ◌<◌, ◌≤◌, ◌+◌, ◌-◌, ◌*◌, Some, IfSome, IfNone, IfOk, IfErr};
 ghost use Rattle.st_model.specs.Values.{word, Ref};
 ghost use Rattle.st_model.specs.Objects.{one, words_of};
-ghost use Rattle.st_model.specs.Table.{apart, total_used, free_place, without_first};
+ghost use Rattle.st_model.specs.Table.{apart, entry, total_used, free_place, without_first, borne_apart};
 ghost use Rattle.st_model.specs.Machine.{used};
-ghost use Rattle.st_model.specs.Steps.{count_fields};
+ghost use Rattle.st_model.specs.Steps.{count_fields, named_or_not};
 ghost use Rattle.st_model.specs.Calls.{Reads, itself};
 ghost use Rattle.st_model.specs.View.{Has, Lacks};
-ghost use Rattle.st_memory.specs.Drafts.{AllThere, made_object, field_value, after_change, replayed, highest, HasField, named_object, IsOrigin, AreOf};
+ghost use Rattle.st_memory.specs.Bearing.{IsNumberOf, instance_at};
+ghost use Rattle.st_memory.specs.Drafts.{AllThere, field_value, after_change, replayed, highest, HasField, named_object, IsOrigin, AreOf};
+ghost use Rattle.st_memory.specs.Making.{IsMade, made_object};
 ghost use Rattle.st_memory.specs.Noted.{with_noted, noted, drafted, count_of};
 
-use crate::change::{Change, Exchange, Made, Origin};
+use crate::change::{Change, Exchange, Origin};
 use crate::exchanges::Exchanges;
+use crate::made::Made;
 use crate::memory::Memory;
 use crate::notes::Notes;
 use crate::objects::Objects;
-use st_model::{Dead, Demand, Oop, Word};
+use st_model::{Dead, Demand, Kind, Oop, Word};
 
 /// A memory as it would be after a row, whose changes are noted and not made. It takes 24 changes, new objects and exchanges
 /// together. Exchanges stand behind all other changes: what changes an object that was exchanged is noted of the word
@@ -85,7 +89,7 @@ impl<'a, M: Memory> Draft<'a, M> {
     fn find_made(&self, o: Word) -> Option<Made>
         ensures found { let base = (M.view self.now.base.now).objects in
             IfSome result (λ m. named_object (with_noted base self.now.notes) (word o) ≡ Some (made_object m)) }
-        ensures small { IfSome result (λ m. m.size ≤ 65533) }
+        ensures sized { IfSome result (λ m. IsMade m) }
         ensures none { let base = (M.view self.now.base.now).objects in
             IfNone result (named_object (with_noted base self.now.notes) (word o) ≡ named_object base (word o)) }
     {
@@ -100,7 +104,7 @@ impl<'a, M: Memory> Draft<'a, M> {
         ensures small { IfOk result (λ n. n ≤ 131066) }
     {
         match self.find_made(o) {
-            Some(made) => Ok(made.size),
+            Some(made) => made.count_fields(),
             None => self.base.count_fields(o),
         }
     }
@@ -228,6 +232,87 @@ impl<'a, M: Memory> Draft<'a, M> {
         32768 + left
     }
 
+    /// Whether an object of the memory bears the pointer of which this is half.
+    fn is_taken(&self, place: u32) -> bool
+        ensures { result ≡ is_some (entry (M.view self.now.base.now).objects place) }
+    {
+        if place > 32767 {
+            return false;
+        }
+        self.base.live(Oop((2 * place) as u16))
+    }
+
+    /// The number of the place behind one whose number is given.
+    fn next_number(&self, place: u32, number: u32) -> u32
+        requires place { 0 < place }
+        requires number { let base = (M.view self.now.base.now).objects in
+            IsNumberOf base self.now.notes.made_count place number }
+        ensures { let base = (M.view self.now.base.now).objects in
+            IsNumberOf base self.now.notes.made_count (place + 1) result }
+    {
+        if number == self.notes.made_count {
+            return number;
+        }
+        if self.is_taken(place) {
+            number
+        } else {
+            number + 1
+        }
+    }
+
+    /// The number of a place.
+    fn number_of(&self, place: u32) -> u32
+        requires { 0 < place }
+        ensures { let base = (M.view self.now.base.now).objects in
+            IsNumberOf base self.now.notes.made_count place result }
+    {
+        let mut number = 0;
+        for before in 1..place {
+            if number == self.notes.made_count {
+                return number;
+            }
+            number = self.next_number(before, number);
+        }
+        number
+    }
+
+    /// The object that bears or will bear the pointer of which this is half.
+    fn bearer(&self, place: u32, number: u32) -> Option<Word>
+        requires place { 0 < place }
+        requires number { let base = (M.view self.now.base.now).objects in
+            IsNumberOf base self.now.notes.made_count place number }
+        ensures { let now = drafted (M.view self.now.base.now).objects self.now.notes self.now.exchanges in
+            option_map word result ≡ named_or_not (borne_apart now place) }
+    {
+        if self.is_taken(place) {
+            return Some(Word(2 * place));
+        }
+        if number < self.notes.made_count {
+            Some(Word(65536 + 2 * number))
+        } else {
+            None
+        }
+    }
+
+    /// That object, where it is an instance of a class.
+    fn instance_at(&self, class: Word, place: u32, number: u32) -> Option<Word>
+        requires place { 0 < place }
+        requires number { let base = (M.view self.now.base.now).objects in
+            IsNumberOf base self.now.notes.made_count place number }
+        ensures { let now = drafted (M.view self.now.base.now).objects self.now.notes self.now.exchanges in
+            option_map word result ≡ named_or_not (instance_at now (word class) place) }
+    {
+        let o = match self.bearer(place, number) {
+            Some(o) => o,
+            None => return None,
+        };
+        let own = match self.fetch_class(o) {
+            Ok(own) => own,
+            Err(_) => return None,
+        };
+        if own.same(class) { Some(o) } else { None }
+    }
+
     /// Whether an object of kind Pointers has n fields, from one on; else the cause of which a step dies.
     fn check_fields(&self, o: Word, from: u32, n: u32) -> Result<(), Dead>
         ensures has { let now = drafted (M.view self.now.base.now).objects self.now.notes self.now.exchanges in
@@ -285,6 +370,22 @@ impl<'a, M: Memory> Objects for Draft<'a, M> {
         }
     }
 
+    fn fetch_kind(&self, o: Word) -> Result<Kind, Dead> {
+        let before = self.exchanges.word_before(o);
+        match self.find_made(before) {
+            Some(made) => Ok(made.kind),
+            None => self.base.fetch_kind(before),
+        }
+    }
+
+    fn fetch_size(&self, o: Word) -> Result<u32, Dead> {
+        let before = self.exchanges.word_before(o);
+        match self.find_made(before) {
+            Some(made) => Ok(made.size),
+            None => self.base.fetch_size(before),
+        }
+    }
+
     fn half_word(&self, o: Word) -> u32 {
         match self.find_number(o) {
             Some(number) => self.free_place(number),
@@ -295,7 +396,7 @@ impl<'a, M: Memory> Objects for Draft<'a, M> {
     fn method_header(&self, method: Word) -> Result<Word, Dead> {
         let before = self.exchanges.word_before(method);
         match self.find_made(before) {
-            Some(_) => Err(Dead::Kind),
+            Some(made) => made.method_header(),
             None => self.base.method_header(before),
         }
     }
@@ -303,7 +404,7 @@ impl<'a, M: Memory> Objects for Draft<'a, M> {
     fn literal(&self, method: Word, i: u32) -> Result<Word, Dead> {
         let before = self.exchanges.word_before(method);
         match self.find_made(before) {
-            Some(_) => Err(Dead::Kind),
+            Some(made) => made.literal(i),
             None => self.base.literal(before, i),
         }
     }
@@ -311,15 +412,23 @@ impl<'a, M: Memory> Objects for Draft<'a, M> {
     fn literal_from_last(&self, method: Word, k: u32) -> Result<Word, Dead> {
         let before = self.exchanges.word_before(method);
         match self.find_made(before) {
-            Some(_) => Err(Dead::Kind),
+            Some(made) => made.literal_from_last(k),
             None => self.base.literal_from_last(before, k),
+        }
+    }
+
+    fn fetch_method_field(&self, method: Word, i: u32) -> Result<Word, Dead> {
+        let before = self.exchanges.word_before(method);
+        match self.find_made(before) {
+            Some(made) => made.fetch_method_field(i),
+            None => self.base.fetch_method_field(before, i),
         }
     }
 
     fn byte_at(&self, method: Word, ip: i32) -> Result<u8, Dead> {
         let before = self.exchanges.word_before(method);
         match self.find_made(before) {
-            Some(_) => Err(Dead::Kind),
+            Some(made) => made.byte_at(ip),
             None => self.base.byte_at(before, ip),
         }
     }
@@ -327,9 +436,39 @@ impl<'a, M: Memory> Objects for Draft<'a, M> {
     fn fetch_word(&self, o: Word, i: u32) -> Result<u16, Dead> {
         let before = self.exchanges.word_before(o);
         match self.find_made(before) {
-            Some(_) => Err(Dead::Kind),
+            Some(made) => made.fetch_word(i),
             None => self.base.fetch_word(before, i),
         }
+    }
+
+    fn fetch_byte(&self, o: Word, i: u32) -> Result<u8, Dead> {
+        let before = self.exchanges.word_before(o);
+        match self.find_made(before) {
+            Some(made) => made.fetch_byte(i),
+            None => self.base.fetch_byte(before, i),
+        }
+    }
+
+    fn object_at(&self, half: u32) -> Option<Word> {
+        if half == 0 {
+            return None;
+        }
+        self.bearer(half, self.number_of(half))
+    }
+
+    fn next_instance(&self, class: Word, after: u32) -> Option<Word> {
+        if after > 32766 {
+            return None;
+        }
+        let mut number = self.number_of(after + 1);
+        for place in after + 1..32768 {
+            let instance = self.instance_at(class, place, number);
+            if instance.is_some() {
+                return instance;
+            }
+            number = self.next_number(place, number);
+        }
+        None
     }
 
     fn free(&self) -> Demand {
@@ -400,15 +539,25 @@ impl<'a, M: Memory> Objects for Draft<'a, M> {
         Ok(())
     }
 
-    fn new_object(&mut self, class: Word, n: u32) -> Result<Word, Dead> {
+    fn make(&mut self, class: Word, kind: Kind, size: u32, literals: u32) -> Result<Word, Dead> {
         if class.is_small() {
             return Err(Dead::Small);
         }
         if !self.is_there(class) {
             return Err(Dead::Kind);
         }
-        let o = self.notes.add(Made { class, size: n });
+        let o = self.notes.add(Made {
+            class,
+            kind,
+            size,
+            literals,
+        });
         Ok(o)
+    }
+
+    #[tactic(auto, unfolding(st_model::specs::Steps::new_object))]
+    fn new_object(&mut self, class: Word, n: u32) -> Result<Word, Dead> {
+        self.make(class, Kind::Pointers, n, 0)
     }
 
     ghost tabular = { apart_tabular };

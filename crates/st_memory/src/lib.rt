@@ -7,6 +7,7 @@ mod draft;
 mod exchanges;
 mod live;
 mod loader;
+mod made;
 mod memory;
 mod notes;
 mod objects;

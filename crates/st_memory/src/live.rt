@@ -1,15 +1,28 @@
 ghost use Rattle.std.specs.Prelude.{◌≡◌, ◌+◌, ◌≤◌, ℕ, [], true, false, IfOk, IfErr, IfSome, IfNone};
 ghost use Rattle.st_model.specs.Values.{value, word};
+ghost use Rattle.st_model.specs.Objects.{has_bytes};
 ghost use Rattle.st_model.specs.Table.{table, bounded_table};
 ghost use Rattle.st_model.specs.Machine.{is_there};
 ghost use Rattle.st_model.specs.Steps.{object};
 ghost use Rattle.st_model.specs.Calls.{Reads, Changes, itself};
 ghost use Rattle.st_model.specs.View.{IsKnown, Has, Lacks, is_live, object_of};
 
+use crate::body::{count_fields, first_unit};
+use crate::made::Made;
 use crate::memory::Memory;
 use crate::objects::Objects;
 use crate::transfer::copy_fields;
 use st_model::{Dead, Demand, Kind, Oop, Word, literals};
+
+/// Whether an object of this kind has bytes.
+fn has_bytes(kind: Kind) -> bool
+    ensures { result ≡ has_bytes kind }
+{
+    match kind {
+        Kind::Pointers | Kind::Words => false,
+        Kind::Bytes | Kind::Method => true,
+    }
+}
 
 /// The object that a word names.
 #[tactic(auto, using(st_model::proofs::Runs::runs, crate::proofs::Wide::far, crate::proofs::Wide::lacks, crate::proofs::Wide::small_not_live))]
@@ -124,6 +137,18 @@ impl<M: Memory> Objects for M {
         Ok(Word::from(Memory::class_of(self, object)))
     }
 
+    #[tactic(auto, using(st_model::proofs::Runs::runs, crate::proofs::Sizes::kinds), unfolding(st_model::specs::Steps::fetch_kind))]
+    fn fetch_kind(&self, o: Word) -> Result<Kind, Dead> {
+        let object = live_object(self, o)?;
+        Ok(self.kind(object))
+    }
+
+    #[tactic(auto, using(st_model::proofs::Runs::runs, crate::proofs::Sizes::kinds), unfolding(st_model::specs::Steps::fetch_size))]
+    fn fetch_size(&self, o: Word) -> Result<u32, Dead> {
+        let object = live_object(self, o)?;
+        Ok(self.size(object))
+    }
+
     #[tactic(auto, using(crate::proofs::Wide::halves, crate::proofs::Wide::far))]
     fn half_word(&self, o: Word) -> u32 {
         if o.is_small() {
@@ -171,6 +196,19 @@ impl<M: Memory> Objects for M {
         }
     }
 
+    #[tactic(auto, using(st_model::proofs::Runs::runs, crate::proofs::Wide::bounded), unfolding(st_model::specs::Steps::fetch_method_field))]
+    fn fetch_method_field(&self, method: Word, i: u32) -> Result<Word, Dead> {
+        let object = live_object(self, method)?;
+        if !self.kind(object).is_method() {
+            return Err(Dead::Kind);
+        }
+        if i < count_fields(self, object) {
+            Ok(Word::from(self.pointer(object, i)))
+        } else {
+            Err(Dead::Field)
+        }
+    }
+
     #[tactic(auto, using(st_model::proofs::Runs::runs, crate::proofs::Wide::bounded), unfolding(st_model::specs::Steps::byte_at))]
     fn byte_at(&self, method: Word, ip: i32) -> Result<u8, Dead> {
         let object = live_object(self, method)?;
@@ -204,6 +242,48 @@ impl<M: Memory> Objects for M {
             Ok(self.word(object, i))
         } else {
             Err(Dead::Field)
+        }
+    }
+
+    #[tactic(auto, using(st_model::proofs::Runs::runs, st_model::proofs::Runs::tests, crate::proofs::Wide::bounded), unfolding(st_model::specs::Steps::fetch_byte))]
+    fn fetch_byte(&self, o: Word, i: u32) -> Result<u8, Dead> {
+        let object = live_object(self, o)?;
+        if !has_bytes(self.kind(object)) {
+            return Err(Dead::Kind);
+        }
+        if i < first_unit(self, object) {
+            return Err(Dead::Field);
+        }
+        if i < self.size(object) {
+            Ok(self.byte(object, i))
+        } else {
+            Err(Dead::Field)
+        }
+    }
+
+    #[tactic(auto, using(crate::proofs::Bearing::bearers))]
+    fn object_at(&self, half: u32) -> Option<Word> {
+        if half > 32767 {
+            return None;
+        }
+        if self.live(Oop((2 * half) as u16)) {
+            Some(Word(2 * half))
+        } else {
+            None
+        }
+    }
+
+    fn next_instance(&self, class: Word, after: u32) -> Option<Word> {
+        if after > 32767 {
+            return None;
+        }
+        let class = match live_object(self, class) {
+            Ok(class) => class,
+            Err(_) => return None,
+        };
+        match self.next_of(class, 2 * after) {
+            Some(o) => Some(Word::from(o)),
+            None => None,
         }
     }
 
@@ -265,17 +345,28 @@ impl<M: Memory> Objects for M {
         Ok(())
     }
 
-    fn new_object(&mut self, class: Word, n: u32) -> Result<Word, Dead> {
-        let class = live_object(self, class)?;
+    fn make(&mut self, class: Word, kind: Kind, size: u32, literals: u32) -> Result<Word, Dead> {
+        let object = live_object(self, class)?;
+        let made = Made {
+            class,
+            kind,
+            size,
+            literals,
+        };
         let needed = Demand {
             entries: 1,
-            words: n + 2,
+            words: made.words(),
         };
         if Memory::room(self, needed) {
-            Ok(Word::from(self.make(class, Kind::Pointers, n, 0)))
+            Ok(Word::from(Memory::make(self, object, kind, size, literals)))
         } else {
             Ok(Word::NIL)
         }
+    }
+
+    #[tactic(auto, unfolding(st_model::specs::Steps::new_object))]
+    fn new_object(&mut self, class: Word, n: u32) -> Result<Word, Dead> {
+        Objects::make(self, class, Kind::Pointers, n, 0)
     }
 
     ghost tabular = { bounded_tabular };

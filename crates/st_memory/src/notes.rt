@@ -2,9 +2,11 @@ ghost use Rattle.std.specs.Prelude.{◌≡◌, ◌<◌, ◌≤◌, ◌+◌, ◌*
 ghost use Rattle.st_model.specs.Objects.{words_of};
 ghost use Rattle.st_model.specs.Table.{total_used};
 ghost use Rattle.st_memory.specs.Drafts.{no_made, made_table, no_change, highest};
+ghost use Rattle.st_memory.specs.Making.{IsMade};
 
-use crate::change::{Change, Made};
-use st_model::Word;
+use crate::change::Change;
+use crate::made::Made;
+use st_model::{Kind, Word};
 
 /// The objects that a row makes and its changes, noted and not made. There is room for 24 of them.
 #[derive(Drop)]
@@ -23,7 +25,7 @@ pub struct Notes {
         + 2 * made_count },
     pub ghost counted: { words ≡ total_used words_of (made_table (take made_count made)) },
     pub ghost small: { words ≤ 65535 * made_count },
-    pub ghost sized: { (k : ℕ) → k < made_count → (slice_index_or made k no_made).size ≤ 65533 },
+    pub ghost sized: { (k : ℕ) → k < made_count → IsMade (slice_index_or made k no_made) },
 }
 
 impl Notes {
@@ -37,7 +39,9 @@ impl Notes {
     {
         let none = Made {
             class: Word::NIL,
+            kind: Kind::Pointers,
             size: 0,
+            literals: 0,
         };
         let still = Change::Field {
             object: Word::NIL,
@@ -56,7 +60,7 @@ impl Notes {
     /// Notes an object that is made, and answers its word.
     pub fn add(&mut self, made: Made) -> Word
         requires room { self.old.made_count + self.old.count < 24 }
-        requires small { made.size ≤ 65533 }
+        requires sized { IsMade made }
         ensures word { result.0 ≡ 65536 + 2 * self.old.made_count }
         ensures made { self.new.made ≡ slice_set self.old.made self.old.made_count made }
         ensures made_count { self.new.made_count ≡ self.old.made_count + 1 }
@@ -64,9 +68,10 @@ impl Notes {
         ensures count { self.new.count ≡ self.old.count }
     {
         let o = Word(65536 + 2 * self.made_count);
+        let words = made.words();
         self.made[self.made_count as usize] = made;
         self.made_count += 1;
-        self.words += made.size + 2;
+        self.words += words;
         o
     }
 

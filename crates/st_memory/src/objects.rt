@@ -1,17 +1,18 @@
+ghost use Rattle.std.specs.Option.{option_map};
 ghost use Rattle.std.specs.Prelude.{◌≡◌, ◌≢◌, ℕ, ◌+◌, ◌≤◌, IfOk};
 ghost use Rattle.st_model.specs.Values.{Ref, word};
 ghost use Rattle.st_model.specs.Objects.{place_of};
 ghost use Rattle.st_model.specs.declared.page.PageObject.TheVariants.{MethodClass};
-ghost use Rattle.st_model.specs.Machine.{ObjectMemory, Head, is_there, used};
+ghost use Rattle.st_model.specs.Machine.{ObjectMemory, Head, is_there};
 ghost use Rattle.st_model.specs.Table.{Table, IsTabular};
-ghost use Rattle.st_model.specs.Steps.{fetch_field, count_fields, class_of, literal, byte_at, fetch_word, store_field, transfer, exchange, new_object};
+ghost use Rattle.st_model.specs.Steps.{fetch_field, count_fields, class_of, literal, fetch_method_field, byte_at, fetch_word, fetch_byte, store_field, transfer, exchange, make, new_object, object_at, next_instance, fetch_kind, fetch_size, get_free};
 ghost use Rattle.st_model.specs.Methods.{method_header, literal_from_last};
 ghost use Rattle.st_model.specs.Lookup.{half_word};
 ghost use Rattle.st_model.specs.Calls.{Reads, Changes, itself};
 ghost use Rattle.st_model.specs.View.{View};
-ghost use Rattle.st_memory.specs.Left.{left_of};
+ghost use Rattle.st_memory.specs.Making.{CanMake};
 
-use st_model::{Dead, Demand, Word};
+use st_model::{Dead, Demand, Kind, Word};
 
 /// The objects that the row of a bytecode reads and changes: those of a memory, or those of a draft over one, which
 /// tells what a row would do. Each call does what the step of its name in the definitions does, and dies as that does.
@@ -48,6 +49,15 @@ pub trait Objects {
     fn fetch_class(&self, o: Word) -> Result<Word, Dead>
         ensures { Reads (class_of names (word o)) word (table self.now) result };
 
+    /// Of what kind an object is.
+    fn fetch_kind(&self, o: Word) -> Result<Kind, Dead>
+        ensures { Reads (fetch_kind names (word o)) itself (table self.now) result };
+
+    /// How many fields, words or bytes an object has; a method's header and literals count as bytes.
+    fn fetch_size(&self, o: Word) -> Result<u32, Dead>
+        ensures size { Reads (fetch_size names (word o)) itself (table self.now) result }
+        ensures small { IfOk result (λ n. n ≤ 131066) };
+
     /// Half of a word: the bits of a SmallInteger, or half of the pointer that an object bears or will bear; 0 where there
     /// is no object.
     fn half_word(&self, o: Word) -> u32
@@ -65,6 +75,10 @@ pub trait Objects {
     fn literal_from_last(&self, method: Word, k: u32) -> Result<Word, Dead>
         ensures { Reads (literal_from_last names (word method) k) word (table self.now) result };
 
+    /// Field i of a method: its header, or literal i - 1.
+    fn fetch_method_field(&self, method: Word, i: u32) -> Result<Word, Dead>
+        ensures { Reads (fetch_method_field names (word method) i) word (table self.now) result };
+
     /// Byte `ip` of a method, counted from 0, where that is one of its bytecodes and at most 16381.
     fn byte_at(&self, method: Word, ip: i32) -> Result<u8, Dead>
         ensures { Reads (byte_at names (word method) ip) itself (table self.now) result };
@@ -73,9 +87,21 @@ pub trait Objects {
     fn fetch_word(&self, o: Word, i: u32) -> Result<u16, Dead>
         ensures { Reads (fetch_word names (word o) i) itself (table self.now) result };
 
+    /// Byte i of an object of kind Bytes or Method. A method's header and literals count, but aren't read so.
+    fn fetch_byte(&self, o: Word, i: u32) -> Result<u8, Dead>
+        ensures { Reads (fetch_byte names (word o) i) itself (table self.now) result };
+
+    /// The object that bears the pointer of which this is half, or will bear it once it is made.
+    fn object_at(&self, half: u32) -> Option<Word>
+        ensures { Reads (object_at names half) (option_map word) (table self.now) (Ok result) };
+
+    /// Of the instances of a class that bear pointers above the one of which `after` is half, the one with the least.
+    fn next_instance(&self, class: Word, after: u32) -> Option<Word>
+        ensures { Reads (next_instance names (word class) after) (option_map word) (table self.now) (Ok result) };
+
     /// How many entries and words of the capacities the objects leave.
     fn free(&self) -> Demand
-        ensures { result ≡ left_of (head self.now) (used names (table self.now)) };
+        ensures { Changes (get_free names) itself (table self.now) (head self.now) (Ok result) (table self.now) };
 
     /// Stores x in field i of an object of kind Pointers.
     fn store_field(&mut self, o: Word, i: u32, x: Word) -> Result<(), Dead>
@@ -106,6 +132,17 @@ pub trait Objects {
     fn exchange(&mut self, a: Word, b: Word) -> Result<(), Dead>
         requires { 1 ≤ room self.old }
         ensures exchanges { Changes (exchange names (word a) (word b)) itself
+            (table self.old) (head self.old) result (table self.new) }
+        ensures head { head self.new ≡ head self.old }
+        ensures room { room self.old ≤ room self.new + 1 }
+        ensures fixed { fixed self.new ≡ fixed self.old };
+
+    /// A new object of this class, kind, size and number of literals, with nil in its fields and literals, and words and
+    /// bytes of 0.
+    fn make(&mut self, class: Word, kind: Kind, size: u32, literals: u32) -> Result<Word, Dead>
+        requires room { 1 ≤ room self.old }
+        requires makeable { CanMake (word class) kind size literals }
+        ensures makes { Changes (make names (word class) kind size literals) word
             (table self.old) (head self.old) result (table self.new) }
         ensures head { head self.new ≡ head self.old }
         ensures room { room self.old ≤ room self.new + 1 }

@@ -178,6 +178,7 @@ module _ (a : Head) where
     pointer = λ t u n o e l f. refl;
     borne_live = λ t u p n e f. tt;
     borne_by = λ t u p e. rw e (number-itself (table.borne_by t p));
+    used = λ t u e. ap (used table) e;
     rooms = λ t u b c o m e f g. refused_or_not t u b c o (sym e) f g;
     there_replace = λ t n m o p e k. k;
     there_exchange = λ t n m k o p e f h. h;

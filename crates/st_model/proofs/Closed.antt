@@ -4,7 +4,7 @@ use Rattle.std.specs.Prelude.{◌&&◌, nat_le}
 use Rattle.std.proofs.lemmas.Bool.Decides.{nat_tests}
 use Rattle.st_model.specs.Objects.{Object, PageObject, place_of, one, renamed_object, IsLiveObject}
 use Rattle.st_model.specs.Outcomes.{StepEnd}
-use Rattle.st_model.specs.Machine.{ObjectMemory, Head, State, Transition, Died, Went, Step, has_room, roots_of}
+use Rattle.st_model.specs.Machine.{ObjectMemory, Head, State, Transition, Died, Went, Step, has_room, used, roots_of}
 use Rattle.st_model.specs.Table.{Table, table, bounded_table, entry, changed, exchanged, placed, first_none, filled_first, first_free, total_used}
 use Rattle.st_model.specs.Bytecodes.{step}
 use Rattle.st_model.specs.Show.{IsUsed, IsClosed, renamed_head}
@@ -115,6 +115,7 @@ module _ (bound : Bool) (a : Head) (P : Table → Type 0) (on_changed : (t : Tab
     pointer = λ t u n o e l f. refl;
     borne_live = λ t u p n e f. tt;
     borne_by = λ t u p e. rw e.0 (number-itself (table.borne_by t p));
+    used = λ t u e. ap (used table) e.0;
     rooms = λ t u b c o m e l f. inl (same_room bound t u b c o e.0 f);
     there_replace = λ t n m o p e k. used_changed t n m p k;
     there_exchange = λ t n m i o p e f k. used_exchanged t n m o p e f i k;

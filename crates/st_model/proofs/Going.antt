@@ -12,6 +12,7 @@ use Rattle.st_model.specs.Machine.{ObjectMemory, State, Transition, Died, Went, 
 use Rattle.st_model.specs.Sends.{Call}
 use Rattle.st_model.specs.Executing.{goes_on, or_activate, respond, respond_by_extension, execute_by, execute, executed, execute_if_any, executed_if_any}
 use Rattle.st_model.specs.Bytecodes.{or_send, arithmetic_by, arithmetic_send, primitive_send, bytecode, step}
+use Rattle.st_model.specs.Foreseen.{NamesTop}
 
 -- a step that is done only as one that went
 pub record OnlyGoes {H : Type 0} (m : Step H StepEnd) : Type 0 where
@@ -85,3 +86,7 @@ module _ {H : Type 0} where
     pub step_goes : OnlyGoes (step m)
     unfolding step
     step_goes = search (goings, bytecode_goes)
+
+    -- so it names nothing yet but the word at the top
+    pub step_names_top : NamesTop m (step m)
+    step_names_top s t v e = let g = step_goes.went s t (outcome.Say v) e in cc

@@ -6,7 +6,7 @@ use Rattle.st_model.specs.Objects.{Object, PageObject, place_of, renamed_object,
 use Rattle.std.specs.Option.{option_map}
 use Rattle.st_model.specs.Machine.{State, roots_of, used}
 use Rattle.st_model.specs.Births.{Birth, Births, births, object_born, replaced, exchanged_births, is_borne, bearer, least_free, born, borne, pointer_of, total_kept}
-use Rattle.st_model.specs.Table.{Table, table, apart, entry, changed, exchanged, placed, joined, free_place, without_first, pointer_apart, behind_by, borne_apart, total_used}
+use Rattle.st_model.specs.Table.{Table, apart, entry, changed, exchanged, placed, joined, free_place, without_first, pointer_apart, behind_by, borne_apart, total_used}
 use Rattle.st_model.specs.Show.{IsKept, Shows}
 use Rattle.st_model.proofs.Same.{OptionSame, Simulation, StateSame}
 use Rattle.st_model.proofs.TableLemmas.{shape, tail, coming, to_come, entry_before, joined-last, joined-other, length-joined, length-changed, shape-take_joined, shape-take_changed, shape-without_first, free_place-coming, changed-from, entry_past, entry-take, entry-taken}
@@ -14,7 +14,7 @@ use Rattle.st_model.proofs.BirthLemmas.{pointer_of-borne, borne_before, object_t
 use Rattle.std.proofs.lemmas.List.{take_all}
 use Rattle.st_model.proofs.Totals.{total_matches, words_of-renamed}
 use Rattle.st_model.proofs.Names.{any_values, any_object, map_all, map_object, same_object, same_registers, same_head, same_world}
-use Rattle.st_model.proofs.HeapsSame.{Naming, HeapSame, ObjectsSame, entry_shown, replaced-objects, replaced-same, born-same, next_is_live, borne_by_live, number_cases, order_cases}
+use Rattle.st_model.proofs.HeapsSame.{Naming, HeapSame, ObjectsSame, entry_shown, replaced-objects, replaced-same, born-same, next_is_live, borne_by_live, number_cases, order_cases, weight_there, one_renamed}
 use Rattle.st_model.proofs.Started.{lives, named, named-kept, named-later, naming, heaps_start}
 
 -- the names of the births from the first new one on lie behind all places
@@ -319,6 +319,25 @@ module _ (c : State Table) (s : State Births) (w : Shows c s) (places : length c
     pub borne-apart : (k : ℕ) → borne_apart t k ≡ option_map nm (births.borne_by h k)
     borne-apart k = borne_if k (is_borne h k) refl
 
+  module _ (weight : Object → ℕ) (renamed_weight : (f : ℕ → ℕ) (o : Object) → weight (renamed_object f o) ≡ weight o) where
+    pub apart_total : (h : Births) (t : Table) → HeapApart h t → total_used weight t ≡ total_kept weight h
+    apart_total h t a = total_matches weight (named_apart s.memory c.memory) h t (record {
+      there = λ n k.
+          let o = object_there h n (borne_before h n k.0 k.1) in
+          let p = weight_there before.live weight renamed_weight (named_apart s.memory c.memory) (object_born h n) (entry t (named_apart s.memory c.memory n)) o.0 (a.objects n (a.same.bears n k.0 k.1).0) o.1 in
+          (o.0, p.0, o.1, p.1, p.2);
+      only = λ p x e.
+          let n = a.covered p x e in
+          (n.0, (named s.memory c.memory n.0, a.same.kept n.0 n.1 n.2), n.3);
+      distinct = λ m n k l e. one_name_apart m n (a.same.bears m k.0 k.1).0 (a.same.bears n l.0 l.1).0 e;
+    })
+
+  pub used_apart : (h : Births) (t : Table) → HeapApart h t → used apart t ≡ used births h
+  used_apart h t a =
+      let e = apart_total one one_renamed h t a in
+      let d = apart_total words_of words_of-renamed h t a in
+      λ i. record { entries = e i; words = d i }
+
   -- while a step is foreseen, births and table do the same
   abbrev pub apart_simulation : Simulation births apart
   apart_simulation = record {
@@ -343,6 +362,7 @@ module _ (c : State Table) (s : State Births) (w : Shows c s) (places : length c
     pointer = λ h t n o a l e. pointer-apart h t a n o l e;
     borne_live = λ h t p n a e. borne_by_live before h a.table a.same p n e;
     borne_by = λ h t p a. borne-apart h t a p;
+    used = λ h t a. used_apart h t a;
     rooms = λ h t a b o m x l e. inl refl;
     there_replace = λ h n m o p e k. k;
     there_exchange = λ h a b m o p e f k. k;
@@ -364,47 +384,3 @@ module _ (c : State Table) (s : State Births) (w : Shows c s) (places : length c
     world = w.world ∙ same_world (IsKept s.memory) (pointer_of s.memory) (named_apart s.memory c.memory) pointer_kept s.registers s.head s.world w.roots;
     head = w.head ∙ same_head (IsKept s.memory) (pointer_of s.memory) (named_apart s.memory c.memory) pointer_kept s.registers s.head s.world w.roots;
   }
-
-  module _ (weight : Object → ℕ) (renamed_weight : (f : ℕ → ℕ) (o : Object) → weight (renamed_object f o) ≡ weight o) where
-    weight_there : (f : ℕ → ℕ) (a b : Option Object) (o : Object) → OptionSame (lives s.memory) f a b → a ≡ Some o → (p : Object) × (b ≡ Some p) × (weight p ≡ weight o)
-    weight_there f None b o h e = absurd (cc)
-    weight_there f (Some a) b o h e = let q : a ≡ o = cc in (renamed_object f a, h.1, renamed_weight f a ∙ ap weight q)
-
-    pub apart_total : (h : Births) (t : Table) → HeapApart h t → total_used weight t ≡ total_kept weight h
-    apart_total h t a = total_matches weight (named_apart s.memory c.memory) h t (record {
-      there = λ n k.
-          let o = object_there h n (borne_before h n k.0 k.1) in
-          let p = weight_there (named_apart s.memory c.memory) (object_born h n) (entry t (named_apart s.memory c.memory n)) o.0 (a.objects n (a.same.bears n k.0 k.1).0) o.1 in
-          (o.0, p.0, o.1, p.1, p.2);
-      only = λ p x e.
-          let n = a.covered p x e in
-          (n.0, (named s.memory c.memory n.0, a.same.kept n.0 n.1 n.2), n.3);
-      distinct = λ m n k l e. one_name_apart m n (a.same.bears m k.0 k.1).0 (a.same.bears n l.0 l.1).0 e;
-    })
-
-    pub same_total : (h : Births) (t : Table) → HeapSame before h t → total_used weight t ≡ total_kept weight h
-    same_total h t a = total_matches weight (named s.memory c.memory) h t (record {
-      there = λ n k.
-          let o = object_there h n (borne_before h n k.0 k.1) in
-          let p = weight_there (named s.memory c.memory) (object_born h n) (entry t (named s.memory c.memory n)) o.0 (a.objects n (a.bears n k.0 k.1).0) o.1 in
-          (o.0, p.0, o.1, p.1, p.2);
-      only = λ p x e.
-          let n = a.covered p x e in
-          (n.0, (named s.memory c.memory n.0, a.kept n.0 n.1 n.2), n.3);
-      distinct = λ m n k l e. before.injective m n (a.bears m k.0 k.1).0 (a.bears n l.0 l.1).0 e;
-    })
-
-  one_renamed : (f : ℕ → ℕ) (o : Object) → one (renamed_object f o) ≡ one o
-  one_renamed f o = refl
-
-  pub used_apart : (h : Births) (t : Table) → HeapApart h t → used apart t ≡ used births h
-  used_apart h t a =
-      let e = apart_total one one_renamed h t a in
-      let d = apart_total words_of words_of-renamed h t a in
-      λ i. record { entries = e i; words = d i }
-
-  pub used_same : (h : Births) (t : Table) → HeapSame before h t → used table t ≡ used births h
-  used_same h t a =
-      let e = same_total one one_renamed h t a in
-      let d = same_total words_of words_of-renamed h t a in
-      λ i. record { entries = e i; words = d i }

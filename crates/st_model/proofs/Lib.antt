@@ -5,6 +5,9 @@ pub mod ContextsSame
 pub mod LookupSame
 pub mod SendsSame
 pub mod PrimitivesSame
+mod StorageSame
+pub mod Deeds
+pub mod Leaving
 pub mod ExecutingSame
 pub mod ReturnsSame
 pub mod BytecodesSame
@@ -22,6 +25,7 @@ pub mod Bounded
 pub mod Closed
 pub mod Going
 pub mod Reclaiming
+pub mod OnTop
 pub mod CyclesShown
 pub mod Runs
 pub mod Tabular
@@ -53,3 +57,4 @@ pub mod Opened
 mod Rows
 mod SendRows
 mod ArithmeticRows
+mod StorageRows

@@ -9,7 +9,7 @@ use Rattle.st_model.specs.Objects.{Object, PageObject, NilObject, place_of, IsLi
 use Rattle.st_model.specs.Sends.{Call}
 use Rattle.st_model.specs.Machine.{ObjectMemory, Registers, World, State, Transition, Died, Went, Step, is_there, all_there, names_instance, first_instance, next_of, head_roots, device_roots, roots_of, answer, die, after, ◌>>=◌, ◌>>◌, or_left, tried}
 use Rattle.st_model.specs.Births.{Birth, Births, births, births_with, or_object, object_born, replaced, is_borne, bearer, borne, born, least_free}
-use Rattle.st_model.specs.Steps.{exchanged_there, exchange_named, exchange, fit_units, units_set, set_units_at, set_units, get_world, world_set, set_world, named_or_not, object_at, next_instance, get_active, get_home, get_method, get_receiver, get_ip, get_sp, set_ip, set_sp, found, object_named, object, stored_at, store_at, set_field, new_of, made, make_named, make, are_there, registers_set, set_registers, of_page}
+use Rattle.st_model.specs.Steps.{exchanged_there, exchange_named, exchange, fit_units, units_set, set_units_at, set_units, get_world, world_set, set_world, get_free, named_or_not, object_at, next_instance, get_active, get_home, get_method, get_receiver, get_ip, get_sp, set_ip, set_sp, found, object_named, object, stored_at, store_at, set_field, new_of, made, make_named, make, are_there, registers_set, set_registers, of_page}
 use Rattle.st_model.specs.Lookup.{pointer_if, half_word}
 use Rattle.st_model.proofs.Same.{stored_is_live}
 use Rattle.st_model.proofs.StepsSame.{fresh_live}
@@ -536,6 +536,10 @@ module _ (o : Object) (lives : ℕ → Type 0) where
     go = λ s l st.
         rw (← all_same s.memory n (device_roots w.devices) l h.live) (world_same w s _ st (map_all _ _ (more n (length s.memory) l) (device_roots w.devices) h.live));
   }
+
+  pub get_free-sure : (n : ℕ) → SureAnswer n (get_free bare) (get_free (full o))
+  unfolding get_free bare full
+  get_free-sure n = record { go = λ s l st. (refl, refl, omega arith, st, tt) }
 
   -- pointers
 

@@ -17,14 +17,17 @@ use Rattle.st_model.specs.Machine.{Registers, State, Transition, Died, Went, Ste
 use Rattle.st_model.specs.Births.{Births, births, births_with, object_born}
 use Rattle.st_model.specs.Table.{Table}
 use Rattle.st_model.specs.Show.{Shows, IsKept}
-use Rattle.st_model.specs.Steps.{same_value, new_object, class_of, or_die, check, fetch_field, store_field, integer_or_die, fetch_integer, count_fields, fetch_fields, store_fields, fetch_word, fetch_byte, store_word, store_byte, transfer, put, push, top, under, look_at_words, drop_words, pop, literal, fetch_method_field, store_method_field, byte_at, next_byte, jump}
+use Rattle.st_model.specs.Steps.{same_value, fetch_kind, fetch_size, fetch_bytes, store_bytes, new_object, class_of, or_die, check, fetch_field, store_field, integer_or_die, fetch_integer, count_fields, fetch_fields, store_fields, fetch_word, fetch_byte, store_word, store_byte, transfer, put, push, top, under, look_at_words, drop_words, pop, literal, fetch_method_field, store_method_field, byte_at, next_byte, jump}
 use Rattle.st_model.specs.Methods.{from_last, method_header, literal_from_last, primitive_number, method_primitive}
 use Rattle.st_model.specs.Contexts.{home_by, home_of, stack_place, fetch_stack_pointer, context_registers, fetch_context_registers, store_context_registers, switch, fill_context, new_context, pass_words, activate}
 use Rattle.st_model.specs.Lookup.{checked_method, method_at, place_says, look_at_place, look_at_places, search_from, search_dictionary, or_above, method_in_class, look_in_class, unless_nil, end_at_nil, find_within, find}
 use Rattle.st_model.specs.Sends.{Call, copy_arguments, argument_array, new_message, replace_by_message, call_not_understood, not_understood, call_found, send_from, send, class_above, send_to_super, argument_count, special_send}
 use Rattle.st_model.specs.declared.integers.IntAnswer.{IntAnswer}
 use Rattle.st_model.specs.declared.integers.IntAnswer.TheVariants.{Number, Truth, Point}
-use Rattle.st_model.specs.Primitives.{pop_words, answer_with, succeed, primitive, taking, truth}
+use Rattle.st_model.specs.Primitives.{pop_words, answer_with, succeed, primitive, taking, truth, check_class, check_bytes, bits_or_die, positive_small, byte_or_die, large_value, positive_value, new_large, number, number_of, specification, fixed_of_class, fixed_by, fixed_fields}
+use Rattle.st_model.specs.Storage.{count_literals, first_by, first_place, place_of_element, place_at, place_behind_fixed, word_number, byte_number, element_by, fetch_element, word_of_value, unit_by, unit_of_element, store_by, store_element, Storing, storing_at, store_and_answer, primitive_at, storing_behind_fixed, primitive_at_put, count_elements, primitive_size, fetch_character, place_in_bytes, character_at, primitive_string_at, character_byte, character_storing_at, storing_character, primitive_string_at_put, characters_or_not, has_characters, place_of_object, place_of_character, stream_place, position_below, Standing, standing_at, stream_standing, stream_element, take_next, primitive_next, stream_unit, Putting, putting_at, stream_putting, put_next, primitive_next_put, is_at_end, primitive_at_end, method_place, place_in_method, header_or_literal, primitive_object_at, check_header, check_method_field, place_to_store, store_in_method, primitive_object_at_put, check_not_method_class, fixed_specification, primitive_new, checked_shape, indexed_shape, primitive_new_with, check_object, check_objects, exchange_and_answer, primitive_become, primitive_instance_variable_at, storing_by_index, primitive_instance_variable_at_put, half_pointer, primitive_as_oop, kept_object_at, primitive_as_object, first_kept_instance, primitive_some_instance, instance_after, primitive_next_instance, MethodShape, method_shape, new_method, primitive_new_method, Replacing, checked_replacing, replacing, replace_and_answer, primitive_replace, primitive_core_left, primitive_oops_left, primitive_say, storage}
+use Rattle.st_model.specs.declared.kind.Kind.{Kind}
+use Rattle.st_model.specs.declared.kind.Kind.TheVariants as kind
 use Rattle.st_model.specs.Arithmetic.{new_point, value_of_answer, integer_under, integer_answer, arithmetic, equivalence, receiver_class, flush_cache}
 use Rattle.st_model.specs.Executing.{goes_on, answer_field, or_activate, respond, respond_by_extension, execute_by, execute, executed, execute_if_any, executed_if_any}
 use Rattle.st_model.specs.Returns.{calls, calls_nothing, cannot_return, return_into, return_to_context, return_to, return_to_sender, return_to_caller, must_be_boolean, jump_on}
@@ -33,7 +36,7 @@ use Rattle.st_model.proofs.Names.{map_all, map_object}
 use Rattle.st_model.proofs.BirthLemmas.{borne_before, object_within}
 use Rattle.st_model.proofs.Started.{lives}
 use Rattle.st_model.proofs.Present as at
-use Rattle.st_model.proofs.Present.{bare, full, then_value-sure, then_values-sure, then_option-sure, then_object-sure, then_registers-sure, then_call-sure, then_any_call-sure, then_answer-sure, then_unit-sure, if-sure, die-sure, later_value, later_values, later_option, later_object, later_call, small_there, small_integer_there, class_there, field_there, none_there, some_there, no_values_there, values_there, registers_there, method_there, answer_value-sure, answer_values-sure, answer_option-sure, answer_registers-sure, answer_call-sure, answer_some_call-sure, answer_no_call-sure, answer_itself-sure, get_active-sure, get_home-sure, get_method-sure, get_receiver-sure, get_ip-sure, get_sp-sure, set_ip-sure, set_sp-sure, of_page-sure, object_named-sure, object-sure, set_field-sure, make-sure, set_registers-sure, half_word-sure, exchange-sure, set_units-sure, then_world-sure, later_world, get_world-sure, set_world-sure, object_at-sure, next_instance-sure, tried_value-sure, tried_itself-sure}
+use Rattle.st_model.proofs.Present.{bare, full, then_value-sure, then_values-sure, then_option-sure, then_object-sure, then_registers-sure, then_call-sure, then_any_call-sure, then_answer-sure, then_unit-sure, if-sure, die-sure, later_value, later_values, later_option, later_object, later_call, small_there, small_integer_there, class_there, field_there, none_there, some_there, no_values_there, values_there, registers_there, method_there, answer_value-sure, answer_values-sure, answer_option-sure, answer_registers-sure, answer_call-sure, answer_some_call-sure, answer_no_call-sure, answer_itself-sure, get_active-sure, get_home-sure, get_method-sure, get_receiver-sure, get_ip-sure, get_sp-sure, set_ip-sure, set_sp-sure, of_page-sure, object_named-sure, object-sure, set_field-sure, make-sure, set_registers-sure, half_word-sure, exchange-sure, set_units-sure, then_world-sure, later_world, get_world-sure, set_world-sure, get_free-sure, object_at-sure, next_instance-sure, tried_value-sure, tried_itself-sure}
 
 module _ (o : Object) (lives : ℕ → Type 0) where
   abbrev pub There : ℕ → Value → Type 0
@@ -78,7 +81,7 @@ module _ (o : Object) (lives : ℕ → Type 0) where
   abbrev pub SureAnswer : {A : Type 0} → ℕ → Step Births A → Step Births A → Type 0
   SureAnswer n m m' = at.SureAnswer o lives n m m'
 
-  pub ruleset sures = (then_value-sure, then_values-sure, then_option-sure, then_object-sure, then_registers-sure, then_call-sure, then_any_call-sure, then_answer-sure, then_unit-sure, if-sure, die-sure, later_value, later_values, later_option, later_object, later_call, small_there, small_integer_there, class_there, field_there, none_there, some_there, no_values_there, values_there, registers_there, method_there, answer_value-sure, answer_values-sure, answer_option-sure, answer_registers-sure, answer_call-sure, answer_some_call-sure, answer_no_call-sure, answer_itself-sure, get_active-sure, get_home-sure, get_method-sure, get_receiver-sure, get_ip-sure, get_sp-sure, set_ip-sure, set_sp-sure, of_page-sure, object-sure, set_field-sure, make-sure, set_registers-sure, half_word-sure, exchange-sure, set_units-sure, then_world-sure, later_world, get_world-sure, set_world-sure, object_at-sure, next_instance-sure, tried_value-sure, tried_itself-sure)
+  pub ruleset sures = (then_value-sure, then_values-sure, then_option-sure, then_object-sure, then_registers-sure, then_call-sure, then_any_call-sure, then_answer-sure, then_unit-sure, if-sure, die-sure, later_value, later_values, later_option, later_object, later_call, small_there, small_integer_there, class_there, field_there, none_there, some_there, no_values_there, values_there, registers_there, method_there, answer_value-sure, answer_values-sure, answer_option-sure, answer_registers-sure, answer_call-sure, answer_some_call-sure, answer_no_call-sure, answer_itself-sure, get_active-sure, get_home-sure, get_method-sure, get_receiver-sure, get_ip-sure, get_sp-sure, set_ip-sure, set_sp-sure, of_page-sure, object-sure, set_field-sure, make-sure, set_registers-sure, half_word-sure, exchange-sure, set_units-sure, then_world-sure, later_world, get_world-sure, set_world-sure, get_free-sure, object_at-sure, next_instance-sure, tried_value-sure, tried_itself-sure)
 
   pub check-sure : (n : ℕ) (cause : Dead) (b : Bool) → SureAnswer n (check cause b) (check cause b)
   unfolding check
@@ -159,6 +162,24 @@ module _ (o : Object) (lives : ℕ → Type 0) where
   unfolding store_byte
   store_byte-sure n v i x h0 = search (fields) depth 24 fits 4000
 
+  pub fetch_kind-sure : (n : ℕ) (v : Value) → There n v → SureAnswer n (fetch_kind bare v) (fetch_kind (full o) v)
+  unfolding fetch_kind
+  fetch_kind-sure n v h0 = search (fields) depth 24 fits 4000
+
+  pub fetch_size-sure : (n : ℕ) (v : Value) → There n v → SureAnswer n (fetch_size bare v) (fetch_size (full o) v)
+  unfolding fetch_size
+  fetch_size-sure n v h0 = search (fields) depth 24 fits 4000
+
+  pub fetch_bytes-sure : (n : ℕ) (v : Value) (from i : ℕ) → There n v → SureAnswer n (fetch_bytes bare v from i) (fetch_bytes (full o) v from i)
+  unfolding fetch_bytes
+  fetch_bytes-sure n v from zero h = search fields depth 24 fits 4000
+  fetch_bytes-sure n v from (suc i) h = then_answer-sure o lives _ n _ _ _ _ (fetch_byte-sure n v from h) (λ k l b. then_answer-sure o lives _ k _ _ _ _ (fetch_bytes-sure k v (suc from) i (later_value o lives n k v l h)) (λ j e bs. answer_itself-sure o lives j _))
+
+  pub store_bytes-sure : (n : ℕ) (v : Value) (to : ℕ) (bs : List ℕ) → There n v → SureAnswer n (store_bytes bare v to bs) (store_bytes (full o) v to bs)
+  unfolding store_bytes
+  store_bytes-sure n v to [] h = search fields depth 24 fits 4000
+  store_bytes-sure n v to (b ∷ bs) h = then_unit-sure o lives _ n _ _ _ _ (store_byte-sure n v to b h) (λ j l. store_bytes-sure j v (suc to) bs (later_value o lives n j v l h))
+
   pub put-sure : (n : ℕ) (c : Value) (at : ℕ) (x : Value) → There n c → There n x → SureAnswer n (put bare c at x) (put (full o) c at x)
   unfolding put
   put-sure n c at x h0 h1 = search (fields) depth 24 fits 4000
@@ -211,7 +232,7 @@ module _ (o : Object) (lives : ℕ → Type 0) where
   unfolding jump
   jump-sure n d = search (fields) depth 24 fits 4000
 
-  pub ruleset parts = (fields, fetch_word-sure, fetch_byte-sure, store_word-sure, store_byte-sure, fetch_integer-sure, transfer-sure, push-sure, under-sure, look_at_words-sure, drop_words-sure, top-sure, pop-sure, literal-sure, fetch_method_field-sure, store_method_field-sure, next_byte-sure, jump-sure)
+  pub ruleset parts = (fields, fetch_word-sure, fetch_byte-sure, store_word-sure, store_byte-sure, fetch_kind-sure, fetch_size-sure, fetch_bytes-sure, store_bytes-sure, fetch_integer-sure, transfer-sure, push-sure, under-sure, look_at_words-sure, drop_words-sure, top-sure, pop-sure, literal-sure, fetch_method_field-sure, store_method_field-sure, next_byte-sure, jump-sure)
 
   -- headers and contexts
 
@@ -456,6 +477,17 @@ module _ (o : Object) (lives : ℕ → Type 0) where
   unfolding primitive
   primitive-sure n k p p' f f' h l = search (parts, succeed-sure) depth 24 fits 4000
 
+  pub succeed_value-sure : (n : ℕ) (k : ℕ) (f f' : Value → Step Births Value) (a : Option Value) → ThereIfAny n a → ((m : ℕ) (x : Value) → Later n m → There m x → SureValue m (f x) (f' x))
+      → SureAnswer n (succeed bare k f a) (succeed (full o) k f' a)
+  unfolding succeed
+  succeed_value-sure n k f f' None h l = answer_itself-sure o lives n _
+  succeed_value-sure n k f f' (Some x) h l = then_value-sure o lives _ n _ _ _ _ (l n x (record { is = omega arith }) (record { live = h.live })) (λ m e v p. search (parts, answer_with-sure) depth 24 fits 4000)
+
+  pub primitive_value-sure : (n : ℕ) (k : ℕ) (p p' : Step Births Value) (f f' : Value → Step Births Value) → SureValue n p p'
+      → ((m : ℕ) (x : Value) → There m x → SureValue m (f x) (f' x)) → SureAnswer n (primitive bare k p f) (primitive (full o) k p' f')
+  unfolding primitive
+  primitive_value-sure n k p p' f f' h l = then_option-sure o lives _ n _ _ _ _ (tried_value-sure o lives n p p' h) (λ m e a q. succeed_value-sure m k f f' a q (λ j x d t. l j x t))
+
   pub taking-sure : (n : ℕ) (k arguments : ℕ) (p p' : Step Births Bool) → SureAnswer n p p' → SureAnswer n (taking k arguments p) (taking k arguments p')
   unfolding taking
   taking-sure n k arguments p p' h = search sures
@@ -499,7 +531,389 @@ module _ (o : Object) (lives : ℕ → Type 0) where
   unfolding flush_cache
   flush_cache-sure n k = search parts depth 24 fits 4000
 
-  pub ruleset primitives_sure = (arithmetic-sure, equivalence-sure, receiver_class-sure, flush_cache-sure)
+  -- on objects
+
+  pub check_class-sure : (n : ℕ) (v : Value) (q : PageObject) → There n v → SureAnswer n (check_class bare v q) (check_class (full o) v q)
+  unfolding check_class
+  check_class-sure n v q h0 = search parts depth 24 fits 4000
+
+  pub check_bytes-sure : (n : ℕ) (v : Value) → There n v → SureAnswer n (check_bytes bare v) (check_bytes (full o) v)
+  unfolding check_bytes
+  check_bytes-sure n v h0 = search parts depth 24 fits 4000
+
+  pub bits_or_die-sure : (n : ℕ) (v : Value) → There n v → SureAnswer n (bits_or_die v) (bits_or_die v)
+  unfolding bits_or_die
+  bits_or_die-sure n (Small i) h0 = answer_itself-sure o lives n _
+  bits_or_die-sure n (Ref i) h0 = die-sure o lives _ n _
+
+  pub positive_small-sure : (n : ℕ) (v : Value) → There n v → SureAnswer n (positive_small v) (positive_small v)
+  unfolding positive_small
+  positive_small-sure n v h0 = search (parts, bits_or_die-sure) depth 24 fits 4000
+
+  pub byte_or_die-sure : (n : ℕ) (v : Value) → There n v → SureAnswer n (byte_or_die v) (byte_or_die v)
+  unfolding byte_or_die
+  byte_or_die-sure n v h0 = search (parts, bits_or_die-sure) depth 24 fits 4000
+
+  pub large_value-sure : (n : ℕ) (v : Value) → There n v → SureAnswer n (large_value bare v) (large_value (full o) v)
+  unfolding large_value
+  large_value-sure n v h0 = search (parts, check_class-sure, check_bytes-sure) depth 32 fits 4000
+
+  pub positive_value-sure : (n : ℕ) (v : Value) → There n v → SureAnswer n (positive_value bare v) (positive_value (full o) v)
+  unfolding positive_value
+  positive_value-sure n (Small i) h0 = positive_small-sure n (Small i) h0
+  positive_value-sure n (Ref i) h0 = large_value-sure n (Ref i) h0
+
+  pub specification-sure : (n : ℕ) (v : Value) → There n v → SureAnswer n (specification bare v) (specification (full o) v)
+  unfolding specification
+  specification-sure n v h0 = search (parts, bits_or_die-sure) depth 24 fits 4000
+
+  pub fixed_by-sure : (n : ℕ) (v : Value) (b : Bool) → There n v → SureAnswer n (fixed_by bare v b) (fixed_by (full o) v b)
+  unfolding fixed_by fixed_of_class
+  fixed_by-sure n v true h0 = search (parts, specification-sure) depth 24 fits 4000
+  fixed_by-sure n v false h0 = search sures depth 24 fits 4000
+
+  pub fixed_fields-sure : (n : ℕ) (v : Value) → There n v → SureAnswer n (fixed_fields bare v) (fixed_fields (full o) v)
+  unfolding fixed_fields
+  fixed_fields-sure n v h0 = search (parts, fixed_by-sure) depth 24 fits 4000
+
+  pub ruleset numbers_sure = (parts, check_class-sure, check_bytes-sure, bits_or_die-sure, positive_small-sure, byte_or_die-sure, positive_value-sure, specification-sure, fixed_fields-sure)
+
+  pub count_literals-sure : (n : ℕ) (v : Value) → There n v → SureAnswer n (count_literals bare v) (count_literals (full o) v)
+  unfolding count_literals
+  count_literals-sure n v h0 = search (headers, bits_or_die-sure) depth 24 fits 4000
+
+  pub first_by-sure : (n : ℕ) (v : Value) (b : Bool) → There n v → SureAnswer n (first_by bare v b) (first_by (full o) v b)
+  unfolding first_by
+  first_by-sure n v true h0 = search (sures, count_literals-sure) depth 24 fits 4000
+  first_by-sure n v false h0 = search sures depth 24 fits 4000
+
+  pub place_of_element-sure : (n : ℕ) (v : Value) (fixed : ℕ) (i : ℕ) → There n v → SureAnswer n (place_of_element bare v fixed i) (place_of_element (full o) v fixed i)
+  unfolding place_of_element first_place
+  place_of_element-sure n v fixed i h0 = search (numbers_sure, first_by-sure) depth 32 fits 4000
+
+  pub place_at-sure : (n : ℕ) (v : Value) (fixed : ℕ) (x : Value) → There n v → There n x → SureAnswer n (place_at bare v fixed x) (place_at (full o) v fixed x)
+  unfolding place_at
+  place_at-sure n v fixed x h0 h1 = search (numbers_sure, place_of_element-sure) depth 24 fits 4000
+
+  pub place_behind_fixed-sure : (n : ℕ) (v : Value) (x : Value) → There n v → There n x → SureAnswer n (place_behind_fixed bare v x) (place_behind_fixed (full o) v x)
+  unfolding place_behind_fixed
+  place_behind_fixed-sure n v x h0 h1 = search (numbers_sure, place_at-sure) depth 24 fits 4000
+
+  pub unit_by-sure : (n : ℕ) (x : Value) (k : Kind) → There n x → SureAnswer n (unit_by bare x k) (unit_by (full o) x k)
+  unfolding unit_by word_of_value
+  unit_by-sure n x kind.Pointers h0 = search sures depth 24 fits 4000
+  unit_by-sure n x kind.Words h0 = search numbers_sure depth 24 fits 4000
+  unit_by-sure n x kind.Bytes h0 = search numbers_sure depth 24 fits 4000
+  unit_by-sure n x kind.Method h0 = search numbers_sure depth 24 fits 4000
+
+  pub unit_of_element-sure : (n : ℕ) (v : Value) (x : Value) → There n v → There n x → SureAnswer n (unit_of_element bare v x) (unit_of_element (full o) v x)
+  unfolding unit_of_element
+  unit_of_element-sure n v x h0 h1 = search (numbers_sure, unit_by-sure) depth 24 fits 4000
+
+  pub storing_at-sure : (n : ℕ) (v : Value) (x : Value) (i : ℕ) → There n v → There n x → SureAnswer n (storing_at bare v x i) (storing_at (full o) v x i)
+  unfolding storing_at
+  storing_at-sure n v x i h0 h1 = search (numbers_sure, unit_of_element-sure) depth 24 fits 4000
+
+  pub storing_behind_fixed-sure : (n : ℕ) (r : Value) (a : Value) (b : Value) → There n r → There n a → There n b → SureAnswer n (storing_behind_fixed bare r a b) (storing_behind_fixed (full o) r a b)
+  unfolding storing_behind_fixed
+  storing_behind_fixed-sure n r a b h0 h1 h2 = search (numbers_sure, place_behind_fixed-sure, storing_at-sure) depth 24 fits 4000
+
+  pub storing_by_index-sure : (n : ℕ) (r : Value) (a : Value) (b : Value) → There n r → There n a → There n b → SureAnswer n (storing_by_index bare r a b) (storing_by_index (full o) r a b)
+  unfolding storing_by_index
+  storing_by_index-sure n r a b h0 h1 h2 = search (numbers_sure, place_at-sure, storing_at-sure) depth 24 fits 4000
+
+  pub count_elements-sure : (n : ℕ) (r : Value) → There n r → SureAnswer n (count_elements bare r) (count_elements (full o) r)
+  unfolding count_elements
+  count_elements-sure n r h0 = search numbers_sure depth 24 fits 4000
+
+  pub fetch_character-sure : (n : ℕ) (v : Value) (i : ℕ) → There n v → SureValue n (fetch_character bare v i) (fetch_character (full o) v i)
+  unfolding fetch_character
+  fetch_character-sure n v i h0 = search numbers_sure depth 24 fits 4000
+
+  pub place_in_bytes-sure : (n : ℕ) (v : Value) (x : Value) → There n v → There n x → SureAnswer n (place_in_bytes bare v x) (place_in_bytes (full o) v x)
+  unfolding place_in_bytes
+  place_in_bytes-sure n v x h0 h1 = search (numbers_sure, place_at-sure) depth 24 fits 4000
+
+  pub character_at-sure : (n : ℕ) (r : Value) (a : Value) → There n r → There n a → SureValue n (character_at bare r a) (character_at (full o) r a)
+  unfolding character_at
+  character_at-sure n r a h0 h1 = search (numbers_sure, place_in_bytes-sure, fetch_character-sure) depth 24 fits 4000
+
+  pub character_byte-sure : (n : ℕ) (x : Value) → There n x → SureAnswer n (character_byte bare x) (character_byte (full o) x)
+  unfolding character_byte
+  character_byte-sure n x h0 = search numbers_sure depth 24 fits 4000
+
+  pub storing_character-sure : (n : ℕ) (r : Value) (a : Value) (b : Value) → There n r → There n a → There n b → SureAnswer n (storing_character bare r a b) (storing_character (full o) r a b)
+  unfolding storing_character character_storing_at
+  storing_character-sure n r a b h0 h1 h2 = search (numbers_sure, place_in_bytes-sure, character_byte-sure) depth 24 fits 4000
+
+  pub characters_or_not-sure : (n : ℕ) (b : Bool) (c : Bool) → SureAnswer n (characters_or_not b c) (characters_or_not b c)
+  unfolding characters_or_not
+  characters_or_not-sure n true c = answer_itself-sure o lives n _
+  characters_or_not-sure n false true = answer_itself-sure o lives n _
+  characters_or_not-sure n false false = die-sure o lives _ n _
+
+  pub has_characters-sure : (n : ℕ) (v : Value) → There n v → SureAnswer n (has_characters bare v) (has_characters (full o) v)
+  unfolding has_characters
+  has_characters-sure n v h0 = search (numbers_sure, characters_or_not-sure) depth 24 fits 4000
+
+  pub stream_place-sure : (n : ℕ) (v : Value) (i : ℕ) (b : Bool) → There n v → SureAnswer n (stream_place bare v i b) (stream_place (full o) v i b)
+  unfolding stream_place place_of_character place_of_object
+  stream_place-sure n v i true h0 = search (numbers_sure, place_of_element-sure, fetch_character-sure) depth 32 fits 4000
+  stream_place-sure n v i false h0 = search (numbers_sure, place_of_element-sure) depth 24 fits 4000
+
+  pub position_below-sure : (n : ℕ) (r : Value) (i : ℕ) → There n r → SureAnswer n (position_below bare r i) (position_below (full o) r i)
+  unfolding position_below
+  position_below-sure n r i h0 = search numbers_sure depth 32 fits 4000
+
+  pub stream_standing-sure : (n : ℕ) (r : Value) (i : ℕ) → There n r → SureAnswer n (stream_standing bare r i) (stream_standing (full o) r i)
+  unfolding stream_standing standing_at
+  stream_standing-sure n r i h0 = search (numbers_sure, has_characters-sure, position_below-sure, stream_place-sure) depth 32 fits 4000
+
+  pub stream_unit-sure : (n : ℕ) (v : Value) (x : Value) (b : Bool) → There n v → There n x → SureAnswer n (stream_unit bare v x b) (stream_unit (full o) v x b)
+  unfolding stream_unit
+  stream_unit-sure n v x true h0 h1 = character_byte-sure n x h1
+  stream_unit-sure n v x false h0 h1 = unit_of_element-sure n v x h0 h1
+
+  pub stream_putting-sure : (n : ℕ) (r : Value) (a : Value) → There n r → There n a → SureAnswer n (stream_putting bare r a) (stream_putting (full o) r a)
+  unfolding stream_putting putting_at
+  stream_putting-sure n r a h0 h1 = search (numbers_sure, stream_standing-sure, stream_unit-sure) depth 32 fits 4000
+
+  pub is_at_end-sure : (n : ℕ) (r : Value) → There n r → SureAnswer n (is_at_end bare r) (is_at_end (full o) r)
+  unfolding is_at_end
+  is_at_end-sure n r h0 = search (numbers_sure, has_characters-sure) depth 32 fits 4000
+
+  pub place_in_method-sure : (n : ℕ) (r : Value) (a : Value) → There n r → There n a → SureAnswer n (place_in_method bare r a) (place_in_method (full o) r a)
+  unfolding place_in_method method_place
+  place_in_method-sure n r a h0 h1 = search (numbers_sure, count_literals-sure) depth 32 fits 4000
+
+  pub header_or_literal-sure : (n : ℕ) (r : Value) (a : Value) → There n r → There n a → SureValue n (header_or_literal bare r a) (header_or_literal (full o) r a)
+  unfolding header_or_literal
+  header_or_literal-sure n r a h0 h1 = search (numbers_sure, place_in_method-sure) depth 24 fits 4000
+
+  pub check_method_field-sure : (n : ℕ) (r : Value) (b : Value) (first : Bool) → There n r → There n b → SureAnswer n (check_method_field bare r b first) (check_method_field (full o) r b first)
+  unfolding check_method_field check_header
+  check_method_field-sure n r b true h0 h1 = search (numbers_sure, count_literals-sure) depth 32 fits 4000
+  check_method_field-sure n r b false h0 h1 = search sures depth 24 fits 4000
+
+  pub place_to_store-sure : (n : ℕ) (r : Value) (a : Value) (b : Value) → There n r → There n a → There n b → SureAnswer n (place_to_store bare r a b) (place_to_store (full o) r a b)
+  unfolding place_to_store
+  place_to_store-sure n r a b h0 h1 h2 = search (numbers_sure, place_in_method-sure, check_method_field-sure) depth 24 fits 4000
+
+  pub check_not_method_class-sure : (n : ℕ) (r : Value) → There n r → SureAnswer n (check_not_method_class bare r) (check_not_method_class (full o) r)
+  unfolding check_not_method_class
+  check_not_method_class-sure n r h0 = search numbers_sure depth 24 fits 4000
+
+  pub fixed_specification-sure : (n : ℕ) (r : Value) → There n r → SureAnswer n (fixed_specification bare r) (fixed_specification (full o) r)
+  unfolding fixed_specification
+  fixed_specification-sure n r h0 = search (numbers_sure, check_not_method_class-sure) depth 24 fits 4000
+
+  pub indexed_shape-sure : (n : ℕ) (r : Value) (a : Value) → There n r → There n a → SureAnswer n (indexed_shape bare r a) (indexed_shape (full o) r a)
+  unfolding indexed_shape checked_shape
+  indexed_shape-sure n r a h0 h1 = search (numbers_sure, check_not_method_class-sure) depth 32 fits 4000
+
+  pub check_objects-sure : (n : ℕ) (v : Value) (w : Value) → There n v → There n w → SureAnswer n (check_objects bare v w) (check_objects (full o) v w)
+  unfolding check_objects check_object
+  check_objects-sure n v w h0 h1 = search numbers_sure depth 24 fits 4000
+
+  pub half_pointer-sure : (n : ℕ) (r : Value) → There n r → SureAnswer n (half_pointer bare r) (half_pointer (full o) r)
+  unfolding half_pointer check_object
+  half_pointer-sure n r h0 = search numbers_sure depth 24 fits 4000
+
+  pub kept_object_at-sure : (n : ℕ) (r : Value) → There n r → SureValue n (kept_object_at bare r) (kept_object_at (full o) r)
+  unfolding kept_object_at
+  kept_object_at-sure n r h0 = search numbers_sure depth 24 fits 4000
+
+  pub first_kept_instance-sure : (n : ℕ) (r : Value) → There n r → SureValue n (first_kept_instance bare r) (first_kept_instance (full o) r)
+  unfolding first_kept_instance
+  first_kept_instance-sure n r h0 = search numbers_sure depth 24 fits 4000
+
+  pub instance_after-sure : (n : ℕ) (r : Value) → There n r → SureValue n (instance_after bare r) (instance_after (full o) r)
+  unfolding instance_after
+  instance_after-sure n r h0 = search (numbers_sure, half_pointer-sure) depth 24 fits 4000
+
+  pub method_shape-sure : (n : ℕ) (r : Value) (a : Value) (b : Value) → There n r → There n a → There n b → SureAnswer n (method_shape bare r a b) (method_shape (full o) r a b)
+  unfolding method_shape
+  method_shape-sure n r a b h0 h1 h2 = search numbers_sure depth 32 fits 4000
+
+  pub checked_replacing-sure : (n : ℕ) (r : Value) (c : Value) (p : Replacing) → There n r → There n c → SureAnswer n (checked_replacing bare r c p) (checked_replacing (full o) r c p)
+  unfolding checked_replacing
+  checked_replacing-sure n r c p h0 h1 = search numbers_sure depth 32 fits 4000
+
+  pub replacing-sure : (n : ℕ) (r : Value) (a : Value) (b : Value) (c : Value) (d : Value) → There n r → There n a → There n b → There n c → There n d → SureAnswer n (replacing bare r a b c d) (replacing (full o) r a b c d)
+  unfolding replacing
+  replacing-sure n r a b c d h0 h1 h2 h3 h4 = search (numbers_sure, checked_replacing-sure) depth 40 fits 4000
+
+  pub ruleset conditions_sure = (place_behind_fixed-sure, place_at-sure, storing_behind_fixed-sure, storing_by_index-sure, count_elements-sure, character_at-sure, storing_character-sure, stream_standing-sure, stream_putting-sure, is_at_end-sure, header_or_literal-sure, place_to_store-sure, fixed_specification-sure, indexed_shape-sure, check_objects-sure, half_pointer-sure, kept_object_at-sure, first_kept_instance-sure, instance_after-sure, method_shape-sure, replacing-sure, check_bytes-sure)
+
+  pub number-sure : (n : ℕ) (k : ℕ) → SureValue n (number bare k) (number (full o) k)
+  unfolding number new_large
+  number-sure n k = search parts depth 24 fits 4000
+
+  pub number_of-sure : (n : ℕ) (i : ℤ) → SureValue n (number_of bare i) (number_of (full o) i)
+  unfolding number_of
+  number_of-sure n (pos k) = number-sure n k
+  number_of-sure n (negsuc k) = search sures depth 24 fits 4000
+
+  pub element_by-sure : (n : ℕ) (v : Value) (i : ℕ) (k : Kind) → There n v → SureValue n (element_by bare v i k) (element_by (full o) v i k)
+  unfolding element_by word_number byte_number
+  element_by-sure n v i kind.Pointers h0 = search parts depth 24 fits 4000
+  element_by-sure n v i kind.Words h0 = search (parts, number-sure) depth 24 fits 4000
+  element_by-sure n v i kind.Bytes h0 = search parts depth 24 fits 4000
+  element_by-sure n v i kind.Method h0 = search parts depth 24 fits 4000
+
+  pub fetch_element-sure : (n : ℕ) (v : Value) (i : ℕ) → There n v → SureValue n (fetch_element bare v i) (fetch_element (full o) v i)
+  unfolding fetch_element
+  fetch_element-sure n v i h0 = search (parts, element_by-sure) depth 24 fits 4000
+
+  pub store_by-sure : (n : ℕ) (v : Value) (i : ℕ) (x : Value) (unit : ℕ) (k : Kind) → There n v → There n x → SureAnswer n (store_by bare v i x unit k) (store_by (full o) v i x unit k)
+  unfolding store_by
+  store_by-sure n v i x unit kind.Pointers h0 h1 = search parts depth 24 fits 4000
+  store_by-sure n v i x unit kind.Words h0 h1 = search parts depth 24 fits 4000
+  store_by-sure n v i x unit kind.Bytes h0 h1 = search parts depth 24 fits 4000
+  store_by-sure n v i x unit kind.Method h0 h1 = search parts depth 24 fits 4000
+
+  pub store_element-sure : (n : ℕ) (v : Value) (i : ℕ) (x : Value) (unit : ℕ) → There n v → There n x → SureAnswer n (store_element bare v i x unit) (store_element (full o) v i x unit)
+  unfolding store_element
+  store_element-sure n v i x unit h0 h1 = search (parts, store_by-sure) depth 24 fits 4000
+
+  pub store_and_answer-sure : (n : ℕ) (v : Value) (x : Value) (s : Storing) → There n v → There n x → SureValue n (store_and_answer bare v x s) (store_and_answer (full o) v x s)
+  unfolding store_and_answer
+  store_and_answer-sure n v x s h0 h1 = search (parts, store_element-sure) depth 24 fits 4000
+
+  pub stream_element-sure : (n : ℕ) (v : Value) (i : ℕ) (b : Bool) → There n v → SureValue n (stream_element bare v i b) (stream_element (full o) v i b)
+  unfolding stream_element
+  stream_element-sure n v i true h0 = fetch_character-sure n v i h0
+  stream_element-sure n v i false h0 = fetch_element-sure n v i h0
+
+  pub take_next-sure : (n : ℕ) (r : Value) (s : Standing) → There n r → SureValue n (take_next bare r s) (take_next (full o) r s)
+  unfolding take_next
+  take_next-sure n r s h0 = search (parts, stream_element-sure) depth 24 fits 4000
+
+  pub put_next-sure : (n : ℕ) (r : Value) (a : Value) (p : Putting) → There n r → There n a → SureValue n (put_next bare r a p) (put_next (full o) r a p)
+  unfolding put_next
+  put_next-sure n r a p h0 h1 = search (parts, store_element-sure) depth 24 fits 4000
+
+  pub store_in_method-sure : (n : ℕ) (r : Value) (b : Value) (i : ℕ) → There n r → There n b → SureValue n (store_in_method bare r b i) (store_in_method (full o) r b i)
+  unfolding store_in_method
+  store_in_method-sure n r b i h0 h1 = search parts depth 24 fits 4000
+
+  pub exchange_and_answer-sure : (n : ℕ) (r : Value) (a : Value) → There n r → There n a → SureValue n (exchange_and_answer bare r a) (exchange_and_answer (full o) r a)
+  unfolding exchange_and_answer
+  exchange_and_answer-sure n r a h0 h1 = search parts depth 24 fits 4000
+
+  pub new_method-sure : (n : ℕ) (r : Value) (s : MethodShape) → There n r → SureValue n (new_method bare r s) (new_method (full o) r s)
+  unfolding new_method
+  new_method-sure n r s h0 = search parts depth 24 fits 4000
+
+  pub replace_and_answer-sure : (n : ℕ) (r : Value) (c : Value) (p : Replacing) → There n r → There n c → SureValue n (replace_and_answer bare r c p) (replace_and_answer (full o) r c p)
+  unfolding replace_and_answer
+  replace_and_answer-sure n r c p h0 h1 = search parts depth 24 fits 4000
+
+  pub ruleset effects_sure = (number-sure, number_of-sure, fetch_element-sure, store_and_answer-sure, take_next-sure, put_next-sure, store_in_method-sure, exchange_and_answer-sure, new_method-sure, replace_and_answer-sure)
+
+  pub ruleset storing_sure = (parts, primitive-sure, primitive_value-sure, truth-sure, effects_sure, conditions_sure)
+
+  pub primitive_at-sure : (n : ℕ) → SureAnswer n (primitive_at bare) (primitive_at (full o))
+  unfolding primitive_at
+  primitive_at-sure n = search storing_sure depth 32 fits 4000
+
+  pub primitive_at_put-sure : (n : ℕ) → SureAnswer n (primitive_at_put bare) (primitive_at_put (full o))
+  unfolding primitive_at_put
+  primitive_at_put-sure n = search storing_sure depth 32 fits 4000
+
+  pub primitive_size-sure : (n : ℕ) → SureAnswer n (primitive_size bare) (primitive_size (full o))
+  unfolding primitive_size
+  primitive_size-sure n = search storing_sure depth 32 fits 4000
+
+  pub primitive_string_at-sure : (n : ℕ) → SureAnswer n (primitive_string_at bare) (primitive_string_at (full o))
+  unfolding primitive_string_at
+  primitive_string_at-sure n = search storing_sure depth 32 fits 4000
+
+  pub primitive_string_at_put-sure : (n : ℕ) → SureAnswer n (primitive_string_at_put bare) (primitive_string_at_put (full o))
+  unfolding primitive_string_at_put
+  primitive_string_at_put-sure n = search storing_sure depth 32 fits 4000
+
+  pub primitive_next-sure : (n : ℕ) → SureAnswer n (primitive_next bare) (primitive_next (full o))
+  unfolding primitive_next
+  primitive_next-sure n = search storing_sure depth 32 fits 4000
+
+  pub primitive_next_put-sure : (n : ℕ) → SureAnswer n (primitive_next_put bare) (primitive_next_put (full o))
+  unfolding primitive_next_put
+  primitive_next_put-sure n = search storing_sure depth 32 fits 4000
+
+  pub primitive_at_end-sure : (n : ℕ) → SureAnswer n (primitive_at_end bare) (primitive_at_end (full o))
+  unfolding primitive_at_end
+  primitive_at_end-sure n = search storing_sure depth 32 fits 4000
+
+  pub primitive_object_at-sure : (n : ℕ) → SureAnswer n (primitive_object_at bare) (primitive_object_at (full o))
+  unfolding primitive_object_at
+  primitive_object_at-sure n = search storing_sure depth 32 fits 4000
+
+  pub primitive_object_at_put-sure : (n : ℕ) → SureAnswer n (primitive_object_at_put bare) (primitive_object_at_put (full o))
+  unfolding primitive_object_at_put
+  primitive_object_at_put-sure n = search storing_sure depth 32 fits 4000
+
+  pub primitive_new-sure : (n : ℕ) → SureAnswer n (primitive_new bare) (primitive_new (full o))
+  unfolding primitive_new
+  primitive_new-sure n = search storing_sure depth 32 fits 4000
+
+  pub primitive_new_with-sure : (n : ℕ) → SureAnswer n (primitive_new_with bare) (primitive_new_with (full o))
+  unfolding primitive_new_with
+  primitive_new_with-sure n = search storing_sure depth 32 fits 4000
+
+  pub primitive_become-sure : (n : ℕ) → SureAnswer n (primitive_become bare) (primitive_become (full o))
+  unfolding primitive_become
+  primitive_become-sure n = search storing_sure depth 32 fits 4000
+
+  pub primitive_instance_variable_at-sure : (n : ℕ) → SureAnswer n (primitive_instance_variable_at bare) (primitive_instance_variable_at (full o))
+  unfolding primitive_instance_variable_at
+  primitive_instance_variable_at-sure n = search storing_sure depth 32 fits 4000
+
+  pub primitive_instance_variable_at_put-sure : (n : ℕ) → SureAnswer n (primitive_instance_variable_at_put bare) (primitive_instance_variable_at_put (full o))
+  unfolding primitive_instance_variable_at_put
+  primitive_instance_variable_at_put-sure n = search storing_sure depth 32 fits 4000
+
+  pub primitive_as_oop-sure : (n : ℕ) → SureAnswer n (primitive_as_oop bare) (primitive_as_oop (full o))
+  unfolding primitive_as_oop
+  primitive_as_oop-sure n = search storing_sure depth 32 fits 4000
+
+  pub primitive_as_object-sure : (n : ℕ) → SureAnswer n (primitive_as_object bare) (primitive_as_object (full o))
+  unfolding primitive_as_object
+  primitive_as_object-sure n = search storing_sure depth 32 fits 4000
+
+  pub primitive_some_instance-sure : (n : ℕ) → SureAnswer n (primitive_some_instance bare) (primitive_some_instance (full o))
+  unfolding primitive_some_instance
+  primitive_some_instance-sure n = search storing_sure depth 32 fits 4000
+
+  pub primitive_next_instance-sure : (n : ℕ) → SureAnswer n (primitive_next_instance bare) (primitive_next_instance (full o))
+  unfolding primitive_next_instance
+  primitive_next_instance-sure n = search storing_sure depth 32 fits 4000
+
+  pub primitive_new_method-sure : (n : ℕ) → SureAnswer n (primitive_new_method bare) (primitive_new_method (full o))
+  unfolding primitive_new_method
+  primitive_new_method-sure n = search storing_sure depth 32 fits 4000
+
+  pub primitive_replace-sure : (n : ℕ) → SureAnswer n (primitive_replace bare) (primitive_replace (full o))
+  unfolding primitive_replace
+  primitive_replace-sure n = search storing_sure depth 32 fits 4000
+
+  pub primitive_core_left-sure : (n : ℕ) → SureAnswer n (primitive_core_left bare) (primitive_core_left (full o))
+  unfolding primitive_core_left
+  primitive_core_left-sure n = search storing_sure depth 32 fits 4000
+
+  pub primitive_oops_left-sure : (n : ℕ) → SureAnswer n (primitive_oops_left bare) (primitive_oops_left (full o))
+  unfolding primitive_oops_left
+  primitive_oops_left-sure n = search storing_sure depth 32 fits 4000
+
+  pub primitive_say-sure : (n : ℕ) (r : Value) → There n r → SureAnswer n (primitive_say bare r) (primitive_say (full o) r)
+  unfolding primitive_say
+  primitive_say-sure n r h0 = search storing_sure depth 24 fits 4000
+
+  pub storage-sure : (n : ℕ) (k i : ℕ) → SureAnswer n (storage bare k i) (storage (full o) k i)
+  unfolding storage
+  storage-sure n k i = search (sures, taking-sure, primitive_at-sure, primitive_at_put-sure, primitive_size-sure, primitive_string_at-sure, primitive_string_at_put-sure, primitive_next-sure, primitive_next_put-sure, primitive_at_end-sure, primitive_object_at-sure, primitive_object_at_put-sure, primitive_new-sure, primitive_new_with-sure, primitive_become-sure, primitive_instance_variable_at-sure, primitive_instance_variable_at_put-sure, primitive_as_oop-sure, primitive_as_object-sure, primitive_some_instance-sure, primitive_next_instance-sure, primitive_new_method-sure, primitive_replace-sure, primitive_core_left-sure, primitive_oops_left-sure) depth 32 fits 4000
+
+  pub ruleset primitives_sure = (arithmetic-sure, equivalence-sure, receiver_class-sure, flush_cache-sure, storage-sure)
 
   pub or_activate-sure : (n : ℕ) (c : Call) (v : Value) (p p' : Step Births Bool) → CallThere n c → SureAnswer n p p' → SureAnswer n (or_activate bare c v p) (or_activate (full o) c v p')
   unfolding or_activate

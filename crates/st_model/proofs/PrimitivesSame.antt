@@ -1,13 +1,13 @@
 -- Primitives over births do the same over pointers: how one is tried, those on SmallIntegers, and those of any receiver.
-use Rattle.std.proofs.Common.{◌≡◌, ℕ, zero, suc, Option, Some, None, Bool, true, false}
+use Rattle.std.proofs.Common.{◌≡◌, ℕ, zero, suc, Option, Some, None, Bool, true, false, refl}
 use Rattle.std.specs.Prelude.{ℤ}
 use Rattle.st_model.specs.declared.integers.IntAnswer.{IntAnswer}
 use Rattle.st_model.specs.declared.integers.IntAnswer.TheVariants.{Number, Truth, Point}
-use Rattle.st_model.specs.Values.{Value}
+use Rattle.st_model.specs.Values.{Value, renamed}
 use Rattle.st_model.specs.Machine.{ObjectMemory, Step}
 use Rattle.st_model.specs.Primitives.{pop_words, answer_with, succeed, primitive, taking, truth}
 use Rattle.st_model.specs.Arithmetic.{new_point, value_of_answer, integer_under, integer_answer, arithmetic, equivalence, receiver_class, flush_cache}
-use Rattle.st_model.proofs.Same.{Simulation, ValueSame, SameValue, SameAnswer, strict, steps_same}
+use Rattle.st_model.proofs.Same.{Simulation, ValueSame, OptionalSame, SameValue, SameAnswer, strict, steps_same}
 use Rattle.st_model.proofs.StepsSame.{parts_same}
 
 module _ {H K : Type 0} {M : ObjectMemory H} {N : ObjectMemory K} (sim : Simulation M N) where
@@ -40,6 +40,20 @@ module _ {H K : Type 0} {M : ObjectMemory H} {N : ObjectMemory K} (sim : Simulat
       → SameAnswer sim p q → SameAnswer (strict sim) p q → ((x : A) → SameValue sim (f x) (g x)) → SameAnswer sim (primitive M n p f) (primitive N n q g)
   unfolding primitive
   primitive-same n p q f g h k l = search (steps_same, succeed-same) depth 16 fits 4000
+
+  succeed_value-same : (n : ℕ) (f : Value → Step H Value) (g : Value → Step K Value) (a b : Option Value) → OptionalSame sim a b → ((x y : Value) → ValueSame sim x y → SameValue sim (f x) (g y))
+      → SameAnswer sim (succeed M n f a) (succeed N n g b)
+  unfolding succeed
+  succeed_value-same n f g None b h k = rw h.is (search steps_same)
+  succeed_value-same n f g (Some x) b h k =
+      let l : ValueSame sim x (renamed sim.name x) = record { live = h.live; is = refl } in
+      rw h.is (search (steps_same, k, answer_with-same) depth 16 fits 4000)
+
+  -- conditions that give a value
+  pub primitive_value-same : (n : ℕ) (p : Step H Value) (q : Step K Value) (f : Value → Step H Value) (g : Value → Step K Value)
+      → SameValue sim p q → SameValue (strict sim) p q → ((x y : Value) → ValueSame sim x y → SameValue sim (f x) (g y)) → SameAnswer sim (primitive M n p f) (primitive N n q g)
+  unfolding primitive
+  primitive_value-same n p q f g h k l = search (steps_same, succeed_value-same) depth 16 fits 4000
 
   pub taking-same : (n arguments : ℕ) (p : Step H Bool) (q : Step K Bool) → SameAnswer sim p q → SameAnswer sim (taking n arguments p) (taking n arguments q)
   unfolding taking

@@ -6,7 +6,7 @@ use Rattle.st_model.specs.Values.{Value, Small, Ref, AllLive}
 use Rattle.st_model.specs.Objects.{Object, place_of, IsLiveObject}
 use Rattle.st_model.specs.Machine.{State, roots_of}
 use Rattle.st_model.specs.Table.{Table, table, entry, settled_table}
-use Rattle.st_model.specs.Settled.{AnyRefTo, IsRoot, held_root, page_root, IsReferredFrom, IsSettled, settled_set, reclaim}
+use Rattle.st_model.specs.Settled.{AnyRefTo, IsRefTo, IsRoot, held_root, page_root, IsReferredFrom, IsSettled, settled_set, reclaim}
 use Rattle.st_model.specs.Show.{IsUsed, IsClosed}
 use Rattle.st_model.specs.Foreseen.{IsSound}
 use Rattle.st_model.proofs.SettledLemmas.{is_some-of, some_is, settled-entry, entry-settled}
@@ -76,6 +76,15 @@ reclaim_closed d c =
       page = λ q. stays d.memory (roots_of d) set s (place_of q) (c.page q) (inl (page_root q refl));
       roots = all_stay d.memory (roots_of d) set s (roots_of d) c.roots (λ n r. inl (held_root r));
     }
+
+-- the active context stays as it was
+pub root_stays : (d : State Table) → IsClosed d → (n : ℕ) (o : Object) → d.registers.active ≡ Ref n → entry d.memory n ≡ Some o → entry (reclaim table d).memory n ≡ Some o
+unfolding reclaim
+root_stays d c n o e f =
+    let set = settled_set table d.memory (roots_of d) in
+    let s = settled_is table d.memory (roots_of d) (table_finite d.memory) in
+    let root : IsRoot table d.memory (roots_of d) n = held_root (inl (subst (λ x. IsRefTo n x) (sym e) refl)) in
+    entry-settled d.memory set n o f (member d.memory (roots_of d) set s n (o, f) (inl root))
 
 pub reclaim_sound : (d : State Table) → IsSound d → IsSound (reclaim table d)
 unfolding reclaim

@@ -2,7 +2,7 @@
 use Rattle.std.proofs.Common.{ℕ, List, [], ◌∷◌, ◌++◌, zero, suc, Bool, inl, inr, ◌⊎◌, replicate}
 use Rattle.st_model.specs.Values.{Value}
 use Rattle.st_model.specs.Machine.{ObjectMemory}
-use Rattle.st_model.specs.Settled.{IsRefTo, AnyRefTo, IsRoot, held_root, page_root, SupportsItself, IsSettled}
+use Rattle.st_model.specs.Settled.{IsRefTo, AnyRefTo, IsRoot, SupportsItself, IsSettled}
 
 pub any_either : (n : ℕ) (xs ys : List Value) → AnyRefTo n (xs ++ ys) → AnyRefTo n xs ⊎ AnyRefTo n ys
 any_either n [] ys h = inr h
@@ -25,19 +25,15 @@ any_replicate n (suc k) v (inl h) = h
 any_replicate n (suc k) v (inr h) = any_replicate n k v h
 
 module _ {H : Type 0} (m : ObjectMemory H) (h : H) where
-  root_among : (xs ys : List Value) → ((n : ℕ) → AnyRefTo n xs → AnyRefTo n ys) → (n : ℕ) → IsRoot m h xs n → IsRoot m h ys n
-  root_among xs ys f n (held_root k) = held_root (f n k)
-  root_among xs ys f n (page_root q e) = page_root q e
-
-  supports_among : (xs ys : List Value) → ((n : ℕ) → AnyRefTo n xs → AnyRefTo n ys) → (set : ℕ → Bool) → SupportsItself m h xs set → SupportsItself m h ys set
-  supports_among xs ys f set s = record {
+  supports_alike : (xs ys : List Value) → ((n : ℕ) → IsRoot m h xs n → IsRoot m h ys n) → (set : ℕ → Bool) → SupportsItself m h xs set → SupportsItself m h ys set
+  supports_alike xs ys f set s = record {
     kept = s.kept;
-    supported = λ n t. elim (s.supported n t) [ inl r ↦ inl (root_among xs ys f n r) | inr r ↦ inr r ];
+    supported = λ n t. elim (s.supported n t) [ inl r ↦ inl (f n r) | inr r ↦ inr r ];
   }
 
-  pub settled_among : (xs ys : List Value) → ((n : ℕ) → AnyRefTo n xs → AnyRefTo n ys) → ((n : ℕ) → AnyRefTo n ys → AnyRefTo n xs)
+  pub settled_alike : (xs ys : List Value) → ((n : ℕ) → IsRoot m h xs n → IsRoot m h ys n) → ((n : ℕ) → IsRoot m h ys n → IsRoot m h xs n)
       → (set : ℕ → Bool) → IsSettled m h xs set → IsSettled m h ys set
-  settled_among xs ys f g set s = record {
-    supports = supports_among xs ys f set s.supports;
-    largest = λ other sup. s.largest other (supports_among ys xs g other sup);
+  settled_alike xs ys f g set s = record {
+    supports = supports_alike xs ys f set s.supports;
+    largest = λ other sup. s.largest other (supports_alike ys xs g other sup);
   }

@@ -15,7 +15,7 @@ use Rattle.st_model.specs.Outcomes as outcome
 use Rattle.st_model.specs.Steps.{code_byte, same_value}
 use Rattle.st_model.specs.Calls.{itself}
 use Rattle.st_model.specs.Show.{renamed_registers, renamed_world, renamed_head, renamed_option}
-use Rattle.st_model.specs.Machine.{ObjectMemory, Registers, World, Head, State, Transition, Died, Went, Step, is_there, all_there, device_roots, has_room, roots_of, answer, die, after, ◌>>=◌, ◌>>◌, or_left, tried}
+use Rattle.st_model.specs.Machine.{ObjectMemory, Registers, World, Head, State, Transition, Died, Went, Step, is_there, all_there, device_roots, has_room, used, roots_of, answer, die, after, ◌>>=◌, ◌>>◌, or_left, tried}
 
 pub set_all_live : (live : ℕ → Type 0) (vs : List Value) (i : ℕ) (v : Value) → AllLive live vs → IsLive live v → AllLive live (slice_set vs i v)
 set_all_live live [] i v h k = h
@@ -74,6 +74,7 @@ pub record Simulation {H K : Type 0} (M : ObjectMemory H) (N : ObjectMemory K) :
   pub pointer : (h : H) (k : K) (n : ℕ) (o : Object) → heaps h k → live n → M.read h n ≡ Some o → N.pointer k (name n) ≡ M.pointer h n
   pub borne_live : (h : H) (k : K) (p n : ℕ) → heaps h k → M.borne_by h p ≡ Some n → live n
   pub borne_by : (h : H) (k : K) (p : ℕ) → heaps h k → N.borne_by k p ≡ option_map name (M.borne_by h p)
+  pub used : (h : H) (k : K) → heaps h k → used N k ≡ used M h
   -- both have room for a new object, or neither has; or only the first has, and is beyond the capacities then
   pub rooms : (h : H) (k : K) (a b : Head) (o : Object) → makes → heaps h k → limits a → b ≡ renamed_head name a
       → (has_room N b k (renamed_object name o) ≡ has_room M a h o) ⊎ ((has_room M a h o ≡ true) × over (M.append h o))

@@ -6,15 +6,15 @@ use Rattle.st_model.specs.declared.dead.Dead.{Dead}
 use Rattle.st_model.specs.declared.kind.Kind.{Kind}
 use Rattle.st_model.specs.declared.kind.Kind.TheVariants as kind
 use Rattle.st_model.specs.Values.{Value, Small, Ref, renamed, renamed_all, IsLive, AllLive}
-use Rattle.st_model.specs.Objects.{Object, PageObject, NilObject, renamed_object, IsLiveObject, words_of, with_field, with_units}
-use Rattle.st_model.specs.Machine.{ObjectMemory, Registers, World, State, is_there, all_there, is_of_class, names_instance, first_instance, next_of, has_room, head_roots, device_roots, roots_of, answer, die}
+use Rattle.st_model.specs.Objects.{Object, PageObject, NilObject, renamed_object, IsLiveObject, words_of, size_of, with_field, with_units}
+use Rattle.st_model.specs.Machine.{ObjectMemory, Registers, World, State, is_there, all_there, is_of_class, names_instance, first_instance, next_of, has_room, less, capacity_of, head_roots, device_roots, roots_of, answer, die}
 use Rattle.st_model.specs.Formed.{fresh_with}
 use Rattle.st_model.specs.Show.{renamed_registers, renamed_world, renamed_option}
 use Rattle.std.specs.Option.{option_map}
 use Rattle.std.proofs.lemmas.Bool.Decides.{nat_tests}
-use Rattle.st_model.specs.Steps.{get_active, get_home, get_method, get_receiver, get_ip, get_sp, set_ip, set_sp, found, object_named, object, stored_at, store_at, set_field, exchanged_there, exchange_named, exchange, fit_units, units_set, set_units_at, set_units, get_world, world_set, set_world, named_or_not, object_at, next_instance, fetch_word, store_word, fetch_byte, store_byte, made, make_named, make, registers_set, set_registers, new_of, are_there, of_page, new_object, class_of, or_die, check, fetch_field, store_field, integer_or_die, fetch_integer, count_fields, fetch_fields, store_fields, transfer, put, push, under, look_at_words, drop_words, top, pop, literal, fetch_method_field, store_method_field, byte_at, next_byte, jump}
+use Rattle.st_model.specs.Steps.{get_active, get_home, get_method, get_receiver, get_ip, get_sp, set_ip, set_sp, found, object_named, object, stored_at, store_at, set_field, exchanged_there, exchange_named, exchange, fit_units, units_set, set_units_at, set_units, get_world, world_set, set_world, get_free, named_or_not, object_at, next_instance, fetch_kind, fetch_size, fetch_bytes, store_bytes, fetch_word, store_word, fetch_byte, store_byte, made, make_named, make, registers_set, set_registers, new_of, are_there, of_page, new_object, class_of, or_die, check, fetch_field, store_field, integer_or_die, fetch_integer, count_fields, fetch_fields, store_fields, transfer, put, push, under, look_at_words, drop_words, top, pop, literal, fetch_method_field, store_method_field, byte_at, next_byte, jump}
 use Rattle.st_model.specs.Calls.{itself}
-use Rattle.st_model.proofs.Same.{OptionSame, Simulation, StateSame, TransitionSame, StaysOver, Anything, IsLiveOption, IsLiveRegisters, IsLiveWorld, ValueSame, ValuesSame, OptionalSame, RegistersSame, WorldSame, SameValue, SameValues, SameOption, SameWorld, SameObject, SameAnswer, is_there-renamed, all_there-renamed, value_there, values_there, both, some_object, same_value-same, steps_same, then_unit-same, over_value, over_values, over_object, with_field-renamed, stored_is_live}
+use Rattle.st_model.proofs.Same.{length-renamed, then_object-same, answer_itself-same, OptionSame, Simulation, StateSame, TransitionSame, StaysOver, Anything, IsLiveOption, IsLiveRegisters, IsLiveWorld, ValueSame, ValuesSame, OptionalSame, RegistersSame, WorldSame, SameValue, SameValues, SameOption, SameWorld, SameObject, SameAnswer, is_there-renamed, all_there-renamed, value_there, values_there, both, some_object, same_value-same, steps_same, then_unit-same, over_value, over_values, over_object, with_field-renamed, stored_is_live}
 use Rattle.st_model.proofs.Names.{map_all, device_part, with_devices}
 
 live_replicate : (live : ℕ → Type 0) (v : Value) (n : ℕ) → IsLive live v → AllLive live (replicate n v)
@@ -388,6 +388,13 @@ module _ {H K : Type 0} {M : ObjectMemory H} {N : ObjectMemory K} (sim : Simulat
   pub set_world-same : (w u : World) → WorldSame sim w u → SameAnswer sim (set_world M w) (set_world N u)
   set_world-same w u h = rw h.is (set_world_one-same w h.live)
 
+  pub get_free-same : SameAnswer sim (get_free M) (get_free N)
+  unfolding get_free
+  get_free-same = record {
+    go = λ s t st. let u = sim.used s.memory t.memory st.memory in inr (tt, λ i. less (capacity_of (st.head i)) (u i), st);
+    stay = λ s o. (tt, o);
+  }
+
   -- pointers
 
   named_or_not-same : (a b : Option ℕ) → ((n : ℕ) → a ≡ Some n → sim.live n) → b ≡ option_map sim.name a → IsLiveOption sim.live (named_or_not a) × (named_or_not b ≡ renamed_option sim.name (named_or_not a))
@@ -474,7 +481,7 @@ module _ {H K : Type 0} {M : ObjectMemory H} {N : ObjectMemory K} (sim : Simulat
   integer_or_die-same (Small n) w h = rw h.is (search steps_same)
   integer_or_die-same (Ref n) w h = rw h.is (search steps_same)
 
-  pub ruleset memory_same = (steps_same, get_active-same, get_home-same, get_method-same, get_receiver-same, get_ip-same, get_sp-same, set_ip-same, set_sp-same, object-same, set_field-same, set_units-same, exchange-same, make-same, set_registers-same, get_world-same, set_world-same, object_at-same, next_instance-same, of_page-same, check-same, value_or_die-same, itself_or_die-same, integer_or_die-same)
+  pub ruleset memory_same = (steps_same, get_active-same, get_home-same, get_method-same, get_receiver-same, get_ip-same, get_sp-same, set_ip-same, set_sp-same, object-same, set_field-same, set_units-same, exchange-same, make-same, set_registers-same, get_world-same, set_world-same, get_free-same, object_at-same, next_instance-same, of_page-same, check-same, value_or_die-same, itself_or_die-same, integer_or_die-same)
 
   -- fields
 
@@ -540,6 +547,27 @@ module _ {H K : Type 0} {M : ObjectMemory H} {N : ObjectMemory K} (sim : Simulat
   unfolding store_byte
   store_byte-same v w i x h = search fields_same depth 16 fits 4000
 
+  pub fetch_kind-same : (v w : Value) → ValueSame sim v w → SameAnswer sim (fetch_kind M v) (fetch_kind N w)
+  unfolding fetch_kind
+  fetch_kind-same v w h = search fields_same depth 16 fits 4000
+
+  size-renamed : (o : Object) → size_of (renamed_object sim.name o) ≡ size_of o
+  size-renamed o = rw (length-renamed sim.name o.fields) refl
+
+  pub fetch_size-same : (v w : Value) → ValueSame sim v w → SameAnswer sim (fetch_size M v) (fetch_size N w)
+  unfolding fetch_size
+  fetch_size-same v w h = then_object-same sim _ _ _ _ _ _ (object-same v w h) (λ o l. rw (size-renamed o) (answer_itself-same sim _))
+
+  pub fetch_bytes-same : (v w : Value) (from n : ℕ) → ValueSame sim v w → SameAnswer sim (fetch_bytes M v from n) (fetch_bytes N w from n)
+  unfolding fetch_bytes
+  fetch_bytes-same v w from zero h = search fields_same depth 16 fits 4000
+  fetch_bytes-same v w from (suc n) h = search (fields_same, fetch_byte-same, fetch_bytes-same v w (suc from) n) depth 16 fits 4000
+
+  pub store_bytes-same : (v w : Value) (to : ℕ) (bs : List ℕ) → ValueSame sim v w → SameAnswer sim (store_bytes M v to bs) (store_bytes N w to bs)
+  unfolding store_bytes
+  store_bytes-same v w to [] h = search fields_same depth 16 fits 4000
+  store_bytes-same v w to (b ∷ bs) h = search (fields_same, store_byte-same, store_bytes-same v w (suc to) bs) depth 16 fits 4000
+
   -- the stack
 
   put-same : (c d : Value) (at : ℕ) (x y : Value) → ValueSame sim c d → ValueSame sim x y → SameAnswer sim (put M c at x) (put N d at y)
@@ -596,4 +624,4 @@ module _ {H K : Type 0} {M : ObjectMemory H} {N : ObjectMemory K} (sim : Simulat
   unfolding jump
   jump-same d = search fields_same depth 16 fits 4000
 
-  pub ruleset parts_same = (fields_same, fetch_integer-same, transfer-same, fetch_word-same, store_word-same, fetch_byte-same, store_byte-same, push-same, under-same, look_at_words-same, drop_words-same, top-same, pop-same, literal-same, fetch_method_field-same, store_method_field-same, next_byte-same, jump-same)
+  pub ruleset parts_same = (fields_same, fetch_integer-same, transfer-same, fetch_word-same, store_word-same, fetch_byte-same, store_byte-same, fetch_kind-same, fetch_size-same, fetch_bytes-same, store_bytes-same, push-same, under-same, look_at_words-same, drop_words-same, top-same, pop-same, literal-same, fetch_method_field-same, store_method_field-same, next_byte-same, jump-same)

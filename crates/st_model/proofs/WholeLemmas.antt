@@ -37,7 +37,7 @@ pub live_known : (t : Table) (x : Value) → IsLive (IsUsed t) x → IsKnown t x
 live_known t (Small n) l = λ big. cc
 live_known t (Ref n) l = λ big. used_live t n l
 
-live_at : (P : ℕ → Type 0) (xs : List Value) (i : ℕ) (x : Value) → AllLive P xs → slice_get xs i ≡ Some x → IsLive P x
+pub live_at : (P : ℕ → Type 0) (xs : List Value) (i : ℕ) (x : Value) → AllLive P xs → slice_get xs i ≡ Some x → IsLive P x
 live_at P [] i x h e = cc
 live_at P (y ∷ ys) zero x h e = let q : y ≡ x = cc in subst (IsLive P) q h.0
 live_at P (y ∷ ys) (suc i) x h e = live_at P ys i x h.1 e

@@ -1,23 +1,13 @@
 -- Cycles and runs as functions: a bytecode, the test for space, and reclaiming (chapters 28 and 30).
-use Rattle.std.specs.Prelude.{ℕ, zero, suc, ◌-◌, Bool, true, false}
+use Rattle.std.specs.Prelude.{ℕ, zero, suc, Bool, true, false}
 use Rattle.st_model.specs.declared.demand.Demand.{Demand}
 use Rattle.st_model.specs.Outcomes.{Outcome, StepEnd, Did, NotBuilt, Ending, With, Space, Unbuilt}
 use Rattle.st_model.specs.Outcomes as outcome
-use Rattle.st_model.specs.Machine.{ObjectMemory, Head, State, Transition, Died, Went, used, is_over}
+pub use Rattle.st_model.specs.Machine.{less, capacity_of, free_space}
+use Rattle.st_model.specs.Machine.{ObjectMemory, State, Transition, Died, Went, used, is_over}
 use Rattle.st_model.specs.Steps.{next_byte}
 use Rattle.st_model.specs.Bytecodes.{step}
 use Rattle.st_model.specs.Settled.{reclaim}
-
--- entries and words without others
-abbrev pub less : Demand → Demand → Demand
-less d e = record { entries = d.entries - e.entries; words = d.words - e.words }
-
-abbrev pub capacity_of : Head → Demand
-capacity_of a = record { entries = a.entries; words = a.words }
-
--- what is free
-abbrev pub free_space : {H : Type 0} → ObjectMemory H → State H → Demand
-free_space m s = less (capacity_of s.head) (used m s.memory)
 
 -- what a step makes that goes from s to t: it drops nothing
 abbrev pub made_between : {H : Type 0} → ObjectMemory H → State H → State H → Demand

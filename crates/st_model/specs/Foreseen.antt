@@ -2,13 +2,16 @@
 -- done where the capacities have room for what it makes. And what that has to do with births.
 use Rattle.std.specs.Prelude.{◌≡◌, length, Bool, true, false}
 use Rattle.st_model.specs.declared.dead.Dead.TheVariants as dead
-use Rattle.st_model.specs.Outcomes.{Outcome, StepEnd, Did, NotBuilt, is_built, Ending, With, Space, Unbuilt, renamed_outcome, renamed_ending, IsLiveOutcome}
-use Rattle.st_model.specs.Machine.{State, Transition, Died, Went, Step, used, is_over}
+use Rattle.st_model.specs.Outcomes.{Outcome, StepEnd, Did, NotBuilt, is_built, Ending, With, Space, Unbuilt, renamed_outcome, renamed_ending, IsLiveOutcome, IsLiveEnding}
+use Rattle.st_model.specs.Outcomes as outcome
+use Rattle.st_model.specs.Values.{Value}
+use Rattle.st_model.specs.Machine.{ObjectMemory, State, Transition, Died, Went, Step, used, is_over}
+use Rattle.st_model.specs.Steps.{top}
 use Rattle.st_model.specs.Births.{Births, births, pointer_of}
 use Rattle.st_model.specs.Table.{Table, table, apart, bounded_table}
 use Rattle.st_model.specs.Bytecodes.{step}
 use Rattle.st_model.specs.Settled.{reclaim}
-use Rattle.st_model.specs.Show.{Shows, IsClosed, IsUsed}
+use Rattle.st_model.specs.Show.{Shows, IsClosed, IsUsed, IsKept}
 use Rattle.st_model.specs.Cycles.{next_code, made_between, free_space}
 
 -- what a cycle makes of the step that is done; one that was foreseen neither dies nor comes to an unbuilt primitive
@@ -34,12 +37,12 @@ pub record IsSound (c : State Table) : Type 0 where
   pub places : length c.memory ≡ 32768
   pub closed : IsClosed c
 
--- both died of one cause, or both ended alike and the table shows the births
+-- both died of one cause, or both ended alike, the table shows the births, and what the ending names is kept
 abbrev pub EndsShown : Transition (State Table) Ending → Transition (State Births) Ending → Type 0
 EndsShown (Died a) (Died b) = a ≡ b
 EndsShown (Died a) (Went b s) = ⊥
 EndsShown (Went a c) (Died b) = ⊥
-EndsShown (Went a c) (Went b s) = (a ≡ renamed_ending (pointer_of s.memory) b) × Shows c s
+EndsShown (Went a c) (Went b s) = (a ≡ renamed_ending (pointer_of s.memory) b) × Shows c s × IsLiveEnding (IsKept s.memory) b
 
 -- both died of one cause, or both went and the table shows the births
 abbrev pub ShownAgain : Transition (State Table) Unit → Transition (State Births) Unit → Type 0
@@ -56,14 +59,19 @@ Foretells (Died a) (Went p u) = ⊥
 Foretells (Went o d) (Died b) = ⊥
 Foretells (Went o d) (Went p u) = (is_built o ≡ is_built p) × (used apart d.memory ≡ used births u.memory)
 
--- What the births do from s, and have room for, the bounded table does from c. What both keep is shown, and the outcome is
--- the same, where nothing dangles.
+-- What the births do from s, and have room for, the bounded table does from c. Where nothing dangles, what both keep is
+-- shown, the outcome is the same, and what it names is kept.
 pub record DoesAsBirths (c : State Table) (o : Outcome) (u : State Births) : Type 0 where
   pub outcome : Outcome
   pub state : State Table
   pub does : (step bounded_table).run c ≡ Went (Did outcome) state
   pub shows : IsClosed (reclaim table state) → IsLiveOutcome (IsUsed (reclaim table state).memory) outcome
       → (outcome ≡ renamed_outcome (pointer_of (reclaim births u).memory) o) × Shows (reclaim table state) (reclaim births u)
+      × IsLiveOutcome (IsKept (reclaim births u).memory) o
+
+-- what a bytecode's outcome names is the word at the top of the stack that it leaves, so that reclaiming keeps it
+abbrev pub NamesTop : {H : Type 0} → ObjectMemory H → Step H StepEnd → Type 0
+NamesTop {H = H} m step = (s t : State H) (v : Value) → step.run s ≡ Went (Did (outcome.Say v)) t → (top m).run t ≡ Went v t
 
 -- what the births' step makes fits, and then the bounded table does the same
 abbrev pub DoesWithin : State Table → State Births → Type 0

@@ -13,6 +13,8 @@ pub mod Sends
 pub mod Integers
 pub mod Primitives
 pub mod Arithmetic
+pub mod Storage
+pub mod Deeds
 pub mod Executing
 pub mod Returns
 pub mod Bytecodes

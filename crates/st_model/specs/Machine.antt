@@ -120,6 +120,17 @@ used m h = record { entries = m.total one h; words = m.total words_of h }
 abbrev pub is_over : Demand → Head → Bool
 is_over d a = if nat_lt a.entries d.entries then true else nat_lt a.words d.words
 
+-- entries and words without others
+abbrev pub less : Demand → Demand → Demand
+less d e = record { entries = d.entries - e.entries; words = d.words - e.words }
+
+abbrev pub capacity_of : Head → Demand
+capacity_of a = record { entries = a.entries; words = a.words }
+
+-- what the capacities leave free
+abbrev pub free_space : {H : Type 0} → ObjectMemory H → State H → Demand
+free_space m s = less (capacity_of s.head) (used m s.memory)
+
 -- one object more may be made: always, but for a memory that is bounded
 abbrev pub has_room : {H : Type 0} → ObjectMemory H → Head → H → Object → Bool
 has_room m a h o =

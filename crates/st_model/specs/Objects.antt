@@ -26,6 +26,12 @@ is_words Words = true
 is_words Bytes = false
 is_words Method = false
 
+abbrev pub is_bytes : Kind → Bool
+is_bytes Pointers = false
+is_bytes Words = false
+is_bytes Bytes = true
+is_bytes Method = false
+
 abbrev pub is_method : Kind → Bool
 is_method Pointers = false
 is_method Words = false

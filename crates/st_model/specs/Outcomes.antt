@@ -51,6 +51,12 @@ renamed_ending f (With o) = With (renamed_outcome f o)
 renamed_ending f (Space demand left) = Space demand left
 renamed_ending f (Unbuilt b) = Unbuilt b
 
+-- an ending that names only what lives
+abbrev pub IsLiveEnding : (ℕ → Type 0) → Ending → Type 0
+IsLiveEnding live (With o) = IsLiveOutcome live o
+IsLiveEnding live (Space demand left) = Unit {0}
+IsLiveEnding live (Unbuilt b) = Unit {0}
+
 -- what an outcome of the code means
 abbrev pub outcome_of : CodeOutcome → Outcome
 outcome_of outcomes.Went = Went

@@ -1,9 +1,11 @@
 -- Primitives (chapter 29): how one is tried, and the numbers and fields that several of them use.
-use Rattle.std.specs.Prelude.{ℕ, zero, suc, ◌+◌, ◌==◌, Option, Some, None, Bool, true, false, if◌then◌else◌}
-use Rattle.st_model.specs.Values.{Value}
-use Rattle.st_model.specs.Objects.{FalseObject, TrueObject}
-use Rattle.st_model.specs.Machine.{ObjectMemory, Step, answer, tried, ◌>>=◌, ◌>>◌}
-use Rattle.st_model.specs.Steps.{of_page, push, pop}
+use Rattle.std.specs.Prelude.{ℕ, zero, suc, ◌+◌, ◌*◌, ◌/◌, ◌%◌, ◌==◌, List, [], ◌∷◌, length, Option, Some, None, Bool, true, false, nat_lt, nat_le, if◌then◌else◌, ℤ, pos, negsuc}
+use Rattle.st_model.specs.declared.dead.Dead.TheVariants as dead
+use Rattle.st_model.specs.declared.kind.Kind.TheVariants as kind
+use Rattle.st_model.specs.Values.{Value, Small, Ref, small_integer}
+use Rattle.st_model.specs.Objects.{PageObject, FalseObject, TrueObject, LargeClass, is_pointers, is_bytes}
+use Rattle.st_model.specs.Machine.{ObjectMemory, Step, answer, die, tried, ◌>>=◌, ◌>>◌}
+use Rattle.st_model.specs.Steps.{of_page, class_of, same_value, check, fetch_kind, fetch_size, fetch_field, fetch_bytes, store_bytes, make, push, pop}
 
 -- pops n words, the top one first
 unfoldable pub pop_words : {H : Type 0} → ObjectMemory H → ℕ → Step H Unit
@@ -40,3 +42,118 @@ taking n arguments m = if arguments == n then m else answer false
 unfoldable pub truth : {H : Type 0} → ObjectMemory H → Bool → Step H Value
 truth m true = of_page m TrueObject
 truth m false = of_page m FalseObject
+
+-- an instance of this class of the page
+unfoldable pub check_class : {H : Type 0} → ObjectMemory H → Value → PageObject → Step H Unit
+check_class m v q = do
+  class ← class_of m v
+  wanted ← of_page m q
+  check dead.Kind (same_value class wanted)
+
+-- an object of kind Bytes
+unfoldable pub check_bytes : {H : Type 0} → ObjectMemory H → Value → Step H Unit
+check_bytes m v = do
+  k ← fetch_kind m v
+  check dead.Kind (is_bytes k)
+
+-- the 15 bits of a SmallInteger
+unfoldable pub bits_or_die : {H : Type 0} → Value → Step H ℕ
+bits_or_die (Small n) = answer n
+bits_or_die (Ref n) = die dead.NotSmall
+
+-- a SmallInteger of at least 0
+unfoldable pub positive_small : {H : Type 0} → Value → Step H ℕ
+positive_small v = do
+  n ← bits_or_die v
+  check dead.Field (nat_lt n 16384)
+  answer n
+
+-- a SmallInteger from 0 to 255
+unfoldable pub byte_or_die : {H : Type 0} → Value → Step H ℕ
+byte_or_die v = do
+  n ← bits_or_die v
+  check dead.Field (nat_lt n 256)
+  answer n
+
+-- the number of these bytes, the low one first
+abbrev pub number_of_bytes : List ℕ → ℕ
+number_of_bytes [] = 0
+number_of_bytes (b ∷ bs) = b + 256 * number_of_bytes bs
+
+-- the value of a LargePositiveInteger: an object of kind Bytes, with 1 to 4 of them
+unfoldable pub large_value : {H : Type 0} → ObjectMemory H → Value → Step H ℕ
+large_value m v = do
+  check_class m v LargeClass
+  check_bytes m v
+  n ← fetch_size m v
+  check dead.Field (nat_le 1 n)
+  check dead.Field (nat_le n 4)
+  bytes ← fetch_bytes m v 0 n
+  answer (number_of_bytes bytes)
+
+-- the value of a SmallInteger of at least 0, or of a LargePositiveInteger
+unfoldable pub positive_value : {H : Type 0} → ObjectMemory H → Value → Step H ℕ
+positive_value m (Small n) = positive_small (Small n)
+positive_value m (Ref n) = large_value m (Ref n)
+
+-- the least bytes that have this value, the low one first, and so many at most
+abbrev pub bytes_within : ℕ → ℕ → List ℕ
+bytes_within zero k = []
+bytes_within (suc left) k = if nat_lt k 256 then k ∷ [] else k % 256 ∷ bytes_within left (k / 256)
+
+-- of a number below 2^32
+abbrev pub bytes_of_number : ℕ → List ℕ
+bytes_of_number k = bytes_within 4 k
+
+-- a new LargePositiveInteger of these bytes
+unfoldable pub new_large : {H : Type 0} → ObjectMemory H → List ℕ → Step H Value
+new_large m bytes = do
+  class ← of_page m LargeClass
+  o ← make m class kind.Bytes (length bytes) 0
+  store_bytes m o 0 bytes
+  answer o
+
+-- the SmallInteger of a number, or above 16383 a new LargePositiveInteger
+unfoldable pub number : {H : Type 0} → ObjectMemory H → ℕ → Step H Value
+number m k = if nat_lt k 16384 then answer (Small k) else new_large m (bytes_of_number k)
+
+unfoldable pub number_of : {H : Type 0} → ObjectMemory H → ℤ → Step H Value
+number_of m (pos k) = number m k
+number_of m (negsuc k) = answer (small_integer (negsuc k))
+
+-- What the instance specification of a class says, field 2, in the bits of its word: bit 0 that the instances have pointers,
+-- bit 1 words, bit 2 that they are indexable, and bits 4 to 14 the number of fixed fields.
+
+abbrev pub has_pointers : ℕ → Bool
+has_pointers specification = specification / 16384 % 2 == 1
+
+abbrev pub has_words : ℕ → Bool
+has_words specification = specification / 8192 % 2 == 1
+
+abbrev pub is_indexable : ℕ → Bool
+is_indexable specification = specification / 4096 % 2 == 1
+
+abbrev pub fixed_count : ℕ → ℕ
+fixed_count specification = specification % 2048
+
+-- it is readable where the class is of kind Pointers and field 2 holds a SmallInteger
+unfoldable pub specification : {H : Type 0} → ObjectMemory H → Value → Step H ℕ
+specification m class = do
+  x ← fetch_field m class 2
+  bits_or_die x
+
+unfoldable pub fixed_of_class : {H : Type 0} → ObjectMemory H → Value → Step H ℕ
+fixed_of_class m v = do
+  class ← class_of m v
+  s ← specification m class
+  answer (fixed_count s)
+
+unfoldable pub fixed_by : {H : Type 0} → ObjectMemory H → Value → Bool → Step H ℕ
+fixed_by m v true = fixed_of_class m v
+fixed_by m v false = answer 0
+
+-- how many fixed fields an object has: of kind Pointers those of its class, and of any other kind none
+unfoldable pub fixed_fields : {H : Type 0} → ObjectMemory H → Value → Step H ℕ
+fixed_fields m v = do
+  k ← fetch_kind m v
+  fixed_by m v (is_pointers k)

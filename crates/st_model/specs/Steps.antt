@@ -3,12 +3,13 @@
 use Rattle.std.specs.Prelude.{ℕ, zero, suc, ◌+◌, ◌-◌, ◌==◌, List, [], ◌∷◌, Option, Some, None, Bool, true, false, ◌&&◌, slice_get, slice_set, nat_lt, nat_le, length, if◌then◌else◌, ℤ, pos, negsuc, ◌+ℤ◌, int_le}
 use Rattle.st_model.specs.declared.dead.Dead.{Dead}
 use Rattle.st_model.specs.declared.dead.Dead.TheVariants as dead
+use Rattle.st_model.specs.declared.demand.Demand.{Demand}
 use Rattle.st_model.specs.declared.kind.Kind.{Kind}
 use Rattle.st_model.specs.declared.kind.Kind.TheVariants as kind
 use Rattle.st_model.specs.Values.{Value, Small, Ref, integer}
-use Rattle.st_model.specs.Objects.{Object, PageObject, NilObject, SmallIntegerClass, is_pointers, is_words, has_bytes, is_method, first_unit, with_field, with_units}
+use Rattle.st_model.specs.Objects.{Object, PageObject, NilObject, SmallIntegerClass, is_pointers, is_words, has_bytes, is_method, first_unit, size_of, with_field, with_units}
 use Rattle.st_model.specs.Formed.{fresh_with}
-use Rattle.st_model.specs.Machine.{ObjectMemory, Registers, World, State, Transition, Died, Went, Step, is_there, all_there, device_roots, next_of, has_room, answer, die, ◌>>=◌, ◌>>◌}
+use Rattle.st_model.specs.Machine.{ObjectMemory, Registers, World, State, Transition, Died, Went, Step, is_there, all_there, device_roots, next_of, has_room, free_space, answer, die, ◌>>=◌, ◌>>◌}
 
 -- the registers
 
@@ -146,6 +147,10 @@ world_set w s true = Went tt (record s { world = w })
 unfoldable pub set_world : {H : Type 0} → ObjectMemory H → World → Step H Unit
 set_world m w = record { run = λ s. world_set w s (all_there m s.memory (device_roots w.devices)) }
 
+-- the entries and words that are free
+unfoldable pub get_free : {H : Type 0} → ObjectMemory H → Step H Demand
+get_free m = record { run = λ s. Went (free_space m s) s }
+
 -- pointers; they are halved
 
 unfoldable pub named_or_not : Option ℕ → Option Value
@@ -175,6 +180,18 @@ same_value (Small a) (Small b) = a == b
 same_value (Small a) (Ref b) = false
 same_value (Ref a) (Small b) = false
 same_value (Ref a) (Ref b) = a == b
+
+-- the kind of an object
+unfoldable pub fetch_kind : {H : Type 0} → ObjectMemory H → Value → Step H Kind
+fetch_kind m v = do
+  o ← object m v
+  answer o.kind
+
+-- how many fields, words or bytes it has; a Method's header and literals count as bytes
+unfoldable pub fetch_size : {H : Type 0} → ObjectMemory H → Value → Step H ℕ
+fetch_size m v = do
+  o ← object m v
+  answer (size_of o)
 
 -- fields
 
@@ -270,6 +287,21 @@ store_byte m v i x = do
   check dead.Field (nat_le (first_unit o) i)
   check dead.Field (nat_lt (i - first_unit o) (length o.units))
   set_units m v (slice_set o.units (i - first_unit o) x)
+
+-- n bytes from one on, in their order
+unfoldable pub fetch_bytes : {H : Type 0} → ObjectMemory H → Value → ℕ → ℕ → Step H (List ℕ)
+fetch_bytes m v from zero = answer []
+fetch_bytes m v from (suc n) = do
+  b ← fetch_byte m v from
+  bs ← fetch_bytes m v (suc from) n
+  answer (b ∷ bs)
+
+-- these into the bytes from one on
+unfoldable pub store_bytes : {H : Type 0} → ObjectMemory H → Value → ℕ → List ℕ → Step H Unit
+store_bytes m v to [] = answer tt
+store_bytes m v to (b ∷ bs) = do
+  store_byte m v to b
+  store_bytes m v (suc to) bs
 
 -- the stack
 

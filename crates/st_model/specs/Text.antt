@@ -12,7 +12,7 @@ use Rattle.st_model.specs.Outcomes as outcome
 use Rattle.st_model.specs.Values.{Value, Small, Ref, integer}
 use Rattle.st_model.specs.Objects.{Object, one, words_of}
 use Rattle.st_model.specs.Deaths.{dead_number}
-use Rattle.st_model.specs.Machine.{Registers, World, State, Transition, Died, Went}
+use Rattle.st_model.specs.Machine.{Registers, Devices, World, State, Transition, Died, Went}
 use Rattle.st_model.specs.Table.{Table, total_used}
 use Rattle.st_model.specs.Births.{Births, births, object_born}
 use Rattle.st_model.specs.Cycles.{cycle}
@@ -42,8 +42,8 @@ abbrev pub input_text : World → List ℕ
 input_text w = codes "input" ++ (numbers_text (length w.waiting ∷ length w.devices.pending ∷ w.mouse_x ∷ w.mouse_y ∷ w.second_clock ∷ w.millisecond_clock ∷ []) ++ codes "\n")
 
 -- display, cursor, input semaphore, timer and low-space semaphore
-abbrev pub held_text : World → List ℕ
-held_text w = codes "held" ++ (values_text (w.devices.display ∷ w.devices.cursor ∷ w.devices.input_semaphore ∷ w.devices.timer ∷ w.devices.low_space ∷ []) ++ codes "\n")
+abbrev pub held_text : Devices → List ℕ
+held_text d = codes "held" ++ (values_text (d.display ∷ d.cursor ∷ d.input_semaphore ∷ d.timer ∷ d.low_space ∷ []) ++ codes "\n")
 
 -- how many objects are kept, and how many words they have
 abbrev pub used_text : Table → List ℕ
@@ -84,7 +84,7 @@ objects_text k (None ∷ t) = objects_text (suc k) t
 objects_text k (Some o ∷ t) = object_text k o ++ objects_text (suc k) t
 
 unfoldable pub state_text : State Table → List ℕ
-state_text s = registers_text s.registers ++ (input_text s.world ++ (held_text s.world ++ (used_text s.memory ++ objects_text 0 s.memory)))
+state_text s = registers_text s.registers ++ (input_text s.world ++ (held_text s.world.devices ++ (used_text s.memory ++ objects_text 0 s.memory)))
 
 -- a run's end, with the number of finished cycles
 abbrev pub ran_text : ℕ → List ℕ

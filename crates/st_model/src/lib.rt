@@ -15,6 +15,7 @@ ghost use Rattle.st_model.specs.Laws.{ApartForetells, BoundedDoes, StepMissesNot
 mod bytecode;
 mod call;
 mod dead;
+mod deed;
 mod demand;
 mod fault;
 mod halt;
@@ -31,6 +32,7 @@ mod word;
 pub use bytecode::{Bytecode, Constant, Operand, decode, extended_operand};
 pub use call::{Call, Performing};
 pub use dead::Dead;
+pub use deed::Deed;
 pub use demand::Demand;
 pub use fault::ImageFault;
 pub use halt::Halt;

@@ -2,7 +2,7 @@
 use Rattle.std.proofs.Common.{◌≡◌, ℕ, ◌+◌, ◌*◌, ◌-◌, ◌<◌, ◌≤◌, zero, suc, Bool, true, false, List, [], ◌∷◌, length, drop, get_or, refl, sym, ap, ◌∙◌, arith}
 use Rattle.std.specs.Prelude.{Option, None, nat_le, ◌&&◌, if◌then◌else◌}
 use Rattle.std.proofs.lemmas.Bool.Decides.{nat_tests}
-use Rattle.st_once.specs.Words.{digits_after, at_most_a_billion, cycles_of}
+use Rattle.st_once.specs.Words.{digits_after, at_most_a_billion, cycles_said}
 
 -- what passes the most cycles gives none, whatever digits follow
 pub too_many : (ds : List ℕ) (n : ℕ) → 1000000000 < n → at_most_a_billion (digits_after n ds) ≡ None
@@ -53,8 +53,8 @@ none_over false x e = refl
 
 -- a number that passes the most cycles before its end is none
 pub digits_over : (w : List ℕ) (i n d : ℕ) → i < length w → 48 ≤ get_or w i d → get_or w i d ≤ 57 → digits_after 0 w ≡ digits_after n (drop i w)
-    → 1000000000 < 10 * n + (get_or w i d - 48) → None ≡ cycles_of w
-unfolding cycles_of
+    → 1000000000 < 10 * n + (get_or w i d - 48) → None ≡ cycles_said w
+unfolding cycles_said
 digits_over w i n d l low high so_far over =
     none_over (nat_le 1 (length w) && nat_le (length w) 10) (digits_after 0 w)
     (ap at_most_a_billion (so_far ∙ digits_next w i n d l low high) ∙ too_many (drop (i + 1) w) (10 * n + (get_or w i d - 48)) over)

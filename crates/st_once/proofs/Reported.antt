@@ -8,15 +8,10 @@ use Rattle.st_model.specs.Births.{Births, births}
 use Rattle.st_model.specs.Table.{Table}
 use Rattle.st_model.specs.Cycles.{run, finished}
 use Rattle.st_model.specs.Foreseen.{EndsShown}
-use Rattle.st_model.specs.Show.{Shows, show, raised, pointer_of}
+use Rattle.st_model.specs.Show.{Shows, show, pointer_of}
 use Rattle.st_model.specs.Text.{state_text, ran_text, dead_text, unbuilt_text, space_text, text_at, run_text}
-use Rattle.st_model.specs.View.{View, IsWhole}
-use Rattle.st_model.proofs.Raised.{raised_shown}
 use Rattle.st_model.proofs.Texts.{text_is}
 use Rattle.st_model.proofs.Showing.{show_is}
-use Rattle.st_frames.specs.declared.frame.Frame.{Frame}
-use Rattle.st_frames.specs.Shown.{IsFrame, shown}
-use Rattle.st_frames.proofs.Closed.{is_closed}
 use Rattle.st_machine.specs.declared.ending.RunEnd.{RunEnd}
 use Rattle.st_machine.specs.declared.ending.RunEnd.TheVariants as end
 use Rattle.st_machine.specs.Runs.{EndsAs, AsksNothing, cycles_of, transition_at}
@@ -81,10 +76,5 @@ module _ (n d k : ℕ) (c : State Table) (places : length c.memory ≡ 32768) wh
 begun : (n : ℕ) (s : State Births) → run_text n s ≡ text_at (finished births n s) (n - finished births n s) (run births n s)
 begun n s = let e : 0 + finished births n s ≡ finished births n s = omega arith in text_is n 0 s ∙ ap (λ i. text_at i (n - finished births n s) (run births n s)) e
 
-pub run_is : (v w : View) (f g : Frame) (n : ℕ) (e : RunEnd) → IsWhole v → IsFrame v f → IsWhole w → AsksNothing e
-    → ((s : State Births) → Shows (shown v f) s → EndsAs n s e (shown w g))
-    → end_text n e ++ rest_text e (shown w g) ≡ run_text n (raised (shown v f))
-run_is v w f g n e whole frame whole_after asks ends =
-    let s = raised (shown v f) in
-    let end = ends s (raised_shown (shown v f) (is_closed v f whole frame)) in
-    sym (begun n s ∙ said n (finished births n s) (n - finished births n s) (shown w g) whole_after.places e asks end.count (run births n s) end.ends)
+pub run_is : (s : State Births) (c : State Table) (n : ℕ) (e : RunEnd) → length c.memory ≡ 32768 → AsksNothing e → EndsAs n s e c → end_text n e ++ rest_text e c ≡ run_text n s
+run_is s c n e places asks end = sym (begun n s ∙ said n (finished births n s) (n - finished births n s) c places e asks end.count (run births n s) end.ends)

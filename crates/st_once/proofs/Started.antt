@@ -1,10 +1,13 @@
 -- What a reading with the values of an image's own head says of a file.
-use Rattle.std.proofs.Common.{◌≡◌, ℕ, ◌≤◌, ◌^◌, List, length, refl, subst}
+use Rattle.std.proofs.Common.{◌≡◌, ℕ, ◌≤◌, ◌^◌, List, length, refl, sym, ap, ◌∙◌, subst}
+use Rattle.st_model.specs.Objects.{nil}
+use Rattle.st_model.specs.Machine.{World, empty_world}
 use Rattle.st_model.specs.Image.{image_head}
 use Rattle.st_model.specs.Faults.{IsWellFormed, IsImageFault}
 use Rattle.st_model.specs.declared.fault.ImageFault.{ImageFault}
-use Rattle.st_model.specs.View.{View}
+use Rattle.st_model.specs.View.{View, no_devices}
 use Rattle.st_frames.specs.declared.frame.Frame.{Frame}
+use Rattle.st_frames.specs.Shown.{IsFrame, IsReady, filled}
 use Rattle.st_image.specs.HeadValues.{no_values, head_over}
 use Rattle.st_image.specs.Reading.{IsStart}
 use Rattle.st_once.specs.Ends.{IsReadable, IsFaulty}
@@ -24,3 +27,12 @@ started read bytes v f same start =
 pub faulty : (read bytes : List ℕ) (fault : ImageFault) → read ≡ bytes → length read ≤ 2 ^ 23 → IsImageFault (head_over no_values read) read fault → IsFaulty bytes fault
 faulty read bytes fault same short is =
     subst (λ b. IsFaulty b fault) same (record { short = short; fault = subst (λ h. IsImageFault h read fault) (own_head read) is })
+
+-- a memory that holds nothing but the registers is ready with a new world
+
+filled_empty : filled (empty_world nil).devices ≡ no_devices
+unfolding no_devices
+filled_empty = refl
+
+pub ready_new : (v : View) (f : Frame) (w : World) → IsFrame v f → v.held.devices ≡ no_devices → w ≡ empty_world nil → IsReady v f w
+ready_new v f w frame quiet new = record { frame = frame; devices = quiet ∙ (sym filled_empty ∙ ap (λ (x : World). filled x.devices) (sym new)) }

@@ -11,12 +11,12 @@ use Rattle.st_model.specs.Machine.{State, Went}
 use Rattle.st_model.specs.Table.{Table}
 use Rattle.st_model.specs.Image.{image_head}
 use Rattle.st_model.specs.Faults.{IsImageFault, IsWellFormed}
-use Rattle.st_model.specs.Start.{start}
-use Rattle.st_model.specs.Show.{raised}
+use Rattle.st_model.specs.Births.{Births}
+use Rattle.st_model.specs.Start.{begin}
 use Rattle.st_model.specs.Text.{numbers_text, ran_text, dead_text, unbuilt_text, space_text, quit_text, debugger_text, state_text, run_text}
 use Rattle.st_machine.specs.declared.ending.RunEnd.{RunEnd}
 use Rattle.st_machine.specs.declared.ending.RunEnd.TheVariants as end
-use Rattle.st_once.specs.Words.{once_of, word}
+use Rattle.st_once.specs.Words.{once_of, word_at}
 use Rattle.st_once.specs.declared.refusal.Refusal.{Refusal}
 use Rattle.st_once.specs.declared.refusal.Refusal.TheVariants as refusal
 use Rattle.st_once.specs.declared.status.Status.{Status}
@@ -82,11 +82,11 @@ IsRefusal bytes refusal.DiskFault = ⊤
 IsRefusal bytes refusal.OutOfMemory = ⊤
 
 -- What is said of n cycles of an image: how the book's machine ends that begins with the image's objects as
--- births, and what it shows then.
+-- births and the registers fetched over them, and what it shows then.
 pub record IsReport (bytes : List ℕ) (n : ℕ) (text : List ℕ) : Type 0 where
-  pub state : State Table
-  pub starts : start (image_head bytes) bytes ≡ Went tt state
-  pub is : text ≡ run_text n (raised state)
+  pub births : State Births
+  pub begins : begin (image_head bytes) bytes ≡ Went tt births
+  pub is : text ≡ run_text n births
 
 -- The line of a run's end, of so many cycles that were asked for. A snapshot, and bytes that are said, are
 -- no end.
@@ -162,6 +162,6 @@ module _ {D : Type 0} (host : Ghosts D) where
   pub record CallEnds (words : List (List ℕ)) (old new : D) (status : Status) : Type 0 where
     pub usage : once_of words ≡ None → (status ≡ Usage) × SaysLastLine Usage old new
     pub once : (n : ℕ) → once_of words ≡ Some n
-        → OnceEnds (bytes_of (host.files old (word words 1))) n old new status
+        → OnceEnds (bytes_of (host.files old (word_at words 1))) n old new status
     pub cause : StatusHasCause old new status
     pub reads : (text : List ℕ) × ReadsAndSays host text old new

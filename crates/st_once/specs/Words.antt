@@ -18,15 +18,15 @@ at_most_a_billion None = None
 at_most_a_billion (Some n) = if nat_le n 1000000000 then Some n else None
 
 -- a number of cycles has 1 to 10 decimal digits, and is at most 1,000,000,000
-unfoldable pub cycles_of : List ℕ → Option ℕ
-cycles_of w =
+unfoldable pub cycles_said : List ℕ → Option ℕ
+cycles_said w =
     if nat_le 1 (length w) && nat_le (length w) 10 then at_most_a_billion (digits_after 0 w) else None
 
-abbrev pub word : List (List ℕ) → ℕ → List ℕ
-word ws i = get_or ws i []
+abbrev pub word_at : List (List ℕ) → ℕ → List ℕ
+word_at ws i = get_or ws i []
 
 -- the cycles of once, an operand and a number; None of all other words
 unfoldable pub once_of : List (List ℕ) → Option ℕ
 once_of ws =
-    if (length ws == 3) && (pointwise nat_eq (word ws 0) (codes "once") && is_operand (word ws 1))
-    then cycles_of (word ws 2) else None
+    if (length ws == 3) && (pointwise nat_eq (word_at ws 0) (codes "once") && is_operand (word_at ws 1))
+    then cycles_said (word_at ws 2) else None

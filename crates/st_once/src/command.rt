@@ -2,10 +2,11 @@ ghost use Rattle.std.specs.Prelude.{◌≡◌, ℕ, List, OnOk, None};
 ghost use Rattle.st_outside.specs.Counts.{HasCause};
 ghost use Rattle.st_outside.specs.Files.{bytes_of};
 ghost use Rattle.st_outside.specs.Runs.{ReadsAndSays, SaysAll};
-ghost use Rattle.st_model.specs.Show.{raised};
+ghost use Rattle.st_model.specs.Machine.{State};
+ghost use Rattle.st_model.specs.Births.{Births};
+ghost use Rattle.st_model.specs.Show.{Shows};
 ghost use Rattle.st_model.specs.Text.{run_text};
-ghost use Rattle.st_frames.specs.Shown.{shown};
-ghost use Rattle.st_machine.specs.Machines.{IsReady};
+ghost use Rattle.st_frames.specs.Shown.{IsReady, shown};
 ghost use Rattle.st_report.specs.Saying.{Says};
 ghost use Rattle.st_once.specs.Ends.{OnceEnds, StatusHasCause};
 
@@ -26,14 +27,15 @@ fn run_and_report<H: Host, M: Memory>(
 ) -> Result<(), SayFault>
     requires ready { IsReady (M.view machine.old.memory) machine.old.frame machine.old.world }
     requires alive { machine.old.death ≡ None }
-    ensures all { let state = raised (shown (M.view machine.old.memory) machine.old.frame) in
-        OnOk result (SaysAll H.Host.own (run_text cycles state) host.old host.new) }
-    ensures says { let state = raised (shown (M.view machine.old.memory) machine.old.frame) in
-        Says H.Host.own (run_text cycles state) host.old host.new }
+    ensures all { let first = shown (M.view machine.old.memory) machine.old.frame machine.old.world in
+        (s : State Births) → Shows first s →
+        OnOk result (SaysAll H.Host.own (run_text cycles s) host.old host.new) }
+    ensures says { let first = shown (M.view machine.old.memory) machine.old.frame machine.old.world in
+        (s : State Births) → Shows first s → Says H.Host.own (run_text cycles s) host.old host.new }
     ensures cause { HasCause (H.say_faults host.old) (H.say_faults host.new) result }
 {
     let end = machine.run(cycles);
-    say_run(host, machine.memory(), &machine.frame(), cycles, end)
+    say_run(host, machine.memory(), &machine.frame(), machine.world(), cycles, end)
 }
 
 /// The command `once`: runs cycles of the machine of an image, and says what it shows then.

@@ -1,12 +1,13 @@
 ghost use Rattle.std.specs.Prelude.{◌≡◌, ◌≤◌, ◌^◌, length, IsTrue, IfOk, IfErr, None};
 ghost use Rattle.st_outside.specs.Files.{bytes_of};
 ghost use Rattle.st_outside.specs.Runs.{OnlyReads};
+ghost use Rattle.st_model.specs.Objects.{nil};
+ghost use Rattle.st_model.specs.Machine.{empty_world};
 ghost use Rattle.st_model.specs.Image.{image_head};
 ghost use Rattle.st_model.specs.View.{no_devices};
-ghost use Rattle.st_frames.specs.Shown.{IsFrame};
+ghost use Rattle.st_frames.specs.Shown.{IsFrame, IsReady};
 ghost use Rattle.st_image.specs.Reading.{IsStart};
 ghost use Rattle.st_once.specs.Ends.{IsReadable, IsRefusal, RefusalHasCause};
-ghost use Rattle.st_machine.specs.Machines.{IsReady};
 
 use crate::refusal::Refusal;
 use st_frames::Loaded;
@@ -77,6 +78,7 @@ pub fn start<H: Host, L: Loader>(
         IfOk result (λ m. IsTrue H.is_told →
         IsStart (image_head bytes) bytes (L.Done.view m.memory) m.frame) }
     ensures ready { IfOk result (λ m. IsReady (L.Done.view m.memory) m.frame m.world) }
+    ensures world { IfOk result (λ m. m.world ≡ empty_world nil) }
     ensures alive { IfOk result (λ m. m.death ≡ None) }
     ensures refused { IfErr result (λ e. IsTrue H.is_told →
         IsRefusal (bytes_of (H.files host.old name.now)) e) }

@@ -1,12 +1,12 @@
 ghost use Rattle.std.specs.Prelude.{◌≡◌, ◌++◌, OnOk};
 ghost use Rattle.st_outside.specs.Counts.{HasCause};
 ghost use Rattle.st_outside.specs.Runs.{SaysAll};
-ghost use Rattle.st_model.specs.View.{no_devices};
-ghost use Rattle.st_frames.specs.Shown.{IsFrame, shown};
+ghost use Rattle.st_frames.specs.Shown.{IsReady, shown};
 ghost use Rattle.st_report.specs.Saying.{Says, Pushes};
 ghost use Rattle.st_once.specs.Ends.{end_text, ending_text};
 
 use st_frames::Frame;
+use st_input::World;
 use st_machine::RunEnd;
 use st_memory::Memory;
 use st_outside::{Host, SayFault};
@@ -51,18 +51,18 @@ fn push_run<H: Host, M: Memory>(
     host: &mut H,
     m: &M,
     f: &Frame,
+    w: &World,
     cycles: u32,
     end: RunEnd,
 ) -> Result<(), SayFault>
-    requires frame { IsFrame (M.view m.now) f.now }
-    requires quiet { (M.view m.now).held.devices ≡ no_devices }
-    ensures { let text = ending_text cycles end (shown (M.view m.now) f.now) in
+    requires ready { IsReady (M.view m.now) f.now w.now }
+    ensures { let text = ending_text cycles end (shown (M.view m.now) f.now w.now) in
         Pushes H.Host.own text host.old host.new out.old out.new result }
 {
     push_end(out, host, cycles, end)?;
     match end {
         RunEnd::Dead { .. } => Ok(()),
-        _ => push_state(out, host, m, f),
+        _ => push_state(out, host, m, f, w),
     }
 }
 
@@ -71,17 +71,18 @@ pub fn say_run<H: Host, M: Memory>(
     host: &mut H,
     m: &M,
     f: &Frame,
+    w: &World,
     cycles: u32,
     end: RunEnd,
 ) -> Result<(), SayFault>
-    requires frame { IsFrame (M.view m.now) f.now }
-    requires quiet { (M.view m.now).held.devices ≡ no_devices }
-    ensures all { let text = ending_text cycles end (shown (M.view m.now) f.now) in
+    requires ready { IsReady (M.view m.now) f.now w.now }
+    ensures all { let text = ending_text cycles end (shown (M.view m.now) f.now w.now) in
         OnOk result (SaysAll H.Host.own text host.old host.new) }
-    ensures says { Says H.Host.own (ending_text cycles end (shown (M.view m.now) f.now)) host.old host.new }
+    ensures says { let text = ending_text cycles end (shown (M.view m.now) f.now w.now) in
+        Says H.Host.own text host.old host.new }
     ensures cause { HasCause (H.say_faults host.old) (H.say_faults host.new) result }
 {
     let mut out = Output::new();
-    push_run(&mut out, host, m, f, cycles, end)?;
+    push_run(&mut out, host, m, f, w, cycles, end)?;
     out.finish(host)
 }

@@ -1,6 +1,6 @@
 ghost use Rattle.std.specs.Prelude.{◌≡◌, map, length, IfSome};
 ghost use Rattle.std.specs.String.{string_bytes};
-ghost use Rattle.st_once.specs.Words.{is_operand, cycles_of, once_of, word};
+ghost use Rattle.st_once.specs.Words.{is_operand, cycles_said, once_of, word_at};
 
 /// The most cycles that one run may have.
 const MOST_CYCLES: u64 = 1_000_000_000;
@@ -16,9 +16,9 @@ fn is_operand(word: &[u8]) -> bool
 }
 
 /// The number of cycles that a word says: 1 to 10 decimal digits, at most 1,000,000,000.
-#[tactic(auto, using(crate::proofs::Digits::digits), unfolding(crate::specs::Words::cycles_of))]
+#[tactic(auto, using(crate::proofs::Digits::digits), unfolding(crate::specs::Words::cycles_said))]
 fn read_cycles(word: &[u8]) -> Option<u32>
-    ensures { result ≡ cycles_of word.now }
+    ensures { result ≡ cycles_said word.now }
 {
     if word.is_empty() || word.len() > 10 {
         return None;
@@ -51,7 +51,7 @@ pub fn read_once(words: &[String]) -> Option<u32>
 /// The second word.
 pub fn image_name(words: &[String]) -> &str
     requires { length words.now ≡ 3 }
-    ensures { result.now ≡ word (map string_bytes words.now) 1 }
+    ensures { result.now ≡ word_at (map string_bytes words.now) 1 }
 {
     words[1].as_str()
 }

@@ -4,7 +4,7 @@ use Rattle.st_outside.specs.Counts.{Rose, HasCause}
 use Rattle.st_outside.specs.Files.{Files, bytes_of, KeepsBelow}
 use Rattle.st_outside.specs.Stops.{Apart, Comes, comes, Follows, Torn, TornByWrite, TornByCut, Here, Elapses}
 use Rattle.st_outside.specs.Names.{same_or_other}
-use Rattle.st_outside.specs.Runs.{ReadsAlike, Narrows, Touched, Touches, Writes, Cuts, Syncs, WritesAbove, Elsewhere, Changes, NarrowsBut, ChangesBoth}
+use Rattle.st_outside.specs.Runs.{ReadsAlike, OnlyReads, Narrows, Touched, Touches, Writes, Cuts, Syncs, WritesAbove, Elsewhere, Changes, NarrowsBut, ChangesBoth, Spares}
 use Rattle.st_outside.specs.declared.host.Host.{Ghosts}
 use Rattle.st_outside.proofs.Rising.{rose_first, rose_second}
 use Rattle.st_outside.proofs.Joining.{weaker, moments_join, moments_once}
@@ -149,6 +149,9 @@ module _ {D : Type 0} (host : Ghosts D) (name : List ℕ) where
   pub cut_changes : (len : ℕ) (old new : D) → Cuts host name len old new → Changes host name old new
   cut_changes len old new cuts = changes_of (TornByCut (host.files old name) len) old new cuts.run
 
+  pub sync_changes : (old new : D) → Syncs host name old new → Changes host name old new
+  sync_changes old new syncs = changes_of (λ was is. was ≡ is) old new syncs.run
+
   pub above_changes : (floor : ℕ) (old new : D) → WritesAbove host floor name old new → Changes host name old new
   above_changes floor old new above = changes_of (KeepsBelow floor) old new above.run
 
@@ -164,6 +167,16 @@ module _ {D : Type 0} (host : Ghosts D) (name : List ℕ) where
     quiet = λ told. second.quiet told ∙ first.quiet told;
     moments = λ told. moments_join host old mid new (Elsewhere host name old) (Elsewhere host name mid) (first.moments told) (second.moments told)
         (λ f s so. (so.0 ∙ first.quiet told, λ n other. (first.others told).fewer n (f n) other (so.1 n other)));
+  }
+
+  -- a run that only reads, and reads one file
+  pub reads_change : (old new : D) → OnlyReads host old new → (IsTrue host.is_told → (n : List ℕ) → n ≢ name → host.files new n ≡ host.files old n) → Changes host name old new
+  reads_change old new run others = record {
+    disk = run.disk;
+    say = run.say;
+    others = λ told. record { files = others told; fewer = λ n c other. (run.stops told).fewer n c; more = λ n c other. (run.stops told).more n c };
+    quiet = run.quiet;
+    moments = λ told. weaker host old new (Elsewhere host name old) (Here (host.may_leave old) (host.said old)) (run.moments told) (λ f s here. (here.1, λ n other. here.0 n));
   }
 
   pub narrows_but : (old new : D) → Narrows host old new → NarrowsBut host name old new
@@ -222,6 +235,33 @@ module _ {D : Type 0} (host : Ghosts D) (name : List ℕ) where
               so.quiet,
             ));
       }
+
+module _ {D : Type 0} (host : Ghosts D) where
+  -- what changes one file leaves those of other names alone
+  pub changes_spare : (name : List ℕ) (names : List ℕ → Type 0) (old new : D) → ((n : List ℕ) → names n → n ≢ name) → Changes host name old new → Spares host names old new
+  changes_spare name names old new other run = record {
+    files = λ told n is. (run.others told).files n (other n is);
+    fewer = λ told n c is. (run.others told).fewer n c (other n is);
+    more = λ told n c is. (run.others told).more n c (other n is);
+  }
+
+  pub spares_join : (names : List ℕ → Type 0) (old mid new : D) → Spares host names old mid → Spares host names mid new → Spares host names old new
+  spares_join names old mid new first second = record {
+    files = λ told n is. second.files told n is ∙ first.files told n is;
+    fewer = λ told n c is can. first.fewer told n c is (second.fewer told n c is can);
+    more = λ told n c is could. second.more told n c is (first.more told n c is could);
+  }
+
+  pub spares_none : (names : List ℕ → Type 0) (old : D) → Spares host names old old
+  spares_none names old = record { files = λ told n is. refl; fewer = λ told n c is can. can; more = λ told n c is could. could }
+
+  -- of fewer names
+  pub spares_fewer : (names fewer : List ℕ → Type 0) (old new : D) → ((n : List ℕ) → fewer n → names n) → Spares host names old new → Spares host fewer old new
+  spares_fewer names fewer old new among run = record {
+    files = λ told n is. run.files told n (among n is);
+    fewer = λ told n c is. run.fewer told n c (among n is);
+    more = λ told n c is. run.more told n c (among n is);
+  }
 
 -- changes to one file, and then to another
 pub both_join : {D : Type 0} (host : Ghosts D) (one two : List ℕ) (old mid new : D) → Changes host one old mid → Changes host two mid new → ChangesBoth host one two old new

@@ -119,6 +119,13 @@ pub record ChangesBoth {D : Type 0} (host : Ghosts D) (one two : List ℕ) (old 
   pub moments : IsTrue host.is_told → LeavesOnly host old new
       (λ f s. (s ≡ host.said old) × ((n : List ℕ) → n ≢ one → n ≢ two → host.may_leave old n (f n)))
 
+-- A run of calls that leaves the files of these names alone: each reads as before, and a stop may leave of it just what it
+-- could leave.
+pub record Spares {D : Type 0} (host : Ghosts D) (names : List ℕ → Type 0) (old new : D) : Type 0 where
+  pub files : IsTrue host.is_told → (n : List ℕ) → names n → host.files new n ≡ host.files old n
+  pub fewer : IsTrue host.is_told → (n : List ℕ) (c : Option (List ℕ)) → names n → host.may_leave new n c → host.may_leave old n c
+  pub more : IsTrue host.is_told → (n : List ℕ) (c : Option (List ℕ)) → names n → host.may_leave old n c → host.may_leave new n c
+
 -- each state that a stop may leave now opens as this, whatever it is that files open as
 pub record IsAtRest {C D : Type 0} (host : Ghosts D) (opens : C → Files → Type 0) (c : C) (h : D) : Type 0 where
   pub opens_as : (f : Files) → ((n : List ℕ) → host.may_leave h n (f n)) → opens c f

@@ -1,9 +1,6 @@
 ghost use Rattle.std.specs.Prelude.{◌≡◌};
-ghost use Rattle.st_model.specs.Objects.{nil};
-ghost use Rattle.st_model.specs.Machine.{empty_world};
-ghost use Rattle.st_model.specs.View.{no_devices};
 ghost use Rattle.st_model.specs.Text.{pointers_text, registers_text, input_text, held_text, used_text, state_text};
-ghost use Rattle.st_frames.specs.Shown.{IsFrame, registers_of, shown};
+ghost use Rattle.st_frames.specs.Shown.{IsFrame, IsReady, filled, registers_of, shown};
 ghost use Rattle.st_report.specs.Saying.{Pushes};
 
 use crate::Output;
@@ -11,6 +8,7 @@ use crate::lines::{push_line, push_values, push_values_line};
 use crate::objects::push_objects;
 use crate::words::{push_integer, push_number};
 use st_frames::Frame;
+use st_input::World;
 use st_memory::Memory;
 use st_model::RootPlace;
 use st_outside::{Host, SayFault};
@@ -40,18 +38,24 @@ fn push_registers<H: Host, M: Memory>(
     push_pointers(out, host, f.ip + 1, f.sp - 5)
 }
 
-/// Adds the line of the input state: no word waits, no signal is pending, and mouse and clocks are at 0.
-fn push_input<H: Host>(out: &mut Output, host: &mut H) -> Result<(), SayFault>
-    ensures { let text = input_text (empty_world nil) in
-        Pushes H.Host.own text host.old host.new out.old out.new result }
+/// Adds the line of the input state: how many words wait and how many signals are pending, the mouse, and the clocks.
+fn push_input<H: Host>(out: &mut Output, host: &mut H, w: &World) -> Result<(), SayFault>
+    ensures { Pushes H.Host.own (input_text w.now) host.old host.new out.old out.new result }
 {
-    push_line(out, host, b"input", &[0, 0, 0, 0, 0, 0])
+    let numbers = [
+        w.waiting_count(),
+        w.pending_count(),
+        u32::from(w.mouse_x()),
+        u32::from(w.mouse_y()),
+        w.second_clock(),
+        w.millisecond_clock(),
+    ];
+    push_line(out, host, b"input", &numbers)
 }
 
 /// Adds the line of what is held.
 fn push_held<H: Host, M: Memory>(out: &mut Output, host: &mut H, m: &M) -> Result<(), SayFault>
-    requires { (M.view m.now).held.devices ≡ no_devices }
-    ensures { let text = held_text (empty_world nil) in
+    ensures { let text = held_text (M.view m.now).held.devices in
         Pushes H.Host.own text host.old host.new out.old out.new result }
 {
     let display = m.held(RootPlace::Display);
@@ -82,14 +86,14 @@ pub fn push_state<H: Host, M: Memory>(
     host: &mut H,
     m: &M,
     f: &Frame,
+    w: &World,
 ) -> Result<(), SayFault>
-    requires frame { IsFrame (M.view m.now) f.now }
-    requires quiet { (M.view m.now).held.devices ≡ no_devices }
-    ensures { let text = state_text (shown (M.view m.now) f.now) in
+    requires ready { IsReady (M.view m.now) f.now w.now }
+    ensures { let text = state_text (shown (M.view m.now) f.now w.now) in
         Pushes H.Host.own text host.old host.new out.old out.new result }
 {
     push_registers(out, host, m, f)?;
-    push_input(out, host)?;
+    push_input(out, host, w)?;
     push_held(out, host, m)?;
     push_used(out, host, m)?;
     push_objects(out, host, m)

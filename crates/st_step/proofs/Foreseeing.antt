@@ -3,7 +3,7 @@ use Rattle.std.proofs.Common.{◌≡◌, false, refl, ◌∙◌, ap, sym}
 use Rattle.std.specs.Prelude.{length}
 use Rattle.st_model.specs.declared.dead.Dead.{Dead}
 use Rattle.st_model.specs.Outcomes.{Outcome, StepEnd, Did, NotBuilt}
-use Rattle.st_model.specs.Machine.{State, Head, Transition, Died, Went, used, is_over}
+use Rattle.st_model.specs.Machine.{State, World, Head, Transition, Died, Went, used, is_over}
 use Rattle.st_model.specs.Births.{Births, births}
 use Rattle.st_model.specs.Table.{Table, apart, bounded_table}
 use Rattle.st_model.specs.Bytecodes.{step}
@@ -13,7 +13,7 @@ use Rattle.st_model.specs.View.{View, IsWhole}
 use Rattle.st_model.proofs.Raised.{raised_shown}
 use Rattle.st_model.proofs.CyclesShown.{foretells, does_as_births}
 use Rattle.st_frames.specs.declared.frame.Frame.{Frame}
-use Rattle.st_frames.specs.Shown.{shown, IsFrame}
+use Rattle.st_frames.specs.Shown.{shown, IsReady}
 use Rattle.st_frames.proofs.Closed.{is_closed}
 use Rattle.st_step.specs.Planned.{IsForeseen}
 
@@ -29,10 +29,10 @@ module _ (c : State Table) (s : State Births) (w : Shows c s) (places : length c
       let fits : is_over (used births u.memory) s.head ≡ false = ap (λ x. is_over x s.head) (sym h.1) ∙ (sym head ∙ f) in
       let does = does_as_births c s w places q u e fits in (does.outcome, does.state, does.does)
 
-pub goes : (v : View) (f : Frame) → IsWhole v → IsFrame v f → IsForeseen (shown v f) → Goes (shown v f)
-goes v f whole frame e =
-    let c = shown v f in
-    let w = raised_shown c (is_closed v f whole frame) in
+pub goes : (v : View) (f : Frame) (world : World) → IsWhole v → IsReady v f world → IsForeseen (shown v f world) → Goes (shown v f world)
+goes v f world whole ready e =
+    let c = shown v f world in
+    let w = raised_shown c (is_closed v f world whole ready) in
     let h = foretells c (raised c) w whole.places in
     goes_as c (raised c) w whole.places e.outcome e.after ((step births).run (raised c)) refl (rw e.goes at h) e.fits
 

@@ -10,9 +10,9 @@ use Rattle.st_model.specs.declared.outcome.StepEnd.{StepEnd as CodeStepEnd}
 use Rattle.st_model.specs.declared.outcome.StepEnd.TheVariants as ends
 use Rattle.st_model.specs.declared.word.Word.{Word}
 use Rattle.st_model.specs.Values.{Small, Ref, value_of, word, is_small, IsLive}
-use Rattle.st_model.specs.Objects.{nil, one, words_of}
+use Rattle.st_model.specs.Objects.{one, words_of}
 use Rattle.st_model.specs.Outcomes.{StepEnd, end_of}
-use Rattle.st_model.specs.Machine.{Head, State, Went, empty_world, is_there, used}
+use Rattle.st_model.specs.Machine.{World, Head, State, Went, is_there, used}
 use Rattle.st_model.specs.Steps.{are_there}
 use Rattle.st_model.specs.Table.{Table, table, apart, bounded_table, total_used}
 use Rattle.st_model.specs.Calls.{transition_of}
@@ -24,15 +24,16 @@ use Rattle.st_frames.specs.declared.frame.Frame.{Frame}
 use Rattle.st_frames.specs.declared.registers.Registers.{Registers as Words}
 use Rattle.st_frames.specs.Narrow.{IsNarrow}
 use Rattle.st_frames.specs.Rows.{row_state, registers_in}
-use Rattle.st_frames.specs.Shown.{shown, registers_of, IsFrame}
+use Rattle.st_frames.specs.Shown.{shown, registers_of, IsReady, StaysFrame}
 use Rattle.st_frames.proofs.Closed.{is_closed}
 use Rattle.st_step.specs.Planned.{Plans, plus}
 
 -- what a plan says
 
-pub loaded_as : (v : View) (f : Frame) (t : Table) (a : Head) (r : Words) → t ≡ v.objects → a ≡ v.head → registers_in r ≡ registers_of f → row_state t a r ≡ shown v f
+pub loaded_as : (v : View) (f : Frame) (w : World) (t : Table) (a : Head) (r : Words) → t ≡ v.objects → a ≡ v.head → registers_in r ≡ registers_of f → r.world.now ≡ w
+    → row_state t a r ≡ shown v f w
 unfolding row_state
-loaded_as v f t a r x y e = λ i. record { memory = x i; registers = e i; world = empty_world nil; head = y i }
+loaded_as v f w t a r x y e q = λ i. record { memory = x i; registers = e i; world = q i; head = y i }
 
 module _ (before : Demand) (c s : State Table) (t : Table) (a : Head) (r : Words) (x : Result CodeStepEnd Dead) (same : s ≡ c) (does : (step apart).run s ≡ transition_of end_of x (row_state t a r)) where
   planned : (y : Result CodeStepEnd Dead) → x ≡ y → (step apart).run c ≡ transition_of end_of y (row_state t a r)
@@ -58,9 +59,14 @@ used_after t base start n same e w =
 
 -- what a step leaves
 
-pub held_again : (v w : View) (f : Frame) (r : Words) → registers_of f ≡ registers_in r → w.objects ≡ v.objects → w.head ≡ v.head → row_state v.objects v.head r ≡ shown w f
+pub held_again : (v u : View) (f : Frame) (w : World) (r : Words) → registers_of f ≡ registers_in r → r.world.now ≡ w → u.objects ≡ v.objects → u.head ≡ v.head
+    → row_state v.objects v.head r ≡ shown u f w
 unfolding row_state
-held_again v w f r e o h = λ i. record { memory = sym o i; registers = sym e i; world = empty_world nil; head = sym h i }
+held_again v u f w r e q o h = λ i. record { memory = sym o i; registers = sym e i; world = q i; head = sym h i }
+
+-- what the devices hold is as it was, and registers are held again
+pub ready_again : (v u : View) (f g : Frame) (w : World) → IsReady v f w → StaysFrame v u g → IsReady u g w
+ready_again v u f g w ready stays = record { frame = stays.frame; devices = stays.devices ∙ ready.devices }
 
 there_if : (t : Table) (b : Bool) (n : ℕ) → IsLive (IsUsed t) (if b then Small n else Ref n) → (is_small (if b then Small n else Ref n) ≡ true → n < 32768)
     → is_there table t (if b then Small n else Ref n) ≡ true
@@ -74,11 +80,11 @@ there t w h s = there_if t (w.0 % 2 == 1) (w.0 / 2) h (λ e. let l = s e in omeg
 all_there : (a b c d : Bool) → a ≡ true → b ≡ true → c ≡ true → d ≡ true → (a && (b && (c && d))) ≡ true
 all_there a b c d p q r s = rw (p, q, r, s) refl
 
-pub there_after : (v : View) (f : Frame) (t : Table) (a : Head) (r : Words) (o : StepEnd) → IsWhole v → IsFrame v f
-    → (step bounded_table).run (shown v f) ≡ Went o (row_state t a r) → are_there table t (registers_in r) ≡ true
+pub there_after : (v : View) (f : Frame) (world : World) (t : Table) (a : Head) (r : Words) (o : StepEnd) → IsWhole v → IsReady v f world
+    → (step bounded_table).run (shown v f world) ≡ Went o (row_state t a r) → are_there table t (registers_in r) ≡ true
 unfolding row_state
-there_after v f t a r o w frame e =
-    let closed = step_closed (shown v f) (row_state t a r) o (is_closed v f w frame) e in
+there_after v f world t a r o w ready e =
+    let closed = step_closed (shown v f world) (row_state t a r) o (is_closed v f world w ready) e in
     all_there (is_there table t (word r.active)) (is_there table t (word r.home)) (is_there table t (word r.method)) (is_there table t (word r.receiver))
     (there t r.active closed.roots.0 r.active_narrow) (there t r.home closed.roots.1.0 r.home_narrow)
     (there t r.method closed.roots.1.1.0 r.method_narrow) (there t r.receiver closed.roots.1.1.1.0 r.receiver_narrow)

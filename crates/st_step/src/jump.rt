@@ -3,7 +3,7 @@ ghost use Rattle.st_model.specs.Outcomes.{end_of};
 ghost use Rattle.st_model.specs.Executing.{executed_if_any};
 ghost use Rattle.st_model.specs.Bytecodes.{short_unconditional_jump, long_offset, long_unconditional_jump, short_jump_on_false, long_jump_on_true, long_jump_on_false};
 ghost use Rattle.st_model.specs.Calls.{itself};
-ghost use Rattle.st_frames.specs.Rows.{RowMoves, RowDoes, Takes, bytecode_changes};
+ghost use Rattle.st_frames.specs.Rows.{RowMoves, RowDoes, Takes, executed_jump_changes};
 
 use crate::execute::execute_if_any;
 use st_control::jump_on;
@@ -45,10 +45,10 @@ pub fn long_unconditional_jump<O: Objects>(m: &O, r: &mut Registers, i: u8) -> R
 #[tactic(auto, using(st_frames::proofs::Doing::rows), unfolding(st_model::specs::Bytecodes::short_jump_on_false, st_model::specs::Executing::executed_if_any))]
 pub fn short_jump_on_false<O: Objects>(m: &mut O, r: &mut Registers, i: u8) -> Result<StepEnd, Dead>
     requires number { i < 8 }
-    requires room { bytecode_changes ≤ O.room m.old }
+    requires room { executed_jump_changes ≤ O.room m.old }
     ensures does { RowDoes O.Objects.own (executed_if_any O.names (short_jump_on_false O.names i))
         end_of m.old r.old result m.new r.new }
-    ensures takes { Takes O.Objects.own bytecode_changes m.old m.new }
+    ensures takes { Takes O.Objects.own executed_jump_changes m.old m.new }
 {
     let distance = u32::from(i) + 1;
     let call = jump_on(
@@ -65,10 +65,10 @@ pub fn short_jump_on_false<O: Objects>(m: &mut O, r: &mut Registers, i: u8) -> R
 #[tactic(auto, using(st_frames::proofs::Doing::rows), unfolding(st_model::specs::Bytecodes::long_jump_on_true, st_model::specs::Executing::executed_if_any))]
 pub fn long_jump_on_true<O: Objects>(m: &mut O, r: &mut Registers, i: u8) -> Result<StepEnd, Dead>
     requires number { i < 4 }
-    requires room { bytecode_changes ≤ O.room m.old }
+    requires room { executed_jump_changes ≤ O.room m.old }
     ensures does { RowDoes O.Objects.own (executed_if_any O.names (long_jump_on_true O.names i))
         end_of m.old r.old result m.new r.new }
-    ensures takes { Takes O.Objects.own bytecode_changes m.old m.new }
+    ensures takes { Takes O.Objects.own executed_jump_changes m.old m.new }
 {
     let byte = next_byte(m, r)?;
     let distance = u32::from(i) * 256 + u32::from(byte);
@@ -86,10 +86,10 @@ pub fn long_jump_on_true<O: Objects>(m: &mut O, r: &mut Registers, i: u8) -> Res
 #[tactic(auto, using(st_frames::proofs::Doing::rows), unfolding(st_model::specs::Bytecodes::long_jump_on_false, st_model::specs::Executing::executed_if_any))]
 pub fn long_jump_on_false<O: Objects>(m: &mut O, r: &mut Registers, i: u8) -> Result<StepEnd, Dead>
     requires number { i < 4 }
-    requires room { bytecode_changes ≤ O.room m.old }
+    requires room { executed_jump_changes ≤ O.room m.old }
     ensures does { RowDoes O.Objects.own (executed_if_any O.names (long_jump_on_false O.names i))
         end_of m.old r.old result m.new r.new }
-    ensures takes { Takes O.Objects.own bytecode_changes m.old m.new }
+    ensures takes { Takes O.Objects.own executed_jump_changes m.old m.new }
 {
     let byte = next_byte(m, r)?;
     let distance = u32::from(i) * 256 + u32::from(byte);

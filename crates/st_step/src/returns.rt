@@ -3,7 +3,7 @@ ghost use Rattle.st_model.specs.Values.{word};
 ghost use Rattle.st_model.specs.Outcomes.{end_of};
 ghost use Rattle.st_model.specs.Executing.{executed_if_any};
 ghost use Rattle.st_model.specs.Bytecodes.{return_receiver, return_constant, return_top_to_sender, return_top_to_caller};
-ghost use Rattle.st_frames.specs.Rows.{RowDoes, Takes, bytecode_changes};
+ghost use Rattle.st_frames.specs.Rows.{RowDoes, Takes, executed_return_changes};
 
 use crate::execute::execute_if_any;
 use crate::operands::constant_value;
@@ -15,10 +15,10 @@ use st_model::{Constant, Dead, StepEnd};
 /// Returns the receiver to the sender.
 #[tactic(auto, using(st_frames::proofs::Doing::rows), unfolding(st_model::specs::Bytecodes::return_receiver, st_model::specs::Executing::executed_if_any))]
 pub fn return_receiver<O: Objects>(m: &mut O, r: &mut Registers) -> Result<StepEnd, Dead>
-    requires room { bytecode_changes ≤ O.room m.old }
+    requires room { executed_return_changes ≤ O.room m.old }
     ensures does { RowDoes O.Objects.own (executed_if_any O.names (return_receiver O.names))
         end_of m.old r.old result m.new r.new }
-    ensures takes { Takes O.Objects.own bytecode_changes m.old m.new }
+    ensures takes { Takes O.Objects.own executed_return_changes m.old m.new }
 {
     let call = return_to_sender(m, r, r.receiver)?;
     execute_if_any(m, r, call)
@@ -31,10 +31,10 @@ pub fn return_constant<O: Objects>(
     r: &mut Registers,
     constant: Constant,
 ) -> Result<StepEnd, Dead>
-    requires room { bytecode_changes ≤ O.room m.old }
+    requires room { executed_return_changes ≤ O.room m.old }
     ensures does { RowDoes O.Objects.own (executed_if_any O.names (return_constant O.names constant))
         end_of m.old r.old result m.new r.new }
-    ensures takes { Takes O.Objects.own bytecode_changes m.old m.new }
+    ensures takes { Takes O.Objects.own executed_return_changes m.old m.new }
 {
     let x = constant_value(m, r, constant);
     let call = return_to_sender(m, r, x)?;
@@ -44,10 +44,10 @@ pub fn return_constant<O: Objects>(
 /// Pops, and returns the word to the sender.
 #[tactic(auto, using(st_frames::proofs::Doing::rows), unfolding(st_model::specs::Bytecodes::return_top_to_sender, st_model::specs::Executing::executed_if_any))]
 pub fn return_top_to_sender<O: Objects>(m: &mut O, r: &mut Registers) -> Result<StepEnd, Dead>
-    requires room { bytecode_changes ≤ O.room m.old }
+    requires room { executed_return_changes ≤ O.room m.old }
     ensures does { RowDoes O.Objects.own (executed_if_any O.names (return_top_to_sender O.names))
         end_of m.old r.old result m.new r.new }
-    ensures takes { Takes O.Objects.own bytecode_changes m.old m.new }
+    ensures takes { Takes O.Objects.own executed_return_changes m.old m.new }
 {
     let x = pop(m, r)?;
     let call = return_to_sender(m, r, x)?;
@@ -57,10 +57,10 @@ pub fn return_top_to_sender<O: Objects>(m: &mut O, r: &mut Registers) -> Result<
 /// Pops, and returns the word to the caller.
 #[tactic(auto, using(st_frames::proofs::Doing::rows), unfolding(st_model::specs::Bytecodes::return_top_to_caller, st_model::specs::Executing::executed_if_any))]
 pub fn return_top_to_caller<O: Objects>(m: &mut O, r: &mut Registers) -> Result<StepEnd, Dead>
-    requires room { bytecode_changes ≤ O.room m.old }
+    requires room { executed_return_changes ≤ O.room m.old }
     ensures does { RowDoes O.Objects.own (executed_if_any O.names (return_top_to_caller O.names))
         end_of m.old r.old result m.new r.new }
-    ensures takes { Takes O.Objects.own bytecode_changes m.old m.new }
+    ensures takes { Takes O.Objects.own executed_return_changes m.old m.new }
 {
     let x = pop(m, r)?;
     let call = return_to_caller(m, r, x)?;

@@ -5,7 +5,7 @@ ghost use Rattle.st_model.specs.Sends.{call_of, special_send};
 ghost use Rattle.st_model.specs.Executing.{executed};
 ghost use Rattle.st_model.specs.Bytecodes.{send_literal, send_literal_to_super, extended_send, double_extended_send, extended_super_send, double_extended_super_send, or_send, arithmetic_by, arithmetic_send, primitive_send};
 ghost use Rattle.st_model.specs.Arithmetic.{arithmetic, arithmetic_number};
-ghost use Rattle.st_frames.specs.Rows.{RowDoes, Takes, send_changes, bytecode_changes};
+ghost use Rattle.st_frames.specs.Rows.{RowDoes, Takes, send_changes, executed_send_changes};
 
 use crate::arithmetic::{answer_integers, integer_answer};
 use crate::execute::execute;
@@ -49,10 +49,10 @@ fn send_literal_to_super<O: Objects>(
 /// Sends the literal that the next byte names, with as many arguments as it says.
 #[tactic(auto, using(st_frames::proofs::Doing::rows), unfolding(st_model::specs::Bytecodes::extended_send, st_model::specs::Executing::executed))]
 pub fn extended_send<O: Objects>(m: &mut O, r: &mut Registers) -> Result<StepEnd, Dead>
-    requires room { bytecode_changes ≤ O.room m.old }
+    requires room { executed_send_changes ≤ O.room m.old }
     ensures does { RowDoes O.Objects.own (executed O.names (extended_send O.names))
         end_of m.old r.old result m.new r.new }
-    ensures takes { Takes O.Objects.own bytecode_changes m.old m.new }
+    ensures takes { Takes O.Objects.own executed_send_changes m.old m.new }
 {
     let byte = next_byte(m, r)?;
     let call = send_literal(m, r, u32::from(byte % 32), u32::from(byte / 32))?;
@@ -62,10 +62,10 @@ pub fn extended_send<O: Objects>(m: &mut O, r: &mut Registers) -> Result<StepEnd
 /// Sends the literal of the second byte with as many arguments as the first says.
 #[tactic(auto, using(st_frames::proofs::Doing::rows), unfolding(st_model::specs::Bytecodes::double_extended_send, st_model::specs::Executing::executed))]
 pub fn double_extended_send<O: Objects>(m: &mut O, r: &mut Registers) -> Result<StepEnd, Dead>
-    requires room { bytecode_changes ≤ O.room m.old }
+    requires room { executed_send_changes ≤ O.room m.old }
     ensures does { RowDoes O.Objects.own (executed O.names (double_extended_send O.names))
         end_of m.old r.old result m.new r.new }
-    ensures takes { Takes O.Objects.own bytecode_changes m.old m.new }
+    ensures takes { Takes O.Objects.own executed_send_changes m.old m.new }
 {
     let arguments = next_byte(m, r)?;
     let literal = next_byte(m, r)?;
@@ -76,10 +76,10 @@ pub fn double_extended_send<O: Objects>(m: &mut O, r: &mut Registers) -> Result<
 /// Sends the literal that the next byte names to super, with as many arguments as it says.
 #[tactic(auto, using(st_frames::proofs::Doing::rows), unfolding(st_model::specs::Bytecodes::extended_super_send, st_model::specs::Executing::executed))]
 pub fn extended_super_send<O: Objects>(m: &mut O, r: &mut Registers) -> Result<StepEnd, Dead>
-    requires room { bytecode_changes ≤ O.room m.old }
+    requires room { executed_send_changes ≤ O.room m.old }
     ensures does { RowDoes O.Objects.own (executed O.names (extended_super_send O.names))
         end_of m.old r.old result m.new r.new }
-    ensures takes { Takes O.Objects.own bytecode_changes m.old m.new }
+    ensures takes { Takes O.Objects.own executed_send_changes m.old m.new }
 {
     let byte = next_byte(m, r)?;
     let call = send_literal_to_super(m, r, u32::from(byte % 32), u32::from(byte / 32))?;
@@ -89,10 +89,10 @@ pub fn extended_super_send<O: Objects>(m: &mut O, r: &mut Registers) -> Result<S
 /// Sends the literal of the second byte to super, with as many arguments as the first says.
 #[tactic(auto, using(st_frames::proofs::Doing::rows), unfolding(st_model::specs::Bytecodes::double_extended_super_send, st_model::specs::Executing::executed))]
 pub fn double_extended_super_send<O: Objects>(m: &mut O, r: &mut Registers) -> Result<StepEnd, Dead>
-    requires room { bytecode_changes ≤ O.room m.old }
+    requires room { executed_send_changes ≤ O.room m.old }
     ensures does { RowDoes O.Objects.own (executed O.names (double_extended_super_send O.names))
         end_of m.old r.old result m.new r.new }
-    ensures takes { Takes O.Objects.own bytecode_changes m.old m.new }
+    ensures takes { Takes O.Objects.own executed_send_changes m.old m.new }
 {
     let arguments = next_byte(m, r)?;
     let literal = next_byte(m, r)?;
@@ -102,17 +102,17 @@ pub fn double_extended_super_send<O: Objects>(m: &mut O, r: &mut Registers) -> R
 
 /// Sends literal i with n arguments, and executes what is called.
 #[tactic(auto, using(st_frames::proofs::Doing::rows), unfolding(st_model::specs::Executing::executed))]
-pub fn literal_send<O: Objects>(
+pub fn send_literal_selector<O: Objects>(
     m: &mut O,
     r: &mut Registers,
     i: u32,
     n: u32,
 ) -> Result<StepEnd, Dead>
     requires few { n < 256 }
-    requires room { bytecode_changes ≤ O.room m.old }
+    requires room { executed_send_changes ≤ O.room m.old }
     ensures does { RowDoes O.Objects.own (executed O.names (send_literal O.names i n))
         end_of m.old r.old result m.new r.new }
-    ensures takes { Takes O.Objects.own bytecode_changes m.old m.new }
+    ensures takes { Takes O.Objects.own executed_send_changes m.old m.new }
 {
     let call = send_literal(m, r, i, n)?;
     execute(m, r, Performing::Allowed, call)
@@ -120,12 +120,12 @@ pub fn literal_send<O: Objects>(
 
 /// Sends the special selector of this number, and executes what is called.
 #[tactic(auto, using(st_frames::proofs::Doing::rows), unfolding(st_model::specs::Executing::executed))]
-pub fn send_special<O: Objects>(m: &mut O, r: &mut Registers, k: u32) -> Result<StepEnd, Dead>
+pub fn send_special_selector<O: Objects>(m: &mut O, r: &mut Registers, k: u32) -> Result<StepEnd, Dead>
     requires number { k < 32 }
-    requires room { bytecode_changes ≤ O.room m.old }
+    requires room { executed_send_changes ≤ O.room m.old }
     ensures does { RowDoes O.Objects.own (executed O.names (special_send O.names k))
         end_of m.old r.old result m.new r.new }
-    ensures takes { Takes O.Objects.own bytecode_changes m.old m.new }
+    ensures takes { Takes O.Objects.own executed_send_changes m.old m.new }
 {
     let call = special_send(m, r, k)?;
     execute(m, r, Performing::Allowed, call)
@@ -158,17 +158,17 @@ fn arithmetic_or_send<O: Objects>(
     requires number { k < 16 }
     requires first { 1 ≤ primitive }
     requires last { primitive ≤ 18 }
-    requires room { bytecode_changes ≤ O.room m.old }
+    requires room { executed_send_changes ≤ O.room m.old }
     ensures does { RowDoes O.Objects.own (or_send O.names k (arithmetic O.names primitive))
         end_of m.old r.old result m.new r.new }
-    ensures takes { Takes O.Objects.own bytecode_changes m.old m.new }
+    ensures takes { Takes O.Objects.own executed_send_changes m.old m.new }
 {
     match integer_answer(m, r, primitive) {
         Ok(answer) => {
             answer_integers(m, r, answer)?;
             Ok(StepEnd::Did(Outcome::Went))
         }
-        Err(_) => send_special(m, r, k),
+        Err(_) => send_special_selector(m, r, k),
     }
 }
 
@@ -181,15 +181,15 @@ fn arithmetic_by<O: Objects>(
     receiver: Word,
 ) -> Result<StepEnd, Dead>
     requires number { k < 16 }
-    requires room { bytecode_changes ≤ O.room m.old }
+    requires room { executed_send_changes ≤ O.room m.old }
     ensures does { RowDoes O.Objects.own (arithmetic_by O.names k (word receiver))
         end_of m.old r.old result m.new r.new }
-    ensures takes { Takes O.Objects.own bytecode_changes m.old m.new }
+    ensures takes { Takes O.Objects.own executed_send_changes m.old m.new }
 {
     if receiver.is_small() {
         arithmetic_or_send(m, r, k, arithmetic_number(k))
     } else {
-        send_special(m, r, k)
+        send_special_selector(m, r, k)
     }
 }
 
@@ -197,9 +197,9 @@ fn arithmetic_by<O: Objects>(
 #[tactic(auto, using(st_frames::proofs::Doing::rows), unfolding(st_model::specs::Bytecodes::arithmetic_send))]
 pub fn arithmetic_send<O: Objects>(m: &mut O, r: &mut Registers, k: u32) -> Result<StepEnd, Dead>
     requires number { k < 16 }
-    requires room { bytecode_changes ≤ O.room m.old }
+    requires room { executed_send_changes ≤ O.room m.old }
     ensures does { RowDoes O.Objects.own (arithmetic_send O.names k) end_of m.old r.old result m.new r.new }
-    ensures takes { Takes O.Objects.own bytecode_changes m.old m.new }
+    ensures takes { Takes O.Objects.own executed_send_changes m.old m.new }
 {
     let receiver = under(m, r, 1)?;
     arithmetic_by(m, r, k, receiver)
@@ -208,9 +208,9 @@ pub fn arithmetic_send<O: Objects>(m: &mut O, r: &mut Registers, k: u32) -> Resu
 /// Does the primitive of the code 176 + k: 110 and 111 for 198 and 199. Those of 200 to 202 aren't built.
 #[tactic(auto, using(st_frames::proofs::Doing::rows), unfolding(st_model::specs::Bytecodes::primitive_send, st_model::specs::Executing::goes_on))]
 pub fn primitive_send<O: Objects>(m: &mut O, r: &mut Registers, k: u32) -> Result<StepEnd, Dead>
-    requires room { bytecode_changes ≤ O.room m.old }
+    requires room { executed_send_changes ≤ O.room m.old }
     ensures does { RowDoes O.Objects.own (primitive_send O.names k) end_of m.old r.old result m.new r.new }
-    ensures takes { Takes O.Objects.own bytecode_changes m.old m.new }
+    ensures takes { Takes O.Objects.own executed_send_changes m.old m.new }
 {
     match k {
         22 => equivalence(m, r)?,

@@ -3,18 +3,17 @@ use Rattle.std.proofs.Common.{◌≡◌, ◌≢◌, ◌⊎◌, inl, inr, ⊎_eli
 use Rattle.std.specs.Prelude.{Some, None}
 use Rattle.std.proofs.lemmas.List.{get_or-take, get_or-drop, get_or_past}
 use Rattle.std.proofs.lemmas.Bool.{cases_lt, cases_eq}
-use Rattle.st_outside.specs.Files.{bytes_of, IsRead, IsCut}
+use Rattle.st_outside.specs.Files.{Files, bytes_of, IsRead, IsCut}
 use Rattle.st_outside.specs.Stops.{TornByCut, Here}
-use Rattle.st_outside.specs.Runs.{LeavesOnly, Narrows, NarrowsBut, ReadsAlike, Touched, Cuts, IsSynced}
+use Rattle.st_outside.specs.Runs.{LeavesOnly, Narrows, Changes, Elsewhere, ReadsAlike, Touched, Cuts, IsSynced}
 use Rattle.st_outside.specs.declared.host.Host.{Ghosts}
 use Rattle.st_outside.proofs.Joining.{weaker, moments_join}
-use Rattle.st_outside.proofs.Touching.{cut_changes}
+use Rattle.st_outside.proofs.Touching.{cut_changes, changes_join}
 use Rattle.st_store.specs.Names.{roots_file}
 use Rattle.st_store.specs.Roots.{HasLetters}
 use Rattle.st_store.specs.Refusals.{IsWrongLetter}
 use Rattle.st_store.specs.Founding.{IsNoStore, IsCleared}
 use Rattle.st_store.proofs.Turning.{came}
-use Rattle.st_store.proofs.Opening.{but_roots}
 
 module _ (file : List ℕ) (k : ℕ) (into : List ℕ) (long : length into ≡ 8) (read : IsRead file 0 k into) where
   same : (i : ℕ) → i < 8 → slice_index (take k into) i ≡ slice_index file i
@@ -100,8 +99,19 @@ module _ {D : Type 0} (host : Ghosts D) (name : List ℕ) where
       → (x : Option (List ℕ)) → host.may_leave c (roots_file name) x → bytes_of x ≡ []
   emptied b c told cut synced x can = ap bytes_of (synced.is told x can) ∙ empty_of (host.files c (roots_file name)) (host.files b (roots_file name)) cut
 
-  pub only_cut : (a b c : D) → Narrows host a b → Cuts host (roots_file name) 0 b c → NarrowsBut host (roots_file name) a c
-  only_cut a b c narrows cuts = but_roots host name a b c narrows (cut_changes host (roots_file name) 0 b c cuts)
+  pub only_cut : (a b c : D) → Changes host (roots_file name) a b → Cuts host (roots_file name) 0 b c → Changes host (roots_file name) a c
+  only_cut a b c looked cuts = changes_join host (roots_file name) a b c looked (cut_changes host (roots_file name) 0 b c cuts)
+
+  -- no call
+  pub changes_none : (a : D) → (IsTrue host.is_told → (f : Files) (s : List ℕ) → host.left_since a (host.moment a) f s → Here (host.may_leave a) (host.said a) f s) → Changes host (roots_file name) a a
+  changes_none a only_now = record {
+    disk = omega arith;
+    say = refl;
+    others = λ told. record { files = λ n other. refl; fewer = λ n c other can. can; more = λ n c other could. could };
+    quiet = λ told. refl;
+    moments = λ told. weaker host a a (Elsewhere host (roots_file name) a) (Here (host.may_leave a) (host.said a))
+        (record { later = omega arith; each = only_now told; before = λ t f s le left. inl left }) (λ f s here. (here.1, λ n other. here.0 n));
+  }
 
 -- the same by the name that the code has
 pub cuts_as : {D : Type 0} (host : Ghosts D) (n m : List ℕ) (len : ℕ) (a b : D) → n ≡ m → Cuts host n len a b → Cuts host m len a b

@@ -1,13 +1,13 @@
 -- What a stop leaves while a store is opened.
-use Rattle.std.proofs.Common.{◌≡◌, ◌⊎◌, inl, inr, ⊎_elim, ℕ, ◌+◌, ◌-◌, ◌<◌, ◌≤◌, List, [], ◌∷◌, length, slice_index, Option, IsTrue, refl, sym, subst, ◌∙◌, arith, lit<}
+use Rattle.std.proofs.Common.{◌≡◌, ◌≢◌, ◌⊎◌, inl, inr, ⊎_elim, ℕ, ◌+◌, ◌-◌, ◌<◌, ◌≤◌, List, [], ◌∷◌, length, slice_index, Option, IsTrue, refl, sym, subst, ◌∙◌, arith, lit<}
 use Rattle.std.specs.Prelude.{Result}
 use Rattle.st_outside.specs.Files.{Files, bytes_of, IsWritten}
 use Rattle.st_outside.specs.Stops.{Here}
-use Rattle.st_outside.specs.Runs.{LeavesOnly, Narrows, NarrowsBut, Changes, ReadsAlike, IsSynced, Makes}
+use Rattle.st_outside.specs.Runs.{LeavesOnly, Narrows, NarrowsBut, Changes, Spares, ReadsAlike, IsSynced, Makes}
 use Rattle.st_outside.specs.declared.host.Host.{Ghosts}
 use Rattle.st_outside.proofs.Joining.{weaker, moments_join, alike_join, synced_on}
-use Rattle.st_outside.proofs.Touching.{narrows_but, changes_but, but_join}
-use Rattle.st_store.specs.Names.{roots_file, changes_file, image_file}
+use Rattle.st_outside.proofs.Touching.{narrows_but, changes_but, but_join, changes_spare, spares_join, spares_fewer}
+use Rattle.st_store.specs.Names.{roots_file, changes_file, image_file, IsNoFileOf}
 use Rattle.st_store.specs.Roots.{place, Chooses, IsFresh}
 use Rattle.st_store.specs.Refusals.{Fit, RefusesFront, RefusesNumbers, Refuses}
 use Rattle.st_store.specs.Stored.{Stored, Begins, Opens, IsChosen, IsStaged, IsReady, OpensAsOne, IsOpening, stored_in}
@@ -160,3 +160,15 @@ module _ {D : Type 0} (host : Ghosts D) (name : List ℕ) where
         gate = written.inside 0 (lit< tt);
         other = root_same (place (1 - k)) is was (λ i l u. same i (inr (omega arith))) ∙ staged.other (host.files m (roots_file name)) reads;
       }
+
+  -- other files than the store's, while the roots file is looked at and what it names is synced
+  pub spared : (a b m : D) (r im ch : List ℕ) (slot : ℕ) → r ≡ roots_file name → im ≡ image_file name slot → ch ≡ changes_file name
+      → Changes host r a b → Spares host (λ n. (n ≢ im) × (n ≢ ch)) b m → Spares host (IsNoFileOf name) a m
+  spared a b m r im ch slot is_roots is_image is_changes looked firm =
+      spares_join host (IsNoFileOf name) a b m
+      (changes_spare host r (IsNoFileOf name) a b (λ n no same. no.roots (same ∙ is_roots)) looked)
+      (spares_fewer host (λ n. (n ≢ im) × (n ≢ ch)) (IsNoFileOf name) b m (λ n no. (λ same. no.image slot (same ∙ is_image), λ same. no.changes (same ∙ is_changes))) firm)
+
+  -- and then the roots file is changed
+  pub spared_on : (a m d : D) → Spares host (IsNoFileOf name) a m → Changes host (roots_file name) m d → Spares host (IsNoFileOf name) a d
+  spared_on a m d spares changes = spares_join host (IsNoFileOf name) a m d spares (changes_spare host (roots_file name) (IsNoFileOf name) m d (λ n no. no.roots) changes)

@@ -2,7 +2,7 @@
 ghost use Rattle.std.specs.Prelude.{◌≡◌, ◌↔◌, ℕ, List, [], IsTrue, IfOk, IfErr, OnOk, Option, Some, None, string_bytes};
 ghost use Rattle.st_outside.specs.Counts.{HasCause};
 ghost use Rattle.st_outside.specs.Files.{bytes_of};
-ghost use Rattle.st_outside.specs.Runs.{LeavesOnly, ReadsAlike, Narrows, NarrowsBut, Changes, ChangesBoth, IsSynced, Makes};
+ghost use Rattle.st_outside.specs.Runs.{LeavesOnly, ReadsAlike, Narrows, Changes, ChangesBoth, IsSynced, Makes};
 ghost use Rattle.st_store.specs.Names.{roots_file, changes_file, image_file};
 ghost use Rattle.st_store.specs.Roots.{HasLetters, Fits};
 ghost use Rattle.st_store.specs.Founding.{OpensMaybe, IsCleared, IsBlank, first_root, first_stored, first_bytes, first_file};
@@ -42,12 +42,13 @@ impl NewStore {
 }
 
 /// Syncs the roots file, and tells whether it begins with the letters.
-#[tactic(auto, using(st_outside::proofs::Joining::reads_narrow, st_outside::proofs::Joining::narrows_join, st_outside::proofs::Joining::alike_join, st_outside::proofs::Joining::synced_on))]
+#[tactic(auto, using(st_outside::proofs::Joining::reads_narrow, st_outside::proofs::Joining::narrows_join, st_outside::proofs::Joining::alike_join, st_outside::proofs::Joining::synced_on, st_outside::proofs::Touching::sync_changes, st_outside::proofs::Touching::changes_join))]
 fn find_store<H: Host>(host: &mut H, roots: &str) -> Result<bool, HostFault>
     ensures found { IfOk result (λ there. IsTrue H.is_told → IsTrue there ↔ HasLetters (bytes_of (H.files host.old roots.now))) }
     ensures synced { OnOk result (IsSynced H.Host.own roots.now host.new) }
     ensures alike { OnOk result (ReadsAlike H.Host.own host.old host.new) }
     ensures narrows { Narrows H.Host.own host.old host.new }
+    ensures only { Changes H.Host.own roots.now host.old host.new }
     ensures cause { HasCause (H.disk_faults host.old) (H.disk_faults host.new) result }
 {
     sync_file(host, roots)?;
@@ -71,7 +72,7 @@ pub fn clear<H: Host>(alloc: Global, host: &mut H, name: &str) -> Result<NewStor
     ensures moments { IsTrue H.is_told → LeavesOnly H.Host.own host.old host.new
         (λ f s. (s ≡ H.said host.old) × IsCleared H.Host.own name.now host.old f) }
 
-    ensures only { NarrowsBut H.Host.own (roots_file name.now) host.old host.new }
+    ensures only { Changes H.Host.own (roots_file name.now) host.old host.new }
     ensures cause { FaultHasCause (H.disk_faults host.old) (H.disk_faults host.new) result }
 {
     let names = Names::new(alloc, name)?;

@@ -1,8 +1,8 @@
 // Opening a store, in steps of a few calls.
-ghost use Rattle.std.specs.Prelude.{◌≡◌, ◌≤◌, ◌<◌, ◌+◌, IsTrue, IfOk, IfErr, OnOk, MatchOption, length};
+ghost use Rattle.std.specs.Prelude.{◌≡◌, ◌≢◌, ◌≤◌, ◌<◌, ◌+◌, IsTrue, IfOk, IfErr, OnOk, MatchOption, length};
 ghost use Rattle.st_outside.specs.Files.{bytes_of};
-ghost use Rattle.st_outside.specs.Runs.{LeavesOnly, ReadsAlike, Narrows, NarrowsBut, IsSynced};
-ghost use Rattle.st_store.specs.Names.{roots_file};
+ghost use Rattle.st_outside.specs.Runs.{LeavesOnly, ReadsAlike, Narrows, NarrowsBut, Changes, Spares, IsSynced};
+ghost use Rattle.st_store.specs.Names.{roots_file, IsNoFileOf};
 ghost use Rattle.st_store.specs.Roots.{Chooses, IsFresh};
 ghost use Rattle.st_store.specs.Refusals.{IsWrongNumber, Fit, RefusesFront, RefusesNumbers, Refuses, IsOfOpening, FaultHasCause};
 ghost use Rattle.st_store.specs.Stored.{Opens, IsKept, IsOpening, stored_in};
@@ -25,7 +25,7 @@ fn damaged(at: u64) -> StoreFault
 }
 
 /// Syncs the roots file, and reads the root that it chooses.
-#[tactic(auto, using(st_outside::proofs::Joining::reads_narrow, st_outside::proofs::Joining::narrows_join, st_outside::proofs::Joining::alike_join))]
+#[tactic(auto, using(st_outside::proofs::Joining::reads_narrow, st_outside::proofs::Joining::narrows_join, st_outside::proofs::Joining::alike_join, st_outside::proofs::Touching::sync_changes, st_outside::proofs::Touching::changes_join))]
 fn look<H: Host>(host: &mut H, roots: &str) -> Result<Chosen, StoreFault>
     ensures number { IfOk result (λ r. r.number ≤ 1) }
     ensures slot { IfOk result (λ r. r.root.slot ≤ 1) }
@@ -35,6 +35,7 @@ fn look<H: Host>(host: &mut H, roots: &str) -> Result<Chosen, StoreFault>
     ensures synced { OnOk result (IsSynced H.Host.own roots.now host.new) }
     ensures alike { OnOk result (ReadsAlike H.Host.own host.old host.new) }
     ensures narrows { Narrows H.Host.own host.old host.new }
+    ensures only { Changes H.Host.own roots.now host.old host.new }
     ensures cause { FaultHasCause (H.disk_faults host.old) (H.disk_faults host.new) result }
 {
     sync_file(host, roots)?;
@@ -86,6 +87,7 @@ fn make_firm<H: Host>(
     ensures changes { OnOk result (IsSynced H.Host.own changes.now host.new) }
     ensures alike { OnOk result (ReadsAlike H.Host.own host.old host.new) }
     ensures narrows { Narrows H.Host.own host.old host.new }
+    ensures spares { Spares H.Host.own (λ n. (n ≢ image.now) × (n ≢ changes.now)) host.old host.new }
     ensures cause { FaultHasCause (H.disk_faults host.old) (H.disk_faults host.new) result }
 {
     sync_file(host, image)?;
@@ -115,6 +117,7 @@ pub fn open_store<H: Host>(alloc: Global, host: &mut H, name: &str) -> Result<St
         (λ f s. (s ≡ H.said host.old) × IsOpening H.Host.own host.old name.now f) }
 
     ensures only { NarrowsBut H.Host.own (roots_file name.now) host.old host.new }
+    ensures spares { Spares H.Host.own (IsNoFileOf name.now) host.old host.new }
     ensures cause { FaultHasCause (H.disk_faults host.old) (H.disk_faults host.new) result }
 {
     let names = Names::new(alloc, name)?;

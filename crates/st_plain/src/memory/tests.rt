@@ -13,7 +13,7 @@ fn make<M: Memory>(rt: &impl Abort, m: &mut M, class: u16, kind: Kind, size: u32
     assert!(rt; is_makeable(class, kind, size, 0));
     let words = words_for(class, kind, size, 0);
     assert!(rt; m.room(Demand { entries: 1, words }));
-    m.make(class, kind, size, 0).0
+    Memory::make(m, class, kind, size, 0).0
 }
 
 fn hold<M: Memory>(rt: &impl Abort, m: &mut M, place: RootPlace, o: u16) {

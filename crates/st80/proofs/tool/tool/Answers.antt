@@ -2,7 +2,7 @@ use Rattle.std.proofs.Common.{◌≡◌, ℕ, List, Some, sym, subst, ◌∙◌,
 use Rattle.std.specs.Prelude.{Option}
 use Rattle.std.specs.String.{string_bytes}
 use Rattle.st_outside.specs.Files.{bytes_of}
-use Rattle.st_once.specs.Words.{once_of, word}
+use Rattle.st_once.specs.Words.{once_of, word_at}
 use Rattle.st_once.specs.Ends.{OnceEnds}
 use Rattle.st80.proofs.tool.tool.Goals as goal
 
@@ -14,4 +14,4 @@ returns-in-Some-clause-once g c n e =
     let read : once_of (map string_bytes c.args.words.now) ≡ Some c.in-Some.cycles = sym c.read_once.ensures.once ∙ c.in-Some.is in
     let same = one_number (once_of (map string_bytes c.args.words.now)) c.in-Some.cycles n read e in
     let named = subst (λ (name : List ℕ). OnceEnds g.H.Host (bytes_of (g.H.Host.files c.args.host.now name)) c.in-Some.cycles c.args.host.now c.once.new.host c.once.result) c.image_name.ensures c.once.ensures.ends in
-    subst (λ (m : ℕ). OnceEnds g.H.Host (bytes_of (g.H.Host.files c.args.host.now (word (map string_bytes c.args.words.now) 1))) m c.args.host.now c.once.new.host c.once.result) same named
+    subst (λ (m : ℕ). OnceEnds g.H.Host (bytes_of (g.H.Host.files c.args.host.now (word_at (map string_bytes c.args.words.now) 1))) m c.args.host.now c.once.new.host c.once.result) same named

@@ -1,4 +1,4 @@
-use Rattle.std.proofs.Common.{rules, ◌≡◌, Err, w32, arith, subst}
+use Rattle.std.proofs.Common.{rules, ◌≡◌, Err, w32, arith, subst, refl}
 use Rattle.std.specs.Prelude.{ℤ, FitsSigned}
 use Rattle.std.proofs.lemmas.Int.{ints, to_z-of_z}
 use Rattle.st_model.specs.Values.{word}
@@ -16,7 +16,7 @@ returns-in_err-byte g c =
     let fits : FitsSigned w32 c.args.r.now.ip = record { sfits = omega (arith, ints) } in
     let z = to_z-of_z w32 c.args.r.now.ip fits in
     let reads = subst (λ (i : ℤ). (s : State Table) → s.memory ≡ g.O.Objects.table c.args.m.now → (byte_at g.O.Objects.names (word c.args.r.now.method) i).run s ≡ Died c.in_err-byte.field-0.0) z c.in_err-byte.ensures in
-    rw e (record { does = byte-died g.O.Objects.names (g.O.Objects.table c.args.m.now) (g.O.Objects.head c.args.m.now) c.args.r.now c.in_err-byte.field-0.0 reads })
+    rw e (record { does = record { does = byte-died g.O.Objects.names (g.O.Objects.table c.args.m.now) (g.O.Objects.head c.args.m.now) c.args.r.now c.in_err-byte.field-0.0 reads; world = refl } })
 
 pub invariant_of-r : goal.invariant_of-r
 invariant_of-r g c =
@@ -33,4 +33,4 @@ returns g c =
     let fits : FitsSigned w32 c.args.r.now.ip = record { sfits = omega (arith, ints) } in
     let z = to_z-of_z w32 c.args.r.now.ip fits in
     let reads = subst (λ (i : ℤ). (s : State Table) → s.memory ≡ g.O.Objects.table c.args.m.now → (byte_at g.O.Objects.names (word c.args.r.now.method) i).run s ≡ Went c.in_ok-byte.byte s) z c.in_ok-byte.ensures in
-    record { does = byte-went g.O.Objects.names (g.O.Objects.table c.args.m.now) (g.O.Objects.head c.args.m.now) c.args.r.now c.in_ok-byte.byte _ reads (omega (arith, ints)) }
+    record { does = record { does = byte-went g.O.Objects.names (g.O.Objects.table c.args.m.now) (g.O.Objects.head c.args.m.now) c.args.r.now c.in_ok-byte.byte _ reads (omega (arith, ints)); world = refl } }

@@ -9,8 +9,8 @@ use Rattle.st_frames.proofs.frame_stack.put.Goals as goal
 
 pub returns-clause-puts : goal.returns-clause-puts
 unfolding put
-returns-clause-puts g c =
-    let s = shown (g.M.Memory.view c.args.m.now) c.args.f.now in
+returns-clause-puts g c = λ w.
+    let s = shown (g.M.Memory.view c.args.m.now) c.args.f.now w in
     let within : nat_lt c.args.at c.in_ok-fields.fields ≡ true = grind (arith, nat_tests) in
     let small : nat_le c.args.at 16388 ≡ true = grind (arith, nat_tests) in
-    simp (run-then, run-next, after-went, c.in_ok-fields.ensures.count s refl, run-passed dead.Sp (nat_lt c.args.at c.in_ok-fields.fields) s within, run-passed dead.Sp (nat_le c.args.at 16388) s small) c.store_field.ensures.stores
+    simp (run-then, run-next, after-went, c.in_ok-fields.ensures.count s refl, run-passed dead.Sp (nat_lt c.args.at c.in_ok-fields.fields) s within, run-passed dead.Sp (nat_le c.args.at 16388) s small) (c.store_field.ensures.stores w)

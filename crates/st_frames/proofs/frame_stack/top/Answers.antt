@@ -10,7 +10,7 @@ use Rattle.st_frames.proofs.frame_stack.top.Goals as goal
 
 pub returns-clause-top : goal.returns-clause-top
 unfolding top
-returns-clause-top g c =
+returns-clause-top g c = λ w.
     let f = c.args.f.now in
     let b : nat_lt 5 f.sp ≡ true = grind (arith, nat_tests) in
-    simp (run-then, run-next, after-went, shown-sp, run-passed dead.Sp (nat_lt 5 f.sp) (shown (g.M.Memory.view c.args.m.now) f) b, shown-active) (c.fetch_field.ensures.fetches (shown (g.M.Memory.view c.args.m.now) f) refl)
+    simp (run-then, run-next, after-went, shown-sp, run-passed dead.Sp (nat_lt 5 f.sp) (shown (g.M.Memory.view c.args.m.now) f w) b, shown-active) (c.fetch_field.ensures.fetches (shown (g.M.Memory.view c.args.m.now) f w) refl)

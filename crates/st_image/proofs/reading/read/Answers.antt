@@ -11,7 +11,7 @@ returns-in-Ok-clause-well_formed g c =
 pub returns-in-Ok-clause-start : goal.returns-in-Ok-clause-start
 returns-in-Ok-clause-start g c =
     let view = same_start _ _ _ _ _ c.in_ok-image.ensures.image.0 c.in_ok-image.ensures.image.1 c.in_ok-memory.ensures in
-    is_start _ _ _ _ _ view c.in-Ok.ensures.objects c.in-Ok.ensures.head c.in-Ok.ensures.frame c.in-Ok.ensures.registers
+    is_start _ _ _ _ _ (g.met.L.Done.Memory.whole c.fetch_scheduled.new.m).complete view c.in-Ok.ensures.objects c.in-Ok.ensures.head c.in-Ok.ensures.frame c.in-Ok.ensures.registers
 
 pub returns-in-Err-clause-fault : goal.returns-in-Err-clause-fault
 returns-in-Err-clause-fault g c =

@@ -9,37 +9,42 @@ use Rattle.st_machine.proofs.running.run.Goals as goal
 
 pub loop-done-init : goal.loop-done-init
 loop-done-init g c = record {
-  frame = record { frame = c.requires.frame; devices = refl };
-  shows = λ s h. none_so_far s (shown (g.M.Memory.view c.args.m.now) c.args.f.now) h;
+  ready = c.requires.ready;
+  world = refl;
+  shows = λ s h. none_so_far s (shown (g.M.Memory.view c.args.m.now) c.args.f.now c.args.w.now) h;
 }
 
 pub returns-in-Some-clause-ends : goal.returns-in-Some-clause-ends
 returns-in-Some-clause-ends g c = λ s h.
-    let v = g.M.Memory.view c.cycle.new.m in
-    let start = shown (g.M.Memory.view c.loop-done.m) c.loop-done.f in
-    let sound : IsSound (shown v c.cycle.new.f) = record { places = (g.met.M.Memory.whole c.cycle.new.m).places; closed = is_closed v c.cycle.new.f (g.met.M.Memory.whole c.cycle.new.m) c.cycle.ensures.frame.frame } in
-    ends_here c.loop-done.done s start (g.met.M.Memory.whole c.loop-done.m).places (c.loop-done.invariant.shows s h) c.args.n c.cycle.result c.in-Some.end (shown v c.cycle.new.f) c.loop-done-test.true c.cycle.ensures.cycle (sym c.in-Some.ensures) sound
+    let v = g.M.Memory.view c.loop-done.m in
+    let whole = g.met.M.Memory.whole c.loop-done.m in
+    let start = shown v c.loop-done.f c.loop-done.w in
+    let sound : IsSound start = record { places = whole.places; closed = is_closed v c.loop-done.f c.loop-done.w whole c.loop-done.invariant.ready } in
+    let after = shown (g.M.Memory.view c.cycle.new.m) c.cycle.new.f c.cycle.new.w in
+    ends_here c.loop-done.done s start sound whole.most_entries (c.loop-done.invariant.shows s h) c.args.n c.cycle.result c.in-Some.end after c.loop-done-test.true c.cycle.ensures.cycle (sym c.in-Some.ensures)
 
 pub loop-done-preserved : goal.loop-done-preserved
 loop-done-preserved g c =
-    let v = g.M.Memory.view c.cycle.new.m in
-    let start = shown (g.M.Memory.view c.loop-done.m) c.loop-done.f in
-    let stays = c.cycle.ensures.frame in
-    let sound : IsSound (shown v c.cycle.new.f) = record { places = (g.met.M.Memory.whole c.cycle.new.m).places; closed = is_closed v c.cycle.new.f (g.met.M.Memory.whole c.cycle.new.m) stays.frame } in
+    let v = g.M.Memory.view c.loop-done.m in
+    let whole = g.met.M.Memory.whole c.loop-done.m in
+    let start = shown v c.loop-done.f c.loop-done.w in
+    let sound : IsSound start = record { places = whole.places; closed = is_closed v c.loop-done.f c.loop-done.w whole c.loop-done.invariant.ready } in
+    let after = shown (g.M.Memory.view c.cycle.new.m) c.cycle.new.f c.cycle.new.w in
     record {
-      frame = record { frame = stays.frame; devices = stays.devices ∙ c.loop-done.invariant.frame.devices };
-      shows = λ s h. goes_further c.loop-done.done s start (g.met.M.Memory.whole c.loop-done.m).places (c.loop-done.invariant.shows s h) c.cycle.result (shown v c.cycle.new.f) c.cycle.ensures.cycle (sym c.in_default.ensures) sound;
+      ready = c.cycle.ensures.ready;
+      world = c.cycle.ensures.world ∙ c.loop-done.invariant.world;
+      shows = λ s h. goes_further c.loop-done.done s start sound whole.most_entries (c.loop-done.invariant.shows s h) c.cycle.result after c.cycle.ensures.cycle (sym c.in_default.ensures);
     }
 
 pub returns-clause-ends : goal.returns-clause-ends
 returns-clause-ends g c = λ s h.
-    let c' = shown (g.M.Memory.view c.loop-done.m) c.loop-done.f in
+    let c' = shown (g.M.Memory.view c.loop-done.m) c.loop-done.f c.loop-done.w in
     let all : c.loop-done.done ≡ c.args.n = omega arith in
     subst (λ n. EndsAs n s ending.Ran c') all (ran_all c.loop-done.done s c' (c.loop-done.invariant.shows s h))
 
 pub returns-in-Some-clause-asks : goal.returns-in-Some-clause-asks
 returns-in-Some-clause-asks g c =
-    asks_nothing c.loop-done.done (shown (g.M.Memory.view c.loop-done.m) c.loop-done.f) (shown (g.M.Memory.view c.cycle.new.m) c.cycle.new.f) c.cycle.result c.in-Some.end c.cycle.ensures.cycle (sym c.in-Some.ensures)
+    asks_nothing c.loop-done.done (shown (g.M.Memory.view c.loop-done.m) c.loop-done.f c.loop-done.w) (shown (g.M.Memory.view c.cycle.new.m) c.cycle.new.f c.cycle.new.w) c.cycle.result c.in-Some.end c.cycle.ensures.cycle (sym c.in-Some.ensures)
 
 pub returns-in-Some-clause-counts : goal.returns-in-Some-clause-counts
 returns-in-Some-clause-counts g c = run_counts c.args.n c.loop-done.done c.cycle.result c.in-Some.end (sym c.in-Some.ensures) c.loop-done-test.true

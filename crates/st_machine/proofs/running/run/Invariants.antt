@@ -1,13 +1,15 @@
+use Rattle.std.proofs.Common.{◌≡◌}
 use Rattle.st_model.specs.Machine.{State}
 use Rattle.st_model.specs.Births.{Births}
 use Rattle.st_model.specs.Show.{Shows}
-use Rattle.st_frames.specs.Shown.{shown, StaysFrame}
+use Rattle.st_frames.specs.Shown.{shown, IsReady}
 use Rattle.st_machine.proofs.Runs.{SoFar}
 use Rattle.st_machine.proofs.running.run.Given as goal
 
 -- what was shown at the start is shown after the cycles so far
 abbrev pub invariant-loop-done : goal.invariant-loop-done
 invariant-loop-done g l = record {
-  frame : StaysFrame (g.M.Memory.view l.fn.m) (g.M.Memory.view l.m) l.f;
-  shows : (s : State Births) → Shows (shown (g.M.Memory.view l.fn.m) l.fn.f) s → SoFar l.done s (shown (g.M.Memory.view l.m) l.f);
+  ready : IsReady (g.M.Memory.view l.m) l.f l.w;
+  world : l.w ≡ l.fn.w;
+  shows : (s : State Births) → Shows (shown (g.M.Memory.view l.fn.m) l.fn.f l.fn.w) s → SoFar l.done s (shown (g.M.Memory.view l.m) l.f l.w);
 }

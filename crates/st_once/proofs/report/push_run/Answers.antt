@@ -26,5 +26,5 @@ returns-in_err-push_end g c = push_begun _ c.from_residual.ensures.0 c.in_err-pu
 
 pub returns-in_default : goal.returns-in_default
 returns-in_default g c =
-    let state = shown (g.M.Memory.view c.args.m.now) c.args.f.now in
+    let state = shown (g.M.Memory.view c.args.m.now) c.args.f.now c.args.w.now in
     push_then c.in_ok-push_end.ensures (push_as c.push_state.ensures (alive c.args.end state c.in_default.not-Dead))

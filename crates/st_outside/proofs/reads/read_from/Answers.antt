@@ -3,6 +3,7 @@ use Rattle.std.proofs.lemmas.List.{take-append-le, drop-drop, length-take-le}
 use Rattle.std.proofs.Math.Seq.{take-add, take-append-add}
 use Rattle.st_outside.specs.Files.{bytes_of, Reads}
 use Rattle.st_outside.proofs.Joining.{reads_join, alike_join}
+use Rattle.st_outside.proofs.Touching.{changes_join}
 use Rattle.st_outside.proofs.reads.read_from.Goals as goal
 
 -- what stands in the slice after one read more
@@ -39,4 +40,5 @@ loop-done-preserved g c =
       bytes = λ told. more c.args.at done k file into part tail inv.bound (omega (arith, room, long)) (inv.bytes told) (reads told).bytes;
       alike = alike_join g.H.Host c.args.host.now c.loop-done.host c.read_some.new.host inv.alike w.alike;
       reads = reads_join g.H.Host c.args.host.now c.loop-done.host c.read_some.new.host inv.reads c.read_some.ensures.reads;
+      changes = changes_join g.H.Host c.args.name.now c.args.host.now c.loop-done.host c.read_some.new.host inv.changes c.read_some.ensures.changes;
     }

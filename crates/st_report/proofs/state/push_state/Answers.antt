@@ -1,5 +1,6 @@
-use Rattle.st_model.specs.Text.{state_text}
-use Rattle.st_report.proofs.Pushing.{push_then, push_begun}
+use Rattle.std.proofs.Common.{ap}
+use Rattle.st_model.specs.Text.{state_text, held_text}
+use Rattle.st_report.proofs.Pushing.{push_then, push_begun, push_as}
 use Rattle.st_report.proofs.state.push_state.Goals as goal
 
 pub returns-in_err-push_registers : goal.returns-in_err-push_registers
@@ -18,14 +19,14 @@ unfolding state_text
 returns-in_err-push_held g c =
     push_then c.in_ok-push_registers.ensures
     (push_then c.in_ok-push_input.ensures
-    (push_begun _ c.from_residual-in_err-push_held.ensures.0 c.in_err-push_held.ensures))
+    (push_begun _ c.from_residual-in_err-push_held.ensures.0 (push_as c.in_err-push_held.ensures (ap held_text c.requires.ready.devices))))
 
 pub returns-in_err-push_used : goal.returns-in_err-push_used
 unfolding state_text
 returns-in_err-push_used g c =
     push_then c.in_ok-push_registers.ensures
     (push_then c.in_ok-push_input.ensures
-    (push_then c.in_ok-push_held.ensures
+    (push_then (push_as c.in_ok-push_held.ensures (ap held_text c.requires.ready.devices))
     (push_begun _ c.from_residual-in_err-push_used.ensures.0 c.in_err-push_used.ensures)))
 
 pub returns : goal.returns
@@ -33,5 +34,5 @@ unfolding state_text
 returns g c =
     push_then c.in_ok-push_registers.ensures
     (push_then c.in_ok-push_input.ensures
-    (push_then c.in_ok-push_held.ensures
+    (push_then (push_as c.in_ok-push_held.ensures (ap held_text c.requires.ready.devices))
     (push_then c.in_ok-push_used.ensures c.push_objects.ensures)))

@@ -11,11 +11,11 @@ pub returns-in-Ok-Did : goal.returns-in-Ok-Did
 returns-in-Ok-Did g c =
     let v = g.M.Memory.view c.args.m.now in
     let new = c.new-draft.ensures in
-    let same = loaded_as v c.args.f.now _ _ c.load-r.result new.table (new.head) c.load-r.ensures in
+    let same = loaded_as v c.args.f.now c.args.w.now _ _ c.load-r.result new.table new.head c.load-r.ensures.registers c.load-r.ensures.world in
     let demand = c.demand.ensures in
     let base = ap (λ (x : View). x.objects) (c.step_row.ensures.takes.fixed ∙ new.fixed) in
     record {
-      plans = plan_goes (used table v.objects) (shown v c.args.f.now) _ _ _ _ c.step_row.result same c.step_row.ensures.does c.in-Ok-Did.field-0-0 c.demand.result (c.in-Ok-Did.is ∙ ap (λ x. Ok x) c.in-Ok-Did.field-0-is)
+      plans = plan_goes (used table v.objects) (shown v c.args.f.now c.args.w.now) _ _ _ _ c.step_row.result same c.step_row.ensures.does.does c.in-Ok-Did.field-0-0 c.demand.result (c.in-Ok-Did.is ∙ ap (λ x. Ok x) c.in-Ok-Did.field-0-is)
           (used_after (drafted (g.M.Memory.view c.step_row.new.m.base.now).objects c.step_row.new.m.notes c.step_row.new.m.exchanges) (g.M.Memory.view c.step_row.new.m.base.now).objects v.objects c.demand.result base demand.entries demand.words);
     }
 
@@ -23,12 +23,12 @@ pub returns-in-Ok-NotBuilt : goal.returns-in-Ok-NotBuilt
 returns-in-Ok-NotBuilt g c =
     let v = g.M.Memory.view c.args.m.now in
     let new = c.new-draft.ensures in
-    let same = loaded_as v c.args.f.now _ _ c.load-r.result new.table (new.head) c.load-r.ensures in
-    record { plans = plan_unbuilt (used table v.objects) (shown v c.args.f.now) _ _ _ _ c.step_row.result same c.step_row.ensures.does (c.in-Ok-NotBuilt.is ∙ ap (λ x. Ok x) c.in-Ok-NotBuilt.field-0-is) }
+    let same = loaded_as v c.args.f.now c.args.w.now _ _ c.load-r.result new.table new.head c.load-r.ensures.registers c.load-r.ensures.world in
+    record { plans = plan_unbuilt (used table v.objects) (shown v c.args.f.now c.args.w.now) _ _ _ _ c.step_row.result same c.step_row.ensures.does.does (c.in-Ok-NotBuilt.is ∙ ap (λ x. Ok x) c.in-Ok-NotBuilt.field-0-is) }
 
 pub returns-in-Err : goal.returns-in-Err
 returns-in-Err g c =
     let v = g.M.Memory.view c.args.m.now in
     let new = c.new-draft.ensures in
-    let same = loaded_as v c.args.f.now _ _ c.load-r.result new.table (new.head) c.load-r.ensures in
-    record { plans = plan_dies (used table v.objects) (shown v c.args.f.now) _ _ _ _ c.step_row.result same c.step_row.ensures.does c.in-Err.cause c.in-Err.is }
+    let same = loaded_as v c.args.f.now c.args.w.now _ _ c.load-r.result new.table new.head c.load-r.ensures.registers c.load-r.ensures.world in
+    record { plans = plan_dies (used table v.objects) (shown v c.args.f.now c.args.w.now) _ _ _ _ c.step_row.result same c.step_row.ensures.does.does c.in-Err.cause c.in-Err.is }

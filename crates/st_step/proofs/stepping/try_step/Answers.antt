@@ -7,35 +7,41 @@ use Rattle.st_model.specs.Calls.{Does}
 use Rattle.st_model.specs.View.{View}
 use Rattle.st_frames.specs.Shown.{shown}
 use Rattle.st_frames.proofs.Stored.{loaded}
-use Rattle.st_step.proofs.Stepped.{held_again, there_after}
+use Rattle.st_step.proofs.Stepped.{held_again, ready_again, there_after}
 use Rattle.st_step.proofs.stepping.try_step.Goals as goal
 
 pub returns-in_err-end-clause-step : goal.returns-in_err-end-clause-step
 returns-in_err-end-clause-step g c =
     let v = g.M.Memory.view c.args.m.now in
     let f = c.args.f.now in
+    let w = c.args.w.now in
     let e : c.from_residual.result ≡ Err c.in_err-end.field-0.0 = search rules in
-    subst (λ x. Does (step bounded_table) end_of (shown v f) x (shown (g.M.Memory.view c.step_row.new.m) f)) (sym e)
-    (ap (λ (s : State Table). (step bounded_table).run s) (sym (loaded v f c.load-r.result c.load-r.ensures)) ∙ c.in_err-end.ensures.does)
+    subst (λ x. Does (step bounded_table) end_of (shown v f w) x (shown (g.M.Memory.view c.step_row.new.m) f w)) (sym e)
+    (ap (λ (s : State Table). (step bounded_table).run s) (sym (loaded v f w c.load-r.result c.load-r.ensures.registers c.load-r.ensures.world)) ∙ c.in_err-end.ensures.does.does)
 
 pub hold-requires : goal.hold-requires
 hold-requires g c =
     let v = g.M.Memory.view c.args.m.now in
-    let w = g.M.Memory.view c.step_row.new.m in
+    let u = g.M.Memory.view c.step_row.new.m in
     let f = c.args.f.now in
-    there_after v f w.objects w.head c.step_row.new.r (end_of c.in_ok-end.end) (g.met.M.Memory.whole c.args.m.now) c.requires.frame
-    (ap (λ (s : State Table). (step bounded_table).run s) (sym (loaded v f c.load-r.result c.load-r.ensures)) ∙ c.in_ok-end.ensures.does)
+    let w = c.args.w.now in
+    there_after v f w u.objects u.head c.step_row.new.r (end_of c.in_ok-end.end) (g.met.M.Memory.whole c.args.m.now) c.requires.ready
+    (ap (λ (s : State Table). (step bounded_table).run s) (sym (loaded v f w c.load-r.result c.load-r.ensures.registers c.load-r.ensures.world)) ∙ c.in_ok-end.ensures.does.does)
 
 pub returns-clause-step : goal.returns-clause-step
 returns-clause-step g c =
     let v = g.M.Memory.view c.args.m.now in
-    let w = g.M.Memory.view c.step_row.new.m in
-    let u = g.M.Memory.view c.hold.new.m in
+    let u = g.M.Memory.view c.step_row.new.m in
+    let z = g.M.Memory.view c.hold.new.m in
     let f = c.args.f.now in
-    ap (λ (s : State Table). (step bounded_table).run s) (sym (loaded v f c.load-r.result c.load-r.ensures))
-    ∙ (c.in_ok-end.ensures.does ∙ ap (λ s. Went (end_of c.in_ok-end.end) s) (held_again w u c.hold.result c.step_row.new.r c.hold.ensures.same c.hold.ensures.objects c.hold.ensures.head))
+    let w = c.args.w.now in
+    let held = c.hold.ensures in
+    let does = c.in_ok-end.ensures.does in
+    ap (λ (s : State Table). (step bounded_table).run s) (sym (loaded v f w c.load-r.result c.load-r.ensures.registers c.load-r.ensures.world))
+    ∙ (does.does ∙ ap (λ s. Went (end_of c.in_ok-end.end) s) (held_again u z c.hold.result w c.step_row.new.r held.same (does.world ∙ c.load-r.ensures.world) held.objects held.head))
 
-pub returns-clause-frame : goal.returns-clause-frame
-returns-clause-frame g c =
+pub returns-clause-ready : goal.returns-clause-ready
+returns-clause-ready g c =
     let stays = c.hold.ensures.frame in
-    record { frame = stays.frame; devices = stays.devices ∙ ap (λ (v : View). v.held.devices) c.in_ok-end.ensures.takes.fixed }
+    ready_again (g.M.Memory.view c.args.m.now) (g.M.Memory.view c.hold.new.m) c.args.f.now c.hold.result c.args.w.now c.requires.ready
+    (record { frame = stays.frame; devices = stays.devices ∙ ap (λ (v : View). v.held.devices) c.in_ok-end.ensures.takes.fixed })

@@ -1,10 +1,10 @@
 use Rattle.std.proofs.Common.{◌≡◌, List, ℕ, sym, ap, subst, ◌∙◌, true≢false}
 use Rattle.st_outside.specs.Files.{bytes_of, IsCut}
-use Rattle.st_outside.specs.Runs.{IsSynced}
+use Rattle.st_outside.specs.Runs.{Changes, IsSynced}
 use Rattle.st_store.specs.Names.{roots_file}
 use Rattle.st_store.specs.Roots.{HasLetters}
 use Rattle.st_store.proofs.Opening.{narrows_none}
-use Rattle.st_store.proofs.Clearing.{while_looked, while_cut, emptied, only_cut, cuts_as}
+use Rattle.st_store.proofs.Clearing.{changes_none, while_looked, while_cut, emptied, only_cut, cuts_as}
 use Rattle.st_store.proofs.create.clear.Goals as goal
 
 pub returns-in_err-names-clause-moments : goal.returns-in_err-names-clause-moments
@@ -60,8 +60,9 @@ returns-in_err-cut_synced-clause-only g c =
     let b = c.find_store.new.host in
     let d = c.cut_synced.new.host in
     let again : c.roots-2.result.now ≡ roots_file c.args.name.now = c.roots-2.ensures ∙ ap roots_file c.in_ok-names.ensures in
+    let is : c.roots.result.now ≡ roots_file c.args.name.now = c.roots.ensures ∙ ap roots_file c.in_ok-names.ensures in
     let cuts = cuts_as H c.roots-2.result.now (roots_file c.args.name.now) 0 b d again c.cut_synced.ensures.cuts in
-    only_cut H c.args.name.now a b d c.find_store.ensures.narrows cuts
+    only_cut H c.args.name.now a b d (subst (λ (x : List ℕ). Changes H x a b) is c.find_store.ensures.only) cuts
 
 pub returns-clause-only : goal.returns-clause-only
 returns-clause-only g c =
@@ -70,8 +71,9 @@ returns-clause-only g c =
     let b = c.find_store.new.host in
     let d = c.cut_synced.new.host in
     let again : c.roots-2.result.now ≡ roots_file c.args.name.now = c.roots-2.ensures ∙ ap roots_file c.in_ok-names.ensures in
+    let is : c.roots.result.now ≡ roots_file c.args.name.now = c.roots.ensures ∙ ap roots_file c.in_ok-names.ensures in
     let cuts = cuts_as H c.roots-2.result.now (roots_file c.args.name.now) 0 b d again c.cut_synced.ensures.cuts in
-    only_cut H c.args.name.now a b d c.find_store.ensures.narrows cuts
+    only_cut H c.args.name.now a b d (subst (λ (x : List ℕ). Changes H x a b) is c.find_store.ensures.only) cuts
 
 pub returns-clause-none : goal.returns-clause-none
 returns-clause-none g c told letters =
@@ -93,3 +95,18 @@ returns-clause-empty g c told =
     emptied H c.args.name.now b d told
     (subst (λ (x : List ℕ). IsCut 0 (H.files b x) (H.files d x)) again (c.in_ok-cut_synced.ensures.cut told))
     (subst (λ (x : List ℕ). IsSynced H x d) again c.in_ok-cut_synced.ensures.synced)
+
+pub returns-in_err-names-clause-only : goal.returns-in_err-names-clause-only
+returns-in_err-names-clause-only g c =
+    let a = c.args.host.now in
+    changes_none g.H.Host c.args.name.now a (λ told f s left. g.met.H.Host.only_now a f s told left)
+
+pub returns-in_err-there-clause-only : goal.returns-in_err-there-clause-only
+returns-in_err-there-clause-only g c =
+    let is : c.roots.result.now ≡ roots_file c.args.name.now = c.roots.ensures ∙ ap roots_file c.in_ok-names.ensures in
+    subst (λ (x : List ℕ). Changes g.H.Host x c.args.host.now c.find_store.new.host) is c.find_store.ensures.only
+
+pub returns-then-there-clause-only : goal.returns-then-there-clause-only
+returns-then-there-clause-only g c =
+    let is : c.roots.result.now ≡ roots_file c.args.name.now = c.roots.ensures ∙ ap roots_file c.in_ok-names.ensures in
+    subst (λ (x : List ℕ). Changes g.H.Host x c.args.host.now c.find_store.new.host) is c.find_store.ensures.only

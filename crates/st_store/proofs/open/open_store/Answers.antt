@@ -1,13 +1,13 @@
 use Rattle.std.proofs.lemmas.Result.{err_from_is_err_and}
 use Rattle.std.proofs.Common.{◌≡◌, List, ℕ, refl, string_bytes, subst}
-use Rattle.st_outside.specs.Runs.{LeavesOnly, NarrowsBut}
+use Rattle.st_outside.specs.Runs.{LeavesOnly, NarrowsBut, Spares}
 use Rattle.st_outside.proofs.Joining.{narrows_join, alike_join, makes_then}
 use Rattle.st_outside.proofs.Touching.{narrows_but, changes_join}
-use Rattle.st_store.specs.Names.{roots_file}
+use Rattle.st_store.specs.Names.{roots_file, IsNoFileOf}
 use Rattle.st_store.specs.Roots.{IsFresh}
 use Rattle.st_store.specs.Refusals.{Refuses}
 use Rattle.st_store.specs.Stored.{Opens, IsChosen, IsOpening, stored_in}
-use Rattle.st_store.proofs.Opening.{looked_at, refused_at, narrows_none, only_looked, opened, freshly, but_roots}
+use Rattle.st_store.proofs.Opening.{looked_at, refused_at, narrows_none, only_looked, opened, freshly, but_roots, spared, spared_on}
 use Rattle.st_store.proofs.open.open_store.Goals as goal
 
 pub returns-in_err-names-clause-moments : goal.returns-in_err-names-clause-moments
@@ -174,3 +174,43 @@ returns-clause-fresh g c told =
     subst (λ (y : List ℕ). IsFresh k root (H.files e (roots_file y))) c.in_ok-names.ensures
     (freshly H n d e k x (g.met.H.Host.read_counts d (roots_file n) told) staged (g.met.H.Host.read_counts e (roots_file n) told)
     (c.in_ok-turn.ensures.same x told staged) (c.in_ok-turn.ensures.written told))
+
+pub returns-in_err-make_firm-clause-spares : goal.returns-in_err-make_firm-clause-spares
+returns-in_err-make_firm-clause-spares g c =
+    let H = g.H.Host in
+    let n = string_bytes c.in_ok-names.names.name in
+    let a = c.args.host.now in
+    let m = c.make_firm.new.host in
+    let firm = spared H n a c.look.new.host m c.roots.result.now c.image.result.now c.changes.result.now c.in_ok-chosen.chosen.root.slot c.roots.ensures c.image.ensures c.changes.ensures
+    c.look.ensures.only c.make_firm.ensures.spares in
+    subst (λ (y : List ℕ). Spares H (IsNoFileOf y) a m) c.in_ok-names.ensures (firm)
+
+pub returns-in_err-stage-clause-spares : goal.returns-in_err-stage-clause-spares
+returns-in_err-stage-clause-spares g c =
+    let H = g.H.Host in
+    let n = string_bytes c.in_ok-names.names.name in
+    let a = c.args.host.now in
+    let m = c.make_firm.new.host in
+    let firm = spared H n a c.look.new.host m c.roots.result.now c.image.result.now c.changes.result.now c.in_ok-chosen.chosen.root.slot c.roots.ensures c.image.ensures c.changes.ensures
+    c.look.ensures.only c.make_firm.ensures.spares in
+    subst (λ (y : List ℕ). Spares H (IsNoFileOf y) a c.stage.new.host) c.in_ok-names.ensures (spared_on H n a m c.stage.new.host firm c.stage.ensures.changes)
+
+pub returns-in_err-turn-clause-spares : goal.returns-in_err-turn-clause-spares
+returns-in_err-turn-clause-spares g c =
+    let H = g.H.Host in
+    let n = string_bytes c.in_ok-names.names.name in
+    let a = c.args.host.now in
+    let m = c.make_firm.new.host in
+    let firm = spared H n a c.look.new.host m c.roots.result.now c.image.result.now c.changes.result.now c.in_ok-chosen.chosen.root.slot c.roots.ensures c.image.ensures c.changes.ensures
+    c.look.ensures.only c.make_firm.ensures.spares in
+    subst (λ (y : List ℕ). Spares H (IsNoFileOf y) a c.turn.new.host) c.in_ok-names.ensures (spared_on H n a m c.turn.new.host firm (changes_join H (roots_file n) m c.stage.new.host c.turn.new.host c.stage.ensures.changes c.turn.ensures.changes))
+
+pub returns-clause-spares : goal.returns-clause-spares
+returns-clause-spares g c =
+    let H = g.H.Host in
+    let n = string_bytes c.in_ok-names.names.name in
+    let a = c.args.host.now in
+    let m = c.make_firm.new.host in
+    let firm = spared H n a c.look.new.host m c.roots.result.now c.image.result.now c.changes.result.now c.in_ok-chosen.chosen.root.slot c.roots.ensures c.image.ensures c.changes.ensures
+    c.look.ensures.only c.make_firm.ensures.spares in
+    subst (λ (y : List ℕ). Spares H (IsNoFileOf y) a c.turn.new.host) c.in_ok-names.ensures (spared_on H n a m c.turn.new.host firm (changes_join H (roots_file n) m c.stage.new.host c.turn.new.host c.stage.ensures.changes c.turn.ensures.changes))

@@ -10,7 +10,7 @@ use Rattle.st_frames.proofs.frame.Frame.under.Goals as goal
 
 pub returns-clause-under : goal.returns-clause-under
 unfolding under
-returns-clause-under g c =
+returns-clause-under g c = λ w.
     let f = c.args.self.now in
     let b : nat_lt (5 + c.args.k) f.sp ≡ true = grind (arith, nat_tests) in
-    simp (run-then, run-next, after-went, shown-sp, run-passed dead.Sp (nat_lt (5 + c.args.k) f.sp) (shown (g.M.Memory.view c.args.m.now) f) b, shown-active) (c.fetch_field.ensures.fetches (shown (g.M.Memory.view c.args.m.now) f) refl)
+    simp (run-then, run-next, after-went, shown-sp, run-passed dead.Sp (nat_lt (5 + c.args.k) f.sp) (shown (g.M.Memory.view c.args.m.now) f w) b, shown-active) (c.fetch_field.ensures.fetches (shown (g.M.Memory.view c.args.m.now) f w) refl)

@@ -7,4 +7,5 @@ pub returns-clause-shows : goal.returns-clause-shows
 returns-clause-shows g c =
     let v = g.M.Memory.view c.args.loaded.memory in
     let f = c.args.loaded.frame in
-    raised_shown (shown v f) (is_closed v f (g.met.M.Memory.whole c.args.loaded.memory) c.requires.frame)
+    let w = c.args.world in
+    raised_shown (shown v f w) (is_closed v f w (g.met.M.Memory.whole c.args.loaded.memory) c.requires.ready)

@@ -1,5 +1,3 @@
-use Rattle.std.proofs.Common.{Err}
-use Rattle.st_model.specs.declared.dead.Dead.TheVariants as dead
 use Rattle.std.proofs.lemmas.Int.{to_z-of_z}
 use Rattle.st_model.specs.Values.{word}
 use Rattle.st_memory.specs.Noted.{noted}
@@ -11,10 +9,10 @@ pub returns-in-Some : goal.returns-in-Some
 returns-in-Some g c =
     let d = c.args.self.now in
     let names = names_of (noted (g.M.Memory.view d.base.now).objects d.notes) d.exchanges.pairs d.exchanges.count d.there (word c.args.method) (word c.word_before-before.result) c.word_before-before.ensures in
-    byte_names names c.args.ip (Err dead.Kind) (byte_made (g.M.Memory.view d.base.now).objects d.notes.made d.notes.made_count d.notes.changes d.notes.count (word c.word_before-before.result) c.args.ip c.in-Some.field-0 c.in-Some.ensures.found)
+    byte_names names c.args.ip c.byte_at.result (byte_made (g.M.Memory.view d.base.now).objects d.notes.made d.notes.made_count d.notes.changes d.notes.count (word c.word_before-before.result) c.args.ip c.in-Some.made c.byte_at.result c.in-Some.ensures.found (simp (to_z-of_z, c.ranges.ip) at c.byte_at.ensures))
 
 pub returns-in-None : goal.returns-in-None
 returns-in-None g c =
     let d = c.args.self.now in
     let names = names_of (noted (g.M.Memory.view d.base.now).objects d.notes) d.exchanges.pairs d.exchanges.count d.there (word c.args.method) (word c.word_before-before.result) c.word_before-before.ensures in
-    byte_names names c.args.ip c.byte_at.result (byte_base (g.M.Memory.view d.base.now).objects d.notes.made d.notes.made_count d.notes.changes d.notes.count (word c.word_before-before.result) c.args.ip c.byte_at.result c.in-None.ensures.none (simp (to_z-of_z, c.ranges.ip) at c.byte_at.ensures))
+    byte_names names c.args.ip c.byte_at-in-None.result (byte_base (g.M.Memory.view d.base.now).objects d.notes.made d.notes.made_count d.notes.changes d.notes.count (word c.word_before-before.result) c.args.ip c.byte_at-in-None.result c.in-None.ensures.none (simp (to_z-of_z, c.ranges.ip) at c.byte_at-in-None.ensures))

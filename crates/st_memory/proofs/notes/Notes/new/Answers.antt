@@ -1,5 +1,6 @@
 use Rattle.std.proofs.Common.{List, replicate}
-use Rattle.st_memory.specs.declared.change.Made.{Made}
+use Rattle.st_model.specs.declared.kind.Kind.TheVariants as kind
+use Rattle.st_memory.specs.declared.made.Made.{Made}
 use Rattle.st_memory.specs.declared.change.Change.{Change}
 use Rattle.st_memory.specs.declared.change.Change.TheVariants.{Field}
 use Rattle.st_memory.proofs.Keeping.{nothing_made}
@@ -7,7 +8,7 @@ use Rattle.st_memory.proofs.notes.Notes.new.Goals as goal
 
 -- what stands in the unused cells
 abbrev unmade : List Made
-unmade = replicate 24 (record { class = record { 0 = 2 }; size = 0 })
+unmade = replicate 24 (record { class = record { 0 = 2 }; kind = kind.Pointers; size = 0; literals = 0 })
 
 abbrev unchanged : List Change
 unchanged = replicate 24 (Field (record { 0 = 2 }) 0 (record { 0 = 2 }))

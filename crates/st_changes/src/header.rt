@@ -1,0 +1,67 @@
+// The header of a group, written with single spaces.
+ghost use Rattle.std.specs.Prelude.{◌≡◌, ◌≤◌, ◌++◌, IfOk, length, take, drop};
+ghost use Rattle.std.specs.List.{prefix_len};
+ghost use Rattle.std.specs.Char.{is_ascii_alphanumeric};
+ghost use Rattle.st_chunk.specs.Groups.{is_name};
+ghost use Rattle.st_changes.specs.Entries.{FindsSide, FindsHeader};
+
+use crate::run::find_run;
+use st_tree::Text;
+use std::alloc::{AllocError, Global};
+
+/// A class, a side of it and a category.
+#[derive(Drop)]
+pub(crate) struct Header {
+    pub(crate) class: Text,
+    pub(crate) meta: bool,
+    pub(crate) category: Text,
+}
+
+/// How many letters and digits stand at the front of a text.
+fn word_length(text: &[u8]) -> usize
+    ensures exact { result ≡ prefix_len is_ascii_alphanumeric text.now }
+    ensures within { result ≤ length text.now }
+{
+    text.iter().take_while(|b| b.is_ascii_alphanumeric()).count()
+}
+
+/// Whether the text names the class side, and how many bytes stand before the category's. None where the text doesn't go
+/// on as a header does behind its class.
+fn find_side(text: &[u8]) -> Option<(bool, usize)>
+    ensures { FindsSide text.now result }
+{
+    if text.starts_with(b" class methodsFor: '") {
+        Some((true, 20))
+    } else if text.starts_with(b" methodsFor: '") {
+        Some((false, 14))
+    } else {
+        None
+    }
+}
+
+/// The header that a text is, or none.
+pub(crate) fn find_header(alloc: Global, text: &[u8]) -> Result<Option<Header>, AllocError>
+    ensures { IfOk result (FindsHeader text.now) }
+{
+    let end = word_length(text);
+    if end == 0 || !text[0].is_ascii_alphabetic() {
+        return Ok(None);
+    }
+    let Some((meta, length)) = find_side(&text[end..]) else {
+        return Ok(None);
+    };
+    let start = end + length;
+    let Some(category) = find_run(alloc, &text[start..], b'\'')? else {
+        return Ok(None);
+    };
+    if start + category.length < text.len() {
+        return Ok(None);
+    }
+    let mut class = Text::new(alloc);
+    class.extend_from_slice(&text[..end])?;
+    Ok(Some(Header {
+        class,
+        meta,
+        category: category.bytes,
+    }))
+}

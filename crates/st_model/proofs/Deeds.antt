@@ -1,0 +1,401 @@
+-- A change of words or bytes, or of a Method's header or literals, commutes with what reads and stores fields of objects of kind
+-- Pointers: with popping, pushing and storing fields. So a deed may be left until after these.
+use Rattle.std.proofs.Common.{◌≡◌, ◌≢◌, ℕ, zero, suc, ◌+◌, List, [], ◌∷◌, length, Option, Some, None, Bool, true, false, refl, sym, ◌∙◌, ap, arith, inl, inr, ◌⊎◌, is_some, length-set}
+use Rattle.std.specs.Prelude.{◌-◌, ◌&&◌, slice_get, nat_lt, nat_le, if◌then◌else◌}
+use Rattle.st_model.specs.declared.dead.Dead.{Dead}
+use Rattle.st_model.specs.declared.dead.Dead.TheVariants as dead
+use Rattle.st_model.specs.declared.kind.Kind.{Kind}
+use Rattle.st_model.specs.declared.kind.Kind.TheVariants as kind
+use Rattle.st_model.specs.declared.deed.Deed.{Deed}
+use Rattle.st_model.specs.declared.deed.Deed.TheVariants.{Nothing, StoreWord, StoreByte, StoreNumber, ReplaceBytes, StoreHeader, StoreLiteral}
+use Rattle.st_model.specs.Values.{Value, Small, Ref, word}
+use Rattle.st_model.specs.Objects.{Object, is_pointers, is_words, is_method, has_bytes, first_unit, with_field, object_with_unit, words_of, one}
+use Rattle.st_model.specs.Machine.{ObjectMemory, State, Transition, Died, Went, Step, is_there, used, answer, die, after, ◌>>=◌, ◌>>◌}
+use Rattle.st_model.specs.Table.{Table, table, entry, changed, total_used, IsTabular}
+use Rattle.st_model.specs.Steps.{get_active, get_sp, set_sp, found, object_named, object, stored_at, store_at, set_field, check, or_die, fetch_field, store_field, count_fields, put, push, top, pop}
+use Rattle.st_model.specs.Primitives.{bytes_of_number, pop_words, answer_with}
+use Rattle.st_model.specs.Deeds.{changed_object, changed_by, word_stored, byte_stored, bytes_stored, bytes_from, counts_literals, header_stored, literal_stored, deed_done, over}
+use Rattle.st_model.proofs.TableLemmas.{changed-some, changed-other}
+use Rattle.st_model.proofs.Bounded.{total-changed}
+
+-- none for none, and for an object one of the same kind; of kind Pointers the same
+abbrev pub Alike : Option Object → Option Object → Type 0
+Alike None b = b ≡ None
+Alike (Some o) b = (p : Object) × (b ≡ Some p) × (p.kind ≡ o.kind) × (is_pointers o.kind ≡ true → p ≡ o)
+
+-- a change of a table that leaves objects of kind Pointers, and what is stored in their fields
+pub record LeavesPointers (g : Table → Table) : Type 0 where
+  pub alike : (t : Table) (n : ℕ) → Alike (entry t n) (entry (g t) n)
+  pub stores : (t : Table) (n : ℕ) (o : Object) (i : ℕ) (x : Value) → entry t n ≡ Some o → is_pointers o.kind ≡ true → g (changed t n (with_field o i x)) ≡ changed (g t) n (with_field o i x)
+
+abbrev pub moved : {A : Type 0} → (Table → Table) → Transition (State Table) A → Transition (State Table) A
+moved g (Died cause) = Died cause
+moved g (Went a s) = Went a (over g s)
+
+-- the step does the same before the change and after it
+pub record Commutes {A : Type 0} (g : Table → Table) (m : Step Table A) : Type 0 where
+  pub go : (s : State Table) → m.run (over g s) ≡ moved g (m.run s)
+
+module _ (g : Table → Table) where
+  after-commutes : {A B : Type 0} (f : A → Step Table B) → ((a : A) → Commutes g (f a)) → (o : Transition (State Table) A)
+      → after (moved g o) (λ a t. (f a).run t) ≡ moved g (after o (λ a t. (f a).run t))
+  unfolding after
+  after-commutes f h (Died cause) = refl
+  after-commutes f h (Went a s) = (h a).go s
+
+  then-commutes : {A B : Type 0} (m : Step Table A) (f : A → Step Table B) → Commutes g m → ((a : A) → Commutes g (f a)) → Commutes g (m >>= f)
+  unfolding ◌>>=◌
+  then-commutes m f h k = record { go = λ s. ap (λ o. after o (λ a t. (f a).run t)) (h.go s) ∙ after-commutes f k (m.run s) }
+
+  next-commutes : {A B : Type 0} (m : Step Table A) (n : Step Table B) → Commutes g m → Commutes g n → Commutes g (m >> n)
+  unfolding ◌>>◌
+  next-commutes m n h k = then-commutes m (λ a. n) h (λ a. k)
+
+  answer-commutes : {A : Type 0} (a : A) → Commutes g (answer a)
+  unfolding answer
+  answer-commutes a = record { go = λ s. refl }
+
+  die-commutes : {A : Type 0} (cause : Dead) → Commutes {A = A} g (die cause)
+  unfolding die
+  die-commutes cause = record { go = λ s. refl }
+
+  check-commutes : (cause : Dead) (b : Bool) → Commutes g (check cause b)
+  unfolding check
+  check-commutes cause true = answer-commutes tt
+  check-commutes cause false = die-commutes cause
+
+  or_die-commutes : {A : Type 0} (cause : Dead) (x : Option A) → Commutes g (or_die cause x)
+  unfolding or_die
+  or_die-commutes cause None = die-commutes cause
+  or_die-commutes cause (Some a) = answer-commutes a
+
+  get_active-commutes : Commutes g get_active
+  unfolding get_active
+  get_active-commutes = record { go = λ s. refl }
+
+  get_sp-commutes : Commutes g get_sp
+  unfolding get_sp
+  get_sp-commutes = record { go = λ s. refl }
+
+  set_sp-commutes : (n : ℕ) → Commutes g (set_sp n)
+  unfolding set_sp
+  set_sp-commutes n = record { go = λ s. refl }
+
+  module _ (m : ObjectMemory Table) (tabular : IsTabular m) (leaves : LeavesPointers g) where
+    -- a look at an object that asks for kind Pointers first
+    looking : {A : Type 0} → (Object → Step Table A) → Option Object → Step Table A
+    looking f x = found x >>= (λ o. check dead.Kind (is_pointers o.kind) >> f o)
+
+    looked : {A : Type 0} (f : Object → Step Table A) (o p : Object) (b : Bool) (s : State Table) → is_pointers o.kind ≡ b → p.kind ≡ o.kind → (is_pointers o.kind ≡ true → p ≡ o)
+        → (b ≡ true → (f o).run (over g s) ≡ moved g ((f o).run s)) → (looking f (Some p)).run (over g s) ≡ moved g ((looking f (Some o)).run s)
+    unfolding looking ◌>>=◌ ◌>>◌ after found answer check die
+    looked f o p true s e k q h = rw (q e, e) (h refl)
+    looked f o p false s e k q h = rw (k, e) refl
+
+    looking-none : {A : Type 0} (f : Object → Step Table A) (s : State Table) → (looking f None).run (over g s) ≡ moved g ((looking f None).run s)
+    unfolding looking ◌>>=◌ after found die
+    looking-none f s = refl
+
+    looking-commutes : {A : Type 0} (f : Object → Step Table A) (a b : Option Object) (s : State Table) → Alike a b
+        → ((o : Object) → a ≡ Some o → is_pointers o.kind ≡ true → (f o).run (over g s) ≡ moved g ((f o).run s)) → (looking f b).run (over g s) ≡ moved g ((looking f a).run s)
+    looking-commutes f None b s k h = rw k (looking-none f s)
+    looking-commutes f (Some o) b s k h = rw k.1 (looked f o k.0 (is_pointers o.kind) s refl k.2 k.3 (h o refl))
+
+    pub fetch_field-commutes : (v : Value) (i : ℕ) → Commutes g (fetch_field m v i)
+    unfolding fetch_field object looking object_named ◌>>=◌
+    fetch_field-commutes (Small n) i = then-commutes (die dead.Small) _ (die-commutes _) (λ o. next-commutes _ _ (check-commutes _ _) (or_die-commutes _ _))
+    fetch_field-commutes (Ref n) i = record {
+      go = λ s. rw tabular.read (looking-commutes (λ o. or_die dead.Field (slice_get o.fields i)) (entry s.memory n) (entry (g s.memory) n) s (leaves.alike s.memory n) (λ o e k. (or_die-commutes _ _).go s));
+    }
+
+    pub count_fields-commutes : (v : Value) → Commutes g (count_fields m v)
+    unfolding count_fields object looking object_named ◌>>=◌
+    count_fields-commutes (Small n) = then-commutes (die dead.Small) _ (die-commutes _) (λ o. next-commutes _ _ (check-commutes _ _) (answer-commutes _))
+    count_fields-commutes (Ref n) = record {
+      go = λ s. rw tabular.read (looking-commutes (λ o. answer (length o.fields)) (entry s.memory n) (entry (g s.memory) n) s (leaves.alike s.memory n) (λ o e k. (answer-commutes _).go s));
+    }
+
+    there_alike : (a b : Option Object) → Alike a b → is_some b ≡ is_some a
+    there_alike None b h = rw h refl
+    there_alike (Some o) b h = rw h.1 refl
+
+    there-moved : (t : Table) (x : Value) → is_there m (g t) x ≡ is_there m t x
+    there-moved t (Small n) = refl
+    there-moved t (Ref n) = rw tabular.read (there_alike (entry t n) (entry (g t) n) (leaves.alike t n))
+
+    stored-commutes : (n i : ℕ) (x : Value) (s : State Table) (o : Object) (c : Bool) → entry s.memory n ≡ Some o → is_pointers o.kind ≡ true
+        → stored_at m n i x (over g s) (Some o) c ≡ moved g (stored_at m n i x s (Some o) c)
+    unfolding stored_at
+    stored-commutes n i x s o false e k = refl
+    stored-commutes n i x s o true e k = rw tabular.replace (ap (λ (t : Table). Went tt (record s { memory = t })) (sym (leaves.stores s.memory n o i x e k)))
+
+    one_object : (x : Option Object) (o p : Object) → x ≡ Some o → (r : Object) × (x ≡ Some r) × (r ≡ p) → x ≡ Some p
+    one_object x o p e r = r.1 ∙ ap (λ y. Some y) r.2
+
+    same_there : (a b : Option Object) (o : Object) → a ≡ Some o → is_pointers o.kind ≡ true → Alike a b → b ≡ Some o
+    same_there None b o e k h = cc
+    same_there (Some a) b o e k h = let q : a ≡ o = cc in h.1 ∙ ap (λ y. Some y) (h.3 (rw q k) ∙ q)
+
+    set_field-commutes : (n i : ℕ) (x : Value) (s : State Table) (o : Object) → entry s.memory n ≡ Some o → is_pointers o.kind ≡ true
+        → (set_field m (Ref n) i x).run (over g s) ≡ moved g ((set_field m (Ref n) i x).run s)
+    unfolding set_field store_at
+    set_field-commutes n i x s o e k =
+        let f = same_there (entry s.memory n) (entry (g s.memory) n) o e k (leaves.alike s.memory n) in
+        let q : m.read (g s.memory) n ≡ Some o = (λ j. tabular.read j (g s.memory) n) ∙ f in
+        let r : m.read s.memory n ≡ Some o = (λ j. tabular.read j s.memory n) ∙ e in
+        rw (there-moved s.memory x, q, r) (stored-commutes n i x s o (is_there m s.memory x) e k)
+
+    small_field-commutes : (n i : ℕ) (x : Value) → Commutes g (set_field m (Small n) i x)
+    unfolding set_field
+    small_field-commutes n i x = die-commutes _
+
+    read_looks : {A : Type 0} (n : ℕ) (s : State Table) (f : Object → Step Table A) → ((o : Object) → entry s.memory n ≡ Some o → is_pointers o.kind ≡ true → (f o).run (over g s) ≡ moved g ((f o).run s))
+        → (looking f (m.read (g s.memory) n)).run (over g s) ≡ moved g ((looking f (m.read s.memory n)).run s)
+    read_looks n s f h =
+        let q : m.read (g s.memory) n ≡ entry (g s.memory) n = λ j. tabular.read j (g s.memory) n in
+        let r : m.read s.memory n ≡ entry s.memory n = λ j. tabular.read j s.memory n in
+        rw (q, r) (looking-commutes f (entry s.memory n) (entry (g s.memory) n) s (leaves.alike s.memory n) h)
+
+    checked_store : ℕ → ℕ → Value → Object → Step Table (Unit {0})
+    checked_store n i x o = check dead.Field (nat_lt i (length o.fields)) >> set_field m (Ref n) i x
+
+    passed : (b : Bool) (s : State Table) (f : Step Table (Unit {0})) → f.run (over g s) ≡ moved g (f.run s) → (check dead.Field b >> f).run (over g s) ≡ moved g ((check dead.Field b >> f).run s)
+    unfolding ◌>>◌ ◌>>=◌ after check answer die
+    passed true s f h = h
+    passed false s f h = refl
+
+    checked_store-commutes : (n i : ℕ) (x : Value) (s : State Table) (o : Object) → entry s.memory n ≡ Some o → is_pointers o.kind ≡ true
+        → (checked_store n i x o).run (over g s) ≡ moved g ((checked_store n i x o).run s)
+    unfolding checked_store
+    checked_store-commutes n i x s o e k = passed (nat_lt i (length o.fields)) s _ (set_field-commutes n i x s o e k)
+
+    pub store_field-commutes : (v : Value) (i : ℕ) (x : Value) → Commutes g (store_field m v i x)
+    unfolding store_field object looking object_named checked_store ◌>>=◌
+    store_field-commutes (Small n) i x = then-commutes (die dead.Small) _ (die-commutes _) (λ o. next-commutes _ _ (check-commutes _ _) (next-commutes _ _ (check-commutes _ _) set_small))
+      where
+        set_small : Commutes g (set_field m (Small n) i x)
+        set_small = small_field-commutes n i x
+    store_field-commutes (Ref n) i x = record {
+      go = λ s. read_looks n s (checked_store n i x) (λ o e k. checked_store-commutes n i x s o e k);
+    }
+
+    ruleset commuting = (then-commutes, next-commutes, answer-commutes, die-commutes, check-commutes, or_die-commutes, get_active-commutes, get_sp-commutes, set_sp-commutes, fetch_field-commutes, count_fields-commutes, store_field-commutes)
+
+    put-commutes : (c : Value) (at : ℕ) (x : Value) → Commutes g (put m c at x)
+    unfolding put
+    put-commutes c at x = search commuting depth 16 fits 4000
+
+    pub push-commutes : (x : Value) → Commutes g (push m x)
+    unfolding push
+    push-commutes x = search (commuting, put-commutes) depth 16 fits 4000
+
+    pub pop-commutes : Commutes g (pop m)
+    unfolding pop top
+    pop-commutes = search commuting depth 16 fits 4000
+
+    pop_words-commutes : (n : ℕ) → Commutes g (pop_words m n)
+    unfolding pop_words
+    pop_words-commutes zero = search commuting
+    pop_words-commutes (suc n) = then-commutes (pop m) (λ x. pop_words m n) pop-commutes (λ x. pop_words-commutes n)
+
+    -- the answer takes the place of receiver and arguments
+    pub answer_with-commutes : (n : ℕ) (v : Value) → Commutes g (answer_with m n v)
+    unfolding answer_with
+    answer_with-commutes n v = search (commuting, pop_words-commutes, push-commutes) depth 16 fits 4000
+
+-- the changes that deeds make
+
+changed-again : (t : Table) (n : ℕ) (a b : Object) → changed (changed t n a) n b ≡ changed t n b
+changed-again [] n a b = refl
+changed-again (None ∷ t) zero a b = refl
+changed-again (Some o ∷ t) zero a b = refl
+changed-again (None ∷ t) (suc n) a b = ap (λ u. None ∷ u) (changed-again t n a b)
+changed-again (Some o ∷ t) (suc n) a b = ap (λ u. Some o ∷ u) (changed-again t n a b)
+
+changed-swap : (t : Table) (n k : ℕ) (a b : Object) → n ≢ k → changed (changed t n a) k b ≡ changed (changed t k b) n a
+changed-swap [] n k a b d = refl
+changed-swap (e ∷ t) zero zero a b d = absurd (d refl)
+changed-swap (None ∷ t) zero (suc k) a b d = refl
+changed-swap (Some o ∷ t) zero (suc k) a b d = refl
+changed-swap (None ∷ t) (suc n) zero a b d = refl
+changed-swap (Some o ∷ t) (suc n) zero a b d = refl
+changed-swap (None ∷ t) (suc n) (suc k) a b d = ap (λ u. None ∷ u) (changed-swap t n k a b (λ e. d (ap (λ x. suc x) e)))
+changed-swap (Some o ∷ t) (suc n) (suc k) a b d = ap (λ u. Some o ∷ u) (changed-swap t n k a b (λ e. d (ap (λ x. suc x) e)))
+
+number_cases : (m n : ℕ) → (m ≡ n) ⊎ (m ≢ n)
+number_cases m n = grind arith
+
+-- a change of an object that leaves its kind and how many words it has, and those of kind Pointers as they are
+pub record Keeps (f : Object → Object) : Type 0 where
+  pub kind : (o : Object) → (f o).kind ≡ o.kind
+  pub words : (o : Object) → words_of (f o) ≡ words_of o
+  pub pointers : (o : Object) → is_pointers o.kind ≡ true → f o ≡ o
+
+module _ (f : Object → Object) (k : Keeps f) where
+  alike_itself : (x : Option Object) → Alike x x
+  alike_itself None = refl
+  alike_itself (Some o) = (o, refl, refl, λ e. refl)
+
+  alike_changed : (t : Table) (n : ℕ) (x : Option Object) → entry t n ≡ x → Alike (entry t n) (entry (changed_object f t n x) n)
+  alike_changed t n None e = alike_itself (entry t n)
+  alike_changed t n (Some o) e = rw (e, changed-some t n (f o) o e) (f o, refl, k.kind o, k.pointers o)
+
+  alike_other : (t : Table) (n j : ℕ) (x : Option Object) → j ≢ n → Alike (entry t j) (entry (changed_object f t n x) j)
+  alike_other t n j None d = alike_itself (entry t j)
+  alike_other t n j (Some o) d = rw (changed-other t n j (f o) d) (alike_itself (entry t j))
+
+  alike_by : (v : Value) (t : Table) (n : ℕ) → Alike (entry t n) (entry (changed_by f t v) n)
+  alike_by (Small i) t n = alike_itself (entry t n)
+  alike_by (Ref i) t n = elim (number_cases n i) [ inl e ↦ rw e (alike_changed t i (entry t i) refl) | inr d ↦ alike_other t i n (entry t i) d ]
+
+  stores_here : (t : Table) (n : ℕ) (o p : Object) → entry t n ≡ Some o → p.kind ≡ o.kind → is_pointers o.kind ≡ true → changed_by f (changed t n p) (Ref n) ≡ changed (changed_by f t (Ref n)) n p
+  stores_here t n o p e q h =
+      let a : f p ≡ p = k.pointers p (rw q h) in
+      rw (changed-some t n p o e, e, a) (changed-again t n p p ∙ sym (changed-again t n (f o) p))
+
+  stores_other : (t : Table) (n i : ℕ) (p : Object) (x : Option Object) → n ≢ i → changed_object f (changed t n p) i x ≡ changed (changed_object f t i x) n p
+  stores_other t n i p None d = refl
+  stores_other t n i p (Some a) d = changed-swap t n i p (f a) d
+
+  stores_by : (v : Value) (t : Table) (n : ℕ) (o p : Object) → entry t n ≡ Some o → p.kind ≡ o.kind → is_pointers o.kind ≡ true → changed_by f (changed t n p) v ≡ changed (changed_by f t v) n p
+  stores_by (Small i) t n o p e q h = refl
+  stores_by (Ref i) t n o p e q h = elim (number_cases n i) [
+    | inl j ↦ rw (← j) (stores_here t n o p e q h)
+    | inr d ↦ rw (changed-other t n i p (λ j. d (sym j))) (stores_other t n i p (entry t i) d)
+  ]
+
+  total_changed : (weight : Object → ℕ) → ((o : Object) → weight (f o) ≡ weight o) → (t : Table) (n : ℕ) (x : Option Object) → entry t n ≡ x → total_used weight (changed_object f t n x) ≡ total_used weight t
+  total_changed weight w t n None e = refl
+  total_changed weight w t n (Some o) e = total-changed weight t n o (f o) e (w o)
+
+  total_by : (weight : Object → ℕ) → ((o : Object) → weight (f o) ≡ weight o) → (v : Value) (t : Table) → total_used weight (changed_by f t v) ≡ total_used weight t
+  total_by weight w (Small i) t = refl
+  total_by weight w (Ref i) t = total_changed weight w t i (entry t i) refl
+
+keeps_if : (c : Object → Bool) (f : Object → Object) → ((o : Object) → c o ≡ true → ((f o).kind ≡ o.kind) × (words_of (f o) ≡ words_of o)) → ((o : Object) → is_pointers o.kind ≡ true → c o ≡ false) → Keeps (λ o. if c o then f o else o)
+keeps_if c f h p = record {
+  kind = λ o. kind_of o (c o) refl;
+  words = λ o. words o (c o) refl;
+  pointers = λ o e. rw (p o e) refl;
+}
+  where
+    kind_of : (o : Object) (b : Bool) → c o ≡ b → (if b then f o else o).kind ≡ o.kind
+    kind_of o true e = (h o e).0
+    kind_of o false e = refl
+
+    words : (o : Object) (b : Bool) → c o ≡ b → words_of (if b then f o else o) ≡ words_of o
+    words o true e = (h o e).1
+    words o false e = refl
+
+no_words : (k : Kind) → is_pointers k ≡ true → is_words k ≡ false
+no_words kind.Pointers e = refl
+no_words kind.Words e = cc
+no_words kind.Bytes e = cc
+no_words kind.Method e = cc
+
+no_method : (k : Kind) → is_pointers k ≡ true → is_method k ≡ false
+no_method kind.Pointers e = refl
+no_method kind.Words e = cc
+no_method kind.Bytes e = cc
+no_method kind.Method e = cc
+
+bytes_or_method : (k : Kind) → is_pointers k ≡ true → has_bytes k ≡ false
+bytes_or_method kind.Pointers e = refl
+bytes_or_method kind.Words e = cc
+bytes_or_method kind.Bytes e = cc
+bytes_or_method kind.Method e = cc
+
+not_both : (a b : Bool) → a ≡ false → (a && b) ≡ false
+not_both a b e = rw e refl
+
+words-with_unit : (o : Object) (i x : ℕ) → words_of (object_with_unit o i x) ≡ words_of o
+words-with_unit o i x = rw (length-set o.units i x) refl
+
+words-with_field : (o : Object) (i : ℕ) (x : Value) → words_of (with_field o i x) ≡ words_of o
+words-with_field o i x = rw (length-set o.fields i x) refl
+
+word_keeps : (i x : ℕ) → Keeps (word_stored i x)
+word_keeps i x = keeps_if (λ o. is_words o.kind) (λ o. object_with_unit o i x) (λ o e. (refl, words-with_unit o i x)) (λ o e. no_words o.kind e)
+
+byte_keeps : (i x : ℕ) → Keeps (byte_stored i x)
+byte_keeps i x = keeps_if (λ o. has_bytes o.kind && nat_le (first_unit o) i) (λ o. object_with_unit o (i - first_unit o) x) (λ o e. (refl, words-with_unit o _ x)) (λ o e. not_both _ _ (bytes_or_method o.kind e))
+
+then_keeps : (f g : Object → Object) → Keeps f → Keeps g → Keeps (λ o. g (f o))
+then_keeps f g h k = record {
+  kind = λ o. k.kind (f o) ∙ h.kind o;
+  words = λ o. k.words (f o) ∙ h.words o;
+  pointers = λ o e. ap g (h.pointers o e) ∙ k.pointers o e;
+}
+
+bytes_keeps : (i : ℕ) (bs : List ℕ) → Keeps (bytes_stored i bs)
+bytes_keeps i [] = record { kind = λ o. refl; words = λ o. refl; pointers = λ o e. refl }
+bytes_keeps i (b ∷ bs) = then_keeps (byte_stored i b) (bytes_stored (suc i) bs) (byte_keeps i b) (bytes_keeps (suc i) bs)
+
+header_keeps : (x : Value) → Keeps (header_stored x)
+header_keeps x = keeps_if (λ o. is_method o.kind && counts_literals x (slice_get o.fields 0)) (λ o. with_field o 0 x) (λ o e. (refl, words-with_field o 0 x)) (λ o e. not_both _ _ (no_method o.kind e))
+
+literal_keeps : (i : ℕ) (x : Value) (known : Bool) → Keeps (literal_stored i x known)
+literal_keeps i x known = keeps_if (λ o. is_method o.kind && known) (λ o. with_field o (i + 1) x) (λ o e. (refl, words-with_field o (i + 1) x)) (λ o e. not_both _ _ (no_method o.kind e))
+
+-- what a deed reads besides of a table stays where a field is stored
+bytes_stay : (t : Table) (n : ℕ) (o : Object) (i : ℕ) (x : Value) (v : Value) (from k : ℕ) → entry t n ≡ Some o → is_pointers o.kind ≡ true
+    → bytes_from (changed t n (with_field o i x)) v from k ≡ bytes_from t v from k
+bytes_stay t n o i x (Small j) from k e h = refl
+bytes_stay t n o i x (Ref j) from k e h = elim (number_cases j n) [
+  | inl q ↦ rw (q, changed-some t n (with_field o i x) o e, e, length-set o.fields i x) refl
+  | inr d ↦ rw (changed-other t n j (with_field o i x) d) refl
+]
+
+there_stays : (t : Table) (n : ℕ) (o : Object) (i : ℕ) (x v : Value) → entry t n ≡ Some o → is_there table (changed t n (with_field o i x)) v ≡ is_there table t v
+there_stays t n o i x (Small k) e = refl
+there_stays t n o i x (Ref k) e = elim (number_cases k n) [
+  | inl j ↦ rw (j, changed-some t n (with_field o i x) o e, e) refl
+  | inr d ↦ rw (changed-other t n k (with_field o i x) d) refl
+]
+
+by_leaves : (f : Object → Object) (v : Value) → Keeps f → LeavesPointers (λ t. changed_by f t v)
+by_leaves f v k = record { alike = λ t n. alike_by f k v t n; stores = λ t n o i x e h. stores_by f k v t n o (with_field o i x) e refl h }
+
+-- each deed leaves objects of kind Pointers
+pub deed_leaves : (d : Deed) → LeavesPointers (deed_done d)
+deed_leaves Nothing = record { alike = λ t n. alike_itself (λ o. o) (record { kind = λ o. refl; words = λ o. refl; pointers = λ o e. refl }) (entry t n); stores = λ t n o i x e h. refl }
+deed_leaves (StoreWord o i x) = by_leaves _ _ (word_keeps i x)
+deed_leaves (StoreByte o i x) = by_leaves _ _ (byte_keeps i x)
+deed_leaves (StoreNumber o k) = by_leaves _ _ (bytes_keeps 0 (bytes_of_number k))
+deed_leaves (ReplaceBytes o c to from count) =
+    let f : List ℕ → Object → Object = λ vs. bytes_stored to vs in
+    record {
+      alike = λ t n. alike_by (f (bytes_from t (word c) from count)) (bytes_keeps to (bytes_from t (word c) from count)) (word o) t n;
+      stores = λ t n q i x e h.
+          ap (λ vs. changed_by (f vs) (changed t n (with_field q i x)) (word o)) (bytes_stay t n q i x (word c) from count e h)
+          ∙ stores_by (f (bytes_from t (word c) from count)) (bytes_keeps to (bytes_from t (word c) from count)) (word o) t n q (with_field q i x) e refl h;
+    }
+deed_leaves (StoreHeader o x) = by_leaves _ _ (header_keeps (word x))
+deed_leaves (StoreLiteral o j y) =
+    let f : Bool → Object → Object = λ b. literal_stored j (word y) b in
+    record {
+      alike = λ t n. alike_by (f (is_there table t (word y))) (literal_keeps j (word y) _) (word o) t n;
+      stores = λ t n q i x e h.
+          ap (λ b. changed_by (f b) (changed t n (with_field q i x)) (word o)) (there_stays t n q i x (word y) e)
+          ∙ stores_by (f (is_there table t (word y))) (literal_keeps j (word y) _) (word o) t n q (with_field q i x) e refl h;
+    }
+
+module _ (weight : Object → ℕ) (w : (f : Object → Object) → Keeps f → (o : Object) → weight (f o) ≡ weight o) where
+  by_keeps : (f : Object → Object) (v : Value) (t : Table) → Keeps f → total_used weight (changed_by f t v) ≡ total_used weight t
+  by_keeps f v t k = total_by f k weight (w f k) v t
+
+  deed_total : (d : Deed) (t : Table) → total_used weight (deed_done d t) ≡ total_used weight t
+  deed_total Nothing t = refl
+  deed_total (StoreWord o i x) t = by_keeps _ _ t (word_keeps i x)
+  deed_total (StoreByte o i x) t = by_keeps _ _ t (byte_keeps i x)
+  deed_total (StoreNumber o k) t = by_keeps _ _ t (bytes_keeps 0 (bytes_of_number k))
+  deed_total (ReplaceBytes o c to from count) t = by_keeps _ _ t (bytes_keeps to (bytes_from t (word c) from count))
+  deed_total (StoreHeader o x) t = by_keeps _ _ t (header_keeps (word x))
+  deed_total (StoreLiteral o i x) t = by_keeps _ _ t (literal_keeps i (word x) _)
+
+-- a deed makes nothing: entries and words are as before
+pub deed_uses : (d : Deed) (t : Table) → used table (deed_done d t) ≡ used table t
+deed_uses d t =
+    let e = deed_total one (λ f k o. refl) d t in
+    let n = deed_total words_of (λ f k o. k.words o) d t in
+    λ i. record { entries = e i; words = n i }

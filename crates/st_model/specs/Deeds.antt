@@ -1,0 +1,69 @@
+-- What a primitive leaves to be done on a table: a change of an object's words or bytes, or of a Method's header or literals.
+use Rattle.std.specs.Prelude.{ℕ, suc, ◌+◌, ◌-◌, ◌==◌, List, [], ◌∷◌, Option, Some, None, Bool, false, ◌&&◌, nat_le, if◌then◌else◌, slice_get, take, drop}
+use Rattle.st_model.specs.declared.deed.Deed.{Deed}
+use Rattle.st_model.specs.declared.deed.Deed.TheVariants.{Nothing, StoreWord, StoreByte, StoreNumber, ReplaceBytes, StoreHeader, StoreLiteral}
+use Rattle.st_model.specs.Values.{Value, Small, Ref, word}
+use Rattle.st_model.specs.Objects.{Object, is_words, is_method, has_bytes, first_unit, with_field, object_with_unit}
+use Rattle.st_model.specs.Machine.{State, is_there}
+use Rattle.st_model.specs.Table.{Table, table, entry, changed}
+use Rattle.st_model.specs.Primitives.{bytes_of_number}
+use Rattle.st_model.specs.Methods.{literal_count}
+
+abbrev pub changed_object : (Object → Object) → Table → ℕ → Option Object → Table
+changed_object f t n None = t
+changed_object f t n (Some o) = changed t n (f o)
+
+-- the table in which a change is made of the object of this value
+abbrev pub changed_by : (Object → Object) → Table → Value → Table
+changed_by f t (Small n) = t
+changed_by f t (Ref n) = changed_object f t n (entry t n)
+
+abbrev pub word_stored : ℕ → ℕ → Object → Object
+word_stored i x o = if is_words o.kind then object_with_unit o i x else o
+
+-- places count a Method's header and literals
+abbrev pub byte_stored : ℕ → ℕ → Object → Object
+byte_stored i x o = if has_bytes o.kind && nat_le (first_unit o) i then object_with_unit o (i - first_unit o) x else o
+
+-- bytes from a place on
+abbrev pub bytes_stored : ℕ → List ℕ → Object → Object
+bytes_stored i [] o = o
+bytes_stored i (b ∷ bs) o = bytes_stored (suc i) bs (byte_stored i b o)
+
+abbrev pub bytes_of_object : ℕ → ℕ → Option Object → List ℕ
+bytes_of_object i n None = []
+bytes_of_object i n (Some o) = take n (drop (i - first_unit o) o.units)
+
+-- n bytes of the object of this value from a place on
+abbrev pub bytes_from : Table → Value → ℕ → ℕ → List ℕ
+bytes_from t (Small k) i n = []
+bytes_from t (Ref k) i n = bytes_of_object i n (entry t k)
+
+abbrev pub counts_literals : Value → Option Value → Bool
+counts_literals (Small n) (Some h) = literal_count (Small n) == literal_count h
+counts_literals (Small n) None = false
+counts_literals (Ref n) h = false
+
+abbrev pub header_stored : Value → Object → Object
+header_stored x o = if is_method o.kind && counts_literals x (slice_get o.fields 0) then with_field o 0 x else o
+
+abbrev pub literal_stored : ℕ → Value → Bool → Object → Object
+literal_stored i x known o = if is_method o.kind && known then with_field o (i + 1) x else o
+
+-- the table once a deed is done
+abbrev pub deed_done : Deed → Table → Table
+deed_done Nothing t = t
+deed_done (StoreWord o i x) t = changed_by (word_stored i x) t (word o)
+deed_done (StoreByte o i x) t = changed_by (byte_stored i x) t (word o)
+deed_done (StoreNumber o k) t = changed_by (bytes_stored 0 (bytes_of_number k)) t (word o)
+deed_done (ReplaceBytes o c to from n) t = changed_by (bytes_stored to (bytes_from t (word c) from n)) t (word o)
+deed_done (StoreHeader o x) t = changed_by (header_stored (word x)) t (word o)
+deed_done (StoreLiteral o i x) t = changed_by (literal_stored i (word x) (is_there table t (word x))) t (word o)
+
+-- the state with a change of its table
+abbrev pub over : (Table → Table) → State Table → State Table
+over g s = record s { memory = g s.memory }
+
+-- the state in which a deed is done besides
+abbrev pub with_deed : Deed → State Table → State Table
+with_deed d s = over (deed_done d) s

@@ -1,0 +1,47 @@
+use crate::word::Word;
+
+/// What a primitive leaves to be done on the memory once receiver and arguments are popped and the answer is pushed: a change
+/// of words or bytes, or of a Method's header or literals. Where there is no such place, nothing is done.
+#[derive(Clone, Copy)]
+pub enum Deed {
+    /// Nothing is left to be done.
+    Nothing,
+    /// A word is stored in an object of kind Words, at a place counted from 0.
+    StoreWord {
+        object: Word,
+        place: u32,
+        word: u16,
+    },
+    /// A byte is stored in an object of kind Bytes or Method, at a place counted from 0; of a Method from the first
+    /// bytecode on.
+    StoreByte {
+        object: Word,
+        place: u32,
+        byte: u8,
+    },
+    /// The bytes of a number, the low one first, are stored in an object.
+    StoreNumber {
+        object: Word,
+        number: u32,
+    },
+    /// `count` bytes of an object from place `to` on, counted from 0, become those of another from place `from` on, as they
+    /// were before.
+    ReplaceBytes {
+        target: Word,
+        source: Word,
+        to: u32,
+        from: u32,
+        count: u32,
+    },
+    /// A Method's header becomes another one that counts as many literals.
+    StoreHeader {
+        method: Word,
+        header: Word,
+    },
+    /// Literal `number` of a Method, counted from 0, becomes another value that is there.
+    StoreLiteral {
+        method: Word,
+        number: u32,
+        value: Word,
+    },
+}

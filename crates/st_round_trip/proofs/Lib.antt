@@ -1,0 +1,15 @@
+pub mod Backs
+pub mod Bodies
+pub mod Deep
+pub mod Going
+pub mod LiteralBacks
+pub mod MethodBacks
+pub mod Nesting
+pub mod Printing
+pub mod Scanned
+pub mod Selectors
+pub mod Sends
+pub mod Spelled
+pub mod Trees
+pub mod Walks
+pub mod Words

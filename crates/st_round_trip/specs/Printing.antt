@@ -1,0 +1,12 @@
+-- What is printed of a tree is read as that tree.
+use Rattle.std.specs.Prelude.{◌≡◌}
+use Rattle.st_tree.specs.Views.{MethodView}
+use Rattle.st_tree.specs.Placeless.{without_places}
+use Rattle.st_grammar.specs.Texts.{Means}
+use Rattle.st_print.specs.Printed.{printed}
+
+-- the printed text of a tree means a tree that is the same but for places
+pub record IsPrintedBack (t : MethodView) : Type 0 where
+  pub tree : MethodView
+  pub means : Means (printed t) tree
+  pub is_same : without_places tree ≡ without_places t
