@@ -64,7 +64,8 @@ fn new_point<O: Objects>(m: &mut O, r: &Registers, x: i16, y: i16) -> Result<Wor
 fn value_of_answer<O: Objects>(m: &mut O, r: &Registers, answer: IntAnswer) -> Result<Word, Dead>
     requires room { 3 ≤ O.room m.old }
     requires small { IsOfSmall answer }
-    ensures does { RowDoes O.Objects.own (value_of_answer O.names answer) word m.old r.now result m.new r.now }
+    ensures does { RowDoes O.Objects.own (value_of_answer O.names answer)
+        word m.old r.now result m.new r.now }
     ensures takes { Takes O.Objects.own 3 m.old m.new }
 {
     match answer {
@@ -79,7 +80,8 @@ fn value_of_answer<O: Objects>(m: &mut O, r: &Registers, answer: IntAnswer) -> R
 #[tactic(auto, using(st_frames::proofs::Doing::rows), unfolding(st_model::specs::Primitives::answer_with, st_model::specs::Primitives::pop_words))]
 pub fn answer_pair<O: Objects>(m: &mut O, r: &mut Registers, answer: Word) -> Result<(), Dead>
     requires room { 1 ≤ O.room m.old }
-    ensures does { RowDoes O.Objects.own (answer_with O.names 1 (word answer)) itself m.old r.old result m.new r.new }
+    ensures does { RowDoes O.Objects.own (answer_with O.names 1 (word answer))
+        itself m.old r.old result m.new r.new }
     ensures takes { Takes O.Objects.own 1 m.old m.new }
 {
     pop(m, r)?;
@@ -89,7 +91,11 @@ pub fn answer_pair<O: Objects>(m: &mut O, r: &mut Registers, answer: Word) -> Re
 
 /// What a primitive on two SmallIntegers answers takes their place.
 #[tactic(auto, using(st_frames::proofs::Doing::rows), unfolding(st_model::specs::Primitives::succeed))]
-pub fn answer_integers<O: Objects>(m: &mut O, r: &mut Registers, answer: IntAnswer) -> Result<(), Dead>
+pub fn answer_integers<O: Objects>(
+    m: &mut O,
+    r: &mut Registers,
+    answer: IntAnswer,
+) -> Result<(), Dead>
     requires room { 4 ≤ O.room m.old }
     requires small { IsOfSmall answer }
     ensures does { RowDoes O.Objects.own (succeed O.names 1 (value_of_answer O.names) (Some answer))

@@ -120,7 +120,11 @@ pub fn send_literal_selector<O: Objects>(
 
 /// Sends the special selector of this number, and executes what is called.
 #[tactic(auto, using(st_frames::proofs::Doing::rows), unfolding(st_model::specs::Executing::executed))]
-pub fn send_special_selector<O: Objects>(m: &mut O, r: &mut Registers, k: u32) -> Result<StepEnd, Dead>
+pub fn send_special_selector<O: Objects>(
+    m: &mut O,
+    r: &mut Registers,
+    k: u32,
+) -> Result<StepEnd, Dead>
     requires number { k < 32 }
     requires room { executed_send_changes ≤ O.room m.old }
     ensures does { RowDoes O.Objects.own (executed O.names (special_send O.names k))
