@@ -1,4 +1,6 @@
-ghost use Rattle.std.specs.Prelude.{◌≡◌, ◌<◌, ◌≤◌, ◌+◌, ◌≤ℤ◌, pos, negsuc, Some, true, IfOk};
+ghost use Rattle.std.specs.Prelude.{◌≡◌, ◌<◌, ◌≤◌, ◌+◌, ◌≤ℤ◌, pos, negsuc, Some, true, IfOk, IfSome};
+ghost use Rattle.st_model.specs.declared.dead.Dead.TheVariants as dead;
+ghost use Rattle.st_model.specs.Steps.{or_die};
 ghost use Rattle.st_model.specs.Values.{word};
 ghost use Rattle.st_model.specs.Calls.{itself};
 ghost use Rattle.st_model.specs.Primitives.{succeed, answer_with};
@@ -11,9 +13,19 @@ use st_ints::{IntAnswer, binary};
 use st_memory::Objects;
 use st_model::{Dead, PageObject, Word};
 
+/// An integer of a SmallInteger, in 16 bits.
+#[tactic(auto, using(std::proofs::lemmas::Int::ints))]
+fn in_16_bits(n: i32) -> i16
+    requires low { negsuc 16383 ≤ℤ n }
+    requires high { n ≤ℤ pos 16383 }
+    ensures { result ≡ n }
+{
+    n as i16
+}
+
 /// The integer of the SmallInteger k words below the top.
 #[tactic(auto, using(crate::proofs::Tries::integers), unfolding(st_model::specs::Arithmetic::integer_under))]
-fn integer_under<O: Objects>(m: &O, r: &Registers, k: u32) -> Result<i32, Dead>
+fn integer_under<O: Objects>(m: &O, r: &Registers, k: u32) -> Result<i16, Dead>
     requires few { k < 32768 }
     ensures does { RowReads O.Objects.own (integer_under O.names k) itself m.now r.now result }
     ensures low { IfOk result (λ n. negsuc 16383 ≤ℤ n) }
@@ -21,14 +33,27 @@ fn integer_under<O: Objects>(m: &O, r: &Registers, k: u32) -> Result<i32, Dead>
 {
     let v = under(m, r, k)?;
     if v.is_small() {
-        Ok(v.integer())
+        Ok(in_16_bits(v.integer()))
     } else {
         Err(Dead::NotSmall)
     }
 }
 
+/// An answer, or an error where there is none.
+#[tactic(auto, using(crate::proofs::Tries::answers))]
+fn or_fails<O: Objects>(m: &O, r: &Registers, answer: Option<IntAnswer>) -> Result<IntAnswer, Dead>
+    requires small { IfSome answer IsOfSmall }
+    ensures does { RowReads O.Objects.own (or_die dead.NotSmall answer) itself m.now r.now result }
+    ensures small { IfOk result IsOfSmall }
+{
+    match answer {
+        Some(answer) => Ok(answer),
+        None => Err(Dead::NotSmall),
+    }
+}
+
 /// What primitive n, of 1 to 18, answers of receiver and argument; an error where it fails.
-#[tactic(auto, using(crate::proofs::Tries::integers), unfolding(st_model::specs::Arithmetic::integer_answer))]
+#[tactic(auto, using(st_frames::proofs::Doing::rows), unfolding(st_model::specs::Arithmetic::integer_answer))]
 pub fn integer_answer<O: Objects>(m: &O, r: &Registers, n: u32) -> Result<IntAnswer, Dead>
     requires first { 1 ≤ n }
     requires last { n ≤ 18 }
@@ -37,10 +62,7 @@ pub fn integer_answer<O: Objects>(m: &O, r: &Registers, n: u32) -> Result<IntAns
 {
     let receiver = integer_under(m, r, 1)?;
     let argument = integer_under(m, r, 0)?;
-    match binary(n as u8, receiver as i16, argument as i16) {
-        Some(answer) => Ok(answer),
-        None => Err(Dead::NotSmall),
-    }
+    or_fails(m, r, binary(n as u8, receiver, argument))
 }
 
 /// A new Point of two integers.
