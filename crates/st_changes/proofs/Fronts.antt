@@ -1,5 +1,5 @@
 -- What a text begins with.
-use Rattle.std.proofs.Common.{◌≡◌, ◌-◌, ◌≤◌, arith, length-drop, true, List, ℕ, ◌++◌, length, take, drop, sym, ap, ◌∙◌, subst}
+use Rattle.std.proofs.Common.{◌≡◌, ◌-◌, arith, length-drop, true, List, ℕ, ◌++◌, length, take, drop, sym, ap, ◌∙◌, subst}
 use Rattle.std.specs.List.{starts_with}
 use Rattle.std.specs.Prelude.{nat_eq, Option, None}
 use Rattle.st_changes.specs.Runs.{FindsRun, IsRun}

@@ -1,9 +1,9 @@
 -- What the text of a header is made of.
-use Rattle.std.proofs.Common.{◌≡◌, ℕ, suc, ◌+◌, ◌-◌, ◌<◌, ◌≤◌, Bool, true, false, List, [], ◌∷◌, ◌++◌, length, take, drop, get_or, refl, sym, ap, ◌∙◌, subst, append_assoc, arith, codes, length-drop}
-use Rattle.std.specs.Prelude.{◌&&◌, IsTrue}
+use Rattle.std.proofs.Common.{◌≡◌, ℕ, suc, ◌+◌, Bool, true, false, List, [], ◌∷◌, ◌++◌, length, take, drop, get_or, refl, sym, ap, ◌∙◌, append_assoc, arith, codes}
+use Rattle.std.specs.Prelude.{IsTrue}
 use Rattle.std.specs.List.{list_all, prefix_len}
 use Rattle.std.specs.Char.{is_ascii_alphabetic, is_ascii_alphanumeric}
-use Rattle.std.proofs.lemmas.List.{take-append-drop, drop-drop, append_cancel_left, drop_all}
+use Rattle.std.proofs.lemmas.List.{take-append-drop, drop-drop, append_cancel_left}
 use Rattle.std.proofs.Math.Seq.{drop-append_seam}
 use Rattle.std.proofs.lemmas.Bool.{and_parts}
 use Rattle.st_chunk.proofs.Cases.{by_test}
@@ -86,9 +86,18 @@ pub header_read : (text category rest : List ℕ) (meta : Bool) (n : ℕ) → Is
     → IsHeader text (record { class = take (word text) text; meta = meta; category = category })
 header_read text category rest meta n named side run none = record {
   is =
-    sym (take-append-drop (word text) text)
-    ∙ ap (λ (x : List ℕ). take (word text) text ++ x) (side.is
+      sym (take-append-drop (word text) text)
+      ∙ ap (λ (x : List ℕ). take (word text) text ++ x) (side.is
       ∙ ap (λ (x : List ℕ). side_front meta ++ x) (drop-drop n (word text) text ∙ run.is ∙ ap (λ (x : List ℕ). doubled_by 39 category ++ 39 ∷ x) none))
-    ∙ sym (header_shape (record { class = take (word text) text; meta = meta; category = category }));
+      ∙ sym (header_shape (record { class = take (word text) text; meta = meta; category = category }));
   named = named;
 }
+
+-- a header as it is written
+pub header_put : (h : Header) (class front category : List ℕ) → class ≡ h.class → front ≡ side_front h.meta → category ≡ h.category
+    → ((class ++ front) ++ doubled_by 39 category) ++ 39 ∷ [] ≡ header_text h
+header_put h class front category c f g =
+    (λ i. ((c i ++ f i) ++ doubled_by 39 (g i)) ++ 39 ∷ [])
+    ∙ append_assoc (h.class ++ side_front h.meta) (doubled_by 39 h.category) (39 ∷ [])
+    ∙ append_assoc h.class (side_front h.meta) (ended h.category)
+    ∙ sym (header_shape h)

@@ -2,3 +2,5 @@ pub mod Marks
 pub mod Fronts
 pub mod HeaderTexts
 pub mod EntryTexts
+pub mod ListTexts
+pub mod Growing

@@ -1,6 +1,5 @@
 -- What a text begins with: the parts of an entry, and an entry.
-use Rattle.std.specs.Prelude.{◌≡◌, ◌==◌, ℕ, ◌≤◌, ◌&&◌, Bool, true, false, not, nat_le, List, [], ◌∷◌, ◌++◌, length, reverse, drop, Option, Some, None, IsTrue, IsFalse, codes}
-use Rattle.std.specs.Str.{byte}
+use Rattle.std.specs.Prelude.{◌≡◌, ℕ, ◌≤◌, ◌&&◌, Bool, not, nat_le, List, ◌∷◌, ◌++◌, length, reverse, drop, Option, Some, None, IsTrue, codes}
 use Rattle.st_chunk.specs.Texts.{mark, most, doubled, is_blank}
 use Rattle.st_chunk.specs.Groups.{begins, is_name, Header, header_text, side_text}
 use Rattle.st_chunk.specs.Definitions.{Definition, IsDefinition, line_feed, entry}

@@ -1,5 +1,5 @@
 -- Definitions without where they lie in memory.
-use Rattle.std.specs.Prelude.{List, [], ◌∷◌}
+use Rattle.std.specs.Prelude.{List, map}
 use Rattle.st_chunk.specs.Definitions.{Definition}
 use Rattle.st_changes.specs.declared.definition.Definition as declared
 
@@ -7,5 +7,4 @@ abbrev pub definition_of : declared.Definition → Definition
 definition_of d = record { class = d.class.items; meta = d.meta; category = d.category.items; text = d.text.items }
 
 abbrev pub definitions_of : List declared.Definition → List Definition
-definitions_of [] = []
-definitions_of (d ∷ ds) = definition_of d ∷ definitions_of ds
+definitions_of ds = map definition_of ds

@@ -65,10 +65,7 @@ fn is_blank(byte: u8) -> bool
 fn is_text(text: &[u8]) -> bool
     ensures { result ≡ is_text text.now }
 {
-    !text.is_empty()
-        && text.len() <= MOST
-        && !is_blank(text[0])
-        && !is_blank(text[text.len() - 1])
+    !text.is_empty() && text.len() <= MOST && !is_blank(text[0]) && !is_blank(text[text.len() - 1])
 }
 
 /// A method's text with what closes its group, or none where the text doesn't begin with them.

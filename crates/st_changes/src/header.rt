@@ -22,7 +22,9 @@ fn word_length(text: &[u8]) -> usize
     ensures exact { result ≡ prefix_len is_ascii_alphanumeric text.now }
     ensures within { result ≤ length text.now }
 {
-    text.iter().take_while(|b| b.is_ascii_alphanumeric()).count()
+    text.iter()
+        .take_while(|b| b.is_ascii_alphanumeric())
+        .count()
 }
 
 /// Whether the text names the class side, and how many bytes stand before the category's. None where the text doesn't go

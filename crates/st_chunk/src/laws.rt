@@ -15,8 +15,8 @@ pub fn whole_text()
     ensures { (text : List ℕ) → joined (cut text) ≡ text }
 {}
 
-/// The entries of any definitions are read back as these definitions, and behind them are only blanks. This is by `chunks`,
-/// which has no limit: the line feed before a method's text is of its chunk, which may so have 65,537 bytes.
+/// The entries of any definitions that meet `IsDefinition` are read back as these, and behind them are only blanks. This is by
+/// `chunks`, which has no limit: the line feed before a method's text is of its chunk, which may so have 65,537 bytes.
 pub fn entries_read_back()
     ensures back { (ds : List Definition) → All IsDefinition ds → definitions_in (entries ds) ≡ Some ds }
     ensures rest { (ds : List Definition) → All IsDefinition ds → IsTrue (is_empty (cut (entries ds)).rest) }

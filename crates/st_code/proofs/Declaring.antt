@@ -76,15 +76,15 @@ scope_more assignable names scope i n lt e =
     ∙ ap (λ (r : List NameView). scope ++ numbered assignable 0 r) (sym (names_more (take i names) n) ∙ ap names_view (ap (λ x. take i names ++ x ∷ []) e ∙ sym (take_more names i n lt)))
 
 -- one name more is declared
-pub declare_turn : (assignable : Bool) (names : List Name) (scope : Scope) (i : ℕ) (n : Name) (found : Bool) → i < length names → n ≡ get_or names i n
+pub declare_turn : (names : List Name) (scope : Scope) (i : ℕ) (n : Name) (found : Bool) → i < length names → n ≡ get_or names i n
     → found ≡ (is_some (declared_as scope n.text.items) || is_among (names_view (take i names)) n.text.items)
-    → declare_fault assignable i (names_view (drop i names)) (scope ++ numbered assignable 0 (names_view (take i names)))
-    ≡ or_else (if found then fault_at n.place Twice else None) (declare_fault assignable (i + 1) (names_view (drop (i + 1) names)) (scope ++ numbered assignable 0 (names_view (take (i + 1) names))))
-declare_turn assignable names scope i n found lt e h =
-    let here = scope ++ numbered assignable 0 (names_view (take i names)) in
+    → declare_fault i (names_view (drop i names)) (scope ++ numbered false 0 (names_view (take i names)))
+    ≡ or_else (if found then fault_at n.place Twice else None) (declare_fault (i + 1) (names_view (drop (i + 1) names)) (scope ++ numbered false 0 (names_view (take (i + 1) names))))
+declare_turn names scope i n found lt e h =
+    let here = scope ++ numbered false 0 (names_view (take i names)) in
     let rest = names_view (drop (i + 1) names) in
-    at_drop_more (λ ns. declare_fault assignable i (names_view ns) here) names i n lt
-    ∙ ap (λ x. declare_fault assignable i (names_view (x ∷ drop (i + 1) names)) here) (sym e)
-    ∙ ap (λ (b : Bool). or_else (if b then fault_at n.place Twice else None) (declare_fault assignable (i + 1) rest (declared assignable i (name_view n ∷ []) here)))
-    (declared_append scope assignable 0 (names_view (take i names)) n.text.items ∙ sym h)
-    ∙ ap (λ (s : Scope). or_else (if found then fault_at n.place Twice else None) (declare_fault assignable (i + 1) rest s)) (scope_more assignable names scope i n lt e)
+    at_drop_more (λ ns. declare_fault i (names_view ns) here) names i n lt
+    ∙ ap (λ x. declare_fault i (names_view (x ∷ drop (i + 1) names)) here) (sym e)
+    ∙ ap (λ (b : Bool). or_else (if b then fault_at n.place Twice else None) (declare_fault (i + 1) rest (declared false i (name_view n ∷ []) here)))
+    (declared_append scope false 0 (names_view (take i names)) n.text.items ∙ sym h)
+    ∙ ap (λ (s : Scope). or_else (if found then fault_at n.place Twice else None) (declare_fault (i + 1) rest s)) (scope_more false names scope i n lt e)

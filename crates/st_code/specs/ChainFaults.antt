@@ -28,7 +28,7 @@ module _ (names : NamesView) (scope : Scope) where
 
   -- the arguments of a block, then its statements
   abbrev pub block_fault : List NameView → StatementsView → Option Fault
-  block_fault ns ss = or_else (declare_fault false 0 ns scope) (statements_fault names ss (declared false 0 ns scope))
+  block_fault ns ss = or_else (declare_fault 0 ns scope) (statements_fault names ss (declared false 0 ns scope))
 
 -- a name that is declared behind these
 abbrev pub among_fault : Scope → List NameView → NameView → Option Fault

@@ -33,9 +33,9 @@ abbrev pub twice_fault : Scope → NameView → Option Fault
 twice_fault scope n = if is_some (declared_as scope n.text) then fault_at n.place Twice else None
 
 -- names that are declared one after the other: none may be in scope already
-abbrev pub declare_fault : (assignable : Bool) → ℕ → List NameView → Scope → Option Fault
-declare_fault assignable k [] scope = None
-declare_fault assignable k (n ∷ ns) scope = or_else (twice_fault scope n) (declare_fault assignable (k + 1) ns (declared assignable k (n ∷ []) scope))
+abbrev pub declare_fault : ℕ → List NameView → Scope → Option Fault
+declare_fault k [] scope = None
+declare_fault k (n ∷ ns) scope = or_else (twice_fault scope n) (declare_fault (k + 1) ns (declared false k (n ∷ []) scope))
 
 -- NUMBERS
 
@@ -60,7 +60,7 @@ module _ (names : NamesView) where
     pub expression_fault : ExpressionView → Scope → Option Fault
     expression_fault (views.variable n) scope = read_fault names scope n
     expression_fault (views.literal e) scope = content_fault e.place e.what
-    expression_fault (views.block ns body) scope = or_else (declare_fault false 0 ns scope) (statements_fault body (declared false 0 ns scope))
+    expression_fault (views.block ns body) scope = or_else (declare_fault 0 ns scope) (statements_fault body (declared false 0 ns scope))
     expression_fault (views.assign target e) scope = or_else (store_fault names scope target) (expression_fault e scope)
     expression_fault (views.send r ms) scope = or_else (expression_fault r scope) (messages_fault ms scope)
 
@@ -80,5 +80,5 @@ module _ (names : NamesView) where
   abbrev pub method_fault : MethodView → Option Fault
   method_fault m =
       let arguments = declared false 0 m.arguments [] in
-      or_else (declare_fault false 0 m.arguments [])
-      (or_else (declare_fault true 0 m.temporaries arguments) (statements_fault m.body (declared true 0 m.temporaries arguments)))
+      or_else (declare_fault 0 m.arguments [])
+      (or_else (declare_fault 0 m.temporaries arguments) (statements_fault m.body (declared true 0 m.temporaries arguments)))

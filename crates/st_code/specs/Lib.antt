@@ -5,3 +5,4 @@ pub mod Reported
 pub mod MethodDrafts
 pub mod Simple
 pub mod Coded
+pub mod Arounds

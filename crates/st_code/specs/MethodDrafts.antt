@@ -1,5 +1,5 @@
 -- A method's code as it is made.
-use Rattle.std.specs.Prelude.{◌≡◌, ℕ, ◌+◌, ◌*◌, ◌≤◌, ◌++◌, true, length, Option}
+use Rattle.std.specs.Prelude.{◌≡◌, ℕ, ◌+◌, ◌*◌, ◌≤◌, ◌++◌, true, length, Option, Ok}
 use Rattle.st_tree.specs.Views.{MethodView}
 use Rattle.st_emit.specs.declared.draft.Draft.{Draft}
 use Rattle.st_emit.specs.Names.{NamesView}
@@ -9,7 +9,7 @@ use Rattle.st_emit.specs.Views.{literals_view}
 use Rattle.st_code.specs.declared.method.MethodDraft.{MethodDraft}
 use Rattle.st_code.specs.declared.fault.Fault.{Fault}
 use Rattle.st_code.specs.declared.compiler.MethodParts.{MethodParts}
-use Rattle.st_code.specs.Methods.{PartsView, body, steps, depth, variables, literals, bounds_fault, flag_of, count_of, room_bit, last_of}
+use Rattle.st_code.specs.Methods.{PartsView, code, body, steps, depth, variables, literals, bounds_fault, flag_of, count_of, room_bit, last_of}
 use Rattle.st_code.specs.Simple.{simple_by}
 
 -- the instructions of a method's body, the literals that they name, its depth and its variables
@@ -44,6 +44,10 @@ header_of m made =
 
 abbrev pub parts_view : MethodParts → PartsView
 parts_view p = record { selector = p.selector.items; header = p.header; literals = literals_view p.literals.items; bytes = p.bytes.items }
+
+-- a method's tree has this code under these names
+abbrev pub IsCodeOf : MethodView → NamesView → MethodParts → Type 0
+IsCodeOf m names p = code m names ≡ Ok (parts_view p)
 
 -- the last literals stand behind the others
 abbrev pub HasLast : MethodView → (flag : ℕ) → (old new : Draft) → Type 0

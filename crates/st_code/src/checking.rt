@@ -1,14 +1,17 @@
 //! The faults of names and numbers, each at its token: the first one in the text. A walk goes along an expression's
 //! chain: the assigned names from the outside in, what the chain starts with, and the messages from the inside out.
 
-ghost use Rattle.std.specs.Prelude.{◌≡◌, [], true, false};
-ghost use Rattle.st_tree.specs.Views.{number, name_view, names_view as list_view, content_view, elements_view, expression_view, expressions_view, messages_view, statements_view};
-ghost use Rattle.st_tree.specs.Chains.{link_view, links_view, linked, IsStart};
-ghost use Rattle.st_code.specs.Faults.{read_fault, store_fault, declare_fault, content_fault, elements_fault, expression_fault, expressions_fault, messages_fault, statements_fault};
-ghost use Rattle.st_emit.specs.Names.{declared};
-ghost use Rattle.st_emit.specs.NameViews.{names_view, scope_view};
-ghost use Rattle.st_code.specs.ChainFaults.{target_fault, targets_fault, among_fault, all_sent_fault, block_fault};
+ghost use Rattle.std.specs.Prelude.{◌≡◌, []};
+ghost use Rattle.st_tree.specs.Views.{number, name_view, names_view as list_view, content_view};
+ghost use Rattle.st_tree.specs.Views.{elements_view, expression_view, expressions_view, messages_view};
+ghost use Rattle.st_tree.specs.Views.{statements_view};
+ghost use Rattle.st_tree.specs.Chains.{link_view, links_view, IsStart};
+ghost use Rattle.st_code.specs.Faults.{read_fault, store_fault, declare_fault, content_fault, elements_fault};
+ghost use Rattle.st_code.specs.Faults.{expression_fault, expressions_fault, messages_fault, statements_fault};
+ghost use Rattle.st_emit.specs.NameViews.{scope_view};
+ghost use Rattle.st_code.specs.ChainFaults.{target_fault, targets_fault, among_fault, all_sent_fault};
 ghost use Rattle.st_code.specs.Reported.{Reports};
+ghost use Rattle.st_code.specs.Arounds.{looked_up, walked, block_around, chained};
 
 use crate::fault::{Cause, CodeFault, Fault};
 use st_emit::{
@@ -22,7 +25,7 @@ const LEAST_SIZE: u128 = 16_384;
 
 /// A name that is read has to mean something.
 fn read(around: Around<'_>, n: &Name) -> Result<(), CodeFault>
-    ensures { Reports (read_fault (names_view around.entry.names.now) (scope_view around.entry.scope.now) (name_view n.now)) result }
+    ensures { Reports (looked_up read_fault around.entry (name_view n.now)) result }
 {
     if constant_named(&n.text).is_some() {
         return Ok(());
@@ -41,7 +44,7 @@ fn read(around: Around<'_>, n: &Name) -> Result<(), CodeFault>
 
 /// A name that is stored into has to mean what may be stored into.
 fn stored(around: Around<'_>, n: &Name) -> Result<(), CodeFault>
-    ensures { Reports (store_fault (names_view around.entry.names.now) (scope_view around.entry.scope.now) (name_view n.now)) result }
+    ensures { Reports (looked_up store_fault around.entry (name_view n.now)) result }
 {
     if constant_named(&n.text).is_some() {
         return Err(Fault {
@@ -92,8 +95,8 @@ fn once(scope: &[Frame<'_>], before: &[Name], n: &Name) -> Result<(), CodeFault>
 }
 
 /// Names that are declared one after the other: none may be in scope already.
-pub fn declare(scope: &[Frame<'_>], assignable: bool, names: &[Name]) -> Result<(), CodeFault>
-    ensures { Reports (declare_fault assignable 0 (list_view names.now) (scope_view scope.now)) result }
+pub fn declare(scope: &[Frame<'_>], names: &[Name]) -> Result<(), CodeFault>
+    ensures { Reports (declare_fault 0 (list_view names.now) (scope_view scope.now)) result }
 {
     for (i, n) in names.iter().enumerate() {
         once(scope, &names[..i], n)?;
@@ -146,7 +149,7 @@ fn content(place: u32, what: &Content) -> Result<(), CodeFault>
 
 /// The name to which a link assigns.
 fn target(around: Around<'_>, link: Link<'_>) -> Result<(), CodeFault>
-    ensures { Reports (target_fault (names_view around.entry.names.now) (scope_view around.entry.scope.now) (link_view link.entry)) result }
+    ensures { Reports (looked_up target_fault around.entry (link_view link.entry)) result }
 {
     match link {
         Link::Assign(name) => stored(around, name),
@@ -156,7 +159,7 @@ fn target(around: Around<'_>, link: Link<'_>) -> Result<(), CodeFault>
 
 /// The names to which the value of a chain's start is assigned, the outermost first.
 fn targets(around: Around<'_>, links: &[Link<'_>]) -> Result<(), CodeFault>
-    ensures { Reports (targets_fault (names_view around.entry.names.now) (scope_view around.entry.scope.now) (links_view links.now)) result }
+    ensures { Reports (looked_up targets_fault around.entry (links_view links.now)) result }
 {
     let mut left = links.len();
     while left > 0 {
@@ -170,7 +173,7 @@ fn targets(around: Around<'_>, links: &[Link<'_>]) -> Result<(), CodeFault>
 #[cycle(faults)]
 #[tactic(auto, using(crate::proofs::Reporting::reporting))]
 fn expressions(alloc: Global, around: Around<'_>, es: &[Expression]) -> Result<(), CodeFault>
-    ensures { Reports (expressions_fault (names_view around.entry.names.now) (expressions_view es.now) (scope_view around.entry.scope.now)) result }
+    ensures { Reports (walked expressions_fault around.entry (expressions_view es.now)) result }
 {
     for e in es {
         expression(alloc, around, e)?;
@@ -182,7 +185,7 @@ fn expressions(alloc: Global, around: Around<'_>, es: &[Expression]) -> Result<(
 #[cycle(faults)]
 #[tactic(auto, using(crate::proofs::Reporting::reporting))]
 fn messages(alloc: Global, around: Around<'_>, ms: &[Message]) -> Result<(), CodeFault>
-    ensures { Reports (messages_fault (names_view around.entry.names.now) (messages_view ms.now) (scope_view around.entry.scope.now)) result }
+    ensures { Reports (walked messages_fault around.entry (messages_view ms.now)) result }
 {
     for m in ms {
         expressions(alloc, around, &m.arguments)?;
@@ -194,7 +197,7 @@ fn messages(alloc: Global, around: Around<'_>, ms: &[Message]) -> Result<(), Cod
 #[cycle(faults)]
 #[tactic(auto, using(crate::proofs::Reporting::reporting))]
 fn sent(alloc: Global, around: Around<'_>, links: &[Link<'_>]) -> Result<(), CodeFault>
-    ensures { Reports (all_sent_fault (names_view around.entry.names.now) (scope_view around.entry.scope.now) (links_view links.now)) result }
+    ensures { Reports (looked_up all_sent_fault around.entry (links_view links.now)) result }
 {
     for link in links {
         if let Link::Send(ms) = *link {
@@ -213,9 +216,9 @@ fn block(
     arguments: &[Name],
     body: &[Statement],
 ) -> Result<(), CodeFault>
-    ensures { Reports (block_fault (names_view around.entry.names.now) (scope_view around.entry.scope.now) (list_view arguments.now) (statements_view body.now)) result }
+    ensures { Reports (block_around around.entry arguments.now body.now) result }
 {
-    declare(around.scope, false, arguments)?;
+    declare(around.scope, arguments)?;
     let scope = inner_scope(alloc, around.scope, arguments, 0)?;
     let inner = Around {
         names: around.names,
@@ -230,7 +233,7 @@ fn block(
 #[tactic(auto, using(st_tree::proofs::Views::views))]
 fn start(alloc: Global, around: Around<'_>, e: &Expression) -> Result<(), CodeFault>
     requires { IsStart (expression_view e.now) }
-    ensures { Reports (expression_fault (names_view around.entry.names.now) (expression_view e.now) (scope_view around.entry.scope.now)) result }
+    ensures { Reports (walked expression_fault around.entry (expression_view e.now)) result }
 {
     match e {
         Expression::Variable(n) => read(around, n),
@@ -254,7 +257,7 @@ fn chain<'t>(
     links: &[Link<'t>],
 ) -> Result<(), CodeFault>
     requires { IsStart (expression_view first.now) }
-    ensures { Reports (expression_fault (names_view around.entry.names.now) (linked (expression_view first.now) (links_view links.now)) (scope_view around.entry.scope.now)) result }
+    ensures { Reports (walked expression_fault around.entry (chained first.now links.now)) result }
 {
     targets(around, links)?;
     start(alloc, around, first)?;
@@ -264,7 +267,7 @@ fn chain<'t>(
 /// An expression.
 #[cycle(faults)]
 fn expression(alloc: Global, around: Around<'_>, e: &Expression) -> Result<(), CodeFault>
-    ensures { Reports (expression_fault (names_view around.entry.names.now) (expression_view e.now) (scope_view around.entry.scope.now)) result }
+    ensures { Reports (walked expression_fault around.entry (expression_view e.now)) result }
 {
     let parts = e.chain(alloc)?;
     chain(alloc, around, parts.start, &parts.links)
@@ -274,7 +277,7 @@ fn expression(alloc: Global, around: Around<'_>, e: &Expression) -> Result<(), C
 #[cycle(faults)]
 #[tactic(auto, using(crate::proofs::Reporting::reporting))]
 pub fn statements(alloc: Global, around: Around<'_>, ss: &[Statement]) -> Result<(), CodeFault>
-    ensures { Reports (statements_fault (names_view around.entry.names.now) (statements_view ss.now) (scope_view around.entry.scope.now)) result }
+    ensures { Reports (walked statements_fault around.entry (statements_view ss.now)) result }
 {
     for s in ss {
         expression(alloc, around, &s.value)?;

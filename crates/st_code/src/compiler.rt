@@ -1,11 +1,11 @@
 //! From a method's tree to its header, literals and bytes.
 
-ghost use Rattle.std.specs.Prelude.{◌≡◌, ◌+◌, ◌*◌, ◌++◌, None, Ok, IfOk, IfErr, OnOk};
+ghost use Rattle.std.specs.Prelude.{◌≡◌, ◌+◌, ◌*◌, ◌++◌, None, IfOk, IfErr, OnOk};
 ghost use Rattle.st_tree.specs.Views.{method_view};
 ghost use Rattle.st_emit.specs.NameViews.{names_view};
-ghost use Rattle.st_emit.specs.Views.{literal_view, literals_view};
-ghost use Rattle.st_code.specs.Methods.{extension, last_of, primitive_fault, fault, code};
-ghost use Rattle.st_code.specs.MethodDrafts.{HasLast, IsWhole, IsWithin, header_of, parts_view};
+ghost use Rattle.st_emit.specs.Views.{literal_view};
+ghost use Rattle.st_code.specs.Methods.{extension, primitive_fault, fault};
+ghost use Rattle.st_code.specs.MethodDrafts.{HasLast, IsWhole, IsWithin, header_of, IsCodeOf};
 ghost use Rattle.st_code.specs.Reported.{IsFault, Reports};
 
 use crate::bytes::{all_bytes, sends_super};
@@ -99,7 +99,7 @@ fn faultless(alloc: Global, t: &MethodTree, names: &Names) -> Result<MethodDraft
 
 /// The code of a method's tree in a class with these names, or its first fault. A want of memory is no fault of the tree.
 pub fn compile(alloc: Global, t: &MethodTree, names: &Names) -> Result<MethodParts, CodeFault>
-    ensures parts { IfOk result (λ p. code (method_view t.now) (names_view names.now) ≡ Ok (parts_view p)) }
+    ensures parts { IfOk result (IsCodeOf (method_view t.now) (names_view names.now)) }
     ensures fault { IfErr result (IsFault (fault (method_view t.now) (names_view names.now))) }
 {
     let made = faultless(alloc, t, names)?;

@@ -12,6 +12,3 @@ mod whole;
 pub use compiler::{MethodParts, compile};
 pub use fault::{Cause, CodeFault, Fault};
 pub use st_emit::{Literal, LiteralList, NamedOops, Names, TextList};
-
-#[cfg(test)]
-mod tests;

@@ -43,9 +43,9 @@ fn scope_of<'t>(
 pub fn names_fault(alloc: Global, t: &MethodTree, names: &Names) -> Result<(), CodeFault>
     ensures { Reports (method_fault (names_view names.now) (method_view t.now)) result }
 {
-    declare(&[], false, &t.arguments)?;
+    declare(&[], &t.arguments)?;
     let arguments = inner_scope(alloc, &[], &t.arguments, 0)?;
-    declare(&arguments, true, &t.temporaries)?;
+    declare(&arguments, &t.temporaries)?;
     let scope = scope_of(alloc, t, 0)?;
     let around = Around {
         names,

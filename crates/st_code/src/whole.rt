@@ -1,7 +1,6 @@
 //! The bounds of a method as a whole.
 
-ghost use Rattle.std.specs.Prelude.{◌≡◌, ◌+◌, ◌*◌, ◌≤◌, length, IfOk, OnOk};
-ghost use Rattle.st_emit.specs.Steps.{size};
+ghost use Rattle.std.specs.Prelude.{◌≡◌, ◌+◌, ◌*◌, ◌≤◌, IfOk, OnOk};
 ghost use Rattle.st_code.specs.Methods.{passes, symbols_fault, primitive_fault, room_bit};
 ghost use Rattle.st_code.specs.MethodDrafts.{bounds_of, size_with, IsWithin};
 ghost use Rattle.st_code.specs.Reported.{Reports, reported};

@@ -47,15 +47,26 @@ all_live t (x ∷ xs) ys h = (known_live t x (h 0), all_live t xs ys (λ k. h (s
 devices_live : (v : View) (d : Devices) → IsWhole v → v.held.devices ≡ filled d → AllLive (IsUsed v.objects) (device_roots d)
 devices_live v d w e =
     let t = v.objects in
-    let at : (p : Devices → Value) → IsKnown t (p v.held.devices) → IsLive (IsUsed t) (p (filled d)) = λ p k. known_live t (p (filled d)) (subst (λ (x : Devices). IsKnown t (p x)) e k) in
-    (at (λ x. x.new_process) (w.held place.NewProcess),
-     (at (λ x. x.display) (w.held place.Display),
-      (at (λ x. x.cursor) (w.held place.Cursor),
-       (at (λ x. x.input_semaphore) (w.held place.InputSemaphore),
-        (at (λ x. x.timer) (w.held place.Timer),
-         (at (λ x. x.low_space) (w.held place.LowSpace),
-          all_live t d.pending (replicate (4096 - length d.pending) nil)
-          (λ k. subst (λ (x : Devices). IsKnown t (slice_index_or x.pending k nil)) e (w.held (place.Pending k)))))))))
+    let at : (p : Devices → Value) → IsKnown t (p v.held.devices) → IsLive (IsUsed t) (p (filled d)) = λ p k. known_live t (p (filled d)) (subst (λ (x : Devices). IsKnown t (p x)) e k) in (
+      at (λ x. x.new_process) (w.held place.NewProcess),
+      (
+        at (λ x. x.display) (w.held place.Display),
+        (
+          at (λ x. x.cursor) (w.held place.Cursor),
+          (
+            at (λ x. x.input_semaphore) (w.held place.InputSemaphore),
+            (
+              at (λ x. x.timer) (w.held place.Timer),
+              (
+                at (λ x. x.low_space) (w.held place.LowSpace),
+                all_live t d.pending (replicate (4096 - length d.pending) nil)
+                    (λ k. subst (λ (x : Devices). IsKnown t (slice_index_or x.pending k nil)) e (w.held (place.Pending k))),
+              ),
+            ),
+          ),
+        ),
+      ),
+    )
 
 module _ (v : View) (c : IsComplete v) where
   is_used : (n : ℕ) → is_live v.objects (Ref n) ≡ true → IsUsed v.objects n

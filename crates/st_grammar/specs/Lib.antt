@@ -5,3 +5,4 @@ pub mod Reading
 pub mod Texts
 pub mod Trees
 pub mod Formed
+pub mod Laws

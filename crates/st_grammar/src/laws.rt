@@ -2,7 +2,8 @@
 
 ghost use Rattle.std.specs.Prelude.{◌≡◌, ℕ, List};
 ghost use Rattle.st_tree.specs.Views.{MethodView};
-ghost use Rattle.st_grammar.specs.Texts.{Means, HasFault};
+ghost use Rattle.st_grammar.specs.Texts.{Means};
+ghost use Rattle.st_grammar.specs.Laws.{HasOneFault, HasNoFault};
 ghost use Rattle.st_grammar.specs.Formed.{IsWellFormed};
 
 /// A text has at most one tree.
@@ -12,8 +13,8 @@ pub fn one_tree()
 
 /// A text has at most one first fault: its place and its cause are determined. And none where it means a tree.
 pub fn one_fault()
-    ensures one { (text : List ℕ) (place other cause reason : ℕ) → HasFault text place cause → HasFault text other reason → (place ≡ other) × (cause ≡ reason) }
-    ensures none { (text : List ℕ) (t : MethodView) (place cause : ℕ) → Means text t → HasFault text place cause → ⊥ }
+    ensures one { (text : List ℕ) → HasOneFault text }
+    ensures none { (text : List ℕ) (t : MethodView) → Means text t → HasNoFault text }
 {}
 
 /// What a text means is well-formed: its names are names, each selector fits its arguments, no number is too great, and

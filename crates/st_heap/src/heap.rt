@@ -133,6 +133,7 @@ impl Heap {
         ensures blocks { blocks_of self.new ≡ exchanged_blocks (blocks_of self.old) t.old a b }
         ensures entries { t.new ≡ exchanged_entries t.old a b }
         ensures tied { IsTied t.new (blocks_of self.new) }
+        ensures held { held (blocks_of self.new) ≡ held (blocks_of self.old) }
     {
         let (first, second) = (t.entry(a), t.entry(b));
         let (i, j) = (first.at as usize / 2, second.at as usize / 2);

@@ -103,7 +103,7 @@ impl<R: Files + Print + Drop> DirHost<R> {
             .open(&self.rt, name)
     }
 
-    // The folder of a file that was made is synced behind it.
+    // The folder of a file that this host has made since is synced behind it. No clause says so.
     fn sync_file(&mut self, name: &str) -> io::Result<()>
         ensures { KeepsCounts self.old.disk_faults self.old.say_faults self.new.disk_faults self.new.say_faults }
     {

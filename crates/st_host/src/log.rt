@@ -95,7 +95,8 @@ pub(crate) fn append_file(
     ensures log_room { OnOk result (length log.new.items + calls_left ≤ vec_capacity log.new) }
     ensures arena_room { OnOk result (length arena.new.items + bytes_left ≤ vec_capacity arena.new) }
     ensures err { OnErr result ((log.new.items ≡ log.old.items) × (arena.new.items ≡ arena.old.items)) }
-    ensures no_less { (vec_capacity log.old ≤ vec_capacity log.new) × (vec_capacity arena.old ≤ vec_capacity arena.new) }
+    ensures no_less { (vec_capacity log.old ≤ vec_capacity log.new)
+        × (vec_capacity arena.old ≤ vec_capacity arena.new) }
 {
     let entries = calls_left.checked_add(1).ok_or(AllocError)?;
     let size = (name.len() + bytes.len()) as u64;

@@ -22,7 +22,9 @@ impl Objects {
         requires parts { 2 * fields + units ≤ 2 * words_for kind fields units }
         requires fields_end { self.old.next_field + fields ≤ length self.old.pointers.items }
         requires units_end { self.old.next_unit + units ≤ length self.old.units.items }
-        ensures objects { objects_of self.new ≡ slice_set (objects_of self.old) k (Some (entry_object self.old.pointers.items self.old.units.items (new_entry class kind self.old.next_field fields self.old.next_unit units))) }
+        ensures objects { let e = new_entry class kind self.old.next_field fields self.old.next_unit units in
+            let o = entry_object self.old.pointers.items self.old.units.items e in
+            objects_of self.new ≡ slice_set (objects_of self.old) k (Some o) }
         ensures extent { extent_of self.new ≡ with_taken (extent_of self.old) fields units }
     {
         let entry = Entry {
@@ -50,7 +52,8 @@ impl Objects {
         ensures objects { objects_of self.new ≡ objects_of self.old }
         ensures entries { self.new.entries.items ≡ self.old.entries.items }
         ensures extent { extent_of self.new ≡ extent_of self.old }
-        ensures fields { take fields (drop self.old.next_field self.new.pointers.items) ≡ replicate fields nil_word }
+        ensures fields { take fields (drop self.old.next_field self.new.pointers.items)
+            ≡ replicate fields nil_word }
         ensures units { take units (drop self.old.next_unit self.new.units.items) ≡ replicate units 0 }
     {
         fill_run(
@@ -74,7 +77,8 @@ impl Objects {
         ensures objects { objects_of self.new ≡ objects_of self.old }
         ensures entries { self.new.entries.items ≡ self.old.entries.items }
         ensures extent { extent_of self.new ≡ extent_of self.old }
-        ensures fields { take (length fields.now) (drop self.old.next_field self.new.pointers.items) ≡ fields.now }
+        ensures fields { take (length fields.now) (drop self.old.next_field self.new.pointers.items)
+            ≡ fields.now }
         ensures units { take (length units.now) (drop self.old.next_unit self.new.units.items) ≡ units.now }
     {
         copy_run(
@@ -94,7 +98,8 @@ impl Objects {
         requires parts { 2 * fields + units ≤ 2 * words_for kind fields units }
         requires fields_end { self.old.next_field + fields ≤ length self.old.pointers.items }
         requires units_end { self.old.next_unit + units ≤ length self.old.units.items }
-        ensures objects { objects_of self.new ≡ with_object (objects_of self.old) (value at) (cleared (class.0 / 2) kind fields units) }
+        ensures objects { objects_of self.new
+            ≡ with_object (objects_of self.old) (value at) (cleared (class.0 / 2) kind fields units) }
         ensures extent { extent_of self.new ≡ with_taken (extent_of self.old) fields units }
     {
         self.clear_free(fields, units);
@@ -107,9 +112,12 @@ impl Objects {
         requires free { is_live (objects_of self.old) (value at) ≡ false }
         requires class { is_small (value class) ≡ false }
         requires makeable { IsMakeable (class.0 / 2) kind size literals }
-        requires fields_end { self.old.next_field + length (fresh (class.0 / 2) kind size literals).fields ≤ length self.old.pointers.items }
-        requires units_end { self.old.next_unit + length (fresh (class.0 / 2) kind size literals).units ≤ length self.old.units.items }
-        ensures objects { objects_of self.new ≡ with_object (objects_of self.old) (value at) (fresh (class.0 / 2) kind size literals) }
+        requires fields_end { let o = fresh (class.0 / 2) kind size literals in
+            self.old.next_field + length o.fields ≤ length self.old.pointers.items }
+        requires units_end { let o = fresh (class.0 / 2) kind size literals in
+            self.old.next_unit + length o.units ≤ length self.old.units.items }
+        ensures objects { let o = fresh (class.0 / 2) kind size literals in
+            objects_of self.new ≡ with_object (objects_of self.old) (value at) o }
         ensures extent { let o = fresh (class.0 / 2) kind size literals in
             extent_of self.new ≡ with_taken (extent_of self.old) (length o.fields) (length o.units) }
     {
@@ -138,10 +146,13 @@ impl Objects {
         requires left { first_free (objects_of self.old) < 32768 }
         requires class { is_small (value class) ≡ false }
         requires makeable { IsMakeable (class.0 / 2) kind size literals }
-        requires fields_end { self.old.next_field + length (fresh (class.0 / 2) kind size literals).fields ≤ length self.old.pointers.items }
-        requires units_end { self.old.next_unit + length (fresh (class.0 / 2) kind size literals).units ≤ length self.old.units.items }
+        requires fields_end { let o = fresh (class.0 / 2) kind size literals in
+            self.old.next_field + length o.fields ≤ length self.old.pointers.items }
+        requires units_end { let o = fresh (class.0 / 2) kind size literals in
+            self.old.next_unit + length o.units ≤ length self.old.units.items }
         ensures pointer { value result ≡ Ref (first_free (objects_of self.old)) }
-        ensures objects { objects_of self.new ≡ placed (objects_of self.old) (fresh (class.0 / 2) kind size literals) }
+        ensures objects { let o = fresh (class.0 / 2) kind size literals in
+            objects_of self.new ≡ placed (objects_of self.old) o }
         ensures extent { let o = fresh (class.0 / 2) kind size literals in
             extent_of self.new ≡ with_taken (extent_of self.old) (length o.fields) (length o.units) }
     {

@@ -29,11 +29,16 @@ impl Objects {
     fn copy_from(&mut self, other: &Objects, k: usize)
         requires within { k < 32768 }
         requires free { slot self.old.entries.items k ≡ None }
-        requires fields_end { self.old.next_field + slot_number entry_fields (slot other.now.entries.items k) ≤ length self.old.pointers.items }
-        requires units_end { self.old.next_unit + slot_number entry_units (slot other.now.entries.items k) ≤ length self.old.units.items }
+        requires fields_end { let e = slot other.now.entries.items k in
+            self.old.next_field + slot_number entry_fields e ≤ length self.old.pointers.items }
+        requires units_end { let e = slot other.now.entries.items k in
+            self.old.next_unit + slot_number entry_units e ≤ length self.old.units.items }
         ensures here { entry (objects_of self.new) k ≡ entry (objects_of other.now) k }
-        ensures others { (j : ℕ) → j ≢ k → entry (objects_of self.new) j ≡ entry (objects_of self.old) j }
-        ensures extent { extent_of self.new ≡ with_taken (extent_of self.old) (slot_number entry_fields (slot other.now.entries.items k)) (slot_number entry_units (slot other.now.entries.items k)) }
+        ensures others { (j : ℕ) → j ≢ k
+            → entry (objects_of self.new) j ≡ entry (objects_of self.old) j }
+        ensures extent { let e = slot other.now.entries.items k in
+            extent_of self.new
+            ≡ with_taken (extent_of self.old) (slot_number entry_fields e) (slot_number entry_units e) }
     {
         if let Some(e) = other.slot(k) {
             let field = e.fields_at as usize;
@@ -51,7 +56,8 @@ impl Objects {
         requires long { length self.old.units.items ≡ 2 * length self.old.pointers.items }
         requires fits { total_used words_of (objects_of other.now) ≤ length self.old.pointers.items }
         ensures objects { objects_of self.new ≡ objects_of other.now }
-        ensures enough { IsEnough (extent_of self.new) (total_used words_of (objects_of other.now)) (length self.old.pointers.items) }
+        ensures enough { let words = total_used words_of (objects_of other.now) in
+            IsEnough (extent_of self.new) words (length self.old.pointers.items) }
     {
         self.clear();
         for k in 0..other.table_end as usize {

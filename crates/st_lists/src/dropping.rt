@@ -31,8 +31,10 @@ impl Objects {
 
     /// Takes away each object whose name is not marked, and answers how many there were.
     pub fn keep_marked(&mut self, marks: &Marks) -> u32
-        ensures objects { objects_of self.new ≡ settled_table (objects_of self.old) (is_marked marks.now.names.items) }
-        ensures gone { total_used one (objects_of self.new) + result ≡ total_used one (objects_of self.old) }
+        ensures objects { objects_of self.new
+            ≡ settled_table (objects_of self.old) (is_marked marks.now.names.items) }
+        ensures gone { total_used one (objects_of self.new) + result
+            ≡ total_used one (objects_of self.old) }
         ensures extent { extent_of self.new ≡ extent_of self.old }
     {
         let before = self.used.entries;

@@ -1,4 +1,4 @@
-ghost use Rattle.std.specs.Prelude.{◌≡◌, ℕ, length, None, IfOk, slice_index_or, false};
+ghost use Rattle.std.specs.Prelude.{◌≡◌, ℕ, length, replicate, None, IfOk, slice_index_or, false};
 ghost use Rattle.st_model.specs.Settled.{is_marked};
 ghost use Rattle.st_lists.specs.Lists.{slot};
 ghost use Rattle.st_lists.specs.Words.{nil_word};
@@ -17,7 +17,8 @@ pub fn empty_places(alloc: Global, len: usize) -> Result<Vec<Option<Entry>>, All
 
 /// Units that are all 0.
 pub fn zero_units(alloc: Global, len: usize) -> Result<Vec<u16>, AllocError>
-    ensures { IfOk result (λ v. length v.items ≡ len) }
+    ensures len { IfOk result (λ v. length v.items ≡ len) }
+    ensures zero { IfOk result (λ v. v.items ≡ replicate len 0) }
 {
     vec![in alloc; 0; len]
 }

@@ -56,7 +56,8 @@ impl Marks {
     pub fn clear(&mut self, end: usize)
         requires { end ≤ 32768 }
         ensures cleared { (n : ℕ) → n < end → is_marked self.new.names.items n ≡ false }
-        ensures others { (n : ℕ) → end ≤ n → is_marked self.new.names.items n ≡ is_marked self.old.names.items n }
+        ensures others { (n : ℕ) → end ≤ n
+            → is_marked self.new.names.items n ≡ is_marked self.old.names.items n }
     {
         for k in 0..end {
             self.names[k] = false;
@@ -98,7 +99,8 @@ impl Marks {
 
     /// Marks the table of a pointer of the head; 0 is none.
     pub fn mark_table(&mut self, o: Oop)
-        ensures { AddsMarks self.old.names.items self.new.names.items (any_names (table_root (table_of o.0))) }
+        ensures { let named = any_names (table_root (table_of o.0)) in
+            AddsMarks self.old.names.items self.new.names.items named }
     {
         if o.0 != 0 {
             self.mark(o);

@@ -32,7 +32,8 @@ pub struct Objects {
     pub used: Demand,
     /// Each place from 1 up to here has an object.
     pub full_end: u32,
-    pub ghost laid_out: { IsLaidOut entries.items (length pointers.items) (length units.items) table_end next_field next_unit },
+    pub ghost laid_out: { IsLaidOut entries.items (length pointers.items) (length units.items)
+        table_end next_field next_unit },
     ghost counted: { IsCounted entries.items used },
     ghost full: { IsFull entries.items full_end },
 }
@@ -100,7 +101,8 @@ impl Objects {
     pub fn live_entry(&self, o: Oop) -> Entry
         requires { is_live (objects_of self.now) (value o) ≡ true }
         ensures entry { entry_of self.now.entries.items (value o) ≡ Some result }
-        ensures object { object_of (objects_of self.now) (value o) ≡ entry_object self.now.pointers.items self.now.units.items result }
+        ensures object { object_of (objects_of self.now) (value o)
+            ≡ entry_object self.now.pointers.items self.now.units.items result }
         ensures placed { IsPlaced self.now.next_field self.now.next_unit result }
     {
         self.entry(o).unwrap()
@@ -163,16 +165,20 @@ impl Objects {
 
     /// How many objects there are, and how many words they have.
     pub fn used(&self) -> Demand
-        ensures { result ≡ record { entries = total_used one (objects_of self.now); words = total_used words_of (objects_of self.now) } }
+        ensures { let objects = objects_of self.now in
+            result ≡ record { entries = total_used one objects; words = total_used words_of objects } }
     {
         self.used
     }
 
     /// The least pointer of an object above `after`.
     pub fn next_live(&self, after: u32) -> Option<Oop>
-        ensures found { IfSome result (λ o. (is_live (objects_of self.now) (value o) ≡ true) × (after < o.0)) }
-        ensures least { IfSome result (λ o. (p : Oop) → after < p.0 → p.0 < o.0 → is_live (objects_of self.now) (value p) ≡ false) }
-        ensures none { IfNone result ((p : Oop) → after < p.0 → is_live (objects_of self.now) (value p) ≡ false) }
+        ensures found { IfSome result (λ o. (is_live (objects_of self.now) (value o) ≡ true)
+            × (after < o.0)) }
+        ensures least { IfSome result (λ o. (p : Oop) → after < p.0 → p.0 < o.0
+            → is_live (objects_of self.now) (value p) ≡ false) }
+        ensures none { IfNone result ((p : Oop) → after < p.0
+            → is_live (objects_of self.now) (value p) ≡ false) }
     {
         for k in after as usize / 2 + 1..self.table_end as usize {
             if self.slot(k).is_some() {
@@ -184,7 +190,8 @@ impl Objects {
 
     /// Marks what the object at a place refers to.
     fn mark_from(&self, k: usize, marks: &mut Marks)
-        ensures { AddsMarks marks.old.names.items marks.new.names.items (object_names (entry (objects_of self.now) k)) }
+        ensures { let named = object_names (entry (objects_of self.now) k) in
+            AddsMarks marks.old.names.items marks.new.names.items named }
     {
         if let Some(e) = self.slot(k) {
             let first = e.fields_at as usize;

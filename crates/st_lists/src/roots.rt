@@ -70,7 +70,8 @@ impl Places {
     /// The places with o in one of them; the pending signals are not among them.
     fn with(self, place: RootPlace, o: Oop) -> Places
         requires { IsSinglePlace place }
-        ensures { (pending : List Oop) → held_words result pending ≡ with_held (held_words self pending) place (value o) }
+        ensures { (pending : List Oop) → held_words result pending
+            ≡ with_held (held_words self pending) place (value o) }
     {
         match place {
             RootPlace::Active => Places { active: o, ..self },

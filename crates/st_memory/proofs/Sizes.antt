@@ -1,17 +1,17 @@
 -- The kind and the size of an object, and what the capacities leave.
-use Rattle.std.proofs.Common.{◌≡◌, ℕ, ◌+◌, ◌-◌, ◌*◌, ◌/◌, ◌≤◌, Bool, true, false, List, length, Result, Ok, Err, refl, sym, ap, ◌∙◌, arith}
-use Rattle.std.specs.Prelude.{Option, Some, None, if◌then◌else◌}
+use Rattle.std.proofs.Common.{◌≡◌, ℕ, ◌+◌, ◌-◌, ◌*◌, ◌/◌, Bool, true, List, length, Result, Ok, refl, sym, ap, ◌∙◌, arith}
+use Rattle.std.specs.Prelude.{Option, Some, if◌then◌else◌}
 use Rattle.std.proofs.lemmas.List.{length-replicate}
 use Rattle.st_model.specs.declared.dead.Dead.{Dead}
 use Rattle.st_model.specs.declared.dead.Dead.TheVariants as dead
 use Rattle.st_model.specs.declared.kind.Kind.{Kind}
 use Rattle.st_model.specs.declared.kind.Kind.TheVariants as kind
 use Rattle.st_model.specs.declared.demand.Demand.{Demand}
-use Rattle.st_model.specs.Values.{Value, Small, Ref}
-use Rattle.st_model.specs.Objects.{Object, nil, is_pointers, size_of, first_unit}
+use Rattle.st_model.specs.Values.{Value}
+use Rattle.st_model.specs.Objects.{Object, nil, is_pointers, size_of}
 use Rattle.st_model.specs.Formed.{fresh, IsMakeable}
-use Rattle.st_model.specs.Machine.{ObjectMemory, State, Head, Went, answer, ◌>>=◌, ◌>>◌, after, free_space, capacity_of, less, used}
-use Rattle.st_model.specs.Steps.{object, check, or_die, fetch_kind, fetch_size, get_free}
+use Rattle.st_model.specs.Machine.{ObjectMemory, State, Head, Went, answer, ◌>>=◌, ◌>>◌, after, capacity_of, less, used}
+use Rattle.st_model.specs.Steps.{check, or_die, fetch_kind, fetch_size, get_free}
 use Rattle.st_model.specs.Table.{Table, table, bounded_table, apart, IsTabular}
 use Rattle.st_model.specs.Calls.{Reads, Changes, itself}
 use Rattle.st_model.proofs.Tabular.{object-as}
@@ -20,7 +20,7 @@ use Rattle.st_memory.specs.declared.made.Made.{Made}
 use Rattle.st_memory.specs.declared.change.Change.{Change}
 use Rattle.st_memory.specs.Drafts.{with_made, draft_table, named_object, IsLike, Names}
 use Rattle.st_memory.specs.Making.{made_object, IsMade}
-use Rattle.st_memory.proofs.Looking.{Looks, or_got, checked, looked, look_at, step_looks, result_got, some_state}
+use Rattle.st_memory.proofs.Looking.{Looks, look_at, step_looks, some_state}
 use Rattle.st_memory.proofs.Fresh.{kind_fresh}
 use Rattle.st_memory.proofs.Drafted.{moved, given, look_base, look_made}
 use Rattle.st_memory.proofs.Moved.{read_names, look_names}

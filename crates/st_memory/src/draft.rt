@@ -53,10 +53,12 @@ impl<'a, M: Memory> Draft<'a, M> {
 
     /// What the objects made take of the capacities.
     pub fn demand(&self) -> Demand
-        ensures entries { (used apart (drafted (M.view self.now.base.now).objects self.now.notes self.now.exchanges)).entries
-            ≡ total_used one (M.view self.now.base.now).objects + result.entries }
-        ensures words { (used apart (drafted (M.view self.now.base.now).objects self.now.notes self.now.exchanges)).words
-            ≡ total_used words_of (M.view self.now.base.now).objects + result.words }
+        ensures entries { let base = (M.view self.now.base.now).objects in
+            let now = drafted base self.now.notes self.now.exchanges in
+            (used apart now).entries ≡ total_used one (M.view self.now.base.now).objects + result.entries }
+        ensures words { let base = (M.view self.now.base.now).objects in
+            let now = drafted base self.now.notes self.now.exchanges in
+            (used apart now).words ≡ total_used words_of (M.view self.now.base.now).objects + result.words }
     {
         Demand {
             entries: self.notes.made_count,
@@ -69,7 +71,8 @@ impl<'a, M: Memory> Draft<'a, M> {
         ensures named { IfSome result (λ n. word o ≡ Ref (32768 + n)) }
         ensures below { IfSome result (λ n. n < self.now.notes.made_count) }
         ensures none { let base = (M.view self.now.base.now).objects in
-            IfNone result (named_object (with_noted base self.now.notes) (word o) ≡ named_object base (word o)) }
+            let start = with_noted base self.now.notes in
+            IfNone result (named_object start (word o) ≡ named_object base (word o)) }
     {
         if o.is_small() {
             return None;
@@ -88,10 +91,12 @@ impl<'a, M: Memory> Draft<'a, M> {
     /// The object made whose word this is.
     fn find_made(&self, o: Word) -> Option<Made>
         ensures found { let base = (M.view self.now.base.now).objects in
-            IfSome result (λ m. named_object (with_noted base self.now.notes) (word o) ≡ Some (made_object m)) }
+            let start = with_noted base self.now.notes in
+            IfSome result (λ m. named_object start (word o) ≡ Some (made_object m)) }
         ensures sized { IfSome result (λ m. IsMade m) }
         ensures none { let base = (M.view self.now.base.now).objects in
-            IfNone result (named_object (with_noted base self.now.notes) (word o) ≡ named_object base (word o)) }
+            let start = with_noted base self.now.notes in
+            IfNone result (named_object start (word o) ≡ named_object base (word o)) }
     {
         let number = self.find_number(o)?;
         Some(self.notes.made[number as usize])
@@ -203,7 +208,8 @@ impl<'a, M: Memory> Draft<'a, M> {
     fn note(&mut self, change: Change)
         requires room { count_of self.old.notes self.old.exchanges < 24 }
         requires named { highest change < 65536 + 2 * self.old.notes.made_count }
-        requires closed { AllThere (after_change (noted (M.view self.old.base.now).objects self.old.notes) change) }
+        requires closed { let before = noted (M.view self.old.base.now).objects self.old.notes in
+            AllThere (after_change before change) }
         ensures table { noted (M.view self.new.base.now).objects self.new.notes
             ≡ after_change (noted (M.view self.old.base.now).objects self.old.notes) change }
         ensures exchanges { self.new.exchanges ≡ self.old.exchanges }
@@ -315,9 +321,11 @@ impl<'a, M: Memory> Draft<'a, M> {
 
     /// Whether an object of kind Pointers has n fields, from one on; else the cause of which a step dies.
     fn check_fields(&self, o: Word, from: u32, n: u32) -> Result<(), Dead>
-        ensures has { let now = drafted (M.view self.now.base.now).objects self.now.notes self.now.exchanges in
+        ensures has { let base = (M.view self.now.base.now).objects in
+            let now = drafted base self.now.notes self.now.exchanges in
             IfOk result (λ u. Has now (word o) from n) }
-        ensures lacks { let now = drafted (M.view self.now.base.now).objects self.now.notes self.now.exchanges in
+        ensures lacks { let base = (M.view self.now.base.now).objects in
+            let now = drafted base self.now.notes self.now.exchanges in
             IfErr result (Lacks now (word o) from n) }
     {
         let fields = self.count_fields(o)?;

@@ -71,9 +71,11 @@ impl Exchanges {
         requires first { is_small (word pair.first) ≡ false }
         requires second { is_small (word pair.second) ≡ false }
         ensures more { (t : Table) → exchanged_by t self.new.pairs self.new.count
-            ≡ with_exchanged (exchanged_by t self.old.pairs self.old.count) (word pair.first) (word pair.second) }
+            ≡ with_exchanged (exchanged_by t self.old.pairs self.old.count)
+            (word pair.first) (word pair.second) }
         ensures of { (t : Table) → AreOf t self.old.pairs self.old.count
-            → is_live t (word pair.first) ≡ true → is_live t (word pair.second) ≡ true → AreOf t self.new.pairs self.new.count }
+            → is_live t (word pair.first) ≡ true → is_live t (word pair.second) ≡ true
+            → AreOf t self.new.pairs self.new.count }
         ensures count { self.new.count ≡ self.old.count + 1 }
     {
         self.pairs[self.count as usize] = pair;

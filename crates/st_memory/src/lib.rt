@@ -2,6 +2,7 @@
 #![tactic(auto)]
 
 mod body;
+mod bytes;
 mod change;
 mod draft;
 mod exchanges;
@@ -14,6 +15,7 @@ mod objects;
 mod transfer;
 
 pub use body::{count_fields, count_units, unit_at};
+pub use bytes::copy_bytes;
 pub use draft::Draft;
 pub use live::live_value;
 pub use loader::Loader;

@@ -27,7 +27,8 @@ fn has_bytes(kind: Kind) -> bool
 /// The object that a word names.
 #[tactic(auto, using(st_model::proofs::Runs::runs, crate::proofs::Wide::far, crate::proofs::Wide::lacks, crate::proofs::Wide::small_not_live))]
 fn live_object<M: Memory>(m: &M, o: Word) -> Result<Oop, Dead>
-    ensures object { Reads (object table (word o)) (λ (x : Oop). object_of (M.view m.now).objects (value x)) (M.view m.now).objects result }
+    ensures object { let t = (M.view m.now).objects in
+        Reads (object table (word o)) (λ (x : Oop). object_of t (value x)) t result }
     ensures same { IfOk result (λ x. value x ≡ word o) }
     ensures live { IfOk result (λ x. is_live (M.view m.now).objects (value x) ≡ true) }
     ensures gone { IfErr result (λ e. is_live (M.view m.now).objects (word o) ≡ false) }

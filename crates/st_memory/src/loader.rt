@@ -69,7 +69,8 @@ pub trait Loader: Sized + Drop {
         requires above { first_unit (object_of (loaded self.old).objects (value o)) ≤ at }
         requires range { at < first_unit (object_of (loaded self.old).objects (value o))
             + length (object_of (loaded self.old).objects (value o)).units }
-        ensures objects { (loaded self.new).objects ≡ with_unit (loaded self.old).objects (value o) (at - first_unit (object_of (loaded self.old).objects (value o))) v }
+        ensures objects { let first = first_unit (object_of (loaded self.old).objects (value o)) in
+            (loaded self.new).objects ≡ with_unit (loaded self.old).objects (value o) (at - first) v }
         ensures held { (loaded self.new).held ≡ (loaded self.old).held }
         ensures head { (loaded self.new).head ≡ (loaded self.old).head };
 

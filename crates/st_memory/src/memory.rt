@@ -58,7 +58,8 @@ pub trait Memory: Drop {
         requires kind { is_words (object_of (view self.now).objects (value o)).kind ≡ false }
         requires above { first_unit (object_of (view self.now).objects (value o)) ≤ at }
         requires range { at < size_of (object_of (view self.now).objects (value o)) }
-        ensures { slice_get (object_of (view self.now).objects (value o)).units (at - first_unit (object_of (view self.now).objects (value o))) ≡ Some result };
+        ensures { let object = object_of (view self.now).objects (value o) in
+            slice_get object.units (at - first_unit object) ≡ Some result };
 
     /// Stores v in field `at`; in a Method's header only what counts the same literals.
     fn set_pointer(&mut self, o: Oop, at: u32, v: Oop)

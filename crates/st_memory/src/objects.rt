@@ -97,11 +97,13 @@ pub trait Objects {
 
     /// Of the instances of a class that bear pointers above the one of which `after` is half, the one with the least.
     fn next_instance(&self, class: Word, after: u32) -> Option<Word>
-        ensures { Reads (next_instance names (word class) after) (option_map word) (table self.now) (Ok result) };
+        ensures { Reads (next_instance names (word class) after) (option_map word)
+            (table self.now) (Ok result) };
 
     /// How many entries and words of the capacities the objects leave.
     fn free(&self) -> Demand
-        ensures { Changes (get_free names) itself (table self.now) (head self.now) (Ok result) (table self.now) };
+        ensures { Changes (get_free names) itself
+            (table self.now) (head self.now) (Ok result) (table self.now) };
 
     /// Stores x in field i of an object of kind Pointers.
     fn store_field(&mut self, o: Word, i: u32, x: Word) -> Result<(), Dead>

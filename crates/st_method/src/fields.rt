@@ -44,7 +44,8 @@ pub fn literals(header: Oop) -> u32
 #[tactic(auto, using(crate::proofs::Bits::counts))]
 pub fn first_byte(header: Oop) -> u32
     ensures byte { result ≡ first_byte (value header) }
-    ensures unit { (o : Object) → is_method o.kind ≡ true → IsHeader o 0 (value header) → result ≡ first_unit o }
+    ensures unit { (o : Object) → is_method o.kind ≡ true → IsHeader o 0 (value header)
+        → result ≡ first_unit o }
     ensures small { result ≤ 128 }
 {
     2 * literals(header) + 2

@@ -1,11 +1,9 @@
-//! The fields of a compiled method's header, and the primitive in its extension (chapter 27).
+//! The fields of a compiled method's header (chapter 27).
 #![tactic(auto)]
 
-mod extension;
 mod fields;
 mod header;
 
-pub use extension::primitive;
 pub use fields::{first_byte, flag, large, literals, temporaries};
 pub use header::Header;
 

@@ -1,5 +1,5 @@
 -- What is said of a run of the code is what is said of the book's machine.
-use Rattle.std.proofs.Common.{◌≡◌, ℕ, ◌+◌, ◌-◌, List, ◌++◌, length, refl, sym, ap, ◌∙◌, append-nil, arith}
+use Rattle.std.proofs.Common.{◌≡◌, ℕ, ◌+◌, ◌-◌, ◌++◌, length, refl, sym, ap, ◌∙◌, append-nil, arith}
 use Rattle.st_model.specs.declared.demand.Demand.{Demand}
 use Rattle.st_model.specs.Outcomes.{Ending, With, Space, Unbuilt, renamed_ending}
 use Rattle.st_model.specs.Outcomes as outcome
@@ -8,7 +8,7 @@ use Rattle.st_model.specs.Births.{Births, births}
 use Rattle.st_model.specs.Table.{Table}
 use Rattle.st_model.specs.Cycles.{run, finished}
 use Rattle.st_model.specs.Foreseen.{EndsShown}
-use Rattle.st_model.specs.Show.{Shows, show, pointer_of}
+use Rattle.st_model.specs.Show.{Shows, pointer_of}
 use Rattle.st_model.specs.Text.{state_text, ran_text, dead_text, unbuilt_text, space_text, text_at, run_text}
 use Rattle.st_model.proofs.Texts.{text_is}
 use Rattle.st_model.proofs.Showing.{show_is}

@@ -7,7 +7,7 @@ ghost use Rattle.st_model.specs.Births.{Births};
 ghost use Rattle.st_model.specs.Show.{Shows};
 ghost use Rattle.st_model.specs.Text.{run_text};
 ghost use Rattle.st_frames.specs.Shown.{IsReady, shown};
-ghost use Rattle.st_report.specs.Saying.{Says};
+ghost use Rattle.st_outside.specs.Telling.{Says};
 ghost use Rattle.st_once.specs.Ends.{OnceEnds, StatusHasCause};
 
 use crate::image::start;
@@ -35,7 +35,14 @@ fn run_and_report<H: Host, M: Memory>(
     ensures cause { HasCause (H.say_faults host.old) (H.say_faults host.new) result }
 {
     let end = machine.run(cycles);
-    say_run(host, machine.memory(), &machine.frame(), machine.world(), cycles, end)
+    say_run(
+        host,
+        machine.memory(),
+        &machine.frame(),
+        machine.world(),
+        cycles,
+        end,
+    )
 }
 
 /// The command `once`: runs cycles of the machine of an image, and says what it shows then.

@@ -1,7 +1,8 @@
 ghost use Rattle.std.specs.Prelude.{◌≡◌, OnOk};
 ghost use Rattle.st_outside.specs.Counts.{HasCause};
 ghost use Rattle.st_outside.specs.Runs.{ReadsAndSays, SaysAll};
-ghost use Rattle.st_report.specs.Saying.{Says, Pushes};
+ghost use Rattle.st_outside.specs.Telling.{Says};
+ghost use Rattle.st_report.specs.Saying.{Pushes};
 ghost use Rattle.st_once.specs.Ends.{fault_line, last_line, SaysLastLine};
 
 use crate::status::Status;

@@ -2,7 +2,8 @@ ghost use Rattle.std.specs.Prelude.{◌≡◌, ◌++◌, OnOk};
 ghost use Rattle.st_outside.specs.Counts.{HasCause};
 ghost use Rattle.st_outside.specs.Runs.{SaysAll};
 ghost use Rattle.st_frames.specs.Shown.{IsReady, shown};
-ghost use Rattle.st_report.specs.Saying.{Says, Pushes};
+ghost use Rattle.st_outside.specs.Telling.{Says};
+ghost use Rattle.st_report.specs.Saying.{Pushes};
 ghost use Rattle.st_once.specs.Ends.{end_text, ending_text};
 
 use st_frames::Frame;

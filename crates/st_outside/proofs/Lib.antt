@@ -3,3 +3,4 @@ pub mod Joining
 pub mod Touching
 pub mod Texts
 pub mod Pushing
+pub mod Telling

@@ -4,3 +4,4 @@ pub mod Names
 pub mod Stops
 pub mod Runs
 pub mod Pieces
+pub mod Telling

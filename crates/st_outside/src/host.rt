@@ -62,7 +62,8 @@ pub trait Host {
     /// them, and after an error, is left open.
     fn read_at(&mut self, name: &str, at: u64, into: &mut [u8]) -> Result<usize, HostFault>
         ensures within { IfOk result (λ k. k ≤ length into.old) }
-        ensures reads { IfOk result (λ k. IsTrue is_told → Reads (bytes_of (files self.old name.now)) at k into.new) }
+        ensures reads { IfOk result (λ k. IsTrue is_told
+            → Reads (bytes_of (files self.old name.now)) at k into.new) }
 
         // As in `length`.
         ensures alike { OnOk result (IsTrue is_told → files self.new name.now ≡ files self.old name.now) }

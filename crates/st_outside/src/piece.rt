@@ -45,7 +45,8 @@ impl Piece {
     pub fn flush<H: Host>(&mut self, host: &mut H, name: &str) -> Result<(), HostFault>
         requires { end_of self.old < 2 ^ 64 }
         ensures done { OnOk result (self.new ≡ record { at = end_of self.old; bytes = [] }) }
-        ensures text { OnOk result (IsTrue H.is_told → (t : List ℕ) → Holds (H.files host.old name.now) self.old t → Holds (H.files host.new name.now) self.new t) }
+        ensures text { OnOk result (IsTrue H.is_told → (t : List ℕ)
+            → Holds (H.files host.old name.now) self.old t → Holds (H.files host.new name.now) self.new t) }
         ensures writes { WritesFrom H.Host.own self.old name.now host.old host.new }
         ensures cause { HasCause (H.disk_faults host.old) (H.disk_faults host.new) result }
     {
@@ -67,7 +68,8 @@ impl Piece {
         ensures room { OnOk result (length self.new.bytes + count ≤ 512) }
         ensures on { OnOk result (self.old.at ≤ self.new.at) }
         ensures end { OnOk result (end_of self.new ≡ end_of self.old) }
-        ensures text { OnOk result (IsTrue H.is_told → (t : List ℕ) → Holds (H.files host.old name.now) self.old t → Holds (H.files host.new name.now) self.new t) }
+        ensures text { OnOk result (IsTrue H.is_told → (t : List ℕ)
+            → Holds (H.files host.old name.now) self.old t → Holds (H.files host.new name.now) self.new t) }
         ensures writes { WritesFrom H.Host.own self.old name.now host.old host.new }
         ensures cause { HasCause (H.disk_faults host.old) (H.disk_faults host.new) result }
     {
@@ -102,7 +104,8 @@ impl Piece {
     pub fn finish<H: Host>(self, host: &mut H, name: &str) -> Result<u64, HostFault>
         requires { end_of self < 2 ^ 64 }
         ensures length { IfOk result (λ l. l ≡ end_of self) }
-        ensures file { OnOk result (IsTrue H.is_told → (t : List ℕ) → Holds (H.files host.old name.now) self t → H.files host.new name.now ≡ Some t) }
+        ensures file { OnOk result (IsTrue H.is_told → (t : List ℕ) → Holds (H.files host.old name.now) self t
+            → H.files host.new name.now ≡ Some t) }
         ensures synced { OnOk result (IsSynced H.Host.own name.now host.new) }
         ensures writes { WritesFrom H.Host.own self name.now host.old host.new }
         ensures cause { HasCause (H.disk_faults host.old) (H.disk_faults host.new) result }

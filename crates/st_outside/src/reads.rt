@@ -1,4 +1,4 @@
-// Runs of calls that only read. No other crate calls a host's methods on files.
+// Runs of calls that only read.
 ghost use Rattle.std.specs.Prelude.{◌≡◌, ◌≤◌, ◌<◌, ◌+◌, ◌^◌, IsTrue, length, IfOk, OnOk};
 ghost use Rattle.st_outside.specs.Counts.{HasCause};
 ghost use Rattle.st_outside.specs.Files.{bytes_of, length_of, Reads, IsRead};
@@ -28,7 +28,8 @@ fn read_some<H: Host>(
     into: &mut [u8],
 ) -> Result<usize, HostFault>
     ensures within { IfOk result (λ k. k ≤ length into.old) }
-    ensures some { IfOk result (λ k. IsTrue H.is_told → Reads (bytes_of (H.files host.old name.now)) at k into.new) }
+    ensures some { IfOk result (λ k. IsTrue H.is_told
+        → Reads (bytes_of (H.files host.old name.now)) at k into.new) }
     ensures alike { OnOk result (ReadsAlike H.Host.own host.old host.new) }
     ensures reads { OnlyReads H.Host.own host.old host.new }
     ensures changes { Changes H.Host.own name.now host.old host.new }
@@ -49,7 +50,8 @@ pub fn read_from<H: Host>(
 ) -> Result<usize, HostFault>
     requires { at + length into.old < 2 ^ 64 }
     ensures within { IfOk result (λ k. k ≤ length into.old) }
-    ensures read { IfOk result (λ k. IsTrue H.is_told → IsRead (bytes_of (H.files host.old name.now)) at k into.new) }
+    ensures read { IfOk result (λ k. IsTrue H.is_told
+        → IsRead (bytes_of (H.files host.old name.now)) at k into.new) }
     ensures alike { OnOk result (ReadsAlike H.Host.own host.old host.new) }
     ensures reads { OnlyReads H.Host.own host.old host.new }
     ensures changes { Changes H.Host.own name.now host.old host.new }

@@ -24,7 +24,9 @@ pub trait Source {
     /// only for an empty slice or at the end. What the slice holds behind them, and after an error, is left open.
     fn take(&mut self, into: &mut [u8]) -> Result<usize, ReadFault>
         ensures within { IfOk result (λ k. k ≤ length into.old) }
-        ensures takes { IfOk result (λ k. IsTrue is_told → remaining self.old ≡ take k into.new ++ remaining self.new) }
-        ensures end { IfOk result (λ k. IsTrue is_told → k ≡ 0 → (length into.old ≡ 0) ⊎ (remaining self.old ≡ [])) }
+        ensures takes { IfOk result (λ k. IsTrue is_told
+            → remaining self.old ≡ take k into.new ++ remaining self.new) }
+        ensures end { IfOk result (λ k. IsTrue is_told → k ≡ 0
+            → (length into.old ≡ 0) ⊎ (remaining self.old ≡ [])) }
         ensures cause { HasCause (read_faults self.old) (read_faults self.new) result };
 }

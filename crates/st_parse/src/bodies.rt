@@ -1,9 +1,10 @@
 //! Statements so far, and how they end.
 
 ghost use Rattle.std.specs.Prelude.{◌≡◌, true, false, IfOk};
-ghost use Rattle.st_tree.specs.Views.{expression_view, statements_view, with_statement, no_statements};
+ghost use Rattle.st_tree.specs.Views.{expression_view, statements_view, no_statements};
 ghost use Rattle.st_grammar.specs.Reading.{first, period_at, statement_looks};
 ghost use Rattle.st_parse.specs.Phrases.{body_view};
+ghost use Rattle.st_parse.specs.Answers.{IsBody};
 
 use crate::kinds::STATEMENT_STARTS;
 use st_grammar::leaf::{Kind, Leaf};
@@ -31,7 +32,7 @@ pub fn no_statements(alloc: Global) -> Body
 /// One more statement, which returns its value; none may follow it.
 #[tactic(auto, using(st_tree::proofs::Views::views))]
 pub fn with_return(statements: StatementList, value: Expression) -> Result<Body, AllocError>
-    ensures { IfOk result (λ b. body_view b ≡ record { statements = with_statement (statements_view statements.items) true (expression_view value); goes_on = false }) }
+    ensures { IfOk result (IsBody (statements_view statements.items) true (expression_view value) false) }
 {
     let mut statements = statements;
     let returns = true;
@@ -50,7 +51,7 @@ pub fn with_value(
     value: Expression,
     goes_on: bool,
 ) -> Result<Body, AllocError>
-    ensures { IfOk result (λ b. body_view b ≡ record { statements = with_statement (statements_view statements.items) false (expression_view value); goes_on = goes_on }) }
+    ensures { IfOk result (IsBody (statements_view statements.items) false (expression_view value) goes_on) }
 {
     let mut statements = statements;
     let returns = false;

@@ -1,14 +1,15 @@
 //! Expressions, statements and blocks. Each function here reads from the first leaf on, and answers what it read and the
 //! leaves behind it, or the first fault. `room` is how many more brackets may be open.
 
-ghost use Rattle.std.specs.Prelude.{◌≡◌, ◌∷◌, [], IfOk, MatchOption, true, false};
-ghost use Rattle.st_tree.specs.Views.{is_super, name_view, names_view, element_view, expression_view, expressions_view, statements_view, with_sent, block};
-ghost use Rattle.st_tree.specs.Views.{no_expressions, expression, no_statements};
-ghost use Rattle.st_grammar.specs.Trees.{name_at, sent, sent_if};
-ghost use Rattle.st_grammar.specs.Reading.{Gives, Fails, stop, checked_at, period_at, assigned_to, array_at, bracket_at, name_primary_at, constant_primary_at, array_primary_at, block_primary_at, group_primary_at, primary_at, names_step, names_at, any_unary_at, unary_at, operations_step, operations_at, any_binary_at, binary_at, parts_step, parts_at, keyword_at, messages_at, unary_message_at, binary_message_at, keyword_message_at, message_at, cascade_step, cascades_at, sends_at, any_cascade_at, cascade_at, targets_at, expression_at, returned_at, plain_at, statement_step, body_at, statements_at, parameters_step, parameters_at, argument_body_at, argument_block_at, plain_block_at, block_at};
-ghost use Rattle.st_grammar.specs.Leaves.{among};
-ghost use Rattle.st_grammar.specs.Reading.{first, message_starts, statement_looks};
+ghost use Rattle.std.specs.Prelude.{◌≡◌, ◌∷◌, [], true, false};
+ghost use Rattle.st_tree.specs.Views.{names_view, expression_view};
+ghost use Rattle.st_grammar.specs.Reading.{bracket_at, primary_at, unary_at, operations_step, operations_at};
+ghost use Rattle.st_grammar.specs.Reading.{binary_at, parts_step, parts_at, messages_at, message_at};
+ghost use Rattle.st_grammar.specs.Reading.{cascade_step, cascades_at, sends_at, cascade_at, expression_at};
+ghost use Rattle.st_grammar.specs.Reading.{statement_step, body_at, statements_at, argument_body_at};
+ghost use Rattle.st_grammar.specs.Reading.{block_at, first};
 ghost use Rattle.st_parse.specs.Phrases.{parts_view, body_view};
+ghost use Rattle.st_parse.specs.Answers.{Reads, ReadsParts, ReadsBody, ReadsStatements, within};
 
 use crate::bodies::{Body, goes_on, no_statements, period, with_return, with_value};
 use crate::kinds::{KEYWORDS, NAMES, OPERATORS};
@@ -34,7 +35,7 @@ fn inside_group<'a>(
     room: u32,
     leaves: &'a [Leaf],
 ) -> Result<(Expression, &'a [Leaf]), ReadError>
-    ensures { Gives (λ x. (expression_view x.0, x.1.now)) result (bracket_at text.now room false leaves.now) }
+    ensures { Reads result (bracket_at text.now room false leaves.now) }
 {
     if room == 0 {
         return Err(ReadError::too_deep(leaves));
@@ -53,7 +54,7 @@ fn inside_block<'a>(
     room: u32,
     leaves: &'a [Leaf],
 ) -> Result<(Expression, &'a [Leaf]), ReadError>
-    ensures { Gives (λ x. (expression_view x.0, x.1.now)) result (bracket_at text.now room true leaves.now) }
+    ensures { Reads result (bracket_at text.now room true leaves.now) }
 {
     if room == 0 {
         return Err(ReadError::too_deep(leaves));
@@ -72,7 +73,7 @@ fn primary<'a>(
     room: u32,
     leaves: &'a [Leaf],
 ) -> Result<(Expression, &'a [Leaf]), ReadError>
-    ensures { Gives (λ x. (expression_view x.0, x.1.now)) result (primary_at text.now (array_at text.now room) (bracket_at text.now room) leaves.now) }
+    ensures { Reads result (within primary_at text.now room leaves.now) }
 {
     if starts(&NAMES, leaves) {
         let (leaf, rest) = token(&NAMES, leaves)?;
@@ -103,7 +104,7 @@ fn unary<'a>(
     room: u32,
     leaves: &'a [Leaf],
 ) -> Result<(Expression, &'a [Leaf]), ReadError>
-    ensures { Gives (λ x. (expression_view x.0, x.1.now)) result (unary_at text.now (array_at text.now room) (bracket_at text.now room) leaves.now) }
+    ensures { Reads result (within unary_at text.now room leaves.now) }
 {
     let (receiver, rest) = primary(alloc, text, room, leaves)?;
     let (receiver, rest) = unary_messages(alloc, text, receiver, rest)?;
@@ -120,7 +121,7 @@ fn binary_message<'a>(
     receiver: Expression,
     leaves: &'a [Leaf],
 ) -> Result<(Expression, &'a [Leaf]), ReadError>
-    ensures { Gives (λ x. (expression_view x.0, x.1.now)) result (operations_step text.now (array_at text.now room) (bracket_at text.now room) (expression_view receiver) leaves.now) }
+    ensures { Reads result (within operations_step text.now room (expression_view receiver) leaves.now) }
 {
     let (operator, rest) = token(&OPERATORS, leaves)?;
     let (argument, rest) = unary(alloc, text, room, rest)?;
@@ -137,7 +138,7 @@ fn binary_messages<'a>(
     first: Expression,
     leaves: &'a [Leaf],
 ) -> Result<(Expression, &'a [Leaf]), ReadError>
-    ensures { Gives (λ x. (expression_view x.0, x.1.now)) result (operations_at text.now (array_at text.now room) (bracket_at text.now room) (expression_view first) leaves.now) }
+    ensures { Reads result (within operations_at text.now room (expression_view first) leaves.now) }
 {
     let mut receiver = first;
     let mut rest = leaves;
@@ -158,7 +159,7 @@ fn binary<'a>(
     room: u32,
     leaves: &'a [Leaf],
 ) -> Result<(Expression, &'a [Leaf]), ReadError>
-    ensures { Gives (λ x. (expression_view x.0, x.1.now)) result (binary_at text.now (array_at text.now room) (bracket_at text.now room) leaves.now) }
+    ensures { Reads result (within binary_at text.now room leaves.now) }
 {
     let (receiver, rest) = primary(alloc, text, room, leaves)?;
     let (receiver, rest) = unary_messages(alloc, text, receiver, rest)?;
@@ -176,7 +177,7 @@ fn keyword_part<'a>(
     parts: Parts,
     leaves: &'a [Leaf],
 ) -> Result<(Parts, &'a [Leaf]), ReadError>
-    ensures { Gives (λ x. (parts_view x.0, x.1.now)) result (parts_step text.now (array_at text.now room) (bracket_at text.now room) (parts_view parts) leaves.now) }
+    ensures { ReadsParts result (within parts_step text.now room (parts_view parts) leaves.now) }
 {
     let (keyword, rest) = token(&KEYWORDS, leaves)?;
     let (argument, rest) = binary(alloc, text, room, rest)?;
@@ -193,7 +194,7 @@ fn keyword_parts<'a>(
     first: Parts,
     leaves: &'a [Leaf],
 ) -> Result<(Parts, &'a [Leaf]), ReadError>
-    ensures { Gives (λ x. (parts_view x.0, x.1.now)) result (parts_at text.now (array_at text.now room) (bracket_at text.now room) (parts_view first) leaves.now) }
+    ensures { ReadsParts result (within parts_at text.now room (parts_view first) leaves.now) }
 {
     let mut parts = first;
     let mut rest = leaves;
@@ -215,7 +216,7 @@ fn messages<'a>(
     receiver: Expression,
     leaves: &'a [Leaf],
 ) -> Result<(Expression, &'a [Leaf]), ReadError>
-    ensures { Gives (λ x. (expression_view x.0, x.1.now)) result (messages_at text.now (array_at text.now room) (bracket_at text.now room) (expression_view receiver) leaves.now) }
+    ensures { Reads result (within messages_at text.now room (expression_view receiver) leaves.now) }
 {
     let (receiver, rest) = unary_messages(alloc, text, receiver, leaves)?;
     let (receiver, rest) = binary_messages(alloc, text, room, receiver, rest)?;
@@ -233,7 +234,7 @@ fn message<'a>(
     cascade: Expression,
     leaves: &'a [Leaf],
 ) -> Result<(Expression, &'a [Leaf]), ReadError>
-    ensures { Gives (λ x. (expression_view x.0, x.1.now)) result (message_at text.now (array_at text.now room) (bracket_at text.now room) (expression_view cascade) leaves.now) }
+    ensures { Reads result (within message_at text.now room (expression_view cascade) leaves.now) }
 {
     if starts(&NAMES, leaves) {
         with_unary(alloc, text, cascade, leaves)
@@ -258,7 +259,7 @@ fn next_message<'a>(
     cascade: Expression,
     leaves: &'a [Leaf],
 ) -> Result<(Expression, &'a [Leaf]), ReadError>
-    ensures { Gives (λ x. (expression_view x.0, x.1.now)) result (cascade_step text.now (array_at text.now room) (bracket_at text.now room) (expression_view cascade) leaves.now) }
+    ensures { Reads result (within cascade_step text.now room (expression_view cascade) leaves.now) }
 {
     let (_semicolon, rest) = token(&[Kind::Semicolon], leaves)?;
     message(alloc, text, room, cascade, rest)
@@ -274,7 +275,7 @@ fn next_messages<'a>(
     first: Expression,
     leaves: &'a [Leaf],
 ) -> Result<(Expression, &'a [Leaf]), ReadError>
-    ensures { Gives (λ x. (expression_view x.0, x.1.now)) result (cascades_at text.now (array_at text.now room) (bracket_at text.now room) (expression_view first) leaves.now) }
+    ensures { Reads result (within cascades_at text.now room (expression_view first) leaves.now) }
 {
     let mut cascade = first;
     let mut rest = leaves;
@@ -296,7 +297,7 @@ fn sends<'a>(
     receiver: Expression,
     leaves: &'a [Leaf],
 ) -> Result<(Expression, &'a [Leaf]), ReadError>
-    ensures { Gives (λ x. (expression_view x.0, x.1.now)) result (sends_at text.now (array_at text.now room) (bracket_at text.now room) (expression_view receiver) leaves.now) }
+    ensures { Reads result (within sends_at text.now room (expression_view receiver) leaves.now) }
 {
     if !begins_message(leaves) {
         return Ok((receiver, leaves));
@@ -314,7 +315,7 @@ fn cascade<'a>(
     room: u32,
     leaves: &'a [Leaf],
 ) -> Result<(Expression, &'a [Leaf]), ReadError>
-    ensures { Gives (λ x. (expression_view x.0, x.1.now)) result (cascade_at text.now (array_at text.now room) (bracket_at text.now room) leaves.now) }
+    ensures { Reads result (within cascade_at text.now room leaves.now) }
 {
     let (receiver, rest) = primary(alloc, text, room, leaves)?;
     let (sent, rest) = sends(alloc, text, room, receiver, rest)?;
@@ -330,7 +331,7 @@ fn expression<'a>(
     room: u32,
     leaves: &'a [Leaf],
 ) -> Result<(Expression, &'a [Leaf]), ReadError>
-    ensures { Gives (λ x. (expression_view x.0, x.1.now)) result (expression_at text.now (array_at text.now room) (bracket_at text.now room) leaves.now) }
+    ensures { Reads result (within expression_at text.now room leaves.now) }
 {
     let (names, rest) = targets(alloc, text, leaves)?;
     let (value, rest) = cascade(alloc, text, room, rest)?;
@@ -347,7 +348,7 @@ fn statement<'a>(
     body: Body,
     leaves: &'a [Leaf],
 ) -> Result<(Body, &'a [Leaf]), ReadError>
-    ensures { Gives (λ x. (body_view x.0, x.1.now)) result (statement_step text.now (array_at text.now room) (bracket_at text.now room) (body_view body) leaves.now) }
+    ensures { ReadsBody result (within statement_step text.now room (body_view body) leaves.now) }
 {
     if starts(&[Kind::Return], leaves) {
         let (_return, rest) = token(&[Kind::Return], leaves)?;
@@ -371,7 +372,7 @@ fn all_statements<'a>(
     first: Body,
     leaves: &'a [Leaf],
 ) -> Result<(Body, &'a [Leaf]), ReadError>
-    ensures { Gives (λ x. (body_view x.0, x.1.now)) result (body_at text.now (array_at text.now room) (bracket_at text.now room) (body_view first) leaves.now) }
+    ensures { ReadsBody result (within body_at text.now room (body_view first) leaves.now) }
 {
     let mut body = first;
     let mut rest = leaves;
@@ -392,7 +393,7 @@ pub fn statements<'a>(
     room: u32,
     leaves: &'a [Leaf],
 ) -> Result<(StatementList, &'a [Leaf]), ReadError>
-    ensures { Gives (λ x. (statements_view x.0.items, x.1.now)) result (statements_at text.now (array_at text.now room) (bracket_at text.now room) leaves.now) }
+    ensures { ReadsStatements result (within statements_at text.now room leaves.now) }
 {
     let (body, rest) = all_statements(alloc, text, room, no_statements(alloc), leaves)?;
     Ok((body.statements, rest))
@@ -408,7 +409,7 @@ fn behind_arguments<'a>(
     names: NameList,
     leaves: &'a [Leaf],
 ) -> Result<(Expression, &'a [Leaf]), ReadError>
-    ensures { Gives (λ x. (expression_view x.0, x.1.now)) result (argument_body_at text.now (array_at text.now room) (bracket_at text.now room) (names_view names.items) leaves.now) }
+    ensures { Reads result (within argument_body_at text.now room (names_view names.items) leaves.now) }
 {
     if starts(&[Kind::Bar], leaves) {
         let (_bar, rest) = token(&[Kind::Bar], leaves)?;
@@ -428,7 +429,7 @@ fn block<'a>(
     room: u32,
     leaves: &'a [Leaf],
 ) -> Result<(Expression, &'a [Leaf]), ReadError>
-    ensures { Gives (λ x. (expression_view x.0, x.1.now)) result (block_at text.now (array_at text.now room) (bracket_at text.now room) leaves.now) }
+    ensures { Reads result (within block_at text.now room leaves.now) }
 {
     if starts(&[Kind::Colon], leaves) {
         let (first, rest) = parameter(alloc, text, Vec::new(alloc), leaves)?;

@@ -1,9 +1,12 @@
 //! Literals.
 
-ghost use Rattle.std.specs.Prelude.{◌≡◌, ◌∷◌, [], false, drop, length, IfOk};
+ghost use Rattle.std.specs.Prelude.{◌≡◌, ◌∷◌, [], false, drop, IfOk};
 ghost use Rattle.st_tree.specs.Views.{content_view, element_view, elements_view, no_elements};
 ghost use Rattle.st_grammar.specs.Trees.{undoubled, between_quotes, word_content, content_of, constant_at};
-ghost use Rattle.st_grammar.specs.Reading.{Gives, Fails, stop, joined_step, joined_at, keyword_symbol_at, constant_element_at, nested_at, element_at, elements_step, elements_at, array_at};
+ghost use Rattle.st_grammar.specs.Reading.{Gives, joined_step, joined_at, keyword_symbol_at};
+ghost use Rattle.st_grammar.specs.Reading.{constant_element_at, nested_at, element_at, elements_step};
+ghost use Rattle.st_grammar.specs.Reading.{elements_at, array_at};
+ghost use Rattle.st_parse.specs.Answers.{ReadsLiteral, ReadsArray, nested};
 
 use st_grammar::leaf::{Kind, Leaf, bytes_of};
 use st_grammar::read::{ReadError, starts, token};
@@ -126,7 +129,7 @@ pub fn constant_element<'a>(
     kinds: &[Kind],
     leaves: &'a [Leaf],
 ) -> Result<(Element, &'a [Leaf]), ReadError>
-    ensures { Gives (λ x. (element_view x.0, x.1.now)) result (constant_element_at text.now kinds.now leaves.now) }
+    ensures { ReadsLiteral result (constant_element_at text.now kinds.now leaves.now) }
 {
     let (leaf, rest) = token(kinds, leaves)?;
     Ok((constant(alloc, text, leaf)?, rest))
@@ -172,7 +175,7 @@ fn keyword_symbol<'a>(
     text: &[u8],
     leaves: &'a [Leaf],
 ) -> Result<(Element, &'a [Leaf]), ReadError>
-    ensures { Gives (λ x. (element_view x.0, x.1.now)) result (keyword_symbol_at text.now leaves.now) }
+    ensures { ReadsLiteral result (keyword_symbol_at text.now leaves.now) }
 {
     let (leaf, rest) = token(&FIRST_KEYWORDS, leaves)?;
     let first = bytes_of(text, leaf.token).to_vec(alloc)?;
@@ -192,7 +195,7 @@ pub fn nested<'a>(
     kinds: &[Kind],
     leaves: &'a [Leaf],
 ) -> Result<(Element, &'a [Leaf]), ReadError>
-    ensures { Gives (λ x. (element_view x.0, x.1.now)) result (nested_at text.now (array_at text.now room) kinds.now leaves.now) }
+    ensures { ReadsLiteral result (nested nested_at text.now room kinds.now leaves.now) }
 {
     let (leaf, rest) = token(kinds, leaves)?;
     let (elements, rest) = array(alloc, text, room, rest)?;
@@ -210,7 +213,7 @@ fn element<'a>(
     room: u32,
     leaves: &'a [Leaf],
 ) -> Result<(Element, &'a [Leaf]), ReadError>
-    ensures { Gives (λ x. (element_view x.0, x.1.now)) result (element_at text.now (array_at text.now room) leaves.now) }
+    ensures { ReadsLiteral result (nested element_at text.now room leaves.now) }
 {
     if starts(&PLAIN, leaves) {
         constant_element(alloc, text, &PLAIN, leaves)
@@ -228,14 +231,14 @@ fn one_more<'a>(
     alloc: Global,
     text: &[u8],
     room: u32,
-    mut elements: ElementList,
+    mut list: ElementList,
     leaves: &'a [Leaf],
 ) -> Result<(ElementList, &'a [Leaf]), ReadError>
-    ensures { Gives (λ x. (elements_view x.0.items, x.1.now)) result (elements_step text.now (array_at text.now room) (elements_view elements.items) leaves.now) }
+    ensures { ReadsArray result (nested elements_step text.now room (elements_view list.items) leaves.now) }
 {
     let (element, rest) = element(alloc, text, room, leaves)?;
-    elements.push(element)?;
-    Ok((elements, rest))
+    list.push(element)?;
+    Ok((list, rest))
 }
 
 /// Elements, as long as one stands first.
@@ -247,7 +250,7 @@ fn elements<'a>(
     room: u32,
     leaves: &'a [Leaf],
 ) -> Result<(ElementList, &'a [Leaf]), ReadError>
-    ensures { Gives (λ x. (elements_view x.0.items, x.1.now)) result (elements_at text.now (array_at text.now room) no_elements leaves.now) }
+    ensures { ReadsArray result (nested elements_at text.now room no_elements leaves.now) }
 {
     let mut elements = Vec::new(alloc);
     let mut rest = leaves;
@@ -268,7 +271,7 @@ fn array<'a>(
     room: u32,
     leaves: &'a [Leaf],
 ) -> Result<(ElementList, &'a [Leaf]), ReadError>
-    ensures { Gives (λ x. (elements_view x.0.items, x.1.now)) result (array_at text.now room leaves.now) }
+    ensures { ReadsArray result (array_at text.now room leaves.now) }
 {
     if room == 0 {
         return Err(ReadError::too_deep(leaves));

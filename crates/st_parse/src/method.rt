@@ -1,11 +1,15 @@
 //! Methods. The functions here read as those on expressions do.
 
-ghost use Rattle.std.specs.Prelude.{◌≡◌, ◌∷◌, [], Some, None};
+ghost use Rattle.std.specs.Prelude.{◌≡◌, ◌∷◌, []};
 ghost use Rattle.st_tree.specs.Views.{names_view, method_view};
 ghost use Rattle.st_grammar.specs.Faults.{most};
 ghost use Rattle.st_grammar.specs.Trees.{number_of};
-ghost use Rattle.st_grammar.specs.Reading.{Gives, Fails, pattern_step, keyword_names_at, pattern_at, unary_pattern_at, binary_pattern_at, keyword_pattern_at, name_step, name_list_at, temporaries_at, primitive_at, options_at, temporaries_first_at, primitive_first_at, method_at, whole_at, end_at};
+ghost use Rattle.st_grammar.specs.Reading.{Gives, pattern_step, keyword_names_at, pattern_at};
+ghost use Rattle.st_grammar.specs.Reading.{unary_pattern_at, binary_pattern_at, keyword_pattern_at};
+ghost use Rattle.st_grammar.specs.Reading.{name_step, name_list_at, temporaries_at, primitive_at, options_at};
+ghost use Rattle.st_grammar.specs.Reading.{temporaries_first_at, primitive_first_at, method_at, whole_at};
 ghost use Rattle.st_parse.specs.Parsed.{pattern_view, options_view};
+ghost use Rattle.st_parse.specs.Answers.{ReadsNames, ReadsPattern};
 
 use crate::expression::statements;
 use crate::kinds::{KEYWORDS, NAMES, OPERATORS};
@@ -40,7 +44,7 @@ fn keyword_name<'a>(
     pattern: Pattern,
     leaves: &'a [Leaf],
 ) -> Result<(Pattern, &'a [Leaf]), ReadError>
-    ensures { Gives (λ x. (pattern_view x.0, x.1.now)) result (pattern_step text.now (pattern_view pattern) leaves.now) }
+    ensures { ReadsPattern result (pattern_step text.now (pattern_view pattern) leaves.now) }
 {
     let (keyword, rest) = token(&KEYWORDS, leaves)?;
     let (leaf, rest) = token(&NAMES, rest)?;
@@ -63,7 +67,7 @@ fn keyword_names<'a>(
     first: Pattern,
     leaves: &'a [Leaf],
 ) -> Result<(Pattern, &'a [Leaf]), ReadError>
-    ensures { Gives (λ x. (pattern_view x.0, x.1.now)) result (keyword_names_at text.now (pattern_view first) leaves.now) }
+    ensures { ReadsPattern result (keyword_names_at text.now (pattern_view first) leaves.now) }
 {
     let mut pattern = first;
     let mut rest = leaves;
@@ -82,7 +86,7 @@ fn unary_pattern<'a>(
     text: &[u8],
     leaves: &'a [Leaf],
 ) -> Result<(Pattern, &'a [Leaf]), ReadError>
-    ensures { Gives (λ x. (pattern_view x.0, x.1.now)) result (unary_pattern_at text.now leaves.now) }
+    ensures { ReadsPattern result (unary_pattern_at text.now leaves.now) }
 {
     let (leaf, rest) = token(&NAMES, leaves)?;
     let selector = bytes_of(text, leaf.token).to_vec(alloc)?;
@@ -101,7 +105,7 @@ fn binary_pattern<'a>(
     text: &[u8],
     leaves: &'a [Leaf],
 ) -> Result<(Pattern, &'a [Leaf]), ReadError>
-    ensures { Gives (λ x. (pattern_view x.0, x.1.now)) result (binary_pattern_at text.now leaves.now) }
+    ensures { ReadsPattern result (binary_pattern_at text.now leaves.now) }
 {
     let (operator, rest) = token(&OPERATORS, leaves)?;
     let (leaf, rest) = token(&NAMES, rest)?;
@@ -122,7 +126,7 @@ fn keyword_pattern<'a>(
     text: &[u8],
     leaves: &'a [Leaf],
 ) -> Result<(Pattern, &'a [Leaf]), ReadError>
-    ensures { Gives (λ x. (pattern_view x.0, x.1.now)) result (keyword_pattern_at text.now leaves.now) }
+    ensures { ReadsPattern result (keyword_pattern_at text.now leaves.now) }
 {
     let none = Pattern {
         selector: Vec::new(alloc),
@@ -139,7 +143,7 @@ fn any_pattern<'a>(
     text: &[u8],
     leaves: &'a [Leaf],
 ) -> Result<(Pattern, &'a [Leaf]), ReadError>
-    ensures { Gives (λ x. (pattern_view x.0, x.1.now)) result (pattern_at text.now leaves.now) }
+    ensures { ReadsPattern result (pattern_at text.now leaves.now) }
 {
     if starts(&NAMES, leaves) {
         unary_pattern(alloc, text, leaves)
@@ -158,7 +162,7 @@ fn one_name<'a>(
     mut names: NameList,
     leaves: &'a [Leaf],
 ) -> Result<(NameList, &'a [Leaf]), ReadError>
-    ensures { Gives (λ x. (names_view x.0.items, x.1.now)) result (name_step text.now (names_view names.items) leaves.now) }
+    ensures { ReadsNames result (name_step text.now (names_view names.items) leaves.now) }
 {
     let (leaf, rest) = token(&NAMES, leaves)?;
     names.push(name_of(alloc, text, leaf)?)?;
@@ -173,7 +177,7 @@ fn all_names<'a>(
     first: NameList,
     leaves: &'a [Leaf],
 ) -> Result<(NameList, &'a [Leaf]), ReadError>
-    ensures { Gives (λ x. (names_view x.0.items, x.1.now)) result (name_list_at text.now (names_view first.items) leaves.now) }
+    ensures { ReadsNames result (name_list_at text.now (names_view first.items) leaves.now) }
 {
     let mut names = first;
     let mut rest = leaves;
@@ -192,7 +196,7 @@ fn temporaries<'a>(
     text: &[u8],
     leaves: &'a [Leaf],
 ) -> Result<(NameList, &'a [Leaf]), ReadError>
-    ensures { Gives (λ x. (names_view x.0.items, x.1.now)) result (temporaries_at text.now leaves.now) }
+    ensures { ReadsNames result (temporaries_at text.now leaves.now) }
 {
     let (_bar, rest) = token(&[Kind::Bar], leaves)?;
     let (names, rest) = all_names(alloc, text, Vec::new(alloc), rest)?;

@@ -3,8 +3,9 @@
 ghost use Rattle.std.specs.Prelude.{◌≡◌, IfOk, MatchOption};
 ghost use Rattle.st_tree.specs.Views.{name_view, names_view, expression_view};
 ghost use Rattle.st_grammar.specs.Trees.{name_at};
-ghost use Rattle.st_grammar.specs.Reading.{Gives, Fails, assigned_to, targets_at, parameters_step, parameters_at};
+ghost use Rattle.st_grammar.specs.Reading.{assigned_to, targets_at, parameters_step, parameters_at};
 ghost use Rattle.st_parse.specs.Phrases.{NoTarget, BeginsWithTarget};
+ghost use Rattle.st_parse.specs.Answers.{ReadsNames, Makes};
 
 use crate::kinds::NAMES;
 use st_grammar::leaf::{Kind, Leaf, bytes_of};
@@ -52,7 +53,7 @@ pub fn targets<'a>(
 
 /// A value that is assigned to names, the last one first.
 pub fn assigned(alloc: Global, names: NameList, value: Expression) -> Result<Expression, AllocError>
-    ensures { IfOk result (λ e. expression_view e ≡ assigned_to (names_view names.items) (expression_view value)) }
+    ensures { IfOk result (Makes (assigned_to (names_view names.items) (expression_view value))) }
 {
     let mut names = names;
     let mut value = value;
@@ -70,7 +71,7 @@ pub fn parameter<'a>(
     mut names: NameList,
     leaves: &'a [Leaf],
 ) -> Result<(NameList, &'a [Leaf]), ReadError>
-    ensures { Gives (λ x. (names_view x.0.items, x.1.now)) result (parameters_step text.now (names_view names.items) leaves.now) }
+    ensures { ReadsNames result (parameters_step text.now (names_view names.items) leaves.now) }
 {
     let (_colon, rest) = token(&[Kind::Colon], leaves)?;
     let (leaf, rest) = token(&NAMES, rest)?;
@@ -86,7 +87,7 @@ pub fn parameters<'a>(
     first: NameList,
     leaves: &'a [Leaf],
 ) -> Result<(NameList, &'a [Leaf]), ReadError>
-    ensures { Gives (λ x. (names_view x.0.items, x.1.now)) result (parameters_at text.now (names_view first.items) leaves.now) }
+    ensures { ReadsNames result (parameters_at text.now (names_view first.items) leaves.now) }
 {
     let mut names = first;
     let mut rest = leaves;

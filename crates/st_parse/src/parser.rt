@@ -1,9 +1,11 @@
 //! The tree of a method's text, or its first fault.
 
-ghost use Rattle.std.specs.Prelude.{◌≡◌, ◌<◌, ◌≤◌, ◌-◌, ◌^◌, IfOk, IfErr, Some, length, drop};
+ghost use Rattle.std.specs.Prelude.{◌≡◌, ◌<◌, ◌≤◌, ◌-◌, ◌^◌, IfOk, IfErr, Some};
+ghost use Rattle.std.specs.Prelude.{length, drop};
 ghost use Rattle.st_scan.specs.Scans.{AreSpans};
 ghost use Rattle.st_tree.specs.Views.{MethodView, method_view};
-ghost use Rattle.st_grammar.specs.Texts.{Means, IsFaultOf, IsOnly, bad_number, words, place_at, is_before, first_fault};
+ghost use Rattle.st_grammar.specs.Texts.{Means, IsFaultOf, IsOnly, bad_number, words, place_at, is_before};
+ghost use Rattle.st_grammar.specs.Texts.{first_fault};
 
 use crate::method::whole;
 use st_grammar::leaf::{Kind, Leaf, leaves_of};
@@ -33,7 +35,7 @@ fn bad_number(place: u32) -> Leaf
 fn words(alloc: Global, text: &[u8], scanned: &Scanned) -> Result<Vec<Leaf>, AllocError>
     requires spans { AreSpans 0 scanned.now.tokens.items (length text.now) }
     requires short { length text.now < 2 ^ 32 - 1 }
-    ensures { IfOk result (λ leaves. leaves.items ≡ words text.now scanned.now.tokens.items scanned.now.fault) }
+    ensures { IfOk result (λ l. l.items ≡ words text.now scanned.now.tokens.items scanned.now.fault) }
 {
     let mut leaves = leaves_of(alloc, text, &scanned.tokens)?;
     if let Some(fault) = scanned.fault {

@@ -1,11 +1,13 @@
 //! Messages, and what an expression is with one more.
 
 ghost use Rattle.std.specs.Prelude.{◌≡◌, ◌++◌, IfOk};
-ghost use Rattle.st_tree.specs.Views.{is_super, expression_view, expressions_view, with_sent, with_expression, no_expressions, expression};
-ghost use Rattle.st_grammar.specs.Trees.{bytes, sent, sent_if};
+ghost use Rattle.st_tree.specs.Views.{is_super, expression_view, expressions_view};
 ghost use Rattle.st_grammar.specs.Leaves.{among};
-ghost use Rattle.st_grammar.specs.Reading.{Gives, Fails, stop, first, message_starts, checked_at, names_step, names_at, unary_message_at, no_parts_yet};
+ghost use Rattle.st_grammar.specs.Reading.{first, message_starts, checked_at, names_step, names_at};
+ghost use Rattle.st_grammar.specs.Reading.{unary_message_at, no_parts_yet};
 ghost use Rattle.st_parse.specs.Phrases.{parts_view};
+ghost use Rattle.st_parse.specs.Answers.{Reads, Makes, MakesParts, with_keyword, sent_message, sent_parts};
+ghost use Rattle.st_parse.specs.Answers.{sent_operator, also_parts, also_operator, argument_of};
 
 use crate::kinds::{MESSAGE_STARTS, NAMES};
 use st_grammar::leaf::{Leaf, bytes_of};
@@ -38,7 +40,7 @@ pub fn with_part(
     keyword: Leaf,
     argument: Expression,
 ) -> Result<Parts, AllocError>
-    ensures { IfOk result (λ p. parts_view p ≡ record { selector = parts.selector.items ++ bytes text.now keyword; arguments = with_expression (expressions_view parts.arguments.items) (expression_view argument) }) }
+    ensures { IfOk result (MakesParts (with_keyword text.now parts keyword argument)) }
 {
     let mut selector = parts.selector;
     let mut arguments = parts.arguments;
@@ -52,36 +54,32 @@ pub fn with_part(
 
 /// One message to a receiver.
 #[tactic(auto, using(st_tree::proofs::Views::views))]
-fn send(
-    alloc: Global,
-    receiver: Expression,
-    selector: Text,
-    arguments: ExpressionList,
-) -> Result<Expression, AllocError>
-    ensures { IfOk result (λ e. expression_view e ≡ sent (expression_view receiver) selector.items (expressions_view arguments.items)) }
+fn send(alloc: Global, receiver: Expression, message: Message) -> Result<Expression, AllocError>
+    ensures { IfOk result (Makes (sent_message receiver message)) }
 {
     let mut messages: MessageList = Vec::new(alloc);
-    messages.push(Message {
-        selector,
-        arguments,
-    })?;
+    messages.push(message)?;
     Expression::send(alloc, receiver, messages)
 }
 
 /// A keyword message to a receiver, where there are arguments.
 #[tactic(auto, using(st_tree::proofs::Views::views))]
 pub fn send_if(alloc: Global, receiver: Expression, parts: Parts) -> Result<Expression, AllocError>
-    ensures { IfOk result (λ e. expression_view e ≡ sent_if (expression_view receiver) parts.selector.items (expressions_view parts.arguments.items)) }
+    ensures { IfOk result (Makes (sent_parts receiver parts)) }
 {
     if parts.arguments.is_empty() {
         return Ok(receiver);
     }
-    send(alloc, receiver, parts.selector, parts.arguments)
+    let message = Message {
+        selector: parts.selector,
+        arguments: parts.arguments,
+    };
+    send(alloc, receiver, message)
 }
 
 /// A list of one expression.
 fn one(alloc: Global, e: Expression) -> Result<ExpressionList, AllocError>
-    ensures { IfOk result (λ es. expressions_view es.items ≡ expression (expression_view e) no_expressions) }
+    ensures { IfOk result (λ l. expressions_view l.items ≡ argument_of e) }
 {
     let mut list = Vec::new(alloc);
     list.push(e)?;
@@ -96,11 +94,15 @@ pub fn operation(
     operator: Leaf,
     argument: Expression,
 ) -> Result<Expression, AllocError>
-    ensures { IfOk result (λ e. expression_view e ≡ sent (expression_view receiver) (bytes text.now operator) (expression (expression_view argument) no_expressions)) }
+    ensures { IfOk result (Makes (sent_operator text.now receiver operator argument)) }
 {
     let selector = bytes_of(text, operator.token).to_vec(alloc)?;
     let arguments = one(alloc, argument)?;
-    send(alloc, receiver, selector, arguments)
+    let message = Message {
+        selector,
+        arguments,
+    };
+    send(alloc, receiver, message)
 }
 
 /// Whether this is a variable `super`, which stands only before a message.
@@ -116,7 +118,7 @@ fn is_super(e: &Expression) -> bool
 /// An expression that is no `super` without a message.
 #[tactic(auto, unfolding(st_grammar::specs::Reading::checked_at))]
 pub fn checked<'a>(e: Expression, leaves: &'a [Leaf]) -> Result<(Expression, &'a [Leaf]), ReadError>
-    ensures { Gives (λ x. (expression_view x.0, x.1.now)) result (checked_at (expression_view e) leaves.now) }
+    ensures { Reads result (checked_at (expression_view e) leaves.now) }
 {
     if is_super(&e) {
         return Err(ReadError::expected(leaves));
@@ -132,11 +134,15 @@ fn unary_message<'a>(
     receiver: Expression,
     leaves: &'a [Leaf],
 ) -> Result<(Expression, &'a [Leaf]), ReadError>
-    ensures { Gives (λ x. (expression_view x.0, x.1.now)) result (names_step text.now (expression_view receiver) leaves.now) }
+    ensures { Reads result (names_step text.now (expression_view receiver) leaves.now) }
 {
     let (leaf, rest) = token(&NAMES, leaves)?;
     let selector = bytes_of(text, leaf.token).to_vec(alloc)?;
-    Ok((send(alloc, receiver, selector, Vec::new(alloc))?, rest))
+    let message = Message {
+        selector,
+        arguments: Vec::new(alloc),
+    };
+    Ok((send(alloc, receiver, message)?, rest))
 }
 
 /// A receiver with all unary messages that follow it.
@@ -147,7 +153,7 @@ pub fn unary_messages<'a>(
     first: Expression,
     leaves: &'a [Leaf],
 ) -> Result<(Expression, &'a [Leaf]), ReadError>
-    ensures { Gives (λ x. (expression_view x.0, x.1.now)) result (names_at text.now (expression_view first) leaves.now) }
+    ensures { Reads result (names_at text.now (expression_view first) leaves.now) }
 {
     let mut receiver = first;
     let mut rest = leaves;
@@ -174,7 +180,7 @@ pub fn with_unary<'a>(
     cascade: Expression,
     leaves: &'a [Leaf],
 ) -> Result<(Expression, &'a [Leaf]), ReadError>
-    ensures { Gives (λ x. (expression_view x.0, x.1.now)) result (unary_message_at text.now (expression_view cascade) leaves.now) }
+    ensures { Reads result (unary_message_at text.now (expression_view cascade) leaves.now) }
 {
     let (leaf, rest) = token(&NAMES, leaves)?;
     let selector = bytes_of(text, leaf.token).to_vec(alloc)?;
@@ -194,7 +200,7 @@ pub fn with_operation(
     operator: Leaf,
     argument: Expression,
 ) -> Result<Expression, AllocError>
-    ensures { IfOk result (λ e. expression_view e ≡ with_sent (expression_view cascade) (bytes text.now operator) (expression (expression_view argument) no_expressions)) }
+    ensures { IfOk result (Makes (also_operator text.now cascade operator argument)) }
 {
     let selector = bytes_of(text, operator.token).to_vec(alloc)?;
     let arguments = one(alloc, argument)?;
@@ -207,7 +213,7 @@ pub fn with_operation(
 
 /// A cascade with one more keyword message.
 pub fn with_parts(cascade: Expression, parts: Parts) -> Result<Expression, AllocError>
-    ensures { IfOk result (λ e. expression_view e ≡ with_sent (expression_view cascade) parts.selector.items (expressions_view parts.arguments.items)) }
+    ensures { IfOk result (Makes (also_parts cascade parts)) }
 {
     let message = Message {
         selector: parts.selector,

@@ -1,4 +1,4 @@
-mod Beginning
-mod Instances
+pub mod Beginning
+pub mod Instances
 pub mod Needing
 pub mod Room

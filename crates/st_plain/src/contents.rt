@@ -44,7 +44,8 @@ impl Contents {
     /// No objects under a head, and nothing held.
     pub fn new(alloc: Global, head: Head) -> Result<Contents, AllocError>
         requires { head.capacity.words ≤ 1048576 }
-        ensures empty { IfOk result (λ c. plain_view c ≡ empty_view (head_of head.capacity head.globals head.symbols)) }
+        ensures empty { let said = head_of head.capacity head.globals head.symbols in
+            IfOk result (λ c. plain_view c ≡ empty_view said) }
         ensures extent { IfOk result (λ c. extent_of c.objects ≡ unused head.capacity.words) }
         ensures spare { IfOk result (λ c. extent_of c.spare ≡ unused head.capacity.words) }
         ensures head { IfOk result (λ c. c.head ≡ head) }
@@ -64,7 +65,8 @@ impl Contents {
 
     /// Marks the roots and what the objects refer to, and no other name of an object.
     fn mark_needed(&mut self)
-        ensures marked { (n : ℕ) → n < self.old.objects.table_end → is_marked self.new.marks.names.items n ≡ is_needed (plain_view self.old) n }
+        ensures marked { (n : ℕ) → n < self.old.objects.table_end
+            → is_marked self.new.marks.names.items n ≡ is_needed (plain_view self.old) n }
         ensures rest { self.new ≡ record self.old { marks = self.new.marks } }
     {
         self.marks.clear(self.objects.table_end as usize);
@@ -77,10 +79,12 @@ impl Contents {
 
     /// Takes away each object that is no root and that no object refers to, and answers how many there were.
     pub fn drop_unneeded(&mut self) -> u32
-        ensures objects { (plain_view self.new).objects ≡ settled_table (plain_view self.old).objects (is_needed (plain_view self.old)) }
+        ensures objects { let old = plain_view self.old in
+            (plain_view self.new).objects ≡ settled_table old.objects (is_needed old) }
         ensures held { (plain_view self.new).held ≡ (plain_view self.old).held }
         ensures head { (plain_view self.new).head ≡ (plain_view self.old).head }
-        ensures gone { total_used one (plain_view self.new).objects + result ≡ total_used one (plain_view self.old).objects }
+        ensures gone { total_used one (plain_view self.new).objects + result
+            ≡ total_used one (plain_view self.old).objects }
         ensures long { AreLong self.old → AreLong self.new }
     {
         self.mark_needed();
@@ -101,7 +105,8 @@ impl Contents {
     fn free(&mut self, fields: u32, units: u32)
         requires long { AreLong self.old }
         requires small { 2 * fields + units ≤ 131066 }
-        requires fits { 2 * total_used words_of (plain_view self.old).objects + 2 * fields + units ≤ 2 * self.old.head.capacity.words }
+        requires fits { let used = total_used words_of (plain_view self.old).objects in
+            2 * used + 2 * fields + units ≤ 2 * self.old.head.capacity.words }
         ensures objects { (plain_view self.new).objects ≡ (plain_view self.old).objects }
         ensures fields_end { self.new.objects.next_field + fields ≤ length self.new.objects.pointers.items }
         ensures units_end { self.new.objects.next_unit + units ≤ length self.new.objects.units.items }
@@ -126,9 +131,11 @@ impl Contents {
         requires left { first_free (plain_view self.old).objects < 32768 }
         requires class { is_small (value class) ≡ false }
         requires makeable { IsMakeable (class.0 / 2) kind size literals }
-        requires words { total_used words_of (plain_view self.old).objects + words_of (fresh (class.0 / 2) kind size literals) ≤ self.old.head.capacity.words }
+        requires words { let used = total_used words_of (plain_view self.old).objects in
+            used + words_of (fresh (class.0 / 2) kind size literals) ≤ self.old.head.capacity.words }
         ensures pointer { value result ≡ Ref (first_free (plain_view self.old).objects) }
-        ensures objects { (plain_view self.new).objects ≡ placed (plain_view self.old).objects (fresh (class.0 / 2) kind size literals) }
+        ensures objects { let o = fresh (class.0 / 2) kind size literals in
+            (plain_view self.new).objects ≡ placed (plain_view self.old).objects o }
         ensures held { (plain_view self.new).held ≡ (plain_view self.old).held }
         ensures head { (plain_view self.new).head ≡ (plain_view self.old).head }
         ensures long { AreLong self.new }

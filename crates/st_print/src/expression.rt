@@ -3,11 +3,13 @@
 ghost use Rattle.std.specs.Prelude.{◌≡◌, ◌≤◌, ◌==◌, ◌++◌, not, length, OnOk};
 ghost use Rattle.std.specs.List.{prefix_len};
 ghost use Rattle.std.specs.Str.{byte};
-ghost use Rattle.st_tree.specs.Views.{names_view, expression_view, statements_view, messages_view, expressions_view, block};
+ghost use Rattle.st_tree.specs.Views.{names_view, expression_view, statements_view, messages_view};
 ghost use Rattle.st_tree.specs.Chains.{link_view, links_view};
-ghost use Rattle.st_print.specs.Words.{spaced, first_keyword, other_keywords};
-ghost use Rattle.st_print.specs.Printed.{parameter_words, parameters_words, return_words, placed, expression_words, statements_words, next_statements, messages_words, next_messages, message_words, keyword_words};
+ghost use Rattle.st_print.specs.Words.{first_keyword, other_keywords};
+ghost use Rattle.st_print.specs.Printed.{parameter_words, parameters_words, placed, statements_words};
+ghost use Rattle.st_print.specs.Printed.{next_statements, messages_words, next_messages};
 ghost use Rattle.st_print.specs.Chained.{before_link, behind_link, before_links, behind_links};
+ghost use Rattle.st_print.specs.Putting.{IsPut, block_words, statement_words, sent_words, keyword_parts};
 
 use crate::literal::literal;
 use crate::rank::{Rank, is_word, rank_of_link, wanted_by};
@@ -18,7 +20,7 @@ use std::alloc::{AllocError, Global};
 /// Puts what stands before an expression for one link.
 #[tactic(auto, using(crate::proofs::Spacing::spacing))]
 fn before_link(out: &mut Text, wanted: Rank, link: Link<'_>) -> Result<(), AllocError>
-    ensures { OnOk result (out.new.items ≡ out.old.items ++ spaced (before_link wanted (link_view link.entry))) }
+    ensures { OnOk result (IsPut (before_link wanted (link_view link.entry)) out.old out.new) }
 {
     if wanted.is_loose(rank_of_link(link)) {
         put(out, b"(")?;
@@ -36,7 +38,7 @@ fn before_link(out: &mut Text, wanted: Rank, link: Link<'_>) -> Result<(), Alloc
 /// Puts what stands before an expression for all links, from the outermost on.
 #[tactic(auto, using(crate::proofs::Spacing::spacing))]
 pub fn before_links(out: &mut Text, outer: Rank, links: &[Link<'_>]) -> Result<(), AllocError>
-    ensures { OnOk result (out.new.items ≡ out.old.items ++ spaced (before_links outer (links_view links.now))) }
+    ensures { OnOk result (IsPut (before_links outer (links_view links.now)) out.old out.new) }
 {
     let mut at = links.len();
     while at > 0 {
@@ -50,7 +52,7 @@ pub fn before_links(out: &mut Text, outer: Rank, links: &[Link<'_>]) -> Result<(
 /// Puts names, each with a colon before it.
 #[tactic(auto, using(crate::proofs::Spacing::spacing))]
 fn each_parameter(out: &mut Text, names: &[Name]) -> Result<(), AllocError>
-    ensures { OnOk result (out.new.items ≡ out.old.items ++ spaced (parameter_words (names_view names.now))) }
+    ensures { OnOk result (IsPut (parameter_words (names_view names.now)) out.old out.new) }
 {
     for name in names {
         put(out, b":")?;
@@ -62,7 +64,7 @@ fn each_parameter(out: &mut Text, names: &[Name]) -> Result<(), AllocError>
 /// Puts a block's names.
 #[tactic(auto, using(crate::proofs::Spacing::spacing))]
 fn parameters(out: &mut Text, names: &[Name]) -> Result<(), AllocError>
-    ensures { OnOk result (out.new.items ≡ out.old.items ++ spaced (parameters_words (names_view names.now))) }
+    ensures { OnOk result (IsPut (parameters_words (names_view names.now)) out.old out.new) }
 {
     if names.is_empty() {
         return Ok(());
@@ -98,7 +100,7 @@ pub fn expression(
     wanted: Rank,
     e: &Expression,
 ) -> Result<(), AllocError>
-    ensures { OnOk result (out.new.items ≡ out.old.items ++ spaced (placed wanted (expression_view e.now))) }
+    ensures { OnOk result (IsPut (placed wanted (expression_view e.now)) out.old out.new) }
 {
     let chain = e.chain(alloc)?;
     before_links(out, wanted, &chain.links)?;
@@ -122,7 +124,7 @@ fn behind_links(
     outer: Rank,
     links: &[Link<'_>],
 ) -> Result<(), AllocError>
-    ensures { OnOk result (out.new.items ≡ out.old.items ++ spaced (behind_links outer (links_view links.now))) }
+    ensures { OnOk result (IsPut (behind_links outer (links_view links.now)) out.old out.new) }
 {
     for at in 0..links.len() {
         behind_link(alloc, out, wanted_by(outer, &links[at + 1..]), links[at])?;
@@ -139,7 +141,7 @@ fn behind_link(
     wanted: Rank,
     link: Link<'_>,
 ) -> Result<(), AllocError>
-    ensures { OnOk result (out.new.items ≡ out.old.items ++ spaced (behind_link wanted (link_view link.entry))) }
+    ensures { OnOk result (IsPut (behind_link wanted (link_view link.entry)) out.old out.new) }
 {
     match link {
         Link::Send(sent) => messages(alloc, out, sent)?,
@@ -160,7 +162,7 @@ fn block(
     names: &[Name],
     body: &[Statement],
 ) -> Result<(), AllocError>
-    ensures { OnOk result (out.new.items ≡ out.old.items ++ spaced (expression_words (block (names_view names.now) (statements_view body.now)))) }
+    ensures { OnOk result (IsPut (block_words names.now body.now) out.old out.new) }
 {
     put(out, b"[")?;
     parameters(out, names)?;
@@ -173,7 +175,7 @@ fn block(
 #[cycle(printing)]
 #[tactic(auto, using(crate::proofs::Spacing::spacing))]
 fn statement(alloc: Global, out: &mut Text, s: &Statement) -> Result<(), AllocError>
-    ensures { OnOk result (out.new.items ≡ out.old.items ++ spaced (return_words s.now.returns ++ expression_words (expression_view s.now.value))) }
+    ensures { OnOk result (IsPut (statement_words s.now) out.old out.new) }
 {
     if s.returns {
         put(out, b"^")?;
@@ -186,7 +188,7 @@ fn statement(alloc: Global, out: &mut Text, s: &Statement) -> Result<(), AllocEr
 #[cycle(printing)]
 #[tactic(auto, using(crate::proofs::Spacing::spacing))]
 pub fn statements(alloc: Global, out: &mut Text, body: &[Statement]) -> Result<(), AllocError>
-    ensures { OnOk result (out.new.items ≡ out.old.items ++ spaced (statements_words (statements_view body.now))) }
+    ensures { OnOk result (IsPut (statements_words (statements_view body.now)) out.old out.new) }
 {
     if body.is_empty() {
         return Ok(());
@@ -200,7 +202,7 @@ pub fn statements(alloc: Global, out: &mut Text, body: &[Statement]) -> Result<(
 #[cycle(printing)]
 #[tactic(auto, using(crate::proofs::Spacing::spacing))]
 fn next_statements(alloc: Global, out: &mut Text, body: &[Statement]) -> Result<(), AllocError>
-    ensures { OnOk result (out.new.items ≡ out.old.items ++ spaced (next_statements (statements_view body.now))) }
+    ensures { OnOk result (IsPut (next_statements (statements_view body.now)) out.old out.new) }
 {
     for next in body {
         put(out, b".")?;
@@ -213,7 +215,7 @@ fn next_statements(alloc: Global, out: &mut Text, body: &[Statement]) -> Result<
 #[cycle(printing)]
 #[tactic(auto, using(crate::proofs::Spacing::spacing))]
 fn messages(alloc: Global, out: &mut Text, sent: &[Message]) -> Result<(), AllocError>
-    ensures { OnOk result (out.new.items ≡ out.old.items ++ spaced (messages_words (messages_view sent.now))) }
+    ensures { OnOk result (IsPut (messages_words (messages_view sent.now)) out.old out.new) }
 {
     if sent.is_empty() {
         return Ok(());
@@ -227,7 +229,7 @@ fn messages(alloc: Global, out: &mut Text, sent: &[Message]) -> Result<(), Alloc
 #[cycle(printing)]
 #[tactic(auto, using(crate::proofs::Spacing::spacing))]
 fn next_messages(alloc: Global, out: &mut Text, sent: &[Message]) -> Result<(), AllocError>
-    ensures { OnOk result (out.new.items ≡ out.old.items ++ spaced (next_messages (messages_view sent.now))) }
+    ensures { OnOk result (IsPut (next_messages (messages_view sent.now)) out.old out.new) }
 {
     for next in sent {
         put(out, b";")?;
@@ -240,7 +242,7 @@ fn next_messages(alloc: Global, out: &mut Text, sent: &[Message]) -> Result<(), 
 #[cycle(printing)]
 #[tactic(auto, using(crate::proofs::Spacing::spacing))]
 fn message(alloc: Global, out: &mut Text, m: &Message) -> Result<(), AllocError>
-    ensures { OnOk result (out.new.items ≡ out.old.items ++ spaced (message_words m.now.selector.items (expressions_view m.now.arguments.items))) }
+    ensures { OnOk result (IsPut (sent_words m.now) out.old out.new) }
 {
     let [first, ..] = m.arguments.as_slice() else {
         put(out, &m.selector)?;
@@ -265,7 +267,7 @@ fn keywords(
     selector: &[u8],
     arguments: &[Expression],
 ) -> Result<(), AllocError>
-    ensures { OnOk result (out.new.items ≡ out.old.items ++ spaced (keyword_words selector.now (expressions_view arguments.now))) }
+    ensures { OnOk result (IsPut (keyword_parts selector.now arguments.now) out.old out.new) }
 {
     let mut rest = selector;
     for argument in arguments {

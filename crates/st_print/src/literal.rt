@@ -2,8 +2,8 @@
 
 ghost use Rattle.std.specs.Prelude.{◌≡◌, ◌++◌, OnOk};
 ghost use Rattle.st_tree.specs.Views.{array, content_view, elements_view};
-ghost use Rattle.st_print.specs.Words.{spaced};
 ghost use Rattle.st_print.specs.Printed.{content_words, elements_words};
+ghost use Rattle.st_print.specs.Putting.{IsPut};
 
 use crate::words::{put, put_number, put_string, put_symbol};
 use st_tree::{Content, Element, Text};
@@ -13,7 +13,7 @@ use std::alloc::AllocError;
 #[cycle(literals)]
 #[tactic(auto, using(crate::proofs::Spacing::spacing, st_tree::proofs::Views::views))]
 pub fn literal(out: &mut Text, content: &Content) -> Result<(), AllocError>
-    ensures { OnOk result (out.new.items ≡ out.old.items ++ spaced (content_words (content_view content.now))) }
+    ensures { OnOk result (IsPut (content_words (content_view content.now)) out.old out.new) }
 {
     match content {
         Content::Number(number) => put_number(out, *number),
@@ -31,7 +31,7 @@ pub fn literal(out: &mut Text, content: &Content) -> Result<(), AllocError>
 #[cycle(literals)]
 #[tactic(auto, using(crate::proofs::Spacing::spacing))]
 fn array(out: &mut Text, elements: &[Element]) -> Result<(), AllocError>
-    ensures { OnOk result (out.new.items ≡ out.old.items ++ spaced (content_words (array (elements_view elements.now)))) }
+    ensures { OnOk result (IsPut (content_words (array (elements_view elements.now))) out.old out.new) }
 {
     put(out, b"#(")?;
     all_elements(out, elements)?;
@@ -43,7 +43,7 @@ fn array(out: &mut Text, elements: &[Element]) -> Result<(), AllocError>
 #[cycle(literals)]
 #[tactic(auto, using(crate::proofs::Spacing::spacing))]
 fn all_elements(out: &mut Text, elements: &[Element]) -> Result<(), AllocError>
-    ensures { OnOk result (out.new.items ≡ out.old.items ++ spaced (elements_words (elements_view elements.now))) }
+    ensures { OnOk result (IsPut (elements_words (elements_view elements.now)) out.old out.new) }
 {
     for element in elements {
         literal(out, &element.what)?;

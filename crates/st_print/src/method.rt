@@ -1,10 +1,13 @@
 //! Methods.
 
 ghost use Rattle.std.specs.Prelude.{◌≡◌, ◌++◌, drop, OnOk, IfOk};
-ghost use Rattle.st_tree.specs.Views.{names_view, content_view, expression_view, statements_view, method_view};
-ghost use Rattle.st_print.specs.Words.{spaced};
+ghost use Rattle.st_tree.specs.Views.{names_view, content_view, expression_view, statements_view};
+ghost use Rattle.st_tree.specs.Views.{method_view};
 ghost use Rattle.st_print.specs.Chained.{signed_content, signed_start};
-ghost use Rattle.st_print.specs.Printed.{pattern_words, keyword_pattern, names_words, temporaries_words, primitive_words, expression_words, statements_words, first_signed, apart, behind_pattern, options_words, printed};
+ghost use Rattle.st_print.specs.Printed.{pattern_words, keyword_pattern, names_words, temporaries_words};
+ghost use Rattle.st_print.specs.Printed.{primitive_words, expression_words, statements_words, first_signed};
+ghost use Rattle.st_print.specs.Printed.{printed};
+ghost use Rattle.st_print.specs.Putting.{IsPut, apart_words, rest_words};
 
 use crate::expression::{before_links, split_keyword, statements};
 use crate::rank::{Rank, is_word};
@@ -15,7 +18,7 @@ use std::alloc::{AllocError, Global};
 /// Puts a pattern's keywords, each with the name of its argument.
 #[tactic(auto, using(crate::proofs::Spacing::spacing))]
 fn keyword_pattern(out: &mut Text, selector: &[u8], names: &[Name]) -> Result<(), AllocError>
-    ensures { OnOk result (out.new.items ≡ out.old.items ++ spaced (keyword_pattern selector.now (names_view names.now))) }
+    ensures { OnOk result (IsPut (keyword_pattern selector.now (names_view names.now)) out.old out.new) }
 {
     let mut rest = selector;
     for name in names {
@@ -30,7 +33,7 @@ fn keyword_pattern(out: &mut Text, selector: &[u8], names: &[Name]) -> Result<()
 /// Puts a pattern.
 #[tactic(auto, using(crate::proofs::Spacing::spacing))]
 fn pattern(out: &mut Text, selector: &[u8], names: &[Name]) -> Result<(), AllocError>
-    ensures { OnOk result (out.new.items ≡ out.old.items ++ spaced (pattern_words selector.now (names_view names.now))) }
+    ensures { OnOk result (IsPut (pattern_words selector.now (names_view names.now)) out.old out.new) }
 {
     let [first, ..] = names else {
         put(out, selector)?;
@@ -49,7 +52,7 @@ fn pattern(out: &mut Text, selector: &[u8], names: &[Name]) -> Result<(), AllocE
 /// Puts names.
 #[tactic(auto, using(crate::proofs::Spacing::spacing))]
 fn all_names(out: &mut Text, names: &[Name]) -> Result<(), AllocError>
-    ensures { OnOk result (out.new.items ≡ out.old.items ++ spaced (names_words (names_view names.now))) }
+    ensures { OnOk result (IsPut (names_words (names_view names.now)) out.old out.new) }
 {
     for name in names {
         put(out, &name.text)?;
@@ -60,7 +63,7 @@ fn all_names(out: &mut Text, names: &[Name]) -> Result<(), AllocError>
 /// Puts temporaries.
 #[tactic(auto, using(crate::proofs::Spacing::spacing))]
 fn temporaries(out: &mut Text, names: &[Name]) -> Result<(), AllocError>
-    ensures { OnOk result (out.new.items ≡ out.old.items ++ spaced (temporaries_words (names_view names.now))) }
+    ensures { OnOk result (IsPut (temporaries_words (names_view names.now)) out.old out.new) }
 {
     if names.is_empty() {
         return Ok(());
@@ -74,7 +77,7 @@ fn temporaries(out: &mut Text, names: &[Name]) -> Result<(), AllocError>
 /// Puts a primitive.
 #[tactic(auto, using(crate::proofs::Spacing::spacing))]
 fn primitive(out: &mut Text, number: Option<Signed>) -> Result<(), AllocError>
-    ensures { OnOk result (out.new.items ≡ out.old.items ++ spaced (primitive_words number)) }
+    ensures { OnOk result (IsPut (primitive_words number) out.old out.new) }
 {
     let Some(number) = number else {
         return Ok(());
@@ -147,7 +150,7 @@ fn signed_body(alloc: Global, body: &[Statement]) -> Result<Option<Signed>, Allo
 /// Puts statements directly behind a pattern.
 #[tactic(auto, using(crate::proofs::Spacing::spacing))]
 fn statements_apart(alloc: Global, out: &mut Text, body: &[Statement]) -> Result<(), AllocError>
-    ensures { OnOk result (out.new.items ≡ out.old.items ++ spaced (apart (first_signed (statements_words (statements_view body.now))) (statements_words (statements_view body.now)))) }
+    ensures { OnOk result (IsPut (apart_words body.now) out.old out.new) }
 {
     let Some(number) = signed_body(alloc, body)? else {
         statements(alloc, out, body)?;
@@ -167,7 +170,7 @@ fn statements_apart(alloc: Global, out: &mut Text, body: &[Statement]) -> Result
 /// Puts what stands behind a method's pattern.
 #[tactic(auto, using(crate::proofs::Spacing::spacing))]
 fn behind_pattern(alloc: Global, out: &mut Text, t: &MethodTree) -> Result<(), AllocError>
-    ensures { OnOk result (out.new.items ≡ out.old.items ++ spaced (behind_pattern (options_words (names_view t.now.temporaries.items) t.now.primitive) (statements_words (statements_view t.now.body.items)))) }
+    ensures { OnOk result (IsPut (rest_words (method_view t.now)) out.old out.new) }
 {
     let pattern = out.len();
     temporaries(out, &t.temporaries)?;

@@ -1,10 +1,11 @@
 //! How loosely an expression binds.
 
 ghost use Rattle.std.specs.Prelude.{◌≡◌};
-ghost use Rattle.st_tree.specs.Views.{expressions_view, messages_view};
+ghost use Rattle.st_tree.specs.Views.{messages_view};
 ghost use Rattle.st_tree.specs.Chains.{link_view, links_view};
-ghost use Rattle.st_print.specs.Printed.{is_loose, is_word, rank_of_message, rank_of_messages, receiver_rank};
+ghost use Rattle.st_print.specs.Printed.{is_loose, is_word, rank_of_messages, receiver_rank};
 ghost use Rattle.st_print.specs.Chained.{rank_of_link, inner_rank, wanted_by};
+ghost use Rattle.st_print.specs.Putting.{sent_rank};
 
 use st_tree::{Expression, Link, Message};
 
@@ -41,7 +42,7 @@ pub fn is_word(selector: &[u8]) -> bool
 
 /// What one message makes.
 fn rank_of_message(message: &Message) -> Rank
-    ensures { result ≡ rank_of_message message.now.selector.items (expressions_view message.now.arguments.items) }
+    ensures { result ≡ sent_rank message.now }
 {
     match message.arguments.as_slice() {
         [] => Rank::Unary,

@@ -1,6 +1,6 @@
 //! Words that are put behind a text, each with a space before it.
 
-ghost use Rattle.std.specs.Prelude.{◌≡◌, ◌++◌, ◌∷◌, [], OnOk, IfOk, codes};
+ghost use Rattle.std.specs.Prelude.{◌≡◌, ◌++◌, ◌∷◌, [], OnOk};
 ghost use Rattle.std.specs.Str.{byte};
 ghost use Rattle.st_scan.specs.Pieces.{doubled};
 ghost use Rattle.st_print.specs.Words.{number_text, string_text};

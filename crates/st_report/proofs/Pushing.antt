@@ -1,17 +1,16 @@
 -- Runs of calls that add a text follow each other.
-use Rattle.std.proofs.Common.{◌≡◌, ℕ, zero, suc, ◌+◌, ◌<◌, ◌≤◌, List, [], ◌∷◌, ◌++◌, ◌∙◌, length, take, drop, map, get_or, IsTrue, refl, sym, ap, subst, inl, arith, append_assoc, append-nil}
+use Rattle.std.proofs.Common.{◌≡◌, ℕ, zero, suc, ◌+◌, ◌<◌, List, [], ◌∷◌, ◌++◌, ◌∙◌, length, take, drop, map, get_or, refl, sym, ap, subst, arith, append_assoc, append-nil}
 use Rattle.std.specs.Prelude.{Result, Ok, Err, OnOk, OnErr, IsErr, Some, slice_get}
 use Rattle.std.specs.List.{flat_map}
 use Rattle.std.proofs.lemmas.List.{take_more, take-append-drop, length-map, get_or-map}
 use Rattle.std.proofs.lemmas.Option.{slice_get-get_or}
-use Rattle.std.proofs.Math.Seq.{take-append_seam}
-use Rattle.st_outside.specs.Files.{Files}
-use Rattle.st_outside.specs.Stops.{Here, SaidPart, WhileSaying}
-use Rattle.st_outside.specs.Runs.{SaysAll, ReadsAndSays}
+use Rattle.st_outside.specs.Runs.{SaysAll}
+use Rattle.st_outside.specs.Telling.{Says}
 use Rattle.st_outside.specs.declared.host.Host.{Ghosts}
-use Rattle.st_outside.proofs.Joining.{alike_join, says_join, says_more, all_join}
+use Rattle.st_outside.proofs.Joining.{all_join}
+use Rattle.st_outside.proofs.Telling.{OnlyNow, says_begun, says_then, says_none}
 use Rattle.st_outside.proofs.Rising.{cause_after}
-use Rattle.st_report.specs.Saying.{Says, Adds, Pushes}
+use Rattle.st_report.specs.Saying.{Adds, Pushes}
 
 -- what is held back between two texts is said with the second one
 carried : (p a q b s r t : List ℕ) → p ++ a ≡ s ++ q → q ++ b ≡ t ++ r → p ++ (a ++ b) ≡ (s ++ t) ++ r
@@ -21,54 +20,7 @@ carried p a q b s r t first second =
 carries : (p a q b s : List ℕ) → p ++ a ≡ s ++ q → p ++ (a ++ b) ≡ s ++ (q ++ b)
 carries p a q b s first = sym (append_assoc p a b) ∙ (ap (λ x. x ++ b) first ∙ append_assoc s q b)
 
--- what the law of a host says of this moment
-abbrev pub OnlyNow : {D : Type 0} → Ghosts D → D → Type 0
-OnlyNow host h = (f : Files) (s : List ℕ) → IsTrue host.is_told → host.left_since h (host.moment h) f s → Here (host.may_leave h) (host.said h) f s
-
-none_said : (said : List ℕ) → SaidPart said [] said
-none_said said = record {
-  least = omega arith;
-  begins = take-append_seam said [];
-}
-
 module _ {D : Type 0} {host : Ghosts D} where
-  -- the first was said in part, and so the second was never begun
-  says_begun : {t a : List ℕ} (b : List ℕ) {old new : D} → Says host a old new → t ≡ a ++ b → Says host t old new
-  says_begun {a = a} b {old = old} {new = new} first e = rw e (record {
-    part = says_more host a b old new first.part;
-    alike = first.alike;
-    disk_count = first.disk_count;
-  })
-
-  says_then : {t a b : List ℕ} {old mid new : D} → Says host a old mid → SaysAll host a old mid → Says host b mid new → t ≡ a ++ b → Says host t old new
-  says_then {a = a} {b = b} {old = old} {mid = mid} {new = new} first all second e = rw e (record {
-    part = says_join host a b old mid new first.part all second.part;
-    alike = alike_join host old mid new first.alike second.alike;
-    disk_count = second.disk_count ∙ first.disk_count;
-  })
-
-  -- no call
-  says_none : {old : D} → OnlyNow host old → Says host [] old old
-  says_none {old = old} only_now = record {
-    part = record {
-      disk = omega arith;
-      say = omega arith;
-      alike = λ calm. record { same = λ told n. refl };
-      part = λ told. none_said (host.said old);
-      stops = λ told. record { fewer = λ n c can. can; more = λ n c could. could };
-      moments = λ told. record {
-        later = omega arith;
-        each = λ f s left. here f s (only_now f s told left);
-        before = λ t f s le left. inl left;
-      };
-    };
-    alike = record { same = λ told n. refl };
-    disk_count = refl;
-  }
-    where
-      here : (f : Files) (s : List ℕ) → Here (host.may_leave old) (host.said old) f s → WhileSaying (host.may_leave old) (host.said old) [] f s
-      here f s now = (now.0, subst (λ x. SaidPart (host.said old) [] x) (sym now.1) (none_said (host.said old)))
-
   adds_join : {a b : List ℕ} {old mid new : D} {p q r : List ℕ} → Adds host a old mid p q → Adds host b mid new q r → Adds host (a ++ b) old new p r
   adds_join {a = a} {b = b} {old = old} {mid = mid} {new = new} {p = p} {q = q} {r = r} first second = record {
     said = first.said ++ second.said;

@@ -1,7 +1,8 @@
 ghost use Rattle.std.specs.Prelude.{◌≡◌, ◌<◌, ◌++◌, [], ◌∷◌, length, OnOk};
 ghost use Rattle.st_outside.specs.Counts.{HasCause};
 ghost use Rattle.st_outside.specs.Runs.{SaysAll};
-ghost use Rattle.st_report.specs.Saying.{Says, Pushes};
+ghost use Rattle.st_outside.specs.Telling.{Says};
+ghost use Rattle.st_report.specs.Saying.{Pushes};
 
 use st_outside::{Host, SayFault, say_all};
 use std::marker::Model;

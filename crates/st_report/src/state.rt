@@ -1,6 +1,6 @@
 ghost use Rattle.std.specs.Prelude.{◌≡◌};
 ghost use Rattle.st_model.specs.Text.{pointers_text, registers_text, input_text, held_text, used_text, state_text};
-ghost use Rattle.st_frames.specs.Shown.{IsFrame, IsReady, filled, registers_of, shown};
+ghost use Rattle.st_frames.specs.Shown.{IsFrame, IsReady, registers_of, shown};
 ghost use Rattle.st_report.specs.Saying.{Pushes};
 
 use crate::Output;

@@ -44,7 +44,8 @@ impl NewStore {
 /// Syncs the roots file, and tells whether it begins with the letters.
 #[tactic(auto, using(st_outside::proofs::Joining::reads_narrow, st_outside::proofs::Joining::narrows_join, st_outside::proofs::Joining::alike_join, st_outside::proofs::Joining::synced_on, st_outside::proofs::Touching::sync_changes, st_outside::proofs::Touching::changes_join))]
 fn find_store<H: Host>(host: &mut H, roots: &str) -> Result<bool, HostFault>
-    ensures found { IfOk result (λ there. IsTrue H.is_told → IsTrue there ↔ HasLetters (bytes_of (H.files host.old roots.now))) }
+    ensures found { IfOk result (λ there. IsTrue H.is_told
+        → IsTrue there ↔ HasLetters (bytes_of (H.files host.old roots.now))) }
     ensures synced { OnOk result (IsSynced H.Host.own roots.now host.new) }
     ensures alike { OnOk result (ReadsAlike H.Host.own host.old host.new) }
     ensures narrows { Narrows H.Host.own host.old host.new }
@@ -60,8 +61,10 @@ fn find_store<H: Host>(host: &mut H, roots: &str) -> Result<bool, HostFault>
 /// Tests that there is no store of this name, and empties its roots file.
 pub fn clear<H: Host>(alloc: Global, host: &mut H, name: &str) -> Result<NewStore, StoreFault>
     ensures named { IfOk result (λ store. store ≡ name.now) }
-    ensures none { OnOk result (IsTrue H.is_told → HasLetters (bytes_of (H.files host.old (roots_file name.now))) → ⊥) }
-    ensures empty { OnOk result (IsTrue H.is_told → Leaves H.Host.own host.new (roots_file name.now) (λ file. bytes_of file ≡ [])) }
+    ensures none { OnOk result (IsTrue H.is_told
+        → HasLetters (bytes_of (H.files host.old (roots_file name.now))) → ⊥) }
+    ensures empty { OnOk result (IsTrue H.is_told
+        → Leaves H.Host.own host.new (roots_file name.now) (λ file. bytes_of file ≡ [])) }
     ensures refused { IfErr result (λ e. IsTrue H.is_told
         → RefusesNew (H.files host.old (roots_file name.now)) e) }
     ensures kind { IfErr result IsOfMaking }
@@ -95,16 +98,20 @@ fn first_bytes(root: &Root) -> [u8; 72]
 }
 
 /// Empties the changes file, and puts one zero byte into the empty roots file, so that the letters can't stand there by
-/// chance before they are written. At each moment the files are no store's.
+/// chance before they are written. Where no state that a stop may leave of the roots file has a byte, the files are at each
+/// moment no store's.
 fn prepare<H: Host>(host: &mut H, names: &Names) -> Result<(), HostFault>
     ensures makes { let name = string_bytes names.now.name in IsTrue H.is_told
         → Leaves H.Host.own host.old (roots_file name) (λ file. bytes_of file ≡ [])
         → Makes {C = Option Stored} H.Host.own (OpensMaybe name) None None host.old host.new result }
     ensures blank { OnOk result (let name = string_bytes names.now.name in IsTrue H.is_told
-        → Leaves H.Host.own host.old (roots_file name) (λ file. bytes_of file ≡ []) → Leaves H.Host.own host.new (roots_file name) IsBlank) }
-    ensures emptied { OnOk result (let changes = changes_file (string_bytes names.now.name) in IsTrue H.is_told
+        → Leaves H.Host.own host.old (roots_file name) (λ file. bytes_of file ≡ [])
+            → Leaves H.Host.own host.new (roots_file name) IsBlank) }
+    ensures emptied { OnOk result (let changes = changes_file (string_bytes names.now.name) in
+        IsTrue H.is_told
         → H.files host.new changes ≡ Some []) }
-    ensures changes { let name = string_bytes names.now.name in ChangesBoth H.Host.own (changes_file name) (roots_file name) host.old host.new }
+    ensures changes { let name = string_bytes names.now.name in
+        ChangesBoth H.Host.own (changes_file name) (roots_file name) host.old host.new }
     ensures cause { HasCause (H.disk_faults host.old) (H.disk_faults host.new) result }
 {
     cut_synced(host, names.changes(), 0)?;
@@ -112,14 +119,16 @@ fn prepare<H: Host>(host: &mut H, names: &Names) -> Result<(), HostFault>
     Ok(())
 }
 
-/// Writes the roots file behind its letters, and the letters last. At each moment the files are no store's, or open as
-/// the new one.
+/// Writes the roots file behind its letters, and the letters last. Where the roots file is one zero byte and what the root
+/// names is firm, the files are at each moment no store's, or open as the new one.
 fn inscribe<H: Host>(host: &mut H, names: &Names, root: &Root) -> Result<(), HostFault>
     ensures makes { let name = string_bytes names.now.name in (c : Stored) → IsTrue H.is_told
-        → Leaves H.Host.own host.old (roots_file name) IsBlank → c.root ≡ root.now → IsFirm H.Host.own host.old name c
+        → Leaves H.Host.own host.old (roots_file name) IsBlank → c.root ≡ root.now
+            → IsFirm H.Host.own host.old name c
         → Makes {C = Option Stored} H.Host.own (OpensMaybe name) None (Some c) host.old host.new result }
     ensures chosen { OnOk result (let name = string_bytes names.now.name in (c : Stored) → IsTrue H.is_told
-        → Leaves H.Host.own host.old (roots_file name) IsBlank → c.root ≡ root.now → IsFirm H.Host.own host.old name c
+        → Leaves H.Host.own host.old (roots_file name) IsBlank → c.root ≡ root.now
+            → IsFirm H.Host.own host.old name c
         → IsChosen H.Host.own host.new name 0 c) }
     ensures bytes { OnOk result (let roots = roots_file (string_bytes names.now.name) in IsTrue H.is_told
         → Leaves H.Host.own host.old roots IsBlank → H.files host.new roots ≡ Some (first_file root.now)) }
@@ -132,14 +141,15 @@ fn inscribe<H: Host>(host: &mut H, names: &Names, root: &Root) -> Result<(), Hos
     Ok(())
 }
 
-/// Makes the store, whose image is in its file and synced: whole, or not at all. No state that a stop may leave of the
-/// roots file has a byte, and each one of the image file begins with the same bytes of this length.
+/// Makes the store, whose image is in its file and synced. It is made whole, or not at all, where no state that a stop may
+/// leave of the roots file has a byte, and each one of the image file begins with the same bytes of this length.
 pub fn found<H: Host>(
     new_store: NewStore,
     host: &mut H,
     image_length: u64,
 ) -> Result<Store, HostFault>
-    ensures store { IfOk result (λ store. store ≡ record { name = new_store; chosen = 0; root = first_root image_length }) }
+    ensures store { IfOk result (λ store. store ≡ record { name = new_store; chosen = 0;
+        root = first_root image_length }) }
 
     // A stop at any moment leaves files that are no store's, or open as the new one.
     ensures makes { (image : List ℕ) → IsTrue H.is_told
@@ -157,7 +167,8 @@ pub fn found<H: Host>(
         → H.files host.new (roots_file new_store) ≡ Some (first_file (first_root image_length))) }
     ensures emptied { OnOk result (IsTrue H.is_told → H.files host.new (changes_file new_store) ≡ Some []) }
 
-    ensures changes { ChangesBoth H.Host.own (changes_file new_store) (roots_file new_store) host.old host.new }
+    ensures changes { ChangesBoth H.Host.own (changes_file new_store) (roots_file new_store)
+        host.old host.new }
     ensures cause { HasCause (H.disk_faults host.old) (H.disk_faults host.new) result }
 {
     let NewStore { names } = new_store;

@@ -30,6 +30,12 @@ impl Names {
         })
     }
 
+    pub(crate) fn name(&self) -> &str
+        ensures { result.now ≡ string_bytes self.now.name }
+    {
+        self.name.as_str()
+    }
+
     pub(crate) fn roots(&self) -> &str
         ensures { result.now ≡ roots_file (string_bytes self.now.name) }
     {

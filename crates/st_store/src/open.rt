@@ -29,7 +29,8 @@ fn damaged(at: u64) -> StoreFault
 fn look<H: Host>(host: &mut H, roots: &str) -> Result<Chosen, StoreFault>
     ensures number { IfOk result (λ r. r.number ≤ 1) }
     ensures slot { IfOk result (λ r. r.root.slot ≤ 1) }
-    ensures chooses { IfOk result (λ r. IsTrue H.is_told → Chooses r.number r.root (H.files host.old roots.now)) }
+    ensures chooses { IfOk result (λ r. IsTrue H.is_told
+        → Chooses r.number r.root (H.files host.old roots.now)) }
     ensures refused { IfErr result (λ e. IsTrue H.is_told → RefusesFront (H.files host.old roots.now) e) }
     ensures kind { IfErr result IsOfOpening }
     ensures synced { OnOk result (IsSynced H.Host.own roots.now host.new) }
@@ -54,7 +55,8 @@ fn look<H: Host>(host: &mut H, roots: &str) -> Result<Chosen, StoreFault>
 /// The first number of a root that is wrong for an image file and a changes file of these lengths.
 fn find_wrong_number(chosen: &Chosen, image: u64, changes: u64) -> Option<u64>
     requires { chosen.now.number ≤ 1 }
-    ensures { MatchOption result (Fit chosen.now.root image changes) (λ at. IsWrongNumber chosen.now.number chosen.now.root image changes at) }
+    ensures { MatchOption result (Fit chosen.now.root image changes)
+        (λ at. IsWrongNumber chosen.now.number chosen.now.root image changes at) }
 {
     let Chosen { number, root } = chosen;
     let place = 16 + 32 * number;
@@ -79,7 +81,8 @@ fn make_firm<H: Host>(
     chosen: &Chosen,
 ) -> Result<(), StoreFault>
     requires { chosen.now.number ≤ 1 }
-    ensures fit { OnOk result (IsTrue H.is_told → Fit chosen.now.root (length (bytes_of (H.files host.old image.now))) (length (bytes_of (H.files host.old changes.now)))) }
+    ensures fit { OnOk result (IsTrue H.is_told
+        → Fit chosen.now.root (length (bytes_of (H.files host.old image.now))) (length (bytes_of (H.files host.old changes.now)))) }
     ensures refused { IfErr result (λ e. IsTrue H.is_told
         → RefusesNumbers chosen.now.number chosen.now.root (length (bytes_of (H.files host.old image.now))) (length (bytes_of (H.files host.old changes.now))) e) }
     ensures kind { IfErr result IsOfOpening }
@@ -101,11 +104,13 @@ fn make_firm<H: Host>(
 }
 
 /// Opens the store of this name. It syncs what it reads before it tests it. Then it writes the root that isn't chosen as
-/// a copy of the chosen one, and the gate afresh. A refusal writes nothing.
+/// a copy of the chosen one, and the gate afresh. Without a fault of the disk a refusal has written nothing.
 pub fn open_store<H: Host>(alloc: Global, host: &mut H, name: &str) -> Result<Store, StoreFault>
     ensures named { IfOk result (λ store. store.name ≡ name.now) }
-    ensures opens { IfOk result (λ store. IsTrue H.is_told → Opens name.now (stored_in name.now (H.files host.old) store.root) (H.files host.old)) }
-    ensures kept { IfOk result (λ store. IsTrue H.is_told → IsKept H.Host.own host.new store (stored_in name.now (H.files host.old) store.root)) }
+    ensures opens { IfOk result (λ store. IsTrue H.is_told
+        → Opens name.now (stored_in name.now (H.files host.old) store.root) (H.files host.old)) }
+    ensures kept { IfOk result (λ store. IsTrue H.is_told
+        → IsKept H.Host.own host.new store (stored_in name.now (H.files host.old) store.root)) }
     ensures fresh { IfOk result (λ store. IsTrue H.is_told
         → IsFresh store.chosen store.root (H.files host.new (roots_file name.now))) }
     ensures refused { IfErr result (λ e. IsTrue H.is_told → Refuses name.now (H.files host.old) e) }

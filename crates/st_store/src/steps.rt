@@ -11,7 +11,8 @@ use crate::names::Names;
 use crate::root::bytes_of_root;
 use st_outside::{Host, HostFault, write_synced};
 
-/// Writes the root that isn't chosen, and syncs it. At each moment the chosen one stays.
+/// Writes the root that isn't chosen, and syncs it. Where one root is chosen and what both name is firm, the chosen one stays
+/// at each moment.
 pub(crate) fn stage<H: Host>(
     host: &mut H,
     names: &Names,
@@ -33,7 +34,7 @@ pub(crate) fn stage<H: Host>(
     Ok(())
 }
 
-/// Writes the gate, and syncs it. At each moment either root is chosen.
+/// Writes the gate, and syncs it. Where both roots stand and what they name is firm, one of them is chosen at each moment.
 pub(crate) fn turn<H: Host>(host: &mut H, names: &Names, gate: u64) -> Result<(), HostFault>
     requires { gate ≤ 1 }
     ensures written { OnOk result (let roots = roots_file (string_bytes names.now.name) in IsTrue H.is_told
@@ -41,13 +42,16 @@ pub(crate) fn turn<H: Host>(host: &mut H, names: &Names, gate: u64) -> Result<()
 
     // in a commit
     ensures makes { let name = string_bytes names.now.name in (k : ℕ) (c d : Stored) → IsTrue H.is_told
-        → gate ≡ 1 - k → IsStaged H.Host.own host.old name k c d → Makes H.Host.own (Opens name) c d host.old host.new result }
-    ensures other { OnOk result (let name = string_bytes names.now.name in (k : ℕ) (c d : Stored) → IsTrue H.is_told
+        → gate ≡ 1 - k → IsStaged H.Host.own host.old name k c d → Makes H.Host.own (Opens name) c d
+            host.old host.new result }
+    ensures other { OnOk result (let name = string_bytes names.now.name in (k : ℕ) (c d : Stored)
+        → IsTrue H.is_told
         → gate ≡ 1 - k → IsStaged H.Host.own host.old name k c d → IsChosen H.Host.own host.new name gate d) }
 
     // in opening, where both roots are one
     ensures keeps { let name = string_bytes names.now.name in (c : Stored) → IsTrue H.is_told
-        → IsStaged H.Host.own host.old name gate c c → Makes H.Host.own (Opens name) c c host.old host.new result }
+        → IsStaged H.Host.own host.old name gate c c → Makes H.Host.own (Opens name) c c
+            host.old host.new result }
     ensures same { OnOk result (let name = string_bytes names.now.name in (c : Stored) → IsTrue H.is_told
         → IsStaged H.Host.own host.old name gate c c → IsChosen H.Host.own host.new name gate c) }
 

@@ -2,7 +2,7 @@
 ghost use Rattle.std.specs.Prelude.{◌≡◌, ◌≤◌, ◌-◌, IsTrue, IfOk, slice_index};
 ghost use Rattle.st_outside.specs.Counts.{HasCause};
 ghost use Rattle.st_outside.specs.Files.{bytes_of};
-ghost use Rattle.st_store.specs.Names.{roots_file, image_file};
+ghost use Rattle.st_store.specs.Names.{roots_file, changes_file, image_file};
 
 use crate::Root;
 use crate::names::Names;
@@ -40,6 +40,20 @@ impl Store {
         self.root
     }
 
+    /// The store's name.
+    pub fn name(&self) -> &str
+        ensures { result.now ≡ self.now.name }
+    {
+        self.names.name()
+    }
+
+    /// The name of the changes file.
+    pub fn changes_name(&self) -> &str
+        ensures { result.now ≡ changes_file self.now.name }
+    {
+        self.names.changes()
+    }
+
     /// The name of an image file, `.a` for slot 0 and `.b` for slot 1.
     pub fn image_name(&self, slot: u64) -> &str
         requires { slot ≤ 1 }
@@ -51,12 +65,15 @@ impl Store {
     /// Makes this root the chosen one: whole, or not at all. What it names has to be firm, and the store at rest. After
     /// an error the store is opened again.
     pub fn commit<H: Host>(self, host: &mut H, root: Root) -> Result<Store, HostFault>
-        ensures store { IfOk result (λ store. store ≡ record { name = self.name; chosen = 1 - self.chosen; root = root }) }
+        ensures store { IfOk result (λ store. store ≡ record { name = self.name; chosen = 1 - self.chosen;
+            root = root }) }
 
         // A stop at any moment leaves files that open as before or as the new root.
         ensures makes { (c d : Stored) → IsTrue H.is_told → IsKept H.Host.own host.old self c
-            → IsFirm H.Host.own host.old self.name d → d.root ≡ root → Makes H.Host.own (Opens self.name) c d host.old host.new result }
-        ensures kept { IfOk result (λ store. (c d : Stored) → IsTrue H.is_told → IsKept H.Host.own host.old self c
+            → IsFirm H.Host.own host.old self.name d → d.root ≡ root → Makes H.Host.own (Opens self.name) c d
+                host.old host.new result }
+        ensures kept { IfOk result (λ store. (c d : Stored) → IsTrue H.is_told
+            → IsKept H.Host.own host.old self c
             → IsFirm H.Host.own host.old self.name d → d.root ≡ root → IsKept H.Host.own host.new store d) }
 
         ensures gate { IfOk result (λ store. IsTrue H.is_told

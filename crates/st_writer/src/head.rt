@@ -24,7 +24,8 @@ pub fn push_head<M: Memory, H: Host>(
 ) -> Result<(), HostFault>
     requires entries { entries ≤ 32768 }
     requires end { end_of piece.old ≤ 2 ^ 40 }
-    ensures { Pushes H.Host.own name.now (head_bytes words entries (M.view m.now).head) host.old host.new piece.old piece.new result }
+    ensures { Pushes H.Host.own name.now (head_bytes words entries (M.view m.now).head)
+        host.old host.new piece.old piece.new result }
 {
     let capacity = m.capacity();
     let numbers = [

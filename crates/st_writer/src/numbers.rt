@@ -45,7 +45,8 @@ pub fn push_longs<H: Host>(
 ) -> Result<(), HostFault>
     requires few { length numbers.now ≤ 128 }
     requires end { end_of piece.old ≤ 2 ^ 40 }
-    ensures { Pushes H.Host.own name.now (flat_map long_bytes numbers.now) host.old host.new piece.old piece.new result }
+    ensures { Pushes H.Host.own name.now (flat_map long_bytes numbers.now)
+        host.old host.new piece.old piece.new result }
 {
     for number in numbers {
         push_long(piece, host, name, *number)?;

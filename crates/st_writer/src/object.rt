@@ -37,7 +37,8 @@ pub fn count_words<M: Memory>(m: &M, o: Oop) -> u32
 /// The marks of an object's entry.
 pub fn marks_of<M: Memory>(m: &M, o: Oop) -> u16
     requires { is_live (M.view m.now).objects (value o) ≡ true }
-    ensures { let object = object_of (M.view m.now).objects (value o) in result ≡ marks object.kind (length object.units) }
+    ensures { let object = object_of (M.view m.now).objects (value o) in
+        result ≡ marks object.kind (length object.units) }
 {
     match m.kind(o) {
         Kind::Pointers => 64,
@@ -56,7 +57,9 @@ fn push_heading<M: Memory, H: Host>(
 ) -> Result<(), HostFault>
     requires live { is_live (M.view m.now).objects (value o) ≡ true }
     requires end { end_of piece.old ≤ 2 ^ 40 }
-    ensures { let object = object_of (M.view m.now).objects (value o) in Pushes H.Host.own name.now (word_bytes (words_of object) ++ word_bytes (2 * object.class)) host.old host.new piece.old piece.new result }
+    ensures { let object = object_of (M.view m.now).objects (value o) in
+        Pushes H.Host.own name.now (word_bytes (words_of object) ++ word_bytes (2 * object.class))
+            host.old host.new piece.old piece.new result }
 {
     push_word(piece, host, name, count_words(m, o) as u16)?;
     push_word(piece, host, name, m.class_of(o).0)
@@ -72,7 +75,8 @@ pub fn push_object<M: Memory, H: Host>(
 ) -> Result<(), HostFault>
     requires live { is_live (M.view m.now).objects (value o) ≡ true }
     requires end { end_of piece.old ≤ 2 ^ 40 }
-    ensures { Pushes H.Host.own name.now (object_bytes (object_of (M.view m.now).objects (value o))) host.old host.new piece.old piece.new result }
+    ensures { Pushes H.Host.own name.now (object_bytes (object_of (M.view m.now).objects (value o)))
+        host.old host.new piece.old piece.new result }
 {
     push_heading(m, o, piece, host, name)?;
     push_fields(m, o, piece, host, name)?;

@@ -41,7 +41,8 @@ fn push_place<M: Memory, H: Host>(
 ) -> Result<(), HostFault>
     requires place { k < 32768 }
     requires end { end_of piece.old ≤ 2 ^ 40 }
-    ensures { Pushes H.Host.own name.now (bytes_at (entry (M.view m.now).objects k)) host.old host.new piece.old piece.new result }
+    ensures { Pushes H.Host.own name.now (bytes_at (entry (M.view m.now).objects k))
+        host.old host.new piece.old piece.new result }
 {
     let o = pointer_of(k);
     if m.live(o) {
@@ -60,7 +61,8 @@ pub fn push_objects<M: Memory, H: Host>(
 ) -> Result<(), HostFault>
     requires entries { entries ≤ 32768 }
     requires end { end_of piece.old ≤ 2 ^ 32 }
-    ensures { Pushes H.Host.own name.now (space_below (M.view m.now).objects entries) host.old host.new piece.old piece.new result }
+    ensures { Pushes H.Host.own name.now (space_below (M.view m.now).objects entries)
+        host.old host.new piece.old piece.new result }
 {
     for k in 0..entries {
         push_place(m, k, piece, host, name)?;
@@ -90,7 +92,8 @@ fn push_entry<M: Memory, H: Host>(
     requires place { k < 32768 }
     requires end { end_of piece.old ≤ 2 ^ 42 }
     requires at { at ≤ 65535 * k }
-    ensures { Pushes H.Host.own name.now (entry_bytes (entry (M.view m.now).objects k) at) host.old host.new piece.old piece.new result }
+    ensures { Pushes H.Host.own name.now (entry_bytes (entry (M.view m.now).objects k) at)
+        host.old host.new piece.old piece.new result }
 {
     let o = pointer_of(k);
     if m.live(o) {
@@ -112,7 +115,8 @@ pub fn push_entries<M: Memory, H: Host>(
 ) -> Result<(), HostFault>
     requires entries { entries ≤ 32768 }
     requires end { end_of piece.old ≤ 2 ^ 41 }
-    ensures { Pushes H.Host.own name.now (entries_below (M.view m.now).objects entries) host.old host.new piece.old piece.new result }
+    ensures { Pushes H.Host.own name.now (entries_below (M.view m.now).objects entries)
+        host.old host.new piece.old piece.new result }
 {
     let mut at = 0;
     for k in 0..entries {

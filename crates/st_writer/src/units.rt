@@ -21,7 +21,9 @@ pub fn push_fields<M: Memory, H: Host>(
 ) -> Result<(), HostFault>
     requires live { is_live (M.view m.now).objects (value o) ≡ true }
     requires end { end_of piece.old ≤ 2 ^ 41 }
-    ensures { Pushes H.Host.own name.now (flat_map word_bytes (map word_of (object_of (M.view m.now).objects (value o)).fields)) host.old host.new piece.old piece.new result }
+    ensures { let object = object_of (M.view m.now).objects (value o) in
+        Pushes H.Host.own name.now (flat_map word_bytes (map word_of object.fields))
+            host.old host.new piece.old piece.new result }
 {
     for i in 0..count_fields(m, o) {
         push_word(piece, host, name, m.pointer(o, i).0)?;
@@ -40,7 +42,9 @@ fn push_words<M: Memory, H: Host>(
     requires live { is_live (M.view m.now).objects (value o) ≡ true }
     requires kind { is_words (object_of (M.view m.now).objects (value o)).kind ≡ true }
     requires end { end_of piece.old ≤ 2 ^ 41 }
-    ensures { Pushes H.Host.own name.now (flat_map word_bytes (object_of (M.view m.now).objects (value o)).units) host.old host.new piece.old piece.new result }
+    ensures { let object = object_of (M.view m.now).objects (value o) in
+        Pushes H.Host.own name.now (flat_map word_bytes object.units)
+            host.old host.new piece.old piece.new result }
 {
     for i in 0..count_units(m, o, count_fields(m, o)) {
         push_word(piece, host, name, m.word(o, i))?;
@@ -60,7 +64,8 @@ fn push_bytes<M: Memory, H: Host>(
     requires words { is_words (object_of (M.view m.now).objects (value o)).kind ≡ false }
     requires pointers { is_pointers (object_of (M.view m.now).objects (value o)).kind ≡ false }
     requires end { end_of piece.old ≤ 2 ^ 41 }
-    ensures { Pushes H.Host.own name.now (object_of (M.view m.now).objects (value o)).units host.old host.new piece.old piece.new result }
+    ensures { Pushes H.Host.own name.now (object_of (M.view m.now).objects (value o)).units
+        host.old host.new piece.old piece.new result }
 {
     let fields = count_fields(m, o);
     for i in 0..count_units(m, o, fields) {
@@ -97,7 +102,9 @@ fn push_filled<M: Memory, H: Host>(
     requires words { is_words (object_of (M.view m.now).objects (value o)).kind ≡ false }
     requires pointers { is_pointers (object_of (M.view m.now).objects (value o)).kind ≡ false }
     requires end { end_of piece.old ≤ 2 ^ 41 }
-    ensures { Pushes H.Host.own name.now ((object_of (M.view m.now).objects (value o)).units ++ filler (length (object_of (M.view m.now).objects (value o)).units)) host.old host.new piece.old piece.new result }
+    ensures { let object = object_of (M.view m.now).objects (value o) in
+        Pushes H.Host.own name.now (object.units ++ filler (length object.units))
+            host.old host.new piece.old piece.new result }
 {
     push_bytes(m, o, piece, host, name)?;
     push_filler(piece, host, name, count_units(m, o, count_fields(m, o)))
@@ -113,7 +120,9 @@ pub fn push_units<M: Memory, H: Host>(
 ) -> Result<(), HostFault>
     requires live { is_live (M.view m.now).objects (value o) ≡ true }
     requires end { end_of piece.old ≤ 2 ^ 41 }
-    ensures { Pushes H.Host.own name.now (unit_bytes (object_of (M.view m.now).objects (value o)).kind (object_of (M.view m.now).objects (value o)).units) host.old host.new piece.old piece.new result }
+    ensures { let object = object_of (M.view m.now).objects (value o) in
+        Pushes H.Host.own name.now (unit_bytes object.kind object.units)
+            host.old host.new piece.old piece.new result }
 {
     match m.kind(o) {
         Kind::Pointers => Ok(()),

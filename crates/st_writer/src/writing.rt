@@ -28,7 +28,8 @@ fn push_image<M: Memory, H: Host>(
     name: &str,
 ) -> Result<(), HostFault>
     requires { end_of piece.old ≤ 512 }
-    ensures { Pushes H.Host.own name.now (image_of (M.view m.now)) host.old host.new piece.old piece.new result }
+    ensures { Pushes H.Host.own name.now (image_of (M.view m.now))
+        host.old host.new piece.old piece.new result }
 {
     let entries = count_entries(m);
     let words = m.used().words;
@@ -43,7 +44,8 @@ fn push_image<M: Memory, H: Host>(
 /// that text and synced. Answers its length in bytes. After an error the file may hold anything; every other file is as
 /// before at each moment of the call, and nothing is said.
 pub fn write<M: Memory, H: Host>(m: &M, host: &mut H, name: &str) -> Result<u64, HostFault>
-    ensures file { OnOk result (IsTrue H.is_told → H.files host.new name.now ≡ Some (image_of (M.view m.now))) }
+    ensures file { OnOk result (IsTrue H.is_told
+        → H.files host.new name.now ≡ Some (image_of (M.view m.now))) }
     ensures length { IfOk result (λ l. l ≡ length (image_of (M.view m.now))) }
     ensures synced { OnOk result (IsSynced H.Host.own name.now host.new) }
     ensures writes { WritesAbove H.Host.own 0 name.now host.old host.new }

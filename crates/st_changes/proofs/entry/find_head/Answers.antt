@@ -1,4 +1,4 @@
-use Rattle.std.proofs.Common.{◌≡◌, refl, ℕ, ◌+◌, ◌-◌, ◌<◌, List, [], ◌∷◌, length, take, drop, sym, ap, ◌∙◌, subst, arith, length-drop, get_or}
+use Rattle.std.proofs.Common.{◌≡◌, ℕ, ◌+◌, ◌-◌, List, ◌∷◌, length, take, drop, sym, ap, ◌∙◌, subst, arith, length-drop, get_or}
 use Rattle.std.proofs.lemmas.List.{drop-drop, get_or-drop}
 use Rattle.st_chunk.specs.Groups.{header_text}
 use Rattle.st_changes.specs.Runs.{FindsRun, IsFoundRun}

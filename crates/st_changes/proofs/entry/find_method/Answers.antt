@@ -1,10 +1,10 @@
-use Rattle.std.proofs.Common.{◌≡◌, refl, ℕ, ◌+◌, ◌-◌, ◌<◌, List, [], ◌∷◌, ◌++◌, length, take, drop, sym, ap, ◌∙◌, subst, arith, length-drop, codes, true≢false}
+use Rattle.std.proofs.Common.{◌≡◌, ℕ, List, ◌∷◌, ◌++◌, length, drop, sym, ap, ◌∙◌, subst, arith, length-drop, codes, true≢false}
 use Rattle.std.specs.Prelude.{nat_eq}
 use Rattle.std.specs.List.{starts_with}
 use Rattle.std.proofs.lemmas.List.{drop-drop}
 use Rattle.st_chunk.specs.Texts.{doubled}
-use Rattle.st_changes.specs.Runs.{FindsRun, IsFoundRun, doubled_by}
-use Rattle.st_changes.specs.Entries.{IsMethod, is_text}
+use Rattle.st_changes.specs.Runs.{FindsRun, IsFoundRun}
+use Rattle.st_changes.specs.Entries.{is_text}
 use Rattle.st_changes.proofs.Fronts.{no_run_there, tail_is, begins_is}
 use Rattle.st_changes.proofs.Marks.{doubled_is}
 use Rattle.st_changes.proofs.EntryTexts.{method_run, method_same}
@@ -34,9 +34,9 @@ returns c =
     record {
       is = record {
         is =
-          found.is.is
-          ∙ ap (λ (x : List ℕ). x ++ 33 ∷ drop n text) (sym (doubled_is c.in-Some.run'.bytes.items))
-          ∙ ap (λ (x : List ℕ). doubled c.in-Some.run'.bytes.items ++ 33 ∷ x) (tail ∙ ap (λ (x : List ℕ). codes " !\n" ++ x) (drop-drop 3 n text));
+            found.is.is
+            ∙ ap (λ (x : List ℕ). x ++ 33 ∷ drop n text) (sym (doubled_is c.in-Some.run'.bytes.items))
+            ∙ ap (λ (x : List ℕ). doubled c.in-Some.run'.bytes.items ++ 33 ∷ x) (tail ∙ ap (λ (x : List ℕ). codes " !\n" ++ x) (drop-drop 3 n text));
         good = sym (c.if-not-is_text.ensures ∙ ap is_text c.deref.ensures.value);
       };
       within = omega (arith, ap length tail, length-drop n text, found.within);

@@ -1,7 +1,7 @@
-use Rattle.std.proofs.Common.{◌≡◌, refl, ℕ, ◌+◌, ◌-◌, ◌<◌, List, [], ◌++◌, length, take, drop, sym, ap, ◌∙◌, subst, arith, length-drop}
+use Rattle.std.proofs.Common.{◌≡◌, refl, ℕ, ◌+◌, ◌-◌, List, [], ◌++◌, length, take, drop, sym, ap, ◌∙◌, subst, arith, length-drop}
 use Rattle.std.proofs.lemmas.List.{drop_all}
 use Rattle.st_changes.specs.Runs.{FindsRun, IsFoundRun, IsRun}
-use Rattle.st_changes.specs.Entries.{IsSide, IsHeader, side_front}
+use Rattle.st_changes.specs.Entries.{IsSide, IsHeader}
 use Rattle.st_changes.proofs.HeaderTexts.{word, ended, behind_class, behind_side, nothing_behind, name_read, header_read}
 use Rattle.st_changes.proofs.Fronts.{no_run_there, tail_is}
 use Rattle.st_changes.proofs.header.find_header.Goals as goal

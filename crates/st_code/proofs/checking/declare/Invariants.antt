@@ -1,4 +1,4 @@
-use Rattle.std.proofs.Common.{◌≡◌, ◌++◌, take, drop}
+use Rattle.std.proofs.Common.{◌≡◌, false, ◌++◌, take, drop}
 use Rattle.st_tree.specs.Views.{names_view}
 use Rattle.st_emit.specs.Names.{numbered}
 use Rattle.st_emit.specs.NameViews.{scope_view}
@@ -7,5 +7,5 @@ use Rattle.st_code.proofs.checking.declare.Given as goal
 
 abbrev pub invariant-loop-i : goal.invariant-loop-i
 invariant-loop-i l =
-    declare_fault l.assignable l.i (names_view (drop l.i l.names)) (scope_view l.scope ++ numbered l.assignable 0 (names_view (take l.i l.names)))
-    ≡ declare_fault l.assignable 0 (names_view l.names) (scope_view l.scope)
+    declare_fault l.i (names_view (drop l.i l.names)) (scope_view l.scope ++ numbered false 0 (names_view (take l.i l.names)))
+    ≡ declare_fault 0 (names_view l.names) (scope_view l.scope)

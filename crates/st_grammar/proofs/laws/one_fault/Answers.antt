@@ -5,4 +5,4 @@ pub returns-clause-one : goal.returns-clause-one
 returns-clause-one c text place other cause reason x y = fault_determined text place other cause reason x y
 
 pub returns-clause-none : goal.returns-clause-none
-returns-clause-none c text t place cause m h = tree_or_fault text t place cause m h
+returns-clause-none c text t m place cause h = tree_or_fault text t place cause m h

@@ -1,9 +1,9 @@
-use Rattle.std.proofs.Common.{◌≡◌, List, ℕ, ◌++◌, OnOk, sym, subst, ap, ◌∙◌}
+use Rattle.std.proofs.Common.{◌≡◌, List, ℕ, OnOk, sym, subst, ap, ◌∙◌}
 use Rattle.st_outside.specs.Runs.{SaysAll}
 use Rattle.st_model.specs.Machine.{State, World}
 use Rattle.st_model.specs.Table.{Table}
 use Rattle.st_frames.specs.Shown.{IsReady, shown}
-use Rattle.st_report.specs.Saying.{Says}
+use Rattle.st_outside.specs.Telling.{Says}
 use Rattle.st_once.specs.Ends.{ending_text}
 use Rattle.st_once.proofs.Reported.{run_is}
 use Rattle.st_once.proofs.command.run_and_report.Goals as goal
@@ -32,5 +32,4 @@ returns-clause-says g c = λ s shows.
 pub say_run-requires : goal.say_run-requires
 say_run-requires g c =
     let ready = c.run-end.ensures.left c.requires.alive in
-    subst (λ (w : World). IsReady (g.M.Memory.view c.memory.result.now) c.frame.result w) (sym c.world.ensures)
-    (rw c.memory.ensures (rw c.frame.ensures ready))
+    record { ready = subst (λ (w : World). IsReady (g.M.Memory.view c.memory.result.now) c.frame.result w) (sym c.world.ensures) (rw c.memory.ensures (rw c.frame.ensures ready)) }

@@ -1,4 +1,4 @@
-use Rattle.std.proofs.Common.{◌/◌, set}
+use Rattle.std.proofs.Common.{◌/◌, set, arith}
 use Rattle.st_heap.specs.declared.block.Block.{Block}
 use Rattle.st_heap.specs.Blocks.{with_owner, IsLaid}
 use Rattle.st_heap.proofs.Exchanging.{inside_e, inside_f, laid_exchanged, tied_exchanged}
@@ -30,3 +30,11 @@ returns-clause-tied c =
     let self = c.args.self.now in
     let all = tied_exchanged self.words self.blocks.items self.end self.free self.laid c.args.t.now c.requires.tied c.args.a c.args.b c.entry-first.result c.entry-second.result c.requires.first.even c.requires.second.even c.entry-first.ensures c.entry-second.ensures in
     rw (c.set_entry-2.ensures, c.set_entry.ensures, c.read_block-block.ensures, c.read_block-other.ensures) all
+
+pub returns-clause-held : goal.returns-clause-held
+returns-clause-held c =
+    let self = c.args.self.now in
+    let all = laid_exchanged self.words self.blocks.items self.end self.free self.laid c.args.t.now c.requires.tied c.args.a c.args.b c.entry-first.result c.entry-second.result c.requires.first.even c.requires.second.even c.entry-first.ensures c.entry-second.ensures in
+    let sum = all.sum in
+    let was = self.laid.sum in
+    rw (c.read_block-block.ensures, c.read_block-other.ensures) (omega (arith, sum, was))

@@ -1,4 +1,3 @@
-use Rattle.std.proofs.Common.{◌≤◌}
 use Rattle.st_memory.specs.Bearing.{IsNumberOf}
 use Rattle.st_memory.proofs.draft.Draft.number_of.Given as goal
 

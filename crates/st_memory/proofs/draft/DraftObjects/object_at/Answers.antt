@@ -1,4 +1,4 @@
-use Rattle.std.proofs.Common.{◌≡◌, ◌≤◌, sym, ap, ◌∙◌, length, arith}
+use Rattle.std.proofs.Common.{◌≤◌, sym, ap, ◌∙◌, length, arith}
 use Rattle.std.specs.Prelude.{None}
 use Rattle.st_model.specs.Steps.{named_or_not}
 use Rattle.st_model.specs.Table.{borne_apart}

@@ -1,0 +1,69 @@
+// Reading a changes file.
+ghost use Rattle.std.specs.Prelude.{◌≡◌, IfOk, IfErr, OnOk, IsTrue, take, string_bytes};
+ghost use Rattle.st_outside.specs.Files.{bytes_of};
+ghost use Rattle.st_outside.specs.Runs.{ReadsAlike, OnlyReads, Changes as ChangesFile};
+ghost use Rattle.st_store.specs.Names.{changes_file};
+ghost use Rattle.st_store.specs.Refusals.{FaultHasCause};
+ghost use Rattle.st_changes.specs.Lists.{Lists, RefusesChanges, IsOfLoading, IsOutside, kept_changes};
+
+use crate::changes::Changes;
+use crate::listing::list;
+use st_outside::{Host, read_from};
+use st_store::{Store, StoreFault, StorePlace};
+use std::alloc::{AllocError, Global};
+
+/// The first bytes of a file, so many, or all that it has.
+fn read_front<H: Host>(
+    alloc: Global,
+    host: &mut H,
+    name: &str,
+    length: u64,
+) -> Result<Vec<u8>, StoreFault>
+    ensures read { IfOk result (λ bytes. IsTrue H.is_told → bytes.items ≡ take length (bytes_of (H.files host.old name.now))) }
+    ensures outside { IfErr result IsOutside }
+    ensures alike { OnOk result (ReadsAlike H.Host.own host.old host.new) }
+    ensures reads { OnlyReads H.Host.own host.old host.new }
+    ensures only { ChangesFile H.Host.own name.now host.old host.new }
+    ensures cause { FaultHasCause (H.disk_faults host.old) (H.disk_faults host.new) result }
+{
+    let mut bytes = vec![in alloc; 0; length as usize]?;
+    let count = read_from(host, name, 0, &mut bytes)?;
+    bytes.truncate(count);
+    Ok(bytes)
+}
+
+fn owned(alloc: Global, name: &str) -> Result<String, AllocError>
+    ensures { IfOk result (λ s. string_bytes s ≡ name.now) }
+{
+    let mut owned = String::new(alloc);
+    owned.push_str(name)?;
+    Ok(owned)
+}
+
+/// Reads the changes file of a store up to the length that its root has, and lists the definitions that it keeps.
+pub fn load<H: Host>(alloc: Global, host: &mut H, store: &Store) -> Result<Changes, StoreFault>
+    ensures named { IfOk result (λ changes. changes.name ≡ store.now.name) }
+    ensures listed { IfOk result (λ changes. IsTrue H.is_told
+        → Lists (kept_changes store.now (H.files host.old)) store.now.root.base changes.listed) }
+    ensures refused { IfErr result (λ e. IsTrue H.is_told
+        → RefusesChanges (kept_changes store.now (H.files host.old)) store.now.root.base e) }
+    ensures kind { IfErr result IsOfLoading }
+    ensures alike { OnOk result (ReadsAlike H.Host.own host.old host.new) }
+    ensures reads { OnlyReads H.Host.own host.old host.new }
+    ensures only { ChangesFile H.Host.own (changes_file store.now.name) host.old host.new }
+    ensures cause { FaultHasCause (H.disk_faults host.old) (H.disk_faults host.new) result }
+{
+    let root = store.root();
+    let bytes = read_front(alloc, host, store.changes_name(), root.length)?;
+    match list(alloc, &bytes, root.base)? {
+        Ok(listed) => Ok(Changes {
+            name: owned(alloc, store.name())?,
+            listed,
+            length: bytes.len() as u64,
+            ready: None,
+        }),
+        Err(at) => Err(StoreFault::NotAStore {
+            place: StorePlace::Changes(at),
+        }),
+    }
+}

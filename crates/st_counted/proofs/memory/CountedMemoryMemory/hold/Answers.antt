@@ -1,0 +1,12 @@
+use Rattle.std.proofs.Common.{refl}
+use Rattle.st_model.specs.Values.{value}
+use Rattle.st_model.proofs.WholeLemmas.{whole_held}
+use Rattle.st_counted.specs.Counted.{counted_view}
+use Rattle.st_counted.proofs.memory.CountedMemoryMemory.hold.Goals as goal
+
+pub invariant_of-self : goal.invariant_of-self
+invariant_of-self c =
+    let m = c.args.self.now in
+    let v = counted_view m.contents in
+    let w = counted_view (record m.contents { roots = c.hold.new.self }) in
+    record { whole = whole_held v w c.args.place (value c.args.o) m.whole c.requires.known refl c.hold.ensures refl; room = m.room }

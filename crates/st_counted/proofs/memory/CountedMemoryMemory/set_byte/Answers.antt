@@ -1,0 +1,23 @@
+use Rattle.std.proofs.Common.{◌∙◌, ◌<◌, refl, sym, subst, arith}
+use Rattle.std.proofs.lemmas.Grind.{common_steps}
+use Rattle.st_model.specs.Values.{value}
+use Rattle.st_model.specs.View.{object_of}
+use Rattle.st_model.proofs.FormedLemmas.{unit_limit-byte}
+use Rattle.st_model.proofs.WholeLemmas.{whole_unit}
+use Rattle.st_counted.specs.Counted.{counted_view}
+use Rattle.st_counted.proofs.memory.CountedMemoryMemory.set_byte.Goals as goal
+
+pub invariant_of-self : goal.invariant_of-self
+invariant_of-self c =
+    let m = c.args.self.now in
+    let now = c.set_unit.new.self in
+    let v = counted_view m.contents in
+    let x = value c.args.o in
+    let e = c.set_unit.ensures in
+    let b = c.from.result in
+    let small : b < 256 = grind (arith, common_steps) in
+    record {
+      whole = whole_unit v (counted_view (record m.contents { objects = now })) x _ b m.whole c.requires.live
+          (subst (λ n. b < n) (sym (unit_limit-byte (object_of v.objects x).kind c.requires.kind)) small) e.objects refl refl;
+      room = c.set_unit.ensures.room ∙ m.room;
+    }

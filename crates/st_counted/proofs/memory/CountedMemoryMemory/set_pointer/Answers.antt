@@ -1,0 +1,17 @@
+use Rattle.std.proofs.Common.{◌∙◌, ◌<◌, refl, arith}
+use Rattle.st_model.specs.Values.{value}
+use Rattle.st_model.proofs.Pointers.{IsWord-value_of}
+use Rattle.st_model.proofs.WholeLemmas.{whole_stored}
+use Rattle.st_counted.specs.Counted.{counted_view}
+use Rattle.st_counted.proofs.memory.CountedMemoryMemory.set_pointer.Goals as goal
+
+pub invariant_of-self : goal.invariant_of-self
+invariant_of-self c =
+    let m = c.args.self.now in
+    let v = counted_view m.contents in
+    let w = counted_view (record m.contents { objects = c.set_field.new.self }) in
+    let word : c.args.v.0 < 65536 = omega arith in
+    record {
+      whole = whole_stored v w (value c.args.o) c.args.at (value c.args.v) m.whole c.requires.live c.requires.known c.requires.header (IsWord-value_of c.args.v.0 word) c.set_field.ensures.objects refl refl;
+      room = c.set_field.ensures.room ∙ m.room;
+    }

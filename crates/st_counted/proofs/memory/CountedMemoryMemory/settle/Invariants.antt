@@ -1,0 +1,18 @@
+use Rattle.std.proofs.Common.{◌≡◌}
+use Rattle.st_model.specs.Objects.{one}
+use Rattle.st_model.specs.Table.{total_used}
+use Rattle.st_model.specs.View.{view_roots}
+use Rattle.st_model.proofs.Settling.{DropsTo}
+use Rattle.st_counted.specs.Counted.{counted_view}
+use Rattle.st_counted.proofs.memory.CountedMemoryMemory.settle.Given as goal
+
+-- no object is lost that a set has which supports itself
+abbrev pub invariant-loop : goal.invariant-loop
+invariant-loop l = record {
+  drops : DropsTo (counted_view l.fn.self.contents).objects (counted_view l.self.contents).objects (view_roots (counted_view l.fn.self.contents));
+  held : (counted_view l.self.contents).held ≡ (counted_view l.fn.self.contents).held;
+  head : (counted_view l.self.contents).head ≡ (counted_view l.fn.self.contents).head;
+}
+
+abbrev pub decreases-loop : goal.decreases-loop
+decreases-loop l = total_used one (counted_view l.self.contents).objects

@@ -1,0 +1,60 @@
+ghost use Rattle.std.specs.Prelude.{◌≡◌};
+ghost use Rattle.st_model.specs.Loading.{IsLoading};
+ghost use Rattle.st_model.specs.Props.{IsLoading-prop};
+ghost use Rattle.st_counted.specs.Counted.{counted_view, HasRoom};
+
+use crate::contents::{Contents, Head};
+use crate::memory::CountedMemory;
+use st_memory::Loader;
+use st_model::{Demand, Kind, Oop};
+use std::alloc::{AllocError, Global};
+
+/// Makes a `CountedMemory`. Only `begin` takes memory.
+#[derive(Drop)]
+pub struct CountedLoader {
+    contents: Contents,
+    ghost loading: { IsLoading (counted_view contents) } by { IsLoading-prop (counted_view contents) },
+    ghost room: { HasRoom contents },
+}
+
+impl Loader for CountedLoader {
+    type Done = CountedMemory;
+
+    ghost loaded = { λ l. counted_view l.contents };
+
+    fn begin(
+        alloc: Global,
+        capacity: Demand,
+        globals: Oop,
+        symbols: Oop,
+    ) -> Result<Self, AllocError> {
+        let head = Head {
+            capacity,
+            globals,
+            symbols,
+        };
+        let contents = Contents::new(alloc, head)?;
+        Ok(CountedLoader { contents })
+    }
+
+    fn place(&mut self, at: Oop, class: Oop, kind: Kind, size: u32, literals: u32) {
+        self.contents.objects.place(at, class, kind, size, literals);
+    }
+
+    fn set_pointer(&mut self, o: Oop, at: u32, v: Oop) {
+        self.contents.objects.set_field(o, at, v);
+    }
+
+    fn set_word(&mut self, o: Oop, at: u32, v: u16) {
+        self.contents.objects.set_unit(o, at, v);
+    }
+
+    fn set_byte(&mut self, o: Oop, at: u32, v: u8) {
+        let first = 2 * self.contents.objects.count_fields(o);
+        self.contents.objects.set_unit(o, at - first, u16::from(v));
+    }
+
+    fn finish(self) -> CountedMemory {
+        CountedMemory::new(self.contents)
+    }
+}

@@ -1,0 +1,294 @@
+-- What bytes stand in an object while others are copied there one after the other.
+use Rattle.std.proofs.Common.{◌≡◌, ◌≢◌, ℕ, zero, suc, ◌+◌, ◌-◌, ◌*◌, ◌<◌, ◌≤◌, true, false, List, [], ◌∷◌, ◌++◌, length, take, drop, refl, sym, ap, ◌∙◌, subst, arith, is_some, inl, inr}
+use Rattle.std.specs.Prelude.{slice_get, slice_set, unwrap_or, Some, None, if◌then◌else◌}
+use Rattle.st_model.specs.declared.kind.Kind.{Kind}
+use Rattle.st_model.specs.declared.kind.Kind.TheVariants as kind
+use Rattle.st_model.specs.Values.{Value, Small, Ref}
+use Rattle.st_model.specs.Objects.{Object, is_bytes, is_pointers, is_words, holds_fields, with_units, object_with_unit, first_unit, size_of}
+use Rattle.st_model.specs.Table.{Table, entry, changed}
+use Rattle.st_model.specs.View.{View, IsWhole, is_live, object_of, with_unit, nothing}
+use Rattle.st_model.proofs.TableLemmas.{changed-other}
+use Rattle.st_model.proofs.Transfers.{same_or_not}
+use Rattle.st_memory.specs.Copied.{HasBytes, laid, with_units_in, with_bytes_of}
+use Rattle.st_memory.proofs.Bodies.{no_fields}
+
+-- lists
+
+set_first : (to : ℕ) (ws us : List ℕ) (x : ℕ) → to + length ws < length us → slice_set (laid to ws us) (to + length ws) x ≡ laid to (ws ++ (x ∷ [])) us
+set_first zero [] [] x l = absurd (omega (arith, l))
+set_first zero [] (u ∷ us) x l = refl
+set_first zero (w ∷ ws) [] x l = absurd (omega (arith, l))
+set_first zero (w ∷ ws) (u ∷ us) x l =
+    let e : 0 + suc (length ws) ≡ suc (0 + length ws) = omega arith in
+    ap (λ i. slice_set (w ∷ laid 0 ws us) i x) e ∙ ap (λ q. w ∷ q) (set_first zero ws us x (omega (arith, l)))
+set_first (suc to) ws [] x l = absurd (omega (arith, l))
+set_first (suc to) ws (u ∷ us) x l =
+    let e : suc to + length ws ≡ suc (to + length ws) = omega arith in
+    ap (λ i. slice_set (u ∷ laid to ws us) i x) e ∙ ap (λ q. u ∷ q) (set_first to ws us x (omega (arith, l)))
+
+set_last : (a : ℕ) (ws us : List ℕ) (x : ℕ) → a < length us → slice_set (laid (suc a) ws us) a x ≡ laid a (x ∷ ws) us
+set_last a ws [] x l = absurd (omega (arith, l))
+set_last zero ws (u ∷ us) x l = refl
+set_last (suc a) ws (u ∷ us) x l = ap (λ q. u ∷ q) (set_last a ws us x (omega (arith, l)))
+
+got_below : (to i : ℕ) (ws us : List ℕ) → i < to → slice_get (laid to ws us) i ≡ slice_get us i
+got_below zero i ws us l = absurd (omega (arith, l))
+got_below (suc to) i ws [] l = refl
+got_below (suc to) zero ws (u ∷ us) l = refl
+got_below (suc to) (suc i) ws (u ∷ us) l = got_below to i ws us (omega (arith, l))
+
+got_above : (to i : ℕ) (ws us : List ℕ) → to + length ws ≤ i → slice_get (laid to ws us) i ≡ slice_get us i
+got_above zero i [] us l = refl
+got_above zero i (w ∷ ws) [] l = refl
+got_above zero zero (w ∷ ws) (u ∷ us) l = absurd (omega (arith, l))
+got_above zero (suc i) (w ∷ ws) (u ∷ us) l = got_above zero i ws us (omega (arith, l))
+got_above (suc to) i ws [] l = refl
+got_above (suc to) zero ws (u ∷ us) l = absurd (omega (arith, l))
+got_above (suc to) (suc i) ws (u ∷ us) l = got_above to i ws us (omega (arith, l))
+
+length-laid : (to : ℕ) (ws us : List ℕ) → length (laid to ws us) ≡ length us
+length-laid zero [] us = refl
+length-laid zero (w ∷ ws) [] = refl
+length-laid zero (w ∷ ws) (u ∷ us) = let q = length-laid zero ws us in omega (arith, q)
+length-laid (suc to) ws [] = refl
+length-laid (suc to) ws (u ∷ us) = let q = length-laid to ws us in omega (arith, q)
+
+taken_more : (vs : List ℕ) (from k x : ℕ) → slice_get vs (from + k) ≡ Some x → take (suc k) (drop from vs) ≡ take k (drop from vs) ++ (x ∷ [])
+taken_more [] from k x e = none from k e
+  where
+    none : (from k : ℕ) → slice_get {X = ℕ} [] (from + k) ≡ Some x → take (suc k) (drop from []) ≡ take k (drop from []) ++ (x ∷ [])
+    none from k e = cc
+taken_more (v ∷ vs) zero zero x e = let q : v ≡ x = cc in ap (λ y. y ∷ []) q
+taken_more (v ∷ vs) zero (suc k) x e =
+    let f : 0 + suc k ≡ suc (0 + k) = omega arith in
+    ap (λ q. v ∷ q) (taken_more vs zero k x (sym (ap (slice_get (v ∷ vs)) f) ∙ e))
+taken_more (v ∷ vs) (suc from) k x e =
+    let f : suc from + k ≡ suc (from + k) = omega arith in
+    taken_more vs from k x (sym (ap (slice_get (v ∷ vs)) f) ∙ e)
+
+taken_before : (vs : List ℕ) (b m x : ℕ) → slice_get vs b ≡ Some x → x ∷ take m (drop (suc b) vs) ≡ take (suc m) (drop b vs)
+taken_before [] b m x e = cc
+taken_before (v ∷ vs) zero m x e = let q : v ≡ x = cc in ap (λ y. y ∷ take m vs) (sym q)
+taken_before (v ∷ vs) (suc b) m x e = taken_before vs b m x e
+
+length-taken : (vs : List ℕ) (from k : ℕ) → from + k ≤ length vs → length (take k (drop from vs)) ≡ k
+length-taken vs from zero l = refl
+length-taken [] from (suc k) l = absurd (omega (arith, l))
+length-taken (v ∷ vs) zero (suc k) l = let q = length-taken vs zero k (omega (arith, l)) in omega (arith, q)
+length-taken (v ∷ vs) (suc from) (suc k) l = length-taken vs from (suc k) (omega (arith, l))
+
+-- tables
+
+changed_again : (t : Table) (n : ℕ) (a b : Object) → changed (changed t n a) n b ≡ changed t n b
+changed_again [] n a b = refl
+changed_again (None ∷ t) zero a b = refl
+changed_again (Some o ∷ t) zero a b = refl
+changed_again (None ∷ t) (suc n) a b = ap (λ u. None ∷ u) (changed_again t n a b)
+changed_again (Some o ∷ t) (suc n) a b = ap (λ u. Some o ∷ u) (changed_again t n a b)
+
+changed_none : (t : Table) (n : ℕ) → is_some (entry t n) ≡ true → changed t n (unwrap_or (entry t n) nothing) ≡ t
+changed_none [] n e = cc
+changed_none (None ∷ t) zero e = cc
+changed_none (Some o ∷ t) zero e = refl
+changed_none (None ∷ t) (suc n) e = ap (λ u. None ∷ u) (changed_none t n e)
+changed_none (Some o ∷ t) (suc n) e = ap (λ u. Some o ∷ u) (changed_none t n e)
+
+entry_changed : (t : Table) (n : ℕ) (o : Object) → is_some (entry t n) ≡ true → entry (changed t n o) n ≡ Some o
+entry_changed [] n o e = cc
+entry_changed (None ∷ t) zero o e = cc
+entry_changed (Some a ∷ t) zero o e = refl
+entry_changed (None ∷ t) (suc n) o e = entry_changed t n o e
+entry_changed (Some a ∷ t) (suc n) o e = entry_changed t n o e
+
+some_changed : (t : Table) (n k : ℕ) (o : Object) → is_some (entry (changed t n o) k) ≡ is_some (entry t k)
+some_changed [] n k o = refl
+some_changed (None ∷ t) zero k o = refl
+some_changed (Some a ∷ t) zero zero o = refl
+some_changed (Some a ∷ t) zero (suc k) o = refl
+some_changed (None ∷ t) (suc n) zero o = refl
+some_changed (Some a ∷ t) (suc n) zero o = refl
+some_changed (None ∷ t) (suc n) (suc k) o = some_changed t n k o
+some_changed (Some a ∷ t) (suc n) (suc k) o = some_changed t n k o
+
+module _ (t : Table) (v : Value) (us : List ℕ) where
+  live_in : (s : Value) → is_live (with_units_in t v us) s ≡ is_live t s
+  unfolding with_units_in is_live
+  live_in s = by_value v s
+    where
+      by_value : (v s : Value) → is_live (with_units_in t v us) s ≡ is_live t s
+      by_value (Small n) s = refl
+      by_value (Ref n) (Small k) = refl
+      by_value (Ref n) (Ref k) = some_changed t n k (with_units (object_of t (Ref n)) us)
+
+  object_here : is_live t v ≡ true → object_of (with_units_in t v us) v ≡ with_units (object_of t v) us
+  unfolding with_units_in is_live object_of
+  object_here e = by_value v e
+    where
+      by_value : (v : Value) → is_live t v ≡ true → object_of (with_units_in t v us) v ≡ with_units (object_of t v) us
+      by_value (Small n) e = cc
+      by_value (Ref n) e = ap (λ x. unwrap_or x nothing) (entry_changed t n (with_units (object_of t (Ref n)) us) e)
+
+  object_other : (s : Value) → s ≢ v → object_of (with_units_in t v us) s ≡ object_of t s
+  unfolding with_units_in object_of
+  object_other s d = by_value v s d
+    where
+      by_value : (v s : Value) → s ≢ v → object_of (with_units_in t v us) s ≡ object_of t s
+      by_value (Small n) s d = refl
+      by_value (Ref n) (Small k) d = refl
+      by_value (Ref n) (Ref k) d = ap (λ x. unwrap_or x nothing) (changed-other t n k (with_units (object_of t (Ref n)) us) (λ q. d (ap Ref q)))
+
+  unit_again : (i x : ℕ) → is_live t v ≡ true → with_unit (with_units_in t v us) v i x ≡ with_units_in t v (slice_set us i x)
+  unfolding with_units_in with_unit is_live object_of
+  unit_again i x e = by_value v e
+    where
+      by_value : (v : Value) → is_live t v ≡ true → with_unit (with_units_in t v us) v i x ≡ with_units_in t v (slice_set us i x)
+      by_value (Small n) e = cc
+      by_value (Ref n) e =
+          let o = unwrap_or (entry t n) nothing in
+          ap (λ y. changed (changed t n (with_units o us)) n (object_with_unit (unwrap_or y nothing) i x)) (entry_changed t n (with_units o us) e)
+          ∙ changed_again t n (with_units o us) (with_units o (slice_set us i x))
+
+units_none : (t : Table) (v : Value) → is_live t v ≡ true → with_units_in t v (object_of t v).units ≡ t
+unfolding with_units_in is_live object_of
+units_none t (Small n) e = cc
+units_none t (Ref n) e = changed_none t n e
+
+-- where the bytes of an object stand
+
+bytes_words : (k : Kind) → is_bytes k ≡ true → is_words k ≡ false
+bytes_words kind.Pointers e = cc
+bytes_words kind.Words e = cc
+bytes_words kind.Bytes e = refl
+bytes_words kind.Method e = cc
+
+bytes_fields : (k : Kind) → is_bytes k ≡ true → holds_fields k ≡ false
+bytes_fields kind.Pointers e = cc
+bytes_fields kind.Words e = cc
+bytes_fields kind.Bytes e = refl
+bytes_fields kind.Method e = cc
+
+bytes_pointers : (k : Kind) → is_bytes k ≡ true → is_pointers k ≡ false
+bytes_pointers kind.Pointers e = cc
+bytes_pointers kind.Words e = cc
+bytes_pointers kind.Bytes e = refl
+bytes_pointers kind.Method e = cc
+
+module _ {v : View} {x : Value} {i : ℕ} (whole : IsWhole v) (has : HasBytes v.objects x i 1) where
+  pub no_words : is_words (object_of v.objects x).kind ≡ false
+  no_words = bytes_words (object_of v.objects x).kind has.kind
+
+  pub first_is_none : first_unit (object_of v.objects x) ≡ 0
+  first_is_none = let f = no_fields x whole has.live (bytes_fields (object_of v.objects x).kind has.kind) in omega (arith, f)
+
+  pub above_first : first_unit (object_of v.objects x) ≤ i
+  above_first = let f = first_is_none in omega (arith, f)
+
+  pub below_size : i < size_of (object_of v.objects x)
+  below_size =
+      let o = object_of v.objects x in
+      let b = has.bytes in
+      subst (λ p. i < (if p then length o.fields else 2 * length o.fields + length o.units)) (sym (bytes_pointers o.kind has.kind)) (omega (arith, b))
+
+module _ (t u : Table) (s v : Value) (from to n : ℕ) (us : List ℕ) (source : HasBytes t s from n) (target : HasBytes t v to n) (same : length us ≡ length (object_of t v).units) (is : u ≡ with_units_in t v us) where
+  live_of : (x : Value) → is_live t x ≡ true → is_live u x ≡ true
+  live_of x e = ap (λ w. is_live w x) is ∙ live_in t v us x ∙ e
+
+  kind_of : (x : Value) → (object_of u x).kind ≡ (object_of t x).kind
+  kind_of x = elim (same_or_not x v) [
+    | inl e ↦ ap (λ w. (object_of w x).kind) is ∙ ap (λ y. (object_of (with_units_in t v us) y).kind) e ∙ ap (λ (o : Object). o.kind) (object_here t v us target.live) ∙ ap (λ y. (object_of t y).kind) (sym e)
+    | inr d ↦ ap (λ w. (object_of w x).kind) is ∙ ap (λ (o : Object). o.kind) (object_other t v us x d)
+  ]
+
+  count_of : (x : Value) → length (object_of u x).units ≡ length (object_of t x).units
+  count_of x = elim (same_or_not x v) [
+    | inl e ↦
+        ap (λ w. length (object_of w x).units) is ∙ ap (λ y. length (object_of (with_units_in t v us) y).units) e ∙ ap (λ (o : Object). length o.units) (object_here t v us target.live)
+        ∙ same ∙ ap (λ y. length (object_of t y).units) (sym e)
+    | inr d ↦ ap (λ w. length (object_of w x).units) is ∙ ap (λ (o : Object). length o.units) (object_other t v us x d)
+  ]
+
+  has_of : (x : Value) (at k : ℕ) → HasBytes t x at n → k < n → HasBytes u x (at + k) 1
+  has_of x at k has l = record {
+    live = live_of x has.live;
+    kind = ap is_bytes (kind_of x) ∙ has.kind;
+    bytes = let c = count_of x in let b = has.bytes in omega (arith, c, b, l);
+  }
+
+  pub has_source : (k : ℕ) → k < n → HasBytes u s (from + k) 1
+  has_source k l = has_of s from k source l
+
+  pub has_target : (k : ℕ) → k < n → HasBytes u v (to + k) 1
+  has_target k l = has_of v to k target l
+
+-- the bytes that are copied from an object
+abbrev pub bytes_from : Table → Value → ℕ → ℕ → List ℕ
+bytes_from t s from k = take k (drop from (object_of t s).units)
+
+-- and those of the other one where they are
+abbrev pub bytes_with : Table → Value → ℕ → Value → ℕ → ℕ → List ℕ
+bytes_with t s from v to k = laid to (bytes_from t s from k) (object_of t v).units
+
+pub length-with : (t : Table) (s : Value) (from : ℕ) (v : Value) (to k : ℕ) → length (bytes_with t s from v to k) ≡ length (object_of t v).units
+length-with t s from v to k = length-laid to (bytes_from t s from k) (object_of t v).units
+
+pub none_laid : (t : Table) (s : Value) (from : ℕ) (v : Value) (to : ℕ) → is_live t v ≡ true → t ≡ with_bytes_of t s from v to 0
+none_laid t s from v to live = sym (ap (with_units_in t v) (nothing_laid to (object_of t v).units) ∙ units_none t v live)
+  where
+    nothing_laid : (to : ℕ) (us : List ℕ) → laid to [] us ≡ us
+    nothing_laid zero us = refl
+    nothing_laid (suc to) [] = refl
+    nothing_laid (suc to) (u ∷ us) = ap (λ q. u ∷ q) (nothing_laid to us)
+
+module _ (t u w : Table) (s v : Value) (from to n k x : ℕ) (source : HasBytes t s from n) (target : HasBytes t v to n) (low : k < n) where
+  stored_is : (us : List ℕ) (first : ℕ) → u ≡ with_units_in t v us → first ≡ 0 → w ≡ with_unit u v (to + k - first) x → w ≡ with_units_in t v (slice_set us (to + k) x)
+  stored_is us first is none stored =
+      let e : to + k - first ≡ to + k = omega (arith, none) in
+      stored ∙ ap (λ i. with_unit u v i x) e ∙ ap (λ y. with_unit y v (to + k) x) is ∙ unit_again t v us (to + k) x target.live
+
+  read_is : (us : List ℕ) (first : ℕ) → u ≡ with_units_in t v us → first ≡ 0 → (s ≡ v → slice_get us (from + k) ≡ slice_get (object_of t v).units (from + k)) → slice_get (object_of u s).units (from + k - first) ≡ Some x
+      → slice_get (object_of t s).units (from + k) ≡ Some x
+  read_is us first is none old read =
+      let e : from + k - first ≡ from + k = omega (arith, none) in
+      let r = sym (ap (λ y. slice_get (object_of y s).units (from + k)) is) ∙ sym (ap (slice_get (object_of u s).units) e) ∙ read in
+      elim (same_or_not s v) [
+        | inl q ↦
+            ap (λ y. slice_get (object_of t y).units (from + k)) q ∙ sym (old q)
+            ∙ sym (ap (λ (o : Object). slice_get o.units (from + k)) (object_here t v us target.live))
+            ∙ ap (λ y. slice_get (object_of (with_units_in t v us) y).units (from + k)) (sym q) ∙ r
+        | inr d ↦ sym (ap (λ (o : Object). slice_get o.units (from + k)) (object_other t v us s d)) ∙ r
+      ]
+
+  -- the lowest first
+  pub first_more : (a b : ℕ) → (s ≡ v → to ≤ from) → u ≡ with_bytes_of t s from v to k → a ≡ 0 → slice_get (object_of u s).units (from + k - a) ≡ Some x
+      → b ≡ 0 → w ≡ with_unit u v (to + k - b) x → w ≡ with_bytes_of t s from v to (suc k)
+  first_more a b down is first_s read first_v stored =
+      let vs = (object_of t s).units in
+      let us = (object_of t v).units in
+      let c = source.bytes in
+      let d = target.bytes in
+      let long = length-taken vs from k (omega (arith, c, low)) in
+      let got = read_is (bytes_with t s from v to k) a is first_s (λ q. let l = down q in got_above to (from + k) (bytes_from t s from k) us (omega (arith, l, long))) read in
+      let at : to + k ≡ to + length (bytes_from t s from k) = omega (arith, long) in
+      stored_is (bytes_with t s from v to k) b is first_v stored
+      ∙ ap (λ i. with_units_in t v (slice_set (bytes_with t s from v to k) i x)) at
+      ∙ ap (with_units_in t v) (set_first to (bytes_from t s from k) us x (omega (arith, long, d, low)) ∙ ap (λ ws. laid to ws us) (sym (taken_more vs from k x got)))
+
+  -- the highest first
+  pub last_more : (a b : ℕ) → (s ≡ v → from ≤ to) → u ≡ with_bytes_of t s (from + suc k) v (to + suc k) (n - suc k) → a ≡ 0 → slice_get (object_of u s).units (from + k - a) ≡ Some x
+      → b ≡ 0 → w ≡ with_unit u v (to + k - b) x → w ≡ with_bytes_of t s (from + k) v (to + k) (n - k)
+  last_more a b up is first_s read first_v stored =
+      let vs = (object_of t s).units in
+      let us = (object_of t v).units in
+      let d = target.bytes in
+      let ws = bytes_from t s (from + suc k) (n - suc k) in
+      let got = read_is (laid (to + suc k) ws us) a is first_s (λ q. let l = up q in got_below (to + suc k) (from + k) ws us (omega (arith, l))) read in
+      let e : to + suc k ≡ suc (to + k) = omega arith in
+      let f : from + suc k ≡ suc (from + k) = omega arith in
+      let m : suc (n - suc k) ≡ n - k = omega (arith, low) in
+      stored_is (laid (to + suc k) ws us) b is first_v stored
+      ∙ ap (λ j. with_units_in t v (slice_set (laid j ws us) (to + k) x)) e
+      ∙ ap (with_units_in t v)
+      (set_last (to + k) ws us x (omega (arith, d, low))
+      ∙ ap (λ j. laid (to + k) (x ∷ take (n - suc k) (drop j vs)) us) f
+      ∙ ap (λ q. laid (to + k) q us) (taken_before vs (from + k) (n - suc k) x got)
+      ∙ ap (λ j. laid (to + k) (take j (drop (from + k) vs)) us) m)

@@ -1,0 +1,30 @@
+-- Bytes of one object that become those of another.
+use Rattle.std.specs.Prelude.{◌≡◌, ℕ, zero, suc, ◌+◌, ◌≤◌, true, List, [], ◌∷◌, take, drop, length}
+use Rattle.st_model.specs.Values.{Value, Small, Ref}
+use Rattle.st_model.specs.Objects.{is_bytes, with_units}
+use Rattle.st_model.specs.Table.{Table, changed}
+use Rattle.st_model.specs.View.{is_live, object_of}
+
+-- a live object of kind Bytes has n bytes from one on
+pub record HasBytes (t : Table) (v : Value) (from n : ℕ) : Type 0 where
+  pub live : is_live t v ≡ true
+  pub kind : is_bytes (object_of t v).kind ≡ true
+  pub bytes : from + n ≤ length (object_of t v).units
+
+-- these in the place of the bytes from one on
+abbrev pub laid : ℕ → List ℕ → List ℕ → List ℕ
+laid zero [] us = us
+laid zero (w ∷ ws) [] = []
+laid zero (w ∷ ws) (u ∷ us) = w ∷ laid zero ws us
+laid (suc to) ws [] = []
+laid (suc to) ws (u ∷ us) = u ∷ laid to ws us
+
+-- the table with these units in an object
+unfoldable pub with_units_in : Table → Value → List ℕ → Table
+with_units_in t (Small n) us = t
+with_units_in t (Ref n) us = changed t n (with_units (object_of t (Ref n)) us)
+
+-- the table in which n bytes of one object, from one on, are copied to those of another, all as they were before
+abbrev pub with_bytes_of : Table → Value → ℕ → Value → ℕ → ℕ → Table
+with_bytes_of t source from target to n =
+    with_units_in t target (laid to (take n (drop from (object_of t source).units)) (object_of t target).units)

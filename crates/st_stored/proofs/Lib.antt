@@ -1,0 +1,10 @@
+pub mod Tying
+pub mod Runs
+pub mod Storing
+pub mod Forming
+pub mod Fresh
+pub mod Living
+pub mod Changing
+pub mod Placing
+pub mod Totals
+pub mod Swapping

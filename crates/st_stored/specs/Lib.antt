@@ -1,0 +1,5 @@
+pub mod Forms
+pub mod Fresh
+pub mod Stored
+pub mod Stores
+pub mod Tables
