@@ -1,5 +1,9 @@
 -- Primitives on two SmallIntegers, and sends for which they are tried first.
-use Rattle.std.proofs.Common.{◌≡◌, ℕ, Some, None, true, false, refl}
+use Rattle.std.proofs.Common.{◌≡◌, ℕ, Option, Some, None, sym, true, false, refl, arith}
+use Rattle.std.specs.Prelude.{ℤ, FitsSigned}
+use Rattle.std.specs.Int.{w16, cast_signed, cast_unsigned}
+use Rattle.std.proofs.lemmas.Int.{ints, to_z-of_z}
+use Rattle.st_ints.specs.Answers.{IsSmall}
 use Rattle.st_model.specs.declared.dead.Dead.{Dead}
 use Rattle.st_model.specs.Values.{Value, Small, Ref, is_small}
 use Rattle.st_model.specs.Machine.{ObjectMemory, State, Died, Went, answer, die}
@@ -9,22 +13,30 @@ use Rattle.st_model.specs.Executing.{executed}
 use Rattle.st_model.specs.Arithmetic.{arithmetic, arithmetic_number}
 use Rattle.st_model.specs.Bytecodes.{or_send, arithmetic_by}
 use Rattle.st_model.specs.Table.{Table}
-use Rattle.st_model.proofs.Runs.{run-integer, run-no_integer, run-tried_went, run-tried_died}
+use Rattle.st_model.proofs.Runs.{run-integer, run-no_integer, run-some, run-none, run-tried_went, run-tried_died}
 use Rattle.st_frames.proofs.Doing.{rows, pages}
 
-pub ruleset integers = (rows, run-integer, run-no_integer)
+-- a SmallInteger's integer that is passed on
+pub passed : (z : ℤ) → IsSmall z → cast_signed w16 (cast_unsigned w16 z) ≡ z
+passed z h = let f : FitsSigned w16 z = omega (arith, ints, h.low, h.high) in to_z-of_z w16 z f
 
-some_answer : {A : Type 0} (cause : Dead) (a : A) (s : State Table) → (or_die cause (Some a)).run s ≡ Went a s
+pub ruleset integers = (rows, run-integer, run-no_integer, passed)
+
+pub ruleset passing = (rows, passed, to_z-of_z)
+
+pub some_answer : {A : Type 0} (cause : Dead) (o : Option A) (a : A) (s : State Table) → Some a ≡ o → (or_die cause o).run s ≡ Went a s
 unfolding or_die answer
-some_answer cause a s = refl
+some_answer cause None a s e = cc
+some_answer cause (Some b) a s e = run-some cause (Some b) a s (sym e)
 
-no_answer : {A : Type 0} (cause : Dead) (s : State Table) → (or_die {A = A} cause None).run s ≡ Died cause
+pub no_answer : {A : Type 0} (cause : Dead) (o : Option A) (s : State Table) → None ≡ o → (or_die cause o).run s ≡ Died cause
 unfolding or_die die
-no_answer cause s = refl
+no_answer cause None s e = refl
+no_answer cause (Some b) s e = cc
 
-pub ruleset answers = (some_answer, no_answer)
+pub ruleset answers = (some_answer, no_answer, passed, to_z-of_z)
 
-pub ruleset values = (rows, pages)
+pub ruleset values = (rows, pages, passed)
 
 -- a primitive that is tried
 pub ruleset tries = (rows, run-tried_went, run-tried_died)

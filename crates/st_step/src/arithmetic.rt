@@ -1,7 +1,8 @@
-ghost use Rattle.std.specs.Prelude.{◌≡◌, ◌<◌, ◌≤◌, ◌+◌, ◌≤ℤ◌, pos, negsuc, Some, true, IfOk, IfSome};
+ghost use Rattle.std.specs.Prelude.{◌≡◌, ◌<◌, ◌≤◌, ◌+◌, ◌≤ℤ◌, pos, negsuc, Some, true, IfOk};
 ghost use Rattle.st_model.specs.declared.dead.Dead.TheVariants as dead;
 ghost use Rattle.st_model.specs.Steps.{or_die};
-ghost use Rattle.st_model.specs.Values.{word};
+ghost use Rattle.st_model.specs.Values.{word, small_integer};
+ghost use Rattle.st_model.specs.Integers.{binary};
 ghost use Rattle.st_model.specs.Calls.{itself};
 ghost use Rattle.st_model.specs.Primitives.{succeed, answer_with};
 ghost use Rattle.st_model.specs.Arithmetic.{new_point, value_of_answer, integer_under, integer_answer};
@@ -28,8 +29,7 @@ fn in_16_bits(n: i32) -> i16
 fn integer_under<O: Objects>(m: &O, r: &Registers, k: u32) -> Result<i16, Dead>
     requires few { k < 32768 }
     ensures does { RowReads O.Objects.own (integer_under O.names k) itself m.now r.now result }
-    ensures low { IfOk result (λ n. negsuc 16383 ≤ℤ n) }
-    ensures high { IfOk result (λ n. n ≤ℤ pos 16383) }
+    ensures small { IfOk result IsSmall }
 {
     let v = under(m, r, k)?;
     if v.is_small() {
@@ -39,21 +39,31 @@ fn integer_under<O: Objects>(m: &O, r: &Registers, k: u32) -> Result<i16, Dead>
     }
 }
 
-/// An answer, or an error where there is none.
+/// What primitive n, of 1 to 18, answers of two integers; an error where it fails.
 #[tactic(auto, using(crate::proofs::Tries::answers))]
-fn or_fails<O: Objects>(m: &O, r: &Registers, answer: Option<IntAnswer>) -> Result<IntAnswer, Dead>
-    requires small { IfSome answer IsOfSmall }
-    ensures does { RowReads O.Objects.own (or_die dead.NotSmall answer) itself m.now r.now result }
+fn binary_answer<O: Objects>(
+    m: &O,
+    r: &Registers,
+    n: u32,
+    receiver: i16,
+    argument: i16,
+) -> Result<IntAnswer, Dead>
+    requires first { 1 ≤ n }
+    requires last { n ≤ 18 }
+    requires receiver { IsSmall receiver }
+    requires argument { IsSmall argument }
+    ensures does { RowReads O.Objects.own (or_die dead.NotSmall (binary n receiver argument))
+        itself m.now r.now result }
     ensures small { IfOk result IsOfSmall }
 {
-    match answer {
+    match binary(n as u8, receiver, argument) {
         Some(answer) => Ok(answer),
         None => Err(Dead::NotSmall),
     }
 }
 
 /// What primitive n, of 1 to 18, answers of receiver and argument; an error where it fails.
-#[tactic(auto, using(st_frames::proofs::Doing::rows), unfolding(st_model::specs::Arithmetic::integer_answer))]
+#[tactic(auto, using(crate::proofs::Tries::passing), unfolding(st_model::specs::Arithmetic::integer_answer))]
 pub fn integer_answer<O: Objects>(m: &O, r: &Registers, n: u32) -> Result<IntAnswer, Dead>
     requires first { 1 ≤ n }
     requires last { n ≤ 18 }
@@ -62,11 +72,20 @@ pub fn integer_answer<O: Objects>(m: &O, r: &Registers, n: u32) -> Result<IntAns
 {
     let receiver = integer_under(m, r, 1)?;
     let argument = integer_under(m, r, 0)?;
-    or_fails(m, r, binary(n as u8, receiver, argument))
+    binary_answer(m, r, n, receiver, argument)
+}
+
+/// The word of an integer from -16384 to 16383.
+#[tactic(auto, using(std::proofs::lemmas::Int::ints))]
+fn word_of(n: i16) -> Word
+    requires small { IsSmall n }
+    ensures { word result ≡ small_integer n }
+{
+    small_integer(i32::from(n))
 }
 
 /// A new Point of two integers.
-#[tactic(auto, using(st_frames::proofs::Doing::rows), unfolding(st_model::specs::Arithmetic::new_point))]
+#[tactic(auto, using(crate::proofs::Tries::passing), unfolding(st_model::specs::Arithmetic::new_point))]
 fn new_point<O: Objects>(m: &mut O, r: &Registers, x: i16, y: i16) -> Result<Word, Dead>
     requires room { 3 ≤ O.room m.old }
     requires first { IsSmall x }
@@ -76,8 +95,8 @@ fn new_point<O: Objects>(m: &mut O, r: &Registers, x: i16, y: i16) -> Result<Wor
 {
     let class = page(m, PageObject::PointClass);
     let point = m.new_object(class, 2)?;
-    m.store_field(point, 0, small_integer(i32::from(x)))?;
-    m.store_field(point, 1, small_integer(i32::from(y)))?;
+    m.store_field(point, 0, word_of(x))?;
+    m.store_field(point, 1, word_of(y))?;
     Ok(point)
 }
 
@@ -91,7 +110,7 @@ fn value_of_answer<O: Objects>(m: &mut O, r: &Registers, answer: IntAnswer) -> R
     ensures takes { Takes O.Objects.own 3 m.old m.new }
 {
     match answer {
-        IntAnswer::Number(n) => Ok(small_integer(i32::from(n))),
+        IntAnswer::Number(n) => Ok(word_of(n)),
         IntAnswer::Truth(true) => Ok(page(m, PageObject::TrueObject)),
         IntAnswer::Truth(false) => Ok(page(m, PageObject::FalseObject)),
         IntAnswer::Point(x, y) => new_point(m, r, x, y),
