@@ -1,3 +1,3 @@
-pub mod Arithmetic
+pub mod Tries
 pub mod Stepped
 pub mod Foreseeing

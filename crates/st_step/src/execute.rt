@@ -1,12 +1,15 @@
-ghost use Rattle.std.specs.Prelude.{◌≡◌, ◌<◌, ◌≤◌, ◌+◌};
+ghost use Rattle.std.specs.Prelude.{◌≡◌, ◌<◌, ◌≤◌, ◌+◌, ◌==◌, ◌&&◌};
 ghost use Rattle.st_model.specs.Values.{word};
 ghost use Rattle.st_model.specs.Outcomes.{end_of};
 ghost use Rattle.st_model.specs.Sends.{call_of, call_if_any};
-ghost use Rattle.st_model.specs.Executing.{goes_on, answer_field, respond, respond_by_extension, execute_by, execute, execute_if_any};
+ghost use Rattle.st_model.specs.Executing.{goes_on, answer_field, is_from, is_unbuilt, or_activate, respond, respond_by_extension, execute_by, execute, execute_if_any};
+ghost use Rattle.st_model.specs.Arithmetic.{arithmetic};
 ghost use Rattle.st_model.specs.Methods.{primitive_number, method_primitive, method_header};
 ghost use Rattle.st_model.specs.Calls.{itself};
 ghost use Rattle.st_frames.specs.Rows.{RowReads, RowDoes, Takes, activation_changes};
 
+use crate::arithmetic::{answer_integers, integer_answer};
+use crate::receivers::{equivalence, flush_cache, receiver_class};
 use st_control::activate;
 use st_frames::{Registers, pop, push};
 use st_memory::Objects;
@@ -46,7 +49,45 @@ fn method_primitive<O: Objects>(m: &O, r: &Registers, method: Word) -> Result<u3
     primitive_number(m, r, extension)
 }
 
-/// The method is activated where it has no primitive.
+/// Whether a primitive is one of 1 to 18, with the one argument of these.
+fn is_arithmetic(primitive: u32, arguments: u32) -> bool
+    ensures { result ≡ (is_from 1 18 primitive && arguments == 1) }
+{
+    1 <= primitive && primitive <= 18 && arguments == 1
+}
+
+/// Whether a primitive isn't built.
+fn is_unbuilt(primitive: u32) -> bool
+    ensures { result ≡ is_unbuilt primitive }
+{
+    matches!(primitive, 60..=88 | 90..=102 | 105 | 112..=116 | 128)
+}
+
+/// Does a primitive on two SmallIntegers, or activates the method where it fails.
+#[tactic(auto, using(crate::proofs::Tries::tries), unfolding(st_model::specs::Executing::or_activate, st_model::specs::Executing::goes_on, st_model::specs::Arithmetic::arithmetic, st_model::specs::Primitives::primitive, st_model::specs::Primitives::succeed))]
+fn arithmetic_or_activate<O: Objects>(
+    m: &mut O,
+    r: &mut Registers,
+    call: Call,
+    header: Header,
+    primitive: u32,
+) -> Result<StepEnd, Dead>
+    requires first { 1 ≤ primitive }
+    requires last { primitive ≤ 18 }
+    requires room { activation_changes ≤ O.room m.old }
+    ensures does { RowDoes O.Objects.own
+        (or_activate O.names (call_of call) (word header.0) (arithmetic O.names primitive))
+        end_of m.old r.old result m.new r.new }
+    ensures takes { Takes O.Objects.own activation_changes m.old m.new }
+{
+    match integer_answer(m, r, primitive) {
+        Ok(answer) => answer_integers(m, r, answer)?,
+        Err(_) => activate(m, r, call.method, header, call.arguments)?,
+    }
+    Ok(StepEnd::Did(Outcome::Went))
+}
+
+/// Does the method's primitive, or activates the method where it has none or it fails.
 #[tactic(auto, using(st_frames::proofs::Doing::rows), unfolding(st_model::specs::Executing::respond, st_model::specs::Executing::goes_on))]
 fn respond<O: Objects>(
     m: &mut O,
@@ -61,12 +102,21 @@ fn respond<O: Objects>(
         end_of m.old r.old result m.new r.new }
     ensures takes { Takes O.Objects.own activation_changes m.old m.new }
 {
-    if primitive == 0 {
-        activate(m, r, call.method, header, call.arguments)?;
-        Ok(StepEnd::Did(Outcome::Went))
-    } else {
-        Ok(StepEnd::NotBuilt)
+    if is_arithmetic(primitive, call.arguments) {
+        return arithmetic_or_activate(m, r, call, header, primitive);
     }
+    if primitive == 89 {
+        flush_cache(m, r, call.arguments)?;
+    } else if primitive == 110 && call.arguments == 1 {
+        equivalence(m, r)?;
+    } else if primitive == 111 && call.arguments == 0 {
+        receiver_class(m, r)?;
+    } else if is_unbuilt(primitive) {
+        return Ok(StepEnd::NotBuilt);
+    } else {
+        activate(m, r, call.method, header, call.arguments)?;
+    }
+    Ok(StepEnd::Did(Outcome::Went))
 }
 
 /// The method is executed by its header extension.

@@ -2,9 +2,11 @@
 //! one (chapter 28).
 #![tactic(auto)]
 
+mod arithmetic;
 mod execute;
 mod jump;
 mod operands;
+mod receivers;
 mod returns;
 mod rows;
 mod send;

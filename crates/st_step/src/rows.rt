@@ -14,7 +14,7 @@ use crate::returns::{
 };
 use crate::send::{
     arithmetic_send, double_extended_send, double_extended_super_send, extended_send,
-    extended_super_send, send_literal_selector, send_special_selector,
+    extended_super_send, primitive_send, send_literal_selector, send_special_selector,
 };
 use crate::stack::{
     duplicate_top, extended_push, extended_store, extended_store_and_pop, pop_stack,
@@ -59,7 +59,7 @@ fn bytecode<O: Objects>(m: &mut O, r: &mut Registers, code: Bytecode) -> Result<
         Bytecode::LongJumpOnFalse(i) => return long_jump_on_false(m, r, i),
         Bytecode::ArithmeticSend(k) => return arithmetic_send(m, r, u32::from(k)),
         Bytecode::SpecialSend(k) => return send_special_selector(m, r, u32::from(k)),
-        Bytecode::PrimitiveSend(_) => return Ok(StepEnd::NotBuilt),
+        Bytecode::PrimitiveSend(k) => return primitive_send(m, r, u32::from(k)),
         Bytecode::LiteralSend { literal, arguments } => {
             return send_literal_selector(m, r, u32::from(literal), u32::from(arguments));
         }

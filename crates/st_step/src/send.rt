@@ -3,15 +3,18 @@ ghost use Rattle.st_model.specs.Values.{word};
 ghost use Rattle.st_model.specs.Outcomes.{end_of};
 ghost use Rattle.st_model.specs.Sends.{call_of, special_send};
 ghost use Rattle.st_model.specs.Executing.{executed};
-ghost use Rattle.st_model.specs.Bytecodes.{send_literal, send_literal_to_super, extended_send, double_extended_send, extended_super_send, double_extended_super_send, arithmetic_by, arithmetic_send};
+ghost use Rattle.st_model.specs.Bytecodes.{send_literal, send_literal_to_super, extended_send, double_extended_send, extended_super_send, double_extended_super_send, or_send, arithmetic_by, arithmetic_send, primitive_send};
+ghost use Rattle.st_model.specs.Arithmetic.{arithmetic, arithmetic_number};
 ghost use Rattle.st_frames.specs.Rows.{RowDoes, Takes, send_changes, executed_send_changes};
 
+use crate::arithmetic::{answer_integers, integer_answer};
 use crate::execute::execute;
 use crate::operands::fetch_literal_constant;
+use crate::receivers::{equivalence, receiver_class};
 use st_control::{send, send_to_super, special_send};
 use st_frames::{Registers, next_byte, under};
 use st_memory::Objects;
-use st_model::{Call, Dead, Performing, StepEnd, Word};
+use st_model::{Call, Dead, Outcome, Performing, StepEnd, Word};
 
 /// Sends literal i with n arguments.
 #[tactic(auto, using(st_frames::proofs::Doing::rows), unfolding(st_model::specs::Bytecodes::send_literal))]
@@ -132,22 +135,63 @@ pub fn send_special_selector<O: Objects>(
     execute(m, r, Performing::Allowed, call)
 }
 
+/// The primitive that is tried first for a special selector of 0 to 15.
+fn arithmetic_number(k: u32) -> u32
+    requires few { k < 16 }
+    ensures number { result ≡ arithmetic_number k }
+    ensures first { 1 ≤ result }
+    ensures last { result ≤ 18 }
+{
+    match k {
+        11 => 18,
+        12 => 17,
+        13 => 12,
+        14 | 15 => k,
+        _ => k + 1,
+    }
+}
+
+/// Does a primitive on two SmallIntegers, or sends the special selector where it fails.
+#[tactic(auto, using(crate::proofs::Tries::tries), unfolding(st_model::specs::Bytecodes::or_send, st_model::specs::Arithmetic::arithmetic, st_model::specs::Primitives::primitive, st_model::specs::Primitives::succeed))]
+fn arithmetic_or_send<O: Objects>(
+    m: &mut O,
+    r: &mut Registers,
+    k: u32,
+    primitive: u32,
+) -> Result<StepEnd, Dead>
+    requires number { k < 16 }
+    requires first { 1 ≤ primitive }
+    requires last { primitive ≤ 18 }
+    requires room { executed_send_changes ≤ O.room m.old }
+    ensures does { RowDoes O.Objects.own (or_send O.names k (arithmetic O.names primitive))
+        end_of m.old r.old result m.new r.new }
+    ensures takes { Takes O.Objects.own executed_send_changes m.old m.new }
+{
+    match integer_answer(m, r, primitive) {
+        Ok(answer) => {
+            answer_integers(m, r, answer)?;
+            Ok(StepEnd::Did(Outcome::Went))
+        }
+        Err(_) => send_special_selector(m, r, k),
+    }
+}
+
 /// A primitive is tried first where the receiver is a SmallInteger.
-#[tactic(auto, using(crate::proofs::Arithmetic::arithmetic))]
+#[tactic(auto, using(crate::proofs::Tries::sends))]
 fn arithmetic_by<O: Objects>(
     m: &mut O,
     r: &mut Registers,
     k: u32,
     receiver: Word,
 ) -> Result<StepEnd, Dead>
-    requires number { k < 32 }
+    requires number { k < 16 }
     requires room { executed_send_changes ≤ O.room m.old }
     ensures does { RowDoes O.Objects.own (arithmetic_by O.names k (word receiver))
         end_of m.old r.old result m.new r.new }
     ensures takes { Takes O.Objects.own executed_send_changes m.old m.new }
 {
     if receiver.is_small() {
-        Ok(StepEnd::NotBuilt)
+        arithmetic_or_send(m, r, k, arithmetic_number(k))
     } else {
         send_special_selector(m, r, k)
     }
@@ -156,11 +200,26 @@ fn arithmetic_by<O: Objects>(
 /// Sends the special selector of this number, for which arithmetic is tried first.
 #[tactic(auto, using(st_frames::proofs::Doing::rows), unfolding(st_model::specs::Bytecodes::arithmetic_send))]
 pub fn arithmetic_send<O: Objects>(m: &mut O, r: &mut Registers, k: u32) -> Result<StepEnd, Dead>
-    requires number { k < 32 }
+    requires number { k < 16 }
     requires room { executed_send_changes ≤ O.room m.old }
     ensures does { RowDoes O.Objects.own (arithmetic_send O.names k) end_of m.old r.old result m.new r.new }
     ensures takes { Takes O.Objects.own executed_send_changes m.old m.new }
 {
     let receiver = under(m, r, 1)?;
     arithmetic_by(m, r, k, receiver)
+}
+
+/// Does the primitive of the code 176 + k: 110 and 111 for 198 and 199. Those of 200 to 202 aren't built.
+#[tactic(auto, using(st_frames::proofs::Doing::rows), unfolding(st_model::specs::Bytecodes::primitive_send, st_model::specs::Executing::goes_on))]
+pub fn primitive_send<O: Objects>(m: &mut O, r: &mut Registers, k: u32) -> Result<StepEnd, Dead>
+    requires room { executed_send_changes ≤ O.room m.old }
+    ensures does { RowDoes O.Objects.own (primitive_send O.names k) end_of m.old r.old result m.new r.new }
+    ensures takes { Takes O.Objects.own executed_send_changes m.old m.new }
+{
+    match k {
+        22 => equivalence(m, r)?,
+        23 => receiver_class(m, r)?,
+        _ => return Ok(StepEnd::NotBuilt),
+    }
+    Ok(StepEnd::Did(Outcome::Went))
 }
