@@ -6,11 +6,13 @@ use Rattle.std.proofs.lemmas.Int.{ints, to_z-of_z}
 use Rattle.st_ints.specs.Answers.{IsSmall}
 use Rattle.st_model.specs.declared.dead.Dead.{Dead}
 use Rattle.st_model.specs.Values.{Value, Small, Ref, is_small}
-use Rattle.st_model.specs.Machine.{ObjectMemory, State, Died, Went, answer, die}
+use Rattle.st_model.specs.Machine.{ObjectMemory, State, Died, Went, answer, die, after, ◌>>=◌}
 use Rattle.st_model.specs.Steps.{or_die}
 use Rattle.st_model.specs.Sends.{special_send}
 use Rattle.st_model.specs.Executing.{executed}
-use Rattle.st_model.specs.Arithmetic.{arithmetic, arithmetic_number}
+use Rattle.st_model.specs.declared.integers.IntAnswer.{IntAnswer}
+use Rattle.st_model.specs.Primitives.{succeed, primitive}
+use Rattle.st_model.specs.Arithmetic.{arithmetic, arithmetic_number, integer_answer, value_of_answer}
 use Rattle.st_model.specs.Bytecodes.{or_send, arithmetic_by}
 use Rattle.st_model.specs.Table.{Table}
 use Rattle.st_model.proofs.Runs.{run-integer, run-no_integer, run-some, run-none, run-tried_went, run-tried_died}
@@ -38,8 +40,19 @@ pub ruleset answers = (some_answer, no_answer, passed, to_z-of_z)
 
 pub ruleset values = (rows, pages, passed)
 
--- a primitive that is tried
-pub ruleset tries = (rows, run-tried_went, run-tried_died)
+-- a primitive on SmallIntegers that is tried: it succeeds with what it answers, or fails
+
+pub arithmetic-answers : (m : ObjectMemory Table) (n : ℕ) (a : IntAnswer) (s : State Table) → (integer_answer m n).run s ≡ Went a s
+    → (arithmetic m n).run s ≡ (succeed m 1 (value_of_answer m) (Some a)).run s
+unfolding arithmetic primitive ◌>>=◌ after
+arithmetic-answers m n a s e = rw (run-tried_went (integer_answer m n) s s a e) refl
+
+pub arithmetic-fails : (m : ObjectMemory Table) (n : ℕ) (k : Dead) (s : State Table) → (integer_answer m n).run s ≡ Died k
+    → (arithmetic m n).run s ≡ Went false s
+unfolding arithmetic primitive succeed ◌>>=◌ after answer
+arithmetic-fails m n k s e = rw (run-tried_died (integer_answer m n) s k e) refl
+
+pub ruleset tries = (rows, arithmetic-answers, arithmetic-fails)
 
 pub arithmetic-small : (m : ObjectMemory Table) (k : ℕ) (v : Value) (s : State Table) → is_small v ≡ true
     → (arithmetic_by m k v).run s ≡ (or_send m k (arithmetic m (arithmetic_number k))).run s

@@ -4,6 +4,8 @@ ghost use Rattle.st_model.specs.Outcomes.{end_of};
 ghost use Rattle.st_model.specs.Sends.{call_of, call_if_any};
 ghost use Rattle.st_model.specs.Executing.{goes_on, answer_field, is_from, is_unbuilt, or_activate, respond, respond_by_extension, execute_by, execute, execute_if_any};
 ghost use Rattle.st_model.specs.Arithmetic.{arithmetic};
+ghost use Rattle.st_model.specs.Contexts.{activate};
+ghost use Rattle.st_step.specs.Responding.{activated_if_built};
 ghost use Rattle.st_model.specs.Methods.{primitive_number, method_primitive, method_header};
 ghost use Rattle.st_model.specs.Calls.{itself};
 ghost use Rattle.st_frames.specs.Rows.{RowReads, RowDoes, Takes, activation_changes};
@@ -63,8 +65,33 @@ fn is_unbuilt(primitive: u32) -> bool
     matches!(primitive, 60..=88 | 90..=102 | 105 | 112..=116 | 128)
 }
 
+/// Whether a primitive has this number, and as many arguments as it takes.
+fn is_with(primitive: u32, number: u32, arguments: u32, count: u32) -> bool
+    ensures { result ≡ (primitive == number && arguments == count) }
+{
+    primitive == number && arguments == count
+}
+
+/// Activates the method.
+#[tactic(auto, using(st_frames::proofs::Doing::rows), unfolding(st_model::specs::Executing::goes_on))]
+fn activated<O: Objects>(
+    m: &mut O,
+    r: &mut Registers,
+    call: Call,
+    header: Header,
+) -> Result<StepEnd, Dead>
+    requires room { activation_changes ≤ O.room m.old }
+    ensures does { RowDoes O.Objects.own
+        (goes_on (activate O.names (word call.method) (word header.0) call.arguments))
+        end_of m.old r.old result m.new r.new }
+    ensures takes { Takes O.Objects.own activation_changes m.old m.new }
+{
+    activate(m, r, call.method, header, call.arguments)?;
+    Ok(StepEnd::Did(Outcome::Went))
+}
+
 /// Does a primitive on two SmallIntegers, or activates the method where it fails.
-#[tactic(auto, using(crate::proofs::Tries::tries), unfolding(st_model::specs::Executing::or_activate, st_model::specs::Executing::goes_on, st_model::specs::Arithmetic::arithmetic, st_model::specs::Primitives::primitive, st_model::specs::Primitives::succeed))]
+#[tactic(auto, using(crate::proofs::Tries::tries), unfolding(st_model::specs::Executing::or_activate))]
 fn arithmetic_or_activate<O: Objects>(
     m: &mut O,
     r: &mut Registers,
@@ -81,14 +108,38 @@ fn arithmetic_or_activate<O: Objects>(
     ensures takes { Takes O.Objects.own activation_changes m.old m.new }
 {
     match integer_answer(m, r, primitive) {
-        Ok(answer) => answer_integers(m, r, answer)?,
-        Err(_) => activate(m, r, call.method, header, call.arguments)?,
+        Ok(answer) => {
+            answer_integers(m, r, answer)?;
+            Ok(StepEnd::Did(Outcome::Went))
+        }
+        Err(_) => activated(m, r, call, header),
     }
-    Ok(StepEnd::Did(Outcome::Went))
+}
+
+/// Activates the method, where its primitive isn't one that waits to be built.
+#[tactic(auto, using(st_frames::proofs::Doing::rows), unfolding(crate::specs::Responding::activated_if_built))]
+fn activated_if_built<O: Objects>(
+    m: &mut O,
+    r: &mut Registers,
+    call: Call,
+    header: Header,
+    primitive: u32,
+) -> Result<StepEnd, Dead>
+    requires room { activation_changes ≤ O.room m.old }
+    ensures does { RowDoes O.Objects.own
+        (activated_if_built O.names (call_of call) (word header.0) primitive)
+        end_of m.old r.old result m.new r.new }
+    ensures takes { Takes O.Objects.own activation_changes m.old m.new }
+{
+    if is_unbuilt(primitive) {
+        Ok(StepEnd::NotBuilt)
+    } else {
+        activated(m, r, call, header)
+    }
 }
 
 /// Does the method's primitive, or activates the method where it has none or it fails.
-#[tactic(auto, using(st_frames::proofs::Doing::rows), unfolding(st_model::specs::Executing::respond, st_model::specs::Executing::goes_on))]
+#[tactic(auto, using(st_frames::proofs::Doing::rows), unfolding(st_model::specs::Executing::respond, st_model::specs::Executing::goes_on, crate::specs::Responding::activated_if_built))]
 fn respond<O: Objects>(
     m: &mut O,
     r: &mut Registers,
@@ -107,16 +158,17 @@ fn respond<O: Objects>(
     }
     if primitive == 89 {
         flush_cache(m, r, call.arguments)?;
-    } else if primitive == 110 && call.arguments == 1 {
-        equivalence(m, r)?;
-    } else if primitive == 111 && call.arguments == 0 {
-        receiver_class(m, r)?;
-    } else if is_unbuilt(primitive) {
-        return Ok(StepEnd::NotBuilt);
-    } else {
-        activate(m, r, call.method, header, call.arguments)?;
+        return Ok(StepEnd::Did(Outcome::Went));
     }
-    Ok(StepEnd::Did(Outcome::Went))
+    if is_with(primitive, 110, call.arguments, 1) {
+        equivalence(m, r)?;
+        return Ok(StepEnd::Did(Outcome::Went));
+    }
+    if is_with(primitive, 111, call.arguments, 0) {
+        receiver_class(m, r)?;
+        return Ok(StepEnd::Did(Outcome::Went));
+    }
+    activated_if_built(m, r, call, header, primitive)
 }
 
 /// The method is executed by its header extension.
@@ -160,10 +212,7 @@ fn execute_by<O: Objects>(
             Ok(StepEnd::Did(Outcome::Went))
         }
         7 => respond_by_extension(m, r, performing, call, header),
-        _ => {
-            activate(m, r, call.method, header, call.arguments)?;
-            Ok(StepEnd::Did(Outcome::Went))
-        }
+        _ => activated(m, r, call, header),
     }
 }
 

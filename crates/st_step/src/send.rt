@@ -152,7 +152,7 @@ fn arithmetic_number(k: u32) -> u32
 }
 
 /// Does a primitive on two SmallIntegers, or sends the special selector where it fails.
-#[tactic(auto, using(crate::proofs::Tries::tries), unfolding(st_model::specs::Bytecodes::or_send, st_model::specs::Arithmetic::arithmetic, st_model::specs::Primitives::primitive, st_model::specs::Primitives::succeed))]
+#[tactic(auto, using(crate::proofs::Tries::tries), unfolding(st_model::specs::Bytecodes::or_send))]
 fn arithmetic_or_send<O: Objects>(
     m: &mut O,
     r: &mut Registers,
