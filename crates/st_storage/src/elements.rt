@@ -1,10 +1,10 @@
 ghost use Rattle.std.specs.Prelude.{◌≡◌, ◌<◌, ◌≤◌, ◌+◌, ◌-◌, IfOk};
 ghost use Rattle.st_model.specs.Values.{word};
 ghost use Rattle.st_model.specs.Calls.{itself};
-ghost use Rattle.st_model.specs.Storage.{count_literals, first_place, place_of_element, place_at, place_behind_fixed};
+ghost use Rattle.st_model.specs.Storage.{count_literals, first_place, place_of_element, place_at};
 ghost use Rattle.st_frames.specs.Rows.{RowReads};
 
-use crate::numbers::{bits_or_die, fixed_fields, positive_small};
+use crate::numbers::{bits_or_die, positive_small};
 use st_frames::Registers;
 use st_memory::Objects;
 use st_model::{Dead, Word};
@@ -77,19 +77,4 @@ pub fn place_at<O: Objects>(
 {
     let i = positive_small(m, r, index)?;
     place_of_element(m, r, v, fixed, i)
-}
-
-/// The place that an index names behind the fixed fields.
-#[tactic(auto, using(st_frames::proofs::Doing::rows), unfolding(st_model::specs::Storage::place_behind_fixed))]
-pub fn place_behind_fixed<O: Objects>(
-    m: &O,
-    r: &Registers,
-    v: Word,
-    index: Word,
-) -> Result<u32, Dead>
-    ensures does { RowReads O.Objects.own (place_behind_fixed O.names (word v) (word index))
-        itself m.now r.now result }
-{
-    let fixed = fixed_fields(m, r, v)?;
-    place_at(m, r, v, fixed, index)
 }

@@ -1,7 +1,7 @@
 ghost use Rattle.std.specs.Prelude.{◌≡◌, ◌<◌, IfOk};
 ghost use Rattle.st_model.specs.Values.{word};
 ghost use Rattle.st_model.specs.Calls.{itself};
-ghost use Rattle.st_model.specs.Primitives.{check_bytes, bits_or_die, positive_small, has_pointers, is_indexable, fixed_count, specification, fixed_of_class, fixed_fields};
+ghost use Rattle.st_model.specs.Primitives.{check_bytes, bits_or_die, positive_small, has_pointers, is_indexable, fixed_count, specification};
 ghost use Rattle.st_frames.specs.Rows.{RowReads};
 
 use st_frames::Registers;
@@ -70,28 +70,4 @@ pub fn specification<O: Objects>(m: &O, r: &Registers, class: Word) -> Result<u3
 {
     let x = m.fetch_field(class, 2)?;
     bits_or_die(m, r, x)
-}
-
-/// How many fixed fields the class of an object gives it.
-#[tactic(auto, using(st_frames::proofs::Doing::rows), unfolding(st_model::specs::Primitives::fixed_of_class))]
-fn fixed_of_class<O: Objects>(m: &O, r: &Registers, v: Word) -> Result<u32, Dead>
-    ensures does { RowReads O.Objects.own (fixed_of_class O.names (word v)) itself m.now r.now result }
-    ensures few { IfOk result (λ n. n < 2048) }
-{
-    let class = m.fetch_class(v)?;
-    let s = specification(m, r, class)?;
-    Ok(fixed_count(s))
-}
-
-/// How many fixed fields an object has.
-#[tactic(auto, using(st_frames::proofs::Doing::rows), unfolding(st_model::specs::Primitives::fixed_fields, st_model::specs::Primitives::fixed_by))]
-pub fn fixed_fields<O: Objects>(m: &O, r: &Registers, v: Word) -> Result<u32, Dead>
-    ensures does { RowReads O.Objects.own (fixed_fields O.names (word v)) itself m.now r.now result }
-    ensures few { IfOk result (λ n. n < 2048) }
-{
-    if m.fetch_kind(v)?.is_pointers() {
-        fixed_of_class(m, r, v)
-    } else {
-        Ok(0)
-    }
 }
