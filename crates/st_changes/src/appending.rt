@@ -20,7 +20,8 @@ fn write_behind<H: Host>(host: &mut H, store: &Store, bytes: &[u8]) -> Result<()
     ensures kept { OnOk result ((c : Stored) → IsTrue H.is_told → IsKept H.Host.own host.old store.now c
         → IsKept H.Host.own host.new store.now c) }
     ensures firm { OnOk result ((c : Stored) → IsTrue H.is_told → IsKept H.Host.own host.old store.now c
-        → c.root.length + length bytes.now ≤ 2 ^ 30 → IsFirm H.Host.own host.new store.now.name (grown c bytes.now)) }
+        → c.root.length + length bytes.now ≤ 2 ^ 30
+        → IsFirm H.Host.own host.new store.now.name (grown c bytes.now)) }
     ensures changes { ChangesFile H.Host.own (changes_file store.now.name) host.old host.new }
     ensures cause { HasCause (H.disk_faults host.old) (H.disk_faults host.new) result }
 {
@@ -49,11 +50,14 @@ impl Changes {
 
         // A stop at any moment leaves files that open as before or with this entry behind the changes.
         ensures makes { (c : Stored) → IsTrue H.is_told → IsKept H.Host.own host.old store c
-            → Makes H.Host.own (Opens store.name) c (grown c (entry (definition_of definition))) host.old host.new result }
-        ensures kept { IfOk result (λ next. (c : Stored) → IsTrue H.is_told → IsKept H.Host.own host.old store c
+            → Makes H.Host.own (Opens store.name) c (grown c (entry (definition_of definition)))
+            host.old host.new result }
+        ensures kept { IfOk result (λ next. (c : Stored) → IsTrue H.is_told
+            → IsKept H.Host.own host.old store c
             → IsKept H.Host.own host.new next (grown c (entry (definition_of definition)))) }
 
-        ensures changes { ChangesBoth H.Host.own (changes_file store.name) (roots_file store.name) host.old host.new }
+        ensures changes { ChangesBoth H.Host.own (changes_file store.name) (roots_file store.name)
+            host.old host.new }
         ensures cause { HasCause (H.disk_faults host.old) (H.disk_faults host.new) result }
     {
         let Some(bytes) = self.ready.take() else {

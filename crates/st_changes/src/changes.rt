@@ -21,9 +21,14 @@ impl Model for Changes {
 
     ghost Value = { ChangesState };
 
-    ghost view = { λ c. record { name = string_bytes c.name; listed = definitions_of c.listed.items; reserved = reserved_of c.ready } };
+    ghost view = { λ c. record {
+      name = string_bytes c.name;
+      listed = definitions_of c.listed.items;
+      reserved = reserved_of c.ready;
+    } };
 
-    ghost invariant = { λ c. IsTotal c.length (definitions_of c.listed.items) × HasRoom (vec_len c.listed) (vec_capacity c.listed) c.ready };
+    ghost invariant = { λ c. IsTotal c.length (definitions_of c.listed.items)
+        × HasRoom (vec_len c.listed) (vec_capacity c.listed) c.ready };
 }
 
 /// The most bytes of a changes file.

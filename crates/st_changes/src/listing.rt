@@ -21,7 +21,8 @@ pub(crate) fn list(
     bytes: &[u8],
     base: u64,
 ) -> Result<Result<Vec<Definition>, u64>, AllocError>
-    ensures { IfOk result (λ r. MatchResult r (λ ds. Lists bytes.now base (definitions_of ds.items)) (IsDamaged bytes.now base)) }
+    ensures { IfOk result (λ r.
+        MatchResult r (λ ds. Lists bytes.now base (definitions_of ds.items)) (IsDamaged bytes.now base)) }
 {
     let mut listed = Vec::new(alloc);
     let mut at = 0;

@@ -19,7 +19,8 @@ fn read_front<H: Host>(
     name: &str,
     length: u64,
 ) -> Result<Vec<u8>, StoreFault>
-    ensures read { IfOk result (λ bytes. IsTrue H.is_told → bytes.items ≡ take length (bytes_of (H.files host.old name.now))) }
+    ensures read { IfOk result (λ bytes. IsTrue H.is_told
+        → bytes.items ≡ take length (bytes_of (H.files host.old name.now))) }
     ensures outside { IfErr result IsOutside }
     ensures alike { OnOk result (ReadsAlike H.Host.own host.old host.new) }
     ensures reads { OnlyReads H.Host.own host.old host.new }
