@@ -1,7 +1,11 @@
 -- What a primitive leaves to be done on a table: a change of an object's words or bytes, or of a Method's header or literals.
-use Rattle.std.specs.Prelude.{ℕ, suc, ◌+◌, ◌-◌, ◌==◌, List, [], ◌∷◌, Option, Some, None, Bool, false, ◌&&◌, nat_le, if◌then◌else◌, slice_get, take, drop}
+use Rattle.std.specs.Prelude.{ℕ, suc, ◌+◌, ◌-◌, ◌==◌, List, [], ◌∷◌, Option, Some, None, Bool, true, false, ◌&&◌, nat_le, if◌then◌else◌, slice_get, take, drop}
 use Rattle.st_model.specs.declared.deed.Deed.{Deed}
 use Rattle.st_model.specs.declared.deed.Deed.TheVariants.{Nothing, StoreWord, StoreByte, StoreNumber, ReplaceBytes, StoreHeader, StoreLiteral}
+use Rattle.st_model.specs.declared.outcome.StepEnd.{StepEnd as CodeStepEnd}
+use Rattle.st_model.specs.declared.outcome.StepEnd.TheVariants as ends
+use Rattle.st_model.specs.declared.tried.Tried.{Tried as CodeTried}
+use Rattle.st_model.specs.declared.tried.Tried.TheVariants as trials
 use Rattle.st_model.specs.Values.{Value, Small, Ref, word}
 use Rattle.st_model.specs.Objects.{Object, is_words, is_method, has_bytes, first_unit, with_field, object_with_unit}
 use Rattle.st_model.specs.Machine.{State, is_there}
@@ -67,3 +71,18 @@ over g s = record s { memory = g s.memory }
 -- the state in which a deed is done besides
 abbrev pub with_deed : Deed → State Table → State Table
 with_deed d s = over (deed_done d) s
+
+-- what the end of a step of the code leaves to be done
+abbrev pub deed_of_end : CodeStepEnd → Deed
+deed_of_end (ends.Did o deed) = deed
+deed_of_end ends.NotBuilt = Nothing
+
+-- whether a primitive of the code succeeded that was tried
+abbrev pub is_done : CodeTried → Bool
+is_done trials.Failed = false
+is_done (trials.Done deed) = true
+
+-- and what it leaves to be done
+abbrev pub deed_of_trial : CodeTried → Deed
+deed_of_trial trials.Failed = Nothing
+deed_of_trial (trials.Done deed) = deed
