@@ -690,9 +690,13 @@ module _ (o : Object) (lives : ℕ → Type 0) where
   unfolding header_or_literal
   header_or_literal-sure n r a h0 h1 = search (numbers_sure, place_in_method-sure) depth 24 fits 4000
 
+  pub check_header-sure : (n : ℕ) (r : Value) (b : Value) → There n r → There n b → SureAnswer n (check_header bare r b) (check_header (full o) r b)
+  unfolding check_header
+  check_header-sure n r b h0 h1 = search (numbers_sure, count_literals-sure) depth 32 fits 4000
+
   pub check_method_field-sure : (n : ℕ) (r : Value) (b : Value) (first : Bool) → There n r → There n b → SureAnswer n (check_method_field bare r b first) (check_method_field (full o) r b first)
-  unfolding check_method_field check_header
-  check_method_field-sure n r b true h0 h1 = search (numbers_sure, count_literals-sure) depth 32 fits 4000
+  unfolding check_method_field
+  check_method_field-sure n r b true h0 h1 = check_header-sure n r b h0 h1
   check_method_field-sure n r b false h0 h1 = search sures depth 24 fits 4000
 
   pub place_to_store-sure : (n : ℕ) (r : Value) (a : Value) (b : Value) → There n r → There n a → There n b → SureAnswer n (place_to_store bare r a b) (place_to_store (full o) r a b)
@@ -803,7 +807,7 @@ module _ (o : Object) (lives : ℕ → Type 0) where
 
   pub new_method-sure : (n : ℕ) (r : Value) (s : MethodShape) → There n r → SureValue n (new_method bare r s) (new_method (full o) r s)
   unfolding new_method
-  new_method-sure n r s h0 = search parts depth 24 fits 4000
+  new_method-sure n r s h0 = search (parts, check_header-sure) depth 24 fits 4000
 
   pub replace_and_answer-sure : (n : ℕ) (r : Value) (c : Value) (p : Replacing) → There n r → There n c → SureValue n (replace_and_answer bare r c p) (replace_and_answer (full o) r c p)
   unfolding replace_and_answer
