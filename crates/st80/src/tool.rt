@@ -15,7 +15,8 @@ use std::process::ExitCode;
 
 /// Does the command that the words say, without the program's name. The one command so far is `once IMAGE
 /// N`: it reads the image file IMAGE, runs N cycles of its machine, and says the run's end and what the
-/// machine shows then. Nothing is written to a file, and nothing is taken from the script.
+/// machine shows then. No file is changed: where no disk fault was counted each reads as before, and a stop leaves of it
+/// what it could leave before. Nothing is taken from the script.
 pub fn tool<H: Host, S: Source>(
     alloc: Global,
     words: &[String],
@@ -40,8 +41,8 @@ pub fn tool<H: Host, S: Source>(
     }
 }
 
-/// The exit code of such a call, which is the number of its status. Nothing is written to a file, and nothing
-/// is taken from the script.
+/// The exit code of such a call, which is the number of its status. No file is changed, and nothing is
+/// taken from the script.
 pub fn exit_code<H: Host, S: Source>(
     alloc: Global,
     words: &[String],

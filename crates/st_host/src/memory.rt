@@ -13,7 +13,7 @@ use std::marker::Model;
 ///
 /// Calls of a host's methods are counted from 1 over all methods. A call fails exactly where [`MemHost::fail`]
 /// names its number, where it comes after a stop of [`MemHost::stop_after`], or where it passes the room that
-/// [`MemHost::room_for`] made. A call that fails changes nothing but the counts. No call of a host's methods takes memory.
+/// [`MemHost::room_for`] made. A call that fails changes nothing but the counts.
 #[derive(Drop)]
 pub struct MemHost {
     log: Vec<Entry>,

@@ -57,6 +57,14 @@ fn check_no_file<H: Host>(rt: &impl Abort, host: &mut H, name: &str) {
     assert_eq!(rt; host.sync(name), Err(HostFault));
 }
 
+// A device has no bytes and takes all that are written, but it can't be synced, nor cut.
+fn check_device<H: Host>(rt: &impl Abort, host: &mut H, name: &str) {
+    assert_eq!(rt; host.length(name), Ok(Some(0)));
+    assert_eq!(rt; host.write_at(name, 0, b"x"), Ok(()));
+    assert_eq!(rt; host.sync(name), Err(HostFault));
+    assert_eq!(rt; host.cut(name, 1), Err(HostFault));
+}
+
 fn check_says<H: Host>(rt: &impl Abort, host: &mut H, bytes: &[u8], wanted: Result<(), SayFault>) {
     assert_eq!(rt; say_all(host, bytes), wanted);
 }
@@ -177,6 +185,7 @@ fn a_folder_writes_and_cuts(rt: HostRuntime) -> Result<(), Fail> {
     check_absent(&rt, &mut host, name);
     check_writes(&rt, &mut host, name);
     check_no_file(&rt, &mut host, "st_host_a_folder_writes_and_cuts/file");
+    check_device(&rt, &mut host, "/dev/null");
     check_says(&rt, &mut host, b"said\n", Ok(()));
     fs::remove_file(&rt, name)?;
     Ok(())
