@@ -1,11 +1,11 @@
 -- One more link behind an expression, and a loop.
-use Rattle.std.proofs.Common.{◌≡◌, ℕ, zero, suc, ◌+◌, ◌<◌, ◌≤◌, Bool, true, false, ◌&&◌, All, get_or, List, [], ◌∷◌, ◌++◌, length, take, Some, None, refl, sym, ap, ◌∙◌, subst, arith, ◌==◌, ne_eqb, zero-add}
+use Rattle.std.proofs.Common.{◌≡◌, ℕ, zero, suc, ◌+◌, ◌<◌, ◌≤◌, Bool, true, false, ◌&&◌, get_or, List, [], ◌∷◌, ◌++◌, length, take, Some, None, refl, sym, ap, ◌∙◌, subst, arith, ◌==◌, ne_eqb, zero-add}
 use Rattle.std.specs.Prelude.{if◌then◌else◌}
 use Rattle.st_tree.specs.declared.chain.Link.{Link}
 use Rattle.st_tree.specs.declared.chain.Link.TheVariants.{Assign, Send}
-use Rattle.st_tree.specs.Views.{NameView, ExpressionView, StatementsView, MessagesView, ExpressionsView, no_messages, message, no_expressions, expression, block}
+use Rattle.st_tree.specs.Views.{NameView, ExpressionView, StatementsView, MessagesView, ExpressionsView, no_messages, message, no_expressions, expression, block, is_super}
 use Rattle.st_tree.specs.Views as views
-use Rattle.st_tree.specs.Chains.{LinkView, assigned, sent, with_link, linked, link_view, links_view, IsBelow}
+use Rattle.st_tree.specs.Chains.{LinkView, assigned, sent, with_link, linked, link_view, links_view, link_size, links_size}
 use Rattle.st_emit.specs.declared.form.Form.{Form}
 use Rattle.st_emit.specs.declared.form.Form.TheVariants.{Message as Plain, One, Two, Repeated}
 use Rattle.st_emit.specs.declared.form.TwoSided.{TwoSided}
@@ -16,12 +16,11 @@ use Rattle.st_emit.specs.Nodes.{Node, Body, Tail, with_tail}
 use Rattle.st_emit.specs.Nodes as nodes
 use Rattle.st_emit.specs.Emitting.{for_value, code_of}
 use Rattle.st_emit.specs.Depths.{level_of}
-use Rattle.st_emit.specs.Resolving.{Context, behind, names_in, names_in_statements, is_super, is_plain, all_plain, tailed, expression_node, statements_body, messages_of, nodes_of, form_named, formed, single_tail, sends_tail, plain_tail}
+use Rattle.st_emit.specs.Resolving.{Context, behind, names_in, names_in_statements, is_plain, all_plain, tailed, expression_node, statements_body, messages_of, nodes_of, form_named, formed, single_tail, sends_tail, plain_tail}
 use Rattle.st_emit.specs.Tails.{tail_code, tail_level}
 use Rattle.st_emit.specs.Around.{link_tail, tail_part, link_part, value_part, loop_part, shape_part, shape_part_of, cascade_part, message_of, names_in_link, names_in_repetition}
 use Rattle.st_emit.specs.Shapes.{plain, one_sided, two_sided, formed_shape, two_sided_shape, statements_of, RepetitionView, repeated_by, repetition_with, repetition_of, first_repetition, IsCascade}
 use Rattle.st_emit.specs.Drafts.{Part}
-use Rattle.st_emit.specs.Sizes.{link_size, links_size}
 use Rattle.st_emit.proofs.NodeKinds.{IsTailOf, tail_kind}
 use Rattle.st_emit.proofs.Adding.{then_part, IsSamePart}
 
@@ -313,11 +312,6 @@ cascade_same above (views.message selector es (views.message other fs ms)) c ls 
 
 -- LINKS IN ORDER
 
-pub linked_take : (e : ExpressionView) (links : List Link) (i : ℕ) (d : Link) → i < length links → linked e (links_view (take (suc i) links)) ≡ with_link (link_view (get_or links i d)) (linked e (links_view (take i links)))
-linked_take e [] i d h = absurd (omega arith)
-linked_take e (l ∷ ls) zero d h = refl
-linked_take e (l ∷ ls) (suc i) d h = linked_take (with_link (link_view l) e) ls i d (omega arith)
-
 -- behind a link nothing is super or a loop
 later_super : (l : Link) (e : ExpressionView) (ls : List Link) → is_super (linked (with_link (link_view l) e) (links_view ls)) ≡ false
 later_super (Assign target) e [] = refl
@@ -354,17 +348,6 @@ pub link_within : (ls : List Link) (i : ℕ) (d : Link) → i < length ls → li
 link_within [] i d h = absurd (omega arith)
 link_within (l ∷ ls) zero d h = omega arith
 link_within (l ∷ ls) (suc i) d h = let r = link_within ls i d (omega arith) in omega (arith, r)
-
-size_below : (n : ℕ) (l : Link) → IsBelow n l → link_size l ≤ n
-size_below n (Assign target) h = omega arith
-size_below n (Send messages) h = omega (arith, h)
-
-pub links_within : (n : ℕ) (ls : List Link) → All (IsBelow n) ls → links_size ls ≤ n
-links_within n [] h = omega arith
-links_within n (l ∷ ls) h =
-    let first = size_below n l (h 0 l (omega arith)) in
-    let rest = links_within n ls (λ k d lt. h (suc k) d (omega (arith, lt))) in
-    omega (arith, first, rest)
 
 -- an expression that begins with a loop
 pub begins_loop : (e : ExpressionView) (links : List Link) (r : RepetitionView) (c : Context) (ls : List LiteralView) → first_repetition e (links_view links) ≡ Some r

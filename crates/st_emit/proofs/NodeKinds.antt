@@ -2,7 +2,7 @@
 use Rattle.std.proofs.Common.{◌≡◌, ℕ, Bool, true, false, not, ◌&&◌, List, [], ◌∷◌, ◌++◌, Option, Some, None, refl}
 use Rattle.std.specs.Prelude.{if◌then◌else◌}
 use Rattle.st_tree.specs.declared.token.Signed.{Signed}
-use Rattle.st_tree.specs.Views.{NameView, ContentView, ExpressionView, StatementsView, MessagesView, ExpressionsView}
+use Rattle.st_tree.specs.Views.{NameView, ContentView, ExpressionView, StatementsView, MessagesView, ExpressionsView, is_super}
 use Rattle.st_tree.specs.Views as views
 use Rattle.st_tree.specs.Chains.{LinkView, assigned, sent}
 use Rattle.st_emit.specs.declared.step.Constant.{Constant}
@@ -16,7 +16,7 @@ use Rattle.st_emit.specs.Names.{constant_named}
 use Rattle.st_emit.specs.Literals.{LiteralView, small_number, Naming, Named}
 use Rattle.st_emit.specs.Nodes.{Node, Body, Tail, with_tail}
 use Rattle.st_emit.specs.Nodes as nodes
-use Rattle.st_emit.specs.Resolving.{Context as Surroundings, behind, names_in, place_of_name, constant_or, small_or, content_node, Message, plain_tail, form_named, formed, single_tail, sends_tail, messages_of, is_super, is_plain, expression_node}
+use Rattle.st_emit.specs.Resolving.{Context as Surroundings, behind, names_in, place_of_name, constant_or, small_or, content_node, Message, plain_tail, form_named, formed, single_tail, sends_tail, messages_of, is_plain, expression_node}
 use Rattle.st_emit.specs.Emitting.{for_value, for_effect, code_of, return_code}
 use Rattle.st_emit.specs.Depths.{level_of, popped, ended, return_level}
 use Rattle.st_emit.specs.Shapes.{IsNoAssignment, returned_constant, but_context}

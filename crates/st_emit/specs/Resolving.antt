@@ -1,7 +1,7 @@
 -- From a tree to its nodes: what names mean, which numbers variables have, and which places literals have.
 use Rattle.std.specs.Prelude.{ℕ, ◌+◌, Bool, true, false, not, ◌&&◌, ◌==◌, List, [], ◌∷◌, length, Option, Some, None, if◌then◌else◌, codes, bytes_eq}
 use Rattle.st_tree.specs.declared.token.Signed.{Signed}
-use Rattle.st_tree.specs.Views.{NameView, ContentView, ElementView, ExpressionView, StatementsView, MessagesView, ExpressionsView}
+use Rattle.st_tree.specs.Views.{NameView, ContentView, ElementView, ExpressionView, StatementsView, MessagesView, ExpressionsView, is_super}
 use Rattle.st_tree.specs.Views as views
 use Rattle.st_emit.specs.declared.step.Constant.{Constant}
 use Rattle.st_emit.specs.declared.step.Place.{Place}
@@ -239,10 +239,6 @@ tailed m tail = do
   given (with_tail n t)
 
 -- TREES
-
-abbrev pub is_super : ExpressionView → Bool
-is_super (views.variable n) = bytes_eq n.text (codes "super")
-is_super _ = false
 
 -- a block without arguments
 abbrev pub is_plain : ExpressionView → Bool

@@ -2,7 +2,7 @@
 //! brackets of its text, and not as its receivers and assigned values.
 
 ghost use Rattle.std.specs.Prelude.{◌≡◌, ◌<◌, ◌≤◌, IfOk, OnOk, length, if◌then◌else◌, ◌==◌, false};
-ghost use Rattle.st_tree.specs.Views.{expression_view, statements_view};
+ghost use Rattle.st_tree.specs.Views.{expression_view, statements_view, is_super};
 ghost use Rattle.st_tree.specs.Chains.{IsStart};
 ghost use Rattle.st_emit.specs.Emits.{value_at, effect_at, return_at, values_at, message_at, cascade_at, sent_at, side_at, choice_at};
 ghost use Rattle.st_emit.specs.Emits.{loop_at, link_at, chain_at, body_at, method_at, block_at, code_in};
@@ -10,7 +10,6 @@ ghost use Rattle.st_emit.specs.Emits.{after, after_all, after_messages, after_si
 ghost use Rattle.st_emit.specs.Emits.{after_begun, after_statements, after_block, Begins, BeginsNoLoop, LeadsTo, CountsTo};
 ghost use Rattle.st_emit.specs.Found.{statements_size};
 ghost use Rattle.st_emit.specs.Nodes.{is_above};
-ghost use Rattle.st_emit.specs.Resolving.{is_super};
 ghost use Rattle.st_emit.specs.Shapes.{IsEnd};
 ghost use Rattle.st_emit.specs.Drafts.{Adds};
 

@@ -1,4 +1,4 @@
-//! What the printer writes means the tree that was printed.
+//! The law that what is printed of a text's tree means this tree again, places aside.
 #![tactic(auto)]
 
 mod laws;

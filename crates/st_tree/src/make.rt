@@ -1,7 +1,8 @@
 //! Trees that are made of their parts.
 
 ghost use Rattle.std.specs.Prelude.{◌≡◌, IfOk};
-ghost use Rattle.st_tree.specs.Views.{name_view, names_view, content_view, array, elements_view, expression_view, block, statements_view, assign, send, messages_view};
+ghost use Rattle.st_tree.specs.Views.{name_view, names_view, content_view, array, elements_view};
+ghost use Rattle.st_tree.specs.Views.{expression_view, block, statements_view, assign, send, messages_view};
 
 use crate::tree::{Content, ElementList, Expression, MessageList, Name, NameList, StatementList};
 use std::alloc::{AllocError, Global};
@@ -27,7 +28,8 @@ impl Expression {
 
     /// An assignment.
     pub fn assign(alloc: Global, target: Name, value: Expression) -> Result<Expression, AllocError>
-        ensures { IfOk result (λ e. expression_view e ≡ assign (name_view target) (expression_view value)) }
+        ensures { IfOk result (λ e.
+            expression_view e ≡ assign (name_view target) (expression_view value)) }
     {
         let value = Box::new(alloc, value)?;
         Ok(Expression::Assign { target, value })

@@ -102,8 +102,8 @@ impl Expression {
     /// One more message to the receiver of this message, which becomes a cascade. Another expression stays as it is.
     #[tactic(auto, using(crate::proofs::Views::views))]
     pub fn with_sent(self, message: Message) -> Result<Expression, AllocError>
-        ensures { IfOk result (λ e. expression_view e
-            ≡ with_sent (expression_view self) message.selector.items (expressions_view message.arguments.items)) }
+        ensures { IfOk result (λ e. expression_view e ≡ with_sent (expression_view self)
+            message.selector.items (expressions_view message.arguments.items)) }
     {
         match self {
             Expression::Send {

@@ -1,10 +1,11 @@
 use Rattle.std.proofs.Common.{◌≡◌, get_or, sym, ap, ◌∙◌, subst, arith}
 use Rattle.st_tree.specs.declared.tree.Expression.{size-Expression}
 use Rattle.st_tree.specs.Views.{ExpressionView, names_view as list_view, expression_view, statements_view, block}
+use Rattle.st_tree.specs.Chains.{link_size, links_size}
 use Rattle.st_tree.proofs.Views.{expression_view-block}
+use Rattle.st_tree.proofs.Chains.{links_within}
 use Rattle.st_emit.specs.NameViews.{names_view, scope_view}
-use Rattle.st_emit.specs.Sizes.{link_size, links_size}
-use Rattle.st_emit.proofs.Follow.{link_within, links_within}
+use Rattle.st_emit.proofs.Follow.{link_within}
 use Rattle.st_code.specs.Faults.{expression_fault}
 use Rattle.st_code.specs.Reported.{Reports}
 use Rattle.st_code.proofs.checking.+faults.Goals as goal

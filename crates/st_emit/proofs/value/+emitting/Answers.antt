@@ -1,24 +1,24 @@
 use Rattle.std.proofs.Common.{◌≡◌, ℕ, ◌+◌, Bool, true, false, List, IfOk, OnOk, length, take, get_or, Some, refl, sym, ap, ◌∙◌, subst, arith, add-one}
 use Rattle.std.proofs.lemmas.Result.{on_ok_weaker}
 use Rattle.st_tree.specs.declared.tree.Expression.{size-Expression}
-use Rattle.st_tree.specs.Views.{ExpressionView, MessagesView, StatementsView, names_view, expression_view, expressions_view, messages_view, statements_view, message, statement, block, no_messages}
-use Rattle.st_tree.specs.Chains.{LinkView, sent, linked, link_view, links_view, with_link}
+use Rattle.st_tree.specs.Views.{ExpressionView, MessagesView, StatementsView, names_view, expression_view, expressions_view, messages_view, statements_view, message, statement, block, no_messages, is_super}
+use Rattle.st_tree.specs.Chains.{LinkView, sent, linked, link_view, links_view, with_link, link_size, links_size}
+use Rattle.st_tree.proofs.Chains.{linked_take, links_within}
 use Rattle.st_tree.proofs.Views.{expression_view-block}
 use Rattle.st_emit.specs.declared.step.Step.TheVariants.{Pop, Duplicate}
 use Rattle.st_emit.specs.declared.draft.Draft.{Draft}
 use Rattle.st_emit.specs.Views.{literals_view}
 use Rattle.st_emit.specs.Depths.{pushed, popped}
 use Rattle.st_emit.specs.Emitting.{block_end}
-use Rattle.st_emit.specs.Resolving.{Context, behind, inside, is_super, names_in, names_in_all, names_in_messages, names_in_statements}
+use Rattle.st_emit.specs.Resolving.{Context, behind, inside, names_in, names_in_all, names_in_messages, names_in_statements}
 use Rattle.st_emit.specs.Shapes.{repetition_view, side_view, first_repetition, repetition_of, returning}
 use Rattle.st_emit.specs.NameViews.{scope_view}
 use Rattle.st_emit.specs.Nodes.{is_above}
-use Rattle.st_emit.specs.Sizes.{link_size, links_size}
 use Rattle.st_emit.specs.Drafts.{Adds, Goes, step_part}
 use Rattle.st_emit.specs.Around.{context, at_number, values_part, send_part, message_part, cascade_part, body_part, effect_part, value_part, shape_part, link_part, loop_part, side_part, block_body_part, arguments_part}
 use Rattle.st_emit.proofs.Adding.{then_part, adds_same, adds_then, goes_on}
 use Rattle.st_emit.proofs.Counts.{names_in-block}
-use Rattle.st_emit.proofs.Follow.{link_behind, names_behind, begins_loop, shape_same, linked_take, super_at, no_loop_at, link_within, links_within}
+use Rattle.st_emit.proofs.Follow.{link_behind, names_behind, begins_loop, shape_same, super_at, no_loop_at, link_within}
 use Rattle.st_emit.proofs.Forms.{message_same, message_before, cascade_turn, body_turn, choice_done, loop_done, loop_with, block_done, block_body_adds, adds_nothing, inside_is, names_many}
 use Rattle.st_emit.proofs.value.+emitting.Goals as goal
 use Rattle.st_emit.proofs.value.+emitting.Goals.{block_body-then-not-returning+in_ok-put, block_body-else-not-returning}
