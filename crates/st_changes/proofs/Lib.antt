@@ -4,3 +4,5 @@ pub mod HeaderTexts
 pub mod EntryTexts
 pub mod ListTexts
 pub mod Growing
+pub mod Lasts
+pub mod Determined

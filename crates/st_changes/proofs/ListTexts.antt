@@ -1,9 +1,12 @@
 -- A list of definitions, one entry more at a time.
-use Rattle.std.proofs.Common.{◌≡◌, ◌≢◌, ⊎_elim, ℕ, ◌+◌, ◌-◌, ◌<◌, ◌≤◌, Bool, true, false, true≢false, List, [], ◌∷◌, ◌++◌, length, drop, get_or, refl, sym, ap, ◌∙◌, subst, append_assoc, arith, length-append}
+use Rattle.std.proofs.Common.{◌≡◌, ◌≢◌, ⊎_elim, ℕ, ◌+◌, ◌-◌, ◌<◌, ◌≤◌, Bool, true, false, true≢false, List, [], ◌∷◌, ◌++◌, length, take, drop, get_or, refl, sym, ap, ◌∙◌, subst, append_assoc, arith, length-append}
 use Rattle.std.specs.Prelude.{◌==◌, All}
-use Rattle.std.proofs.lemmas.List.{append-nil, take-append-le, take_all, drop-drop, drop_all, get_or_append_left, get_or-append_right}
+use Rattle.std.proofs.Math.ListN.{get_or-map, length-map}
+use Rattle.std.proofs.lemmas.List.{append-nil, map-append, take_more, take-append-drop, take-append-le, take_all, drop-drop, drop_all, get_or_append_left, get_or-append_right}
 use Rattle.std.proofs.lemmas.Bool.{cases_lt, eqb-true, eq-eqb}
 use Rattle.st_chunk.specs.Definitions.{Definition, IsDefinition, entry, entries}
+use Rattle.st_changes.specs.declared.definition.Definition as declared
+use Rattle.st_changes.specs.Views.{definition_of, definitions_of}
 use Rattle.st_changes.specs.Entries.{BeginsWith}
 use Rattle.st_changes.specs.Lists.{StandsAt}
 
@@ -11,10 +14,10 @@ pub entries_more : (ds : List Definition) (d : Definition) → entries (ds ++ d 
 entries_more [] d = append-nil (entry d)
 entries_more (x ∷ ds) d = ap (λ (y : List ℕ). entry x ++ y) (entries_more ds d) ∙ sym (append_assoc (entry x) (entries ds) (entry d))
 
-pub all_more : (ds : List Definition) (d : Definition) → All IsDefinition ds → IsDefinition d → All IsDefinition (ds ++ d ∷ [])
-all_more ds d all good k x less = ⊎_elim
-    (λ before. subst IsDefinition (sym (get_or_append_left ds (d ∷ []) x k before)) (all k x before))
-    (λ behind. subst IsDefinition (sym (get_or-append_right ds (d ∷ []) (length ds) k x refl behind ∙ last k behind less)) good)
+pub more_of : (P : Definition → Type 0) (ds : List Definition) (d : Definition) → All P ds → P d → All P (ds ++ d ∷ [])
+more_of P ds d all good k x less = ⊎_elim
+    (λ before. subst P (sym (get_or_append_left ds (d ∷ []) x k before)) (all k x before))
+    (λ behind. subst P (sym (get_or-append_right ds (d ∷ []) (length ds) k x refl behind ∙ last k behind less)) good)
     (cases_lt k (length ds))
   where
     last : (k : ℕ) → length ds ≤ k → k < length (ds ++ d ∷ []) → get_or (d ∷ []) (k - length ds) x ≡ d
@@ -22,6 +25,34 @@ all_more ds d all good k x less = ⊎_elim
       where
         zero_is : k - length ds ≡ 0
         zero_is = omega (arith, length-append ds (d ∷ []))
+
+pub all_more : (ds : List Definition) (d : Definition) → All IsDefinition ds → IsDefinition d → All IsDefinition (ds ++ d ∷ [])
+all_more ds d all good = more_of IsDefinition ds d all good
+
+pub entries_append : (ds es : List Definition) → entries (ds ++ es) ≡ entries ds ++ entries es
+entries_append [] es = refl
+entries_append (d ∷ ds) es = ap (λ (y : List ℕ). entry d ++ y) (entries_append ds es) ∙ sym (append_assoc (entry d) (entries ds) (entries es))
+
+-- THE ITEMS OF A LIST
+
+module _ (listed : List declared.Definition) (i : ℕ) (x : declared.Definition) (less : i < length listed) (is : x ≡ get_or listed i x) where
+  pub item_more : definitions_of (take (i + 1) listed) ≡ definitions_of (take i listed) ++ definition_of x ∷ []
+  item_more = ap definitions_of (take_more listed i x less ∙ ap (λ (y : declared.Definition). take i listed ++ y ∷ []) (sym is)) ∙ map-append definition_of (take i listed) (x ∷ [])
+
+  pub item_good : All IsDefinition (definitions_of listed) → IsDefinition (definition_of x)
+  item_good all =
+      subst IsDefinition (get_or-map definition_of listed i x ∙ ap definition_of (sym is)) (all i (definition_of x) (subst (λ n. i < n) (sym (length-map listed definition_of)) less))
+
+  pub item_within : length (entries (definitions_of (take i listed))) + length (entry (definition_of x)) ≤ length (entries (definitions_of listed))
+  item_within =
+      let front : List Definition = definitions_of (take (i + 1) listed) in
+      let back : List Definition = definitions_of (drop (i + 1) listed) in
+      let e : front ++ back ≡ definitions_of listed = sym (map-append definition_of (take (i + 1) listed) (drop (i + 1) listed)) ∙ ap definitions_of (take-append-drop (i + 1) listed) in
+      let all = ap (λ (ds : List Definition). length (entries ds)) e in
+      let both = ap length (entries_append front back) ∙ length-append (entries front) (entries back) in
+      let more = ap (λ (ds : List Definition). length (entries ds)) item_more in
+      let last = ap length (entries_more (definitions_of (take i listed)) (definition_of x)) ∙ length-append (entries (definitions_of (take i listed))) (entry (definition_of x)) in
+      omega (arith, all, both, more, last)
 
 -- WHERE A BASE STANDS
 

@@ -1,8 +1,9 @@
 -- What a changes file lists, and where it is damaged.
-use Rattle.std.specs.Prelude.{◌≡◌, ◌⊎◌, ℕ, ◌≤◌, List, ◌++◌, length, take, All, ⊤}
+use Rattle.std.specs.Prelude.{◌≡◌, ◌⊎◌, ℕ, ◌<◌, ◌≤◌, List, ◌++◌, length, take, All, ⊤}
 use Rattle.st_outside.specs.Files.{Files, bytes_of}
 use Rattle.st_store.specs.Names.{changes_file}
 use Rattle.st_store.specs.Stored.{StoreState}
+use Rattle.st_store.specs.declared.root.Root.{Root}
 use Rattle.st_store.specs.declared.fault.StorePlace.TheVariants.{Roots, Changes}
 use Rattle.st_store.specs.declared.fault.StoreFault.{StoreFault}
 use Rattle.st_store.specs.declared.fault.StoreFault.TheVariants.{Missing, Exists, NotAStore, Disk, OutOfMemory}
@@ -47,14 +48,21 @@ pub record IsWrongBase (bytes : List ℕ) (base at : ℕ) : Type 0 where
 abbrev pub IsDamaged : List ℕ → ℕ → ℕ → Type 0
 IsDamaged bytes base at = IsWrongEntry bytes at ⊎ IsWrongBase bytes base at
 
--- Why these bytes, with this base, aren't loaded. The last two come from outside.
-abbrev pub RefusesChanges : List ℕ → ℕ → StoreFault → Type 0
-RefusesChanges bytes base Missing = ⊥
-RefusesChanges bytes base Exists = ⊥
-RefusesChanges bytes base (NotAStore (Roots at)) = ⊥
-RefusesChanges bytes base (NotAStore (Changes at)) = IsDamaged bytes base at
-RefusesChanges bytes base Disk = ⊤
-RefusesChanges bytes base OutOfMemory = ⊤
+-- all of this is right, and the file ends before it has the root's length
+pub record EndsShort (bytes : List ℕ) (root : Root) (at : ℕ) : Type 0 where
+  pub ds : List Definition
+  pub lists : Lists bytes root.base ds
+  pub place : at ≡ length bytes
+  pub short : at < root.length
+
+-- Why these bytes of a changes file, of which this is the root, aren't loaded. The last two come from outside.
+abbrev pub RefusesChanges : List ℕ → Root → StoreFault → Type 0
+RefusesChanges bytes root Missing = ⊥
+RefusesChanges bytes root Exists = ⊥
+RefusesChanges bytes root (NotAStore (Roots at)) = ⊥
+RefusesChanges bytes root (NotAStore (Changes at)) = IsDamaged bytes root.base at ⊎ EndsShort bytes root at
+RefusesChanges bytes root Disk = ⊤
+RefusesChanges bytes root OutOfMemory = ⊤
 
 -- the faults of loading, on any host
 abbrev pub IsOfLoading : StoreFault → Type 0

@@ -1,18 +1,14 @@
 -- The list of a changes file's definitions as contracts see it, and how a store grows by one.
 use Rattle.std.specs.Prelude.{◌≡◌, ℕ, ◌+◌, ◌-◌, ◌^◌, ◌<◌, ◌≤◌, List, ◌++◌, length, Option}
-use Rattle.std.specs.Option.{ForSome, option_map}
+use Rattle.std.specs.Option.{ForSome}
 use Rattle.st_chunk.specs.Definitions.{Definition, entry, entries}
 use Rattle.st_store.specs.Stored.{Stored, StoreState}
-use Rattle.std.specs.Prelude.{Vec}
 
 -- the store's name, the definitions in order, and the entry that there is room for
 pub record ChangesState : Type 0 where
   pub name : List ℕ
   pub listed : List Definition
   pub reserved : Option (List ℕ)
-
-abbrev pub reserved_of : {A : Type 0} → Option (Vec ℕ A) → Option (List ℕ)
-reserved_of ready = option_map (λ v. v.items) ready
 
 -- the length of the entries of these definitions
 abbrev pub IsTotal : ℕ → List Definition → Type 0

@@ -4,12 +4,13 @@ ghost use Rattle.st_outside.specs.Counts.{HasCause};
 ghost use Rattle.st_outside.specs.Runs.{Changes as ChangesFile, ChangesBoth, Makes};
 ghost use Rattle.st_store.specs.Names.{roots_file, changes_file};
 ghost use Rattle.st_store.specs.Stored.{Stored, Opens, IsFirm, IsKept};
-ghost use Rattle.st_chunk.specs.Definitions.{entry, entries};
+ghost use Rattle.st_chunk.specs.Definitions.{IsDefinition, entry, entries};
 ghost use Rattle.st_changes.specs.Views.{definition_of};
 ghost use Rattle.st_changes.specs.States.{grown, next_store, FitsBehind};
 
 use crate::Definition;
-use crate::changes::Changes;
+use crate::changes::{Changes, Ready};
+use crate::noting::note;
 use st_outside::{Host, HostFault, write_synced};
 use st_store::{Root, Store};
 
@@ -39,6 +40,7 @@ impl Changes {
         store: Store,
         definition: Definition,
     ) -> Result<Store, HostFault>
+        requires good { IsDefinition (definition_of definition) }
         requires reserved { self.old.reserved ≡ Some (entry (definition_of definition)) }
         requires place { store.root.length ≡ length (entries self.old.listed) }
         requires fits { FitsBehind self.old.listed (definition_of definition) }
@@ -60,13 +62,14 @@ impl Changes {
             host.old host.new }
         ensures cause { HasCause (H.disk_faults host.old) (H.disk_faults host.new) result }
     {
-        let Some(bytes) = self.ready.take() else {
+        let Some(Ready { entry, selector }) = self.ready.take() else {
             unreachable!()
         };
-        write_behind(host, &store, &bytes)?;
+        write_behind(host, &store, &entry)?;
         let root = store.root();
-        let length = root.length + bytes.len() as u64;
+        let length = root.length + entry.len() as u64;
         let store = store.commit(host, Root { length, ..root })?;
+        note(&mut self.index, &definition, &selector, length);
         self.listed.push_reserved(definition);
         self.length = length;
         Ok(store)

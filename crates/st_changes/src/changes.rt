@@ -1,23 +1,38 @@
 // The list of the definitions that a changes file keeps.
 use crate::Definition;
+use crate::noting::prepare;
 use crate::writing::{entry_length, entry_text};
+use st_index::{Index, Span};
+use st_tree::Text;
 use std::alloc::{AllocError, Global};
 use std::marker::Model;
 
-/// The definitions that the changes file of a store keeps, in order, and the entry that there is room for.
+/// The entry of a definition that there is room for, and the definition's selector.
+#[derive(Drop)]
+pub(crate) struct Ready {
+    pub(crate) entry: Text,
+    pub(crate) selector: Option<Text>,
+}
+
+/// The definitions that the changes file of a store keeps, in order, with an index of them, and the entry that there is
+/// room for.
 #[derive(Drop)]
 pub struct Changes {
     pub(crate) name: String,
     pub(crate) listed: Vec<Definition>,
+    pub(crate) index: Index,
     pub(crate) length: u64,
-    pub(crate) ready: Option<Vec<u8>>,
+    pub(crate) ready: Option<Ready>,
 }
 
 impl Model for Changes {
     ghost use Rattle.std.specs.Prelude.{string_bytes};
     ghost use Rattle.std.specs.Vec.{vec_len, vec_capacity};
     ghost use Rattle.st_changes.specs.Views.{definitions_of};
-    ghost use Rattle.st_changes.specs.States.{ChangesState, reserved_of, IsTotal, HasRoom};
+    ghost use Rattle.st_changes.specs.States.{ChangesState, IsTotal, HasRoom};
+    ghost use Rattle.st_changes.specs.Readying.{reserved_of, IsReadyFor};
+    ghost use Rattle.st_changes.specs.Last.{Answers};
+    ghost use Rattle.st_index.specs.States.{found};
 
     ghost Value = { ChangesState };
 
@@ -28,17 +43,20 @@ impl Model for Changes {
     } };
 
     ghost invariant = { λ c. IsTotal c.length (definitions_of c.listed.items)
-        × HasRoom (vec_len c.listed) (vec_capacity c.listed) c.ready };
+        × HasRoom (vec_len c.listed) (vec_capacity c.listed) c.ready
+        × Answers (definitions_of c.listed.items) (found c.index)
+        × IsReadyFor c.index c.ready };
 }
 
 /// The most bytes of a changes file.
 const LIMIT: u64 = 1 << 30;
 
 impl Changes {
-    ghost use Rattle.std.specs.Prelude.{◌≡◌, ◌↔◌, Some, IsTrue, OnOk, OnErr};
+    ghost use Rattle.std.specs.Prelude.{◌≡◌, ◌↔◌, Some, IsTrue, OnOk, OnErr, MatchOption};
     ghost use Rattle.st_chunk.specs.Definitions.{IsDefinition, entry};
     ghost use Rattle.st_changes.specs.Views.{definition_of, definitions_of};
     ghost use Rattle.st_changes.specs.States.{FitsBehind};
+    ghost use Rattle.st_changes.specs.Last.{IsNowhere, IsLast};
 
     /// The definitions, in order.
     pub fn definitions(&self) -> &[Definition]
@@ -56,8 +74,18 @@ impl Changes {
         self.length <= LIMIT && entry <= LIMIT - self.length
     }
 
+    /// The place in the changes file of the text of the last definition of this class, this side of it (the class side, or
+    /// the instance side) and this selector; none where there is none. Of the text each `!` is doubled there.
+    pub fn last(&self, class: &[u8], meta: bool, selector: &[u8]) -> Option<Span>
+        ensures { MatchOption result (IsNowhere self.now.listed class.now meta selector.now)
+            (IsLast self.now.listed class.now meta selector.now) }
+    {
+        self.index.find(class, meta, selector)
+    }
+
     /// Takes the memory that `append` needs for this definition.
     pub fn reserve(&mut self, alloc: Global, definition: &Definition) -> Result<(), AllocError>
+        requires { IsDefinition (definition_of definition.now) }
         ensures named { self.new.name ≡ self.old.name }
         ensures listed { self.new.listed ≡ self.old.listed }
         ensures reserved { OnOk result (self.new.reserved ≡ Some (entry (definition_of definition.now))) }
@@ -65,7 +93,8 @@ impl Changes {
     {
         let entry = entry_text(alloc, definition)?;
         self.listed.reserve(1)?;
-        self.ready = Some(entry);
+        let selector = prepare(alloc, &mut self.index, definition)?;
+        self.ready = Some(Ready { entry, selector });
         Ok(())
     }
 }

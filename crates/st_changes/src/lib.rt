@@ -6,14 +6,19 @@ mod changes;
 mod definition;
 mod entry;
 mod header;
+mod laws;
 mod listing;
 mod loading;
+mod noting;
 mod run;
+mod selector;
 mod writing;
 
 pub use changes::Changes;
 pub use definition::Definition;
+pub use laws::{one_damage, one_list};
 pub use loading::load;
+pub use st_index::Span;
 
 #[cfg(test)]
 mod tests;

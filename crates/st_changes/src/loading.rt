@@ -1,13 +1,17 @@
 // Reading a changes file.
-ghost use Rattle.std.specs.Prelude.{◌≡◌, IfOk, IfErr, OnOk, IsTrue, take, string_bytes};
+ghost use Rattle.std.specs.Prelude.{◌≡◌, IfOk, IfErr, OnOk, IsTrue, length, take, string_bytes};
 ghost use Rattle.st_outside.specs.Files.{bytes_of};
 ghost use Rattle.st_outside.specs.Runs.{ReadsAlike, OnlyReads, Changes as ChangesFile};
 ghost use Rattle.st_store.specs.Names.{changes_file};
 ghost use Rattle.st_store.specs.Refusals.{FaultHasCause};
+ghost use Rattle.st_store.specs.declared.fault.StoreFault.TheVariants.{NotAStore};
+ghost use Rattle.st_store.specs.declared.fault.StorePlace.TheVariants.{Changes as ChangesPlace};
+ghost use Rattle.st_chunk.specs.Definitions.{entries};
 ghost use Rattle.st_changes.specs.Lists.{Lists, RefusesChanges, IsOfLoading, IsOutside, kept_changes};
 
 use crate::changes::Changes;
 use crate::listing::list;
+use crate::noting::index_all;
 use st_outside::{Host, read_from};
 use st_store::{Store, StoreFault, StorePlace};
 use std::alloc::{AllocError, Global};
@@ -41,13 +45,22 @@ fn owned(alloc: Global, name: &str) -> Result<String, AllocError>
     Ok(owned)
 }
 
+fn damaged(at: u64) -> StoreFault
+    ensures { result ≡ NotAStore (ChangesPlace at) }
+{
+    StoreFault::NotAStore {
+        place: StorePlace::Changes(at),
+    }
+}
+
 /// Reads the changes file of a store up to the length that its root has, and lists the definitions that it keeps.
 pub fn load<H: Host>(alloc: Global, host: &mut H, store: &Store) -> Result<Changes, StoreFault>
     ensures named { IfOk result (λ changes. changes.name ≡ store.now.name) }
     ensures listed { IfOk result (λ changes. IsTrue H.is_told
         → Lists (kept_changes store.now (H.files host.old)) store.now.root.base changes.listed) }
+    ensures whole { IfOk result (λ changes. store.now.root.length ≡ length (entries changes.listed)) }
     ensures refused { IfErr result (λ e. IsTrue H.is_told
-        → RefusesChanges (kept_changes store.now (H.files host.old)) store.now.root.base e) }
+        → RefusesChanges (kept_changes store.now (H.files host.old)) store.now.root e) }
     ensures kind { IfErr result IsOfLoading }
     ensures alike { OnOk result (ReadsAlike H.Host.own host.old host.new) }
     ensures reads { OnlyReads H.Host.own host.old host.new }
@@ -56,15 +69,16 @@ pub fn load<H: Host>(alloc: Global, host: &mut H, store: &Store) -> Result<Chang
 {
     let root = store.root();
     let bytes = read_front(alloc, host, store.changes_name(), root.length)?;
+    let end = bytes.len() as u64;
     match list(alloc, &bytes, root.base)? {
-        Ok(listed) => Ok(Changes {
+        Ok(listed) if end == root.length => Ok(Changes {
             name: owned(alloc, store.name())?,
+            index: index_all(alloc, &listed)?,
             listed,
-            length: bytes.len() as u64,
+            length: end,
             ready: None,
         }),
-        Err(at) => Err(StoreFault::NotAStore {
-            place: StorePlace::Changes(at),
-        }),
+        Ok(_) => Err(damaged(end)),
+        Err(at) => Err(damaged(at)),
     }
 }

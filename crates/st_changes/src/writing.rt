@@ -62,7 +62,7 @@ pub(crate) fn entry_text(alloc: Global, definition: &Definition) -> Result<Text,
 }
 
 /// The length of bytes of which each mark is doubled.
-fn doubled_length(bytes: &[u8], mark: u8) -> usize
+pub(crate) fn doubled_length(bytes: &[u8], mark: u8) -> usize
     requires { length bytes.now ≤ 2 ^ 32 }
     ensures exact { result ≡ length (doubled_by mark bytes.now) }
     ensures within { result ≤ 2 ^ 33 }

@@ -5,3 +5,4 @@ pub mod Fronts
 pub mod Opening
 pub mod Clearing
 pub mod Founding
+pub mod Determined

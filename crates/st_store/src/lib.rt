@@ -4,6 +4,7 @@
 mod create;
 mod fault;
 mod front;
+mod laws;
 mod names;
 mod open;
 mod root;
@@ -12,6 +13,7 @@ mod store;
 
 pub use create::{NewStore, clear, found};
 pub use fault::{StoreFault, StorePlace};
+pub use laws::one_refusal;
 pub use open::open_store;
 pub use root::Root;
 pub use store::Store;

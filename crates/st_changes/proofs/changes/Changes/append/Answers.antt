@@ -6,7 +6,11 @@ use Rattle.st_outside.proofs.Joining.{makes_then, makes_failed, makes_of}
 use Rattle.st_store.specs.Stored.{Opens, IsFirm}
 use Rattle.st_chunk.specs.Definitions.{Definition, entry, entries}
 use Rattle.st_changes.specs.Views.{definition_of, definitions_of}
-use Rattle.st_changes.specs.States.{ChangesState, reserved_of, grown}
+use Rattle.st_changes.specs.States.{ChangesState, grown}
+use Rattle.st_changes.specs.Readying.{reserved_of}
+use Rattle.st_index.specs.States.{found}
+use Rattle.st_changes.specs.Last.{Answers}
+use Rattle.st_changes.specs.declared.changes.Ready.{Ready}
 use Rattle.st_changes.proofs.ListTexts.{entries_more}
 use Rattle.st_changes.proofs.Growing.{grown_root}
 use Rattle.st_changes.proofs.changes.Changes.append.Goals as goal
@@ -25,11 +29,11 @@ pub returns-in_err-store-clause-makes : goal.returns-in_err-store-clause-makes
 returns-in_err-store-clause-makes g c x told kept =
     let H = g.H.Host in
     let d = entry (definition_of c.args.definition) in
-    let is : c.in-Some.bytes.items ≡ d = some_same (ap reserved_of (sym c.in-Some.is ∙ c.take.ensures.value) ∙ ap (λ (s : ChangesState). s.reserved) c.self.view_is ∙ c.requires.reserved) in
+    let is : c.in-Some.field-0.entry.items ≡ d = some_same (ap reserved_of (sym c.in-Some.is ∙ c.take.ensures.value) ∙ ap (λ (s : ChangesState). s.reserved) c.self.view_is ∙ c.requires.reserved) in
     let a = c.args.host.now in
     let b = c.write_behind.new.host in
     let bytes : c.deref.result.now ≡ d = c.deref.ensures.value ∙ is in
-    let n : length d ≡ c.len.result = omega (arith, ap length is, c.len.ensures, c.in-Some.bytes.ok) in
+    let n : length d ≡ c.len.result = omega (arith, ap length is, c.len.ensures, c.in-Some.field-0.entry.ok) in
     let fits : x.root.length + length c.deref.result.now ≤ 2 ^ 30 = omega (arith, c.requires.fits, c.requires.place, ap (λ (r : Root). r.length) kept.root, ap length bytes) in
     let still = c.in_ok-write_behind.ensures.kept x told kept in
     let firm = subst (λ (y : List ℕ). IsFirm H b c.args.store.name (grown x y)) bytes (c.in_ok-write_behind.ensures.firm x told kept fits) in
@@ -41,25 +45,30 @@ returns-in_err-store-clause-makes g c x told kept =
 pub invariant_of-self-2 : goal.invariant_of-self-2
 invariant_of-self-2 g c =
     let d = entry (definition_of c.args.definition) in
-    let is : c.in-Some.bytes.items ≡ d = some_same (ap reserved_of (sym c.in-Some.is ∙ c.take.ensures.value) ∙ ap (λ (s : ChangesState). s.reserved) c.self.view_is ∙ c.requires.reserved) in
+    let is : c.in-Some.field-0.entry.items ≡ d = some_same (ap reserved_of (sym c.in-Some.is ∙ c.take.ensures.value) ∙ ap (λ (s : ChangesState). s.reserved) c.self.view_is ∙ c.requires.reserved) in
     let ds = definitions_of c.self.inside.listed.items in
     let more : definitions_of c.push_reserved.new.self.items ≡ ds ++ definition_of c.args.definition ∷ [] =
     ap definitions_of c.push_reserved.ensures.items ∙ map-append definition_of c.self.inside.listed.items (c.args.definition ∷ []) in
     let total = ap (λ (y : List Definition). length (entries y)) more ∙ ap length (entries_more ds (definition_of c.args.definition)) ∙ length-append (entries ds) d in
-    let place = ap (λ (s : ChangesState). length (entries s.listed)) c.self.view_is in (
-      omega (arith, total, place, c.requires.place, ap (λ (r : Root). r.length) c.root-root.ensures, c.len.ensures, ap length is, c.in-Some.bytes.ok),
-      λ y e. let none = sym c.take.ensures.after ∙ e in absurd cc,
+    let place = ap (λ (s : ChangesState). length (entries s.listed)) c.self.view_is in
+    let ends : c.root-root.result.length + c.len.result ≡ length (entries ds) + length d = omega (arith, place, c.requires.place, ap (λ (r : Root). r.length) c.root-root.ensures, c.len.ensures, ap length is, c.in-Some.field-0.entry.ok) in
+    let answers = c.note.ensures ds c.self.invariant.2 ends in
+    let none : (x : Ready) → c.take.new.self ≡ Some x → ⊥ = λ x e. let not = sym c.take.ensures.after ∙ e in absurd cc in (
+      omega (arith, total, place, c.requires.place, ap (λ (r : Root). r.length) c.root-root.ensures, c.len.ensures, ap length is, c.in-Some.field-0.entry.ok),
+      λ y e. absurd (none y e),
+      subst (λ (es : List Definition). Answers es (found c.note.new.index)) (sym more) answers,
+      λ y e. absurd (none y e),
     )
 
 pub returns-clause-makes : goal.returns-clause-makes
 returns-clause-makes g c x told kept =
     let H = g.H.Host in
     let d = entry (definition_of c.args.definition) in
-    let is : c.in-Some.bytes.items ≡ d = some_same (ap reserved_of (sym c.in-Some.is ∙ c.take.ensures.value) ∙ ap (λ (s : ChangesState). s.reserved) c.self.view_is ∙ c.requires.reserved) in
+    let is : c.in-Some.field-0.entry.items ≡ d = some_same (ap reserved_of (sym c.in-Some.is ∙ c.take.ensures.value) ∙ ap (λ (s : ChangesState). s.reserved) c.self.view_is ∙ c.requires.reserved) in
     let a = c.args.host.now in
     let b = c.write_behind.new.host in
     let bytes : c.deref.result.now ≡ d = c.deref.ensures.value ∙ is in
-    let n : length d ≡ c.len.result = omega (arith, ap length is, c.len.ensures, c.in-Some.bytes.ok) in
+    let n : length d ≡ c.len.result = omega (arith, ap length is, c.len.ensures, c.in-Some.field-0.entry.ok) in
     let fits : x.root.length + length c.deref.result.now ≤ 2 ^ 30 = omega (arith, c.requires.fits, c.requires.place, ap (λ (r : Root). r.length) kept.root, ap length bytes) in
     let still = c.in_ok-write_behind.ensures.kept x told kept in
     let firm = subst (λ (y : List ℕ). IsFirm H b c.args.store.name (grown x y)) bytes (c.in_ok-write_behind.ensures.firm x told kept fits) in
@@ -73,13 +82,19 @@ pub returns-clause-kept : goal.returns-clause-kept
 returns-clause-kept g c x told kept =
     let H = g.H.Host in
     let d = entry (definition_of c.args.definition) in
-    let is : c.in-Some.bytes.items ≡ d = some_same (ap reserved_of (sym c.in-Some.is ∙ c.take.ensures.value) ∙ ap (λ (s : ChangesState). s.reserved) c.self.view_is ∙ c.requires.reserved) in
+    let is : c.in-Some.field-0.entry.items ≡ d = some_same (ap reserved_of (sym c.in-Some.is ∙ c.take.ensures.value) ∙ ap (λ (s : ChangesState). s.reserved) c.self.view_is ∙ c.requires.reserved) in
     let a = c.args.host.now in
     let b = c.write_behind.new.host in
     let bytes : c.deref.result.now ≡ d = c.deref.ensures.value ∙ is in
-    let n : length d ≡ c.len.result = omega (arith, ap length is, c.len.ensures, c.in-Some.bytes.ok) in
+    let n : length d ≡ c.len.result = omega (arith, ap length is, c.len.ensures, c.in-Some.field-0.entry.ok) in
     let fits : x.root.length + length c.deref.result.now ≤ 2 ^ 30 = omega (arith, c.requires.fits, c.requires.place, ap (λ (r : Root). r.length) kept.root, ap length bytes) in
     let still = c.in_ok-write_behind.ensures.kept x told kept in
     let firm = subst (λ (y : List ℕ). IsFirm H b c.args.store.name (grown x y)) bytes (c.in_ok-write_behind.ensures.firm x told kept fits) in
     let root = grown_root x c.root-root.result d c.len.result (kept.root ∙ sym c.root-root.ensures) n in
     c.in_ok-store.ensures.kept x (grown x d) told still firm root
+
+pub note-requires-clause-prepared : goal.note-requires-clause-prepared
+note-requires-clause-prepared g c =
+    let d = definition_of c.args.definition in
+    let is : c.in-Some.field-0.entry.items ≡ entry d = some_same (ap reserved_of (sym c.in-Some.is ∙ c.take.ensures.value) ∙ ap (λ (s : ChangesState). s.reserved) c.self.view_is ∙ c.requires.reserved) in
+    c.self.invariant.3 c.in-Some.field-0 (sym c.take.ensures.value ∙ c.in-Some.is) d c.requires.good is

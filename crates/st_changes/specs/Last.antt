@@ -1,0 +1,70 @@
+-- The last definition of a class, a side of it and a selector, and where its text stands in the changes file.
+use Rattle.std.specs.Prelude.{◌≡◌, ℕ, ◌+◌, ◌-◌, ◌≤◌, Bool, List, ◌∷◌, ◌++◌, length, Option, Some, None, MatchOption, All}
+use Rattle.std.specs.Option.{ForSome}
+use Rattle.st_tree.specs.Views.{MethodView}
+use Rattle.st_grammar.specs.Texts.{Means}
+use Rattle.st_chunk.specs.Texts.{doubled}
+use Rattle.st_chunk.specs.Groups.{header_text}
+use Rattle.st_chunk.specs.Definitions.{Definition, IsDefinition, header_for, entry, entries}
+use Rattle.st_index.specs.States.{IndexState, HasName}
+use Rattle.st_index.specs.declared.span.Span.{Span}
+
+-- the text means a tree of this selector
+pub record HasSelector (text selector : List ℕ) : Type 0 where
+  pub tree : MethodView
+  pub means : Means text tree
+  pub is : tree.selector ≡ selector
+
+-- the selector was found, or the text means no tree
+abbrev pub FindsSelector : List ℕ → Option (List ℕ) → Type 0
+FindsSelector text None = (selector : List ℕ) → HasSelector text selector → ⊥
+FindsSelector text (Some selector) = HasSelector text selector
+
+-- a definition of this class, this side of it and this selector
+pub record IsOf (class : List ℕ) (meta : Bool) (selector : List ℕ) (d : Definition) : Type 0 where
+  pub class_is : d.class ≡ class
+  pub side : d.meta ≡ meta
+  pub named : HasSelector d.text selector
+
+-- of these definitions none is
+abbrev pub IsNowhere : List Definition → List ℕ → Bool → List ℕ → Type 0
+IsNowhere ds class meta selector = All (λ d. IsOf class meta selector d → ⊥) ds
+
+-- in an entry: how many bytes stand before the method's text
+abbrev pub text_place : Definition → ℕ
+text_place d = length (doubled (header_text (header_for d))) + 3
+
+-- The bytes are those of the text, each `!` doubled, of the last of these definitions that is of this class, this side of
+-- it and this selector.
+pub record IsLast (ds : List Definition) (class : List ℕ) (meta : Bool) (selector : List ℕ) (span : Span) : Type 0 where
+  pub before : List Definition
+  pub last : Definition
+  pub behind : List Definition
+  pub is : ds ≡ before ++ last ∷ behind
+  pub of : IsOf class meta selector last
+  pub none : IsNowhere behind class meta selector
+  pub at : span.at ≡ length (entries before) + text_place last
+  pub long : span.length ≡ length (doubled last.text)
+
+-- this finds the last of these definitions
+abbrev pub Answers : List Definition → (List ℕ → Bool → List ℕ → Option Span) → Type 0
+Answers ds f = (class : List ℕ) (meta : Bool) (selector : List ℕ) → MatchOption (f class meta selector) (IsNowhere ds class meta selector) (IsLast ds class meta selector)
+
+-- where a definition's text stands if its entry ends at this place
+abbrev pub span_of : Definition → ℕ → Span
+span_of d end = let n = length (doubled d.text) in record { at = end - 4 - n; length = n }
+
+-- the index has room for this class and selector
+pub record HasPlace (index : IndexState) (class selector : List ℕ) : Type 0 where
+  pub class_named : HasName index class
+  pub selector_named : HasName index selector
+  pub room : 1 ≤ index.room
+
+-- this is the definition's selector, or it has none, and the index has room for it
+pub record IsPrepared (index : IndexState) (d : Definition) (selector : Option (List ℕ)) : Type 0 where
+  pub finds : FindsSelector d.text selector
+  pub place : ForSome selector (HasPlace index d.class)
+
+-- what was prepared, for the definition whose entry these bytes are
+abbrev pub IsReady : IndexState → List ℕ → Option (List ℕ) → Type 0
+IsReady index bytes selector = (d : Definition) → IsDefinition d → bytes ≡ entry d → IsPrepared index d selector

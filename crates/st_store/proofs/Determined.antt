@@ -1,0 +1,91 @@
+-- A refusal of the roots file is determined.
+use Rattle.std.proofs.Common.{◌≡◌, ℕ, ◌+◌, ◌^◌, ◌<◌, ◌≤◌, List, length, sym, ap, ◌∙◌, subst, arith, inl, inr, ◌⊎◌, ⊎_elim, true≢false}
+use Rattle.std.specs.Prelude.{Option, Some, None, IsSome}
+use Rattle.std.proofs.lemmas.Bool.{cases_lt}
+use Rattle.st_outside.specs.Files.{Files, bytes_of}
+use Rattle.st_store.specs.Names.{roots_file, changes_file, image_file}
+use Rattle.st_store.specs.Roots.{place, root_at, HasLetters, IsWhole, chosen_number, Chooses}
+use Rattle.st_store.specs.Refusals.{IsWrongLetter, EndsEarly, IsWrongSlot, IsWrongFront, IsWrongRoots, IsWrongNumber, NamesTooMuch}
+use Rattle.st_store.specs.Stored.{Stored, Opens}
+use Rattle.st_store.specs.declared.root.Root.{Root}
+
+letter_wrong : (file : List ℕ) (at : ℕ) → IsWrongLetter file at → HasLetters file → ⊥
+letter_wrong file at x letters = x.wrong (letters at x.below)
+
+one_letter : (file : List ℕ) (at other : ℕ) → IsWrongLetter file at → IsWrongLetter file other → at ≡ other
+one_letter file at other x y = ⊎_elim
+    (λ less. absurd (x.wrong (y.right at less)))
+    (λ least. ⊎_elim (λ less. absurd (y.wrong (x.right other less))) (λ most. omega arith) (cases_lt other at))
+    (cases_lt at other)
+
+-- where the file is whole, and the root that it chooses has a slot
+module _ (file : List ℕ) (k : ℕ) (root : Root) (chosen : Chooses k root (Some file)) (slot : root.slot ≤ 1) where
+  front_right : (at : ℕ) → IsWrongFront file at → ⊥
+  front_right at (inl x) = letter_wrong file at x chosen.whole.letters
+  front_right at (inr (inl x)) = absurd (omega (arith, x.short, chosen.whole.long))
+  front_right at (inr (inr x)) =
+      let is = ap (λ n. (root_at n file).slot) (x.place ∙ ap place chosen.gate) ∙ ap (λ (r : Root). r.slot) chosen.names in
+      absurd (omega (arith, x.above, is, slot))
+
+one_front : (file : List ℕ) (at other : ℕ) → IsWrongFront file at → IsWrongFront file other → at ≡ other
+one_front file at other (inl x) (inl y) = one_letter file at other x y
+one_front file at other (inl x) (inr (inl y)) = absurd (letter_wrong file at x y.letters)
+one_front file at other (inl x) (inr (inr y)) = absurd (letter_wrong file at x y.whole.letters)
+one_front file at other (inr (inl x)) (inl y) = absurd (letter_wrong file other y x.letters)
+one_front file at other (inr (inl x)) (inr (inl y)) = x.end ∙ sym y.end
+one_front file at other (inr (inl x)) (inr (inr y)) = absurd (omega (arith, x.short, y.whole.long))
+one_front file at other (inr (inr x)) (inl y) = absurd (letter_wrong file other y x.whole.letters)
+one_front file at other (inr (inr x)) (inr (inl y)) = absurd (omega (arith, y.short, x.whole.long))
+one_front file at other (inr (inr x)) (inr (inr y)) = x.place ∙ sym y.place
+
+above_length : (root : Root) (changes : ℕ) → root.length ≤ changes → root.length ≤ 2 ^ 30 → (changes < root.length) ⊎ (2 ^ 30 < root.length) → ⊥
+above_length root changes fits limit (inl above) = absurd (omega arith)
+above_length root changes fits limit (inr above) = absurd (omega arith)
+
+one_number : (k : ℕ) (root : Root) (image changes at other : ℕ) → IsWrongNumber k root image changes at → IsWrongNumber k root image changes other → at ≡ other
+one_number k root image changes at other (inl x) (inl y) = x.place ∙ sym y.place
+one_number k root image changes at other (inl x) (inr (inl y)) = absurd (omega (arith, x.above, y.fits))
+one_number k root image changes at other (inl x) (inr (inr y)) = absurd (omega (arith, x.above, y.fits))
+one_number k root image changes at other (inr (inl x)) (inl y) = absurd (omega (arith, y.above, x.fits))
+one_number k root image changes at other (inr (inl x)) (inr (inl y)) = x.place ∙ sym y.place
+one_number k root image changes at other (inr (inl x)) (inr (inr y)) = absurd (omega (arith, x.above, y.base))
+one_number k root image changes at other (inr (inr x)) (inl y) = absurd (omega (arith, y.above, x.fits))
+one_number k root image changes at other (inr (inr x)) (inr (inl y)) = absurd (omega (arith, y.above, x.base))
+one_number k root image changes at other (inr (inr x)) (inr (inr y)) = x.place ∙ sym y.place
+
+module _ (name : List ℕ) (f : Files) where
+  -- the wrong number of a root is that of the one chosen root
+  same_wrong : (k l : ℕ) (r s : Root) (at : ℕ) → Chooses k r (f (roots_file name)) → Chooses l s (f (roots_file name))
+      → IsWrongNumber l s (length (bytes_of (f (image_file name s.slot)))) (length (bytes_of (f (changes_file name)))) at
+      → IsWrongNumber k r (length (bytes_of (f (image_file name r.slot)))) (length (bytes_of (f (changes_file name)))) at
+  same_wrong k l r s at x y wrong =
+      let number : l ≡ k = sym y.gate ∙ x.gate in
+      let root : s ≡ r = sym y.names ∙ ap (λ n. root_at (place n) (bytes_of (f (roots_file name)))) number ∙ x.names in
+      subst (λ (q : Root). IsWrongNumber k q (length (bytes_of (f (image_file name q.slot)))) (length (bytes_of (f (changes_file name)))) at) root
+      (subst (λ n. IsWrongNumber n s (length (bytes_of (f (image_file name s.slot)))) (length (bytes_of (f (changes_file name)))) at) number wrong)
+
+  front_of : (file : Option (List ℕ)) (k : ℕ) (root : Root) (at : ℕ) → Chooses k root file → root.slot ≤ 1 → IsWrongRoots file at → ⊥
+  front_of None k root at chosen slot wrong = absurd (omega (arith, chosen.whole.long))
+  front_of (Some file) k root at chosen slot wrong = front_right file k root chosen slot at wrong.1
+
+  pub one_place : (at other : ℕ) → IsWrongRoots (f (roots_file name)) at ⊎ NamesTooMuch name f at → IsWrongRoots (f (roots_file name)) other ⊎ NamesTooMuch name f other → at ≡ other
+  one_place at other (inl x) (inl y) = one_front (bytes_of (f (roots_file name))) at other x.1 y.1
+  one_place at other (inl x) (inr y) = absurd (front_of (f (roots_file name)) y.number y.root at y.chosen y.slot x)
+  one_place at other (inr x) (inl y) = absurd (front_of (f (roots_file name)) x.number x.root other x.chosen x.slot y)
+  one_place at other (inr x) (inr y) = one_number x.number x.root _ _ at other x.wrong (same_wrong x.number y.number x.root y.root other x.chosen y.chosen y.wrong)
+
+  pub none_missing : (at : ℕ) → f (roots_file name) ≡ None → IsWrongRoots (f (roots_file name)) at ⊎ NamesTooMuch name f at → ⊥
+  none_missing at none (inl x) = true≢false (sym (subst IsSome none x.0))
+  none_missing at none (inr x) = absurd (omega (arith, x.chosen.whole.long, ap (λ (o : Option (List ℕ)). length (bytes_of o)) none))
+
+  pub none_opens : (at : ℕ) (c : Stored) → Opens name c f → IsWrongRoots (f (roots_file name)) at ⊎ NamesTooMuch name f at → ⊥
+  none_opens at c opens (inl x) = front_of (f (roots_file name)) opens.number c.root at opens.chosen opens.sound.slot x
+  none_opens at c opens (inr x) = by (same_wrong opens.number x.number c.root x.root at opens.chosen x.chosen x.wrong)
+    where
+      by : IsWrongNumber opens.number c.root (length (bytes_of (f (image_file name c.root.slot)))) (length (bytes_of (f (changes_file name)))) at → ⊥
+      by (inl y) = absurd (omega (arith, y.above, opens.image.long))
+      by (inr (inl y)) = absurd (omega (arith, y.above, opens.sound.base))
+      by (inr (inr y)) = above_length c.root (length (bytes_of (f (changes_file name)))) opens.changes.long opens.sound.limit y.above
+
+  pub opens_there : (c : Stored) → Opens name c f → f (roots_file name) ≡ None → ⊥
+  opens_there c opens none = absurd (omega (arith, opens.chosen.whole.long, ap (λ (o : Option (List ℕ)). length (bytes_of o)) none))
