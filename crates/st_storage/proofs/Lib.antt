@@ -1,2 +1,3 @@
 pub mod Makeable
 pub mod Tries
+pub mod Valued

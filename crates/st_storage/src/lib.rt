@@ -8,6 +8,8 @@ mod finding;
 mod making;
 mod methods;
 mod numbers;
+mod shapes;
+mod storing;
 mod streams;
 mod strings;
 

@@ -1,16 +1,20 @@
-ghost use Rattle.std.specs.Prelude.{◌≡◌, ◌≢◌, ◌<◌, ◌≤◌, ◌+◌, IfOk, false};
+ghost use Rattle.std.specs.Prelude.{◌≡◌, ◌≢◌, ◌<◌, ◌≤◌, ◌+◌, ◌^◌, IfOk, false};
 ghost use Rattle.st_model.specs.Values.{Ref, word};
 ghost use Rattle.st_model.specs.Objects.{place_of, is_method};
 ghost use Rattle.st_model.specs.declared.page.PageObject.TheVariants.{MethodClass};
 ghost use Rattle.st_model.specs.Calls.{itself};
-ghost use Rattle.st_model.specs.Storage.{check_not_method_class, kind_of_fixed, fixed_specification, primitive_new};
+ghost use Rattle.st_model.specs.Storage.{check_not_method_class, kind_of_fixed, fixed_specification, primitive_new, kind_of_indexed, body_words, checked_shape, indexed_shape};
 ghost use Rattle.st_model.specs.Steps.{make};
 ghost use Rattle.st_model.specs.Primitives.{fixed_count};
 ghost use Rattle.st_storage.specs.Reading.{succeed_by};
+ghost use Rattle.st_storage.specs.Storing.{shape_in};
 ghost use Rattle.st_frames.specs.Rows.{RowReads, RowDoes, Takes};
 
 use crate::answering::succeed_with;
-use crate::numbers::{fixed_count, has_pointers, is_indexable, specification};
+use crate::numbers::{
+    fixed_count, has_pointers, has_words, is_indexable, positive_value, specification,
+};
+use crate::shapes::Shape;
 use st_frames::{Registers, page, top};
 use st_memory::Objects;
 use st_model::{Dead, Kind, PageObject, Word};
@@ -84,4 +88,59 @@ pub fn primitive_new<O: Objects>(m: &mut O, r: &mut Registers) -> Result<bool, D
         Ok(s) => answer_fixed(m, r, receiver, s),
         Err(_) => Ok(false),
     }
+}
+
+/// The kind of an instance with indexed fields.
+fn kind_of_indexed(specification: u32) -> Kind
+    ensures kind { result ≡ kind_of_indexed specification }
+    ensures other { is_method result ≡ false }
+{
+    if has_pointers(specification) {
+        Kind::Pointers
+    } else if has_words(specification) {
+        Kind::Words
+    } else {
+        Kind::Bytes
+    }
+}
+
+/// How many words a body of n fields, words or bytes has.
+fn body_words(kind: Kind, n: u64) -> u64
+    requires { n < 2 ^ 33 }
+    ensures { result ≡ body_words kind n }
+{
+    match kind {
+        Kind::Pointers | Kind::Words => n,
+        Kind::Bytes | Kind::Method => (n + 1) / 2,
+    }
+}
+
+/// The shape of a new object of n fields, words or bytes, where its body isn't too large.
+#[tactic(auto, using(st_frames::proofs::Doing::checks, crate::proofs::Makeable::sizes), unfolding(st_model::specs::Storage::checked_shape))]
+fn checked_shape<O: Objects>(m: &O, r: &Registers, kind: Kind, n: u64) -> Result<Shape, Dead>
+    requires few { n < 2 ^ 33 }
+    requires other { is_method kind ≡ false }
+    ensures { RowReads O.Objects.own (checked_shape kind n) shape_in m.now r.now result }
+{
+    if 65533 < body_words(kind, n) {
+        return Err(Dead::Field);
+    }
+    let size = n as u32;
+    Ok(Shape { kind, size })
+}
+
+/// The shape of a new instance of a class that is indexable, but isn't CompiledMethod.
+#[tactic(auto, using(st_frames::proofs::Doing::rows, crate::proofs::Tries::tests), unfolding(st_model::specs::Storage::indexed_shape))]
+fn indexed_shape<O: Objects>(m: &O, r: &Registers, class: Word, count: Word) -> Result<Shape, Dead>
+    ensures does { RowReads O.Objects.own (indexed_shape O.names (word class) (word count))
+        shape_in m.now r.now result }
+    ensures other { IfOk result (λ s. word class ≢ Ref (place_of MethodClass)) }
+{
+    let s = specification(m, r, class)?;
+    check_not_method_class(m, r, class)?;
+    if !is_indexable(s) {
+        return Err(Dead::Kind);
+    }
+    let n = positive_value(m, r, count)?;
+    checked_shape(m, r, kind_of_indexed(s), n + u64::from(fixed_count(s)))
 }
