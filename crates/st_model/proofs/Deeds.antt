@@ -351,7 +351,7 @@ bytes_stay : (t : Table) (n : ℕ) (o : Object) (i : ℕ) (x : Value) (v : Value
     → bytes_from (changed t n (with_field o i x)) v from k ≡ bytes_from t v from k
 bytes_stay t n o i x (Small j) from k e h = refl
 bytes_stay t n o i x (Ref j) from k e h = elim (number_cases j n) [
-  | inl q ↦ rw (q, changed-some t n (with_field o i x) o e, e) refl
+  | inl q ↦ rw (q, changed-some t n (with_field o i x) o e, e, length-set o.fields i x) refl
   | inr d ↦ rw (changed-other t n j (with_field o i x) d) refl
 ]
 

@@ -29,7 +29,7 @@ use Rattle.st_model.specs.Storage.{count_literals, first_by, first_place, place_
 use Rattle.st_model.specs.declared.kind.Kind.{Kind}
 use Rattle.st_model.specs.declared.kind.Kind.TheVariants as kind
 use Rattle.st_model.specs.Arithmetic.{new_point, value_of_answer, integer_under, integer_answer, arithmetic, equivalence, receiver_class, flush_cache}
-use Rattle.st_model.specs.Executing.{goes_on, answer_field, or_activate, respond, respond_by_extension, execute_by, execute, executed, execute_if_any, executed_if_any}
+use Rattle.st_model.specs.Executing.{goes_on, answer_field, or_activate, say_or_activate, respond, respond_by_extension, execute_by, execute, executed, execute_if_any, executed_if_any}
 use Rattle.st_model.specs.Returns.{calls, calls_nothing, cannot_return, return_into, return_to_context, return_to, return_to_sender, return_to_caller, must_be_boolean, jump_on}
 use Rattle.st_model.specs.Bytecodes.{fetch_receiver_variable, fetch_temporary_variable, fetch_literal_constant, fetch_literal_variable, fetch_operand, store_receiver_variable, store_temporary_variable, store_literal_variable, store_operand, constant_value, or_send, arithmetic_by, arithmetic_send, primitive_send, rows, bytecode, step}
 use Rattle.st_model.proofs.Names.{map_all, map_object}
@@ -923,9 +923,13 @@ module _ (o : Object) (lives : ℕ → Type 0) where
   unfolding or_activate
   or_activate-sure n c v p p' h0 h1 = search (sures, goes_on-sure, activate-sure) depth 24 fits 4000
 
+  pub say_or_activate-sure : (n : ℕ) (c : Call) (v : Value) → CallThere n c → SureAnswer n (say_or_activate bare c v) (say_or_activate (full o) c v)
+  unfolding say_or_activate
+  say_or_activate-sure n c v h0 = search (parts, goes_on-sure, activate-sure, primitive_say-sure) depth 24 fits 4000
+
   pub respond-sure : (n : ℕ) (p : Performing) (c : Call) (v : Value) (i : ℕ) → CallThere n c → SureAnswer n (respond bare p c v i) (respond (full o) p c v i)
   unfolding respond
-  respond-sure n p c v i h0 = search (sures, goes_on-sure, activate-sure, or_activate-sure, primitives_sure) depth 24 fits 4000
+  respond-sure n p c v i h0 = search (sures, goes_on-sure, activate-sure, or_activate-sure, say_or_activate-sure, primitives_sure) depth 24 fits 4000
 
   pub execute_by-sure : (n : ℕ) (p : Performing) (c : Call) (v : Value) (flag : ℕ) → CallThere n c → SureAnswer n (execute_by bare p c v flag) (execute_by (full o) p c v flag)
   unfolding execute_by respond_by_extension answer_field

@@ -307,7 +307,7 @@ module _ {H K : Type 0} {M : ObjectMemory H} {N : ObjectMemory K} (sim : Simulat
 
   ruleset primitives_same = (parts_same, primitive-same, primitive_value-same, effects_same, conditions_same, truth-same)
 
-  say-same : (v w : Value) → ValueSame sim v w → SameAnswer sim (primitive_say M v) (primitive_say N w)
+  pub say-same : (v w : Value) → ValueSame sim v w → SameAnswer sim (primitive_say M v) (primitive_say N w)
   unfolding primitive_say
   say-same v w h = search primitives_same depth 24 fits 4000
 

@@ -40,7 +40,7 @@ bytes_replaced i bs o = if is_bytes o.kind then bytes_stored i bs o else o
 
 abbrev pub bytes_of_object : ℕ → ℕ → Option Object → List ℕ
 bytes_of_object i n None = []
-bytes_of_object i n (Some o) = if is_bytes o.kind then take n (drop i o.units) else []
+bytes_of_object i n (Some o) = if is_bytes o.kind then take n (drop (i - first_unit o) o.units) else []
 
 -- n bytes of the object of this value from a place on, where it is of kind Bytes
 abbrev pub bytes_from : Table → Value → ℕ → ℕ → List ℕ
@@ -79,7 +79,8 @@ with_deed d s = over (deed_done d) s
 
 -- what the end of a step of the code leaves to be done
 abbrev pub deed_of_end : CodeStepEnd → Deed
-deed_of_end (ends.Did o deed) = deed
+deed_of_end (ends.Went deed) = deed
+deed_of_end (ends.Says w) = Nothing
 deed_of_end ends.NotBuilt = Nothing
 
 -- whether a primitive of the code succeeded that was tried

@@ -5,7 +5,7 @@ use Rattle.st_model.specs.declared.outcome.Outcome.{Outcome as CodeOutcome}
 use Rattle.st_model.specs.declared.outcome.Outcome.TheVariants as outcomes
 use Rattle.st_model.specs.declared.outcome.StepEnd.{StepEnd as CodeStepEnd}
 use Rattle.st_model.specs.declared.outcome.StepEnd.TheVariants as ends
-use Rattle.st_model.specs.Values.{Value, word, renamed, IsLive}
+use Rattle.st_model.specs.Values.{Value, value, word, renamed, IsLive}
 
 -- It went on; or something is asked for besides, which is done after the cycle: that an image is saved, that the
 -- bytes of an object are said, that the run ends, or that it ends for a debugger.
@@ -61,11 +61,12 @@ IsLiveEnding live (Unbuilt b) = Unit {0}
 abbrev pub outcome_of : CodeOutcome → Outcome
 outcome_of outcomes.Went = Went
 outcome_of outcomes.Snapshot = Snapshot
-outcome_of (outcomes.Say w) = Say (word w)
+outcome_of (outcomes.Say o) = Say (value o)
 outcome_of outcomes.Quit = Quit
 outcome_of outcomes.Debugger = Debugger
 
 -- what the end of a step of the code means, whatever it leaves to be done
 abbrev pub end_of : CodeStepEnd → StepEnd
-end_of (ends.Did o deed) = Did (outcome_of o)
+end_of (ends.Went deed) = Did Went
+end_of (ends.Says w) = Did (Say (word w))
 end_of ends.NotBuilt = NotBuilt
