@@ -181,7 +181,7 @@ store_is v i x z s u e =
     let l = checked_is dead.Field (nat_lt i (length a.0.fields)) c.0 b.1 c.1 c.2 in
     let same : c.1 ≡ s = l.1 ∙ (k.1 ∙ o.stays) in
     let set : (set_field bounded_table (Ref o.name) i x).run s ≡ Went z u =
-        subst (λ y. (set_field bounded_table y i x).run s ≡ Went z u) o.is (subst (λ (y : State Table). (set_field bounded_table v i x).run y ≡ Went z u) same c.3) in
+    subst (λ y. (set_field bounded_table y i x).run s ≡ Went z u) o.is (subst (λ (y : State Table). (set_field bounded_table v i x).run y ≡ Went z u) same c.3) in
     record { name = o.name; object = a.0; is = o.is; there = o.there; pointers = k.0; within = l.0; now = set_is o.name i x z s u a.0 o.there set }
 
 count_is : (v : Value) (n : ℕ) (s u : State Table) → (count_fields bounded_table v).run s ≡ Went n u → u ≡ s
@@ -229,7 +229,7 @@ pushed x z s u l e =
     let r : u ≡ w = q ∙ ap (λ (y : State Table). record y { registers = record y.registers { sp = sp } }) st.now in
     let there = changed-some s.memory st.name (with_field st.object sp x) st.object st.there in
     let f : (fetch_field bounded_table s.registers.active sp).run w ≡ Went x w =
-        fetched_back s.registers.active st.name sp x w (with_field st.object sp x) st.is there st.pointers (got_back st.object.fields sp x st.within) in
+    fetched_back s.registers.active st.name sp x w (with_field st.object sp x) st.is there st.pointers (got_back st.object.fields sp x st.within) in
     subst (λ (y : State Table). (top bounded_table).run y ≡ Went x y) (sym r) (top_by x w (grind (arith, nat_tests, l)) f)
 
 -- an answer that takes the place of a receiver is at the top

@@ -93,9 +93,9 @@ Fails k n stack others = trying k n stack others ≡ failed stack others
 -- 60: the elements of an Array of two; there is none at 0 and 3, at the least and the greatest SmallInteger, and by no other
 -- number; a SmallInteger has none, nor has an object whose class has no readable specification
 at_array : (trying 60 1 (Ref 31 ∷ Small 1 ∷ []) (array (Small 9 ∷ nil ∷ []) ∷ [])
-        ≡ done (Small 9 ∷ Small 1 ∷ []) (array (Small 9 ∷ nil ∷ []) ∷ []))
+    ≡ done (Small 9 ∷ Small 1 ∷ []) (array (Small 9 ∷ nil ∷ []) ∷ []))
     × (trying 60 1 (Ref 31 ∷ Small 2 ∷ []) (array (Small 9 ∷ nil ∷ []) ∷ [])
-        ≡ done (nil ∷ Small 2 ∷ []) (array (Small 9 ∷ nil ∷ []) ∷ []))
+    ≡ done (nil ∷ Small 2 ∷ []) (array (Small 9 ∷ nil ∷ []) ∷ []))
     × Fails 60 1 (Ref 31 ∷ Small 0 ∷ []) (array (Small 9 ∷ nil ∷ []) ∷ [])
     × Fails 60 1 (Ref 31 ∷ Small 3 ∷ []) (array (Small 9 ∷ nil ∷ []) ∷ [])
     × Fails 60 1 (Ref 31 ∷ Small 16384 ∷ []) (array (Small 9 ∷ nil ∷ []) ∷ [])
@@ -114,17 +114,17 @@ other_number = (refl, refl)
 
 -- behind two fixed fields; a word above 16383 as a new number; a byte; and a Method's bytes from the first bytecode on
 at_others : (trying 60 1 (Ref 31 ∷ Small 1 ∷ []) (pointers 29 (Small 7 ∷ Small 8 ∷ Small 9 ∷ []) ∷ [])
-        ≡ done (Small 9 ∷ Small 1 ∷ []) (pointers 29 (Small 7 ∷ Small 8 ∷ Small 9 ∷ []) ∷ []))
+    ≡ done (Small 9 ∷ Small 1 ∷ []) (pointers 29 (Small 7 ∷ Small 8 ∷ Small 9 ∷ []) ∷ []))
     × Fails 60 1 (Ref 31 ∷ Small 2 ∷ []) (pointers 29 (Small 7 ∷ Small 8 ∷ Small 9 ∷ []) ∷ [])
     × (trying 60 1 (Ref 31 ∷ Small 1 ∷ []) (words (16383 ∷ []) ∷ []) ≡ done (Small 16383 ∷ Small 1 ∷ []) (words (16383 ∷ []) ∷ []))
     × (trying 60 1 (Ref 31 ∷ Small 1 ∷ []) (words (16384 ∷ []) ∷ [])
-        ≡ made (large (0 ∷ 64 ∷ [])) (Ref 5 ∷ Small 1 ∷ []) (words (16384 ∷ []) ∷ []))
+    ≡ made (large (0 ∷ 64 ∷ [])) (Ref 5 ∷ Small 1 ∷ []) (words (16384 ∷ []) ∷ []))
     × (trying 60 1 (Ref 31 ∷ Small 1 ∷ []) (words (65535 ∷ []) ∷ [])
-        ≡ made (large (255 ∷ 255 ∷ [])) (Ref 5 ∷ Small 1 ∷ []) (words (65535 ∷ []) ∷ []))
+    ≡ made (large (255 ∷ 255 ∷ [])) (Ref 5 ∷ Small 1 ∷ []) (words (65535 ∷ []) ∷ []))
     × (trying 60 1 (Ref 31 ∷ Small 2 ∷ []) (string (7 ∷ 255 ∷ []) ∷ [])
-        ≡ done (Small 255 ∷ Small 2 ∷ []) (string (7 ∷ 255 ∷ []) ∷ []))
+    ≡ done (Small 255 ∷ Small 2 ∷ []) (string (7 ∷ 255 ∷ []) ∷ []))
     × (trying 60 1 (Ref 31 ∷ Small 5 ∷ []) (method (Small 1 ∷ nil ∷ []) (120 ∷ 121 ∷ []) ∷ [])
-        ≡ done (Small 120 ∷ Small 5 ∷ []) (method (Small 1 ∷ nil ∷ []) (120 ∷ 121 ∷ []) ∷ []))
+    ≡ done (Small 120 ∷ Small 5 ∷ []) (method (Small 1 ∷ nil ∷ []) (120 ∷ 121 ∷ []) ∷ []))
     × Fails 60 1 (Ref 31 ∷ Small 4 ∷ []) (method (Small 1 ∷ nil ∷ []) (120 ∷ 121 ∷ []) ∷ [])
     × Fails 60 1 (Ref 31 ∷ Small 7 ∷ []) (method (Small 1 ∷ nil ∷ []) (120 ∷ 121 ∷ []) ∷ [])
 unfolding opened trying done made failed state objects string method words pointers class large bytes
@@ -132,7 +132,7 @@ at_others = (refl, refl, refl, refl, refl, refl, refl, refl, refl)
 
 -- 61: a field takes any value, the first behind the fixed ones
 put_field : (trying 61 2 (Ref 31 ∷ Small 1 ∷ Ref 29 ∷ []) (pointers 29 (Small 7 ∷ Small 8 ∷ Small 9 ∷ []) ∷ [])
-        ≡ done (Ref 29 ∷ Small 1 ∷ Ref 29 ∷ []) (pointers 29 (Small 7 ∷ Small 8 ∷ Ref 29 ∷ []) ∷ []))
+    ≡ done (Ref 29 ∷ Small 1 ∷ Ref 29 ∷ []) (pointers 29 (Small 7 ∷ Small 8 ∷ Ref 29 ∷ []) ∷ []))
     × Fails 61 2 (Ref 31 ∷ Small 2 ∷ Ref 29 ∷ []) (pointers 29 (Small 7 ∷ Small 8 ∷ Small 9 ∷ []) ∷ [])
     × Fails 61 2 (Ref 31 ∷ Small 0 ∷ Ref 29 ∷ []) (pointers 29 (Small 7 ∷ Small 8 ∷ Small 9 ∷ []) ∷ [])
 unfolding opened trying done failed state objects pointers class
@@ -140,10 +140,10 @@ put_field = (refl, refl, refl)
 
 -- a word takes numbers to 65535, SmallIntegers or LargePositiveIntegers of 1 to 4 bytes
 put_word : (trying 61 2 (Ref 31 ∷ Small 1 ∷ Ref 32 ∷ []) (words (7 ∷ []) ∷ large (255 ∷ 255 ∷ []) ∷ [])
-        ≡ done (Ref 32 ∷ Small 1 ∷ Ref 32 ∷ []) (words (65535 ∷ []) ∷ large (255 ∷ 255 ∷ []) ∷ []))
+    ≡ done (Ref 32 ∷ Small 1 ∷ Ref 32 ∷ []) (words (65535 ∷ []) ∷ large (255 ∷ 255 ∷ []) ∷ []))
     × Fails 61 2 (Ref 31 ∷ Small 1 ∷ Ref 32 ∷ []) (words (7 ∷ []) ∷ large (0 ∷ 0 ∷ 1 ∷ []) ∷ [])
     × (trying 61 2 (Ref 31 ∷ Small 1 ∷ Ref 32 ∷ []) (words (7 ∷ []) ∷ large (5 ∷ 0 ∷ 0 ∷ 0 ∷ []) ∷ [])
-        ≡ done (Ref 32 ∷ Small 1 ∷ Ref 32 ∷ []) (words (5 ∷ []) ∷ large (5 ∷ 0 ∷ 0 ∷ 0 ∷ []) ∷ []))
+    ≡ done (Ref 32 ∷ Small 1 ∷ Ref 32 ∷ []) (words (5 ∷ []) ∷ large (5 ∷ 0 ∷ 0 ∷ 0 ∷ []) ∷ []))
     × Fails 61 2 (Ref 31 ∷ Small 1 ∷ Ref 32 ∷ []) (words (7 ∷ []) ∷ large (5 ∷ 0 ∷ 0 ∷ 0 ∷ 0 ∷ []) ∷ [])
     × Fails 61 2 (Ref 31 ∷ Small 1 ∷ Ref 32 ∷ []) (words (7 ∷ []) ∷ large [] ∷ [])
     × Fails 61 2 (Ref 31 ∷ Small 1 ∷ Ref 32 ∷ []) (words (7 ∷ []) ∷ pointers 14 (Small 1 ∷ []) ∷ [])
@@ -153,11 +153,11 @@ put_word = (refl, refl, refl, refl, refl, refl, refl)
 
 -- a byte takes SmallIntegers from 0 to 255; in a Method only a bytecode is reached
 put_byte : (trying 61 2 (Ref 31 ∷ Small 1 ∷ Small 255 ∷ []) (string (7 ∷ []) ∷ [])
-        ≡ done (Small 255 ∷ Small 1 ∷ Small 255 ∷ []) (string (255 ∷ []) ∷ []))
+    ≡ done (Small 255 ∷ Small 1 ∷ Small 255 ∷ []) (string (255 ∷ []) ∷ []))
     × Fails 61 2 (Ref 31 ∷ Small 1 ∷ Small 256 ∷ []) (string (7 ∷ []) ∷ [])
     × Fails 61 2 (Ref 31 ∷ Small 1 ∷ Small 32767 ∷ []) (string (7 ∷ []) ∷ [])
     × (trying 61 2 (Ref 31 ∷ Small 3 ∷ Small 9 ∷ []) (method (Small 0 ∷ []) (120 ∷ []) ∷ [])
-        ≡ done (Small 9 ∷ Small 3 ∷ Small 9 ∷ []) (method (Small 0 ∷ []) (9 ∷ []) ∷ []))
+    ≡ done (Small 9 ∷ Small 3 ∷ Small 9 ∷ []) (method (Small 0 ∷ []) (9 ∷ []) ∷ []))
     × Fails 61 2 (Ref 31 ∷ Small 2 ∷ Small 9 ∷ []) (method (Small 0 ∷ []) (120 ∷ []) ∷ [])
 unfolding opened trying done failed state objects string method pointers class bytes
 put_byte = (refl, refl, refl, refl, refl)
@@ -165,19 +165,19 @@ put_byte = (refl, refl, refl, refl, refl)
 -- 62: fields without the fixed ones, which the class is to say, below 0 where there are fewer; words; a Method's bytes, all of
 -- them
 sizes : (trying 62 0 (Ref 31 ∷ []) (pointers 29 (Small 7 ∷ Small 8 ∷ Small 9 ∷ []) ∷ [])
-        ≡ done (Small 1 ∷ []) (pointers 29 (Small 7 ∷ Small 8 ∷ Small 9 ∷ []) ∷ []))
+    ≡ done (Small 1 ∷ []) (pointers 29 (Small 7 ∷ Small 8 ∷ Small 9 ∷ []) ∷ []))
     × (trying 62 0 (Ref 31 ∷ []) (pointers 29 [] ∷ []) ≡ done (Small 32766 ∷ []) (pointers 29 [] ∷ []))
     × Fails 62 0 (Ref 31 ∷ []) (pointers 1 (Small 9 ∷ []) ∷ [])
     × (trying 62 0 (Ref 31 ∷ []) (words (1 ∷ 2 ∷ []) ∷ []) ≡ done (Small 2 ∷ []) (words (1 ∷ 2 ∷ []) ∷ []))
     × (trying 62 0 (Ref 31 ∷ []) (method (Small 1 ∷ nil ∷ []) (120 ∷ []) ∷ [])
-        ≡ done (Small 5 ∷ []) (method (Small 1 ∷ nil ∷ []) (120 ∷ []) ∷ []))
+    ≡ done (Small 5 ∷ []) (method (Small 1 ∷ nil ∷ []) (120 ∷ []) ∷ []))
     × Fails 62 0 (Small 5 ∷ []) []
 unfolding opened trying done failed state objects words method pointers class
 sizes = (refl, refl, refl, refl, refl, refl)
 
 -- 63: the Character of byte 1 is field 1 of the table, which has none for byte 2; the receiver is of kind Bytes
 characters : (trying 63 1 (Ref 31 ∷ Small 2 ∷ []) (string (2 ∷ 1 ∷ []) ∷ [])
-        ≡ done (Ref 3 ∷ Small 2 ∷ []) (string (2 ∷ 1 ∷ []) ∷ []))
+    ≡ done (Ref 3 ∷ Small 2 ∷ []) (string (2 ∷ 1 ∷ []) ∷ []))
     × Fails 63 1 (Ref 31 ∷ Small 1 ∷ []) (string (2 ∷ 1 ∷ []) ∷ [])
     × Fails 63 1 (Ref 31 ∷ Small 0 ∷ []) (string (1 ∷ []) ∷ [])
     × Fails 63 1 (Ref 31 ∷ Small 2 ∷ []) (string (1 ∷ []) ∷ [])
@@ -187,7 +187,7 @@ characters = (refl, refl, refl, refl, refl)
 
 -- 64: the byte of a Character, which is to be its field 0 and from 0 to 255
 put_character : (trying 64 2 (Ref 31 ∷ Small 1 ∷ Ref 32 ∷ []) (string (7 ∷ []) ∷ pointers 20 (Small 255 ∷ []) ∷ [])
-        ≡ done (Ref 32 ∷ Small 1 ∷ Ref 32 ∷ []) (string (255 ∷ []) ∷ pointers 20 (Small 255 ∷ []) ∷ []))
+    ≡ done (Ref 32 ∷ Small 1 ∷ Ref 32 ∷ []) (string (255 ∷ []) ∷ pointers 20 (Small 255 ∷ []) ∷ []))
     × Fails 64 2 (Ref 31 ∷ Small 1 ∷ Ref 32 ∷ []) (string (7 ∷ []) ∷ pointers 20 (Small 256 ∷ []) ∷ [])
     × Fails 64 2 (Ref 31 ∷ Small 1 ∷ Ref 32 ∷ []) (string (7 ∷ []) ∷ pointers 20 (Small 32767 ∷ []) ∷ [])
     × Fails 64 2 (Ref 31 ∷ Small 1 ∷ Ref 32 ∷ []) (string (7 ∷ []) ∷ pointers 8 (Small 1 ∷ []) ∷ [])
@@ -203,7 +203,7 @@ stream position read write = pointers 6 (Ref 32 ∷ Small position ∷ Small rea
 
 -- 65: the element at the position, which is at least 0, below the limit and within the collection
 nexts : (trying 65 0 (Ref 31 ∷ []) (stream 1 2 0 ∷ array (Small 8 ∷ Small 9 ∷ []) ∷ [])
-        ≡ done (Small 9 ∷ []) (stream 2 2 0 ∷ array (Small 8 ∷ Small 9 ∷ []) ∷ []))
+    ≡ done (Small 9 ∷ []) (stream 2 2 0 ∷ array (Small 8 ∷ Small 9 ∷ []) ∷ []))
     × Fails 65 0 (Ref 31 ∷ []) (stream 1 1 9 ∷ array (Small 8 ∷ Small 9 ∷ []) ∷ [])
     × Fails 65 0 (Ref 31 ∷ []) (stream 2 9 9 ∷ array (Small 8 ∷ Small 9 ∷ []) ∷ [])
     × Fails 65 0 (Ref 31 ∷ []) (stream 32767 9 9 ∷ array (Small 8 ∷ Small 9 ∷ []) ∷ [])
@@ -215,17 +215,17 @@ nexts = (refl, refl, refl, refl, refl, refl, refl)
 
 -- a stream whose Array is itself: the position is the element, as it was before it rose
 next_of_itself : trying 65 0 (Ref 31 ∷ []) (array (Ref 31 ∷ Small 1 ∷ Small 4 ∷ []) ∷ [])
-        ≡ done (Small 1 ∷ []) (array (Ref 31 ∷ Small 2 ∷ Small 4 ∷ []) ∷ [])
+    ≡ done (Small 1 ∷ []) (array (Ref 31 ∷ Small 2 ∷ Small 4 ∷ []) ∷ [])
 unfolding opened trying done state objects array pointers class
 next_of_itself = refl
 
 -- 66: the limit of writing counts
 put_nexts : (trying 66 1 (Ref 31 ∷ Ref 3 ∷ []) (stream 1 0 2 ∷ array (Small 8 ∷ Small 9 ∷ []) ∷ [])
-        ≡ done (Ref 3 ∷ Ref 3 ∷ []) (stream 2 0 2 ∷ array (Small 8 ∷ Ref 3 ∷ []) ∷ []))
+    ≡ done (Ref 3 ∷ Ref 3 ∷ []) (stream 2 0 2 ∷ array (Small 8 ∷ Ref 3 ∷ []) ∷ []))
     × Fails 66 1 (Ref 31 ∷ Ref 3 ∷ []) (stream 1 9 1 ∷ array (Small 8 ∷ Small 9 ∷ []) ∷ [])
     × Fails 66 1 (Ref 31 ∷ Ref 3 ∷ []) (stream 2 9 9 ∷ array (Small 8 ∷ Small 9 ∷ []) ∷ [])
     × (trying 66 1 (Ref 31 ∷ Ref 33 ∷ []) (stream 0 0 1 ∷ string (1 ∷ []) ∷ pointers 20 (Small 65 ∷ []) ∷ [])
-        ≡ done (Ref 33 ∷ Ref 33 ∷ []) (stream 1 0 1 ∷ string (65 ∷ []) ∷ pointers 20 (Small 65 ∷ []) ∷ []))
+    ≡ done (Ref 33 ∷ Ref 33 ∷ []) (stream 1 0 1 ∷ string (65 ∷ []) ∷ pointers 20 (Small 65 ∷ []) ∷ []))
     × Fails 66 1 (Ref 31 ∷ Small 65 ∷ []) (stream 0 0 1 ∷ string (1 ∷ []) ∷ [])
 unfolding opened trying done failed state objects stream array string pointers class bytes
 put_nexts = (refl, refl, refl, refl, refl)
@@ -237,17 +237,17 @@ put_next_over = refl
 
 -- also where the element was stored into the position
 put_next_into_itself : trying 66 1 (Ref 31 ∷ Ref 3 ∷ []) (array (Ref 31 ∷ Small 1 ∷ nil ∷ Small 4 ∷ []) ∷ [])
-        ≡ done (Ref 3 ∷ Ref 3 ∷ []) (array (Ref 31 ∷ Small 2 ∷ nil ∷ Small 4 ∷ []) ∷ [])
+    ≡ done (Ref 3 ∷ Ref 3 ∷ []) (array (Ref 31 ∷ Small 2 ∷ nil ∷ Small 4 ∷ []) ∷ [])
 unfolding opened trying done state objects array pointers class
 put_next_into_itself = refl
 
 -- 67: at the limit, at the collection's end, or neither; fields 1 and 2 are SmallIntegers, and the collection an Array or String
 ends : (trying 67 0 (Ref 31 ∷ []) (stream 1 1 0 ∷ array (nil ∷ nil ∷ []) ∷ [])
-        ≡ done (Ref 3 ∷ []) (stream 1 1 0 ∷ array (nil ∷ nil ∷ []) ∷ []))
+    ≡ done (Ref 3 ∷ []) (stream 1 1 0 ∷ array (nil ∷ nil ∷ []) ∷ []))
     × (trying 67 0 (Ref 31 ∷ []) (stream 2 9 0 ∷ array (nil ∷ nil ∷ []) ∷ [])
-        ≡ done (Ref 3 ∷ []) (stream 2 9 0 ∷ array (nil ∷ nil ∷ []) ∷ []))
+    ≡ done (Ref 3 ∷ []) (stream 2 9 0 ∷ array (nil ∷ nil ∷ []) ∷ []))
     × (trying 67 0 (Ref 31 ∷ []) (stream 1 2 0 ∷ array (nil ∷ nil ∷ []) ∷ [])
-        ≡ done (Ref 2 ∷ []) (stream 1 2 0 ∷ array (nil ∷ nil ∷ []) ∷ []))
+    ≡ done (Ref 2 ∷ []) (stream 1 2 0 ∷ array (nil ∷ nil ∷ []) ∷ []))
     × (trying 67 0 (Ref 31 ∷ []) (stream 32767 0 0 ∷ string [] ∷ []) ≡ done (Ref 2 ∷ []) (stream 32767 0 0 ∷ string [] ∷ []))
     × Fails 67 0 (Ref 31 ∷ []) (stream 1 2 0 ∷ pointers 29 [] ∷ [])
     × Fails 67 0 (Ref 31 ∷ []) (pointers 6 (Ref 32 ∷ Small 1 ∷ nil ∷ []) ∷ array [] ∷ [])
@@ -256,9 +256,9 @@ ends = (refl, refl, refl, refl, refl, refl)
 
 -- 68: index 1 is the header, and 2 the one literal
 literals : (trying 68 1 (Ref 31 ∷ Small 1 ∷ []) (method (Small 1 ∷ Ref 3 ∷ []) (9 ∷ []) ∷ [])
-        ≡ done (Small 1 ∷ Small 1 ∷ []) (method (Small 1 ∷ Ref 3 ∷ []) (9 ∷ []) ∷ []))
+    ≡ done (Small 1 ∷ Small 1 ∷ []) (method (Small 1 ∷ Ref 3 ∷ []) (9 ∷ []) ∷ []))
     × (trying 68 1 (Ref 31 ∷ Small 2 ∷ []) (method (Small 1 ∷ Ref 3 ∷ []) (9 ∷ []) ∷ [])
-        ≡ done (Ref 3 ∷ Small 2 ∷ []) (method (Small 1 ∷ Ref 3 ∷ []) (9 ∷ []) ∷ []))
+    ≡ done (Ref 3 ∷ Small 2 ∷ []) (method (Small 1 ∷ Ref 3 ∷ []) (9 ∷ []) ∷ []))
     × Fails 68 1 (Ref 31 ∷ Small 3 ∷ []) (method (Small 1 ∷ Ref 3 ∷ []) (9 ∷ []) ∷ [])
     × Fails 68 1 (Ref 31 ∷ Small 0 ∷ []) (method (Small 1 ∷ Ref 3 ∷ []) (9 ∷ []) ∷ [])
     × Fails 68 1 (Ref 31 ∷ Small 1 ∷ []) (array (nil ∷ []) ∷ [])
@@ -267,11 +267,11 @@ literals = (refl, refl, refl, refl, refl)
 
 -- 69: a header with as many literals, 1, and another temporary count; one with 2 literals fails, and what isn't a SmallInteger
 put_literals : (trying 69 2 (Ref 31 ∷ Small 1 ∷ Small 129 ∷ []) (method (Small 1 ∷ nil ∷ []) [] ∷ [])
-        ≡ done (Small 129 ∷ Small 1 ∷ Small 129 ∷ []) (method (Small 129 ∷ nil ∷ []) [] ∷ []))
+    ≡ done (Small 129 ∷ Small 1 ∷ Small 129 ∷ []) (method (Small 129 ∷ nil ∷ []) [] ∷ []))
     × Fails 69 2 (Ref 31 ∷ Small 1 ∷ Small 130 ∷ []) (method (Small 1 ∷ nil ∷ []) [] ∷ [])
     × Fails 69 2 (Ref 31 ∷ Small 1 ∷ Ref 3 ∷ []) (method (Small 1 ∷ nil ∷ []) [] ∷ [])
     × (trying 69 2 (Ref 31 ∷ Small 2 ∷ Ref 3 ∷ []) (method (Small 1 ∷ nil ∷ []) [] ∷ [])
-        ≡ done (Ref 3 ∷ Small 2 ∷ Ref 3 ∷ []) (method (Small 1 ∷ Ref 3 ∷ []) [] ∷ []))
+    ≡ done (Ref 3 ∷ Small 2 ∷ Ref 3 ∷ []) (method (Small 1 ∷ Ref 3 ∷ []) [] ∷ []))
     × Fails 69 2 (Ref 31 ∷ Small 3 ∷ Ref 3 ∷ []) (method (Small 1 ∷ nil ∷ []) [] ∷ [])
 unfolding opened trying done failed state objects method pointers class
 put_literals = (refl, refl, refl, refl, refl)
@@ -280,7 +280,7 @@ put_literals = (refl, refl, refl, refl, refl)
 -- readable specification
 news : (trying 70 0 (Ref 31 ∷ []) (class 16386 ∷ []) ≡ made (pointers 31 (nil ∷ nil ∷ [])) (Ref 5 ∷ []) (class 16386 ∷ []))
     × (trying 70 0 (Ref 31 ∷ []) (class 2 ∷ [])
-        ≡ made (Some (record { class = 31; kind = kind.Words; fields = []; units = 0 ∷ 0 ∷ [] })) (Ref 5 ∷ []) (class 2 ∷ []))
+    ≡ made (Some (record { class = 31; kind = kind.Words; fields = []; units = 0 ∷ 0 ∷ [] })) (Ref 5 ∷ []) (class 2 ∷ []))
     × Fails 70 0 (Ref 31 ∷ []) (class 20480 ∷ [])
     × Fails 70 0 (Ref 17 ∷ []) []
     × Fails 70 0 (Ref 31 ∷ []) (pointers 6 (nil ∷ nil ∷ nil ∷ []) ∷ [])
@@ -292,10 +292,10 @@ news = (refl, refl, refl, refl, refl, refl, refl)
 -- 71: fixed fields and indexed ones, words, or bytes; V(a) is a SmallInteger from 0 or a LargePositiveInteger of 1 to 4 bytes
 new_withs : (trying 71 1 (Ref 29 ∷ Small 1 ∷ []) [] ≡ made (pointers 29 (nil ∷ nil ∷ nil ∷ [])) (Ref 5 ∷ Small 1 ∷ []) [])
     × (trying 71 1 (Ref 31 ∷ Ref 32 ∷ []) (class 12289 ∷ large (1 ∷ 0 ∷ 0 ∷ 0 ∷ []) ∷ [])
-        ≡ made (Some (record { class = 31; kind = kind.Words; fields = []; units = 0 ∷ 0 ∷ [] })) (Ref 5 ∷ Ref 32 ∷ [])
-          (class 12289 ∷ large (1 ∷ 0 ∷ 0 ∷ 0 ∷ []) ∷ []))
+    ≡ made (Some (record { class = 31; kind = kind.Words; fields = []; units = 0 ∷ 0 ∷ [] })) (Ref 5 ∷ Ref 32 ∷ [])
+    (class 12289 ∷ large (1 ∷ 0 ∷ 0 ∷ 0 ∷ []) ∷ []))
     × (trying 71 1 (Ref 31 ∷ Small 2 ∷ []) (class 4097 ∷ [])
-        ≡ made (bytes 31 (0 ∷ 0 ∷ 0 ∷ [])) (Ref 5 ∷ Small 2 ∷ []) (class 4097 ∷ []))
+    ≡ made (bytes 31 (0 ∷ 0 ∷ 0 ∷ [])) (Ref 5 ∷ Small 2 ∷ []) (class 4097 ∷ []))
     × Fails 71 1 (Ref 29 ∷ Small 32767 ∷ []) []
     × Fails 71 1 (Ref 29 ∷ Ref 31 ∷ []) (large [] ∷ [])
     × Fails 71 1 (Ref 29 ∷ Ref 31 ∷ []) (large (1 ∷ 0 ∷ 0 ∷ 0 ∷ 0 ∷ []) ∷ [])
@@ -316,9 +316,9 @@ too_large = (refl, refl, refl)
 -- 72: class and body are exchanged, and the answer is the receiver's pointer, also of a class and its instance; no SmallInteger
 -- is exchanged
 becomes : (trying 72 1 (Ref 31 ∷ Ref 32 ∷ []) (array (nil ∷ []) ∷ string (1 ∷ []) ∷ [])
-        ≡ done (Ref 31 ∷ Ref 32 ∷ []) (string (1 ∷ []) ∷ array (nil ∷ []) ∷ []))
+    ≡ done (Ref 31 ∷ Ref 32 ∷ []) (string (1 ∷ []) ∷ array (nil ∷ []) ∷ []))
     × (trying 72 1 (Ref 31 ∷ Ref 32 ∷ []) (class 16386 ∷ pointers 31 (nil ∷ nil ∷ []) ∷ [])
-        ≡ done (Ref 31 ∷ Ref 32 ∷ []) (pointers 31 (nil ∷ nil ∷ []) ∷ class 16386 ∷ []))
+    ≡ done (Ref 31 ∷ Ref 32 ∷ []) (pointers 31 (nil ∷ nil ∷ []) ∷ class 16386 ∷ []))
     × Fails 72 1 (Ref 31 ∷ Small 1 ∷ []) (array (nil ∷ []) ∷ [])
     × Fails 72 1 (Small 1 ∷ Ref 31 ∷ []) (array (nil ∷ []) ∷ [])
 unfolding opened trying done failed state objects array string pointers class bytes
@@ -333,20 +333,20 @@ become_active = (refl, refl, refl)
 
 -- 73 and 74: as 60 and 61, and the fixed fields count
 instance_variables : (trying 73 1 (Ref 31 ∷ Small 1 ∷ []) (pointers 29 (Small 7 ∷ []) ∷ [])
-        ≡ done (Small 7 ∷ Small 1 ∷ []) (pointers 29 (Small 7 ∷ []) ∷ []))
+    ≡ done (Small 7 ∷ Small 1 ∷ []) (pointers 29 (Small 7 ∷ []) ∷ []))
     × Fails 73 1 (Ref 31 ∷ Small 2 ∷ []) (pointers 29 (Small 7 ∷ []) ∷ [])
     × (trying 74 2 (Ref 31 ∷ Small 1 ∷ nil ∷ []) (pointers 29 (Small 7 ∷ []) ∷ [])
-        ≡ done (nil ∷ Small 1 ∷ nil ∷ []) (pointers 29 (nil ∷ []) ∷ []))
+    ≡ done (nil ∷ Small 1 ∷ nil ∷ []) (pointers 29 (nil ∷ []) ∷ []))
     × Fails 74 2 (Ref 31 ∷ Small 0 ∷ nil ∷ []) (pointers 29 (Small 7 ∷ []) ∷ [])
 unfolding opened trying done failed state objects pointers class
 instance_variables = (refl, refl, refl, refl)
 
 -- of a Method the bytes are reached alone, as by 60 and 61
 instance_bytes : (trying 73 1 (Ref 31 ∷ Small 4 ∷ []) (method (Small 0 ∷ []) (120 ∷ 121 ∷ []) ∷ [])
-        ≡ done (Small 121 ∷ Small 4 ∷ []) (method (Small 0 ∷ []) (120 ∷ 121 ∷ []) ∷ []))
+    ≡ done (Small 121 ∷ Small 4 ∷ []) (method (Small 0 ∷ []) (120 ∷ 121 ∷ []) ∷ []))
     × Fails 73 1 (Ref 31 ∷ Small 2 ∷ []) (method (Small 0 ∷ []) (120 ∷ 121 ∷ []) ∷ [])
     × (trying 74 2 (Ref 31 ∷ Small 3 ∷ Small 9 ∷ []) (method (Small 0 ∷ []) (120 ∷ 121 ∷ []) ∷ [])
-        ≡ done (Small 9 ∷ Small 3 ∷ Small 9 ∷ []) (method (Small 0 ∷ []) (9 ∷ 121 ∷ []) ∷ []))
+    ≡ done (Small 9 ∷ Small 3 ∷ Small 9 ∷ []) (method (Small 0 ∷ []) (9 ∷ 121 ∷ []) ∷ []))
     × Fails 74 2 (Ref 31 ∷ Small 2 ∷ Small 9 ∷ []) (method (Small 0 ∷ []) (120 ∷ 121 ∷ []) ∷ [])
     × Fails 74 2 (Ref 31 ∷ Small 3 ∷ Small 256 ∷ []) (method (Small 0 ∷ []) (120 ∷ 121 ∷ []) ∷ [])
 unfolding opened trying done failed state objects method pointers class
@@ -365,7 +365,7 @@ as_numbers = (refl, refl, refl, refl, refl, refl, refl)
 
 -- 77 and 78: the instances of Array are 31 and 33
 instances : (trying 77 0 (Ref 8 ∷ []) (array [] ∷ string [] ∷ array [] ∷ [])
-        ≡ done (Ref 31 ∷ []) (array [] ∷ string [] ∷ array [] ∷ []))
+    ≡ done (Ref 31 ∷ []) (array [] ∷ string [] ∷ array [] ∷ []))
     × Fails 77 0 (Ref 14 ∷ []) (array [] ∷ [])
     × (trying 78 0 (Ref 31 ∷ []) (array [] ∷ string [] ∷ array [] ∷ []) ≡ done (Ref 33 ∷ []) (array [] ∷ string [] ∷ array [] ∷ []))
     × Fails 78 0 (Ref 33 ∷ []) (array [] ∷ string [] ∷ array [] ∷ [])
@@ -406,7 +406,7 @@ by_pointers = (refl, refl, refl, refl, refl, refl, refl)
 
 -- 79: a header of one literal and three bytes
 new_methods : (trying 79 2 (Ref 17 ∷ Small 3 ∷ Small 129 ∷ []) []
-        ≡ made (method (Small 129 ∷ nil ∷ []) (0 ∷ 0 ∷ 0 ∷ [])) (Ref 5 ∷ Small 3 ∷ Small 129 ∷ []) [])
+    ≡ made (method (Small 129 ∷ nil ∷ []) (0 ∷ 0 ∷ 0 ∷ [])) (Ref 5 ∷ Small 3 ∷ Small 129 ∷ []) [])
     × Fails 79 2 (Ref 8 ∷ Small 3 ∷ Small 129 ∷ []) []
     × Fails 79 2 (Ref 17 ∷ Small 32767 ∷ Small 129 ∷ []) []
     × Fails 79 2 (Ref 17 ∷ Small 3 ∷ nil ∷ []) []
@@ -415,13 +415,13 @@ new_methods = (refl, refl, refl, refl)
 
 -- 105: within one object the bytes are copied as they were before; from 3 to 2 none are; each bound, one too far
 replacements : (trying 105 4 (Ref 31 ∷ Small 2 ∷ Small 4 ∷ Ref 31 ∷ Small 1 ∷ []) (string (1 ∷ 2 ∷ 3 ∷ 4 ∷ []) ∷ [])
-        ≡ done (Ref 31 ∷ Small 2 ∷ Small 4 ∷ Ref 31 ∷ Small 1 ∷ []) (string (1 ∷ 1 ∷ 2 ∷ 3 ∷ []) ∷ []))
+    ≡ done (Ref 31 ∷ Small 2 ∷ Small 4 ∷ Ref 31 ∷ Small 1 ∷ []) (string (1 ∷ 1 ∷ 2 ∷ 3 ∷ []) ∷ []))
     × (trying 105 4 (Ref 31 ∷ Small 1 ∷ Small 3 ∷ Ref 31 ∷ Small 2 ∷ []) (string (1 ∷ 2 ∷ 3 ∷ 4 ∷ []) ∷ [])
-        ≡ done (Ref 31 ∷ Small 1 ∷ Small 3 ∷ Ref 31 ∷ Small 2 ∷ []) (string (2 ∷ 3 ∷ 4 ∷ 4 ∷ []) ∷ []))
+    ≡ done (Ref 31 ∷ Small 1 ∷ Small 3 ∷ Ref 31 ∷ Small 2 ∷ []) (string (2 ∷ 3 ∷ 4 ∷ 4 ∷ []) ∷ []))
     × (trying 105 4 (Ref 31 ∷ Small 1 ∷ Small 2 ∷ Ref 32 ∷ Small 2 ∷ []) (string (1 ∷ 2 ∷ []) ∷ large (7 ∷ 8 ∷ 9 ∷ []) ∷ [])
-        ≡ done (Ref 31 ∷ Small 1 ∷ Small 2 ∷ Ref 32 ∷ Small 2 ∷ []) (string (8 ∷ 9 ∷ []) ∷ large (7 ∷ 8 ∷ 9 ∷ []) ∷ []))
+    ≡ done (Ref 31 ∷ Small 1 ∷ Small 2 ∷ Ref 32 ∷ Small 2 ∷ []) (string (8 ∷ 9 ∷ []) ∷ large (7 ∷ 8 ∷ 9 ∷ []) ∷ []))
     × (trying 105 4 (Ref 31 ∷ Small 3 ∷ Small 2 ∷ Ref 32 ∷ Small 4 ∷ []) (string (1 ∷ 2 ∷ []) ∷ large (7 ∷ 8 ∷ 9 ∷ []) ∷ [])
-        ≡ done (Ref 31 ∷ Small 3 ∷ Small 2 ∷ Ref 32 ∷ Small 4 ∷ []) (string (1 ∷ 2 ∷ []) ∷ large (7 ∷ 8 ∷ 9 ∷ []) ∷ []))
+    ≡ done (Ref 31 ∷ Small 3 ∷ Small 2 ∷ Ref 32 ∷ Small 4 ∷ []) (string (1 ∷ 2 ∷ []) ∷ large (7 ∷ 8 ∷ 9 ∷ []) ∷ []))
     × Fails 105 4 (Ref 31 ∷ Small 3 ∷ Small 2 ∷ Ref 32 ∷ Small 5 ∷ []) (string (1 ∷ 2 ∷ []) ∷ large (7 ∷ 8 ∷ 9 ∷ []) ∷ [])
     × Fails 105 4 (Ref 31 ∷ Small 1 ∷ Small 2 ∷ Ref 32 ∷ Small 3 ∷ []) (string (1 ∷ 2 ∷ []) ∷ large (7 ∷ 8 ∷ 9 ∷ []) ∷ [])
     × Fails 105 4 (Ref 31 ∷ Small 2 ∷ Small 3 ∷ Ref 32 ∷ Small 1 ∷ []) (string (1 ∷ 2 ∷ []) ∷ large (7 ∷ 8 ∷ 9 ∷ []) ∷ [])
@@ -442,16 +442,16 @@ left = (refl, refl)
 
 -- with 20057 words, or 20018 entries, as many are free as before the new number of two bytes
 left_before : ((storage table 112 0).run (holding 100 20057 (state 1 (objects None (nil ∷ []) [])))
-        ≡ Went true (holding 100 20057 (state 1 (objects (large (32 ∷ 78 ∷ [])) (Ref 5 ∷ []) []))))
+    ≡ Went true (holding 100 20057 (state 1 (objects (large (32 ∷ 78 ∷ [])) (Ref 5 ∷ []) []))))
     × ((storage table 115 0).run (holding 20018 20057 (state 1 (objects None (nil ∷ []) [])))
-        ≡ Went true (holding 20018 20057 (state 1 (objects (large (32 ∷ 78 ∷ [])) (Ref 5 ∷ []) []))))
+    ≡ Went true (holding 20018 20057 (state 1 (objects (large (32 ∷ 78 ∷ [])) (Ref 5 ∷ []) []))))
 unfolding opened holding state objects large bytes pointers class
 left_before = (refl, refl)
 
 -- 128: an object of kind Bytes is said, and is the answer
 said : ((primitive_say table (Ref 31)).run (state 1 (objects None (Ref 31 ∷ []) (string (65 ∷ []) ∷ [])))
-        ≡ done (Ref 31 ∷ []) (string (65 ∷ []) ∷ []))
+    ≡ done (Ref 31 ∷ []) (string (65 ∷ []) ∷ []))
     × ((primitive_say table (Ref 31)).run (state 1 (objects None (Ref 31 ∷ []) (array [] ∷ [])))
-        ≡ failed (Ref 31 ∷ []) (array [] ∷ []))
+    ≡ failed (Ref 31 ∷ []) (array [] ∷ []))
 unfolding opened done failed state objects string array pointers class bytes
 said = (refl, refl)
