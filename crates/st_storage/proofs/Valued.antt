@@ -1,14 +1,19 @@
 -- The values of numbers, by their bytes.
-use Rattle.std.proofs.Common.{◌≡◌, ◌≢◌, ℕ, zero, suc, ◌+◌, ◌*◌, ◌^◌, ◌<◌, ◌≤◌, List, [], ◌∷◌, true, false, refl, ap, sym, ◌∙◌, arith, lit≤}
-use Rattle.std.specs.Prelude.{◌-◌, pos, ◌-ℤ◌}
+use Rattle.std.proofs.Common.{◌≡◌, ◌≢◌, ℕ, zero, suc, ◌+◌, ◌*◌, ◌^◌, ◌<◌, ◌≤◌, List, [], ◌∷◌, Bool, true, false, refl, ap, sym, ◌∙◌, arith, lit≤}
+use Rattle.std.specs.Prelude.{◌-◌, ◌/◌, ◌%◌, length, if◌then◌else◌, nat_lt, ℤ, pos, negsuc, ◌-ℤ◌, ◌≤ℤ◌, ◌<ℤ◌, int_lt, int_le, nat_abs}
+use Rattle.std.proofs.lemmas.Bool.Decides.{nat_tests}
+use Rattle.st_model.specs.declared.dead.Dead.{Dead}
+use Rattle.st_model.specs.declared.dead.Dead.TheVariants as dead
 use Rattle.std.proofs.lemmas.Int.{ints}
 use mir.Syntax.{w32}
 use mir.Val.{to_z, of_z}
-use Rattle.st_model.specs.Values.{Value, Small, Ref, is_small}
-use Rattle.st_model.specs.Machine.{ObjectMemory, State, Transition, Died, Went, Step, answer, after, ◌>>=◌}
+use Rattle.st_model.specs.Values.{Value, Small, Ref, is_small, small_integer}
+use Rattle.st_model.specs.Machine.{ObjectMemory, State, Transition, Died, Went, Step, answer, die, after, ◌>>=◌, ◌>>◌}
 use Rattle.st_model.specs.Table.{Table}
-use Rattle.st_model.specs.Steps.{fetch_byte, fetch_bytes}
-use Rattle.st_model.specs.Primitives.{positive_small, large_value, positive_value, number_of_bytes}
+use Rattle.st_model.specs.Steps.{check, fetch_integer, fetch_byte, fetch_bytes}
+use Rattle.st_model.specs.Storage.{position_below}
+use Rattle.st_model.specs.Primitives.{positive_small, large_value, positive_value, number_of_bytes, bytes_of_number, number, number_of}
+use Rattle.st_model.proofs.Runs.{run-passed, run-failed}
 use Rattle.st_storage.specs.Reading.{number_read}
 use Rattle.st_frames.proofs.Doing.{rows}
 
@@ -79,3 +84,107 @@ pub difference-is : (a b : ℕ) → a ≤ 131066 → b < 2048 → to_z w32 (of_z
 difference-is a b h k = omega (arith, ints)
 
 pub ruleset differences = (difference-is)
+
+-- checks of integers
+lt_true : (a b : ℤ) → a <ℤ b → int_lt a b ≡ true
+lt_true (pos a) (pos b) l = grind (arith, ints, l)
+lt_true (pos a) (negsuc b) l = grind (arith, ints, l)
+lt_true (negsuc a) (pos b) l = grind (arith, ints, l)
+lt_true (negsuc a) (negsuc b) l = grind (arith, ints, l)
+
+lt_false : (a b : ℤ) → b ≤ℤ a → int_lt a b ≡ false
+lt_false (pos a) (pos b) l = grind (arith, ints, l)
+lt_false (pos a) (negsuc b) l = grind (arith, ints, l)
+lt_false (negsuc a) (pos b) l = grind (arith, ints, l)
+lt_false (negsuc a) (negsuc b) l = grind (arith, ints, l)
+
+le_true : (a b : ℤ) → a ≤ℤ b → int_le a b ≡ true
+le_true (pos a) (pos b) l = grind (arith, ints, l)
+le_true (pos a) (negsuc b) l = grind (arith, ints, l)
+le_true (negsuc a) (pos b) l = grind (arith, ints, l)
+le_true (negsuc a) (negsuc b) l = grind (arith, ints, l)
+
+le_false : (a b : ℤ) → b <ℤ a → int_le a b ≡ false
+le_false (pos a) (pos b) l = grind (arith, ints, l)
+le_false (pos a) (negsuc b) l = grind (arith, ints, l)
+le_false (negsuc a) (pos b) l = grind (arith, ints, l)
+le_false (negsuc a) (negsuc b) l = grind (arith, ints, l)
+
+pub position-below : (k : Dead) (a b : ℤ) (s : State Table) → a <ℤ b → (check k (int_lt a b)).run s ≡ Went tt s
+position-below k a b s l = run-passed k (int_lt a b) s (lt_true a b l)
+
+pub position-past : (k : Dead) (a b : ℤ) (s : State Table) → b ≤ℤ a → (check k (int_lt a b)).run s ≡ Died k
+position-past k a b s l = run-failed k (int_lt a b) s (lt_false a b l)
+
+pub position-natural : (k : Dead) (a b : ℤ) (s : State Table) → a ≤ℤ b → (check k (int_le a b)).run s ≡ Went tt s
+position-natural k a b s l = run-passed k (int_le a b) s (le_true a b l)
+
+pub position-negative : (k : Dead) (a b : ℤ) (s : State Table) → b <ℤ a → (check k (int_le a b)).run s ≡ Died k
+position-negative k a b s l = run-failed k (int_le a b) s (le_false a b l)
+
+pub natural-is : (a : ℤ) → pos 0 ≤ℤ a → a ≤ℤ pos 131066 → of_z w32 a ≡ nat_abs a
+natural-is (pos a) l h = grind (arith, ints)
+natural-is (negsuc a) l h = absurd (grind (arith, ints, l))
+
+pub ruleset positions = (position-below, position-past, position-natural, position-negative, natural-is)
+
+-- how many bytes a number has
+two_bytes : (k : ℕ) → nat_lt k 256 ≡ false → nat_lt (k / 256) 256 ≡ true → length (bytes_of_number k) ≡ 2
+two_bytes k e f = rw (e, f) refl
+
+three_bytes : (k : ℕ) → nat_lt k 256 ≡ false → nat_lt (k / 256) 256 ≡ false → nat_lt (k / 256 / 256) 256 ≡ true → length (bytes_of_number k) ≡ 3
+three_bytes k e f g = rw (e, f, g) refl
+
+all_bytes : (k : ℕ) → nat_lt k 256 ≡ false → nat_lt (k / 256) 256 ≡ false → nat_lt (k / 256 / 256) 256 ≡ false → length (bytes_of_number k) ≡ 4
+all_bytes k e f g = rw (e, f, g) (last (nat_lt (k / 256 / 256 / 256) 256) (k / 256 / 256 / 256) (k / 256 / 256 / 256 % 256))
+  where
+    last : (b : Bool) (x y : ℕ) → length (k % 256 ∷ k / 256 % 256 ∷ k / 256 / 256 % 256 ∷ (if b then x ∷ [] else y ∷ [])) ≡ 4
+    last true x y = refl
+    last false x y = refl
+
+pub length-one : (k : ℕ) → k < 256 → 1 ≡ length (bytes_of_number k)
+length-one k l = let e : nat_lt k 256 ≡ true = grind (arith, nat_tests) in rw e refl
+
+pub length-two : (k : ℕ) → 256 ≤ k → k < 65536 → 2 ≡ length (bytes_of_number k)
+length-two k a b =
+    let e : nat_lt k 256 ≡ false = grind (arith, nat_tests) in
+    let l : k / 256 < 256 = omega arith in
+    let f : nat_lt (k / 256) 256 ≡ true = grind (arith, nat_tests) in
+    sym (two_bytes k e f)
+
+pub length-three : (k : ℕ) → 65536 ≤ k → k < 16777216 → 3 ≡ length (bytes_of_number k)
+length-three k a b =
+    let e : nat_lt k 256 ≡ false = grind (arith, nat_tests) in
+    let l : 256 ≤ k / 256 = omega arith in
+    let f : nat_lt (k / 256) 256 ≡ false = grind (arith, nat_tests) in
+    let h : k / 256 / 256 < 256 = omega arith in
+    let g : nat_lt (k / 256 / 256) 256 ≡ true = grind (arith, nat_tests) in
+    sym (three_bytes k e f g)
+
+pub length-four : (k : ℕ) → 16777216 ≤ k → 4 ≡ length (bytes_of_number k)
+length-four k a =
+    let e : nat_lt k 256 ≡ false = grind (arith, nat_tests) in
+    let l : 256 ≤ k / 256 = omega arith in
+    let f : nat_lt (k / 256) 256 ≡ false = grind (arith, nat_tests) in
+    let h : 256 ≤ k / 256 / 256 = omega arith in
+    let g : nat_lt (k / 256 / 256) 256 ≡ false = grind (arith, nat_tests) in
+    sym (all_bytes k e f g)
+
+pub ruleset lengths = (length-one, length-two, length-three, length-four)
+
+pub integer-small : (m : ObjectMemory Table) (z : ℤ) (s : State Table) → z <ℤ pos 0 → (number_of m z).run s ≡ Went (small_integer z) s
+unfolding number_of answer
+integer-small m (pos a) s l = absurd (grind (arith, ints, l))
+integer-small m (negsuc a) s l = refl
+
+pub integer-large : (m : ObjectMemory Table) (z : ℤ) (s : State Table) → pos 0 ≤ℤ z → z ≤ℤ pos 131066 → (number_of m z).run s ≡ (number m (of_z w32 z)).run s
+unfolding number_of
+integer-large m (pos a) s l h = let e : of_z w32 (pos a) ≡ a = grind (arith, ints) in rw e refl
+integer-large m (negsuc a) s l h = absurd (grind (arith, ints, l))
+
+pub ruleset integers = (integer-small, integer-large)
+
+pub position-failed : (m : ObjectMemory Table) (v : Value) (i : ℕ) (a b : ℤ) (s : State Table) → (fetch_integer m v 1).run s ≡ Went a s → (fetch_integer m v i).run s ≡ Went b s → a <ℤ b → a <ℤ pos 0
+    → (position_below m v i).run s ≡ Died dead.Field
+unfolding position_below ◌>>=◌ ◌>>◌ after check die answer
+position-failed m v i a b s e f l k = rw (e, f, lt_true a b l, le_false (pos 0) a k) refl

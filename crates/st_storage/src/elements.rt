@@ -99,6 +99,7 @@ pub fn place_behind_fixed<O: Objects>(
 pub fn count_elements<O: Objects>(m: &O, r: &Registers, v: Word) -> Result<i32, Dead>
     ensures does { RowReads O.Objects.own (count_elements O.names (word v)) itself m.now r.now result }
     ensures low { IfOk result (λ n. negsuc 2047 ≤ℤ n) }
+    ensures high { IfOk result (λ n. n ≤ℤ pos 131066) }
 {
     let fixed = fixed_fields(m, r, v)?;
     let n = m.fetch_size(v)?;

@@ -4,11 +4,16 @@
 
 mod answering;
 mod elements;
+mod fetching;
 mod finding;
+mod large;
 mod making;
 mod methods;
 mod numbers;
+mod putting;
+mod replacing;
 mod shapes;
+mod space;
 mod storing;
 mod streams;
 mod strings;

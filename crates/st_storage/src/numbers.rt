@@ -1,6 +1,6 @@
 ghost use Rattle.std.specs.Prelude.{◌≡◌, ◌<◌, ◌≤◌, ◌+◌, ◌^◌, IfOk};
 ghost use Rattle.st_model.specs.declared.kind.Kind.TheVariants.{Bytes};
-ghost use Rattle.st_model.specs.Values.{word};
+ghost use Rattle.st_model.specs.Values.{Small, word};
 ghost use Rattle.st_model.specs.Calls.{itself};
 ghost use Rattle.st_model.specs.Primitives.{check_class, check_bytes, bits_or_die, positive_small, byte_or_die, large_value, positive_value, has_pointers, has_words, is_indexable, fixed_count, specification, fixed_of_class, fixed_fields};
 ghost use Rattle.st_storage.specs.Reading.{IsOfKind, number_read};
@@ -181,4 +181,13 @@ pub fn fixed_fields<O: Objects>(m: &O, r: &Registers, v: Word) -> Result<u32, De
     } else {
         Ok(0)
     }
+}
+
+/// The word of a SmallInteger with these bits.
+#[tactic(auto, unfolding(st_model::specs::Values::value_of))]
+pub fn small_word(bits: u32) -> Word
+    requires { bits < 2 ^ 31 }
+    ensures { word result ≡ Small bits }
+{
+    Word(2 * bits + 1)
 }

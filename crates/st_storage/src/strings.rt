@@ -5,7 +5,8 @@ ghost use Rattle.st_model.specs.Calls.{itself};
 ghost use Rattle.st_model.specs.Storage.{fetch_character, place_in_bytes, character_at, primitive_string_at, character_byte, character_storing_at, storing_character};
 ghost use Rattle.st_storage.specs.Reading.{IsOfKind};
 ghost use Rattle.st_storage.specs.Storing.{storing_in};
-ghost use Rattle.st_frames.specs.Rows.{RowReads, RowDoes, Takes};
+ghost use Rattle.st_model.specs.Deeds.{is_done, deed_of_trial};
+ghost use Rattle.st_frames.specs.Rows.{RowReads, RowLeaves, Takes};
 
 use crate::answering::succeed_with;
 use crate::elements::place_at;
@@ -13,7 +14,7 @@ use crate::numbers::{byte_or_die, check_bytes, check_class};
 use crate::shapes::Storing;
 use st_frames::{Registers, page, top, under};
 use st_memory::Objects;
-use st_model::{Dead, Kind, PageObject, Word};
+use st_model::{Dead, Kind, PageObject, Tried, Word};
 
 /// The Character of a byte.
 #[tactic(auto, using(st_frames::proofs::Doing::rows), unfolding(st_model::specs::Storage::fetch_character))]
@@ -48,16 +49,17 @@ fn character_at<O: Objects>(m: &O, r: &Registers, string: Word, index: Word) -> 
 
 /// Primitive 63: the Character that the argument numbers in the receiver.
 #[tactic(auto, using(crate::proofs::Tries::tries), unfolding(st_model::specs::Storage::primitive_string_at))]
-pub fn primitive_string_at<O: Objects>(m: &mut O, r: &mut Registers) -> Result<bool, Dead>
+pub fn primitive_string_at<O: Objects>(m: &mut O, r: &mut Registers) -> Result<Tried, Dead>
     requires room { 1 ≤ O.room m.old }
-    ensures does { RowDoes O.Objects.own (primitive_string_at O.names) itself m.old r.old result m.new r.new }
+    ensures does { RowLeaves O.Objects.own (primitive_string_at O.names)
+        is_done deed_of_trial m.old r.old result m.new r.new }
     ensures takes { Takes O.Objects.own 1 m.old m.new }
 {
     let receiver = under(m, r, 1)?;
     let index = top(m, r)?;
     match character_at(m, r, receiver, index) {
         Ok(answer) => { succeed_with(m, r, 1, answer) }
-        Err(_) => Ok(false),
+        Err(_) => Ok(Tried::Failed),
     }
 }
 
@@ -73,7 +75,7 @@ pub fn character_byte<O: Objects>(m: &O, r: &Registers, x: Word) -> Result<u8, D
 
 /// A Character, to be stored at the place that an index names in an object of kind Bytes.
 #[tactic(auto, using(st_frames::proofs::Doing::rows), unfolding(st_model::specs::Storage::storing_character, st_model::specs::Storage::character_storing_at))]
-fn storing_character<O: Objects>(
+pub fn storing_character<O: Objects>(
     m: &O,
     r: &Registers,
     string: Word,
