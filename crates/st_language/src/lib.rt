@@ -1,12 +1,21 @@
-//! The crates of method texts together. There is nothing here but tests: of texts that are compiled, from a table and from
-//! a generator.
+//! The crates of method texts together. There is nothing here but tests: of texts that are parsed, printed and compiled.
 #![tactic(auto)]
 
 #[cfg(test)]
 mod checker;
 #[cfg(test)]
+mod compiling;
+#[cfg(test)]
 mod decoder;
+#[cfg(test)]
+mod differential;
+#[cfg(test)]
+mod generated;
 #[cfg(test)]
 mod generator;
 #[cfg(test)]
-mod tests;
+mod parsing;
+#[cfg(test)]
+mod printing;
+#[cfg(test)]
+mod shape;

@@ -13,8 +13,3 @@ mod sends;
 pub use parser::parse;
 pub use st_grammar::{one_fault, one_tree};
 pub use st_print::print;
-
-#[cfg(test)]
-mod differential;
-#[cfg(test)]
-mod tests;

@@ -1,5 +1,6 @@
-use crate::{parse, print};
-use st_tree::{Content, Expression, Message, MethodTree, Name, Signed, Statement, Text};
+//! Texts that are parsed: what they mean, or their first fault.
+
+use st_parse::parse;
 use std::alloc::{AllocError, Global};
 use std::process::Abort;
 use std::test::Fail;
@@ -240,7 +241,7 @@ fn texts_have_their_trees_and_faults(rt: HostRuntime) -> Result<(), Fail> {
 }
 
 /// `count` copies of `part`, between two other texts.
-fn repeated(
+pub fn repeated(
     alloc: Global,
     before: &[u8],
     part: &[u8],
@@ -305,182 +306,5 @@ fn large_texts_are_parsed(rt: HostRuntime) -> Result<(), Fail> {
     let text = repeated(rt.alloc(), b"foo ", &statement, 163, b"")?;
     let found = shown(&rt, rt.alloc(), &text)?;
     assert_eq!(rt; found.as_str(), "foo 0 0 163");
-    Ok(())
-}
-
-/// A part of a tree.
-#[derive(Clone, Copy)]
-enum Part<'a> {
-    Statement(&'a Statement),
-    Expression(&'a Expression),
-    Message(&'a Message),
-    Content(&'a Content),
-}
-
-/// Adds what a part of a tree is: a letter, a text with its length, and how many parts it has.
-fn add_node(shape: &mut Text, letter: u8, text: &[u8], parts: usize) -> Result<(), AllocError> {
-    shape.push(letter)?;
-    shape.extend_from_slice(&text.len().to_le_bytes())?;
-    shape.extend_from_slice(text)?;
-    shape.extend_from_slice(&parts.to_le_bytes())
-}
-
-/// Adds a number, or that there is none.
-fn add_number(shape: &mut Text, number: Option<Signed>) -> Result<(), AllocError> {
-    match number {
-        Some(n) => add_node(shape, b'0' + u8::from(n.minus), &n.size.to_le_bytes(), 0),
-        None => add_node(shape, b'-', b"", 0),
-    }
-}
-
-/// Adds names, without their places.
-fn add_names(shape: &mut Text, names: &[Name]) -> Result<(), AllocError> {
-    add_node(shape, b'n', b"", names.len())?;
-    for name in names {
-        add_node(shape, b'v', &name.text, 0)?;
-    }
-    Ok(())
-}
-
-/// Adds a literal, the parts of which are still to be added.
-fn add_content<'a>(
-    shape: &mut Text,
-    parts: &mut Vec<Part<'a>>,
-    content: &'a Content,
-) -> Result<(), AllocError> {
-    match content {
-        Content::Number(number) => add_number(shape, Some(*number)),
-        Content::Character(byte) => add_node(shape, b'c', &[*byte], 0),
-        Content::Bytes(text) => add_node(shape, b'b', text, 0),
-        Content::Symbol(text) => add_node(shape, b's', text, 0),
-        Content::Array(elements) => {
-            for element in elements {
-                parts.push(Part::Content(&element.what))?;
-            }
-            add_node(shape, b'a', b"", elements.len())
-        }
-        Content::Nil => add_node(shape, b'N', b"", 0),
-        Content::False => add_node(shape, b'F', b"", 0),
-        Content::True => add_node(shape, b'T', b"", 0),
-    }
-}
-
-/// Adds an expression, the parts of which are still to be added.
-fn add_expression<'a>(
-    shape: &mut Text,
-    parts: &mut Vec<Part<'a>>,
-    expression: &'a Expression,
-) -> Result<(), AllocError> {
-    match expression {
-        Expression::Variable(name) => add_node(shape, b'v', &name.text, 0),
-        Expression::Literal(element) => add_content(shape, parts, &element.what),
-        Expression::Block { names, body } => {
-            add_names(shape, names)?;
-            for statement in body {
-                parts.push(Part::Statement(statement))?;
-            }
-            add_node(shape, b'[', b"", body.len())
-        }
-        Expression::Assign { target, value } => {
-            parts.push(Part::Expression(value))?;
-            add_node(shape, b'_', &target.text, 1)
-        }
-        Expression::Send { receiver, messages } => {
-            parts.push(Part::Expression(receiver))?;
-            for message in messages {
-                parts.push(Part::Message(message))?;
-            }
-            add_node(shape, b';', b"", messages.len())
-        }
-    }
-}
-
-/// Adds a part, the parts of which are still to be added.
-fn add_part<'a>(
-    shape: &mut Text,
-    parts: &mut Vec<Part<'a>>,
-    part: Part<'a>,
-) -> Result<(), AllocError> {
-    match part {
-        Part::Statement(statement) => {
-            parts.push(Part::Expression(&statement.value))?;
-            add_node(shape, if statement.returns { b'^' } else { b'.' }, b"", 1)
-        }
-        Part::Expression(expression) => add_expression(shape, parts, expression),
-        Part::Message(message) => {
-            for argument in &message.arguments {
-                parts.push(Part::Expression(argument))?;
-            }
-            add_node(shape, b'm', &message.selector, message.arguments.len())
-        }
-        Part::Content(content) => add_content(shape, parts, content),
-    }
-}
-
-/// A tree of at most 1,000 parts without its places: its nodes, each before its parts, the last of which comes first.
-fn shape_of(alloc: Global, tree: &MethodTree) -> Result<Text, Fail> {
-    let mut shape = tree.selector.clone()?;
-    add_names(&mut shape, &tree.arguments)?;
-    add_names(&mut shape, &tree.temporaries)?;
-    add_number(&mut shape, tree.primitive)?;
-    add_node(&mut shape, b'[', b"", tree.body.len())?;
-    let mut parts = Vec::new(alloc);
-    for statement in &tree.body {
-        parts.push(Part::Statement(statement))?;
-    }
-    for _ in 0..1_000 {
-        let Some(part) = parts.pop() else {
-            return Ok(shape);
-        };
-        add_part(&mut shape, &mut parts, part)?;
-    }
-    Err("too many parts")?
-}
-
-/// The tree of a text that has one.
-fn tree_of(rt: &impl Abort, alloc: Global, text: &[u8]) -> Result<MethodTree, Fail> {
-    assert!(rt; text.len() <= 65_536);
-    Ok(parse(alloc, text)?)
-}
-
-/// Texts, and what is printed of their trees, one a line.
-const PRINTED: &str = r#"x ^x => x ^ x
-count "Done!" | n | n _ 0. [n < 3] whileTrue: [n _ n + 1]. ^n => count | n | n _ 0 . [ n < 3 ] whileTrue: [ n _ n + 1 ] . ^ n
-max: a ^self > a ifTrue: [self] ifFalse: [a] => max: a ^ self > a ifTrue: [ self ] ifFalse: [ a ]
-inc: b ^[:e | e + 1] value: b => inc: b ^ [ : e | e + 1 ] value: b
-foo (-1) abs => foo ( -1 ) abs
-foo | | -1 => foo ( -1 )
-foo | | ^1 => foo ^ 1
-foo | a | -1 abs. a := b _ 16rFF => foo | a | -1 abs . a _ b _ 255
-at: a put: b <primitive: 60> | t | ^t => at: a put: b | t | < primitive: 60 > ^ t
-+ other ^(a + b) * c - (d * e) => + other ^ a + b * c - ( d * e )
-foo ^(a foo: b) bar: (c baz: d) => foo ^ ( a foo: b ) bar: ( c baz: d )
-foo (a b; c) d; e: (f g; h) => foo ( a b ; c ) d ; e: ( f g ; h )
-foo ^#(a #b c: $d 'e''f' #(1 -2) nil + #+ at:put:) => foo ^ #( #a #b #c: $d 'e''f' #( 1 -2 ) nil #+ #+ #at:put: )
-foo ^(a _ b) c => foo ^ ( a _ b ) c
-foo ^(a b) c => foo ^ a b c
-foo [:x :y | ]. [] value. [-1. ^2] => foo [ : x : y | ] . [ ] value . [ -1 . ^ 2 ]
-foo ^(a + b) c: (a + b) d: (a c: b) => foo ^ a + b c: a + b d: ( a c: b )
-foo a + (b _ c); d => foo a + ( b _ c ) ; d
-foo #a:b: foo. -0 => foo #a:b: foo . -0
-"#;
-
-#[test]
-fn trees_are_printed_and_read_back(rt: HostRuntime) -> Result<(), Fail> {
-    for row in PRINTED.lines() {
-        let (text, expected) = row.split_once(" => ").ok_or("no row")?;
-        let tree = tree_of(&rt, rt.alloc(), text.as_bytes())?;
-        let once = print(rt.alloc(), &tree)?;
-        assert!(rt; once.as_slice() == expected.as_bytes(), "of {text}");
-        let again = tree_of(&rt, rt.alloc(), &once)?;
-        let shape = shape_of(rt.alloc(), &tree)?;
-        let shape_again = shape_of(rt.alloc(), &again)?;
-        assert!(rt; shape == shape_again, "of {text}");
-    }
-    let left = tree_of(&rt, rt.alloc(), b"foo (a + b) * c")?;
-    let right = tree_of(&rt, rt.alloc(), b"foo a + (b * c)")?;
-    let left_shape = shape_of(rt.alloc(), &left)?;
-    let right_shape = shape_of(rt.alloc(), &right)?;
-    assert!(rt; left_shape != right_shape);
     Ok(())
 }

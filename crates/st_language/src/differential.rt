@@ -1,6 +1,6 @@
 //! All short texts over some tokens, against a plain grammar that is closed over spans of tokens.
 
-use crate::parse;
+use st_parse::parse;
 use std::alloc::{AllocError, Global};
 use std::process::Abort;
 use std::test::Fail;
