@@ -1,0 +1,6 @@
+pub mod Lines
+pub mod Reading
+pub mod Scripts
+pub mod Headings
+pub mod Progress
+pub mod Definitions

@@ -1,0 +1,58 @@
+// Bytes in memory that is taken at the beginning.
+ghost use Rattle.std.specs.Prelude.{◌≡◌, ◌≤◌, ◌++◌, ◌∷◌, [], length, IfOk};
+
+use std::alloc::{AllocError, Global};
+use std::marker::Model;
+
+/// The bytes of a line, and a carriage return.
+const ROOM: usize = 65_537;
+
+/// At most 65,537 bytes: those of the line that is read, or of the open group's class and category.
+#[derive(Drop)]
+pub(crate) struct Buffer {
+    bytes: Vec<u8>,
+}
+
+impl Model for Buffer {
+    ghost use Rattle.std.specs.Prelude.{ℕ, List, ◌≤◌};
+    ghost use Rattle.std.specs.Vec.{vec_capacity};
+
+    ghost Value = { List ℕ };
+
+    ghost view = { λ b. b.bytes.items };
+
+    ghost invariant = { λ b. 65537 ≤ vec_capacity b.bytes };
+}
+
+impl Buffer {
+    /// No bytes.
+    pub(crate) fn new(alloc: Global) -> Result<Buffer, AllocError>
+        ensures { IfOk result (λ b. b ≡ []) }
+    {
+        Ok(Buffer {
+            bytes: Vec::with_capacity(alloc, ROOM)?,
+        })
+    }
+
+    /// One byte more.
+    pub(crate) fn push(&mut self, byte: u8)
+        requires { length self.old ≤ 65536 }
+        ensures { self.new ≡ self.old ++ byte ∷ [] }
+    {
+        self.bytes.push_reserved(byte);
+    }
+
+    /// No bytes again.
+    pub(crate) fn clear(&mut self)
+        ensures { self.new ≡ [] }
+    {
+        self.bytes.clear();
+    }
+
+    /// The bytes.
+    pub(crate) fn as_slice(&self) -> &[u8]
+        ensures { result.now ≡ self.now }
+    {
+        self.bytes.as_slice()
+    }
+}

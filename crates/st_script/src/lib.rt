@@ -1,0 +1,18 @@
+//! The script of a session, read byte by byte: lines, and groups of methods between them.
+#![tactic(auto)]
+
+mod buffer;
+mod chunk;
+mod heading;
+mod laws;
+mod line;
+mod progress;
+mod reader;
+mod request;
+
+pub use laws::lines_by_bytes;
+pub use reader::{Definition, Reader};
+pub use request::Request;
+
+#[cfg(test)]
+mod tests;
