@@ -78,7 +78,9 @@ begun b = record { bytes = b ∷ []; phase = Within }
 
 -- the first chunk of a group is empty, so behind the mark that opens it comes no second mark
 abbrev pub opened_byte : Reading → ℕ → ℕ → Told
-opened_byte r here b = if b == mark then wrong r r.start else (record { place = InHeader (begun b); line = r.line; start = here }, None)
+opened_byte r here b =
+    if b == mark then wrong r r.start else
+    (record { place = InHeader (begun b); line = r.line; start = here }, None)
 
 -- a chunk starts at its first byte that isn't blank, or, where it has none, at its first byte
 abbrev pub start_with : Reading → ℕ → State → State → ℕ
@@ -86,11 +88,17 @@ start_with r here s t = if is_empty s.bytes && not (is_empty t.bytes) then here 
 
 -- a byte of a chunk that has too many blanks and nothing else
 abbrev pub blanks_byte : Reading → ℕ → ℕ → Told
-blanks_byte r here b = if is_blank b then (record r { place = InBlanks }, None) else if b == mark then (record r { place = BehindBlanks }, None) else wrong r here
+blanks_byte r here b =
+    if is_blank b then (record r { place = InBlanks }, None) else
+    if b == mark then (record r { place = BehindBlanks }, None) else
+    wrong r here
 
 -- A chunk has no room for this byte. Where all that it has are blanks, it starts here or later.
 abbrev pub too_long : Reading → ℕ → State → ℕ → Told
-too_long r here t b = if not (is_empty t.bytes) then wrong r r.start else if is_blank b then (record r { place = InBlanks }, None) else wrong r here
+too_long r here t b =
+    if not (is_empty t.bytes) then wrong r r.start else
+    if is_blank b then (record r { place = InBlanks }, None) else
+    wrong r here
 
 abbrev pub behind_blanks_byte : Reading → ℕ → ℕ → Told
 behind_blanks_byte r here b = if b == mark then wrong r here else wrong r r.start
@@ -157,7 +165,9 @@ header_at_end r s other = cut_off r
 
 -- a method that ends with the script is asked for before the chunk behind it is cut off
 abbrev pub method_at_end : Reading → Header → State → Fed → Told
-method_at_end r h s answers.Chunk = if is_empty s.bytes then (over r, None) else (record { place = CutOff h (finished s); line = r.line; start = r.line }, Some Define)
+method_at_end r h s answers.Chunk =
+    if is_empty s.bytes then (over r, None) else
+    (record { place = CutOff h (finished s); line = r.line; start = r.line }, Some Define)
 method_at_end r h s other = cut_off r
 
 abbrev pub end_in : Place → Reading → Told

@@ -4,7 +4,9 @@ ghost use Rattle.st_chunk.specs.declared.cutting.Phase.TheVariants.{Within, Mark
 ghost use Rattle.st_chunk.specs.Texts.{most};
 ghost use Rattle.st_chunk.specs.Feeding.{MayGoOn, IsTold, last_answer};
 ghost use Rattle.st_chunk.specs.Groups.{header_of};
-ghost use Rattle.st_script.specs.Reading.{is_last, wrong, line_from, line_ended, line_byte, opened_byte, too_long, header_ended, header_byte, method_ended, method_byte, blanks_byte, behind_blanks_byte, header_at_end, method_at_end, over, byte_in, read, end_read};
+ghost use Rattle.st_script.specs.Reading.{is_last, wrong, over, line_ended, line_byte, opened_byte, too_long, header_ended, header_byte};
+ghost use Rattle.st_script.specs.Reading.{method_ended, method_byte, blanks_byte, behind_blanks_byte, header_at_end, method_at_end};
+ghost use Rattle.st_script.specs.Reading.{byte_in, read, end_read};
 ghost use Rattle.st_script.specs.Progress.{heading_of, place_in, reading_of, Tells, IsKept};
 ghost use Rattle.st_script.specs.Lines.{line_request};
 
@@ -213,8 +215,8 @@ impl Progress {
     fn end_method(&mut self, here: u64, byte: u8) -> Option<Request>
         requires told { self.old.chunk.phase ≡ ToldBy byte }
         requires held { self.old.class_length ≤ length self.old.text }
-        ensures tells { Tells (method_ended (reading_of self.old) here (heading_of self.old) byte self.old.chunk)
-            self.new result }
+        ensures tells { Tells (method_ended (reading_of self.old) here (heading_of self.old) byte
+            self.old.chunk) self.new result }
         ensures kept { IsKept self.new }
     {
         if self.chunk.is_blank() {
@@ -233,8 +235,8 @@ impl Progress {
     fn method_byte(&mut self, here: u64, byte: u8) -> Option<Request>
         requires goes { MayGoOn self.old.chunk.phase }
         requires held { self.old.class_length ≤ length self.old.text }
-        ensures tells { Tells (method_byte (reading_of self.old) here (heading_of self.old) self.old.chunk byte)
-            self.new result }
+        ensures tells { Tells (method_byte (reading_of self.old) here (heading_of self.old)
+            self.old.chunk byte) self.new result }
         ensures kept { IsKept self.new }
     {
         let was_blank = self.chunk.is_blank();
