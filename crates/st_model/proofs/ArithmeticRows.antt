@@ -103,7 +103,7 @@ unfolding opened responds called state in_sender objects active plain pointers m
 failing = refl
 
 -- and of each run of numbers that aren't built
-waiting : map (responds 1 (Small 5) (Small 6)) (60 ∷ 88 ∷ 90 ∷ 102 ∷ 105 ∷ 112 ∷ 116 ∷ 128 ∷ []) ≡ replicate 8 (Went NotBuilt (called (Small 5) (Small 6)))
+waiting : map (responds 1 (Small 5) (Small 6)) (80 ∷ 88 ∷ 90 ∷ 102 ∷ 113 ∷ 114 ∷ 116 ∷ []) ≡ replicate 7 (Went NotBuilt (called (Small 5) (Small 6)))
 unfolding opened responds called state in_sender objects active plain pointers method
 waiting = refl
 

@@ -562,10 +562,12 @@ method_shape m r a b = do
   check dead.Field (nat_le (method_words (literal_count (Small header)) bytes) 65533)
   answer (record { header = header; bytes = bytes })
 
--- its bytes are 0, and its literals nil
+-- Its bytes are 0, and its literals nil. Its header counts as many literals as the new one, which is asked since a bounded
+-- memory without room answers nil: an image may have any object there.
 unfoldable pub new_method : {H : Type 0} → ObjectMemory H → Value → MethodShape → Step H Value
 new_method m r s = do
   method ← make m r kind.Method (2 * literal_count (Small s.header) + 2 + s.bytes) (literal_count (Small s.header))
+  check_header m method (Small s.header)
   store_method_field m method 0 (Small s.header)
   answer method
 
