@@ -1,11 +1,14 @@
 -- How often what is kept is referred to (counting in chapter 30).
-use Rattle.std.specs.Prelude.{◌≡◌, ℕ, zero, suc, ◌+◌, ◌==◌, Bool, false, List, [], ◌∷◌, ◌++◌, Option, Some, None, is_some, if◌then◌else◌}
+use Rattle.std.specs.Prelude.{◌≡◌, ℕ, zero, suc, ◌+◌, ◌==◌, false, List, [], ◌∷◌, ◌++◌, Option, Some, None, is_some, if◌then◌else◌}
 use Rattle.st_model.specs.Values.{Value, Small, Ref}
-use Rattle.st_model.specs.Objects.{Object, PageObject, page, place_of}
+use Rattle.st_model.specs.declared.page.PageObject.{PageObject}
+use Rattle.st_model.specs.Objects.{Object, page, place_of}
 use Rattle.st_model.specs.Table.{Table, entry}
 use Rattle.st_model.specs.Settled.{names}
 use Rattle.st_model.specs.View.{View, view_roots}
-use Rattle.st_counts.specs.Counts.{count_at, raised, lowered}
+use Rattle.st_model.specs.declared.kind.Kind.{Kind}
+use Rattle.st_model.specs.declared.kind.Kind.TheVariants as kind
+use Rattle.st_counts.specs.Counts.{count_at, is_counted, number_at, raised, lowered}
 
 -- how many of the values name n
 abbrev pub times : ℕ → List Value → ℕ
@@ -58,3 +61,18 @@ raised_by numbers (Ref k) by = raised numbers k by
 abbrev pub lowered_by : List (Option ℕ) → Value → List (Option ℕ)
 lowered_by numbers (Small n) = numbers
 lowered_by numbers (Ref k) = lowered numbers k
+
+-- each object is counted, and nothing else is
+abbrev pub IsEntered : Table → List (Option ℕ) → Type 0
+IsEntered t numbers = (k : ℕ) → is_counted numbers k ≡ is_some (entry t k)
+
+-- the references of these values were counted
+abbrev pub AddsReferences : Table → List (Option ℕ) → List (Option ℕ) → List Value → Type 0
+AddsReferences t old new vs = IsTallied t (λ k. times k vs + number_at old k) new
+
+-- how many fields of a new object are nil
+abbrev pub nils_of : Kind → ℕ → ℕ → ℕ
+nils_of kind.Pointers size literals = size
+nils_of kind.Words size literals = 0
+nils_of kind.Bytes size literals = 0
+nils_of kind.Method size literals = literals

@@ -1,2 +1,2 @@
+pub mod Counting
 mod Linked
-mod Counting
