@@ -1,2 +1,8 @@
-pub mod Sizes
-pub mod Swept
+mod Dropping
+mod Finishing
+mod Referring
+mod Rooting
+mod Sizes
+mod Storing
+mod Swept
+mod Tallying

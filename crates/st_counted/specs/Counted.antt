@@ -1,9 +1,11 @@
 -- What the parts of a memory contain.
-use Rattle.std.specs.Prelude.{◌≡◌}
+use Rattle.std.specs.Prelude.{◌≡◌, ℕ, List, Option, []}
 use Rattle.st_model.specs.View.{View, head_of}
 use Rattle.st_lists.specs.Held.{held_of}
 use Rattle.st_stored.specs.Tables.{objects_of, room_of}
+use Rattle.st_counts.specs.Contents.{counts_of}
 use Rattle.st_counted.specs.declared.contents.Contents.{Contents}
+use Rattle.st_counted.specs.References.{all_roots, IsCounted}
 
 -- what a memory of these parts contains
 abbrev pub counted_view : Contents → View
@@ -12,3 +14,11 @@ counted_view c = record { objects = objects_of c.objects; held = held_of c.roots
 -- the heap has as many words as the capacity says
 abbrev pub HasRoom : Contents → Type 0
 HasRoom c = room_of c.objects ≡ c.head.capacity.words
+
+-- the counts
+abbrev pub numbers_of : Contents → List (Option ℕ)
+numbers_of c = counts_of c.counts
+
+-- the count of each object is the number of roots, class words, fields and literals that name it
+abbrev pub AllCounted : Contents → Type 0
+AllCounted c = IsCounted (counted_view c).objects (all_roots (counted_view c)) [] (numbers_of c)

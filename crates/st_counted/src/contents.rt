@@ -1,15 +1,17 @@
-ghost use Rattle.std.specs.Prelude.{◌≡◌, ◌<◌, ◌≤◌, ◌+◌, ◌/◌, ℕ, false, IfOk};
-ghost use Rattle.st_model.specs.Values.{value, Ref, is_small};
-ghost use Rattle.st_model.specs.Objects.{one, words_of};
-ghost use Rattle.st_model.specs.Formed.{IsMakeable, fresh};
-ghost use Rattle.st_model.specs.Table.{total_used, settled_table, first_free, placed};
-ghost use Rattle.st_model.specs.Settled.{is_marked};
-ghost use Rattle.st_model.specs.View.{empty_view, head_of, fits, IsWhole};
-ghost use Rattle.st_plain.specs.Plain.{is_needed};
+ghost use Rattle.std.specs.Prelude.{◌≡◌, ◌+◌, ◌≤◌, ◌<◌, ◌/◌, ◌==◌, ℕ, true, None, [], length, slice_set, IfOk, if◌then◌else◌};
+ghost use Rattle.st_model.specs.Values.{value, Ref};
+ghost use Rattle.st_model.specs.Formed.{IsHeader, IsMakeable, fresh};
+ghost use Rattle.st_model.specs.Table.{first_free, placed};
+ghost use Rattle.st_model.specs.View.{empty_view, head_of, fits, IsWhole, IsPlace, IsKnown, is_live, object_of, with_held, with_stored, demand_of};
+ghost use Rattle.st_table.specs.Entries.{place as place_at};
+ghost use Rattle.st_counts.specs.Counts.{count_at, is_counted, number_at, is_unused, raised};
+ghost use Rattle.st_counts.specs.Contents.{counts_of};
+ghost use Rattle.st_counted.specs.References.{all_roots, nils_of, IsCounted};
 
-use crate::sweeping::{keep_marked, mark_references};
-use st_lists::{Marks, Roots};
-use st_model::{Demand, Kind, Oop};
+use crate::counting::{lower, pointer_of, raise};
+use st_counts::Counts;
+use st_lists::Roots;
+use st_model::{Demand, Kind, Oop, RootPlace};
 use st_stored::Objects;
 use std::alloc::{AllocError, Global};
 
@@ -33,58 +35,129 @@ pub struct Contents {
     pub roots: Roots,
     /// What the head of the image said.
     pub head: Head,
-    /// Room for the marks of a search for what is needed.
-    pub marks: Marks,
+    /// How many references there are to each object.
+    pub counts: Counts,
 }
 
 impl Contents {
-    ghost use Rattle.st_stored.specs.Tables.{room_of};
-    ghost use Rattle.st_counted.specs.Counted.{counted_view, HasRoom};
+    ghost use Rattle.st_counted.specs.Counted.{counted_view, numbers_of, HasRoom, AllCounted};
 
     /// No objects under a head, and nothing held.
     pub fn new(alloc: Global, head: Head) -> Result<Contents, AllocError>
         ensures empty { let empty = empty_view (head_of head.capacity head.globals head.symbols) in
             IfOk result (λ c. counted_view c ≡ empty) }
+        ensures counts { IfOk result (λ c. (k : ℕ) → count_at (numbers_of c) k ≡ None) }
         ensures room { IfOk result HasRoom }
         ensures head { IfOk result (λ c. c.head ≡ head) }
     {
         let objects = Objects::new(alloc, head.capacity.words)?;
         let roots = Roots::new(alloc)?;
-        let marks = Marks::new(alloc)?;
+        let counts = Counts::new(alloc)?;
         Ok(Contents {
             objects,
             roots,
             head,
-            marks,
+            counts,
         })
     }
 
-    /// Marks the roots and what the objects refer to, and no other name of an object.
-    fn mark_needed(&mut self)
-        ensures marked { (n : ℕ) → n < 32768
-            → is_marked self.new.marks.names.items n ≡ is_needed (counted_view self.old) n }
-        ensures rest { self.new ≡ record self.old { marks = self.new.marks } }
-    {
-        self.marks.clear(32768);
-        self.marks.mark_page();
-        self.marks.mark_table(self.head.globals);
-        self.marks.mark_table(self.head.symbols);
-        self.roots.mark(&mut self.marks);
-        mark_references(&self.objects, &mut self.marks);
-    }
-
-    /// Takes away each object that is no root and that no object refers to, and answers how many there were.
-    pub fn drop_unneeded(&mut self) -> u32
-        ensures objects { let v = counted_view self.old in
-            (counted_view self.new).objects ≡ settled_table v.objects (is_needed v) }
+    /// Stores v in field `at`; in a Method's header only what counts the same literals.
+    pub fn set_pointer(&mut self, o: Oop, at: u32, v: Oop)
+        requires whole { IsWhole (counted_view self.old) }
+        requires counted { AllCounted self.old }
+        requires live { is_live (counted_view self.old).objects (value o) ≡ true }
+        requires range { at < length (object_of (counted_view self.old).objects (value o)).fields }
+        requires known { IsKnown (counted_view self.old).objects (value v) }
+        requires header { IsHeader (object_of (counted_view self.old).objects (value o)) at (value v) }
+        ensures objects { (counted_view self.new).objects
+            ≡ with_stored (counted_view self.old).objects (value o) at (value v) }
         ensures held { (counted_view self.new).held ≡ (counted_view self.old).held }
-        ensures head { (counted_view self.new).head ≡ (counted_view self.old).head }
-        ensures gone { total_used one (counted_view self.new).objects + result
-            ≡ total_used one (counted_view self.old).objects }
+        ensures head { self.new.head ≡ self.old.head }
+        ensures counted { AllCounted self.new }
         ensures room { HasRoom self.old → HasRoom self.new }
     {
-        self.mark_needed();
-        keep_marked(&mut self.objects, &self.marks)
+        raise(&mut self.counts, v, 1);
+        let old = self.objects.field(o, at);
+        self.objects.set_field(o, at, v);
+        lower(&mut self.counts, old);
+    }
+
+    /// Holds o at a place; nil clears it.
+    pub fn hold(&mut self, place: RootPlace, o: Oop)
+        requires whole { IsWhole (counted_view self.old) }
+        requires counted { AllCounted self.old }
+        requires place { IsPlace place }
+        requires known { IsKnown (counted_view self.old).objects (value o) }
+        ensures objects { (counted_view self.new).objects ≡ (counted_view self.old).objects }
+        ensures held { (counted_view self.new).held ≡ with_held (counted_view self.old).held place (value o) }
+        ensures head { self.new.head ≡ self.old.head }
+        ensures counted { AllCounted self.new }
+        ensures room { HasRoom self.old → HasRoom self.new }
+    {
+        raise(&mut self.counts, o, 1);
+        let old = self.roots.held(place);
+        self.roots.hold(place, o);
+        lower(&mut self.counts, old);
+    }
+
+    /// A new object at the least free pointer, with fields of nil, units of 0 and, in a Method, its literal count.
+    pub fn make(&mut self, class: Oop, kind: Kind, size: u32, literals: u32) -> Oop
+        requires whole { IsWhole (counted_view self.old) }
+        requires counted { AllCounted self.old }
+        requires class { is_live (counted_view self.old).objects (value class) ≡ true }
+        requires makeable { IsMakeable (class.0 / 2) kind size literals }
+        requires room { let new = fresh (class.0 / 2) kind size literals in
+            fits (counted_view self.old) (demand_of new) ≡ true }
+        requires words { HasRoom self.old }
+        ensures pointer { value result ≡ Ref (first_free (counted_view self.old).objects) }
+        ensures objects { let new = fresh (class.0 / 2) kind size literals in
+            (counted_view self.new).objects ≡ placed (counted_view self.old).objects new }
+        ensures held { (counted_view self.new).held ≡ (counted_view self.old).held }
+        ensures head { self.new.head ≡ self.old.head }
+        ensures counted { AllCounted self.new }
+        ensures words { HasRoom self.new }
+    {
+        raise(&mut self.counts, class, 1);
+        let nils = count_nils(kind, size, literals);
+        raise_nil(&mut self.counts, nils);
+        let o = self.objects.make(class, kind, size, literals);
+        self.counts.enter(usize::from(o.0 / 2));
+        o
+    }
+
+    /// Takes away an object to which nothing refers.
+    pub fn drop_object(&mut self, k: usize)
+        requires place { k < 32768 }
+        requires counted { AllCounted self.old }
+        requires unused { is_unused (numbers_of self.old) k ≡ true }
+        ensures objects { (counted_view self.new).objects ≡ slice_set (counted_view self.old).objects k None }
+        ensures held { (counted_view self.new).held ≡ (counted_view self.old).held }
+        ensures head { self.new.head ≡ self.old.head }
+        ensures counted { AllCounted self.new }
+        ensures room { HasRoom self.old → HasRoom self.new }
+    {
+        let o = pointer_of(k);
+        self.counts.leave(k);
+        let class = self.objects.class_of(o);
+        lower(&mut self.counts, class);
+        self.lower_fields(o);
+        self.objects.remove(o);
+    }
+
+    /// Counts what stands in the fields of an object that is about to go no more.
+    fn lower_fields(&mut self, o: Oop)
+        requires live { is_live (counted_view self.old).objects (value o) ≡ true }
+        requires counted { let v = counted_view self.old in
+            let fields = (object_of v.objects (value o)).fields in
+            IsCounted (slice_set v.objects (place_at o) None) (all_roots v) fields (numbers_of self.old) }
+        ensures counted { let v = counted_view self.new in
+            IsCounted (slice_set v.objects (place_at o) None) (all_roots v) [] (numbers_of self.new) }
+        ensures rest { self.new ≡ record self.old { counts = self.new.counts } }
+    {
+        for i in 0..self.objects.count_fields(o) {
+            let v = self.objects.field(o, i);
+            lower(&mut self.counts, v);
+        }
     }
 
     /// Whether d fits within the capacities beside the objects.
@@ -95,5 +168,28 @@ impl Contents {
         let used = self.objects.used();
         let capacity = self.head.capacity;
         d.entries <= capacity.entries - used.entries && d.words <= capacity.words - used.words
+    }
+}
+
+/// Counts so many references to nil more.
+fn raise_nil(counts: &mut Counts, by: u32)
+    requires counted { is_counted (counts_of counts.old) 1 ≡ true }
+    requires room { number_at (counts_of counts.old) 1 + by < 4294967296 }
+    ensures { let old = counts_of counts.old in
+        counts_of counts.new ≡ (if by == 0 then old else raised old 1 by) }
+{
+    if by != 0 {
+        counts.raise(1, by);
+    }
+}
+
+/// How many fields of a new object are nil.
+fn count_nils(kind: Kind, size: u32, literals: u32) -> u32
+    ensures { result ≡ nils_of kind size literals }
+{
+    match kind {
+        Kind::Pointers => size,
+        Kind::Words | Kind::Bytes => 0,
+        Kind::Method => literals,
     }
 }

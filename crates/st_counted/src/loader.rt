@@ -1,7 +1,8 @@
-ghost use Rattle.std.specs.Prelude.{◌≡◌};
+ghost use Rattle.std.specs.Prelude.{◌≡◌, ℕ, None};
 ghost use Rattle.st_model.specs.Loading.{IsLoading};
 ghost use Rattle.st_model.specs.Props.{IsLoading-prop};
-ghost use Rattle.st_counted.specs.Counted.{counted_view, HasRoom};
+ghost use Rattle.st_counted.specs.Counted.{counted_view, numbers_of, HasRoom};
+ghost use Rattle.st_counts.specs.Counts.{count_at};
 
 use crate::contents::{Contents, Head};
 use crate::memory::CountedMemory;
@@ -9,12 +10,13 @@ use st_memory::Loader;
 use st_model::{Demand, Kind, Oop};
 use std::alloc::{AllocError, Global};
 
-/// Makes a `CountedMemory`. Only `begin` takes memory.
+/// Makes a `CountedMemory`. Only `begin` takes memory. References are counted at the end.
 #[derive(Drop)]
 pub struct CountedLoader {
     contents: Contents,
-    ghost loading: { IsLoading (counted_view contents) } by { IsLoading-prop (counted_view contents) },
-    ghost room: { HasRoom contents },
+    pub ghost loading: { IsLoading (counted_view contents) } by { IsLoading-prop (counted_view contents) },
+    pub ghost room: { HasRoom contents },
+    ghost uncounted: { (k : ℕ) → count_at (numbers_of contents) k ≡ None },
 }
 
 impl Loader for CountedLoader {
@@ -55,7 +57,9 @@ impl Loader for CountedLoader {
     }
 
     fn finish(self) -> CountedMemory {
-        CountedMemory::new(self.contents)
+        let mut contents = self.contents;
+        contents.count_all();
+        CountedMemory::new(contents)
     }
 }
 

@@ -1,18 +1,19 @@
 ghost use Rattle.std.specs.Prelude.{◌≡◌};
 ghost use Rattle.st_model.specs.View.{IsWhole};
 ghost use Rattle.st_model.specs.Props.{IsWhole-prop};
-ghost use Rattle.st_counted.specs.Counted.{counted_view, HasRoom};
+ghost use Rattle.st_counted.specs.Counted.{counted_view, HasRoom, AllCounted};
 
 use crate::contents::Contents;
 use st_memory::Memory;
 use st_model::{Demand, Kind, Oop, RootPlace};
 
-/// A memory that keeps its objects as words of a heap. `settle` looks at all of them.
+/// A memory that keeps its objects as words of a heap, and counts the references to each.
 #[derive(Drop)]
 pub struct CountedMemory {
     contents: Contents,
-    ghost whole: { IsWhole (counted_view contents) } by { IsWhole-prop (counted_view contents) },
-    ghost room: { HasRoom contents },
+    pub ghost whole: { IsWhole (counted_view contents) } by { IsWhole-prop (counted_view contents) },
+    pub ghost room: { HasRoom contents },
+    pub ghost counted: { AllCounted contents },
 }
 
 impl CountedMemory {
@@ -20,6 +21,7 @@ impl CountedMemory {
     pub(crate) fn new(contents: Contents) -> CountedMemory
         requires whole { IsWhole (counted_view contents) }
         requires room { HasRoom contents }
+        requires counted { AllCounted contents }
         ensures { result.contents ≡ contents }
     {
         CountedMemory { contents }
@@ -64,7 +66,7 @@ impl Memory for CountedMemory {
     }
 
     fn set_pointer(&mut self, o: Oop, at: u32, v: Oop) {
-        self.contents.objects.set_field(o, at, v);
+        self.contents.set_pointer(o, at, v);
     }
 
     fn set_word(&mut self, o: Oop, at: u32, v: u16) {
@@ -81,7 +83,7 @@ impl Memory for CountedMemory {
     }
 
     fn make(&mut self, class: Oop, kind: Kind, size: u32, literals: u32) -> Oop {
-        self.contents.objects.make(class, kind, size, literals)
+        self.contents.make(class, kind, size, literals)
     }
 
     fn swap(&mut self, a: Oop, b: Oop) {
@@ -93,14 +95,12 @@ impl Memory for CountedMemory {
     }
 
     fn hold(&mut self, place: RootPlace, o: Oop) {
-        self.contents.roots.hold(place, o);
+        self.contents.hold(place, o);
     }
 
     fn settle(&mut self) {
-        loop {
-            if self.contents.drop_unneeded() == 0 {
-                return;
-            }
+        while let Some(k) = self.contents.counts.first_unused() {
+            self.contents.drop_object(k);
         }
     }
 

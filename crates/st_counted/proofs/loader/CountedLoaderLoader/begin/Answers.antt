@@ -10,4 +10,5 @@ invariant_of-result c =
     record {
       loading = subst IsLoading (sym e.empty) (loading_empty (head_of c.args.capacity c.args.globals c.args.symbols) c.requires.entries c.requires.words);
       room = e.room;
+      uncounted = e.counts;
     }

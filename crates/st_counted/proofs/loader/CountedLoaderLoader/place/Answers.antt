@@ -25,4 +25,5 @@ invariant_of-self c =
     record {
       loading = loading_placed v w x (c.args.at.0 / 2) o l.loading named not_none (omega (arith, small)) r.free (formed_fresh class c.args.kind c.args.size c.args.literals r.makeable) r.entries r.words e.objects refl refl;
       room = e.room ∙ l.room;
+      uncounted = l.uncounted;
     }

@@ -20,4 +20,5 @@ invariant_of-self c =
     record {
       loading = loading_unit v w x _ l.loading c.requires.live refl refl b (subst (λ n. b < n) (sym (unit_limit-byte (object_of v.objects x).kind c.requires.kind)) small) e.objects;
       room = e.room ∙ l.room;
+      uncounted = l.uncounted;
     }

@@ -18,4 +18,5 @@ invariant_of-self c =
     record {
       loading = loading_stored v w x c.args.at l.loading c.requires.live refl refl y c.requires.header (IsWord-value_of c.args.v.0 word) e.objects;
       room = e.room ∙ l.room;
+      uncounted = l.uncounted;
     }

@@ -18,4 +18,5 @@ invariant_of-self c =
     record {
       loading = loading_unit v w x c.args.at l.loading c.requires.live refl refl c.args.v (subst (λ n. c.args.v < n) (sym (unit_limit-word (object_of v.objects x).kind c.requires.kind)) small) e.objects;
       room = e.room ∙ l.room;
+      uncounted = l.uncounted;
     }

@@ -1,4 +1,6 @@
-use Rattle.std.proofs.Common.{refl}
+use Rattle.std.proofs.Common.{ap}
+use Rattle.st_model.specs.View.{head_of}
+use Rattle.st_counted.specs.declared.contents.Head.{Head}
 use Rattle.st_model.specs.Values.{value}
 use Rattle.st_model.proofs.WholeLemmas.{whole_held}
 use Rattle.st_counted.specs.Counted.{counted_view}
@@ -8,5 +10,9 @@ pub invariant_of-self : goal.invariant_of-self
 invariant_of-self c =
     let m = c.args.self.now in
     let v = counted_view m.contents in
-    let w = counted_view (record m.contents { roots = c.hold.new.self }) in
-    record { whole = whole_held v w c.args.place (value c.args.o) m.whole c.requires.known refl c.hold.ensures refl; room = m.room }
+    let w = counted_view c.hold.new.self in
+    record {
+      whole = whole_held v w c.args.place (value c.args.o) m.whole c.requires.known c.hold.ensures.objects c.hold.ensures.held (ap (λ (h : Head). head_of h.capacity h.globals h.symbols) c.hold.ensures.head);
+      room = c.hold.ensures.room m.room;
+      counted = c.hold.ensures.counted;
+    }

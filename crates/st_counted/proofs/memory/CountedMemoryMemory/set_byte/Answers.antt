@@ -1,10 +1,13 @@
-use Rattle.std.proofs.Common.{◌∙◌, ◌<◌, refl, sym, subst, arith}
+use Rattle.std.proofs.Common.{◌∙◌, ◌<◌, [], refl, sym, subst, arith}
 use Rattle.std.proofs.lemmas.Grind.{common_steps}
 use Rattle.st_model.specs.Values.{value}
 use Rattle.st_model.specs.View.{object_of}
 use Rattle.st_model.proofs.FormedLemmas.{unit_limit-byte}
 use Rattle.st_model.proofs.WholeLemmas.{whole_unit}
-use Rattle.st_counted.specs.Counted.{counted_view}
+use Rattle.st_model.specs.Table.{Table}
+use Rattle.st_counted.specs.References.{all_roots, IsCounted}
+use Rattle.st_counted.specs.Counted.{counted_view, numbers_of}
+use Rattle.st_counted.proofs.Referring.{counted_unit}
 use Rattle.st_counted.proofs.memory.CountedMemoryMemory.set_byte.Goals as goal
 
 pub invariant_of-self : goal.invariant_of-self
@@ -20,4 +23,5 @@ invariant_of-self c =
       whole = whole_unit v (counted_view (record m.contents { objects = now })) x _ b m.whole c.requires.live
           (subst (λ n. b < n) (sym (unit_limit-byte (object_of v.objects x).kind c.requires.kind)) small) e.objects refl refl;
       room = c.set_unit.ensures.room ∙ m.room;
+      counted = subst (λ (t : Table). IsCounted t (all_roots v) [] (numbers_of m.contents)) (sym e.objects) (counted_unit v.objects (all_roots v) [] (numbers_of m.contents) x _ _ m.counted c.requires.live);
     }

@@ -1,9 +1,12 @@
-use Rattle.std.proofs.Common.{◌∙◌, ◌<◌, refl, sym, subst, arith}
+use Rattle.std.proofs.Common.{◌∙◌, ◌<◌, [], refl, sym, subst, arith}
 use Rattle.st_model.specs.Values.{value}
 use Rattle.st_model.specs.View.{object_of}
 use Rattle.st_model.proofs.FormedLemmas.{unit_limit-word, words_range}
 use Rattle.st_model.proofs.WholeLemmas.{formed_live, whole_unit}
-use Rattle.st_counted.specs.Counted.{counted_view}
+use Rattle.st_model.specs.Table.{Table}
+use Rattle.st_counted.specs.References.{all_roots, IsCounted}
+use Rattle.st_counted.specs.Counted.{counted_view, numbers_of}
+use Rattle.st_counted.proofs.Referring.{counted_unit}
 use Rattle.st_counted.proofs.memory.CountedMemoryMemory.set_word.Goals as goal
 
 pub set_unit-requires-clause-range : goal.set_unit-requires-clause-range
@@ -23,4 +26,5 @@ invariant_of-self c =
       whole = whole_unit v (counted_view (record m.contents { objects = now })) x c.args.at c.args.v m.whole c.requires.live
           (subst (λ n. c.args.v < n) (sym (unit_limit-word (object_of v.objects x).kind c.requires.kind)) small) e.objects refl refl;
       room = c.set_unit.ensures.room ∙ m.room;
+      counted = subst (λ (t : Table). IsCounted t (all_roots v) [] (numbers_of m.contents)) (sym e.objects) (counted_unit v.objects (all_roots v) [] (numbers_of m.contents) x _ _ m.counted c.requires.live);
     }

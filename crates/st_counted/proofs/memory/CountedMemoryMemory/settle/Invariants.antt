@@ -7,12 +7,12 @@ use Rattle.st_counted.specs.Counted.{counted_view}
 use Rattle.st_counted.proofs.memory.CountedMemoryMemory.settle.Given as goal
 
 -- no object is lost that a set has which supports itself
-abbrev pub invariant-loop : goal.invariant-loop
-invariant-loop l = record {
+abbrev pub invariant-loop-k : goal.invariant-loop-k
+invariant-loop-k l = record {
   drops : DropsTo (counted_view l.fn.self.contents).objects (counted_view l.self.contents).objects (view_roots (counted_view l.fn.self.contents));
   held : (counted_view l.self.contents).held ≡ (counted_view l.fn.self.contents).held;
   head : (counted_view l.self.contents).head ≡ (counted_view l.fn.self.contents).head;
 }
 
-abbrev pub decreases-loop : goal.decreases-loop
-decreases-loop l = total_used one (counted_view l.self.contents).objects
+abbrev pub decreases-loop-k : goal.decreases-loop-k
+decreases-loop-k l = total_used one (counted_view l.self.contents).objects

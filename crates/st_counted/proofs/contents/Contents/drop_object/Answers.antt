@@ -1,0 +1,104 @@
+use Rattle.std.proofs.Common.{◌≡◌, ℕ, ◌/◌, ◌<◌, List, [], ◌∷◌, length, set, true, sym, ap, ◌∙◌, subst, arith}
+use Rattle.std.specs.Prelude.{Option, None, slice_set}
+use Rattle.st_model.specs.Values.{Value, Ref, value}
+use Rattle.st_model.specs.Table.{Table}
+use Rattle.st_model.specs.View.{View, is_live, object_of}
+use Rattle.st_counts.specs.Counts.{is_unused}
+use Rattle.st_counts.specs.Contents.{counts_of}
+use Rattle.st_stored.specs.Tables.{objects_of, room_of}
+use Rattle.st_stored.proofs.Placing.{length-objects}
+use Rattle.st_counted.specs.declared.contents.Contents.{Contents}
+use Rattle.st_counted.specs.References.{all_roots, references, IsCounted}
+use Rattle.st_counted.specs.Counted.{counted_view, numbers_of}
+use Rattle.st_counted.proofs.Swept.{place_value, live_entry}
+use Rattle.st_counted.proofs.Tallying.{hand_counted, hand_some}
+use Rattle.st_counted.proofs.Dropping.{unused_live, counted_dropped}
+use Rattle.st_counted.proofs.Storing.{lowered_to}
+use Rattle.st_counted.proofs.contents.Contents.drop_object.Goals as goal
+
+-- the class and the fields of the object are in hand
+in_hand : (v : View) (cs cs1 : List (Option ℕ)) (k : ℕ) (x class : Value) → IsCounted v.objects (all_roots v) [] cs → is_unused cs k ≡ true → length v.objects ≡ 32768 → k < 32768 → x ≡ Ref k
+    → class ≡ Ref (object_of v.objects x).class → cs1 ≡ set cs k None → IsCounted (slice_set v.objects k None) (all_roots v) (class ∷ (object_of v.objects x).fields) cs1
+in_hand v cs cs1 k x class h unused long within named is left =
+    let t = v.objects in
+    let o = object_of t x in
+    let live = ap (is_live t) named ∙ unused_live t (references t (all_roots v) []) cs k h.tallied unused in
+    subst (λ ns. IsCounted (slice_set t k None) (all_roots v) (class ∷ o.fields) ns) (sym left)
+    (subst (λ y. IsCounted (slice_set t k None) (all_roots v) (y ∷ o.fields) (set cs k None)) (sym is)
+    (counted_dropped t (all_roots v) cs k o h unused (live_entry t x k named live) (subst (λ n. k < n) (sym long) within)))
+
+pub class_of-class-requires : goal.class_of-class-requires
+class_of-class-requires c =
+    let v = counted_view c.args.self.now in
+    ap (is_live v.objects) (place_value c.pointer_of-o.result.0 c.args.k c.pointer_of-o.ensures)
+    ∙ unused_live v.objects (references v.objects (all_roots v) []) (numbers_of c.args.self.now) c.args.k c.requires.counted.tallied c.requires.unused
+
+pub lower-requires-clause-counted : goal.lower-requires-clause-counted
+lower-requires-clause-counted c small =
+    let m = c.args.self.now in
+    let v = counted_view m in
+    let k = c.args.k in
+    let x = value c.pointer_of-o.result in
+    hand_counted (slice_set v.objects k None) (all_roots v) (object_of v.objects x).fields (counts_of c.leave.new.self) c.class_of-class.result.0
+    (in_hand v (numbers_of m) (counts_of c.leave.new.self) k x (value c.class_of-class.result) c.requires.counted c.requires.unused (length-objects m.objects.store) c.requires.place
+    (place_value c.pointer_of-o.result.0 k c.pointer_of-o.ensures) c.class_of-class.ensures c.leave.ensures) small
+
+pub lower-requires-clause-some : goal.lower-requires-clause-some
+lower-requires-clause-some c small =
+    let m = c.args.self.now in
+    let v = counted_view m in
+    let k = c.args.k in
+    let x = value c.pointer_of-o.result in
+    hand_some (slice_set v.objects k None) (all_roots v) (object_of v.objects x).fields (counts_of c.leave.new.self) c.class_of-class.result.0
+    (in_hand v (numbers_of m) (counts_of c.leave.new.self) k x (value c.class_of-class.result) c.requires.counted c.requires.unused (length-objects m.objects.store) c.requires.place
+    (place_value c.pointer_of-o.result.0 k c.pointer_of-o.ensures) c.class_of-class.ensures c.leave.ensures) small
+
+pub lower_fields-requires-clause-live : goal.lower_fields-requires-clause-live
+lower_fields-requires-clause-live c =
+    let v = counted_view c.args.self.now in
+    ap (is_live v.objects) (place_value c.pointer_of-o.result.0 c.args.k c.pointer_of-o.ensures)
+    ∙ unused_live v.objects (references v.objects (all_roots v) []) (numbers_of c.args.self.now) c.args.k c.requires.counted.tallied c.requires.unused
+
+pub lower_fields-requires-clause-counted : goal.lower_fields-requires-clause-counted
+lower_fields-requires-clause-counted c =
+    let m = c.args.self.now in
+    let v = counted_view m in
+    let k = c.args.k in
+    let x = value c.pointer_of-o.result in
+    let two = c.pointer_of-o.ensures in
+    let half : c.pointer_of-o.result.0 / 2 ≡ k = omega (arith, two) in
+    subst (λ n. IsCounted (slice_set v.objects n None) (all_roots v) (object_of v.objects x).fields (counts_of c.lower.new.counts)) (sym half)
+    (lowered_to (slice_set v.objects k None) (all_roots v) (object_of v.objects x).fields (counts_of c.leave.new.self) (counts_of c.lower.new.counts) (value c.class_of-class.result)
+    (in_hand v (numbers_of m) (counts_of c.leave.new.self) k x (value c.class_of-class.result) c.requires.counted c.requires.unused (length-objects m.objects.store) c.requires.place
+    (place_value c.pointer_of-o.result.0 k c.pointer_of-o.ensures) c.class_of-class.ensures c.leave.ensures) c.lower.ensures)
+
+pub remove-requires : goal.remove-requires
+remove-requires c =
+    let v = counted_view c.args.self.now in
+    subst (λ (y : Contents). is_live (objects_of y.objects) (value c.pointer_of-o.result) ≡ true) (sym c.lower_fields.ensures.rest)
+    (ap (is_live v.objects) (place_value c.pointer_of-o.result.0 c.args.k c.pointer_of-o.ensures)
+    ∙ unused_live v.objects (references v.objects (all_roots v) []) (numbers_of c.args.self.now) c.args.k c.requires.counted.tallied c.requires.unused)
+
+pub returns-clause-objects : goal.returns-clause-objects
+returns-clause-objects c =
+    let v = counted_view c.args.self.now in
+    let two = c.pointer_of-o.ensures in
+    let half : c.pointer_of-o.result.0 / 2 ≡ c.args.k = omega (arith, two) in
+    c.remove.ensures.objects
+    ∙ ap (λ (y : Contents). slice_set (objects_of y.objects) (c.pointer_of-o.result.0 / 2) None) c.lower_fields.ensures.rest
+    ∙ ap (λ n. slice_set v.objects n None) half
+
+pub returns-clause-held : goal.returns-clause-held
+returns-clause-held c = ap (λ (y : Contents). (counted_view y).held) c.lower_fields.ensures.rest
+
+pub returns-clause-head : goal.returns-clause-head
+returns-clause-head c = ap (λ (y : Contents). y.head) c.lower_fields.ensures.rest
+
+pub returns-clause-counted : goal.returns-clause-counted
+returns-clause-counted c =
+    let l = c.lower_fields.new.self in
+    subst (λ (t : Table). IsCounted t (all_roots (counted_view l)) [] (numbers_of l)) (sym c.remove.ensures.objects) c.lower_fields.ensures.counted
+
+pub returns-clause-room : goal.returns-clause-room
+returns-clause-room c = λ h.
+    c.remove.ensures.room ∙ ap (λ (y : Contents). room_of y.objects) c.lower_fields.ensures.rest ∙ h ∙ sym (ap (λ (y : Contents). y.head.capacity.words) c.lower_fields.ensures.rest)

@@ -1,0 +1,53 @@
+use Rattle.std.proofs.Common.{◌/◌, [], ◌∷◌, refl, sym, subst, arith}
+use Rattle.st_model.specs.Values.{Value, value}
+use Rattle.st_counts.specs.Contents.{counts_of}
+use Rattle.st_counted.specs.References.{all_roots, references, IsCounted}
+use Rattle.st_counted.specs.Counted.{counted_view, numbers_of}
+use Rattle.st_counted.proofs.Tallying.{known_counted, hand_counted, hand_some}
+use Rattle.st_counted.proofs.Rooting.{counted_few, counted_held}
+use Rattle.st_counted.proofs.Storing.{raised_to, lowered_to}
+use Rattle.st_counted.proofs.contents.Contents.hold.Goals as goal
+
+pub raise-requires-clause-counted : goal.raise-requires-clause-counted
+raise-requires-clause-counted c small =
+    let v = counted_view c.args.self.now in
+    known_counted v.objects (references v.objects (all_roots v) []) (numbers_of c.args.self.now) c.args.o.0 c.requires.counted.tallied c.requires.known small
+
+pub raise-requires-clause-room : goal.raise-requires-clause-room
+raise-requires-clause-room c =
+    let v = counted_view c.args.self.now in
+    let a = counted_few v [] (numbers_of c.args.self.now) (c.args.o.0 / 2) c.requires.whole c.requires.counted in omega (arith, a)
+
+-- what the place held is in hand
+pub lower-requires-clause-counted : goal.lower-requires-clause-counted
+lower-requires-clause-counted c small =
+    let m = c.args.self.now in
+    let v = counted_view m in
+    let w = counted_view (record m { roots = c.hold.new.self }) in
+    let cs1 = counts_of c.raise.new.counts in
+    hand_counted w.objects (all_roots w) [] cs1 c.held-old.result.0
+    (subst (λ (x : Value). IsCounted w.objects (all_roots w) (x ∷ []) cs1) (sym c.held-old.ensures)
+    (counted_held v w [] cs1 c.args.place (value c.args.o) (raised_to v.objects (all_roots v) [] (numbers_of m) cs1 (value c.args.o) 1 c.requires.counted c.requires.known c.raise.ensures)
+    c.requires.place c.requires.whole.pending refl c.hold.ensures refl)) small
+
+pub lower-requires-clause-some : goal.lower-requires-clause-some
+lower-requires-clause-some c small =
+    let m = c.args.self.now in
+    let v = counted_view m in
+    let w = counted_view (record m { roots = c.hold.new.self }) in
+    let cs1 = counts_of c.raise.new.counts in
+    hand_some w.objects (all_roots w) [] cs1 c.held-old.result.0
+    (subst (λ (x : Value). IsCounted w.objects (all_roots w) (x ∷ []) cs1) (sym c.held-old.ensures)
+    (counted_held v w [] cs1 c.args.place (value c.args.o) (raised_to v.objects (all_roots v) [] (numbers_of m) cs1 (value c.args.o) 1 c.requires.counted c.requires.known c.raise.ensures)
+    c.requires.place c.requires.whole.pending refl c.hold.ensures refl)) small
+
+pub returns-clause-counted : goal.returns-clause-counted
+returns-clause-counted c =
+    let m = c.args.self.now in
+    let v = counted_view m in
+    let w = counted_view (record m { roots = c.hold.new.self }) in
+    let cs1 = counts_of c.raise.new.counts in
+    lowered_to w.objects (all_roots w) [] cs1 (counts_of c.lower.new.counts) (value c.held-old.result)
+    (subst (λ (x : Value). IsCounted w.objects (all_roots w) (x ∷ []) cs1) (sym c.held-old.ensures)
+    (counted_held v w [] cs1 c.args.place (value c.args.o) (raised_to v.objects (all_roots v) [] (numbers_of m) cs1 (value c.args.o) 1 c.requires.counted c.requires.known c.raise.ensures)
+    c.requires.place c.requires.whole.pending refl c.hold.ensures refl)) c.lower.ensures

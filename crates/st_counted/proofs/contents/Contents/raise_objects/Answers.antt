@@ -1,0 +1,59 @@
+use Rattle.std.proofs.Common.{◌≡◌, ◌+◌, refl, sym, ap, ◌∙◌, subst, length, arith}
+use Rattle.st_model.specs.Table.{Table, entry}
+use Rattle.st_model.specs.View.{IsWhole}
+use Rattle.st_counts.specs.Counts.{number_at}
+use Rattle.st_stored.specs.Tables.{objects_of}
+use Rattle.st_counted.specs.declared.contents.Contents.{Contents}
+use Rattle.st_counted.specs.References.{object_uses, uses, uses_below, IsTallied, IsEntered}
+use Rattle.st_counted.specs.Counted.{counted_view, numbers_of}
+use Rattle.st_counted.proofs.Tallying.{tally_entered, tally_number, tally_most, tally_same}
+use Rattle.st_counted.proofs.Rooting.{uses_few}
+use Rattle.st_counted.proofs.Finishing.{tally_live, below_all, below_few, below_more}
+use Rattle.st_counted.proofs.contents.Contents.raise_objects.Goals as goal
+
+pub raise_object-requires-clause-whole : goal.raise_object-requires-clause-whole
+raise_object-requires-clause-whole c = subst (λ (m : Contents). IsWhole (counted_view m)) (sym c.loop-k.invariant.rest) c.requires.whole
+
+pub raise_object-requires-clause-entered : goal.raise_object-requires-clause-entered
+raise_object-requires-clause-entered c =
+    let i = c.loop-k.invariant in
+    let t = (counted_view c.args.self.now).objects in
+    subst (λ (m : Contents). IsEntered (objects_of m.objects) (numbers_of c.loop-k.self)) (sym i.rest) (tally_entered t (λ j. uses_below j t c.loop-k.k) (numbers_of c.loop-k.self) i.tallied)
+
+pub raise_object-requires-clause-room : goal.raise_object-requires-clause-room
+raise_object-requires-clause-room c = λ j.
+    let i = c.loop-k.invariant in
+    let w = c.requires.whole in
+    let t = (counted_view c.args.self.now).objects in
+    let a = tally_most t (λ j. uses_below j t c.loop-k.k) (numbers_of c.loop-k.self) j i.tallied in
+    let b = below_few j t c.loop-k.k in
+    let d = uses_few j t w.formed in
+    let e = w.words in
+    let f = w.most_words in omega (arith, a, b, d, e, f)
+
+pub loop-k-preserved : goal.loop-k-preserved
+loop-k-preserved c =
+    let i = c.loop-k.invariant in
+    let e = c.raise_object.ensures in
+    let k = c.loop-k.k in
+    let t = (counted_view c.args.self.now).objects in
+    let cs = numbers_of c.loop-k.self in
+    let rest = e.rest ∙ ap (λ (m : Contents). record m { counts = c.raise_object.new.self.counts }) i.rest in
+    let same : objects_of c.loop-k.self.objects ≡ t = ap (λ (m : Contents). objects_of m.objects) i.rest in
+    record {
+      tallied = tally_live t (λ j. object_uses j (entry t k) + number_at cs j) (λ j. uses_below j t (k + 1)) (numbers_of c.raise_object.new.self)
+          (subst (λ (u : Table). IsTallied u (λ j. object_uses j (entry u k) + number_at cs j) (numbers_of c.raise_object.new.self)) same e.tallied)
+          (λ j live. let a = below_more j t k in let b = tally_number t (λ j. uses_below j t k) cs j i.tallied live in omega (arith, a, b));
+      rest = rest;
+    }
+
+pub returns-clause-tallied : goal.returns-clause-tallied
+returns-clause-tallied c =
+    let i = c.loop-k.invariant in
+    let t = (counted_view c.args.self.now).objects in
+    let places : length t ≡ 32768 = c.requires.whole.places in
+    let end : c.loop-k.k ≡ length t = omega (arith, places) in
+    tally_same t (λ j. uses_below j t c.loop-k.k) (λ j. uses j t) (numbers_of c.loop-k.self) i.tallied (λ j. sym (ap (uses_below j t) end ∙ below_all j t))
+
+pub loop-k-init : goal.loop-k-init
+loop-k-init c = record { tallied = c.requires.tallied; rest = refl }

@@ -1,0 +1,41 @@
+use Rattle.std.proofs.Common.{◌/◌, [], arith}
+use Rattle.st_model.specs.Values.{value}
+use Rattle.st_counts.specs.Contents.{counts_of}
+use Rattle.st_stored.specs.Tables.{objects_of}
+use Rattle.st_counted.specs.References.{all_roots, references}
+use Rattle.st_counted.specs.Counted.{counted_view, numbers_of}
+use Rattle.st_counted.proofs.Tallying.{known_counted, hand_counted, hand_some}
+use Rattle.st_counted.proofs.Rooting.{counted_few}
+use Rattle.st_counted.proofs.Storing.{stored, lowered_to}
+use Rattle.st_counted.proofs.contents.Contents.set_pointer.Goals as goal
+
+pub raise-requires-clause-counted : goal.raise-requires-clause-counted
+raise-requires-clause-counted c small =
+    let v = counted_view c.args.self.now in
+    known_counted v.objects (references v.objects (all_roots v) []) (numbers_of c.args.self.now) c.args.v.0 c.requires.counted.tallied c.requires.known small
+
+pub raise-requires-clause-room : goal.raise-requires-clause-room
+raise-requires-clause-room c =
+    let v = counted_view c.args.self.now in
+    let a = counted_few v [] (numbers_of c.args.self.now) (c.args.v.0 / 2) c.requires.whole c.requires.counted in omega (arith, a)
+
+pub lower-requires-clause-counted : goal.lower-requires-clause-counted
+lower-requires-clause-counted c small =
+    let v = counted_view c.args.self.now in
+    hand_counted (objects_of c.set_field.new.self) (all_roots v) [] (counts_of c.raise.new.counts) c.field-old.result.0
+    (stored v (numbers_of c.args.self.now) (counts_of c.raise.new.counts) (objects_of c.set_field.new.self) (value c.args.o) c.args.at (value c.args.v) (value c.field-old.result)
+    c.requires.counted c.requires.known c.requires.live c.field-old.ensures c.raise.ensures c.set_field.ensures.objects) small
+
+pub lower-requires-clause-some : goal.lower-requires-clause-some
+lower-requires-clause-some c small =
+    let v = counted_view c.args.self.now in
+    hand_some (objects_of c.set_field.new.self) (all_roots v) [] (counts_of c.raise.new.counts) c.field-old.result.0
+    (stored v (numbers_of c.args.self.now) (counts_of c.raise.new.counts) (objects_of c.set_field.new.self) (value c.args.o) c.args.at (value c.args.v) (value c.field-old.result)
+    c.requires.counted c.requires.known c.requires.live c.field-old.ensures c.raise.ensures c.set_field.ensures.objects) small
+
+pub returns-clause-counted : goal.returns-clause-counted
+returns-clause-counted c =
+    let v = counted_view c.args.self.now in
+    lowered_to (objects_of c.set_field.new.self) (all_roots v) [] (counts_of c.raise.new.counts) (counts_of c.lower.new.counts) (value c.field-old.result)
+    (stored v (numbers_of c.args.self.now) (counts_of c.raise.new.counts) (objects_of c.set_field.new.self) (value c.args.o) c.args.at (value c.args.v) (value c.field-old.result)
+    c.requires.counted c.requires.known c.requires.live c.field-old.ensures c.raise.ensures c.set_field.ensures.objects) c.lower.ensures

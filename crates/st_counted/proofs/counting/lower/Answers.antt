@@ -1,0 +1,13 @@
+use Rattle.std.proofs.Common.{◌≡◌, ◌/◌, false, ap, sym, ◌∙◌, arith}
+use Rattle.std.proofs.lemmas.Grind.{common_steps}
+use Rattle.st_model.specs.Values.{value, is_small}
+use Rattle.st_counts.specs.Counts.{lowered}
+use Rattle.st_counts.specs.Contents.{counts_of}
+use Rattle.st_counted.proofs.Tallying.{lowered_even}
+use Rattle.st_counted.proofs.counting.lower.Goals as goal
+
+pub returns-then-not-is_small : goal.returns-then-not-is_small
+returns-then-not-is_small c =
+    let small : is_small (value c.args.v) ≡ false = grind (arith, common_steps) in
+    let place : c.from.result ≡ c.args.v.0 / 2 = grind (arith, common_steps) in
+    c.lower.ensures ∙ ap (lowered (counts_of c.args.counts.now)) place ∙ sym (lowered_even (counts_of c.args.counts.now) c.args.v.0 small)

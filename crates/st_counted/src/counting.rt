@@ -1,0 +1,40 @@
+ghost use Rattle.std.specs.Prelude.{◌≡◌, ◌≢◌, ◌<◌, ◌+◌, ◌*◌, ◌/◌, ℕ, true, false};
+ghost use Rattle.st_model.specs.Values.{value, is_small};
+ghost use Rattle.st_table.specs.Entries.{place};
+ghost use Rattle.st_counts.specs.Counts.{is_counted, number_at};
+ghost use Rattle.st_counts.specs.Contents.{counts_of};
+ghost use Rattle.st_counted.specs.References.{raised_by, lowered_by};
+
+use st_counts::Counts;
+use st_model::Oop;
+
+/// The pointer of a place.
+pub fn pointer_of(k: usize) -> Oop
+    requires { k < 32768 }
+    ensures { result.0 ≡ 2 * k }
+{
+    Oop((2 * k) as u16)
+}
+
+/// Counts so many references more to what a word names, at least one; a SmallInteger names nothing.
+pub fn raise(counts: &mut Counts, v: Oop, by: u32)
+    requires some { 0 < by }
+    requires counted { is_small (value v) ≡ false → is_counted (counts_of counts.old) (place v) ≡ true }
+    requires room { number_at (counts_of counts.old) (place v) + by < 4294967296 }
+    ensures { counts_of counts.new ≡ raised_by (counts_of counts.old) (value v) by }
+{
+    if !v.is_small() {
+        counts.raise(usize::from(v.0 / 2), by);
+    }
+}
+
+/// Counts one reference less to what a word names; a SmallInteger names nothing.
+pub fn lower(counts: &mut Counts, v: Oop)
+    requires counted { is_small (value v) ≡ false → is_counted (counts_of counts.old) (place v) ≡ true }
+    requires some { is_small (value v) ≡ false → number_at (counts_of counts.old) (place v) ≢ 0 }
+    ensures { counts_of counts.new ≡ lowered_by (counts_of counts.old) (value v) }
+{
+    if !v.is_small() {
+        counts.lower(usize::from(v.0 / 2));
+    }
+}

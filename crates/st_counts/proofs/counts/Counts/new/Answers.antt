@@ -1,0 +1,19 @@
+use Rattle.std.proofs.Common.{ℕ, List, Option, None, ap, ◌∙◌, length}
+use Rattle.st_counts.specs.Counts.{count_at, is_zero, is_unused}
+use Rattle.st_counts.proofs.Counting.{nothing_counted}
+use Rattle.std.proofs.lemmas.List.{length-replicate}
+use Rattle.st_counts.proofs.counts.Counts.new.Goals as goal
+
+pub invariant_of-result : goal.invariant_of-result
+invariant_of-result c =
+    let is = c.in_ok-counts.ensures in
+    record {
+      places = ap length is ∙ length-replicate {A = Option ℕ} 32768 None;
+      first = ap (λ (cs : List (Option ℕ)). count_at cs 0) is ∙ nothing_counted 32768 0;
+      within = c.in_ok-zeros.ensures.within;
+      size = c.in_ok-zeros.ensures.size;
+      listed = c.in_ok-zeros.ensures.holds (is_unused c.in_ok-counts.counts.items) (λ k. ap (λ (cs : List (Option ℕ)). is_unused cs k) is ∙ ap is_zero (nothing_counted 32768 k));
+    }
+
+pub returns : goal.returns
+returns c = λ k. ap (λ (cs : List (Option ℕ)). count_at cs k) c.in_ok-counts.ensures ∙ nothing_counted 32768 k

@@ -1,0 +1,40 @@
+use Rattle.std.proofs.Common.{◌≢◌, ◌+◌, Some, false, sym, ◌∙◌, length-set, arith}
+use Rattle.st_counts.specs.Counts.{count_at, number_at, is_unused}
+use Rattle.st_counts.proofs.Linked.{test_other}
+use Rattle.st_counts.proofs.Counting.{relisted, listed_still, counted_within, none_still, not_here, number_zero, test_of}
+use Rattle.st_counts.proofs.counts.Counts.raise.Goals as goal
+
+pub invariant_of-self : goal.invariant_of-self
+invariant_of-self c =
+    let s = c.args.self.now in
+    let k = c.args.k in
+    let cs = s.counts.items in
+    let e = c.unlink.ensures in
+    let n = c.count-count.result + c.args.by in
+    let some = c.requires.some in
+    let more : n ≢ 0 = λ q. absurd (omega (arith, q, some)) in
+    let was = number_zero (count_at cs k) c.requires.counted ∙ test_of (number_at cs k) 0 (sym c.count-count.ensures ∙ c.if-count-eq0.true) in
+    record {
+      places = rw length-set s.places;
+      first = none_still cs k (Some n) s.first (not_here cs k s.first c.requires.counted);
+      within = e.within;
+      size = e.size ∙ s.size;
+      listed = relisted c.unlink.new.self cs k (Some n) false (counted_within cs k c.requires.counted) (test_other n 0 more) (e.holds (is_unused cs) s.listed was);
+    }
+
+pub invariant_of-self-else-count-eq0 : goal.invariant_of-self-else-count-eq0
+invariant_of-self-else-count-eq0 c =
+    let s = c.args.self.now in
+    let k = c.args.k in
+    let cs = s.counts.items in
+    let n = c.count-count.result + c.args.by in
+    let some = c.requires.some in
+    let more : n ≢ 0 = λ q. absurd (omega (arith, q, some)) in
+    let was = number_zero (count_at cs k) c.requires.counted ∙ test_other (number_at cs k) 0 (λ q. c.if-count-eq0.false (c.count-count.ensures ∙ q)) in
+    record {
+      places = rw length-set s.places;
+      first = none_still cs k (Some n) s.first (not_here cs k s.first c.requires.counted);
+      within = s.within;
+      size = s.size;
+      listed = listed_still s.zeros cs k (Some n) false (counted_within cs k c.requires.counted) (test_other n 0 more) was s.listed;
+    }

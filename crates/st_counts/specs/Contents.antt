@@ -1,0 +1,7 @@
+-- What counts contain.
+use Rattle.std.specs.Prelude.{ℕ, List, Option}
+use Rattle.st_counts.specs.declared.counts.Counts.{Counts}
+
+-- at each place its count, or none
+abbrev pub counts_of : Counts → List (Option ℕ)
+counts_of c = c.counts.items
