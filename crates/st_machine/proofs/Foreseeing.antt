@@ -24,7 +24,6 @@ use Rattle.st_frames.specs.Shown.{shown, registers_of}
 use Rattle.st_frames.specs.Rows.{registers_in, row_state}
 use Rattle.st_frames.specs.declared.registers.Registers.{Registers as Words}
 use Rattle.st_frames.proofs.Stored.{loaded}
-use Rattle.st_model.proofs.Going.{step_goes}
 
 -- what fits is not over the capacities
 fits_if : (a b c d : ℕ) → (nat_le a b && nat_le c d) ≡ true → (if nat_lt b a then true else nat_lt d c) ≡ false
@@ -87,26 +86,6 @@ module _ (c : State Table) where
       → (step bounded_table).run c ≡ Went (Did o) t → reclaim table t ≡ u → foreseen_cycle c ≡ Went (With o) u
   unfolding foreseen_cycle
   cycle_done d o t u h e s r = (with_room ((step apart).run c) d refl h e).1 ∙ (ap (done c) s ∙ ap (λ x. Went (With o) x) r)
-
-  -- a cycle that ends with its bytecode's outcome went
-
-  done_went : (t : Transition (State Table) StepEnd) → (step bounded_table).run c ≡ t → (o : Outcome) (u : State Table) → done c t ≡ Went (With o) u → o ≡ outcome.Went
-  done_went (Died a) s o u e = cc
-  done_went (Went NotBuilt t) s o u e = cc
-  done_went (Went (Did p) t) s o u e = let q : p ≡ o = cc in sym q ∙ (step_goes bounded_table).went c t p s
-
-  room_went : (t : State Table) (b : Bool) (o : Outcome) (u : State Table) → done_if_room c t b ≡ Went (With o) u → o ≡ outcome.Went
-  room_went t true o u e = cc
-  room_went t false o u e = done_went ((step bounded_table).run c) refl o u e
-
-  foreseen_went : (t : Transition (State Table) StepEnd) (o : Outcome) (u : State Table) → foreseen c t ≡ Went (With o) u → o ≡ outcome.Went
-  foreseen_went (Died a) o u e = cc
-  foreseen_went (Went NotBuilt t) o u e = cc
-  foreseen_went (Went (Did p) t) o u e = room_went t (is_over (used apart t.memory) c.head) o u e
-
-  pub only_went : (o : Outcome) (u : State Table) → foreseen_cycle c ≡ Went (With o) u → o ≡ outcome.Went
-  unfolding foreseen_cycle
-  only_went o u e = foreseen_went ((step apart).run c) o u e
 
 module _ (v : View) (d : Demand) where
   pub not_over : fits v d ≡ true → is_over (plus (used table v.objects) d) v.head ≡ false

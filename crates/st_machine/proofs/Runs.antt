@@ -18,9 +18,8 @@ use Rattle.st_machine.specs.declared.cycling.CycleEnd.{CycleEnd}
 use Rattle.st_machine.specs.declared.cycling.CycleEnd.TheVariants as cycle_end
 use Rattle.st_machine.specs.declared.ending.RunEnd.{RunEnd}
 use Rattle.st_machine.specs.declared.ending.RunEnd.TheVariants as run_ends
-use Rattle.st_machine.specs.Runs.{EndsAs, AsksNothing, CountsCycles, ending_of, run_end, transition_at}
+use Rattle.st_machine.specs.Runs.{EndsAs, CountsCycles, ending_of, run_end, transition_at}
 use Rattle.st_machine.proofs.Endings.{goes_on, cycles_in, renamed_goes, renamed_cycles, run_on, finished_on, run_stops, run_dies, finished_stops, finished_dies, Stops, run_end_stops, run_end_goes}
-use Rattle.st_machine.proofs.Foreseeing.{only_went}
 
 -- the births' run so far went, and what it left is shown
 pub record SoFar (k : ℕ) (s : State Births) (c : State Table) : Type 0 where
@@ -107,21 +106,6 @@ module _ (k : ℕ) (s : State Births) (c : State Table) (sound : IsSound c) (few
 
   pub goes_further : (x : Result CycleEnd Dead) (d : State Table) → foreseen_cycle c ≡ transition_of ending_of x d → run_end x k ≡ None → SoFar (k + 1) s d
   goes_further x d q h = one_more d (q ∙ run_end_goes k d x h)
-
--- no cycle asks for anything
-
-some_same : (a b : RunEnd) → Some a ≡ Some b → a ≡ b
-some_same a b e = cc
-
-pub asks_nothing : (k : ℕ) (c d : State Table) (x : Result CycleEnd Dead) (e : RunEnd) → foreseen_cycle c ≡ transition_of ending_of x d → run_end x k ≡ Some e → AsksNothing e
-asks_nothing k c d (Ok (cycle_end.With code_outcome.Went)) e q h = absurd (cc)
-asks_nothing k c d (Ok (cycle_end.With code_outcome.Snapshot)) e q h = let w = only_went c outcome.Snapshot d q in absurd (cc)
-asks_nothing k c d (Ok (cycle_end.With (code_outcome.Say o))) e q h = let w = only_went c (outcome.Say (value o)) d q in absurd (cc)
-asks_nothing k c d (Ok (cycle_end.With code_outcome.Quit)) e q h = let w = only_went c outcome.Quit d q in absurd (cc)
-asks_nothing k c d (Ok (cycle_end.With code_outcome.Debugger)) e q h = let w = only_went c outcome.Debugger d q in absurd (cc)
-asks_nothing k c d (Ok (cycle_end.Space demand left)) e q h = subst AsksNothing (some_same (run_ends.Space k demand left.entries left.words) e h) tt
-asks_nothing k c d (Ok (cycle_end.Unbuilt code)) e q h = subst AsksNothing (some_same (run_ends.Unbuilt k code) e h) tt
-asks_nothing k c d (Err cause) e q h = subst AsksNothing (some_same (run_ends.Dead k cause) e h) tt
 
 pub ran_all : (k : ℕ) (s : State Births) (c : State Table) → SoFar k s c → EndsAs k s run_ends.Ran c
 unfolding run finished finished_of

@@ -56,17 +56,6 @@ cycles_of n (run_ends.Debugger done) = done
 cycles_of n (run_ends.Dead done cause) = done
 cycles_of n (run_ends.Unbuilt done code) = done
 
--- No bytecode asks for anything besides yet, so that no run ends so.
-abbrev pub AsksNothing : RunEnd → Type 0
-AsksNothing run_ends.Ran = ⊤
-AsksNothing (run_ends.Space done demand entries words) = ⊤
-AsksNothing (run_ends.Snapshot done) = ⊥
-AsksNothing (run_ends.Say done o) = ⊥
-AsksNothing (run_ends.Quit done) = ⊥
-AsksNothing (run_ends.Debugger done) = ⊥
-AsksNothing (run_ends.Dead done cause) = ⊤
-AsksNothing (run_ends.Unbuilt done code) = ⊤
-
 -- the last of the finished cycles asked for something besides
 abbrev pub Asks : RunEnd → Type 0
 Asks run_ends.Ran = ⊥

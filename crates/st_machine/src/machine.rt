@@ -3,7 +3,7 @@ ghost use Rattle.std.specs.Borrow.{sem};
 ghost use Rattle.st_model.specs.Show.{Shows, raised};
 ghost use Rattle.st_frames.specs.Shown.{IsReady, shown};
 ghost use Rattle.st_machine.specs.Machines.{lends_memory};
-ghost use Rattle.st_machine.specs.Runs.{EndsFrom, AsksNothing, CountsCycles, death_of};
+ghost use Rattle.st_machine.specs.Runs.{EndsFrom, CountsCycles, death_of};
 ghost use Rattle.st_machine.specs.declared.ending.RunEnd.TheVariants.{Dead as DeadEnd};
 
 use crate::ending::RunEnd;
@@ -60,7 +60,6 @@ impl<M: Memory> Machine<M> {
         ensures death { self.old.death ≡ None → self.new.death ≡ death_of result }
         ensures dead { (cause : _) → self.old.death ≡ Some cause
             → (result ≡ DeadEnd 0 cause) × (self.new ≡ self.old) }
-        ensures asks { AsksNothing result }
         ensures counts { CountsCycles n result }
         ensures world { self.new.world ≡ self.old.world }
     {

@@ -1,6 +1,6 @@
 ghost use Rattle.std.specs.Prelude.{◌≡◌, ◌<◌};
 ghost use Rattle.st_frames.specs.Shown.{IsReady, shown};
-ghost use Rattle.st_machine.specs.Runs.{EndsFrom, AsksNothing, CountsCycles, run_end};
+ghost use Rattle.st_machine.specs.Runs.{EndsFrom, CountsCycles, run_end};
 
 use crate::cycling::{CycleEnd, cycle};
 use crate::ending::RunEnd;
@@ -43,7 +43,6 @@ pub fn run<M: Memory>(m: &mut M, f: &mut Frame, w: &mut World, n: u32) -> RunEnd
         result (shown (M.view m.new) f.new w.new) }
     ensures ready { IsReady (M.view m.new) f.new w.new }
     ensures world { w.new ≡ w.old }
-    ensures asks { AsksNothing result }
     ensures counts { CountsCycles n result }
 {
     for done in 0..n {

@@ -1,5 +1,5 @@
--- Worked rows of the primitives on objects, computed from the definitions: of each one that succeeds, and one at each bound at
--- which it fails. Receiver and arguments are the words on the stack; what is popped stays in its field.
+-- Worked rows of the primitives on objects, computed from the definitions: of each one that succeeds, and such as fail at a bound;
+-- more of these stand in StorageBounds.antt. Receiver and arguments are the words on the stack; what is popped stays in its field.
 use Rattle.std.proofs.Common.{◌≡◌, ℕ, List, [], ◌∷◌, Some, None, Option, Bool, true, false, refl}
 use Rattle.std.specs.Prelude.{◌+◌, pos, length, replicate}
 use Rattle.st_model.specs.declared.kind.Kind.TheVariants as kind
@@ -12,39 +12,39 @@ use Rattle.st_model.specs.Births.{Birth, Births, births}
 use Rattle.st_model.specs.Storage.{storage, primitive_say}
 use Rattle.st_model.proofs.Opened.{opened}
 
-pointers : ℕ → List Value → Option Object
+unfoldable pub pointers : ℕ → List Value → Option Object
 pointers class fields = Some (record { class = class; kind = kind.Pointers; fields = fields; units = [] })
 
-words : List ℕ → Option Object
+unfoldable pub words : List ℕ → Option Object
 words us = Some (record { class = 6; kind = kind.Words; fields = []; units = us })
 
-bytes : ℕ → List ℕ → Option Object
+unfoldable pub bytes : ℕ → List ℕ → Option Object
 bytes class us = Some (record { class = class; kind = kind.Bytes; fields = []; units = us })
 
-method : List Value → List ℕ → Option Object
+unfoldable pub method : List Value → List ℕ → Option Object
 method fields us = Some (record { class = 17; kind = kind.Method; fields = fields; units = us })
 
 -- a LargePositiveInteger, a String and an Array
-large : List ℕ → Option Object
+unfoldable pub large : List ℕ → Option Object
 unfolding bytes
 large us = bytes 14 us
 
-string : List ℕ → Option Object
+unfoldable pub string : List ℕ → Option Object
 unfolding bytes
 string us = bytes 7 us
 
-array : List Value → Option Object
+unfoldable pub array : List Value → Option Object
 unfolding pointers
 array fields = pointers 8 fields
 
 -- a class with this instance specification
-class : ℕ → Option Object
+unfoldable pub class : ℕ → Option Object
 unfolding pointers
 class specification = pointers 6 (nil ∷ nil ∷ Small specification ∷ [])
 
--- The page, of which the character table has two fields; the class 29 of indexable pointers behind two fixed fields; the active
+-- Objects of the page that the rows ask for, of which the character table has two fields; the class 29 of indexable pointers behind two fixed fields; the active
 -- context 30; and from 31 on the objects of a row. New objects go to place 5.
-objects : Option Object → List Value → List (Option Object) → Table
+unfoldable pub objects : Option Object → List Value → List (Option Object) → Table
 unfolding pointers class
 objects new stack others =
     None ∷ pointers 6 [] ∷ pointers 6 [] ∷ pointers 6 [] ∷ pointers 6 [] ∷ new ∷ pointers 6 [] ∷ class 4096 ∷ class 20480
@@ -54,7 +54,7 @@ objects new stack others =
     ∷ pointers 11 (nil ∷ nil ∷ nil ∷ nil ∷ nil ∷ nil ∷ stack) ∷ others
 
 -- with so many words on the stack; 1000 words are the capacity
-state : ℕ → Table → State Table
+unfoldable pub state : ℕ → Table → State Table
 state depth t = record {
   memory = t;
   registers = record { active = Ref 30; home = Ref 30; method = nil; receiver = nil; ip = pos 0; sp = 5 + depth };
@@ -63,31 +63,31 @@ state depth t = record {
 }
 
 -- with other capacities
-holding : ℕ → ℕ → State Table → State Table
+unfoldable pub holding : ℕ → ℕ → State Table → State Table
 holding entries words s = record s { head = record { entries = entries; words = words; globals = None; symbols = None } }
 
 -- primitive k with n arguments, where these words are the stack
-trying : ℕ → ℕ → List Value → List (Option Object) → Transition (State Table) Bool
+unfoldable pub trying : ℕ → ℕ → List Value → List (Option Object) → Transition (State Table) Bool
 unfolding state objects
 trying k n stack others = (storage table k n).run (state (length stack) (objects None stack others))
 
 -- it succeeded: one word is left, the answer
-done : List Value → List (Option Object) → Transition (State Table) Bool
+unfoldable pub done : List Value → List (Option Object) → Transition (State Table) Bool
 unfolding state objects
 done stack others = Went true (state 1 (objects None stack others))
 
 -- and made this object
-made : Option Object → List Value → List (Option Object) → Transition (State Table) Bool
+unfoldable pub made : Option Object → List Value → List (Option Object) → Transition (State Table) Bool
 unfolding state objects
 made new stack others = Went true (state 1 (objects new stack others))
 
 -- it failed, and nothing is changed
-failed : List Value → List (Option Object) → Transition (State Table) Bool
+unfoldable pub failed : List Value → List (Option Object) → Transition (State Table) Bool
 unfolding state objects
 failed stack others = Went false (state (length stack) (objects None stack others))
 
 -- so it does of these
-abbrev Fails : ℕ → ℕ → List Value → List (Option Object) → Type 0
+abbrev pub Fails : ℕ → ℕ → List Value → List (Option Object) → Type 0
 Fails k n stack others = trying k n stack others ≡ failed stack others
 
 -- 60: the elements of an Array of two; there is none at 0 and 3, at the least and the greatest SmallInteger, and by no other
@@ -197,7 +197,7 @@ unfolding opened trying done failed state objects string pointers class bytes
 put_character = (refl, refl, refl, refl, refl, refl)
 
 -- a stream on the collection 32, with this position and these limits of reading and writing
-stream : ℕ → ℕ → ℕ → Option Object
+unfoldable pub stream : ℕ → ℕ → ℕ → Option Object
 unfolding pointers
 stream position read write = pointers 6 (Ref 32 ∷ Small position ∷ Small read ∷ Small write ∷ [])
 
@@ -352,11 +352,11 @@ instance_bytes : (trying 73 1 (Ref 31 ∷ Small 4 ∷ []) (method (Small 0 ∷ [
 unfolding opened trying done failed state objects method pointers class
 instance_bytes = (refl, refl, refl, refl, refl)
 
--- 75 and 76: the pointer 62 is the word of the SmallInteger 31, less 1; 52 is free, and 65534 too
+-- 75 and 76: the pointer 62 is the word of the SmallInteger 31, less 1; 54 is free, and 65534 too
 as_numbers : (trying 75 0 (Ref 31 ∷ []) (array [] ∷ []) ≡ done (Small 31 ∷ []) (array [] ∷ []))
     × Fails 75 0 (Small 31 ∷ []) []
     × (trying 76 0 (Small 31 ∷ []) (array [] ∷ []) ≡ done (Ref 31 ∷ []) (array [] ∷ []))
-    × Fails 76 0 (Small 26 ∷ []) []
+    × Fails 76 0 (Small 27 ∷ []) []
     × Fails 76 0 (Small 32767 ∷ []) []
     × Fails 76 0 (Small 0 ∷ []) []
     × Fails 76 0 (Ref 31 ∷ []) (array [] ∷ [])

@@ -42,7 +42,7 @@ abbrev pub bytes_of_object : ℕ → ℕ → Option Object → List ℕ
 bytes_of_object i n None = []
 bytes_of_object i n (Some o) = if is_bytes o.kind then take n (drop (i - first_unit o) o.units) else []
 
--- n bytes of the object of this value from a place on, where it is of kind Bytes
+-- n bytes of the object of this value from a place on, or as many as there are, where it is of kind Bytes
 abbrev pub bytes_from : Table → Value → ℕ → ℕ → List ℕ
 bytes_from t (Small k) i n = []
 bytes_from t (Ref k) i n = bytes_of_object i n (entry t k)

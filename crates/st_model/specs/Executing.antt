@@ -32,7 +32,7 @@ or_activate m call header primitive = do
   succeeded ← primitive
   if succeeded then answer (Did outcome.Went) else goes_on (activate m call.method header call.arguments)
 
--- 128: the receiver's bytes are said, or where it failed the method is activated
+-- 128: the receiver's bytes are to be said, or where it failed the method is activated
 unfoldable pub say_or_activate : {H : Type 0} → ObjectMemory H → Call → Value → Step H StepEnd
 say_or_activate m call header = do
   r ← top m
@@ -48,8 +48,8 @@ is_unbuilt n = is_from 80 88 n || (is_from 90 102 n || (is_from 113 114 n || n =
 
 -- A method of this primitive is executed; 0 is none. A primitive that is built and given another number of arguments than its
 -- own fails, but 89 takes any number. Numbers that aren't built are told whatever they are given. All others always fail, and
--- activate the method as 0 does: among them 21 to 37, 40 to 54, 103 and 104, which are optional in the book. That 83 and 84 may
--- still perform or no more matters only once these are built.
+-- activate the method as 0 does: among them 21 to 37, 40 to 54, 103 and 104, which the book has for floating-point and large
+-- numbers, the scanning of characters and lines. That 83 and 84 may still perform or no more matters only once these are built.
 unfoldable pub respond : {H : Type 0} → ObjectMemory H → Performing → Call → Value → ℕ → Step H StepEnd
 respond m performing call header primitive =
     if is_from 1 18 primitive && call.arguments == 1 then or_activate m call header (arithmetic m primitive) else

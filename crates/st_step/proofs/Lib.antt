@@ -1,3 +1,4 @@
 pub mod Tries
 pub mod Stepped
 pub mod Foreseeing
+pub mod Said

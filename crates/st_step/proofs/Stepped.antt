@@ -1,32 +1,40 @@
 -- A row over a memory and its registers: what it begins with, and what it leaves.
 use Rattle.std.proofs.Common.{◌≡◌, ◌<◌, ℕ, Bool, true, false, Ok, Err, refl, sym, ap, subst, ◌∙◌, arith}
 use Rattle.std.proofs.lemmas.Bool.Decides.{nat_tests}
-use Rattle.std.specs.Prelude.{if◌then◌else◌, ◌/◌, ◌%◌, ◌==◌, ◌&&◌, is_some, Result, ◌+◌}
+use Rattle.std.specs.Prelude.{if◌then◌else◌, ◌/◌, ◌%◌, ◌==◌, ◌&&◌, is_some, Result, ◌+◌, length}
 use Rattle.st_model.specs.declared.dead.Dead.{Dead}
 use Rattle.st_model.specs.declared.demand.Demand.{Demand}
+use Rattle.st_model.specs.declared.halt.Halt.{Halt}
 use Rattle.st_model.specs.declared.halt.Halt.TheVariants as halt
-use Rattle.st_model.specs.declared.outcome.Outcome.{Outcome as CodeOutcome}
+use Rattle.st_model.specs.declared.deed.Deed.{Deed}
 use Rattle.st_model.specs.declared.outcome.StepEnd.{StepEnd as CodeStepEnd}
 use Rattle.st_model.specs.declared.outcome.StepEnd.TheVariants as ends
 use Rattle.st_model.specs.declared.word.Word.{Word}
 use Rattle.st_model.specs.Values.{Small, Ref, value_of, word, is_small, IsLive}
 use Rattle.st_model.specs.Objects.{one, words_of}
-use Rattle.st_model.specs.Outcomes.{StepEnd, end_of}
-use Rattle.st_model.specs.Machine.{World, Head, State, Went, is_there, used}
+use Rattle.st_model.specs.Outcomes.{StepEnd, Did, NotBuilt, end_of}
+use Rattle.st_model.specs.Machine.{World, Head, State, Transition, Died, Went, is_there, used}
+use Rattle.st_model.specs.Births.{Births, births}
 use Rattle.st_model.specs.Steps.{are_there}
 use Rattle.st_model.specs.Table.{Table, table, apart, bounded_table, total_used}
 use Rattle.st_model.specs.Calls.{transition_of}
+use Rattle.st_model.specs.Deeds.{deed_of_end, deed_done}
 use Rattle.st_model.specs.Bytecodes.{step}
-use Rattle.st_model.specs.Show.{IsUsed}
+use Rattle.st_model.specs.Show.{Shows, IsUsed}
+use Rattle.st_model.specs.Foreseen.{Foretells}
 use Rattle.st_model.specs.View.{View, IsWhole}
+use Rattle.st_model.proofs.HeapsSame.{same_used}
+use Rattle.st_model.proofs.Started.{naming, heaps_start}
+use Rattle.st_model.proofs.CyclesShown.{foretells}
 use Rattle.st_model.proofs.Closed.{step_closed}
+use Rattle.st_model.proofs.Deeds.{deed_uses}
 use Rattle.st_frames.specs.declared.frame.Frame.{Frame}
 use Rattle.st_frames.specs.declared.registers.Registers.{Registers as Words}
 use Rattle.st_frames.specs.Narrow.{IsNarrow}
-use Rattle.st_frames.specs.Rows.{row_state, registers_in}
+use Rattle.st_frames.specs.Rows.{row_state, registers_in, with_left}
 use Rattle.st_frames.specs.Shown.{shown, registers_of, IsReady, StaysFrame}
 use Rattle.st_frames.proofs.Closed.{is_closed}
-use Rattle.st_step.specs.Planned.{Plans, plus}
+use Rattle.st_step.specs.Planned.{PlansOver, Plans, PlansBirths, plus}
 
 -- what a plan says
 
@@ -35,13 +43,18 @@ pub loaded_as : (v : View) (f : Frame) (w : World) (t : Table) (a : Head) (r : W
 unfolding row_state
 loaded_as v f w t a r x y e q = λ i. record { memory = x i; registers = e i; world = q i; head = y i }
 
-module _ (before : Demand) (c s : State Table) (t : Table) (a : Head) (r : Words) (x : Result CodeStepEnd Dead) (same : s ≡ c) (does : (step apart).run s ≡ transition_of end_of x (row_state t a r)) where
-  planned : (y : Result CodeStepEnd Dead) → x ≡ y → (step apart).run c ≡ transition_of end_of y (row_state t a r)
-  planned y e = ap (λ z. (step apart).run z) (sym same) ∙ (does ∙ ap (λ z. transition_of end_of z (row_state t a r)) e)
+module _ (before : Demand) (c s : State Table) (t : Table) (a : Head) (r : Words) (x : Result CodeStepEnd Dead) (same : s ≡ c)
+    (does : (step apart).run s ≡ transition_of end_of x (with_left deed_of_end x (row_state t a r))) where
+  planned : (y : Result CodeStepEnd Dead) → x ≡ y → (step apart).run c ≡ transition_of end_of y (with_left deed_of_end y (row_state t a r))
+  planned y e = ap (λ z. (step apart).run z) (sym same) ∙ (does ∙ ap (λ z. transition_of end_of z (with_left deed_of_end z (row_state t a r))) e)
 
-  pub plan_goes : (o : CodeOutcome) (n : Demand) → x ≡ Ok (ends.Did o) → used apart t ≡ plus before n → Plans before ((step apart).run c) (Ok n)
+  pub plan_goes : (d : Deed) (n : Demand) → x ≡ Ok (ends.Went d) → used apart t ≡ plus before n → Plans before ((step apart).run c) (Ok n)
   unfolding row_state
-  plan_goes o n e u = subst (λ y. Plans before y (Ok n)) (sym (planned (Ok (ends.Did o)) e)) u
+  plan_goes d n e u = subst (λ y. Plans before y (Ok n)) (sym (planned (Ok (ends.Went d)) e)) (deed_uses d t ∙ u)
+
+  pub plan_says : (w : Word) (n : Demand) → x ≡ Ok (ends.Says w) → used apart t ≡ plus before n → Plans before ((step apart).run c) (Ok n)
+  unfolding row_state
+  plan_says w n e u = subst (λ y. Plans before y (Ok n)) (sym (planned (Ok (ends.Says w)) e)) u
 
   pub plan_unbuilt : x ≡ Ok ends.NotBuilt → Plans before ((step apart).run c) (Err halt.Unbuilt)
   plan_unbuilt e = subst (λ y. Plans before y (Err halt.Unbuilt)) (sym (planned (Ok ends.NotBuilt) e)) tt
@@ -57,12 +70,42 @@ used_after t base start n same e w =
     let y = w ∙ ap (λ b. total_used words_of b + n.words) same in
     λ i. record { entries = x i; words = y i }
 
+-- what the step over births does that was planned over a table
+
+births_as : (before since : Demand) → before ≡ since → (x : Transition (State Table) StepEnd) (y : Transition (State Births) StepEnd) (r : Result Demand Halt)
+    → Foretells x y → PlansOver apart before x r → PlansOver births since y r
+births_as before since e (Died a) (Died b) (Err (halt.Dead k)) f p = sym f ∙ p
+births_as before since e (Died a) (Died b) (Err halt.Unbuilt) f p = p
+births_as before since e (Died a) (Died b) (Ok n) f p = p
+births_as before since e (Died a) (Went q u) r f p = absurd f
+births_as before since e (Went o d) (Died b) r f p = absurd f
+births_as before since e (Went NotBuilt d) (Went NotBuilt u) (Err halt.Unbuilt) f p = tt
+births_as before since e (Went NotBuilt d) (Went NotBuilt u) (Err (halt.Dead k)) f p = p
+births_as before since e (Went NotBuilt d) (Went NotBuilt u) (Ok n) f p = p
+births_as before since e (Went NotBuilt d) (Went (Did q) u) r f p = let h = f.0 in absurd (cc)
+births_as before since e (Went (Did o) d) (Went NotBuilt u) r f p = let h = f.0 in absurd (cc)
+births_as before since e (Went (Did o) d) (Went (Did q) u) (Ok n) f p = sym f.1 ∙ (p ∙ ap (λ x. plus x n) e)
+births_as before since e (Went (Did o) d) (Went (Did q) u) (Err h) f p = p
+
+pub plan_births : (c : State Table) (r : Result Demand Halt) → length c.memory ≡ 32768 → Plans (used table c.memory) ((step apart).run c) r → PlansBirths c r
+plan_births c r places p s w =
+    births_as (used table c.memory) (used births s.memory) (same_used (naming c s w) s.memory c.memory (heaps_start c s w)) ((step apart).run c) ((step births).run s) r
+    (foretells c s w places) p
+
 -- what a step leaves
 
 pub held_again : (v u : View) (f : Frame) (w : World) (r : Words) → registers_of f ≡ registers_in r → r.world.now ≡ w → u.objects ≡ v.objects → u.head ≡ v.head
     → row_state v.objects v.head r ≡ shown u f w
 unfolding row_state
 held_again v u f w r e q o h = λ i. record { memory = sym o i; registers = sym e i; world = q i; head = sym h i }
+
+-- what was left is done
+pub done_after : (u z : View) (r : Words) (end : CodeStepEnd) (d : Deed) → d ≡ deed_of_end end → z.objects ≡ deed_done d u.objects → z.head ≡ u.head
+    → with_left deed_of_end (Ok end) (row_state u.objects u.head r) ≡ row_state z.objects z.head r
+unfolding row_state
+done_after u z r end d e o h =
+    let p : z.objects ≡ deed_done (deed_of_end end) u.objects = o ∙ ap (λ x. deed_done x u.objects) e in
+    λ i. record { memory = sym p i; registers = registers_in r; world = r.world.now; head = sym h i }
 
 -- what the devices hold is as it was, and registers are held again
 pub ready_again : (v u : View) (f g : Frame) (w : World) → IsReady v f w → StaysFrame v u g → IsReady u g w

@@ -1,11 +1,20 @@
--- What a plan of the next bytecode says.
+-- What a plan of the next bytecode says, and how a step of it ends.
 use Rattle.std.specs.Prelude.{◌≡◌, ◌+◌, Result, Ok, Err, ⊤, false}
 use Rattle.st_model.specs.declared.demand.Demand.{Demand}
 use Rattle.st_model.specs.declared.halt.Halt.{Halt}
 use Rattle.st_model.specs.declared.halt.Halt.TheVariants as halt
-use Rattle.st_model.specs.Outcomes.{Outcome, StepEnd, Did, NotBuilt}
-use Rattle.st_model.specs.Machine.{State, Transition, Died, Went, used, is_over}
-use Rattle.st_model.specs.Table.{Table, apart}
+use Rattle.st_model.specs.declared.outcome.Outcome.{Outcome as CodeOutcome}
+use Rattle.st_model.specs.Values.{Value}
+use Rattle.st_model.specs.Outcomes.{Outcome, StepEnd, Did, NotBuilt, outcome_of}
+use Rattle.st_model.specs.Outcomes as outcome
+use Rattle.st_model.specs.Machine.{ObjectMemory, World, State, Transition, Died, Went, used, is_over}
+use Rattle.st_model.specs.Steps.{top}
+use Rattle.st_model.specs.Births.{Births, births}
+use Rattle.st_model.specs.Table.{Table, apart, bounded_table}
+use Rattle.st_model.specs.Show.{Shows}
+use Rattle.st_model.specs.View.{View}
+use Rattle.st_frames.specs.declared.frame.Frame.{Frame}
+use Rattle.st_frames.specs.Shown.{shown}
 use Rattle.st_model.specs.Bytecodes.{step}
 
 abbrev pub plus : Demand → Demand → Demand
@@ -13,15 +22,22 @@ plus d e = record { entries = d.entries + e.entries; words = d.words + e.words }
 
 -- The step dies of the cause that the plan says, or comes to a primitive that isn't built; or it goes on, and uses so much
 -- more than what was used before.
+abbrev pub PlansOver : {H : Type 0} → ObjectMemory H → Demand → Transition (State H) StepEnd → Result Demand Halt → Type 0
+PlansOver m before (Died a) (Err (halt.Dead b)) = a ≡ b
+PlansOver m before (Died a) (Err halt.Unbuilt) = ⊥
+PlansOver m before (Died a) (Ok d) = ⊥
+PlansOver m before (Went NotBuilt c) (Err halt.Unbuilt) = ⊤
+PlansOver m before (Went NotBuilt c) (Err (halt.Dead b)) = ⊥
+PlansOver m before (Went NotBuilt c) (Ok d) = ⊥
+PlansOver m before (Went (Did o) c) (Ok d) = used m c.memory ≡ plus before d
+PlansOver m before (Went (Did o) c) (Err h) = ⊥
+
 abbrev pub Plans : Demand → Transition (State Table) StepEnd → Result Demand Halt → Type 0
-Plans before (Died a) (Err (halt.Dead b)) = a ≡ b
-Plans before (Died a) (Err halt.Unbuilt) = ⊥
-Plans before (Died a) (Ok d) = ⊥
-Plans before (Went NotBuilt c) (Err halt.Unbuilt) = ⊤
-Plans before (Went NotBuilt c) (Err (halt.Dead b)) = ⊥
-Plans before (Went NotBuilt c) (Ok d) = ⊥
-Plans before (Went (Did o) c) (Ok d) = used apart c.memory ≡ plus before d
-Plans before (Went (Did o) c) (Err h) = ⊥
+Plans before x result = PlansOver apart before x result
+
+-- so the plan says of the book's step, over all births that the state shows
+abbrev pub PlansBirths : State Table → Result Demand Halt → Type 0
+PlansBirths c result = (s : State Births) → Shows c s → PlansOver births (used births s.memory) ((step births).run s) result
 
 -- The next bytecode was foreseen from this state, and the capacities have room for what it makes.
 pub record IsForeseen (c : State Table) : Type 0 where
@@ -29,3 +45,7 @@ pub record IsForeseen (c : State Table) : Type 0 where
   pub after : State Table
   pub goes : (step apart).run c ≡ Went (Did outcome) after
   pub fits : is_over (used apart after.memory) c.head ≡ false
+
+-- the outcome names the word at the top of the stack, where there is one
+abbrev pub TopSaid : View → Frame → CodeOutcome → Type 0
+TopSaid v f o = (w : World) (x : Value) → (top bounded_table).run (shown v f w) ≡ Went x (shown v f w) → outcome_of o ≡ outcome.Say x

@@ -1,9 +1,10 @@
 ghost use Rattle.std.specs.Prelude.{◌≡◌, ◌<◌, ◌≤◌, ◌+◌, ◌≤ℤ◌, pos, negsuc};
 ghost use Rattle.st_model.specs.Outcomes.{end_of};
+ghost use Rattle.st_model.specs.Deeds.{deed_of_end};
 ghost use Rattle.st_model.specs.Executing.{executed_if_any};
 ghost use Rattle.st_model.specs.Bytecodes.{short_unconditional_jump, long_offset, long_unconditional_jump, short_jump_on_false, long_jump_on_true, long_jump_on_false};
 ghost use Rattle.st_model.specs.Calls.{itself};
-ghost use Rattle.st_frames.specs.Rows.{RowMoves, RowDoes, Takes, executed_jump_changes};
+ghost use Rattle.st_frames.specs.Rows.{RowMoves, RowLeaves, Takes, executed_jump_changes};
 
 use crate::execute::execute_if_any;
 use st_control::jump_on;
@@ -46,8 +47,8 @@ pub fn long_unconditional_jump<O: Objects>(m: &O, r: &mut Registers, i: u8) -> R
 pub fn short_jump_on_false<O: Objects>(m: &mut O, r: &mut Registers, i: u8) -> Result<StepEnd, Dead>
     requires number { i < 8 }
     requires room { executed_jump_changes ≤ O.room m.old }
-    ensures does { RowDoes O.Objects.own (executed_if_any O.names (short_jump_on_false O.names i))
-        end_of m.old r.old result m.new r.new }
+    ensures does { RowLeaves O.Objects.own (executed_if_any O.names (short_jump_on_false O.names i))
+        end_of deed_of_end m.old r.old result m.new r.new }
     ensures takes { Takes O.Objects.own executed_jump_changes m.old m.new }
 {
     let distance = u32::from(i) + 1;
@@ -66,8 +67,8 @@ pub fn short_jump_on_false<O: Objects>(m: &mut O, r: &mut Registers, i: u8) -> R
 pub fn long_jump_on_true<O: Objects>(m: &mut O, r: &mut Registers, i: u8) -> Result<StepEnd, Dead>
     requires number { i < 4 }
     requires room { executed_jump_changes ≤ O.room m.old }
-    ensures does { RowDoes O.Objects.own (executed_if_any O.names (long_jump_on_true O.names i))
-        end_of m.old r.old result m.new r.new }
+    ensures does { RowLeaves O.Objects.own (executed_if_any O.names (long_jump_on_true O.names i))
+        end_of deed_of_end m.old r.old result m.new r.new }
     ensures takes { Takes O.Objects.own executed_jump_changes m.old m.new }
 {
     let byte = next_byte(m, r)?;
@@ -87,8 +88,8 @@ pub fn long_jump_on_true<O: Objects>(m: &mut O, r: &mut Registers, i: u8) -> Res
 pub fn long_jump_on_false<O: Objects>(m: &mut O, r: &mut Registers, i: u8) -> Result<StepEnd, Dead>
     requires number { i < 4 }
     requires room { executed_jump_changes ≤ O.room m.old }
-    ensures does { RowDoes O.Objects.own (executed_if_any O.names (long_jump_on_false O.names i))
-        end_of m.old r.old result m.new r.new }
+    ensures does { RowLeaves O.Objects.own (executed_if_any O.names (long_jump_on_false O.names i))
+        end_of deed_of_end m.old r.old result m.new r.new }
     ensures takes { Takes O.Objects.own executed_jump_changes m.old m.new }
 {
     let byte = next_byte(m, r)?;

@@ -1,5 +1,5 @@
-//! The bytecodes: a call for each row of the book's table, by the chapter's four heads, and the step that does the next
-//! one (chapter 28).
+//! The bytecodes (chapter 28): the rows of the book's table in code, over any objects, and two calls over a memory: one says
+//! what the next bytecode would take, and one does it.
 #![tactic(auto)]
 
 mod arithmetic;
@@ -7,6 +7,7 @@ mod execute;
 mod jump;
 mod operands;
 mod receivers;
+mod respond;
 mod returns;
 mod rows;
 mod send;

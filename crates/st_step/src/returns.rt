@@ -1,9 +1,10 @@
 ghost use Rattle.std.specs.Prelude.{◌≡◌, ◌≤◌, ◌+◌};
 ghost use Rattle.st_model.specs.Values.{word};
 ghost use Rattle.st_model.specs.Outcomes.{end_of};
+ghost use Rattle.st_model.specs.Deeds.{deed_of_end};
 ghost use Rattle.st_model.specs.Executing.{executed_if_any};
 ghost use Rattle.st_model.specs.Bytecodes.{return_receiver, return_constant, return_top_to_sender, return_top_to_caller};
-ghost use Rattle.st_frames.specs.Rows.{RowDoes, Takes, executed_return_changes};
+ghost use Rattle.st_frames.specs.Rows.{RowLeaves, Takes, executed_return_changes};
 
 use crate::execute::execute_if_any;
 use crate::operands::constant_value;
@@ -16,8 +17,8 @@ use st_model::{Constant, Dead, StepEnd};
 #[tactic(auto, using(st_frames::proofs::Doing::rows), unfolding(st_model::specs::Bytecodes::return_receiver, st_model::specs::Executing::executed_if_any))]
 pub fn return_receiver<O: Objects>(m: &mut O, r: &mut Registers) -> Result<StepEnd, Dead>
     requires room { executed_return_changes ≤ O.room m.old }
-    ensures does { RowDoes O.Objects.own (executed_if_any O.names (return_receiver O.names))
-        end_of m.old r.old result m.new r.new }
+    ensures does { RowLeaves O.Objects.own (executed_if_any O.names (return_receiver O.names))
+        end_of deed_of_end m.old r.old result m.new r.new }
     ensures takes { Takes O.Objects.own executed_return_changes m.old m.new }
 {
     let call = return_to_sender(m, r, r.receiver)?;
@@ -32,8 +33,8 @@ pub fn return_constant<O: Objects>(
     constant: Constant,
 ) -> Result<StepEnd, Dead>
     requires room { executed_return_changes ≤ O.room m.old }
-    ensures does { RowDoes O.Objects.own (executed_if_any O.names (return_constant O.names constant))
-        end_of m.old r.old result m.new r.new }
+    ensures does { RowLeaves O.Objects.own (executed_if_any O.names (return_constant O.names constant))
+        end_of deed_of_end m.old r.old result m.new r.new }
     ensures takes { Takes O.Objects.own executed_return_changes m.old m.new }
 {
     let x = constant_value(m, r, constant);
@@ -45,8 +46,8 @@ pub fn return_constant<O: Objects>(
 #[tactic(auto, using(st_frames::proofs::Doing::rows), unfolding(st_model::specs::Bytecodes::return_top_to_sender, st_model::specs::Executing::executed_if_any))]
 pub fn return_top_to_sender<O: Objects>(m: &mut O, r: &mut Registers) -> Result<StepEnd, Dead>
     requires room { executed_return_changes ≤ O.room m.old }
-    ensures does { RowDoes O.Objects.own (executed_if_any O.names (return_top_to_sender O.names))
-        end_of m.old r.old result m.new r.new }
+    ensures does { RowLeaves O.Objects.own (executed_if_any O.names (return_top_to_sender O.names))
+        end_of deed_of_end m.old r.old result m.new r.new }
     ensures takes { Takes O.Objects.own executed_return_changes m.old m.new }
 {
     let x = pop(m, r)?;
@@ -58,8 +59,8 @@ pub fn return_top_to_sender<O: Objects>(m: &mut O, r: &mut Registers) -> Result<
 #[tactic(auto, using(st_frames::proofs::Doing::rows), unfolding(st_model::specs::Bytecodes::return_top_to_caller, st_model::specs::Executing::executed_if_any))]
 pub fn return_top_to_caller<O: Objects>(m: &mut O, r: &mut Registers) -> Result<StepEnd, Dead>
     requires room { executed_return_changes ≤ O.room m.old }
-    ensures does { RowDoes O.Objects.own (executed_if_any O.names (return_top_to_caller O.names))
-        end_of m.old r.old result m.new r.new }
+    ensures does { RowLeaves O.Objects.own (executed_if_any O.names (return_top_to_caller O.names))
+        end_of deed_of_end m.old r.old result m.new r.new }
     ensures takes { Takes O.Objects.own executed_return_changes m.old m.new }
 {
     let x = pop(m, r)?;

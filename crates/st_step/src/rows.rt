@@ -1,9 +1,10 @@
 ghost use Rattle.std.specs.Prelude.{◌≡◌, ◌<◌, ◌≤◌, ◌+◌};
 ghost use Rattle.st_model.specs.Values.{word};
 ghost use Rattle.st_model.specs.Outcomes.{end_of};
+ghost use Rattle.st_model.specs.Deeds.{deed_of_end};
 ghost use Rattle.st_model.specs.Decoded.{IsNumbered};
 ghost use Rattle.st_model.specs.Bytecodes.{bytecode, step};
-ghost use Rattle.st_frames.specs.Rows.{RowDoes, Takes, bytecode_changes};
+ghost use Rattle.st_frames.specs.Rows.{RowLeaves, Takes, bytecode_changes};
 
 use crate::jump::{
     long_jump_on_false, long_jump_on_true, long_unconditional_jump, short_jump_on_false,
@@ -22,14 +23,14 @@ use crate::stack::{
 };
 use st_frames::{Registers, next_byte};
 use st_memory::Objects;
-use st_model::{Bytecode, Dead, Outcome, StepEnd, decode};
+use st_model::{Bytecode, Dead, Deed, StepEnd, decode};
 
 /// Does the row of a bytecode.
 #[tactic(auto, using(st_frames::proofs::Doing::rows), unfolding(st_model::specs::Bytecodes::bytecode, st_model::specs::Executing::goes_on))]
 fn bytecode<O: Objects>(m: &mut O, r: &mut Registers, code: Bytecode) -> Result<StepEnd, Dead>
     requires numbered { IsNumbered code }
     requires room { bytecode_changes ≤ O.room m.old }
-    ensures does { RowDoes O.Objects.own (bytecode O.names code) end_of m.old r.old result m.new r.new }
+    ensures does { RowLeaves O.Objects.own (bytecode O.names code) end_of deed_of_end m.old r.old result m.new r.new }
     ensures takes { Takes O.Objects.own bytecode_changes m.old m.new }
 {
     match code {
@@ -64,14 +65,14 @@ fn bytecode<O: Objects>(m: &mut O, r: &mut Registers, code: Bytecode) -> Result<
             return send_literal_selector(m, r, u32::from(literal), u32::from(arguments));
         }
     }
-    Ok(StepEnd::Did(Outcome::Went))
+    Ok(StepEnd::Went(Deed::Nothing))
 }
 
 /// Does the next bytecode.
 #[tactic(auto, using(st_frames::proofs::Doing::rows), unfolding(st_model::specs::Bytecodes::step))]
 pub fn step_row<O: Objects>(m: &mut O, r: &mut Registers) -> Result<StepEnd, Dead>
     requires room { bytecode_changes ≤ O.room m.old }
-    ensures does { RowDoes O.Objects.own (step O.names) end_of m.old r.old result m.new r.new }
+    ensures does { RowLeaves O.Objects.own (step O.names) end_of deed_of_end m.old r.old result m.new r.new }
     ensures takes { Takes O.Objects.own bytecode_changes m.old m.new }
 {
     let byte = next_byte(m, r)?;

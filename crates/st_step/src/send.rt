@@ -1,11 +1,12 @@
 ghost use Rattle.std.specs.Prelude.{◌≡◌, ◌<◌, ◌≤◌, ◌+◌};
 ghost use Rattle.st_model.specs.Values.{word};
 ghost use Rattle.st_model.specs.Outcomes.{end_of};
+ghost use Rattle.st_model.specs.Deeds.{deed_of_end};
 ghost use Rattle.st_model.specs.Sends.{call_of, special_send};
 ghost use Rattle.st_model.specs.Executing.{executed};
 ghost use Rattle.st_model.specs.Bytecodes.{send_literal, send_literal_to_super, extended_send, double_extended_send, extended_super_send, double_extended_super_send, or_send, arithmetic_by, arithmetic_send, primitive_send};
 ghost use Rattle.st_model.specs.Arithmetic.{arithmetic, arithmetic_number};
-ghost use Rattle.st_frames.specs.Rows.{RowDoes, Takes, send_changes, executed_send_changes};
+ghost use Rattle.st_frames.specs.Rows.{RowDoes, RowLeaves, Takes, send_changes, executed_send_changes};
 
 use crate::arithmetic::{answer_integers, integer_answer};
 use crate::execute::execute;
@@ -14,7 +15,7 @@ use crate::receivers::{equivalence, receiver_class};
 use st_control::{send, send_to_super, special_send};
 use st_frames::{Registers, next_byte, under};
 use st_memory::Objects;
-use st_model::{Call, Dead, Outcome, Performing, StepEnd, Word};
+use st_model::{Call, Dead, Deed, Performing, StepEnd, Word};
 
 /// Sends literal i with n arguments.
 #[tactic(auto, using(st_frames::proofs::Doing::rows), unfolding(st_model::specs::Bytecodes::send_literal))]
@@ -50,8 +51,8 @@ fn send_literal_to_super<O: Objects>(
 #[tactic(auto, using(st_frames::proofs::Doing::rows), unfolding(st_model::specs::Bytecodes::extended_send, st_model::specs::Executing::executed))]
 pub fn extended_send<O: Objects>(m: &mut O, r: &mut Registers) -> Result<StepEnd, Dead>
     requires room { executed_send_changes ≤ O.room m.old }
-    ensures does { RowDoes O.Objects.own (executed O.names (extended_send O.names))
-        end_of m.old r.old result m.new r.new }
+    ensures does { RowLeaves O.Objects.own (executed O.names (extended_send O.names))
+        end_of deed_of_end m.old r.old result m.new r.new }
     ensures takes { Takes O.Objects.own executed_send_changes m.old m.new }
 {
     let byte = next_byte(m, r)?;
@@ -63,8 +64,8 @@ pub fn extended_send<O: Objects>(m: &mut O, r: &mut Registers) -> Result<StepEnd
 #[tactic(auto, using(st_frames::proofs::Doing::rows), unfolding(st_model::specs::Bytecodes::double_extended_send, st_model::specs::Executing::executed))]
 pub fn double_extended_send<O: Objects>(m: &mut O, r: &mut Registers) -> Result<StepEnd, Dead>
     requires room { executed_send_changes ≤ O.room m.old }
-    ensures does { RowDoes O.Objects.own (executed O.names (double_extended_send O.names))
-        end_of m.old r.old result m.new r.new }
+    ensures does { RowLeaves O.Objects.own (executed O.names (double_extended_send O.names))
+        end_of deed_of_end m.old r.old result m.new r.new }
     ensures takes { Takes O.Objects.own executed_send_changes m.old m.new }
 {
     let arguments = next_byte(m, r)?;
@@ -77,8 +78,8 @@ pub fn double_extended_send<O: Objects>(m: &mut O, r: &mut Registers) -> Result<
 #[tactic(auto, using(st_frames::proofs::Doing::rows), unfolding(st_model::specs::Bytecodes::extended_super_send, st_model::specs::Executing::executed))]
 pub fn extended_super_send<O: Objects>(m: &mut O, r: &mut Registers) -> Result<StepEnd, Dead>
     requires room { executed_send_changes ≤ O.room m.old }
-    ensures does { RowDoes O.Objects.own (executed O.names (extended_super_send O.names))
-        end_of m.old r.old result m.new r.new }
+    ensures does { RowLeaves O.Objects.own (executed O.names (extended_super_send O.names))
+        end_of deed_of_end m.old r.old result m.new r.new }
     ensures takes { Takes O.Objects.own executed_send_changes m.old m.new }
 {
     let byte = next_byte(m, r)?;
@@ -90,8 +91,8 @@ pub fn extended_super_send<O: Objects>(m: &mut O, r: &mut Registers) -> Result<S
 #[tactic(auto, using(st_frames::proofs::Doing::rows), unfolding(st_model::specs::Bytecodes::double_extended_super_send, st_model::specs::Executing::executed))]
 pub fn double_extended_super_send<O: Objects>(m: &mut O, r: &mut Registers) -> Result<StepEnd, Dead>
     requires room { executed_send_changes ≤ O.room m.old }
-    ensures does { RowDoes O.Objects.own (executed O.names (double_extended_super_send O.names))
-        end_of m.old r.old result m.new r.new }
+    ensures does { RowLeaves O.Objects.own (executed O.names (double_extended_super_send O.names))
+        end_of deed_of_end m.old r.old result m.new r.new }
     ensures takes { Takes O.Objects.own executed_send_changes m.old m.new }
 {
     let arguments = next_byte(m, r)?;
@@ -110,8 +111,8 @@ pub fn send_literal_selector<O: Objects>(
 ) -> Result<StepEnd, Dead>
     requires few { n < 256 }
     requires room { executed_send_changes ≤ O.room m.old }
-    ensures does { RowDoes O.Objects.own (executed O.names (send_literal O.names i n))
-        end_of m.old r.old result m.new r.new }
+    ensures does { RowLeaves O.Objects.own (executed O.names (send_literal O.names i n))
+        end_of deed_of_end m.old r.old result m.new r.new }
     ensures takes { Takes O.Objects.own executed_send_changes m.old m.new }
 {
     let call = send_literal(m, r, i, n)?;
@@ -127,8 +128,8 @@ pub fn send_special_selector<O: Objects>(
 ) -> Result<StepEnd, Dead>
     requires number { k < 32 }
     requires room { executed_send_changes ≤ O.room m.old }
-    ensures does { RowDoes O.Objects.own (executed O.names (special_send O.names k))
-        end_of m.old r.old result m.new r.new }
+    ensures does { RowLeaves O.Objects.own (executed O.names (special_send O.names k))
+        end_of deed_of_end m.old r.old result m.new r.new }
     ensures takes { Takes O.Objects.own executed_send_changes m.old m.new }
 {
     let call = special_send(m, r, k)?;
@@ -163,14 +164,14 @@ fn arithmetic_or_send<O: Objects>(
     requires first { 1 ≤ primitive }
     requires last { primitive ≤ 18 }
     requires room { executed_send_changes ≤ O.room m.old }
-    ensures does { RowDoes O.Objects.own (or_send O.names k (arithmetic O.names primitive))
-        end_of m.old r.old result m.new r.new }
+    ensures does { RowLeaves O.Objects.own (or_send O.names k (arithmetic O.names primitive))
+        end_of deed_of_end m.old r.old result m.new r.new }
     ensures takes { Takes O.Objects.own executed_send_changes m.old m.new }
 {
     match integer_answer(m, r, primitive) {
         Ok(answer) => {
             answer_integers(m, r, answer)?;
-            Ok(StepEnd::Did(Outcome::Went))
+            Ok(StepEnd::Went(Deed::Nothing))
         }
         Err(_) => send_special_selector(m, r, k),
     }
@@ -186,8 +187,8 @@ fn arithmetic_by<O: Objects>(
 ) -> Result<StepEnd, Dead>
     requires number { k < 16 }
     requires room { executed_send_changes ≤ O.room m.old }
-    ensures does { RowDoes O.Objects.own (arithmetic_by O.names k (word receiver))
-        end_of m.old r.old result m.new r.new }
+    ensures does { RowLeaves O.Objects.own (arithmetic_by O.names k (word receiver))
+        end_of deed_of_end m.old r.old result m.new r.new }
     ensures takes { Takes O.Objects.own executed_send_changes m.old m.new }
 {
     if receiver.is_small() {
@@ -202,7 +203,7 @@ fn arithmetic_by<O: Objects>(
 pub fn arithmetic_send<O: Objects>(m: &mut O, r: &mut Registers, k: u32) -> Result<StepEnd, Dead>
     requires number { k < 16 }
     requires room { executed_send_changes ≤ O.room m.old }
-    ensures does { RowDoes O.Objects.own (arithmetic_send O.names k) end_of m.old r.old result m.new r.new }
+    ensures does { RowLeaves O.Objects.own (arithmetic_send O.names k) end_of deed_of_end m.old r.old result m.new r.new }
     ensures takes { Takes O.Objects.own executed_send_changes m.old m.new }
 {
     let receiver = under(m, r, 1)?;
@@ -213,7 +214,7 @@ pub fn arithmetic_send<O: Objects>(m: &mut O, r: &mut Registers, k: u32) -> Resu
 #[tactic(auto, using(st_frames::proofs::Doing::rows), unfolding(st_model::specs::Bytecodes::primitive_send, st_model::specs::Executing::goes_on))]
 pub fn primitive_send<O: Objects>(m: &mut O, r: &mut Registers, k: u32) -> Result<StepEnd, Dead>
     requires room { executed_send_changes ≤ O.room m.old }
-    ensures does { RowDoes O.Objects.own (primitive_send O.names k) end_of m.old r.old result m.new r.new }
+    ensures does { RowLeaves O.Objects.own (primitive_send O.names k) end_of deed_of_end m.old r.old result m.new r.new }
     ensures takes { Takes O.Objects.own executed_send_changes m.old m.new }
 {
     match k {
@@ -221,5 +222,5 @@ pub fn primitive_send<O: Objects>(m: &mut O, r: &mut Registers, k: u32) -> Resul
         23 => receiver_class(m, r)?,
         _ => return Ok(StepEnd::NotBuilt),
     }
-    Ok(StepEnd::Did(Outcome::Went))
+    Ok(StepEnd::Went(Deed::Nothing))
 }

@@ -1,34 +1,50 @@
 ghost use Rattle.std.specs.Prelude.{◌≡◌, IfOk};
 ghost use Rattle.st_model.specs.Outcomes.{Did, end_of, outcome_of};
+ghost use Rattle.st_model.specs.Deeds.{deed_of_end};
 ghost use Rattle.st_model.specs.Machine.{used, Went};
 ghost use Rattle.st_model.specs.Table.{table, apart, bounded_table};
 ghost use Rattle.st_model.specs.Bytecodes.{step};
 ghost use Rattle.st_model.specs.Calls.{Does};
 ghost use Rattle.st_frames.specs.Shown.{IsFrame, IsReady, shown};
-ghost use Rattle.st_step.specs.Planned.{Plans, IsForeseen};
+ghost use Rattle.st_step.specs.Planned.{Plans, PlansBirths, IsForeseen, TopSaid};
 
 use crate::rows::step_row;
+use st_deeds::carry_out;
 use st_frames::{Frame, hold, load};
 use st_input::World;
 use st_memory::{Draft, Memory};
-use st_model::{Dead, Demand, Halt, Outcome, StepEnd};
+use st_model::{Dead, Deed, Demand, Halt, Outcome, StepEnd};
 
-/// What the next bytecode would take of the capacities, or why it can't be done. Nothing is changed.
+/// What the next bytecode would take of the capacities, or why it can't be done, also over births that memory, registers and
+/// world show. Nothing is changed.
 pub fn plan<M: Memory>(m: &M, f: &Frame, w: &World) -> Result<Demand, Halt>
     requires frame { IsFrame (M.view m.now) f.now }
     ensures plans { Plans (used table (M.view m.now).objects)
         ((step apart).run (shown (M.view m.now) f.now w.now)) result }
+    ensures births { PlansBirths (shown (M.view m.now) f.now w.now) result }
 {
     let mut draft = Draft::new(m);
     let mut r = load(m, f, w);
     match step_row(&mut draft, &mut r) {
-        Ok(StepEnd::Did(_)) => Ok(draft.demand()),
+        Ok(StepEnd::Went(_)) => Ok(draft.demand()),
+        Ok(StepEnd::Says(_)) => Ok(draft.demand()),
         Ok(StepEnd::NotBuilt) => Err(Halt::Unbuilt),
         Err(cause) => Err(Halt::Dead(cause)),
     }
 }
 
-/// Does the next bytecode over the memory. The registers are held again where it went.
+/// What the end of a step leaves to be done.
+fn deed_of(end: StepEnd) -> Deed
+    ensures { result ≡ deed_of_end end }
+{
+    match end {
+        StepEnd::Went(deed) => deed,
+        StepEnd::Says(_) => Deed::Nothing,
+        StepEnd::NotBuilt => Deed::Nothing,
+    }
+}
+
+/// Does the next bytecode over the memory. Where it went, what it leaves is done, and the registers are held again.
 fn try_step<M: Memory>(m: &mut M, f: &mut Frame, w: &World) -> Result<StepEnd, Dead>
     requires ready { IsReady (M.view m.old) f.old w.now }
     ensures step { Does (step bounded_table)
@@ -37,8 +53,20 @@ fn try_step<M: Memory>(m: &mut M, f: &mut Frame, w: &World) -> Result<StepEnd, D
 {
     let mut r = load(m, f, w);
     let end = step_row(m, &mut r)?;
+    carry_out(m, deed_of(end));
     *f = hold(m, &r);
     Ok(end)
+}
+
+/// What is to be said of the word at the top of the stack: the bytes of the object.
+fn say_top<M: Memory>(m: &M, f: &Frame) -> Outcome
+    requires frame { IsFrame (M.view m.now) f.now }
+    ensures { TopSaid (M.view m.now) f.now result }
+{
+    match f.under(m, 0) {
+        Ok(said) => Outcome::Say(said),
+        Err(_) => Outcome::Went,
+    }
 }
 
 /// Does the next bytecode, once a plan has said what it takes and there is room for that. No bytecode changes the world
@@ -52,7 +80,8 @@ pub fn step<M: Memory>(m: &mut M, f: &mut Frame, w: &mut World) -> Outcome
     ensures world { w.new ≡ w.old }
 {
     match try_step(m, f, w) {
-        Ok(StepEnd::Did(outcome)) => outcome,
+        Ok(StepEnd::Went(_)) => Outcome::Went,
+        Ok(StepEnd::Says(_)) => say_top(m, f),
         Ok(StepEnd::NotBuilt) => Outcome::Went,
         Err(_) => Outcome::Went,
     }

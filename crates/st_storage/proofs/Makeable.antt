@@ -1,6 +1,6 @@
 -- What may be made.
-use Rattle.std.proofs.Common.{◌≡◌, ◌≢◌, ℕ, zero, suc, ◌<◌, ◌≤◌, false, refl, ap, sym, arith, length}
-use Rattle.std.specs.Prelude.{◌==◌, replicate}
+use Rattle.std.proofs.Common.{◌≡◌, ◌≢◌, ℕ, zero, suc, ◌+◌, ◌*◌, ◌<◌, ◌≤◌, true, false, refl, ap, sym, arith, length}
+use Rattle.std.specs.Prelude.{◌-◌, ◌==◌, replicate}
 use Rattle.std.proofs.lemmas.Bool.Decides.{nat_tests}
 use Rattle.st_model.specs.declared.kind.Kind.{Kind}
 use Rattle.st_model.specs.declared.kind.Kind.TheVariants as kind
@@ -8,7 +8,7 @@ use Rattle.st_model.specs.Values.{Value, Small, Ref}
 use Rattle.st_model.specs.Objects.{is_method, nil}
 use Rattle.st_model.specs.Formed.{IsMakeable}
 use Rattle.st_model.specs.Steps.{same_value}
-use Rattle.st_model.specs.Storage.{body_words}
+use Rattle.st_model.specs.Storage.{body_words, method_words}
 use Rattle.st_memory.specs.Making.{CanMake}
 
 replicated : {A : Type 0} (n : ℕ) (a : A) → length (replicate n a) ≡ n
@@ -56,3 +56,26 @@ small_size kind.Bytes n l = omega (arith, l)
 small_size kind.Method n l = omega (arith, l)
 
 pub ruleset sizes = (small_size)
+
+-- a new Method
+same_class : (v : Value) → same_value v (Ref 17) ≡ true → v ≡ Ref 17
+same_class (Small n) e = cc
+same_class (Ref n) e = let q : n ≡ 17 = grind (arith, nat_tests) in ap Ref q
+
+pub method_class : (v w : Value) → w ≡ Ref 17 → same_value v w ≡ true → v ≡ Ref 17
+method_class v w e f = same_class v (rw e at f)
+
+pub can_make_method : (v : Value) (size literals bytes : ℕ) → v ≡ Ref 17 → literals < 64 → size ≡ 2 * literals + 2 + bytes → method_words literals bytes ≤ 65533 → CanMake v kind.Method size literals
+can_make_method v size literals bytes e few is l = rw e (record {
+  kind = refl;
+  body =
+      let p = replicated literals nil in
+      let z : ℕ = 0 in
+      let q = replicated (size - 2 * (literals + 1)) z in
+      omega (arith, p, q, l, is);
+  few = omega arith;
+  none = λ x. cc;
+  header = λ x. omega (arith, is);
+})
+
+pub ruleset methods = (method_class, can_make_method)

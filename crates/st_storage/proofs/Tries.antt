@@ -6,11 +6,8 @@ use Rattle.st_model.specs.declared.dead.Dead.TheVariants as dead
 use Rattle.st_model.specs.Values.{Value, Small, Ref, value_of, is_small}
 use Rattle.st_model.specs.Machine.{ObjectMemory, State, Transition, Died, Went, Step, answer, die, after, tried, ◌>>=◌, ◌>>◌}
 use Rattle.st_model.specs.Table.{Table}
-use Rattle.st_model.specs.Steps.{pop, top, under}
+use Rattle.st_model.specs.Steps.{pop}
 use Rattle.st_model.specs.Primitives.{pop_words, succeed, primitive, bits_or_die}
-use Rattle.st_model.specs.Steps.{make}
-use Rattle.st_model.specs.Primitives.{fixed_count}
-use Rattle.st_model.specs.Storage.{kind_of_fixed, fixed_specification, check_objects, exchange_and_answer, primitive_new, primitive_become}
 use Rattle.st_storage.specs.Reading.{succeed_with, succeed_by}
 use Rattle.st_model.proofs.Runs.{run-passed, run-failed, run-some, run-none}
 use Rattle.st_frames.proofs.Doing.{rows}
@@ -66,7 +63,7 @@ module _ {A : Type 0} (m : ObjectMemory Table) (n : ℕ) (c : Step Table A) (f :
   primitive-held v t x e h k = rw (e, h) k
 
   -- its effect and what follows are done by one call
-  primitive-done : (x : Transition (State Table) Bool) → c.run s ≡ Went a s → (succeed_by m n (f a)).run s ≡ x → (primitive m n c f).run s ≡ x
+  pub primitive-done : (x : Transition (State Table) Bool) → c.run s ≡ Went a s → (succeed_by m n (f a)).run s ≡ x → (primitive m n c f).run s ≡ x
   unfolding succeed_by primitive succeed tried succeed_with ◌>>=◌ ◌>>◌ after answer
   primitive-done x e k = rw e k
 
@@ -76,27 +73,20 @@ pub primitive-given : (m : ObjectMemory Table) (n : ℕ) (c : Step Table Value) 
 unfolding primitive succeed tried succeed_with ◌>>=◌ ◌>>◌ after answer
 primitive-given m n c s v x e k = rw e k
 
-pub ruleset tries = (rows, primitive-given, primitive-failed, primitive-held)
+-- they give the bits of a SmallInteger that is answered
+pub primitive-small : (m : ObjectMemory Table) (n : ℕ) (c : Step Table ℕ) (s : State Table) (k : ℕ) (x : Transition (State Table) Bool) → c.run s ≡ Went k s → (succeed_with m n (Small k)).run s ≡ x
+    → (primitive m n c (λ i. answer (Small i))).run s ≡ x
+unfolding primitive succeed tried succeed_with ◌>>=◌ ◌>>◌ after answer
+primitive-small m n c s k x e h = rw e h
 
-pub new-done : (m : ObjectMemory Table) (class : Value) (specification : ℕ) (s : State Table) (x : Transition (State Table) Bool) → (fixed_specification m class).run s ≡ Went specification s
-    → (succeed_by m 0 (make m class (kind_of_fixed specification) (fixed_count specification) 0)).run s ≡ x
-    → (primitive m 0 (fixed_specification m class) (λ n. make m class (kind_of_fixed n) (fixed_count n) 0)).run s ≡ x
-new-done m class specification s x e k = primitive-done m 0 (fixed_specification m class) (λ n. make m class (kind_of_fixed n) (fixed_count n) 0) s specification x e k
+-- and one word
+pub primitive-same : {A : Type 0} (m : ObjectMemory Table) (n : ℕ) (c : Step Table A) (s : State Table) (a : A) (v : Value) (x : Transition (State Table) Bool) → c.run s ≡ Went a s → (succeed_with m n v).run s ≡ x
+    → (primitive m n c (λ i. answer v)).run s ≡ x
+unfolding primitive succeed tried succeed_with ◌>>=◌ ◌>>◌ after answer
+primitive-same m n c s a v x e h = rw e h
 
-pub become-done : (m : ObjectMemory Table) (v w : Value) (s : State Table) (x : Transition (State Table) Bool) → (check_objects m v w).run s ≡ Went tt s
-    → (succeed_by m 1 (exchange_and_answer m v w)).run s ≡ x → (primitive m 1 (check_objects m v w) (λ u. exchange_and_answer m v w)).run s ≡ x
-become-done m v w s x e k = primitive-done m 1 (check_objects m v w) (λ u. exchange_and_answer m v w) s tt x e k
+pub ruleset tries = (rows, primitive-given, primitive-small, primitive-failed, primitive-held)
 
-pub ruleset effects = (rows, primitive-failed, new-done, become-done)
+pub ruleset effects = (rows, primitive-failed)
 
 pub ruleset options = (run-some, run-none)
-
-pub run-new : (m : ObjectMemory Table) (class : Value) (specification : ℕ) (s : State Table) (x : Transition (State Table) Bool) → (top m).run s ≡ Went class s → (fixed_specification m class).run s ≡ Went specification s
-    → (succeed_by m 0 (make m class (kind_of_fixed specification) (fixed_count specification) 0)).run s ≡ x → (primitive_new m).run s ≡ x
-unfolding primitive_new ◌>>=◌ after
-run-new m class specification s x e h k = rw e (new-done m class specification s x h k)
-
-pub run-become : (m : ObjectMemory Table) (v w : Value) (s : State Table) (x : Transition (State Table) Bool) → (under m 1).run s ≡ Went v s → (top m).run s ≡ Went w s → (check_objects m v w).run s ≡ Went tt s
-    → (succeed_by m 1 (exchange_and_answer m v w)).run s ≡ x → (primitive_become m).run s ≡ x
-unfolding primitive_become ◌>>=◌ after
-run-become m v w s x e f h k = rw (e, f) (become-done m v w s x h k)

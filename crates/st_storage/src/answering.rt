@@ -2,12 +2,14 @@ ghost use Rattle.std.specs.Prelude.{◌≡◌, ◌<◌, ◌≤◌, ◌+◌, ◌-
 ghost use Rattle.st_model.specs.Values.{word};
 ghost use Rattle.st_model.specs.Primitives.{pop_words, answer_with};
 ghost use Rattle.st_model.specs.Calls.{itself};
-ghost use Rattle.st_storage.specs.Reading.{succeed_with};
-ghost use Rattle.st_frames.specs.Rows.{RowMoves, RowDoes, Takes};
+ghost use Rattle.st_model.specs.Deeds.{is_done, deed_of_trial};
+ghost use Rattle.st_storage.specs.Reading.{RowFollows, succeed_with};
+ghost use Rattle.st_frames.specs.Rows.{RowMoves, RowDoes, RowLeaves, Takes};
 
+use crate::shapes::Answer;
 use st_frames::{Registers, pop, push};
 use st_memory::Objects;
-use st_model::{Dead, Word};
+use st_model::{Dead, Deed, Tried, Word};
 
 /// Pops n words, the top one first.
 #[tactic(auto, using(st_frames::proofs::Doing::rows, crate::proofs::Tries::pops))]
@@ -23,7 +25,12 @@ fn pop_words<O: Objects>(m: &O, r: &mut Registers, n: u32) -> Result<(), Dead>
 
 /// Pops receiver and n arguments, and pushes the answer.
 #[tactic(auto, using(st_frames::proofs::Doing::rows), unfolding(st_model::specs::Primitives::answer_with))]
-fn answer_with<O: Objects>(m: &mut O, r: &mut Registers, n: u32, answer: Word) -> Result<(), Dead>
+pub fn answer_with<O: Objects>(
+    m: &mut O,
+    r: &mut Registers,
+    n: u32,
+    answer: Word,
+) -> Result<(), Dead>
     requires few { n < 256 }
     requires room { 1 ≤ O.room m.old }
     ensures does { RowDoes O.Objects.own (answer_with O.names n (word answer))
@@ -34,20 +41,38 @@ fn answer_with<O: Objects>(m: &mut O, r: &mut Registers, n: u32, answer: Word) -
     push(m, r, answer)
 }
 
-/// The answer takes the place of receiver and n arguments, and the primitive has succeeded: true.
+/// The answer takes the place of receiver and n arguments, and the primitive has succeeded and leaves nothing to be done.
 #[tactic(auto, using(st_frames::proofs::Doing::rows), unfolding(crate::specs::Reading::succeed_with))]
 pub fn succeed_with<O: Objects>(
     m: &mut O,
     r: &mut Registers,
     n: u32,
     answer: Word,
-) -> Result<bool, Dead>
+) -> Result<Tried, Dead>
     requires few { n < 256 }
     requires room { 1 ≤ O.room m.old }
-    ensures does { RowDoes O.Objects.own (succeed_with O.names n (word answer))
-        itself m.old r.old result m.new r.new }
+    ensures does { RowLeaves O.Objects.own (succeed_with O.names n (word answer))
+        is_done deed_of_trial m.old r.old result m.new r.new }
     ensures takes { Takes O.Objects.own 1 m.old m.new }
 {
     answer_with(m, r, n, answer)?;
-    Ok(true)
+    Ok(Tried::Done(Deed::Nothing))
+}
+
+/// The same where an effect leaves something to be done besides its answer.
+#[tactic(auto, using(st_frames::proofs::Doing::rows, crate::proofs::Commuting::answered))]
+pub fn succeed_leaving<O: Objects>(
+    m: &mut O,
+    r: &mut Registers,
+    n: u32,
+    answer: Answer,
+) -> Result<Tried, Dead>
+    requires few { n < 256 }
+    requires room { 1 ≤ O.room m.old }
+    ensures does { RowFollows O.Objects.own answer.deed (succeed_with O.names n (word answer.word))
+        is_done deed_of_trial m.old r.old result m.new r.new }
+    ensures takes { Takes O.Objects.own 1 m.old m.new }
+{
+    answer_with(m, r, n, answer.word)?;
+    Ok(Tried::Done(answer.deed))
 }

@@ -1,10 +1,10 @@
-ghost use Rattle.std.specs.Prelude.{◌≡◌, ◌<◌, ◌≤◌, ◌+◌, ◌-◌, IfOk};
+ghost use Rattle.std.specs.Prelude.{◌≡◌, ◌<◌, ◌≤◌, ◌+◌, ◌-◌, ◌≤ℤ◌, pos, negsuc, IfOk};
 ghost use Rattle.st_model.specs.Values.{word};
 ghost use Rattle.st_model.specs.Calls.{itself};
-ghost use Rattle.st_model.specs.Storage.{count_literals, first_place, place_of_element, place_at};
+ghost use Rattle.st_model.specs.Storage.{count_literals, first_place, place_of_element, place_at, place_behind_fixed, count_elements};
 ghost use Rattle.st_frames.specs.Rows.{RowReads};
 
-use crate::numbers::{bits_or_die, positive_small};
+use crate::numbers::{bits_or_die, fixed_fields, positive_small};
 use st_frames::Registers;
 use st_memory::Objects;
 use st_model::{Dead, Word};
@@ -77,4 +77,31 @@ pub fn place_at<O: Objects>(
 {
     let i = positive_small(m, r, index)?;
     place_of_element(m, r, v, fixed, i)
+}
+
+/// The place that an index names behind the fixed fields.
+#[tactic(auto, using(st_frames::proofs::Doing::rows), unfolding(st_model::specs::Storage::place_behind_fixed))]
+pub fn place_behind_fixed<O: Objects>(
+    m: &O,
+    r: &Registers,
+    v: Word,
+    index: Word,
+) -> Result<u32, Dead>
+    ensures does { RowReads O.Objects.own (place_behind_fixed O.names (word v) (word index))
+        itself m.now r.now result }
+{
+    let fixed = fixed_fields(m, r, v)?;
+    place_at(m, r, v, fixed, index)
+}
+
+/// How many elements an object has; below 0 where it has fewer fields than its class says.
+#[tactic(auto, using(st_frames::proofs::Doing::rows, crate::proofs::Valued::differences), unfolding(st_model::specs::Storage::count_elements))]
+pub fn count_elements<O: Objects>(m: &O, r: &Registers, v: Word) -> Result<i32, Dead>
+    ensures does { RowReads O.Objects.own (count_elements O.names (word v)) itself m.now r.now result }
+    ensures low { IfOk result (λ n. negsuc 2047 ≤ℤ n) }
+    ensures high { IfOk result (λ n. n ≤ℤ pos 131066) }
+{
+    let fixed = fixed_fields(m, r, v)?;
+    let n = m.fetch_size(v)?;
+    Ok(n as i32 - fixed as i32)
 }

@@ -1,15 +1,16 @@
-ghost use Rattle.std.specs.Prelude.{◌≡◌, ◌<◌, ◌≤◌, ◌+◌, IfOk};
+ghost use Rattle.std.specs.Prelude.{◌≡◌, ◌<◌, ◌≤◌, ◌+◌, ◌^◌, IfOk};
 ghost use Rattle.st_model.specs.Values.{word};
 ghost use Rattle.st_model.specs.Calls.{itself};
-ghost use Rattle.st_model.specs.Storage.{check_object, check_objects, exchange_and_answer, primitive_become, half_pointer, kept_object_at, primitive_as_object, first_kept_instance, primitive_some_instance, instance_after, primitive_next_instance};
+ghost use Rattle.st_model.specs.Storage.{check_object, check_objects, exchange_and_answer, primitive_become, half_pointer, primitive_as_oop, kept_object_at, primitive_as_object, first_kept_instance, primitive_some_instance, instance_after, primitive_next_instance};
 ghost use Rattle.st_storage.specs.Reading.{succeed_by};
-ghost use Rattle.st_frames.specs.Rows.{RowReads, RowDoes, Takes};
+ghost use Rattle.st_model.specs.Deeds.{is_done, deed_of_trial};
+ghost use Rattle.st_frames.specs.Rows.{RowReads, RowLeaves, Takes};
 
 use crate::answering::succeed_with;
-use crate::numbers::bits_or_die;
+use crate::numbers::{bits_or_die, small_word};
 use st_frames::{Registers, top, under};
 use st_memory::Objects;
-use st_model::{Dead, Word};
+use st_model::{Dead, Tried, Word};
 
 /// An object, and no SmallInteger.
 #[tactic(auto, using(st_frames::proofs::Doing::rows), unfolding(st_model::specs::Storage::check_object))]
@@ -37,11 +38,11 @@ fn exchange_and_answer<O: Objects>(
     r: &mut Registers,
     v: Word,
     w: Word,
-) -> Result<bool, Dead>
+) -> Result<Tried, Dead>
     requires room { 2 ≤ O.room m.old }
-    ensures does { RowDoes O.Objects.own
+    ensures does { RowLeaves O.Objects.own
         (succeed_by O.names 1 (exchange_and_answer O.names (word v) (word w)))
-        itself m.old r.old result m.new r.new }
+        is_done deed_of_trial m.old r.old result m.new r.new }
     ensures takes { Takes O.Objects.own 2 m.old m.new }
 {
     m.exchange(v, w)?;
@@ -50,16 +51,17 @@ fn exchange_and_answer<O: Objects>(
 
 /// Primitive 72: receiver and argument, which are objects, become each other.
 #[tactic(auto, using(crate::proofs::Tries::effects), unfolding(st_model::specs::Storage::primitive_become))]
-pub fn primitive_become<O: Objects>(m: &mut O, r: &mut Registers) -> Result<bool, Dead>
+pub fn primitive_become<O: Objects>(m: &mut O, r: &mut Registers) -> Result<Tried, Dead>
     requires room { 2 ≤ O.room m.old }
-    ensures does { RowDoes O.Objects.own (primitive_become O.names) itself m.old r.old result m.new r.new }
+    ensures does { RowLeaves O.Objects.own (primitive_become O.names)
+        is_done deed_of_trial m.old r.old result m.new r.new }
     ensures takes { Takes O.Objects.own 2 m.old m.new }
 {
     let receiver = under(m, r, 1)?;
     let argument = top(m, r)?;
     match check_objects(m, r, receiver, argument) {
         Ok(_objects) => exchange_and_answer(m, r, receiver, argument),
-        Err(_) => Ok(false),
+        Err(_) => Ok(Tried::Failed),
     }
 }
 
@@ -67,9 +69,25 @@ pub fn primitive_become<O: Objects>(m: &mut O, r: &mut Registers) -> Result<bool
 #[tactic(auto, using(st_frames::proofs::Doing::rows), unfolding(st_model::specs::Storage::half_pointer))]
 fn half_pointer<O: Objects>(m: &O, r: &Registers, v: Word) -> Result<u32, Dead>
     ensures does { RowReads O.Objects.own (half_pointer O.names (word v)) itself m.now r.now result }
+    ensures half { IfOk result (λ n. n < 2 ^ 31) }
 {
     check_object(m, r, v)?;
     Ok(m.half_word(v))
+}
+
+/// Primitive 75: the pointer of the receiver, with its lowest bit set.
+#[tactic(auto, using(crate::proofs::Tries::tries), unfolding(st_model::specs::Storage::primitive_as_oop))]
+pub fn primitive_as_oop<O: Objects>(m: &mut O, r: &mut Registers) -> Result<Tried, Dead>
+    requires room { 1 ≤ O.room m.old }
+    ensures does { RowLeaves O.Objects.own (primitive_as_oop O.names)
+        is_done deed_of_trial m.old r.old result m.new r.new }
+    ensures takes { Takes O.Objects.own 1 m.old m.new }
+{
+    let receiver = top(m, r)?;
+    match half_pointer(m, r, receiver) {
+        Ok(half) => succeed_with(m, r, 0, small_word(half)),
+        Err(_) => Ok(Tried::Failed),
+    }
 }
 
 /// The kept object whose pointer is the word of a SmallInteger less 1.
@@ -86,15 +104,16 @@ fn kept_object_at<O: Objects>(m: &O, r: &Registers, v: Word) -> Result<Word, Dea
 
 /// Primitive 76: the kept object whose pointer is the receiver's word less 1.
 #[tactic(auto, using(crate::proofs::Tries::tries), unfolding(st_model::specs::Storage::primitive_as_object))]
-pub fn primitive_as_object<O: Objects>(m: &mut O, r: &mut Registers) -> Result<bool, Dead>
+pub fn primitive_as_object<O: Objects>(m: &mut O, r: &mut Registers) -> Result<Tried, Dead>
     requires room { 1 ≤ O.room m.old }
-    ensures does { RowDoes O.Objects.own (primitive_as_object O.names) itself m.old r.old result m.new r.new }
+    ensures does { RowLeaves O.Objects.own (primitive_as_object O.names)
+        is_done deed_of_trial m.old r.old result m.new r.new }
     ensures takes { Takes O.Objects.own 1 m.old m.new }
 {
     let receiver = top(m, r)?;
     match kept_object_at(m, r, receiver) {
         Ok(answer) => succeed_with(m, r, 0, answer),
-        Err(_) => Ok(false),
+        Err(_) => Ok(Tried::Failed),
     }
 }
 
@@ -112,16 +131,16 @@ fn first_kept_instance<O: Objects>(m: &O, r: &Registers, class: Word) -> Result<
 
 /// Primitive 77: of the kept instances of the receiver the one with the least pointer.
 #[tactic(auto, using(crate::proofs::Tries::tries), unfolding(st_model::specs::Storage::primitive_some_instance))]
-pub fn primitive_some_instance<O: Objects>(m: &mut O, r: &mut Registers) -> Result<bool, Dead>
+pub fn primitive_some_instance<O: Objects>(m: &mut O, r: &mut Registers) -> Result<Tried, Dead>
     requires room { 1 ≤ O.room m.old }
-    ensures does { RowDoes O.Objects.own (primitive_some_instance O.names)
-        itself m.old r.old result m.new r.new }
+    ensures does { RowLeaves O.Objects.own (primitive_some_instance O.names)
+        is_done deed_of_trial m.old r.old result m.new r.new }
     ensures takes { Takes O.Objects.own 1 m.old m.new }
 {
     let receiver = top(m, r)?;
     match first_kept_instance(m, r, receiver) {
         Ok(answer) => succeed_with(m, r, 0, answer),
-        Err(_) => Ok(false),
+        Err(_) => Ok(Tried::Failed),
     }
 }
 
@@ -140,15 +159,15 @@ fn instance_after<O: Objects>(m: &O, r: &Registers, v: Word) -> Result<Word, Dea
 
 /// Primitive 78: of the kept instances of the receiver's class that bear greater pointers the one with the least.
 #[tactic(auto, using(crate::proofs::Tries::tries), unfolding(st_model::specs::Storage::primitive_next_instance))]
-pub fn primitive_next_instance<O: Objects>(m: &mut O, r: &mut Registers) -> Result<bool, Dead>
+pub fn primitive_next_instance<O: Objects>(m: &mut O, r: &mut Registers) -> Result<Tried, Dead>
     requires room { 1 ≤ O.room m.old }
-    ensures does { RowDoes O.Objects.own (primitive_next_instance O.names)
-        itself m.old r.old result m.new r.new }
+    ensures does { RowLeaves O.Objects.own (primitive_next_instance O.names)
+        is_done deed_of_trial m.old r.old result m.new r.new }
     ensures takes { Takes O.Objects.own 1 m.old m.new }
 {
     let receiver = top(m, r)?;
     match instance_after(m, r, receiver) {
         Ok(answer) => succeed_with(m, r, 0, answer),
-        Err(_) => Ok(false),
+        Err(_) => Ok(Tried::Failed),
     }
 }

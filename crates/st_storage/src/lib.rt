@@ -3,18 +3,22 @@
 #![tactic(auto)]
 
 mod answering;
+mod dispatch;
 mod elements;
+mod fetching;
 mod finding;
+mod large;
 mod making;
 mod methods;
 mod numbers;
+mod putting;
+mod replacing;
+mod saying;
+mod shapes;
+mod space;
+mod storing;
 mod streams;
 mod strings;
 
-pub use finding::{
-    primitive_as_object, primitive_become, primitive_next_instance, primitive_some_instance,
-};
-pub use making::primitive_new;
-pub use methods::primitive_object_at;
-pub use streams::primitive_at_end;
-pub use strings::primitive_string_at;
+pub use dispatch::try_storage;
+pub use saying::primitive_say;

@@ -1,19 +1,24 @@
-ghost use Rattle.std.specs.Prelude.{◌≡◌, ◌≢◌, ◌<◌, ◌≤◌, ◌+◌, IfOk, false};
+ghost use Rattle.std.specs.Prelude.{◌≡◌, ◌≢◌, ◌<◌, ◌≤◌, ◌+◌, ◌^◌, IfOk, false};
 ghost use Rattle.st_model.specs.Values.{Ref, word};
 ghost use Rattle.st_model.specs.Objects.{place_of, is_method};
 ghost use Rattle.st_model.specs.declared.page.PageObject.TheVariants.{MethodClass};
 ghost use Rattle.st_model.specs.Calls.{itself};
-ghost use Rattle.st_model.specs.Storage.{check_not_method_class, kind_of_fixed, fixed_specification, primitive_new};
+ghost use Rattle.st_model.specs.Storage.{check_not_method_class, kind_of_fixed, fixed_specification, primitive_new, kind_of_indexed, body_words, checked_shape, indexed_shape, primitive_new_with};
 ghost use Rattle.st_model.specs.Steps.{make};
 ghost use Rattle.st_model.specs.Primitives.{fixed_count};
 ghost use Rattle.st_storage.specs.Reading.{succeed_by};
-ghost use Rattle.st_frames.specs.Rows.{RowReads, RowDoes, Takes};
+ghost use Rattle.st_storage.specs.Storing.{shape_in};
+ghost use Rattle.st_model.specs.Deeds.{is_done, deed_of_trial};
+ghost use Rattle.st_frames.specs.Rows.{RowReads, RowLeaves, Takes};
 
 use crate::answering::succeed_with;
-use crate::numbers::{fixed_count, has_pointers, is_indexable, specification};
-use st_frames::{Registers, page, top};
+use crate::numbers::{
+    fixed_count, has_pointers, has_words, is_indexable, positive_value, specification,
+};
+use crate::shapes::Shape;
+use st_frames::{Registers, page, top, under};
 use st_memory::Objects;
-use st_model::{Dead, Kind, PageObject, Word};
+use st_model::{Dead, Kind, PageObject, Tried, Word};
 
 /// Any class but CompiledMethod.
 #[tactic(auto, using(st_frames::proofs::Doing::rows, crate::proofs::Tries::tests, crate::proofs::Makeable::classes), unfolding(st_model::specs::Storage::check_not_method_class))]
@@ -60,12 +65,17 @@ fn fixed_specification<O: Objects>(m: &O, r: &Registers, class: Word) -> Result<
 
 /// Answers a new instance of a class, by its specification.
 #[tactic(auto, using(st_frames::proofs::Doing::rows, crate::proofs::Makeable::makeable), unfolding(crate::specs::Reading::succeed_by))]
-fn answer_fixed<O: Objects>(m: &mut O, r: &mut Registers, class: Word, s: u32) -> Result<bool, Dead>
+fn answer_fixed<O: Objects>(
+    m: &mut O,
+    r: &mut Registers,
+    class: Word,
+    s: u32,
+) -> Result<Tried, Dead>
     requires room { 2 ≤ O.room m.old }
     requires other { word class ≢ Ref (place_of MethodClass) }
-    ensures does { RowDoes O.Objects.own
+    ensures does { RowLeaves O.Objects.own
         (succeed_by O.names 0 (make O.names (word class) (kind_of_fixed s) (fixed_count s) 0))
-        itself m.old r.old result m.new r.new }
+        is_done deed_of_trial m.old r.old result m.new r.new }
     ensures takes { Takes O.Objects.own 2 m.old m.new }
 {
     let answer = m.make(class, kind_of_fixed(s), fixed_count(s), 0)?;
@@ -74,14 +84,105 @@ fn answer_fixed<O: Objects>(m: &mut O, r: &mut Registers, class: Word, s: u32) -
 
 /// Primitive 70: a new instance of the receiver, which has no indexed fields.
 #[tactic(auto, using(crate::proofs::Tries::effects), unfolding(st_model::specs::Storage::primitive_new))]
-pub fn primitive_new<O: Objects>(m: &mut O, r: &mut Registers) -> Result<bool, Dead>
+pub fn primitive_new<O: Objects>(m: &mut O, r: &mut Registers) -> Result<Tried, Dead>
     requires room { 2 ≤ O.room m.old }
-    ensures does { RowDoes O.Objects.own (primitive_new O.names) itself m.old r.old result m.new r.new }
+    ensures does { RowLeaves O.Objects.own (primitive_new O.names)
+        is_done deed_of_trial m.old r.old result m.new r.new }
     ensures takes { Takes O.Objects.own 2 m.old m.new }
 {
     let receiver = top(m, r)?;
     match fixed_specification(m, r, receiver) {
         Ok(s) => answer_fixed(m, r, receiver, s),
-        Err(_) => Ok(false),
+        Err(_) => Ok(Tried::Failed),
+    }
+}
+
+/// The kind of an instance with indexed fields.
+fn kind_of_indexed(specification: u32) -> Kind
+    ensures kind { result ≡ kind_of_indexed specification }
+    ensures other { is_method result ≡ false }
+{
+    if has_pointers(specification) {
+        Kind::Pointers
+    } else if has_words(specification) {
+        Kind::Words
+    } else {
+        Kind::Bytes
+    }
+}
+
+/// How many words a body of n fields, words or bytes has.
+fn body_words(kind: Kind, n: u64) -> u64
+    requires { n < 2 ^ 33 }
+    ensures { result ≡ body_words kind n }
+{
+    match kind {
+        Kind::Pointers | Kind::Words => n,
+        Kind::Bytes | Kind::Method => (n + 1) / 2,
+    }
+}
+
+/// The shape of a new object of n fields, words or bytes, where its body isn't too large.
+#[tactic(auto, using(st_frames::proofs::Doing::checks, crate::proofs::Makeable::sizes), unfolding(st_model::specs::Storage::checked_shape))]
+fn checked_shape<O: Objects>(m: &O, r: &Registers, kind: Kind, n: u64) -> Result<Shape, Dead>
+    requires few { n < 2 ^ 33 }
+    requires other { is_method kind ≡ false }
+    ensures { RowReads O.Objects.own (checked_shape kind n) shape_in m.now r.now result }
+{
+    if 65533 < body_words(kind, n) {
+        return Err(Dead::Field);
+    }
+    let size = n as u32;
+    Ok(Shape { kind, size })
+}
+
+/// The shape of a new instance of a class that is indexable, but isn't CompiledMethod.
+#[tactic(auto, using(st_frames::proofs::Doing::rows, crate::proofs::Tries::tests), unfolding(st_model::specs::Storage::indexed_shape))]
+fn indexed_shape<O: Objects>(m: &O, r: &Registers, class: Word, count: Word) -> Result<Shape, Dead>
+    ensures does { RowReads O.Objects.own (indexed_shape O.names (word class) (word count))
+        shape_in m.now r.now result }
+    ensures other { IfOk result (λ s. word class ≢ Ref (place_of MethodClass)) }
+{
+    let s = specification(m, r, class)?;
+    check_not_method_class(m, r, class)?;
+    if !is_indexable(s) {
+        return Err(Dead::Kind);
+    }
+    let n = positive_value(m, r, count)?;
+    checked_shape(m, r, kind_of_indexed(s), n + u64::from(fixed_count(s)))
+}
+
+/// Answers a new instance of a class, by its shape.
+#[tactic(auto, using(st_frames::proofs::Doing::rows, crate::proofs::Makeable::makeable), unfolding(crate::specs::Reading::succeed_by))]
+fn answer_shaped<O: Objects>(
+    m: &mut O,
+    r: &mut Registers,
+    class: Word,
+    shape: Shape,
+) -> Result<Tried, Dead>
+    requires room { 2 ≤ O.room m.old }
+    requires other { word class ≢ Ref (place_of MethodClass) }
+    ensures does { RowLeaves O.Objects.own
+        (succeed_by O.names 1 (make O.names (word class) shape.kind shape.size 0))
+        is_done deed_of_trial m.old r.old result m.new r.new }
+    ensures takes { Takes O.Objects.own 2 m.old m.new }
+{
+    let answer = m.make(class, shape.kind, shape.size, 0)?;
+    succeed_with(m, r, 1, answer)
+}
+
+/// Primitive 71: a new instance of the receiver with as many indexed fields as the argument says.
+#[tactic(auto, using(crate::proofs::Tries::effects), unfolding(st_model::specs::Storage::primitive_new_with))]
+pub fn primitive_new_with<O: Objects>(m: &mut O, r: &mut Registers) -> Result<Tried, Dead>
+    requires room { 2 ≤ O.room m.old }
+    ensures does { RowLeaves O.Objects.own (primitive_new_with O.names)
+        is_done deed_of_trial m.old r.old result m.new r.new }
+    ensures takes { Takes O.Objects.own 2 m.old m.new }
+{
+    let receiver = under(m, r, 1)?;
+    let count = top(m, r)?;
+    match indexed_shape(m, r, receiver, count) {
+        Ok(shape) => answer_shaped(m, r, receiver, shape),
+        Err(_) => Ok(Tried::Failed),
     }
 }

@@ -1,15 +1,23 @@
-ghost use Rattle.std.specs.Prelude.{◌≡◌, ◌<◌, ◌≤◌, ◌+◌, ◌-◌};
+ghost use Rattle.std.specs.Prelude.{◌≡◌, ◌<◌, ◌≤◌, ◌+◌, ◌-◌, ◌^◌, Ok, IfOk};
 ghost use Rattle.st_model.specs.Values.{word};
 ghost use Rattle.st_model.specs.Calls.{itself};
-ghost use Rattle.st_model.specs.Storage.{method_place, place_in_method, header_or_literal, primitive_object_at};
-ghost use Rattle.st_frames.specs.Rows.{RowReads, RowDoes, Takes};
+ghost use Rattle.st_model.specs.Storage.{method_place, place_in_method, header_or_literal, primitive_object_at, check_header, place_to_store, store_in_method, primitive_object_at_put, method_words, method_shape, new_method, primitive_new_method};
+ghost use Rattle.st_model.specs.Values.{Ref};
+ghost use Rattle.st_model.specs.Objects.{place_of};
+ghost use Rattle.st_model.specs.declared.page.PageObject.TheVariants.{MethodClass};
+ghost use Rattle.st_model.specs.Steps.{store_method_field};
+ghost use Rattle.st_storage.specs.Reading.{succeed_by};
+ghost use Rattle.st_storage.specs.Storing.{answer_word, answer_deed, no_word, method_shape_in};
+ghost use Rattle.st_model.specs.Deeds.{is_done, deed_of_trial};
+ghost use Rattle.st_frames.specs.Rows.{RowReads, RowLeaves, Takes};
 
-use crate::answering::succeed_with;
+use crate::answering::{succeed_leaving, succeed_with};
 use crate::elements::count_literals;
-use crate::numbers::positive_small;
-use st_frames::{Registers, top, under};
+use crate::numbers::{bits_or_die, positive_small, small_word};
+use crate::shapes::{Answer, MethodShape};
+use st_frames::{Registers, page, top, under};
 use st_memory::Objects;
-use st_model::{Dead, Word};
+use st_model::{Dead, Deed, Kind, PageObject, Tried, Word};
 
 /// The field that index i names in a Method.
 #[tactic(auto, using(st_frames::proofs::Doing::checks), unfolding(st_model::specs::Storage::method_place))]
@@ -54,15 +62,248 @@ fn header_or_literal<O: Objects>(
 
 /// Primitive 68: the header of the receiver, a Method, or the literal that the argument numbers.
 #[tactic(auto, using(crate::proofs::Tries::tries), unfolding(st_model::specs::Storage::primitive_object_at))]
-pub fn primitive_object_at<O: Objects>(m: &mut O, r: &mut Registers) -> Result<bool, Dead>
+pub fn primitive_object_at<O: Objects>(m: &mut O, r: &mut Registers) -> Result<Tried, Dead>
     requires room { 1 ≤ O.room m.old }
-    ensures does { RowDoes O.Objects.own (primitive_object_at O.names) itself m.old r.old result m.new r.new }
+    ensures does { RowLeaves O.Objects.own (primitive_object_at O.names)
+        is_done deed_of_trial m.old r.old result m.new r.new }
     ensures takes { Takes O.Objects.own 1 m.old m.new }
 {
     let receiver = under(m, r, 1)?;
     let index = top(m, r)?;
     match header_or_literal(m, r, receiver, index) {
         Ok(answer) => { succeed_with(m, r, 1, answer) }
-        Err(_) => Ok(false),
+        Err(_) => Ok(Tried::Failed),
+    }
+}
+
+/// A header that counts as many literals as that of a Method.
+#[tactic(auto, using(st_frames::proofs::Doing::rows, crate::proofs::Tries::tests, crate::proofs::Tries::counts), unfolding(st_model::specs::Storage::check_header))]
+pub fn check_header<O: Objects>(
+    m: &O,
+    r: &Registers,
+    method: Word,
+    header: Word,
+) -> Result<(), Dead>
+    ensures does { RowReads O.Objects.own (check_header O.names (word method) (word header))
+        itself m.now r.now result }
+{
+    let n = count_literals(m, r, method)?;
+    let bits = bits_or_die(m, r, header)?;
+    if bits % 64 == n {
+        Ok(())
+    } else {
+        Err(Dead::Field)
+    }
+}
+
+/// The field that an index names in a Method, where a value may be stored there.
+#[tactic(auto, using(st_frames::proofs::Doing::rows), unfolding(st_model::specs::Storage::place_to_store, st_model::specs::Storage::check_method_field))]
+fn place_to_store<O: Objects>(
+    m: &O,
+    r: &Registers,
+    method: Word,
+    index: Word,
+    value: Word,
+) -> Result<u32, Dead>
+    ensures does { RowReads O.Objects.own
+        (place_to_store O.names (word method) (word index) (word value)) itself m.now r.now result }
+    ensures header { IfOk result (λ i. i ≡ 0 → RowReads O.Objects.own
+        (check_header O.names (word method) (word value)) itself m.now r.now (Ok tt)) }
+{
+    let place = place_in_method(m, r, method, index)?;
+    if place == 0 {
+        check_header(m, r, method, value)?;
+        Ok(0)
+    } else {
+        Ok(place)
+    }
+}
+
+/// What stores a value as field i of a Method is left to be done. A header counts as many literals as the one before.
+#[tactic(auto, using(st_frames::proofs::Doing::rows, crate::proofs::Left::method_fields))]
+fn store_method_field<O: Objects>(
+    m: &O,
+    r: &Registers,
+    method: Word,
+    i: u32,
+    value: Word,
+) -> Result<Deed, Dead>
+    requires header { i ≡ 0 → RowReads O.Objects.own
+        (check_header O.names (word method) (word value)) itself m.now r.now (Ok tt) }
+    ensures does { RowLeaves O.Objects.own
+        (store_method_field O.names (word method) i (word value))
+        no_word itself m.now r.now result m.now r.now }
+{
+    m.fetch_method_field(method, i)?;
+    if !m.is_there(value) {
+        return Err(Dead::Kind);
+    }
+    if i == 0 {
+        Ok(Deed::StoreHeader {
+            method,
+            header: value,
+        })
+    } else {
+        Ok(Deed::StoreLiteral {
+            method,
+            number: i - 1,
+            value,
+        })
+    }
+}
+
+/// A value that is stored in a Method, as an answer.
+#[tactic(auto, using(st_frames::proofs::Doing::rows), unfolding(st_model::specs::Storage::store_in_method))]
+fn store_in_method<O: Objects>(
+    m: &O,
+    r: &Registers,
+    method: Word,
+    value: Word,
+    i: u32,
+) -> Result<Answer, Dead>
+    requires header { i ≡ 0 → RowReads O.Objects.own
+        (check_header O.names (word method) (word value)) itself m.now r.now (Ok tt) }
+    ensures does { RowLeaves O.Objects.own
+        (store_in_method O.names (word method) (word value) i)
+        answer_word answer_deed m.now r.now result m.now r.now }
+{
+    let deed = store_method_field(m, r, method, i, value)?;
+    Ok(Answer { word: value, deed })
+}
+
+/// Stores a value in a Method, and answers it.
+#[tactic(auto, using(st_frames::proofs::Doing::rows), unfolding(crate::specs::Reading::succeed_by))]
+fn answer_in_method<O: Objects>(
+    m: &mut O,
+    r: &mut Registers,
+    method: Word,
+    value: Word,
+    i: u32,
+) -> Result<Tried, Dead>
+    requires header { i ≡ 0 → RowReads O.Objects.own
+        (check_header O.names (word method) (word value)) itself m.old r.old (Ok tt) }
+    requires room { 1 ≤ O.room m.old }
+    ensures does { RowLeaves O.Objects.own
+        (succeed_by O.names 2 (store_in_method O.names (word method) (word value) i))
+        is_done deed_of_trial m.old r.old result m.new r.new }
+    ensures takes { Takes O.Objects.own 1 m.old m.new }
+{
+    let answer = store_in_method(m, r, method, value, i)?;
+    succeed_leaving(m, r, 2, answer)
+}
+
+/// Primitive 69: the second argument becomes the header of the receiver, a Method, or the literal that the first one numbers.
+#[tactic(auto, using(crate::proofs::Tries::effects), unfolding(st_model::specs::Storage::primitive_object_at_put))]
+pub fn primitive_object_at_put<O: Objects>(m: &mut O, r: &mut Registers) -> Result<Tried, Dead>
+    requires room { 1 ≤ O.room m.old }
+    ensures does { RowLeaves O.Objects.own (primitive_object_at_put O.names)
+        is_done deed_of_trial m.old r.old result m.new r.new }
+    ensures takes { Takes O.Objects.own 1 m.old m.new }
+{
+    let receiver = under(m, r, 2)?;
+    let index = under(m, r, 1)?;
+    let value = top(m, r)?;
+    match place_to_store(m, r, receiver, index, value) {
+        Ok(place) => answer_in_method(m, r, receiver, value, place),
+        Err(_) => Ok(Tried::Failed),
+    }
+}
+
+/// How many words the body of a Method has.
+fn method_words(literals: u32, bytes: u32) -> u32
+    requires literals { literals < 64 }
+    requires bytes { bytes < 16384 }
+    ensures { result ≡ method_words literals bytes }
+{
+    1 + literals + (bytes + 1) / 2
+}
+
+/// The shape of a new Method of the class CompiledMethod.
+#[tactic(auto, using(st_frames::proofs::Doing::checks, crate::proofs::Tries::tests, crate::proofs::Tries::counts, crate::proofs::Makeable::methods), unfolding(st_model::specs::Storage::method_shape))]
+fn method_shape<O: Objects>(
+    m: &O,
+    r: &Registers,
+    class: Word,
+    count: Word,
+    header: Word,
+) -> Result<MethodShape, Dead>
+    ensures does { RowReads O.Objects.own
+        (method_shape O.names (word class) (word count) (word header))
+        method_shape_in m.now r.now result }
+    ensures class { IfOk result (λ s. word class ≡ Ref (place_of MethodClass)) }
+{
+    let methods = page(m, PageObject::MethodClass);
+    if !class.same(methods) {
+        return Err(Dead::Kind);
+    }
+    let bytes = positive_small(m, r, count)?;
+    let header = bits_or_die(m, r, header)?;
+    if 65533 < method_words(header % 64, bytes) {
+        return Err(Dead::Field);
+    }
+    Ok(MethodShape { header, bytes })
+}
+
+/// A new Method, whose header is left to be stored. Where there is no room for it, nil is no Method of so many literals, or
+/// becomes one with this header.
+#[tactic(auto, using(st_frames::proofs::Doing::rows, crate::proofs::Tries::counts, crate::proofs::Makeable::methods), unfolding(st_model::specs::Storage::new_method))]
+fn new_method<O: Objects>(
+    m: &mut O,
+    r: &Registers,
+    class: Word,
+    shape: MethodShape,
+) -> Result<Answer, Dead>
+    requires class { word class ≡ Ref (place_of MethodClass) }
+    requires room { 1 ≤ O.room m.old }
+    ensures does { RowLeaves O.Objects.own (new_method O.names (word class) (method_shape_in shape))
+        answer_word answer_deed m.old r.now result m.new r.now }
+    ensures takes { Takes O.Objects.own 1 m.old m.new }
+{
+    let literals = shape.header % 64;
+    let word = m.make(
+        class,
+        Kind::Method,
+        2 * literals + 2 + shape.bytes,
+        literals,
+    )?;
+    let header = small_word(shape.header);
+    check_header(m, r, word, header)?;
+    let deed = store_method_field(m, r, word, 0, header)?;
+    Ok(Answer { word, deed })
+}
+
+/// Answers a new Method.
+#[tactic(auto, using(st_frames::proofs::Doing::rows), unfolding(crate::specs::Reading::succeed_by))]
+fn answer_method<O: Objects>(
+    m: &mut O,
+    r: &mut Registers,
+    class: Word,
+    shape: MethodShape,
+) -> Result<Tried, Dead>
+    requires class { word class ≡ Ref (place_of MethodClass) }
+    requires room { 2 ≤ O.room m.old }
+    ensures does { RowLeaves O.Objects.own
+        (succeed_by O.names 2 (new_method O.names (word class) (method_shape_in shape)))
+        is_done deed_of_trial m.old r.old result m.new r.new }
+    ensures takes { Takes O.Objects.own 2 m.old m.new }
+{
+    let answer = new_method(m, r, class, shape)?;
+    succeed_leaving(m, r, 2, answer)
+}
+
+/// Primitive 79: a new Method with the header that the second argument says, and as many bytes as the first.
+#[tactic(auto, using(crate::proofs::Tries::effects), unfolding(st_model::specs::Storage::primitive_new_method))]
+pub fn primitive_new_method<O: Objects>(m: &mut O, r: &mut Registers) -> Result<Tried, Dead>
+    requires room { 2 ≤ O.room m.old }
+    ensures does { RowLeaves O.Objects.own (primitive_new_method O.names)
+        is_done deed_of_trial m.old r.old result m.new r.new }
+    ensures takes { Takes O.Objects.own 2 m.old m.new }
+{
+    let receiver = under(m, r, 2)?;
+    let count = under(m, r, 1)?;
+    let header = top(m, r)?;
+    match method_shape(m, r, receiver, count, header) {
+        Ok(shape) => answer_method(m, r, receiver, shape),
+        Err(_) => Ok(Tried::Failed),
     }
 }

@@ -1,27 +1,40 @@
-ghost use Rattle.std.specs.Prelude.{◌≡◌, ◌<◌, ◌≤◌, ◌+◌};
-ghost use Rattle.st_model.specs.Values.{word};
+ghost use Rattle.std.specs.Prelude.{◌≡◌, ◌<◌, ◌≤◌, ◌+◌, ◌-◌, IfOk, Ok, true};
+ghost use Rattle.st_model.specs.declared.kind.Kind.TheVariants.{Bytes};
+ghost use Rattle.st_model.specs.Values.{Small, word};
 ghost use Rattle.st_model.specs.Calls.{itself};
 ghost use Rattle.st_model.specs.Primitives.{truth};
-ghost use Rattle.st_model.specs.Storage.{has_characters, is_at_end, primitive_at_end};
-ghost use Rattle.st_frames.specs.Rows.{RowReads, RowDoes, Takes};
+ghost use Rattle.st_model.specs.Storage.{has_characters, is_at_end, primitive_at_end, place_of_object, place_of_character, stream_place, position_below, standing_at, stream_standing, stream_element, take_next, primitive_next, stream_unit, putting_at, stream_putting, put_next, primitive_next_put};
+ghost use Rattle.st_model.specs.Steps.{store_field};
+ghost use Rattle.st_model.specs.Deeds.{is_done, deed_of_trial};
+ghost use Rattle.st_storage.specs.Reading.{IsOfKind, succeed_by};
+ghost use Rattle.st_storage.specs.Storing.{answer_word, answer_deed, element_unit, are_characters, standing_in, StandsIn, putting_in};
+ghost use Rattle.st_frames.specs.Rows.{RowReads, RowDoes, RowLeaves, Takes};
 
-use crate::answering::succeed_with;
-use st_frames::{Registers, fetch_integer, page, top};
+use crate::answering::{succeed_leaving, succeed_with};
+use crate::elements::place_of_element;
+use crate::fetching::fetch_element;
+use crate::numbers::{check_bytes, fixed_fields};
+use crate::putting::store_element;
+use crate::shapes::{Answer, Element, Elements, Putting, Standing, Storing};
+use crate::storing::unit_of_element;
+use crate::strings::{character_byte, fetch_character};
+use st_frames::{Registers, fetch_integer, page, small, top, under};
 use st_memory::Objects;
-use st_model::{Dead, PageObject, Word};
+use st_model::{Dead, Deed, Kind, PageObject, Tried, Word};
 
-/// Whether the elements of a collection are Characters.
+/// What the elements of a collection are.
 #[tactic(auto, using(st_frames::proofs::Doing::rows), unfolding(st_model::specs::Storage::has_characters, st_model::specs::Storage::characters_or_not))]
-fn has_characters<O: Objects>(m: &O, r: &Registers, v: Word) -> Result<bool, Dead>
-    ensures does { RowReads O.Objects.own (has_characters O.names (word v)) itself m.now r.now result }
+fn has_characters<O: Objects>(m: &O, r: &Registers, v: Word) -> Result<Elements, Dead>
+    ensures does { RowReads O.Objects.own (has_characters O.names (word v))
+        are_characters m.now r.now result }
 {
     let class = m.fetch_class(v)?;
     let array = page(m, PageObject::ArrayClass);
     let string = page(m, PageObject::StringClass);
     if class.same(array) {
-        Ok(false)
+        Ok(Elements::Objects)
     } else if class.same(string) {
-        Ok(true)
+        Ok(Elements::Characters)
     } else {
         Err(Dead::Kind)
     }
@@ -54,9 +67,10 @@ fn truth<O: Objects>(m: &O, r: &Registers, holds: bool) -> Word
 
 /// Primitive 67: whether the receiver, a stream, is at its end.
 #[tactic(auto, using(crate::proofs::Tries::tries), unfolding(st_model::specs::Storage::primitive_at_end))]
-pub fn primitive_at_end<O: Objects>(m: &mut O, r: &mut Registers) -> Result<bool, Dead>
+pub fn primitive_at_end<O: Objects>(m: &mut O, r: &mut Registers) -> Result<Tried, Dead>
     requires room { 1 ≤ O.room m.old }
-    ensures does { RowDoes O.Objects.own (primitive_at_end O.names) itself m.old r.old result m.new r.new }
+    ensures does { RowLeaves O.Objects.own (primitive_at_end O.names)
+        is_done deed_of_trial m.old r.old result m.new r.new }
     ensures takes { Takes O.Objects.own 1 m.old m.new }
 {
     let receiver = top(m, r)?;
@@ -65,6 +79,303 @@ pub fn primitive_at_end<O: Objects>(m: &mut O, r: &mut Registers) -> Result<bool
             let answer = truth(m, r, holds);
             succeed_with(m, r, 0, answer)
         }
-        Err(_) => Ok(false),
+        Err(_) => Ok(Tried::Failed),
+    }
+}
+
+/// The place of element number i of an Array.
+#[tactic(auto, using(st_frames::proofs::Doing::rows), unfolding(st_model::specs::Storage::place_of_object))]
+fn place_of_object<O: Objects>(m: &O, r: &Registers, v: Word, i: u32) -> Result<u32, Dead>
+    requires { i ≤ 16384 }
+    ensures does { RowReads O.Objects.own (place_of_object O.names (word v) i)
+        itself m.now r.now result }
+{
+    let fixed = fixed_fields(m, r, v)?;
+    place_of_element(m, r, v, fixed, i)
+}
+
+/// The place of element number i of a String, whose Character the table has.
+#[tactic(auto, using(st_frames::proofs::Doing::rows), unfolding(st_model::specs::Storage::place_of_character))]
+fn place_of_character<O: Objects>(m: &O, r: &Registers, v: Word, i: u32) -> Result<u32, Dead>
+    requires { i ≤ 16384 }
+    ensures does { RowReads O.Objects.own (place_of_character O.names (word v) i)
+        itself m.now r.now result }
+    ensures bytes { IfOk result (λ p. IsOfKind O.Objects.own m.now v Bytes) }
+{
+    check_bytes(m, r, v)?;
+    let place = place_of_element(m, r, v, 0, i)?;
+    fetch_character(m, r, v, place)?;
+    Ok(place)
+}
+
+/// The place of element number i of a stream's collection.
+#[tactic(auto, using(st_frames::proofs::Doing::rows), unfolding(st_model::specs::Storage::stream_place))]
+fn stream_place<O: Objects>(
+    m: &O,
+    r: &Registers,
+    v: Word,
+    i: u32,
+    elements: Elements,
+) -> Result<u32, Dead>
+    requires { i ≤ 16384 }
+    ensures does { RowReads O.Objects.own
+        (stream_place O.names (word v) i (are_characters elements)) itself m.now r.now result }
+    ensures bytes { IfOk result (λ p. are_characters elements ≡ true →
+        IsOfKind O.Objects.own m.now v Bytes) }
+{
+    match elements {
+        Elements::Objects => place_of_object(m, r, v, i),
+        Elements::Characters => place_of_character(m, r, v, i),
+    }
+}
+
+/// The position of a stream, which is at least 0 and below the limit in field i.
+#[tactic(auto, using(st_frames::proofs::Doing::rows, crate::proofs::Valued::positions), unfolding(st_model::specs::Storage::position_below))]
+fn position_below<O: Objects>(m: &O, r: &Registers, stream: Word, i: u32) -> Result<u32, Dead>
+    ensures does { RowReads O.Objects.own (position_below O.names (word stream) i)
+        itself m.now r.now result }
+    ensures low { IfOk result (λ n. n < 16383) }
+{
+    let position = fetch_integer(m, stream, 1)?;
+    let limit = fetch_integer(m, stream, i)?;
+    if limit <= position {
+        return Err(Dead::Field);
+    }
+    if position < 0 {
+        return Err(Dead::Field);
+    }
+    Ok(position as u32)
+}
+
+/// Where a stream stands, with its limit in field i.
+#[tactic(auto, using(st_frames::proofs::Doing::rows), unfolding(st_model::specs::Storage::stream_standing, st_model::specs::Storage::standing_at))]
+fn stream_standing<O: Objects>(m: &O, r: &Registers, stream: Word, i: u32) -> Result<Standing, Dead>
+    ensures does { RowReads O.Objects.own (stream_standing O.names (word stream) i)
+        standing_in m.now r.now result }
+    ensures stands { IfOk result (StandsIn O.Objects.own m.now stream) }
+{
+    let collection = m.fetch_field(stream, 0)?;
+    let elements = has_characters(m, r, collection)?;
+    let position = position_below(m, r, stream, i)?;
+    let place = stream_place(m, r, collection, position + 1, elements)?;
+    Ok(Standing {
+        collection,
+        position,
+        place,
+        elements,
+    })
+}
+
+/// The element of a stream's collection at a place.
+#[tactic(auto, using(st_frames::proofs::Doing::rows), unfolding(st_model::specs::Storage::stream_element))]
+fn stream_element<O: Objects>(
+    m: &mut O,
+    r: &Registers,
+    v: Word,
+    place: u32,
+    elements: Elements,
+) -> Result<Answer, Dead>
+    requires room { 1 ≤ O.room m.old }
+    ensures does { RowLeaves O.Objects.own
+        (stream_element O.names (word v) place (are_characters elements))
+        answer_word answer_deed m.old r.now result m.new r.now }
+    ensures takes { Takes O.Objects.own 1 m.old m.new }
+{
+    match elements {
+        Elements::Objects => fetch_element(m, r, v, place),
+        Elements::Characters => {
+            let word = fetch_character(m, r, v, place)?;
+            Ok(Answer {
+                word,
+                deed: Deed::Nothing,
+            })
+        }
+    }
+}
+
+/// Stores the position of a stream that passes one element more.
+#[tactic(auto, using(st_frames::proofs::Doing::rows))]
+fn store_position<O: Objects>(
+    m: &mut O,
+    r: &Registers,
+    stream: Word,
+    position: u32,
+) -> Result<(), Dead>
+    requires low { position < 16383 }
+    requires room { 1 ≤ O.room m.old }
+    ensures does { RowDoes O.Objects.own
+        (store_field O.names (word stream) 1 (Small (position + 1)))
+        itself m.old r.now result m.new r.now }
+    ensures takes { Takes O.Objects.own 1 m.old m.new }
+{
+    m.store_field(stream, 1, small(position + 1))
+}
+
+/// The next element of a stream, whose position rises by 1.
+#[tactic(auto, using(st_frames::proofs::Doing::rows), unfolding(st_model::specs::Storage::take_next))]
+fn take_next<O: Objects>(
+    m: &mut O,
+    r: &Registers,
+    stream: Word,
+    standing: Standing,
+) -> Result<Answer, Dead>
+    requires stands { StandsIn O.Objects.own m.old stream standing }
+    requires room { 2 ≤ O.room m.old }
+    ensures does { RowLeaves O.Objects.own
+        (take_next O.names (word stream) (standing_in standing))
+        answer_word answer_deed m.old r.now result m.new r.now }
+    ensures takes { Takes O.Objects.own 2 m.old m.new }
+{
+    let answer = stream_element(m, r, standing.collection, standing.place, standing.elements)?;
+    store_position(m, r, stream, standing.position)?;
+    Ok(answer)
+}
+
+/// Answers the next element of a stream.
+#[tactic(auto, using(st_frames::proofs::Doing::rows), unfolding(crate::specs::Reading::succeed_by))]
+fn answer_next<O: Objects>(
+    m: &mut O,
+    r: &mut Registers,
+    stream: Word,
+    standing: Standing,
+) -> Result<Tried, Dead>
+    requires stands { StandsIn O.Objects.own m.old stream standing }
+    requires room { 3 ≤ O.room m.old }
+    ensures does { RowLeaves O.Objects.own
+        (succeed_by O.names 0 (take_next O.names (word stream) (standing_in standing)))
+        is_done deed_of_trial m.old r.old result m.new r.new }
+    ensures takes { Takes O.Objects.own 3 m.old m.new }
+{
+    let answer = take_next(m, r, stream, standing)?;
+    succeed_leaving(m, r, 0, answer)
+}
+
+/// Primitive 65: the next element of the receiver, a stream, whose position rises by 1.
+#[tactic(auto, using(crate::proofs::Tries::effects), unfolding(st_model::specs::Storage::primitive_next))]
+pub fn primitive_next<O: Objects>(m: &mut O, r: &mut Registers) -> Result<Tried, Dead>
+    requires room { 3 ≤ O.room m.old }
+    ensures does { RowLeaves O.Objects.own (primitive_next O.names)
+        is_done deed_of_trial m.old r.old result m.new r.new }
+    ensures takes { Takes O.Objects.own 3 m.old m.new }
+{
+    let receiver = top(m, r)?;
+    match stream_standing(m, r, receiver, 2) {
+        Ok(standing) => answer_next(m, r, receiver, standing),
+        Err(_) => Ok(Tried::Failed),
+    }
+}
+
+/// What a value is as an element of a stream's collection.
+#[tactic(auto, using(st_frames::proofs::Doing::rows), unfolding(st_model::specs::Storage::stream_unit))]
+fn stream_unit<O: Objects>(
+    m: &O,
+    r: &Registers,
+    v: Word,
+    x: Word,
+    elements: Elements,
+) -> Result<Element, Dead>
+    requires bytes { are_characters elements ≡ true → IsOfKind O.Objects.own m.now v Bytes }
+    ensures does { RowReads O.Objects.own
+        (stream_unit O.names (word v) (word x) (are_characters elements))
+        element_unit m.now r.now result }
+    ensures kind { IfOk result (λ e. IsOfKind O.Objects.own m.now v e.kind) }
+{
+    match elements {
+        Elements::Objects => unit_of_element(m, r, v, x),
+        Elements::Characters => {
+            let byte = character_byte(m, r, x)?;
+            let unit = u16::from(byte);
+            Ok(Element {
+                kind: Kind::Bytes,
+                unit,
+            })
+        }
+    }
+}
+
+/// A value, to be stored as the next element of a stream.
+#[tactic(auto, using(st_frames::proofs::Doing::rows), unfolding(st_model::specs::Storage::stream_putting, st_model::specs::Storage::putting_at))]
+fn stream_putting<O: Objects>(m: &O, r: &Registers, stream: Word, x: Word) -> Result<Putting, Dead>
+    ensures does { RowReads O.Objects.own (stream_putting O.names (word stream) (word x))
+        putting_in m.now r.now result }
+    ensures stands { IfOk result (λ p. StandsIn O.Objects.own m.now stream p.standing) }
+    ensures kind { IfOk result (λ p. IsOfKind O.Objects.own m.now p.standing.collection p.kind) }
+{
+    let standing = stream_standing(m, r, stream, 3)?;
+    let element = stream_unit(m, r, standing.collection, x, standing.elements)?;
+    Ok(Putting {
+        standing,
+        kind: element.kind,
+        unit: element.unit,
+    })
+}
+
+/// Stores the next element of a stream, whose position rises by 1 from what it was.
+#[tactic(auto, using(st_frames::proofs::Doing::rows), unfolding(st_model::specs::Storage::put_next))]
+fn put_next<O: Objects>(
+    m: &mut O,
+    r: &Registers,
+    stream: Word,
+    x: Word,
+    putting: Putting,
+) -> Result<Answer, Dead>
+    requires stands { StandsIn O.Objects.own m.old stream putting.standing }
+    requires kind { IsOfKind O.Objects.own m.old putting.standing.collection putting.kind }
+    requires room { 2 ≤ O.room m.old }
+    ensures does { RowLeaves O.Objects.own
+        (put_next O.names (word stream) (word x) (putting_in putting))
+        answer_word answer_deed m.old r.now result m.new r.now }
+    ensures takes { Takes O.Objects.own 2 m.old m.new }
+{
+    let Standing {
+        collection,
+        position,
+        place,
+        ..
+    } = putting.standing;
+    let storing = Storing {
+        place,
+        kind: putting.kind,
+        unit: putting.unit,
+    };
+    let deed = store_element(m, r, collection, x, storing)?;
+    store_position(m, r, stream, position)?;
+    Ok(Answer { word: x, deed })
+}
+
+/// Stores the next element of a stream, and answers it.
+#[tactic(auto, using(st_frames::proofs::Doing::rows), unfolding(crate::specs::Reading::succeed_by))]
+fn answer_put<O: Objects>(
+    m: &mut O,
+    r: &mut Registers,
+    stream: Word,
+    x: Word,
+    putting: Putting,
+) -> Result<Tried, Dead>
+    requires stands { StandsIn O.Objects.own m.old stream putting.standing }
+    requires kind { IsOfKind O.Objects.own m.old putting.standing.collection putting.kind }
+    requires room { 3 ≤ O.room m.old }
+    ensures does { RowLeaves O.Objects.own
+        (succeed_by O.names 1 (put_next O.names (word stream) (word x) (putting_in putting)))
+        is_done deed_of_trial m.old r.old result m.new r.new }
+    ensures takes { Takes O.Objects.own 3 m.old m.new }
+{
+    let answer = put_next(m, r, stream, x, putting)?;
+    succeed_leaving(m, r, 1, answer)
+}
+
+/// Primitive 66: the argument becomes the next element of the receiver, a stream, whose position rises by 1.
+#[tactic(auto, using(crate::proofs::Tries::effects), unfolding(st_model::specs::Storage::primitive_next_put))]
+pub fn primitive_next_put<O: Objects>(m: &mut O, r: &mut Registers) -> Result<Tried, Dead>
+    requires room { 3 ≤ O.room m.old }
+    ensures does { RowLeaves O.Objects.own (primitive_next_put O.names)
+        is_done deed_of_trial m.old r.old result m.new r.new }
+    ensures takes { Takes O.Objects.own 3 m.old m.new }
+{
+    let receiver = under(m, r, 1)?;
+    let argument = top(m, r)?;
+    match stream_putting(m, r, receiver, argument) {
+        Ok(putting) => answer_put(m, r, receiver, argument, putting),
+        Err(_) => Ok(Tried::Failed),
     }
 }

@@ -1,19 +1,24 @@
-ghost use Rattle.std.specs.Prelude.{◌≡◌, ◌<◌, ◌≤◌, ◌+◌};
+ghost use Rattle.std.specs.Prelude.{◌≡◌, ◌<◌, ◌≤◌, ◌+◌, IfOk};
+ghost use Rattle.st_model.specs.declared.kind.Kind.TheVariants.{Bytes};
 ghost use Rattle.st_model.specs.Values.{word};
 ghost use Rattle.st_model.specs.Calls.{itself};
-ghost use Rattle.st_model.specs.Storage.{fetch_character, place_in_bytes, character_at, primitive_string_at};
-ghost use Rattle.st_frames.specs.Rows.{RowReads, RowDoes, Takes};
+ghost use Rattle.st_model.specs.Storage.{fetch_character, place_in_bytes, character_at, primitive_string_at, character_byte, character_storing_at, storing_character};
+ghost use Rattle.st_storage.specs.Reading.{IsOfKind};
+ghost use Rattle.st_storage.specs.Storing.{storing_in};
+ghost use Rattle.st_model.specs.Deeds.{is_done, deed_of_trial};
+ghost use Rattle.st_frames.specs.Rows.{RowReads, RowLeaves, Takes};
 
 use crate::answering::succeed_with;
 use crate::elements::place_at;
-use crate::numbers::check_bytes;
+use crate::numbers::{byte_or_die, check_bytes, check_class};
+use crate::shapes::Storing;
 use st_frames::{Registers, page, top, under};
 use st_memory::Objects;
-use st_model::{Dead, PageObject, Word};
+use st_model::{Dead, Kind, PageObject, Tried, Word};
 
 /// The Character of a byte.
 #[tactic(auto, using(st_frames::proofs::Doing::rows), unfolding(st_model::specs::Storage::fetch_character))]
-fn fetch_character<O: Objects>(m: &O, r: &Registers, v: Word, i: u32) -> Result<Word, Dead>
+pub fn fetch_character<O: Objects>(m: &O, r: &Registers, v: Word, i: u32) -> Result<Word, Dead>
     ensures does { RowReads O.Objects.own (fetch_character O.names (word v) i) word m.now r.now result }
 {
     let byte = m.fetch_byte(v, i)?;
@@ -26,6 +31,7 @@ fn fetch_character<O: Objects>(m: &O, r: &Registers, v: Word, i: u32) -> Result<
 fn place_in_bytes<O: Objects>(m: &O, r: &Registers, v: Word, index: Word) -> Result<u32, Dead>
     ensures does { RowReads O.Objects.own (place_in_bytes O.names (word v) (word index))
         itself m.now r.now result }
+    ensures bytes { IfOk result (λ i. IsOfKind O.Objects.own m.now v Bytes) }
 {
     check_bytes(m, r, v)?;
     place_at(m, r, v, 0, index)
@@ -43,15 +49,50 @@ fn character_at<O: Objects>(m: &O, r: &Registers, string: Word, index: Word) -> 
 
 /// Primitive 63: the Character that the argument numbers in the receiver.
 #[tactic(auto, using(crate::proofs::Tries::tries), unfolding(st_model::specs::Storage::primitive_string_at))]
-pub fn primitive_string_at<O: Objects>(m: &mut O, r: &mut Registers) -> Result<bool, Dead>
+pub fn primitive_string_at<O: Objects>(m: &mut O, r: &mut Registers) -> Result<Tried, Dead>
     requires room { 1 ≤ O.room m.old }
-    ensures does { RowDoes O.Objects.own (primitive_string_at O.names) itself m.old r.old result m.new r.new }
+    ensures does { RowLeaves O.Objects.own (primitive_string_at O.names)
+        is_done deed_of_trial m.old r.old result m.new r.new }
     ensures takes { Takes O.Objects.own 1 m.old m.new }
 {
     let receiver = under(m, r, 1)?;
     let index = top(m, r)?;
     match character_at(m, r, receiver, index) {
         Ok(answer) => { succeed_with(m, r, 1, answer) }
-        Err(_) => Ok(false),
+        Err(_) => Ok(Tried::Failed),
     }
+}
+
+/// The byte of a Character.
+#[tactic(auto, using(st_frames::proofs::Doing::rows), unfolding(st_model::specs::Storage::character_byte))]
+pub fn character_byte<O: Objects>(m: &O, r: &Registers, x: Word) -> Result<u8, Dead>
+    ensures does { RowReads O.Objects.own (character_byte O.names (word x)) itself m.now r.now result }
+{
+    check_class(m, r, x, PageObject::CharacterClass)?;
+    let code = m.fetch_field(x, 0)?;
+    byte_or_die(m, r, code)
+}
+
+/// A Character, to be stored at the place that an index names in an object of kind Bytes.
+#[tactic(auto, using(st_frames::proofs::Doing::rows), unfolding(st_model::specs::Storage::storing_character, st_model::specs::Storage::character_storing_at))]
+pub fn storing_character<O: Objects>(
+    m: &O,
+    r: &Registers,
+    string: Word,
+    index: Word,
+    x: Word,
+) -> Result<Storing, Dead>
+    ensures does { RowReads O.Objects.own
+        (storing_character O.names (word string) (word index) (word x))
+        storing_in m.now r.now result }
+    ensures kind { IfOk result (λ s. IsOfKind O.Objects.own m.now string s.kind) }
+{
+    let place = place_in_bytes(m, r, string, index)?;
+    let byte = character_byte(m, r, x)?;
+    let unit = u16::from(byte);
+    Ok(Storing {
+        place,
+        kind: Kind::Bytes,
+        unit,
+    })
 }

@@ -4,7 +4,7 @@ use Rattle.st_frames.specs.Shown.{shown}
 use Rattle.st_frames.proofs.Closed.{is_closed}
 use Rattle.st_machine.specs.declared.ending.RunEnd.TheVariants as ending
 use Rattle.st_machine.specs.Runs.{EndsAs}
-use Rattle.st_machine.proofs.Runs.{none_so_far, ends_here, goes_further, ran_all, asks_nothing, run_counts}
+use Rattle.st_machine.proofs.Runs.{none_so_far, ends_here, goes_further, ran_all, run_counts}
 use Rattle.st_machine.proofs.running.run.Goals as goal
 
 pub loop-done-init : goal.loop-done-init
@@ -41,10 +41,6 @@ returns-clause-ends g c = λ s h.
     let c' = shown (g.M.Memory.view c.loop-done.m) c.loop-done.f c.loop-done.w in
     let all : c.loop-done.done ≡ c.args.n = omega arith in
     subst (λ n. EndsAs n s ending.Ran c') all (ran_all c.loop-done.done s c' (c.loop-done.invariant.shows s h))
-
-pub returns-in-Some-clause-asks : goal.returns-in-Some-clause-asks
-returns-in-Some-clause-asks g c =
-    asks_nothing c.loop-done.done (shown (g.M.Memory.view c.loop-done.m) c.loop-done.f c.loop-done.w) (shown (g.M.Memory.view c.cycle.new.m) c.cycle.new.f c.cycle.new.w) c.cycle.result c.in-Some.end c.cycle.ensures.cycle (sym c.in-Some.ensures)
 
 pub returns-in-Some-clause-counts : goal.returns-in-Some-clause-counts
 returns-in-Some-clause-counts g c = run_counts c.args.n c.loop-done.done c.cycle.result c.in-Some.end (sym c.in-Some.ensures) c.loop-done-test.true

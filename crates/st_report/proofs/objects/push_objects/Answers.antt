@@ -1,4 +1,4 @@
-use Rattle.std.proofs.Common.{◌≡◌, ℕ, ◌+◌, ◌*◌, ◌/◌, ◌<◌, ◌++◌, suc, take, drop, sym, ap, ◌∙◌, subst, refl, length, true, false, arith, append_assoc}
+use Rattle.std.proofs.Common.{◌≡◌, ℕ, ◌+◌, ◌*◌, ◌/◌, ◌<◌, ◌++◌, suc, take, drop, sym, ap, ◌∙◌, subst, length, true, false, arith, append_assoc}
 use Rattle.st_model.specs.declared.oop.Oop.{Oop}
 use Rattle.st_model.specs.Values.{value, value_of}
 use Rattle.st_model.specs.Table.{Table}

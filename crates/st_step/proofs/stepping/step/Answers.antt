@@ -1,9 +1,18 @@
+use Rattle.st_step.proofs.Said.{says_top}
 use Rattle.st_step.proofs.Foreseeing.{goes, goes_none, goes_dead}
 use Rattle.std.proofs.Common.{◌∙◌, ap}
-use Rattle.st_model.specs.Outcomes.{end_of}
+use Rattle.st_model.specs.Values.{word}
+use Rattle.st_model.specs.Outcomes.{end_of, outcome_of}
 use Rattle.st_model.specs.Machine.{Went}
 use Rattle.st_frames.specs.Shown.{shown}
 use Rattle.st_step.proofs.stepping.step.Goals as goal
+
+pub returns-in-Ok-Says-clause-step : goal.returns-in-Ok-Says-clause-step
+returns-in-Ok-Says-clause-step g c =
+    let s = shown (g.M.Memory.view c.args.m.now) c.args.f.now c.args.w.now in
+    let t = shown (g.M.Memory.view c.try_step.new.m) c.try_step.new.f c.args.w.now in
+    says_top s t (word c.in-Ok-Says.field-0-0) (outcome_of c.say_top.result) (c.in-Ok-Says.ensures.step ∙ ap (λ x. Went (end_of x) t) c.in-Ok-Says.field-0-is)
+    (λ x e. c.say_top.ensures c.args.w.now x e)
 
 pub returns-in-Ok-NotBuilt-clause-step : goal.returns-in-Ok-NotBuilt-clause-step
 returns-in-Ok-NotBuilt-clause-step g c =

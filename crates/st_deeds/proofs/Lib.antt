@@ -1,0 +1,3 @@
+pub mod Done
+pub mod Headers
+pub mod Replacing

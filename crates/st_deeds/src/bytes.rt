@@ -1,0 +1,57 @@
+ghost use Rattle.std.specs.Prelude.{◌≡◌, true, false, IfSome, IfNone};
+ghost use Rattle.st_model.specs.Values.{value, word};
+ghost use Rattle.st_model.specs.Objects.{is_bytes};
+ghost use Rattle.st_model.specs.View.{is_live, object_of};
+ghost use Rattle.st_model.specs.Deeds.{changed_by, bytes_replaced, bytes_from};
+
+use crate::named::object_named;
+use st_memory::{Memory, copy_bytes};
+use st_model::{Kind, Oop, Word};
+
+/// The object of kind Bytes that a word names, where one is there.
+#[tactic(auto, using(crate::proofs::Done::named_objects))]
+fn bytes_named<M: Memory>(m: &M, named: Word) -> Option<Oop>
+    ensures same { IfSome result (λ o. value o ≡ word named) }
+    ensures live { IfSome result (λ o. is_live (M.view m.now).objects (value o) ≡ true) }
+    ensures kind { IfSome result (λ o. is_bytes (object_of (M.view m.now).objects (value o)).kind ≡ true) }
+    ensures none { IfNone result (is_live (M.view m.now).objects (word named) ≡ true
+        → is_bytes (object_of (M.view m.now).objects (word named)).kind ≡ false) }
+{
+    let object = object_named(m, named)?;
+    match m.kind(object) {
+        Kind::Bytes => Some(object),
+        Kind::Pointers | Kind::Words | Kind::Method => None,
+    }
+}
+
+/// Has `count` bytes of an object from a place on become those of another from another place on, as they were before, where
+/// both are of kind Bytes and have such places.
+pub fn replace_bytes<M: Memory>(
+    m: &mut M,
+    target: Word,
+    source: Word,
+    to: u32,
+    from: u32,
+    count: u32,
+)
+    ensures objects { let old = (M.view m.old).objects in
+        (M.view m.new).objects
+        ≡ changed_by (bytes_replaced to (bytes_from old (word source) from count)) old (word target) }
+    ensures held { (M.view m.new).held ≡ (M.view m.old).held }
+    ensures head { (M.view m.new).head ≡ (M.view m.old).head }
+{
+    let into = match bytes_named(m, target) {
+        Some(into) => into,
+        None => return,
+    };
+    let source = match bytes_named(m, source) {
+        Some(source) => source,
+        None => return,
+    };
+    let room = m.size(into).saturating_sub(to);
+    let there = m.size(source).saturating_sub(from);
+    let copied = count.min(room).min(there);
+    if copied > 0 {
+        copy_bytes(m, copied, source, from, into, to);
+    }
+}

@@ -1,0 +1,10 @@
+//! What a primitive leaves to be done on a memory, done there. Where there is no such object or no such place, nothing is done.
+#![tactic(auto)]
+
+mod bytes;
+mod carry;
+mod methods;
+mod named;
+mod units;
+
+pub use carry::carry_out;

@@ -1,0 +1,91 @@
+ghost use Rattle.std.specs.Prelude.{◌≡◌, true};
+ghost use Rattle.st_model.specs.Values.{value, word};
+ghost use Rattle.st_model.specs.Objects.{has_bytes};
+ghost use Rattle.st_model.specs.View.{is_live};
+ghost use Rattle.st_model.specs.Primitives.{bytes_of_number};
+ghost use Rattle.st_model.specs.Deeds.{changed_by, word_stored, byte_stored, bytes_stored};
+
+use crate::named::object_named;
+use st_memory::{Memory, count_fields};
+use st_model::{Kind, Oop, Word};
+
+/// Stores a word at a place of an object of kind Words.
+#[tactic(auto, using(st_memory::proofs::Bodies::bodies, crate::proofs::Done::words))]
+pub fn store_word<M: Memory>(m: &mut M, object: Word, place: u32, stored: u16)
+    ensures objects { (M.view m.new).objects
+        ≡ changed_by (word_stored place stored) (M.view m.old).objects (word object) }
+    ensures held { (M.view m.new).held ≡ (M.view m.old).held }
+    ensures head { (M.view m.new).head ≡ (M.view m.old).head }
+{
+    let target = match object_named(m, object) {
+        Some(target) => target,
+        None => return,
+    };
+    if !m.kind(target).is_words() {
+        return;
+    }
+    if place < m.size(target) {
+        m.set_word(target, place, stored);
+    }
+}
+
+/// Whether an object of this kind has bytes.
+fn has_bytes(kind: Kind) -> bool
+    ensures { result ≡ has_bytes kind }
+{
+    match kind {
+        Kind::Pointers | Kind::Words => false,
+        Kind::Bytes | Kind::Method => true,
+    }
+}
+
+/// Stores a byte at a place of an object that is there, where that is of kind Bytes or Method.
+#[tactic(auto, using(st_memory::proofs::Bodies::bodies, crate::proofs::Done::bytes))]
+fn put_byte<M: Memory>(m: &mut M, target: Oop, place: u32, byte: u8)
+    requires { is_live (M.view m.old).objects (value target) ≡ true }
+    ensures objects { (M.view m.new).objects
+        ≡ changed_by (byte_stored place byte) (M.view m.old).objects (value target) }
+    ensures held { (M.view m.new).held ≡ (M.view m.old).held }
+    ensures head { (M.view m.new).head ≡ (M.view m.old).head }
+{
+    if !has_bytes(m.kind(target)) {
+        return;
+    }
+    if place < 2 * count_fields(m, target) {
+        return;
+    }
+    if place < m.size(target) {
+        m.set_byte(target, place, byte);
+    }
+}
+
+/// Stores a byte at a place of an object of kind Bytes or Method; of a Method from the first bytecode on.
+#[tactic(auto, using(crate::proofs::Done::gone_stays))]
+pub fn store_byte<M: Memory>(m: &mut M, object: Word, place: u32, byte: u8)
+    ensures objects { (M.view m.new).objects
+        ≡ changed_by (byte_stored place byte) (M.view m.old).objects (word object) }
+    ensures held { (M.view m.new).held ≡ (M.view m.old).held }
+    ensures head { (M.view m.new).head ≡ (M.view m.old).head }
+{
+    if let Some(target) = object_named(m, object) {
+        put_byte(m, target, place, byte);
+    }
+}
+
+/// Stores the bytes of a number, the low one first, from the first place of an object on.
+pub fn store_number<M: Memory>(m: &mut M, object: Word, number: u32)
+    ensures objects { (M.view m.new).objects
+        ≡ changed_by (bytes_stored 0 (bytes_of_number number)) (M.view m.old).objects (word object) }
+    ensures held { (M.view m.new).held ≡ (M.view m.old).held }
+    ensures head { (M.view m.new).head ≡ (M.view m.old).head }
+{
+    let mut left = number;
+    for place in 0..4 {
+        if left < 256 {
+            store_byte(m, object, place, left as u8);
+            return;
+        }
+        store_byte(m, object, place, (left % 256) as u8);
+        left /= 256;
+    }
+}

@@ -1,0 +1,34 @@
+-- What a step says is the word at the top of the stack.
+use Rattle.std.proofs.Common.{◌≡◌, ℕ, refl, sym, ◌∙◌, ap, arith}
+use Rattle.std.specs.Prelude.{◌-◌}
+use Rattle.st_model.specs.declared.dead.Dead.{Dead}
+use Rattle.st_model.specs.Values.{Value}
+use Rattle.st_model.specs.Outcomes.{Outcome, StepEnd, Did}
+use Rattle.st_model.specs.Outcomes as outcome
+use Rattle.st_model.specs.Machine.{State, Died, Went, after, ◌>>=◌, ◌>>◌}
+use Rattle.st_model.specs.Steps.{get_sp, get_active, found, object_named, object, check, or_die, fetch_field, top, under}
+use Rattle.st_model.specs.Table.{Table, table, bounded_table}
+use Rattle.st_model.specs.Bytecodes.{step}
+use Rattle.st_model.proofs.Going.{step_names_top}
+
+less_none : (n : ℕ) → n - 0 ≡ n
+less_none n = omega arith
+
+-- 0 words below the top
+top_under : (s : State Table) → (top bounded_table).run s ≡ (under table 0).run s
+unfolding top under get_sp get_active fetch_field object object_named found ◌>>=◌ ◌>>◌ after check or_die
+top_under s = rw (less_none s.registers.sp) refl
+
+pub said_is : (s : State Table) (o x : Value) → (under table 0).run s ≡ Went o s → (top bounded_table).run s ≡ Went x s → outcome.Say o ≡ outcome.Say x
+said_is s o x u e =
+    let q : Went o s ≡ Went x s = sym u ∙ (sym (top_under s) ∙ e) in
+    let r : o ≡ x = cc in
+    ap (λ y. outcome.Say y) r
+
+pub none_said : (s : State Table) (k : Dead) (x : Value) → (under table 0).run s ≡ Died k → (top bounded_table).run s ≡ Went x s → ⊥
+none_said s k x u e = let q : Died k ≡ Went x s = sym u ∙ (sym (top_under s) ∙ e) in cc
+
+-- the outcome is the one that names the word at the top
+pub says_top : (s t : State Table) (v : Value) (o : Outcome) → (step bounded_table).run s ≡ Went (Did (outcome.Say v)) t
+    → ((x : Value) → (top bounded_table).run t ≡ Went x t → o ≡ outcome.Say x) → (step bounded_table).run s ≡ Went (Did o) t
+says_top s t v o e f = e ∙ ap (λ y. Went (Did y) t) (sym (f v (step_names_top s t v e)))

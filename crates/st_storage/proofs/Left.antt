@@ -1,0 +1,527 @@
+-- Bytes and headers that are stored at once, and as a deed that is left: both come to one state where the first byte and the
+-- size are read, or the header and its count.
+use Rattle.std.proofs.Common.{◌≡◌, ◌≢◌, ℕ, zero, suc, ◌+◌, ◌<◌, ◌≤◌, List, [], ◌∷◌, length, Option, Some, None, Bool, true, false, refl, sym, ◌∙◌, ap, arith, inl, inr, ◌⊎◌, length-set, take, drop}
+use Rattle.std.specs.Prelude.{◌-◌, ◌==◌, ◌&&◌, slice_get, nat_lt, nat_le, if◌then◌else◌}
+use Rattle.std.proofs.lemmas.Bool.Decides.{nat_tests}
+use Rattle.st_model.specs.declared.dead.Dead.{Dead}
+use Rattle.st_model.specs.declared.dead.Dead.TheVariants as dead
+use Rattle.st_model.specs.declared.kind.Kind.{Kind}
+use Rattle.st_model.specs.declared.kind.Kind.TheVariants as kind
+use Rattle.st_model.specs.Values.{Value, Small, Ref}
+use Rattle.st_model.specs.Objects.{Object, is_pointers, is_bytes, is_method, has_bytes, first_unit, size_of, with_field, object_with_unit}
+use Rattle.st_model.specs.Machine.{ObjectMemory, State, Transition, Died, Went, Step, is_there, answer, die, after, ◌>>=◌, ◌>>◌}
+use Rattle.st_model.specs.Table.{Table, table, entry, changed, IsTabular}
+use Rattle.st_model.specs.Steps.{found, object_named, object, stored_at, store_at, set_field, check, or_die, fetch_kind, fetch_size, fetch_byte, fetch_bytes, store_byte, store_bytes, fetch_method_field, store_method_field}
+use Rattle.st_model.specs.Methods.{literal_count, method_header}
+use Rattle.st_model.specs.Primitives.{bits_or_die}
+use Rattle.st_model.specs.Storage.{count_literals, check_header, Replacing, replace_and_answer}
+use Rattle.st_model.specs.Deeds.{changed_object, changed_by, byte_stored, bytes_stored, bytes_replaced, bytes_of_object, bytes_from, header_stored, literal_stored, over}
+use Rattle.st_model.proofs.TableLemmas.{changed-some}
+use Rattle.st_model.proofs.Leaving.{word-left, word-unleft, byte-left, byte-unleft, literal-left}
+
+changed-again : (t : Table) (n : ℕ) (a b : Object) → changed (changed t n a) n b ≡ changed t n b
+changed-again [] n a b = refl
+changed-again (None ∷ t) zero a b = refl
+changed-again (Some o ∷ t) zero a b = refl
+changed-again (None ∷ t) (suc n) a b = ap (λ u. None ∷ u) (changed-again t n a b)
+changed-again (Some o ∷ t) (suc n) a b = ap (λ u. Some o ∷ u) (changed-again t n a b)
+
+changed-same : (t : Table) (n : ℕ) (o : Object) → entry t n ≡ Some o → changed t n o ≡ t
+changed-same [] n o e = cc
+changed-same (None ∷ t) zero o e = refl
+changed-same (Some a ∷ t) zero o e = let q : a ≡ o = cc in ap (λ b. Some b ∷ t) (sym q)
+changed-same (None ∷ t) (suc n) o e = ap (λ u. None ∷ u) (changed-same t n o e)
+changed-same (Some a ∷ t) (suc n) o e = ap (λ u. Some a ∷ u) (changed-same t n o e)
+
+got : {A : Type 0} (xs : List A) (i : ℕ) → i < length xs → (x : A) × (slice_get xs i ≡ Some x)
+got [] i l = absurd (omega arith)
+got (y ∷ xs) zero l = (y, refl)
+got (y ∷ xs) (suc i) l = got xs i (omega arith)
+
+got_below : {A : Type 0} (xs : List A) (i : ℕ) (x : A) → slice_get xs i ≡ Some x → i < length xs
+got_below [] i x e = cc
+got_below (y ∷ xs) zero x e = omega arith
+got_below (y ∷ xs) (suc i) x e = let h = got_below xs i x e in omega (arith, h)
+
+got_past : {A : Type 0} (xs : List A) (i : ℕ) → length xs ≤ i → slice_get xs i ≡ None
+got_past [] i l = refl
+got_past (y ∷ xs) zero l = absurd (omega arith)
+got_past (y ∷ xs) (suc i) l = got_past xs i (omega arith)
+
+died : {A B : Type 0} (a k : Dead) → (let x : Transition (State Table) A = Died a in x ≡ Died k) → (let x : Transition (State Table) B = Died a in x ≡ Died k)
+died a k e = let q : a ≡ k = cc in ap (λ c. Died c) q
+
+-- where a byte is stored, kind, fields and the number of units stay
+kept : {A : Type 0} (f : Object → A) (b : Bool) (p o : Object) → f p ≡ f o → f (if b then p else o) ≡ f o
+kept f true p o e = e
+kept f false p o e = refl
+
+module _ (i x : ℕ) (o : Object) where
+  stored_kind : (byte_stored i x o).kind ≡ o.kind
+  stored_kind = kept (λ p. p.kind) (has_bytes o.kind && nat_le (first_unit o) i) (object_with_unit o (i - first_unit o) x) o refl
+
+  stored_first : first_unit (byte_stored i x o) ≡ first_unit o
+  stored_first = kept first_unit (has_bytes o.kind && nat_le (first_unit o) i) (object_with_unit o (i - first_unit o) x) o refl
+
+  stored_length : length (byte_stored i x o).units ≡ length o.units
+  stored_length = kept (λ p. length p.units) (has_bytes o.kind && nat_le (first_unit o) i) (object_with_unit o (i - first_unit o) x) o (length-set o.units (i - first_unit o) x)
+
+-- an object is there that has this byte
+pub record HasByte (t : Table) (n i : ℕ) (o : Object) : Type 0 where
+  pub is : entry t n ≡ Some o
+  pub bytes : has_bytes o.kind ≡ true
+  pub low : first_unit o ≤ i
+  pub high : i < first_unit o + length o.units
+
+no_pointers : (k : Kind) → has_bytes k ≡ true → is_pointers k ≡ false
+no_pointers kind.Pointers e = cc
+no_pointers kind.Words e = cc
+no_pointers kind.Bytes e = refl
+no_pointers kind.Method e = refl
+
+size_with_bytes : (o : Object) → has_bytes o.kind ≡ true → size_of o ≡ first_unit o + length o.units
+size_with_bytes o e = rw (no_pointers o.kind e) refl
+
+below : (x y : ℕ) → (x < y) ⊎ (y ≤ x)
+below x y = grind arith
+
+module _ (m : ObjectMemory Table) (tabular : IsTabular m) where
+  looks : {A : Type 0} → (Object → Step Table A) → Option Object → Step Table A
+  looks f x = found x >>= f
+
+  read_is : (t : Table) (n : ℕ) → m.read t n ≡ entry t n
+  read_is t n = λ j. tabular.read j t n
+
+  byte_of : ℕ → Object → Step Table ℕ
+  byte_of i o = check dead.Kind (has_bytes o.kind) >> (check dead.Field (nat_le (first_unit o) i) >> or_die dead.Field (slice_get o.units (i - first_unit o)))
+
+  byte_looks : (n i : ℕ) (s : State Table) (y : Option Object) (w : ℕ) (u : State Table) → entry s.memory n ≡ y → (looks (byte_of i) y).run s ≡ Went w u → (o : Object) × HasByte s.memory n i o
+  unfolding looks byte_of ◌>>=◌ ◌>>◌ after found answer die check or_die
+  byte_looks n i s None w u e f = cc
+  byte_looks n i s (Some o) w u e f = of_kind (has_bytes o.kind) (nat_le (first_unit o) i) (slice_get o.units (i - first_unit o)) refl refl refl f
+    where
+      of_kind : (b c : Bool) (x : Option ℕ) → has_bytes o.kind ≡ b → nat_le (first_unit o) i ≡ c → slice_get o.units (i - first_unit o) ≡ x
+          → (check dead.Kind b >> (check dead.Field c >> or_die dead.Field x)).run s ≡ Went w u → (o : Object) × HasByte s.memory n i o
+      of_kind false c x k l g f = cc
+      of_kind true false x k l g f = cc
+      of_kind true true None k l g f = cc
+      of_kind true true (Some v) k l g f =
+          let h = got_below o.units (i - first_unit o) v g in
+          let a : first_unit o ≤ i = grind (arith, nat_tests) in
+          (o, record { is = e; bytes = k; low = a; high = omega (arith, a, h) })
+
+  has_byte : (n i w : ℕ) (s u : State Table) → (fetch_byte m (Ref n) i).run s ≡ Went w u → (o : Object) × HasByte s.memory n i o
+  unfolding fetch_byte object object_named looks byte_of ◌>>=◌
+  has_byte n i w s u e = byte_looks n i s (m.read s.memory n) w u (sym (read_is s.memory n)) e
+
+  fetched : (n i : ℕ) (s : State Table) (o : Object) → HasByte s.memory n i o → (w : ℕ) × ((fetch_byte m (Ref n) i).run s ≡ Went w s)
+  unfolding fetch_byte object object_named ◌>>=◌ ◌>>◌ after found answer check or_die
+  fetched n i s o h =
+      let r : m.read s.memory n ≡ Some o = read_is s.memory n ∙ h.is in
+      let x = got o.units (i - first_unit o) (omega (arith, h.low, h.high)) in
+      let l : nat_le (first_unit o) i ≡ true = let q = h.low in grind (arith, nat_tests) in
+      (x.0, rw (r, h.bytes, l, x.1) refl)
+
+  past : (n i : ℕ) (s : State Table) (o : Object) → entry s.memory n ≡ Some o → has_bytes o.kind ≡ true → first_unit o ≤ i → first_unit o + length o.units ≤ i
+      → (fetch_byte m (Ref n) i).run s ≡ Died dead.Field
+  unfolding fetch_byte object object_named ◌>>=◌ ◌>>◌ after found answer check or_die die
+  past n i s o e k low high =
+      let r : m.read s.memory n ≡ Some o = read_is s.memory n ∙ e in
+      let x = got_past o.units (i - first_unit o) (omega (arith, low, high)) in
+      let l : nat_le (first_unit o) i ≡ true = grind (arith, nat_tests) in
+      rw (r, k, l, x) refl
+
+  sized : (n k : ℕ) (s u : State Table) (o : Object) → entry s.memory n ≡ Some o → (fetch_size m (Ref n)).run s ≡ Went k u → k ≡ size_of o
+  unfolding fetch_size object object_named ◌>>=◌ after found answer
+  sized n k s u o e f =
+      let r : m.read s.memory n ≡ Some o = read_is s.memory n ∙ e in
+      let q = rw r at f in cc
+
+  sized_there : (n : ℕ) (k : Dead) (s : State Table) (o : Object) → entry s.memory n ≡ Some o → (fetch_size m (Ref n)).run s ≡ Died k → ⊥
+  unfolding fetch_size object object_named ◌>>=◌ after found answer
+  sized_there n k s o e f =
+      let r : m.read s.memory n ≡ Some o = read_is s.memory n ∙ e in
+      let q = rw r at f in cc
+
+  store_then : (v : Value) (i b : ℕ) (bs : List ℕ) (s u : State Table) → (store_byte m v i b).run s ≡ Went tt u → (store_bytes m v i (b ∷ bs)).run s ≡ (store_bytes m v (suc i) bs).run u
+  unfolding store_bytes ◌>>◌ ◌>>=◌ after
+  store_then v i b bs s u e = rw e refl
+
+  store_died : (v : Value) (i b : ℕ) (bs : List ℕ) (s : State Table) (k : Dead) → (store_byte m v i b).run s ≡ Died k → (store_bytes m v i (b ∷ bs)).run s ≡ Died k
+  unfolding store_bytes ◌>>◌ ◌>>=◌ after
+  store_died v i b bs s k e = rw e refl
+
+  stored_none : (v : Value) (i : ℕ) (s : State Table) → (store_bytes m v i []).run s ≡ Went tt s
+  unfolding store_bytes answer
+  stored_none v i s = refl
+
+  stored_byte : (n i b : ℕ) (s : State Table) (o : Object) → HasByte s.memory n i o → (store_byte m (Ref n) i b).run s ≡ Went tt (record s { memory = changed s.memory n (byte_stored i b o) })
+  stored_byte n i b s o h =
+      let w = fetched n i s o h in
+      byte-left m tabular (Ref n) i b w.0 s w.1 ∙ ap (λ y. Went tt (record s { memory = changed_object (byte_stored i b) s.memory n y })) h.is
+
+  -- bytes that the object has
+  stored_all : (n i : ℕ) (bs : List ℕ) (s : State Table) (o : Object) → entry s.memory n ≡ Some o → has_bytes o.kind ≡ true → first_unit o ≤ i → i + length bs ≤ first_unit o + length o.units
+      → (store_bytes m (Ref n) i bs).run s ≡ Went tt (record s { memory = changed s.memory n (bytes_stored i bs o) })
+  stored_all n i [] s o e k low high = stored_none (Ref n) i s ∙ ap (λ (t : Table). Went tt (record s { memory = t })) (sym (changed-same s.memory n o e))
+  stored_all n i (b ∷ bs) s o e k low high =
+      let p = byte_stored i b o in
+      let h : HasByte s.memory n i o = record { is = e; bytes = k; low = low; high = omega (arith, high) } in
+      let a = stored_kind i b o in
+      let f = stored_first i b o in
+      let l = stored_length i b o in
+      store_then (Ref n) i b bs s (record s { memory = changed s.memory n p }) (stored_byte n i b s o h)
+      ∙ (stored_all n (suc i) bs (record s { memory = changed s.memory n p }) p (changed-some s.memory n p o e) (ap has_bytes a ∙ k) (omega (arith, f, low)) (omega (arith, f, l, high))
+      ∙ ap (λ (t : Table). Went tt (record s { memory = t })) (changed-again s.memory n p (bytes_stored (suc i) bs p)))
+
+  -- and more than it has
+  stored_past : (n i : ℕ) (bs : List ℕ) (s : State Table) (o : Object) → entry s.memory n ≡ Some o → has_bytes o.kind ≡ true → first_unit o ≤ i → i ≤ first_unit o + length o.units
+      → first_unit o + length o.units < i + length bs → (store_bytes m (Ref n) i bs).run s ≡ Died dead.Field
+  stored_past n i [] s o e k low within high = absurd (omega (arith, within, high))
+  stored_past n i (b ∷ bs) s o e k low within high =
+      let p = byte_stored i b o in
+      let a = stored_kind i b o in
+      let f = stored_first i b o in
+      let g = stored_length i b o in
+      elim (below i (first_unit o + length o.units)) [
+        | inl l ↦
+            store_then (Ref n) i b bs s (record s { memory = changed s.memory n p }) (stored_byte n i b s o (record { is = e; bytes = k; low = low; high = l }))
+            ∙ stored_past n (suc i) bs (record s { memory = changed s.memory n p }) p (changed-some s.memory n p o e) (ap has_bytes a ∙ k) (omega (arith, f, low)) (omega (arith, f, g, l)) (omega (arith, f, g, high))
+        | inr l ↦ store_died (Ref n) i b bs s dead.Field (byte-unleft m tabular (Ref n) i b dead.Field s (past n i s o e k low l))
+      ]
+
+  -- of a value, by what is read first: its byte and its size
+  pub bytes-left : (v : Value) (i : ℕ) (bs : List ℕ) (s : State Table) (w size : ℕ) → (fetch_byte m v i).run s ≡ Went w s → (fetch_size m v).run s ≡ Went size s → i + length bs ≤ size
+      → (store_bytes m v i bs).run s ≡ Went tt (over (λ t. changed_by (bytes_stored i bs) t v) s)
+  unfolding fetch_byte object ◌>>=◌ after die
+  bytes-left (Small n) i bs s w size e f l = cc
+  bytes-left (Ref n) i bs s w size e f l = by (has_byte n i w s s e)
+    where
+      by : ((o : Object) × HasByte s.memory n i o) → (store_bytes m (Ref n) i bs).run s ≡ Went tt (over (λ t. changed_by (bytes_stored i bs) t (Ref n)) s)
+      by q =
+          let o = q.0 in
+          let h = q.1 in
+          let z : size ≡ first_unit o + length o.units = sized n size s s o h.is f ∙ size_with_bytes o h.bytes in
+          stored_all n i bs s o h.is h.bytes h.low (omega (arith, l, z)) ∙ ap (λ y. Went tt (record s { memory = changed_object (bytes_stored i bs) s.memory n y })) (sym h.is)
+
+  pub bytes-past : (v : Value) (i : ℕ) (bs : List ℕ) (s : State Table) (w size : ℕ) → (fetch_byte m v i).run s ≡ Went w s → (fetch_size m v).run s ≡ Went size s → size < i + length bs
+      → (store_bytes m v i bs).run s ≡ Died dead.Field
+  unfolding fetch_byte object ◌>>=◌ after die
+  bytes-past (Small n) i bs s w size e f l = cc
+  bytes-past (Ref n) i bs s w size e f l = by (has_byte n i w s s e)
+    where
+      by : ((o : Object) × HasByte s.memory n i o) → (store_bytes m (Ref n) i bs).run s ≡ Died dead.Field
+      by q =
+          let o = q.0 in
+          let h = q.1 in
+          let z : size ≡ first_unit o + length o.units = sized n size s s o h.is f ∙ size_with_bytes o h.bytes in
+          stored_past n i bs s o h.is h.bytes h.low (let a = h.high in omega (arith, a)) (omega (arith, l, z))
+
+  pub bytes-unsized : (v : Value) (i : ℕ) (s : State Table) (w : ℕ) (k : Dead) → (fetch_byte m v i).run s ≡ Went w s → (fetch_size m v).run s ≡ Died k → ⊥
+  unfolding fetch_byte object ◌>>=◌ after die
+  bytes-unsized (Small n) i s w k e f = cc
+  bytes-unsized (Ref n) i s w k e f = let q = has_byte n i w s s e in sized_there n k s q.0 q.1.is f
+
+  pub bytes-unleft : (v : Value) (i : ℕ) (bs : List ℕ) (s : State Table) (k : Dead) → 0 < length bs → (fetch_byte m v i).run s ≡ Died k → (store_bytes m v i bs).run s ≡ Died k
+  bytes-unleft v i [] s k l e = absurd (omega (arith, l))
+  bytes-unleft v i (b ∷ bs) s k l e = store_died v i b bs s k (byte-unleft m tabular v i b k s e)
+
+  -- bytes that are fetched
+  fetch_then : (v : Value) (i n b : ℕ) (bs : List ℕ) (s : State Table) → (fetch_byte m v i).run s ≡ Went b s → (fetch_bytes m v (suc i) n).run s ≡ Went bs s → (fetch_bytes m v i (suc n)).run s ≡ Went (b ∷ bs) s
+  unfolding fetch_bytes ◌>>=◌ after answer
+  fetch_then v i n b bs s e f = rw (e, f) refl
+
+  fetched_none : (v : Value) (i : ℕ) (s : State Table) → (fetch_bytes m v i 0).run s ≡ Went [] s
+  unfolding fetch_bytes answer
+  fetched_none v i s = refl
+
+  fetched_at : (n i : ℕ) (s : State Table) (o : Object) (b : ℕ) → HasByte s.memory n i o → slice_get o.units (i - first_unit o) ≡ Some b → (fetch_byte m (Ref n) i).run s ≡ Went b s
+  unfolding fetch_byte object object_named ◌>>=◌ ◌>>◌ after found answer check or_die
+  fetched_at n i s o b h x =
+      let r : m.read s.memory n ≡ Some o = read_is s.memory n ∙ h.is in
+      let l : nat_le (first_unit o) i ≡ true = let q = h.low in grind (arith, nat_tests) in
+      rw (r, h.bytes, l, x) refl
+
+  taken : (xs : List ℕ) (j : ℕ) (b n : ℕ) → slice_get xs j ≡ Some b → take (suc n) (drop j xs) ≡ b ∷ take n (drop (suc j) xs)
+  taken [] j b n e = cc
+  taken (x ∷ xs) zero b n e = let q : x ≡ b = cc in ap (λ y. y ∷ take n xs) q
+  taken (x ∷ xs) (suc j) b n e = taken xs j b n e
+
+  fetched_all : (n i k : ℕ) (s : State Table) (o : Object) → entry s.memory n ≡ Some o → has_bytes o.kind ≡ true → first_unit o ≤ i → i + k ≤ first_unit o + length o.units
+      → (fetch_bytes m (Ref n) i k).run s ≡ Went (take k (drop (i - first_unit o) o.units)) s
+  fetched_all n i zero s o e f low high = fetched_none (Ref n) i s
+  fetched_all n i (suc k) s o e f low high =
+      let x = got o.units (i - first_unit o) (omega (arith, low, high)) in
+      let h : HasByte s.memory n i o = record { is = e; bytes = f; low = low; high = omega (arith, high) } in
+      let j : suc i - first_unit o ≡ suc (i - first_unit o) = omega (arith, low) in
+      let rest = fetched_all n (suc i) k s o e f (omega (arith, low)) (omega (arith, high)) in
+      fetch_then (Ref n) i k x.0 (take k (drop (suc i - first_unit o) o.units)) s (fetched_at n i s o x.0 h x.1) rest
+      ∙ ap (λ bs. Went bs s) (ap (λ a. x.0 ∷ take k (drop a o.units)) j ∙ sym (taken o.units (i - first_unit o) x.0 k x.1))
+
+  kind_is : (n : ℕ) (s u : State Table) (k : Kind) (o : Object) → entry s.memory n ≡ Some o → (fetch_kind m (Ref n)).run s ≡ Went k u → k ≡ o.kind
+  unfolding fetch_kind object object_named ◌>>=◌ after found answer
+  kind_is n s u k o e f =
+      let r : m.read s.memory n ≡ Some o = read_is s.memory n ∙ e in
+      let q = rw r at f in cc
+
+  pub bytes-fetched : (v : Value) (i k : ℕ) (s : State Table) (w size : ℕ) → (fetch_byte m v i).run s ≡ Went w s → (fetch_size m v).run s ≡ Went size s → (fetch_kind m v).run s ≡ Went kind.Bytes s
+      → i + k ≤ size → (fetch_bytes m v i k).run s ≡ Went (bytes_from s.memory v i k) s
+  unfolding fetch_byte object ◌>>=◌ after die
+  bytes-fetched (Small n) i k s w size e f g l = cc
+  bytes-fetched (Ref n) i k s w size e f g l = by (has_byte n i w s s e)
+    where
+      by : ((o : Object) × HasByte s.memory n i o) → (fetch_bytes m (Ref n) i k).run s ≡ Went (bytes_from s.memory (Ref n) i k) s
+      by q =
+          let o = q.0 in
+          let h = q.1 in
+          let z : size ≡ first_unit o + length o.units = sized n size s s o h.is f ∙ size_with_bytes o h.bytes in
+          let b : is_bytes o.kind ≡ true = ap is_bytes (sym (kind_is n s s kind.Bytes o h.is g)) in
+          fetched_all n i k s o h.is h.bytes h.low (omega (arith, l, z)) ∙ ap (λ bs. Went bs s) (sym (rw (h.is, b) refl))
+
+  pub bytes-unfetched : (v : Value) (i k : ℕ) (s : State Table) (c : Dead) → 0 < k → (fetch_byte m v i).run s ≡ Died c → (fetch_bytes m v i k).run s ≡ Died c
+  unfolding fetch_bytes ◌>>=◌ after
+  bytes-unfetched v i zero s c l e = absurd (omega (arith, l))
+  bytes-unfetched v i (suc k) s c l e = rw e refl
+
+  fetch_died : (v : Value) (i n b : ℕ) (s : State Table) (k : Dead) → (fetch_byte m v i).run s ≡ Went b s → (fetch_bytes m v (suc i) n).run s ≡ Died k → (fetch_bytes m v i (suc n)).run s ≡ Died k
+  unfolding fetch_bytes ◌>>=◌ after
+  fetch_died v i n b s k e f = rw (e, f) refl
+
+  -- more bytes than there are
+  fetched_past : (n i k : ℕ) (s : State Table) (o : Object) → entry s.memory n ≡ Some o → has_bytes o.kind ≡ true → first_unit o ≤ i → i ≤ first_unit o + length o.units
+      → first_unit o + length o.units < i + k → (fetch_bytes m (Ref n) i k).run s ≡ Died dead.Field
+  fetched_past n i zero s o e f low within high = absurd (omega (arith, within, high))
+  fetched_past n i (suc k) s o e f low within high = elim (below i (first_unit o + length o.units)) [
+    | inl l ↦
+        let w = fetched n i s o (record { is = e; bytes = f; low = low; high = l }) in
+        fetch_died (Ref n) i k w.0 s dead.Field w.1 (fetched_past n (suc i) k s o e f (omega (arith, low)) (omega (arith, l)) (omega (arith, high)))
+    | inr l ↦ bytes-unfetched (Ref n) i (suc k) s dead.Field (omega arith) (past n i s o e f low l)
+  ]
+
+  pub bytes-unfetchable : (v : Value) (i k : ℕ) (s : State Table) (w size : ℕ) → (fetch_byte m v i).run s ≡ Went w s → (fetch_size m v).run s ≡ Went size s → size < i + k
+      → (fetch_bytes m v i k).run s ≡ Died dead.Field
+  unfolding fetch_byte object ◌>>=◌ after die
+  bytes-unfetchable (Small n) i k s w size e f l = cc
+  bytes-unfetchable (Ref n) i k s w size e f l = by (has_byte n i w s s e)
+    where
+      by : ((o : Object) × HasByte s.memory n i o) → (fetch_bytes m (Ref n) i k).run s ≡ Died dead.Field
+      by q =
+          let o = q.0 in
+          let h = q.1 in
+          let z : size ≡ first_unit o + length o.units = sized n size s s o h.is f ∙ size_with_bytes o h.bytes in
+          fetched_past n i k s o h.is h.bytes h.low (let a = h.high in omega (arith, a)) (omega (arith, l, z))
+
+  taken_length : (xs : List ℕ) (j k : ℕ) → j + k ≤ length xs → length (take k (drop j xs)) ≡ k
+  taken_length xs j zero l = refl
+  taken_length [] j (suc k) l = absurd (omega (arith, l))
+  taken_length (x ∷ xs) zero (suc k) l = ap (λ n. suc n) (taken_length xs zero k (omega (arith, l)))
+  taken_length (x ∷ xs) (suc j) (suc k) l = taken_length xs j (suc k) (omega (arith, l))
+
+  pub bytes-counted : (v : Value) (i k : ℕ) (s : State Table) (w size : ℕ) → (fetch_byte m v i).run s ≡ Went w s → (fetch_size m v).run s ≡ Went size s → (fetch_kind m v).run s ≡ Went kind.Bytes s
+      → i + k ≤ size → length (bytes_from s.memory v i k) ≡ k
+  unfolding fetch_byte object ◌>>=◌ after die
+  bytes-counted (Small n) i k s w size e f g l = cc
+  bytes-counted (Ref n) i k s w size e f g l = by (has_byte n i w s s e)
+    where
+      by : ((o : Object) × HasByte s.memory n i o) → length (bytes_from s.memory (Ref n) i k) ≡ k
+      by q =
+          let o = q.0 in
+          let h = q.1 in
+          let z : size ≡ first_unit o + length o.units = sized n size s s o h.is f ∙ size_with_bytes o h.bytes in
+          let b : is_bytes o.kind ≡ true = ap is_bytes (sym (kind_is n s s kind.Bytes o h.is g)) in
+          let low = h.low in
+          rw (h.is, b) (taken_length o.units (i - first_unit o) k (omega (arith, l, z, low)))
+
+  -- bytes stored in an object of kind Bytes
+  of_kind_bytes : (n : ℕ) (s : State Table) (y : Option Object) → (looks (λ o. answer o.kind) y).run s ≡ Went kind.Bytes s → (o : Object) × (y ≡ Some o) × (is_bytes o.kind ≡ true)
+  unfolding looks ◌>>=◌ after found answer die
+  of_kind_bytes n s None e = cc
+  of_kind_bytes n s (Some o) e = let q : o.kind ≡ kind.Bytes = cc in (o, refl, ap is_bytes q)
+
+  pub bytes-replaced : (v : Value) (i : ℕ) (bs : List ℕ) (s : State Table) → (fetch_kind m v).run s ≡ Went kind.Bytes s
+      → changed_by (bytes_stored i bs) s.memory v ≡ changed_by (bytes_replaced i bs) s.memory v
+  unfolding fetch_kind object object_named looks ◌>>=◌ after die
+  bytes-replaced (Small n) i bs s e = refl
+  bytes-replaced (Ref n) i bs s e = by (of_kind_bytes n s (m.read s.memory n) e)
+    where
+      by : ((o : Object) × (m.read s.memory n ≡ Some o) × (is_bytes o.kind ≡ true)) → changed_by (bytes_stored i bs) s.memory (Ref n) ≡ changed_by (bytes_replaced i bs) s.memory (Ref n)
+      by q =
+          let is : entry s.memory n ≡ Some q.0 = sym (read_is s.memory n) ∙ q.1 in
+          rw (is, q.2) refl
+
+  -- bytes that become those of another object
+  pub replace-none : (v w : Value) (p : Replacing) (s : State Table) → p.last + 1 - p.first ≡ 0 → (replace_and_answer m v w p).run s ≡ Went v s
+  unfolding replace_and_answer fetch_bytes store_bytes ◌>>=◌ ◌>>◌ after answer
+  replace-none v w p s e = rw e refl
+
+  pub replace-unfetched : (v w : Value) (p : Replacing) (s : State Table) (k : Dead) → (fetch_bytes m w (p.from - 1) (p.last + 1 - p.first)).run s ≡ Died k → (replace_and_answer m v w p).run s ≡ Died k
+  unfolding replace_and_answer ◌>>=◌ after
+  replace-unfetched v w p s k e = rw e refl
+
+  pub replace-unstored : (v w : Value) (p : Replacing) (s : State Table) (bs : List ℕ) (k : Dead) → (fetch_bytes m w (p.from - 1) (p.last + 1 - p.first)).run s ≡ Went bs s → (store_bytes m v (p.first - 1) bs).run s ≡ Died k
+      → (replace_and_answer m v w p).run s ≡ Died k
+  unfolding replace_and_answer ◌>>=◌ ◌>>◌ after
+  replace-unstored v w p s bs k e f = rw (e, f) refl
+
+  replace_done : (v w : Value) (p : Replacing) (s t : State Table) (bs : List ℕ) → (fetch_bytes m w (p.from - 1) (p.last + 1 - p.first)).run s ≡ Went bs s → (store_bytes m v (p.first - 1) bs).run s ≡ Went tt t
+      → (replace_and_answer m v w p).run s ≡ Went v t
+  unfolding replace_and_answer ◌>>=◌ ◌>>◌ after answer
+  replace_done v w p s t bs e f = rw (e, f) refl
+
+  replace_here : (v w : Value) (p : Replacing) (s : State Table) (bs : List ℕ) → bs ≡ bytes_from s.memory w (p.from - 1) (p.last + 1 - p.first) → (fetch_bytes m w (p.from - 1) (p.last + 1 - p.first)).run s ≡ Went bs s
+      → (store_bytes m v (p.first - 1) bs).run s ≡ Went tt (over (λ t. changed_by (bytes_stored (p.first - 1) bs) t v) s) → (fetch_kind m v).run s ≡ Went kind.Bytes s
+      → (replace_and_answer m v w p).run s ≡ Went v (over (λ t. changed_by (bytes_replaced (p.first - 1) (bytes_from t w (p.from - 1) (p.last + 1 - p.first))) t v) s)
+  replace_here v w p s bs e f h k =
+      replace_done v w p s (over (λ t. changed_by (bytes_stored (p.first - 1) bs) t v) s) bs f h
+      ∙ ap (λ (t : Table). Went v (record s { memory = t })) (bytes-replaced v (p.first - 1) bs s k ∙ ap (λ vs. changed_by (bytes_replaced (p.first - 1) vs) s.memory v) e)
+
+  pub replace-left : (v w : Value) (p : Replacing) (s : State Table) (u : Table) → s.memory ≡ u → (fetch_bytes m w (p.from - 1) (p.last + 1 - p.first)).run s ≡ Went (bytes_from u w (p.from - 1) (p.last + 1 - p.first)) s
+      → (store_bytes m v (p.first - 1) (bytes_from u w (p.from - 1) (p.last + 1 - p.first))).run s ≡ Went tt (over (λ t. changed_by (bytes_stored (p.first - 1) (bytes_from u w (p.from - 1) (p.last + 1 - p.first))) t v) s)
+      → (fetch_kind m v).run s ≡ Went kind.Bytes s
+      → (replace_and_answer m v w p).run s ≡ Went v (over (λ t. changed_by (bytes_replaced (p.first - 1) (bytes_from t w (p.from - 1) (p.last + 1 - p.first))) t v) s)
+  replace-left v w p s u q f h k = replace_here v w p s (bytes_from u w (p.from - 1) (p.last + 1 - p.first)) (ap (λ t. bytes_from t w (p.from - 1) (p.last + 1 - p.first)) (sym q)) f h k
+
+  -- over the table of a state
+  pub fetched-of : (v : Value) (i k : ℕ) (s : State Table) (t : Table) (w size : ℕ) → s.memory ≡ t → (fetch_byte m v i).run s ≡ Went w s → (fetch_size m v).run s ≡ Went size s → (fetch_kind m v).run s ≡ Went kind.Bytes s
+      → i + k ≤ size → (fetch_bytes m v i k).run s ≡ Went (bytes_from t v i k) s
+  fetched-of v i k s t w size q e f g l = bytes-fetched v i k s w size e f g l ∙ ap (λ u. Went (bytes_from u v i k) s) q
+
+  pub counted-of : (v : Value) (i k : ℕ) (s : State Table) (t : Table) (w size : ℕ) → s.memory ≡ t → (fetch_byte m v i).run s ≡ Went w s → (fetch_size m v).run s ≡ Went size s → (fetch_kind m v).run s ≡ Went kind.Bytes s
+      → i + k ≤ size → length (bytes_from t v i k) ≡ k
+  counted-of v i k s t w size q e f g l = ap (λ u. length (bytes_from u v i k)) (sym q) ∙ bytes-counted v i k s w size e f g l
+
+  -- headers
+
+  header_by : Value → Option Object → Step Table (Unit {0})
+  header_by x y =
+      (looks (λ o. check dead.Kind (is_method o.kind) >> or_die dead.Field (slice_get o.fields 0)) y >>= (λ header. bits_or_die header >>= (λ bits. answer (literal_count (Small bits)))))
+      >>= (λ n. bits_or_die x >>= (λ bits. check dead.Field (literal_count (Small bits) == n)))
+
+  header_stored_there : (n : ℕ) (x : Value) (s : State Table) (o : Object) → entry s.memory n ≡ Some o → is_method o.kind ≡ true → 0 < length o.fields → is_there m s.memory x ≡ true
+      → (store_method_field m (Ref n) 0 x).run s ≡ Went tt (record s { memory = changed s.memory n (with_field o 0 x) })
+  unfolding store_method_field object object_named ◌>>=◌ ◌>>◌ after found answer check set_field store_at stored_at
+  header_stored_there n x s o e k l there =
+      let r : m.read s.memory n ≡ Some o = read_is s.memory n ∙ e in
+      let b : nat_lt 0 (length o.fields) ≡ true = grind (arith, nat_tests) in
+      rw (r, k, b, r, there) (λ j. Went tt (record s { memory = tabular.replace j s.memory n (with_field o 0 x) }))
+
+  counted : (h : ℕ) (s : State Table) → is_there m s.memory (Small h) ≡ true → nat_lt h 32768 ≡ true
+  counted h s e = e
+
+  header_looks : (n h : ℕ) (s : State Table) (y : Option Object) → entry s.memory n ≡ y → (header_by (Small h) y).run s ≡ Went tt s → nat_lt h 32768 ≡ true
+      → (o : Object) × (y ≡ Some o) × (is_method o.kind ≡ true) × (0 < length o.fields) × (header_stored (Small h) o ≡ with_field o 0 (Small h))
+  unfolding header_by looks ◌>>=◌ ◌>>◌ after found answer die check or_die bits_or_die
+  header_looks n h s None e f b = cc
+  header_looks n h s (Some o) e f b = of_kind (is_method o.kind) (slice_get o.fields 0) refl refl f
+    where
+      counts : (g : ℕ) (c : Bool) → (literal_count (Small h) == literal_count (Small g)) ≡ c → (check dead.Field c).run s ≡ Went tt s → c ≡ true
+      counts g true k f = refl
+      counts g false k f = cc
+
+      of_kind : (k : Bool) (x : Option Value) → is_method o.kind ≡ k → slice_get o.fields 0 ≡ x
+          → (((check dead.Kind k >> or_die dead.Field x) >>= (λ header. bits_or_die header >>= (λ bits. answer (literal_count (Small bits))))) >>= (λ n. check dead.Field (literal_count (Small h) == n))).run s ≡ Went tt s
+          → (p : Object) × (Some o ≡ Some p) × (is_method p.kind ≡ true) × (0 < length p.fields) × (header_stored (Small h) p ≡ with_field p 0 (Small h))
+      of_kind false x k g f = cc
+      of_kind true None k g f = cc
+      of_kind true (Some (Ref r)) k g f = cc
+      of_kind true (Some (Small r)) k g f =
+          let l = got_below o.fields 0 (Small r) g in
+          let c = counts r (literal_count (Small h) == literal_count (Small r)) refl f in
+          (o, refl, k, l, rw (k, g, b, c) refl)
+
+  -- what isn't there isn't stored
+  not_stored : (n i : ℕ) (x : Value) (s : State Table) (o : Object) → stored_at m n i x s (Some o) false ≡ Died dead.Kind
+  unfolding stored_at
+  not_stored n i x s o = refl
+
+  gone_object : (n i : ℕ) (x w : Value) (s u : State Table) (y : Option Object) → entry s.memory n ≡ y → (looks (λ o. check dead.Kind (is_method o.kind) >> or_die dead.Field (slice_get o.fields i)) y).run s ≡ Went w u → is_there m s.memory x ≡ false
+      → (looks (λ o. check dead.Kind (is_method o.kind) >> (check dead.Field (nat_lt i (length o.fields)) >> set_field m (Ref n) i x)) y).run s ≡ Died dead.Kind
+  unfolding looks ◌>>=◌ ◌>>◌ after found answer die check or_die set_field store_at
+  gone_object n i x w s u None e f there = cc
+  gone_object n i x w s u (Some o) e f there = of_kind (is_method o.kind) (slice_get o.fields i) refl f
+    where
+      of_kind : (b : Bool) (v : Option Value) → slice_get o.fields i ≡ v → (check dead.Kind b >> or_die dead.Field v).run s ≡ Went w u
+          → (check dead.Kind b >> (check dead.Field (nat_lt i (length o.fields)) >> set_field m (Ref n) i x)).run s ≡ Died dead.Kind
+      of_kind false v g f = cc
+      of_kind true None g f = cc
+      of_kind true (Some v) g f =
+          let l = got_below o.fields i v g in
+          let b : nat_lt i (length o.fields) ≡ true = grind (arith, nat_tests) in
+          let r : m.read s.memory n ≡ Some o = read_is s.memory n ∙ e in
+          rw (b, r, there) (not_stored n i x s o)
+
+  pub field-gone : (v : Value) (i : ℕ) (x w : Value) (s u : State Table) → (fetch_method_field m v i).run s ≡ Went w u → is_there m s.memory x ≡ false → (store_method_field m v i x).run s ≡ Died dead.Kind
+  unfolding fetch_method_field store_method_field object object_named looks ◌>>=◌ die after
+  field-gone (Small n) i x w s u e there = cc
+  field-gone (Ref n) i x w s u e there = gone_object n i x w s u (m.read s.memory n) (sym (read_is s.memory n)) e there
+
+  pub field-missing : (v : Value) (i : ℕ) (x w : Value) (s : State Table) (t : Table) → s.memory ≡ t → (fetch_method_field m v i).run s ≡ Went w s → is_there m t x ≡ false → (store_method_field m v i x).run s ≡ Died dead.Kind
+  field-missing v i x w s t q e there = field-gone v i x w s s e (ap (λ u. is_there m u x) q ∙ there)
+
+  unfetched_object : (n i : ℕ) (x : Value) (k : Dead) (s : State Table) (y : Option Object) → (looks (λ o. check dead.Kind (is_method o.kind) >> or_die dead.Field (slice_get o.fields i)) y).run s ≡ Died k
+      → (looks (λ o. check dead.Kind (is_method o.kind) >> (check dead.Field (nat_lt i (length o.fields)) >> set_field m (Ref n) i x)) y).run s ≡ Died k
+  unfolding looks ◌>>=◌ ◌>>◌ after found answer die check or_die
+  unfetched_object n i x k s None f = died dead.Kind k f
+  unfetched_object n i x k s (Some o) f = of_kind (is_method o.kind) (slice_get o.fields i) refl f
+    where
+      past_it : slice_get o.fields i ≡ None → nat_lt i (length o.fields) ≡ false
+      past_it g = elim (below i (length o.fields)) [
+        | inl l ↦ let q = got o.fields i l in cc (q.1, g)
+        | inr l ↦ grind (arith, nat_tests)
+      ]
+
+      of_kind : (b : Bool) (v : Option Value) → slice_get o.fields i ≡ v → (check dead.Kind b >> or_die dead.Field v).run s ≡ Died k
+          → (check dead.Kind b >> (check dead.Field (nat_lt i (length o.fields)) >> set_field m (Ref n) i x)).run s ≡ Died k
+      of_kind false v g f = died dead.Kind k f
+      of_kind true None g f = rw (past_it g) (died dead.Field k f)
+      of_kind true (Some v) g f = cc
+
+  pub field-unfetched : (v : Value) (i : ℕ) (x : Value) (k : Dead) (s : State Table) → (fetch_method_field m v i).run s ≡ Died k → (store_method_field m v i x).run s ≡ Died k
+  unfolding fetch_method_field store_method_field object object_named looks ◌>>=◌ die after
+  field-unfetched (Small n) i x k s e = died dead.Small k e
+  field-unfetched (Ref n) i x k s e = unfetched_object n i x k s (m.read s.memory n) e
+
+  pub literal-done : (v : Value) (i : ℕ) (x w : Value) (s : State Table) → i ≢ 0 → (fetch_method_field m v i).run s ≡ Went w s → is_there m s.memory x ≡ true
+      → (store_method_field m v i x).run s ≡ Went tt (over (λ t. changed_by (literal_stored (i - 1) x (is_there table t x)) t v) s)
+  literal-done v i x w s d e there =
+      let j : i - 1 + 1 ≡ i = omega arith in
+      let f : (fetch_method_field m v (i - 1 + 1)).run s ≡ Went w s = rw j e in
+      let h = literal-left m tabular v (i - 1) x w s there f in
+      rw j at h
+
+  no_header : (k : ℕ) (s : State Table) (y : Option Object) → (header_by (Ref k) y).run s ≡ Went tt s → ⊥
+  unfolding header_by looks ◌>>=◌ ◌>>◌ after found answer die check or_die bits_or_die
+  no_header k s None f = cc
+  no_header k s (Some o) f = of_kind (is_method o.kind) (slice_get o.fields 0) f
+    where
+      of_kind : (b : Bool) (x : Option Value)
+          → (((check dead.Kind b >> or_die dead.Field x) >>= (λ header. bits_or_die header >>= (λ bits. answer (literal_count (Small bits))))) >>= (λ n. bits_or_die (Ref k) >>= (λ bits. check dead.Field (literal_count (Small bits) == n)))).run s ≡ Went tt s → ⊥
+      of_kind false x f = cc
+      of_kind true None f = cc
+      of_kind true (Some (Ref r)) f = cc
+      of_kind true (Some (Small r)) f = cc
+
+  -- a header that counts as many literals
+  pub header-left : (v x : Value) (s : State Table) → (check_header m v x).run s ≡ Went tt s → is_there m s.memory x ≡ true → (store_method_field m v 0 x).run s ≡ Went tt (over (λ t. changed_by (header_stored x) t v) s)
+  unfolding check_header count_literals method_header object object_named header_by looks bits_or_die ◌>>=◌ ◌>>◌ after die
+  header-left (Small n) x s e there = cc
+  header-left (Ref n) (Ref k) s e there = absurd (no_header k s (m.read s.memory n) e)
+  header-left (Ref n) (Small h) s e there = by (header_looks n h s (m.read s.memory n) (sym (read_is s.memory n)) e there)
+    where
+      by : ((o : Object) × (m.read s.memory n ≡ Some o) × (is_method o.kind ≡ true) × (0 < length o.fields) × (header_stored (Small h) o ≡ with_field o 0 (Small h)))
+          → (store_method_field m (Ref n) 0 (Small h)).run s ≡ Went tt (over (λ t. changed_by (header_stored (Small h)) t (Ref n)) s)
+      by q =
+          let o = q.0 in
+          let is : entry s.memory n ≡ Some o = sym (read_is s.memory n) ∙ q.1 in
+          header_stored_there n (Small h) s o is q.2 q.3 there
+          ∙ (ap (λ p. Went tt (record s { memory = changed s.memory n p })) (sym q.4)
+          ∙ ap (λ y. Went tt (record s { memory = changed_object (header_stored (Small h)) s.memory n y })) (sym is))
+
+pub ruleset bytes = (bytes-left, bytes-past, bytes-unleft)
+
+pub ruleset method_fields = (header-left, literal-done, field-gone, field-unfetched)
+
+pub ruleset units = (word-left, word-unleft, byte-left, byte-unleft)
+
+pub some_more : (bs : List ℕ) (n : ℕ) → length bs ≡ n → 1 ≤ n → 0 < length bs
+some_more bs n e l = omega (arith, e, l)

@@ -1,0 +1,33 @@
+-- Primitives on Methods, whose conditions hold.
+use Rattle.std.proofs.Common.{◌≡◌, ◌≤◌, ℕ, Bool, true, refl, arith}
+use Rattle.std.specs.Prelude.{◌%◌, nat_le}
+use Rattle.std.proofs.lemmas.Bool.Decides.{nat_tests}
+use Rattle.st_model.specs.Values.{Value}
+use Rattle.st_model.specs.Machine.{ObjectMemory, State, Transition, Went, answer, after, ◌>>=◌, ◌>>◌}
+use Rattle.st_model.specs.Table.{Table}
+use Rattle.st_model.specs.Steps.{of_page, same_value, check, top, under}
+use Rattle.st_model.specs.declared.page.PageObject.TheVariants.{MethodClass}
+use Rattle.st_model.specs.Primitives.{positive_small, bits_or_die}
+use Rattle.st_model.specs.Storage.{method_shape, new_method, place_to_store, store_in_method, method_words, primitive_new_method, primitive_object_at_put, MethodShape}
+use Rattle.st_storage.specs.Reading.{succeed_by}
+use Rattle.st_storage.proofs.Tries.{primitive-done}
+
+pub tried-object_at_put : (m : ObjectMemory Table) (v w x : Value) (a : ℕ) (s : State Table) (y : Transition (State Table) Bool) → (under m 2).run s ≡ Went v s → (under m 1).run s ≡ Went w s → (top m).run s ≡ Went x s
+    → (place_to_store m v w x).run s ≡ Went a s → (succeed_by m 2 (store_in_method m v x a)).run s ≡ y
+    → (primitive_object_at_put m).run s ≡ y
+unfolding primitive_object_at_put ◌>>=◌ after
+tried-object_at_put m v w x a s y e0 e1 e2 h k = rw (e0, e1, e2) (primitive-done m 2 (place_to_store m v w x) (λ (a : ℕ). store_in_method m v x a) s a y h k)
+
+pub tried-new_method : (m : ObjectMemory Table) (v w x : Value) (a : MethodShape) (s : State Table) (y : Transition (State Table) Bool) → (under m 2).run s ≡ Went v s → (under m 1).run s ≡ Went w s → (top m).run s ≡ Went x s
+    → (method_shape m v w x).run s ≡ Went a s → (succeed_by m 2 (new_method m v a)).run s ≡ y
+    → (primitive_new_method m).run s ≡ y
+unfolding primitive_new_method ◌>>=◌ after
+tried-new_method m v w x a s y e0 e1 e2 h k = rw (e0, e1, e2) (primitive-done m 2 (method_shape m v w x) (λ (a : MethodShape). new_method m v a) s a y h k)
+
+-- the shape of a new Method
+pub shape-is : (m : ObjectMemory Table) (v a b w : Value) (bytes header : ℕ) (s : State Table) → (of_page m MethodClass).run s ≡ Went w s → same_value v w ≡ true → (positive_small a).run s ≡ Went bytes s
+    → (bits_or_die b).run s ≡ Went header s → method_words (header % 64) bytes ≤ 65533 → (method_shape m v a b).run s ≡ Went (record { header = header; bytes = bytes }) s
+unfolding method_shape ◌>>=◌ ◌>>◌ after check answer
+shape-is m v a b w bytes header s e f g h l =
+    let k : nat_le (method_words (header % 64) bytes) 65533 ≡ true = grind (arith, nat_tests) in
+    rw (e, f, g, h, k) refl

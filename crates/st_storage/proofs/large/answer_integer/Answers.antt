@@ -1,0 +1,9 @@
+use Rattle.std.proofs.Common.{rules}
+use Rattle.st_frames.proofs.Doing.{rows}
+use Rattle.st_storage.specs.Reading.{succeed_by}
+use Rattle.st_storage.proofs.Leaves.{left}
+use Rattle.st_storage.proofs.large.answer_integer.Goals as goal
+
+pub returns-in_err-answer-clause-does : goal.returns-in_err-answer-clause-does
+unfolding succeed_by
+returns-in_err-answer-clause-does g c = search (rules, rows, left)

@@ -1,0 +1,18 @@
+use Rattle.std.proofs.Common.{rules, ◌≡◌, Err, refl}
+use Rattle.st_model.proofs.Leaving.{word-left, word-unleft}
+use Rattle.st_frames.proofs.Doing.{row-memory}
+use Rattle.st_storage.proofs.Leaves.{leaves-died}
+use Rattle.st_storage.proofs.putting.store_word.Goals as goal
+
+pub returns-in_err-fetch_word : goal.returns-in_err-fetch_word
+returns-in_err-fetch_word g c =
+    let e : c.from_residual.result ≡ Err c.in_err-fetch_word.field-0.0 = search rules in
+    record { does = leaves-died _ _ _ _ _ _ _ _ _ _ e refl (word-unleft g.O.Objects.names g.met.O.Objects.tabular _ _ _ _ _ (c.in_err-fetch_word.ensures _ (row-memory _ _ _))) }
+
+pub returns : goal.returns
+returns g c = record {
+  does = record {
+    does = word-left g.O.Objects.names g.met.O.Objects.tabular _ _ _ _ _ (c.in_ok-fetch_word.ensures _ (row-memory _ _ _));
+    world = refl;
+  };
+}

@@ -1,0 +1,16 @@
+use Rattle.std.proofs.Common.{rules, ◌≡◌, Err}
+use Rattle.st_frames.proofs.Doing.{row-memory}
+use Rattle.st_storage.proofs.Commuting.{put-left, put-died}
+use Rattle.st_storage.proofs.Leaves.{leaves-died}
+use Rattle.st_storage.proofs.streams.put_next.Goals as goal
+
+pub returns-in_err-store_position-clause-does : goal.returns-in_err-store_position-clause-does
+returns-in_err-store_position-clause-does g c =
+    let e : c.from_residual-in_err-store_position.result ≡ Err c.in_err-store_position.field-0.0 = search rules in
+    leaves-died _ _ _ _ _ _ _ _ _ _ e (search rules) (put-died g.O.Objects.names g.met.O.Objects.tabular _ _ _ _ _ _ _ _ (c.requires.stands.collection _ (row-memory _ _ _)) c.in_ok-deed.ensures.does.does c.in_err-store_position.ensures.does.does)
+
+pub returns-clause-does : goal.returns-clause-does
+returns-clause-does g c = record {
+  does = put-left g.O.Objects.names g.met.O.Objects.tabular _ _ _ _ _ _ _ _ (c.requires.stands.collection _ (row-memory _ _ _)) c.in_ok-deed.ensures.does.does c.in_ok-store_position.ensures.does.does;
+  world = search rules;
+}

@@ -1,0 +1,170 @@
+ghost use Rattle.std.specs.Prelude.{◌≡◌, ◌<◌, ◌≤◌, ◌+◌};
+ghost use Rattle.st_model.specs.Values.{word};
+ghost use Rattle.st_model.specs.Storage.{store_element, store_and_answer, primitive_at_put, primitive_string_at_put, primitive_instance_variable_at_put};
+ghost use Rattle.st_model.specs.Steps.{store_word, store_byte};
+ghost use Rattle.st_model.specs.Calls.{itself};
+ghost use Rattle.st_model.specs.Deeds.{is_done, deed_of_trial};
+ghost use Rattle.st_storage.specs.Reading.{IsOfKind, succeed_by};
+ghost use Rattle.st_storage.specs.Storing.{answer_word, answer_deed, no_word, storing_in};
+ghost use Rattle.st_frames.specs.Rows.{RowLeaves, Takes};
+
+use crate::answering::succeed_leaving;
+use crate::shapes::{Answer, Storing};
+use crate::storing::{storing_behind_fixed, storing_by_index};
+use crate::strings::storing_character;
+use st_frames::{Registers, top, under};
+use st_memory::Objects;
+use st_model::{Dead, Deed, Kind, Tried, Word};
+
+/// A word of an object is left to be stored.
+fn store_word<O: Objects>(
+    m: &O,
+    r: &Registers,
+    v: Word,
+    place: u32,
+    unit: u16,
+) -> Result<Deed, Dead>
+    ensures does { RowLeaves O.Objects.own (store_word O.names (word v) place unit)
+        no_word itself m.now r.now result m.now r.now }
+{
+    m.fetch_word(v, place)?;
+    Ok(Deed::StoreWord {
+        object: v,
+        place,
+        word: unit,
+    })
+}
+
+/// A byte of an object is left to be stored.
+fn store_byte<O: Objects>(m: &O, r: &Registers, v: Word, place: u32, byte: u8) -> Result<Deed, Dead>
+    ensures does { RowLeaves O.Objects.own (store_byte O.names (word v) place byte)
+        no_word itself m.now r.now result m.now r.now }
+{
+    m.fetch_byte(v, place)?;
+    Ok(Deed::StoreByte {
+        object: v,
+        place,
+        byte,
+    })
+}
+
+/// Stores a value as an element, or leaves its word or byte to be stored.
+#[tactic(auto, using(st_frames::proofs::Doing::rows), unfolding(st_model::specs::Storage::store_element, st_model::specs::Storage::store_by))]
+pub fn store_element<O: Objects>(
+    m: &mut O,
+    r: &Registers,
+    v: Word,
+    x: Word,
+    storing: Storing,
+) -> Result<Deed, Dead>
+    requires kind { IsOfKind O.Objects.own m.old v storing.kind }
+    requires room { 1 ≤ O.room m.old }
+    ensures does { RowLeaves O.Objects.own
+        (store_element O.names (word v) storing.place (word x) storing.unit)
+        no_word itself m.old r.now result m.new r.now }
+    ensures takes { Takes O.Objects.own 1 m.old m.new }
+{
+    let Storing { place, kind, unit } = storing;
+    match kind {
+        Kind::Pointers => {
+            m.store_field(v, place, x)?;
+            Ok(Deed::Nothing)
+        }
+        Kind::Words => store_word(m, r, v, place, unit),
+        Kind::Bytes | Kind::Method => store_byte(m, r, v, place, unit as u8),
+    }
+}
+
+/// Stores a value as an element, and answers it.
+#[tactic(auto, using(st_frames::proofs::Doing::rows), unfolding(st_model::specs::Storage::store_and_answer))]
+fn store_and_answer<O: Objects>(
+    m: &mut O,
+    r: &Registers,
+    v: Word,
+    x: Word,
+    storing: Storing,
+) -> Result<Answer, Dead>
+    requires kind { IsOfKind O.Objects.own m.old v storing.kind }
+    requires room { 1 ≤ O.room m.old }
+    ensures does { RowLeaves O.Objects.own
+        (store_and_answer O.names (word v) (word x) (storing_in storing))
+        answer_word answer_deed m.old r.now result m.new r.now }
+    ensures takes { Takes O.Objects.own 1 m.old m.new }
+{
+    let deed = store_element(m, r, v, x, storing)?;
+    Ok(Answer { word: x, deed })
+}
+
+/// Stores a value as an element, and answers it to a primitive of two arguments.
+#[tactic(auto, using(st_frames::proofs::Doing::rows), unfolding(crate::specs::Reading::succeed_by))]
+fn answer_stored<O: Objects>(
+    m: &mut O,
+    r: &mut Registers,
+    v: Word,
+    x: Word,
+    storing: Storing,
+) -> Result<Tried, Dead>
+    requires kind { IsOfKind O.Objects.own m.old v storing.kind }
+    requires room { 2 ≤ O.room m.old }
+    ensures does { RowLeaves O.Objects.own
+        (succeed_by O.names 2 (store_and_answer O.names (word v) (word x) (storing_in storing)))
+        is_done deed_of_trial m.old r.old result m.new r.new }
+    ensures takes { Takes O.Objects.own 2 m.old m.new }
+{
+    let answer = store_and_answer(m, r, v, x, storing)?;
+    succeed_leaving(m, r, 2, answer)
+}
+
+/// Primitive 61: the second argument becomes the element of the receiver that the first one numbers, behind the fixed fields.
+#[tactic(auto, using(crate::proofs::Tries::effects), unfolding(st_model::specs::Storage::primitive_at_put))]
+pub fn primitive_at_put<O: Objects>(m: &mut O, r: &mut Registers) -> Result<Tried, Dead>
+    requires room { 2 ≤ O.room m.old }
+    ensures does { RowLeaves O.Objects.own (primitive_at_put O.names)
+        is_done deed_of_trial m.old r.old result m.new r.new }
+    ensures takes { Takes O.Objects.own 2 m.old m.new }
+{
+    let receiver = under(m, r, 2)?;
+    let index = under(m, r, 1)?;
+    let value = top(m, r)?;
+    match storing_behind_fixed(m, r, receiver, index, value) {
+        Ok(storing) => answer_stored(m, r, receiver, value, storing),
+        Err(_) => Ok(Tried::Failed),
+    }
+}
+
+/// Primitive 74: the second argument becomes the element of the receiver that the first one numbers, where fixed fields count.
+#[tactic(auto, using(crate::proofs::Tries::effects), unfolding(st_model::specs::Storage::primitive_instance_variable_at_put))]
+pub fn primitive_instance_variable_at_put<O: Objects>(
+    m: &mut O,
+    r: &mut Registers,
+) -> Result<Tried, Dead>
+    requires room { 2 ≤ O.room m.old }
+    ensures does { RowLeaves O.Objects.own (primitive_instance_variable_at_put O.names)
+        is_done deed_of_trial m.old r.old result m.new r.new }
+    ensures takes { Takes O.Objects.own 2 m.old m.new }
+{
+    let receiver = under(m, r, 2)?;
+    let index = under(m, r, 1)?;
+    let value = top(m, r)?;
+    match storing_by_index(m, r, receiver, index, value) {
+        Ok(storing) => answer_stored(m, r, receiver, value, storing),
+        Err(_) => Ok(Tried::Failed),
+    }
+}
+
+/// Primitive 64: the second argument, a Character, becomes that of the receiver that the first one numbers.
+#[tactic(auto, using(crate::proofs::Tries::effects), unfolding(st_model::specs::Storage::primitive_string_at_put))]
+pub fn primitive_string_at_put<O: Objects>(m: &mut O, r: &mut Registers) -> Result<Tried, Dead>
+    requires room { 2 ≤ O.room m.old }
+    ensures does { RowLeaves O.Objects.own (primitive_string_at_put O.names)
+        is_done deed_of_trial m.old r.old result m.new r.new }
+    ensures takes { Takes O.Objects.own 2 m.old m.new }
+{
+    let receiver = under(m, r, 2)?;
+    let index = under(m, r, 1)?;
+    let value = top(m, r)?;
+    match storing_character(m, r, receiver, index, value) {
+        Ok(storing) => answer_stored(m, r, receiver, value, storing),
+        Err(_) => Ok(Tried::Failed),
+    }
+}

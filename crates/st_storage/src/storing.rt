@@ -1,0 +1,108 @@
+ghost use Rattle.std.specs.Prelude.{◌≡◌, ◌<◌, IfOk};
+ghost use Rattle.st_model.specs.Values.{word};
+ghost use Rattle.st_model.specs.Formed.{unit_limit};
+ghost use Rattle.st_model.specs.Calls.{itself};
+ghost use Rattle.st_model.specs.Storage.{word_of_value, unit_by, unit_of_element, storing_at, storing_by_index, storing_behind_fixed};
+ghost use Rattle.st_storage.specs.Reading.{IsOfKind};
+ghost use Rattle.st_storage.specs.Storing.{element_unit, storing_in};
+ghost use Rattle.st_frames.specs.Rows.{RowReads};
+
+use crate::elements::{place_at, place_behind_fixed};
+use crate::numbers::{byte_or_die, positive_value};
+use crate::shapes::{Element, Storing};
+use st_frames::Registers;
+use st_memory::Objects;
+use st_model::{Dead, Kind, Word};
+
+/// The word that a number from 0 to 65535 says.
+#[tactic(auto, using(st_frames::proofs::Doing::checks), unfolding(st_model::specs::Storage::word_of_value))]
+fn word_of_value<O: Objects>(m: &O, r: &Registers, x: Word) -> Result<u16, Dead>
+    ensures does { RowReads O.Objects.own (word_of_value O.names (word x)) itself m.now r.now result }
+{
+    let n = positive_value(m, r, x)?;
+    if n < 65536 {
+        Ok(n as u16)
+    } else {
+        Err(Dead::Field)
+    }
+}
+
+/// The word or byte that a value is as an element of an object of this kind.
+#[tactic(auto, using(st_frames::proofs::Doing::rows), unfolding(st_model::specs::Storage::unit_by))]
+fn unit_by<O: Objects>(m: &O, r: &Registers, x: Word, kind: Kind) -> Result<u16, Dead>
+    ensures does { RowReads O.Objects.own (unit_by O.names (word x) kind) itself m.now r.now result }
+    ensures fits { IfOk result (λ u. u < unit_limit kind) }
+{
+    match kind {
+        Kind::Pointers => Ok(0),
+        Kind::Words => word_of_value(m, r, x),
+        Kind::Bytes | Kind::Method => {
+            let byte = byte_or_die(m, r, x)?;
+            Ok(u16::from(byte))
+        }
+    }
+}
+
+/// What a value is as an element of an object.
+#[tactic(auto, using(st_frames::proofs::Doing::rows), unfolding(st_model::specs::Storage::unit_of_element))]
+pub fn unit_of_element<O: Objects>(m: &O, r: &Registers, v: Word, x: Word) -> Result<Element, Dead>
+    ensures does { RowReads O.Objects.own (unit_of_element O.names (word v) (word x))
+        element_unit m.now r.now result }
+    ensures kind { IfOk result (λ u. IsOfKind O.Objects.own m.now v u.kind) }
+{
+    let kind = m.fetch_kind(v)?;
+    let unit = unit_by(m, r, x, kind)?;
+    Ok(Element { kind, unit })
+}
+
+/// A value, to be stored as the element at a place.
+#[tactic(auto, using(st_frames::proofs::Doing::rows), unfolding(st_model::specs::Storage::storing_at))]
+fn storing_at<O: Objects>(
+    m: &O,
+    r: &Registers,
+    v: Word,
+    x: Word,
+    place: u32,
+) -> Result<Storing, Dead>
+    ensures does { RowReads O.Objects.own (storing_at O.names (word v) (word x) place)
+        storing_in m.now r.now result }
+    ensures kind { IfOk result (λ s. IsOfKind O.Objects.own m.now v s.kind) }
+{
+    let Element { kind, unit } = unit_of_element(m, r, v, x)?;
+    Ok(Storing { place, kind, unit })
+}
+
+/// A value, to be stored at the place that an index names.
+#[tactic(auto, using(st_frames::proofs::Doing::rows), unfolding(st_model::specs::Storage::storing_by_index))]
+pub fn storing_by_index<O: Objects>(
+    m: &O,
+    r: &Registers,
+    v: Word,
+    index: Word,
+    x: Word,
+) -> Result<Storing, Dead>
+    ensures does { RowReads O.Objects.own (storing_by_index O.names (word v) (word index) (word x))
+        storing_in m.now r.now result }
+    ensures kind { IfOk result (λ s. IsOfKind O.Objects.own m.now v s.kind) }
+{
+    let place = place_at(m, r, v, 0, index)?;
+    storing_at(m, r, v, x, place)
+}
+
+/// A value, to be stored at the place that an index names behind the fixed fields.
+#[tactic(auto, using(st_frames::proofs::Doing::rows), unfolding(st_model::specs::Storage::storing_behind_fixed))]
+pub fn storing_behind_fixed<O: Objects>(
+    m: &O,
+    r: &Registers,
+    v: Word,
+    index: Word,
+    x: Word,
+) -> Result<Storing, Dead>
+    ensures does { RowReads O.Objects.own
+        (storing_behind_fixed O.names (word v) (word index) (word x))
+        storing_in m.now r.now result }
+    ensures kind { IfOk result (λ s. IsOfKind O.Objects.own m.now v s.kind) }
+{
+    let place = place_behind_fixed(m, r, v, index)?;
+    storing_at(m, r, v, x, place)
+}
