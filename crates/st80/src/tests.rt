@@ -11,7 +11,7 @@ use st_method::primitive;
 use st_model::{Dead, ImageFault, Oop};
 use st_once::Status;
 use st_outside::{Host, file_length, read_from};
-use st_plain::PlainLoader;
+use st_counted::CountedLoader;
 use std::alloc::{AllocError, Global};
 use std::process::Abort;
 use std::test::Fail;
@@ -267,7 +267,7 @@ fn an_image_is_written_as_it_was(rt: HostRuntime) -> Result<(), Fail> {
     let mut host = MemHost::new(alloc)?;
     host.put(alloc, "B", &[9; 1200])?;
     host.room_for(alloc, 2000, 10)?;
-    match read::<PlainLoader>(alloc, &bytes, &HeadValues::NONE) {
+    match read::<CountedLoader>(alloc, &bytes, &HeadValues::NONE) {
         Ok(loaded) => check_written(&rt, &loaded.memory, &mut host),
         Err(ReadImage::Fault(_)) | Err(ReadImage::OutOfMemory) => return Err(AllocError.into()),
     }
@@ -334,7 +334,7 @@ fn check_primitive<M: Memory>(rt: &impl Abort, m: &M) {
 #[test]
 fn registers_and_methods_are_reached_over_a_memory(rt: HostRuntime) -> Result<(), Fail> {
     let image = sending_image(rt.alloc(), 32767, 66)?;
-    match read::<PlainLoader>(rt.alloc(), &image, &HeadValues::NONE) {
+    match read::<CountedLoader>(rt.alloc(), &image, &HeadValues::NONE) {
         Ok(mut loaded) => {
             check_find(&rt, &loaded.memory);
             check_primitive(&rt, &loaded.memory);
