@@ -1,13 +1,17 @@
 -- What a reading with the values of an image's own head says of a file.
 use Rattle.std.proofs.Common.{◌≡◌, ℕ, ◌≤◌, ◌^◌, List, length, refl, sym, ap, ◌∙◌, subst}
 use Rattle.st_model.specs.Objects.{nil}
-use Rattle.st_model.specs.Machine.{World, empty_world}
+use Rattle.st_model.specs.Machine.{World, State, empty_world}
+use Rattle.st_model.specs.Births.{Births}
+use Rattle.st_model.specs.Show.{Shows, raised}
 use Rattle.st_model.specs.Image.{image_head}
 use Rattle.st_model.specs.Faults.{IsWellFormed, IsImageFault}
 use Rattle.st_model.specs.declared.fault.ImageFault.{ImageFault}
-use Rattle.st_model.specs.View.{View, no_devices}
+use Rattle.st_model.specs.View.{View, IsWhole, no_devices}
+use Rattle.st_model.proofs.Raised.{raised_shown}
+use Rattle.st_frames.proofs.Closed.{is_closed}
 use Rattle.st_frames.specs.declared.frame.Frame.{Frame}
-use Rattle.st_frames.specs.Shown.{IsFrame, IsReady, filled}
+use Rattle.st_frames.specs.Shown.{IsFrame, IsReady, filled, shown}
 use Rattle.st_image.specs.HeadValues.{no_values, head_over}
 use Rattle.st_image.specs.Reading.{IsStart}
 use Rattle.st_once.specs.Ends.{IsReadable, IsFaulty}
@@ -36,3 +40,7 @@ filled_empty = refl
 
 pub ready_new : (v : View) (f : Frame) (w : World) → IsFrame v f → v.held.devices ≡ no_devices → w ≡ empty_world nil → IsReady v f w
 ready_new v f w frame quiet new = record { frame = frame; devices = quiet ∙ (sym filled_empty ∙ ap (λ (x : World). filled x.devices) (sym new)) }
+
+-- some births are shown
+pub shown_births : (v : View) (f : Frame) (w : World) → IsWhole v → IsReady v f w → (s : State Births) × Shows (shown v f w) s
+shown_births v f w whole ready = (raised (shown v f w), raised_shown (shown v f w) (is_closed v f w whole ready))

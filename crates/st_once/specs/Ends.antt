@@ -1,5 +1,5 @@
 -- How a call of the program ends: its status, and what it says and does.
-use Rattle.std.specs.Prelude.{◌≡◌, ℕ, ◌<◌, ◌≤◌, ◌^◌, List, [], ◌∷◌, length, ◌++◌, codes, IsTrue, ⊤, Some, None}
+use Rattle.std.specs.Prelude.{◌≡◌, ℕ, Bool, true, false, ◌<◌, ◌≤◌, ◌^◌, List, [], ◌∷◌, length, ◌++◌, codes, IsTrue, ⊤, Some, None}
 use Rattle.st_outside.specs.Counts.{Rose}
 use Rattle.st_outside.specs.Files.{bytes_of}
 use Rattle.st_outside.specs.Runs.{ReadsAndSays}
@@ -14,6 +14,8 @@ use Rattle.st_model.specs.Faults.{IsImageFault, IsWellFormed}
 use Rattle.st_model.specs.Births.{Births}
 use Rattle.st_model.specs.Start.{begin}
 use Rattle.st_model.specs.Text.{numbers_text, ran_text, dead_text, unbuilt_text, space_text, quit_text, debugger_text, state_text, run_text}
+use Rattle.st_model.specs.Values.{value}
+use Rattle.st_report.specs.Saying.{said_in}
 use Rattle.st_machine.specs.declared.ending.RunEnd.{RunEnd}
 use Rattle.st_machine.specs.declared.ending.RunEnd.TheVariants as end
 use Rattle.st_once.specs.Words.{once_of, word_at}
@@ -88,18 +90,40 @@ pub record IsReport (bytes : List ℕ) (n : ℕ) (text : List ℕ) : Type 0 wher
   pub begins : begin (image_head bytes) bytes ≡ Went tt births
   pub is : text ≡ run_text n births
 
--- The line of a run's end, of so many cycles that were asked for. A snapshot, and bytes that are said, are
+-- the run goes on after the cycle that ended so: an image isn't saved, and bytes are said
+abbrev pub goes_on : RunEnd → Bool
+goes_on end.Ran = false
+goes_on (end.Space done demand entries words) = false
+goes_on (end.Snapshot done) = true
+goes_on (end.Say done o) = true
+goes_on (end.Quit done) = false
+goes_on (end.Debugger done) = false
+goes_on (end.Dead done cause) = false
+goes_on (end.Unbuilt done code) = false
+
+-- what is said where the run goes on
+abbrev pub asked_text : RunEnd → Table → List ℕ
+asked_text end.Ran t = []
+asked_text (end.Space done demand entries words) t = []
+asked_text (end.Snapshot done) t = []
+asked_text (end.Say done o) t = said_in t (value o)
+asked_text (end.Quit done) t = []
+asked_text (end.Debugger done) t = []
+asked_text (end.Dead done cause) t = []
+asked_text (end.Unbuilt done code) t = []
+
+-- The line of a run's end, where so many cycles are finished in all. A snapshot, and bytes that are said, are
 -- no end.
 abbrev pub end_text : ℕ → RunEnd → List ℕ
 end_text n end.Ran = ran_text n
 end_text n (end.Space done demand entries words) =
-    space_text done demand (record { entries = entries; words = words })
+    space_text n demand (record { entries = entries; words = words })
 end_text n (end.Snapshot done) = []
 end_text n (end.Say done o) = []
-end_text n (end.Quit done) = quit_text done
-end_text n (end.Debugger done) = debugger_text done
-end_text n (end.Dead done cause) = dead_text done cause
-end_text n (end.Unbuilt done code) = unbuilt_text done code
+end_text n (end.Quit done) = quit_text n
+end_text n (end.Debugger done) = debugger_text n
+end_text n (end.Dead done cause) = dead_text n cause
+end_text n (end.Unbuilt done code) = unbuilt_text n code
 
 -- what follows that line: what the machine shows, where it isn't dead
 abbrev pub rest_text : RunEnd → State Table → List ℕ

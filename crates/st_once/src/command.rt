@@ -12,14 +12,15 @@ ghost use Rattle.st_once.specs.Ends.{OnceEnds, StatusHasCause};
 
 use crate::image::start;
 use crate::last_line::refuse;
-use crate::report::say_run;
+use crate::report::push_cycles;
 use crate::status::Status;
 use st_machine::Machine;
 use st_memory::{Loader, Memory};
 use st_outside::{Host, SayFault};
+use st_report::Output;
 use std::alloc::Global;
 
-/// Runs cycles of a machine that was just booted, and says how they end.
+/// Runs cycles of a machine that was just booted, and says what is said of them, and how they end.
 fn run_and_report<H: Host, M: Memory>(
     host: &mut H,
     machine: &mut Machine<M>,
@@ -34,15 +35,9 @@ fn run_and_report<H: Host, M: Memory>(
         (s : State Births) → Shows first s → Says H.Host.own (run_text cycles s) host.old host.new }
     ensures cause { HasCause (H.say_faults host.old) (H.say_faults host.new) result }
 {
-    let end = machine.run(cycles);
-    say_run(
-        host,
-        machine.memory(),
-        &machine.frame(),
-        machine.world(),
-        cycles,
-        end,
-    )
+    let mut out = Output::new();
+    push_cycles(&mut out, host, machine, cycles)?;
+    out.finish(host)
 }
 
 /// The command `once`: runs cycles of the machine of an image, and says what it shows then.

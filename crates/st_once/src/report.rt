@@ -1,46 +1,76 @@
-ghost use Rattle.std.specs.Prelude.{◌≡◌, ◌++◌, OnOk};
-ghost use Rattle.st_outside.specs.Counts.{HasCause};
-ghost use Rattle.st_outside.specs.Runs.{SaysAll};
+ghost use Rattle.std.specs.Prelude.{◌≡◌, ◌++◌, None};
+ghost use Rattle.st_model.specs.Machine.{State};
+ghost use Rattle.st_model.specs.Births.{Births};
+ghost use Rattle.st_model.specs.Show.{Shows};
+ghost use Rattle.st_model.specs.Text.{run_text};
 ghost use Rattle.st_frames.specs.Shown.{IsReady, shown};
-ghost use Rattle.st_outside.specs.Telling.{Says};
 ghost use Rattle.st_report.specs.Saying.{Pushes};
-ghost use Rattle.st_once.specs.Ends.{end_text, ending_text};
+ghost use Rattle.st_once.specs.Ends.{goes_on, asked_text, end_text, ending_text};
 
 use st_frames::Frame;
 use st_input::World;
-use st_machine::RunEnd;
+use st_machine::{Machine, RunEnd};
 use st_memory::Memory;
 use st_outside::{Host, SayFault};
-use st_report::{Output, push_line, push_state};
+use st_report::{Output, push_line, push_said, push_state};
 
-/// Adds the line of a run's end, with the number of finished cycles. A snapshot has none, and what is said
+/// Whether a run goes on after the cycle that ended so.
+fn goes_on(end: RunEnd) -> bool
+    ensures { result ≡ goes_on end }
+{
+    matches!(end, RunEnd::Snapshot { .. } | RunEnd::Say { .. })
+}
+
+/// Adds what is said where a run goes on: the bytes of an object, or nothing.
+fn push_asked<H: Host, M: Memory>(
+    out: &mut Output,
+    host: &mut H,
+    m: &M,
+    end: RunEnd,
+) -> Result<(), SayFault>
+    ensures { let text = asked_text end (M.view m.now).objects in
+        Pushes H.Host.own text host.old host.new out.old out.new result }
+{
+    match end {
+        RunEnd::Say { object, .. } => push_said(out, host, m, object),
+        _ => Ok(()),
+    }
+}
+
+/// Adds the line of a run's end, where so many cycles are finished in all. A snapshot has none, and what is said
 /// neither.
 fn push_end<H: Host>(
     out: &mut Output,
     host: &mut H,
-    cycles: u32,
+    finished: u32,
     end: RunEnd,
 ) -> Result<(), SayFault>
-    ensures { Pushes H.Host.own (end_text cycles end) host.old host.new out.old out.new result }
+    ensures { Pushes H.Host.own (end_text finished end) host.old host.new out.old out.new result }
 {
     match end {
-        RunEnd::Ran => push_line(out, host, b"ran", &[cycles]),
+        RunEnd::Ran => push_line(out, host, b"ran", &[finished]),
         RunEnd::Space {
-            done,
+            done: _,
             demand,
             entries_left,
             words_left,
         } => {
-            let numbers = [done, demand.entries, demand.words, entries_left, words_left];
+            let numbers = [
+                finished,
+                demand.entries,
+                demand.words,
+                entries_left,
+                words_left,
+            ];
             push_line(out, host, b"space", &numbers)
         }
-        RunEnd::Quit { done } => push_line(out, host, b"quit", &[done]),
-        RunEnd::Debugger { done } => push_line(out, host, b"debugger", &[done]),
-        RunEnd::Dead { done, cause } => {
-            push_line(out, host, b"dead", &[done, u32::from(cause.number())])
+        RunEnd::Quit { .. } => push_line(out, host, b"quit", &[finished]),
+        RunEnd::Debugger { .. } => push_line(out, host, b"debugger", &[finished]),
+        RunEnd::Dead { done: _, cause } => {
+            push_line(out, host, b"dead", &[finished, u32::from(cause.number())])
         }
-        RunEnd::Unbuilt { done, code } => {
-            push_line(out, host, b"unbuilt", &[done, u32::from(code)])
+        RunEnd::Unbuilt { done: _, code } => {
+            push_line(out, host, b"unbuilt", &[finished, u32::from(code)])
         }
         RunEnd::Snapshot { .. } | RunEnd::Say { .. } => Ok(()),
     }
@@ -53,37 +83,50 @@ fn push_run<H: Host, M: Memory>(
     m: &M,
     f: &Frame,
     w: &World,
-    cycles: u32,
+    finished: u32,
     end: RunEnd,
 ) -> Result<(), SayFault>
     requires ready { IsReady (M.view m.now) f.now w.now }
-    ensures { let text = ending_text cycles end (shown (M.view m.now) f.now w.now) in
+    ensures { let text = ending_text finished end (shown (M.view m.now) f.now w.now) in
         Pushes H.Host.own text host.old host.new out.old out.new result }
 {
-    push_end(out, host, cycles, end)?;
+    push_end(out, host, finished, end)?;
     match end {
         RunEnd::Dead { .. } => Ok(()),
         _ => push_state(out, host, m, f, w),
     }
 }
 
-/// Says a run's end, and what the machine shows where it isn't dead.
-pub fn say_run<H: Host, M: Memory>(
+/// Runs cycles of a machine that isn't dead, up to those that end the run, and adds what is said of them: each line of bytes
+/// at its place, the run's end, and what the machine shows then.
+pub fn push_cycles<H: Host, M: Memory>(
+    out: &mut Output,
     host: &mut H,
-    m: &M,
-    f: &Frame,
-    w: &World,
+    machine: &mut Machine<M>,
     cycles: u32,
-    end: RunEnd,
 ) -> Result<(), SayFault>
-    requires ready { IsReady (M.view m.now) f.now w.now }
-    ensures all { let text = ending_text cycles end (shown (M.view m.now) f.now w.now) in
-        OnOk result (SaysAll H.Host.own text host.old host.new) }
-    ensures says { let text = ending_text cycles end (shown (M.view m.now) f.now w.now) in
-        Says H.Host.own text host.old host.new }
-    ensures cause { HasCause (H.say_faults host.old) (H.say_faults host.new) result }
+    requires ready { IsReady (M.view machine.old.memory) machine.old.frame machine.old.world }
+    requires alive { machine.old.death ≡ None }
+    ensures { let first = shown (M.view machine.old.memory) machine.old.frame machine.old.world in
+        (s : State Births) → Shows first s →
+        Pushes H.Host.own (run_text cycles s) host.old host.new out.old out.new result }
 {
-    let mut out = Output::new();
-    push_run(&mut out, host, m, f, w, cycles, end)?;
-    out.finish(host)
+    let mut finished = 0;
+    loop {
+        let left = cycles - finished;
+        let end = machine.run(left);
+        finished += end.finished(left);
+        if !goes_on(end) {
+            return push_run(
+                out,
+                host,
+                machine.memory(),
+                &machine.frame(),
+                machine.world(),
+                finished,
+                end,
+            );
+        }
+        push_asked(out, host, machine.memory(), end)?;
+    }
 }

@@ -5,15 +5,14 @@ use Rattle.st_model.specs.Objects.{nil}
 use Rattle.st_model.specs.Machine.{World, State, empty_world}
 use Rattle.st_model.specs.Births.{Births}
 use Rattle.st_model.specs.Image.{image_head}
-use Rattle.st_model.specs.Show.{Shows, raised}
+use Rattle.st_model.specs.Show.{Shows}
 use Rattle.st_model.specs.Text.{run_text}
-use Rattle.st_model.specs.View.{View, IsWhole}
-use Rattle.st_model.proofs.Raised.{raised_shown}
+use Rattle.st_model.specs.View.{View}
 use Rattle.st_frames.specs.declared.frame.Frame.{Frame}
-use Rattle.st_frames.specs.Shown.{IsReady, shown}
-use Rattle.st_frames.proofs.Closed.{is_closed}
+use Rattle.st_frames.specs.Shown.{shown}
 use Rattle.st_image.specs.Reading.{IsStart}
 use Rattle.st_once.specs.Ends.{IsReport}
+use Rattle.st_once.proofs.Started.{shown_births}
 use Rattle.st_once.proofs.command.once.Goals as goal
 
 -- what is said of the births with which the book's machine begins is the report
@@ -22,10 +21,6 @@ report_of bytes v f n s = record { births = s.births; begins = s.begins; is = re
 
 begun : (bytes : List ℕ) (v : View) (f : Frame) (w : World) (s : IsStart (image_head bytes) bytes v f) → w ≡ empty_world nil → Shows (shown v f w) s.births
 begun bytes v f w s e = subst (λ (x : World). Shows (shown v f x) s.births) (sym e) s.shows
-
--- some births are shown
-shown_births : (v : View) (f : Frame) (w : World) → IsWhole v → IsReady v f w → (s : State Births) × Shows (shown v f w) s
-shown_births v f w whole ready = (raised (shown v f w), raised_shown (shown v f w) (is_closed v f w whole ready))
 
 said_behind : {D : Type 0} (host : Ghosts D) (text : List ℕ) (old mid new : D) → host.said mid ≡ host.said old → host.said new ≡ host.said mid ++ text → host.said new ≡ host.said old ++ text
 said_behind host text old mid new quiet says = says ∙ ap (λ x. x ++ text) quiet

@@ -1,35 +1,49 @@
-use Rattle.std.proofs.Common.{◌≡◌, List, ℕ, OnOk, sym, subst, ap, ◌∙◌}
+use Rattle.std.proofs.Common.{◌≡◌, List, ℕ, [], OnOk, Ok, Err, refl}
+use Rattle.std.specs.Prelude.{Result, IsErr}
+use Rattle.st_outside.specs.declared.host.Host.{Ghosts}
+use Rattle.st_outside.specs.declared.host.SayFault.{SayFault}
 use Rattle.st_outside.specs.Runs.{SaysAll}
-use Rattle.st_model.specs.Machine.{State, World}
-use Rattle.st_model.specs.Table.{Table}
-use Rattle.st_frames.specs.Shown.{IsReady, shown}
-use Rattle.st_outside.specs.Telling.{Says}
-use Rattle.st_once.specs.Ends.{ending_text}
-use Rattle.st_once.proofs.Reported.{run_is}
+use Rattle.st_outside.proofs.Rising.{cause_after}
+use Rattle.st_model.specs.Machine.{State}
+use Rattle.st_model.specs.Births.{Births}
+use Rattle.st_model.specs.Show.{Shows}
+use Rattle.st_model.specs.Text.{run_text}
+use Rattle.st_frames.specs.Shown.{shown}
+use Rattle.st_report.specs.Saying.{Pushes}
+use Rattle.st_report.proofs.Pushing.{pushed_all, pushed_says, pushed_part}
+use Rattle.st_once.proofs.Started.{shown_births}
 use Rattle.st_once.proofs.command.run_and_report.Goals as goal
 
+none_said : (A : Type 0) (r : Result Unit SayFault) → IsErr r → OnOk r A
+none_said A (Ok x) err = cc
+none_said A (Err x) err = tt
+
+all_said : {D : Type 0} {host : Ghosts D} {t p q : List ℕ} {old mid : D} (new : D) (r : Result Unit SayFault) → p ≡ [] → Pushes {E = SayFault} host t old mid p q (Ok tt) → OnOk r (SaysAll host q mid new) → OnOk r (SaysAll host t old new)
+all_said new (Ok x) empty run all = pushed_all empty run all
+all_said new (Err x) empty run all = tt
+
+pub returns-in_err-push_cycles-clause-all : goal.returns-in_err-push_cycles-clause-all
+returns-in_err-push_cycles-clause-all g c = λ s h. none_said (SaysAll g.H.Host (run_text c.args.cycles s) c.args.host.now c.push_cycles.new.host) c.from_residual.result c.from_residual.ensures.0
+
+pub returns-in_err-push_cycles-clause-says : goal.returns-in_err-push_cycles-clause-says
+returns-in_err-push_cycles-clause-says g c = λ s h. pushed_part c.new-out.ensures (c.in_err-push_cycles.ensures s h)
+
+pub returns-in_err-push_cycles-clause-cause : goal.returns-in_err-push_cycles-clause-cause
+returns-in_err-push_cycles-clause-cause g c =
+    let m = c.args.machine.now in
+    let some = shown_births (g.M.Memory.view m.memory) m.frame m.world (g.met.M.Memory.whole m.memory) c.requires.ready in
+    let run = c.in_err-push_cycles.ensures some.0 some.1 in
+    record { later = run.cause.later; rose = λ err. run.cause.rose refl }
+
 pub returns-clause-all : goal.returns-clause-all
-returns-clause-all g c = λ s shows.
-    let new = c.run-end.new.self in
-    let n = c.args.cycles in
-    let e = c.run-end.result in
-    let after = shown (g.M.Memory.view new.memory) new.frame new.world in
-    let same : shown (g.M.Memory.view c.memory.result.now) c.frame.result c.world.result.now ≡ after = λ i. shown (g.M.Memory.view (c.memory.ensures i)) (c.frame.ensures i) (c.world.ensures i) in
-    let text = run_is s after n e (g.met.M.Memory.whole new.memory).places c.run-end.ensures.asks (c.run-end.ensures.ends c.requires.alive s shows) in
-    subst (λ (t : List ℕ). OnOk c.say_run.result (SaysAll g.H.Host t c.args.host.now c.say_run.new.host)) (ap (λ (x : State Table). ending_text n e x) same ∙ text) c.say_run.ensures.all
+returns-clause-all g c = λ s h. all_said c.finish.new.host c.finish.result c.new-out.ensures (c.in_ok-push_cycles.ensures s h) c.finish.ensures.all
 
 pub returns-clause-says : goal.returns-clause-says
-returns-clause-says g c = λ s shows.
-    let new = c.run-end.new.self in
-    let n = c.args.cycles in
-    let e = c.run-end.result in
-    let after = shown (g.M.Memory.view new.memory) new.frame new.world in
-    let same : shown (g.M.Memory.view c.memory.result.now) c.frame.result c.world.result.now ≡ after = λ i. shown (g.M.Memory.view (c.memory.ensures i)) (c.frame.ensures i) (c.world.ensures i) in
-    let text = run_is s after n e (g.met.M.Memory.whole new.memory).places c.run-end.ensures.asks (c.run-end.ensures.ends c.requires.alive s shows) in
-    subst (λ (t : List ℕ). Says g.H.Host t c.args.host.now c.say_run.new.host) (ap (λ (x : State Table). ending_text n e x) same ∙ text) c.say_run.ensures.says
+returns-clause-says g c = λ s h. pushed_says c.new-out.ensures (c.in_ok-push_cycles.ensures s h) c.finish.ensures.says
 
--- a machine that wasn't dead is left ready, also where it died in the run
-pub say_run-requires : goal.say_run-requires
-say_run-requires g c =
-    let ready = c.run-end.ensures.left c.requires.alive in
-    record { ready = subst (λ (w : World). IsReady (g.M.Memory.view c.memory.result.now) c.frame.result w) (sym c.world.ensures) (rw c.memory.ensures (rw c.frame.ensures ready)) }
+pub returns-clause-cause : goal.returns-clause-cause
+returns-clause-cause g c =
+    let m = c.args.machine.now in
+    let some = shown_births (g.M.Memory.view m.memory) m.frame m.world (g.met.M.Memory.whole m.memory) c.requires.ready in
+    let run = c.in_ok-push_cycles.ensures some.0 some.1 in
+    cause_after (g.H.Host.say_faults c.args.host.now) (g.H.Host.say_faults c.push_cycles.new.host) (g.H.Host.say_faults c.finish.new.host) c.finish.result run.cause.later c.finish.ensures.cause
