@@ -1,7 +1,8 @@
-//! Worked runs of the program over a host in memory, and calls over a plain memory that the program doesn't make yet.
+//! Worked runs of the program over a host in memory, and calls over its memory that it doesn't make yet.
 ghost use Rattle.st_frames.specs.Shown.{IsFrame};
 
 use crate::tool::tool;
+use st_counted::CountedLoader;
 use st_frames::{Frame, fetch};
 use st_host::{MemHost, MemSource};
 use st_image::{HeadValues, ReadImage, read, write};
@@ -11,7 +12,6 @@ use st_method::primitive;
 use st_model::{Dead, ImageFault, Oop};
 use st_once::Status;
 use st_outside::{Host, file_length, read_from};
-use st_counted::CountedLoader;
 use std::alloc::{AllocError, Global};
 use std::process::Abort;
 use std::test::Fail;
