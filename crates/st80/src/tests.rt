@@ -1,7 +1,8 @@
-//! Worked runs of the program over a host in memory, and calls over a plain memory that the program doesn't make yet.
+//! Worked runs of the program over a host in memory, and calls over its memory that it doesn't make yet.
 ghost use Rattle.st_frames.specs.Shown.{IsFrame};
 
 use crate::tool::tool;
+use st_counted::CountedLoader;
 use st_frames::{Frame, fetch};
 use st_host::{MemHost, MemSource};
 use st_image::{HeadValues, ReadImage, read, write};
@@ -11,7 +12,6 @@ use st_method::primitive;
 use st_model::{Dead, ImageFault, Oop};
 use st_once::Status;
 use st_outside::{Host, file_length, read_from};
-use st_plain::PlainLoader;
 use std::alloc::{AllocError, Global};
 use std::process::Abort;
 use std::test::Fail;
@@ -267,7 +267,7 @@ fn an_image_is_written_as_it_was(rt: HostRuntime) -> Result<(), Fail> {
     let mut host = MemHost::new(alloc)?;
     host.put(alloc, "B", &[9; 1200])?;
     host.room_for(alloc, 2000, 10)?;
-    match read::<PlainLoader>(alloc, &bytes, &HeadValues::NONE) {
+    match read::<CountedLoader>(alloc, &bytes, &HeadValues::NONE) {
         Ok(loaded) => check_written(&rt, &loaded.memory, &mut host),
         Err(ReadImage::Fault(_)) | Err(ReadImage::OutOfMemory) => return Err(AllocError.into()),
     }
@@ -334,7 +334,7 @@ fn check_primitive<M: Memory>(rt: &impl Abort, m: &M) {
 #[test]
 fn registers_and_methods_are_reached_over_a_memory(rt: HostRuntime) -> Result<(), Fail> {
     let image = sending_image(rt.alloc(), 32767, 66)?;
-    match read::<PlainLoader>(rt.alloc(), &image, &HeadValues::NONE) {
+    match read::<CountedLoader>(rt.alloc(), &image, &HeadValues::NONE) {
         Ok(mut loaded) => {
             check_find(&rt, &loaded.memory);
             check_primitive(&rt, &loaded.memory);

@@ -7,9 +7,9 @@ ghost use Rattle.st_once.specs.Ends.{OnceEnds, SaysLastLine, StatusHasCause, Cal
 ghost use Rattle.st_once.specs.Words.{once_of, word_at};
 ghost use Rattle.st_once.specs.declared.status.Status.TheVariants.{Usage};
 
+use st_counted::CountedLoader;
 use st_once::{Status, image_name, once, read_once, refuse};
 use st_outside::{Host, Source};
-use st_plain::PlainLoader;
 use std::alloc::Global;
 use std::process::ExitCode;
 
@@ -33,7 +33,7 @@ pub fn tool<H: Host, S: Source>(
     ensures script { _script.new ≡ _script.old }
 {
     match read_once(words) {
-        Some(cycles) => once::<H, PlainLoader>(alloc, host, image_name(words), cycles),
+        Some(cycles) => once::<H, CountedLoader>(alloc, host, image_name(words), cycles),
         None => {
             refuse(host, Status::Usage);
             Status::Usage
