@@ -55,7 +55,8 @@ pub fn store_header<M: Memory>(m: &mut M, method: Word, header: Word)
 pub fn store_literal<M: Memory>(m: &mut M, method: Word, number: u32, stored: Word)
     ensures objects { let old = (M.view m.old).objects in
         (M.view m.new).objects
-        ≡ changed_by (literal_stored number (word stored) (is_there table old (word stored))) old (word method) }
+        ≡ changed_by (literal_stored number (word stored) (is_there table old (word stored)))
+        old (word method) }
     ensures held { (M.view m.new).held ≡ (M.view m.old).held }
     ensures head { (M.view m.new).head ≡ (M.view m.old).head }
 {

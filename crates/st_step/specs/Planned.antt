@@ -48,4 +48,5 @@ pub record IsForeseen (c : State Table) : Type 0 where
 
 -- the outcome names the word at the top of the stack, where there is one
 abbrev pub TopSaid : View → Frame → CodeOutcome → Type 0
-TopSaid v f o = (w : World) (x : Value) → (top bounded_table).run (shown v f w) ≡ Went x (shown v f w) → outcome_of o ≡ outcome.Say x
+TopSaid v f o = (w : World) (x : Value) → (top bounded_table).run (shown v f w) ≡ Went x (shown v f w)
+    → outcome_of o ≡ outcome.Say x

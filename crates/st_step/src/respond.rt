@@ -190,7 +190,8 @@ pub fn respond<O: Objects>(
     primitive: u32,
 ) -> Result<StepEnd, Dead>
     requires room { execution_changes ≤ O.room m.old }
-    ensures does { RowLeaves O.Objects.own (respond O.names performing (call_of call) (word header.0) primitive)
+    ensures does { RowLeaves O.Objects.own
+        (respond O.names performing (call_of call) (word header.0) primitive)
         end_of deed_of_end m.old r.old result m.new r.new }
     ensures takes { Takes O.Objects.own execution_changes m.old m.new }
 {

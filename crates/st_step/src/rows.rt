@@ -30,7 +30,8 @@ use st_model::{Bytecode, Dead, Deed, StepEnd, decode};
 fn bytecode<O: Objects>(m: &mut O, r: &mut Registers, code: Bytecode) -> Result<StepEnd, Dead>
     requires numbered { IsNumbered code }
     requires room { bytecode_changes ≤ O.room m.old }
-    ensures does { RowLeaves O.Objects.own (bytecode O.names code) end_of deed_of_end m.old r.old result m.new r.new }
+    ensures does { RowLeaves O.Objects.own (bytecode O.names code)
+        end_of deed_of_end m.old r.old result m.new r.new }
     ensures takes { Takes O.Objects.own bytecode_changes m.old m.new }
 {
     match code {

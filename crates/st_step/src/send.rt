@@ -203,7 +203,8 @@ fn arithmetic_by<O: Objects>(
 pub fn arithmetic_send<O: Objects>(m: &mut O, r: &mut Registers, k: u32) -> Result<StepEnd, Dead>
     requires number { k < 16 }
     requires room { executed_send_changes ≤ O.room m.old }
-    ensures does { RowLeaves O.Objects.own (arithmetic_send O.names k) end_of deed_of_end m.old r.old result m.new r.new }
+    ensures does { RowLeaves O.Objects.own (arithmetic_send O.names k)
+        end_of deed_of_end m.old r.old result m.new r.new }
     ensures takes { Takes O.Objects.own executed_send_changes m.old m.new }
 {
     let receiver = under(m, r, 1)?;
@@ -214,7 +215,8 @@ pub fn arithmetic_send<O: Objects>(m: &mut O, r: &mut Registers, k: u32) -> Resu
 #[tactic(auto, using(st_frames::proofs::Doing::rows), unfolding(st_model::specs::Bytecodes::primitive_send, st_model::specs::Executing::goes_on))]
 pub fn primitive_send<O: Objects>(m: &mut O, r: &mut Registers, k: u32) -> Result<StepEnd, Dead>
     requires room { executed_send_changes ≤ O.room m.old }
-    ensures does { RowLeaves O.Objects.own (primitive_send O.names k) end_of deed_of_end m.old r.old result m.new r.new }
+    ensures does { RowLeaves O.Objects.own (primitive_send O.names k)
+        end_of deed_of_end m.old r.old result m.new r.new }
     ensures takes { Takes O.Objects.own executed_send_changes m.old m.new }
 {
     match k {
