@@ -1,10 +1,12 @@
 -- The state over the table that the objects and the registers of a row make, and what a call of a row does to it.
-use Rattle.std.specs.Prelude.{◌≡◌, ℕ, ◌+◌, ◌≤◌, Result}
+use Rattle.std.specs.Prelude.{◌≡◌, ℕ, ◌+◌, ◌≤◌, Result, Ok, Err}
 use Rattle.st_model.specs.declared.dead.Dead.{Dead}
+use Rattle.st_model.specs.declared.deed.Deed.{Deed}
 use Rattle.st_model.specs.Values.{word}
 use Rattle.st_model.specs.Machine.{Registers, Head, State, Step}
 use Rattle.st_model.specs.Table.{Table}
 use Rattle.st_model.specs.Calls.{Does}
+use Rattle.st_model.specs.Deeds.{with_deed}
 use Rattle.st_memory.specs.declared.objects.Objects.{Ghosts}
 use Rattle.st_frames.specs.declared.registers.Registers.{Registers as Words}
 use Rattle.st_frames.specs.declared.fetched.Fetched.{Fetched}
@@ -36,16 +38,34 @@ pub record RowDoes {M A B : Type 0} (o : Ghosts M) (step : Step Table A) (f : B 
 abbrev pub RowMoves : {M A B : Type 0} → Ghosts M → Step Table A → (B → A) → M → Words → Result B Dead → Words → Type 0
 RowMoves o step f m old result new = RowDoes o step f m old result m new
 
+-- the state in which is done besides what a call leaves to be done, where it has a result
+abbrev pub with_left : {B : Type 0} → (B → Deed) → Result B Dead → State Table → State Table
+with_left g (Ok b) s = with_deed (g b) s
+with_left g (Err cause) s = s
+
+-- The call is this step but for a deed, which it leaves to be done; and it leaves the world that the registers have beside them.
+pub record RowLeaves {M A B : Type 0} (o : Ghosts M) (step : Step Table A) (f : B → A) (g : B → Deed) (m : M) (r : Words)
+    (result : Result B Dead) (n : M) (q : Words) : Type 0 where
+  pub does : Does step f (state_of o m r) result (with_left g result (state_of o n q))
+  pub world : q.world.now ≡ r.world.now
+
 -- the call takes at most so many changes, and leaves what is fixed
 pub record Takes {M : Type 0} (o : Ghosts M) (most : ℕ) (old new : M) : Type 0 where
   pub room : o.room old ≤ o.room new + most
   pub fixed : o.fixed new ≡ o.fixed old
 
--- how many changes are made at most: by what activates a method; by a send, which may make a Message; by a jump on a
--- condition and by a return, which may send; by each of these with the activation of what was called; and by a bytecode,
--- of which a return makes the most
+-- bounds of how many changes are made: by what activates a method; by a primitive on objects that is tried, besides the deed
+-- that it leaves; by what executes a method, which may try such a primitive before; by a send, which may make a Message; by a
+-- jump on a condition and by a return, which may send; by each of these with the execution of what was called; and by a
+-- bytecode, of which a return makes the most
 abbrev pub activation_changes : ℕ
 activation_changes = 8
+
+abbrev pub storage_changes : ℕ
+storage_changes = 4
+
+abbrev pub execution_changes : ℕ
+execution_changes = storage_changes + activation_changes
 
 abbrev pub send_changes : ℕ
 send_changes = 6
@@ -57,13 +77,13 @@ abbrev pub return_changes : ℕ
 return_changes = 8
 
 abbrev pub executed_send_changes : ℕ
-executed_send_changes = send_changes + activation_changes
+executed_send_changes = send_changes + execution_changes
 
 abbrev pub executed_jump_changes : ℕ
-executed_jump_changes = jump_changes + activation_changes
+executed_jump_changes = jump_changes + execution_changes
 
 abbrev pub executed_return_changes : ℕ
-executed_return_changes = return_changes + activation_changes
+executed_return_changes = return_changes + execution_changes
 
 abbrev pub bytecode_changes : ℕ
 bytecode_changes = executed_return_changes

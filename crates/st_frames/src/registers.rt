@@ -4,7 +4,7 @@ ghost use Rattle.st_frames.specs.Narrow.{IsNarrow};
 use st_input::World;
 use st_model::Word;
 
-/// The registers of the interpreter (chapter 27), as the rows of bytecodes work on them, and the world, which they read.
+/// The registers of the interpreter (chapter 27), as the rows of bytecodes work on them, and the world, which no row changes.
 #[derive(Clone, Copy)]
 pub struct Registers<'a> {
     /// The active context.

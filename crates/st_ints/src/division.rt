@@ -50,7 +50,7 @@ fn remainder(a: i32, b: i32, times: i32) -> i32
     a - b * times
 }
 
-/// What remains of the quotient toward minus infinity (primitive 11).
+/// The remainder of the division toward minus infinity (primitive 11).
 #[tactic(auto, using(std::proofs::lemmas::Int::ints), unfolding(st_model::specs::Integers::modulo))]
 pub fn modulo(a: i16, b: i16) -> Option<IntAnswer>
     requires dividend { unsigned_abs a ≤ 16384 }

@@ -224,7 +224,8 @@ impl<'a, M: Memory> Draft<'a, M> {
     /// Half of the free pointer that has a number, counted from 0; all from 65536 on are free.
     fn free_place(&self, number: u32) -> u32
         requires { number < 24 }
-        ensures { result ≡ free_place (without_first (M.view self.now.base.now).objects) 1 number }
+        ensures place { result ≡ free_place (without_first (M.view self.now.base.now).objects) 1 number }
+        ensures small { result ≤ 32791 }
     {
         let mut left = number;
         for k in 1..32768u32 {

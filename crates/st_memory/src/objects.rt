@@ -15,7 +15,8 @@ ghost use Rattle.st_memory.specs.Making.{CanMake};
 use st_model::{Dead, Demand, Kind, Word};
 
 /// The objects that the row of a bytecode reads and changes: those of a memory, or those of a draft over one, which
-/// tells what a row would do. Each call does what the step of its name in the definitions does, and dies as that does.
+/// tells what a row would do. Each call but `is_there` is a step of the definitions, which its contract names: it answers
+/// and changes what that does, and its error is the cause of which that dies.
 pub trait Objects {
     /// How new objects are named.
     ghost names: { ObjectMemory Table };
@@ -61,7 +62,8 @@ pub trait Objects {
     /// Half of a word: the bits of a SmallInteger, or half of the pointer that an object bears or will bear; 0 where there
     /// is no object.
     fn half_word(&self, o: Word) -> u32
-        ensures { Reads (half_word names (word o)) itself (table self.now) (Ok result) };
+        ensures half { Reads (half_word names (word o)) itself (table self.now) (Ok result) }
+        ensures small { result ≤ 2147483647 };
 
     /// The header of a method.
     fn method_header(&self, method: Word) -> Result<Word, Dead>

@@ -6,7 +6,7 @@ use Rattle.st_model.specs.declared.dead.Dead.TheVariants as dead
 use Rattle.st_model.specs.declared.call.Performing.TheVariants.{Allowed}
 use Rattle.st_model.specs.Values.{Value, Small, Ref}
 use Rattle.st_model.specs.Objects.{Object, nil}
-use Rattle.st_model.specs.Outcomes.{StepEnd, Did, NotBuilt, With, Ending}
+use Rattle.st_model.specs.Outcomes.{StepEnd, Did, NotBuilt, With, Space, Ending}
 use Rattle.st_model.specs.Outcomes as outcome
 use Rattle.st_model.specs.Machine.{State, Transition, Died, Went}
 use Rattle.st_model.specs.Table.{Table, table}
@@ -31,6 +31,14 @@ after : ℕ → ℕ → Option Object → Value → Value → Transition (State 
 unfolding state in_sender objects active plain pointers method
 after code sp new x y = Went (With outcome.Went) (state 32767 (in_sender (pos 7) (5 + sp)) (objects 33 new None None (active 5 0 x y) (Small 1 ∷ Small 16383 ∷ []) (32 ∷ 118 ∷ code ∷ [])))
 
+-- both are pushed
+pushed : ℕ → State Table
+unfolding state in_sender objects active plain pointers method
+pushed code = state 32767 (in_sender (pos 6) 7) (objects 33 None None None (active 5 0 (Small 16383) (Small 1)) (Small 1 ∷ Small 16383 ∷ []) (32 ∷ 118 ∷ code ∷ []))
+
+with_entries : ℕ → State Table → State Table
+with_entries entries s = record s { head = record { entries = entries; words = 1048576; globals = None; symbols = None } }
+
 -- 16383 - 1 takes the place of both; the word above the top stays in its field
 subtracted : run table 3 (before 177) ≡ after 177 1 None (Small 16382) (Small 1)
 unfolding opened before after state in_sender objects active plain pointers method
@@ -45,6 +53,11 @@ compared = refl
 pointed : run table 3 (before 187) ≡ after 187 1 (pointers 13 (Small 16383 ∷ Small 1 ∷ [])) (Ref 5) (Small 1)
 unfolding opened before after state in_sender objects active plain pointers method
 pointed = refl
+
+-- with one entry too few there is no room for it, and all is left as it was
+no_room_for_a_point : run table 3 (with_entries 28 (before 187)) ≡ Went (Space (record { entries = 1; words = 4 }) (record { entries = 0; words = 1048478 })) (with_entries 28 (pushed 187))
+unfolding opened before pushed with_entries state in_sender objects active plain pointers method
+no_room_for_a_point = refl
 
 -- 16383 == 1 is false, and the class of 1 is SmallInteger
 equivalent : run table 3 (before 198) ≡ after 198 1 None (Ref 2) (Small 1)
@@ -78,32 +91,35 @@ adds : responds 1 (Small 5) (Small 6) 1 ≡ answered 1 (Small 11) (Small 6)
 unfolding opened responds answered called state in_sender objects active plain pointers method
 adds = refl
 
+all_numbers : List ℕ
+all_numbers = 1 ∷ 2 ∷ 3 ∷ 4 ∷ 5 ∷ 6 ∷ 7 ∷ 8 ∷ 9 ∷ 10 ∷ 11 ∷ 12 ∷ 13 ∷ 14 ∷ 15 ∷ 16 ∷ 17 ∷ 18 ∷ []
+
 -- with a receiver or an argument that is no SmallInteger, the numbers 1 to 18 fail, and the method is activated as by 0
-no_integer : map (responds 1 nil (Small 6)) (1 ∷ 9 ∷ 18 ∷ []) ++ map (responds 1 (Small 6) nil) (1 ∷ 9 ∷ 18 ∷ [])
-    ≡ replicate 3 (responds 1 nil (Small 6) 0) ++ replicate 3 (responds 1 (Small 6) nil 0)
-unfolding opened responds called state in_sender objects active plain pointers method
+no_integer : map (responds 1 nil (Small 6)) all_numbers ++ map (responds 1 (Small 6) nil) all_numbers
+    ≡ replicate 18 (responds 1 nil (Small 6) 0) ++ replicate 18 (responds 1 (Small 6) nil 0)
+unfolding all_numbers opened responds called state in_sender objects active plain pointers method
 no_integer = refl
 
--- with another number of arguments than one they fail too
+-- with another number of arguments than theirs they fail too, and so do 110, which takes one, and 111, which takes none
 other_count : map (responds 0 (Small 5) (Small 6)) (1 ∷ 18 ∷ 110 ∷ []) ++ map (responds 1 (Small 5) (Small 6)) (111 ∷ [])
     ≡ replicate 3 (responds 0 (Small 5) (Small 6) 0) ++ replicate 1 (responds 1 (Small 5) (Small 6) 0)
 unfolding opened responds called state in_sender objects active plain pointers method
 other_count = refl
 
--- 110 and 111 always succeed, and 89 answers the receiver with any number of arguments
-always : responds 1 (Ref 5) (Ref 5) 110 ∷ responds 1 (Ref 5) (Small 5) 110 ∷ responds 0 nil (Ref 25) 111 ∷ responds 0 nil (Small 6) 89 ∷ responds 1 nil (Small 6) 89 ∷ []
-    ≡ answered 1 (Ref 3) (Ref 5) ∷ answered 1 (Ref 2) (Small 5) ∷ answered 2 nil (Ref 6) ∷ answered 2 nil (Small 6) ∷ answered 1 nil (Small 6) ∷ []
+-- with their own 110 and 111 always succeed, and 89 answers the receiver with any number of arguments
+always : responds 1 (Ref 5) (Ref 5) 110 ∷ responds 1 (Ref 5) (Small 5) 110 ∷ responds 0 nil (Ref 25) 111 ∷ responds 0 nil (Ref 33) 111 ∷ responds 0 nil (Small 6) 89 ∷ responds 1 nil (Small 6) 89 ∷ []
+    ≡ answered 1 (Ref 3) (Ref 5) ∷ answered 1 (Ref 2) (Small 5) ∷ answered 2 nil (Ref 6) ∷ answered 2 nil (Ref 28) ∷ answered 2 nil (Small 6) ∷ answered 1 nil (Small 6) ∷ []
 unfolding opened responds answered called state in_sender objects active plain pointers method
 always = refl
 
 -- the first and the last of each run of numbers that fail always
-failing : map (responds 1 (Small 5) (Small 6)) (19 ∷ 20 ∷ 21 ∷ 37 ∷ 38 ∷ 40 ∷ 54 ∷ 59 ∷ 103 ∷ 104 ∷ 106 ∷ 109 ∷ 117 ∷ 127 ∷ 129 ∷ 255 ∷ [])
-    ≡ replicate 16 (responds 1 (Small 5) (Small 6) 0)
+failing : map (responds 1 (Small 5) (Small 6)) (19 ∷ 20 ∷ 21 ∷ 37 ∷ 38 ∷ 39 ∷ 40 ∷ 54 ∷ 55 ∷ 59 ∷ 103 ∷ 104 ∷ 106 ∷ 109 ∷ 117 ∷ 127 ∷ 129 ∷ 255 ∷ [])
+    ≡ replicate 18 (responds 1 (Small 5) (Small 6) 0)
 unfolding opened responds called state in_sender objects active plain pointers method
 failing = refl
 
 -- and of each run of numbers that aren't built
-waiting : map (responds 1 (Small 5) (Small 6)) (60 ∷ 88 ∷ 90 ∷ 102 ∷ 105 ∷ 112 ∷ 116 ∷ 128 ∷ []) ≡ replicate 8 (Went NotBuilt (called (Small 5) (Small 6)))
+waiting : map (responds 1 (Small 5) (Small 6)) (80 ∷ 88 ∷ 90 ∷ 102 ∷ 113 ∷ 114 ∷ 116 ∷ []) ≡ replicate 7 (Went NotBuilt (called (Small 5) (Small 6)))
 unfolding opened responds called state in_sender objects active plain pointers method
 waiting = refl
 

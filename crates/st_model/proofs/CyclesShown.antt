@@ -219,7 +219,7 @@ sound_done c x o (Went (Did a) d) p l e f =
     let r = step_sound c.head l c d (Did a) p refl e in
     let g : reclaim table d ≡ x = cc in
     let h : a ≡ o = cc in
-    let live = outcome_stays d r.0.closed a (λ v q. step_names_top bounded_table c d v (e ∙ ap (λ (y : Outcome). Went (Did y) d) q)) in (
+    let live = outcome_stays d r.0.closed a (λ v q. step_names_top c d v (e ∙ ap (λ (y : Outcome). Went (Did y) d) q)) in (
       subst IsSound g (reclaim_sound d r.0),
       sym (ap (λ (y : State Table). y.head) g) ∙ (reclaim_head d ∙ r.1),
       subst (λ (y : Outcome). IsLiveOutcome (IsUsed x.memory) y) h (subst (λ (y : State Table). IsLiveOutcome (IsUsed y.memory) a) g live),

@@ -9,12 +9,12 @@ use Rattle.st_model.specs.declared.kind.Kind.TheVariants as kind
 use Rattle.st_model.specs.declared.deed.Deed.{Deed}
 use Rattle.st_model.specs.declared.deed.Deed.TheVariants.{Nothing, StoreWord, StoreByte, StoreNumber, ReplaceBytes, StoreHeader, StoreLiteral}
 use Rattle.st_model.specs.Values.{Value, Small, Ref, word}
-use Rattle.st_model.specs.Objects.{Object, is_pointers, is_words, is_method, has_bytes, first_unit, with_field, object_with_unit, words_of, one}
+use Rattle.st_model.specs.Objects.{Object, is_pointers, is_words, is_bytes, is_method, has_bytes, first_unit, with_field, object_with_unit, words_of, one}
 use Rattle.st_model.specs.Machine.{ObjectMemory, State, Transition, Died, Went, Step, is_there, used, answer, die, after, ◌>>=◌, ◌>>◌}
 use Rattle.st_model.specs.Table.{Table, table, entry, changed, total_used, IsTabular}
 use Rattle.st_model.specs.Steps.{get_active, get_sp, set_sp, found, object_named, object, stored_at, store_at, set_field, check, or_die, fetch_field, store_field, count_fields, put, push, top, pop}
 use Rattle.st_model.specs.Primitives.{bytes_of_number, pop_words, answer_with}
-use Rattle.st_model.specs.Deeds.{changed_object, changed_by, word_stored, byte_stored, bytes_stored, bytes_from, counts_literals, header_stored, literal_stored, deed_done, over}
+use Rattle.st_model.specs.Deeds.{changed_object, changed_by, word_stored, byte_stored, bytes_stored, bytes_replaced, bytes_from, counts_literals, header_stored, literal_stored, deed_done, over}
 use Rattle.st_model.proofs.TableLemmas.{changed-some, changed-other}
 use Rattle.st_model.proofs.Bounded.{total-changed}
 
@@ -331,6 +331,15 @@ bytes_keeps : (i : ℕ) (bs : List ℕ) → Keeps (bytes_stored i bs)
 bytes_keeps i [] = record { kind = λ o. refl; words = λ o. refl; pointers = λ o e. refl }
 bytes_keeps i (b ∷ bs) = then_keeps (byte_stored i b) (bytes_stored (suc i) bs) (byte_keeps i b) (bytes_keeps (suc i) bs)
 
+bytes_alone : (k : Kind) → is_pointers k ≡ true → is_bytes k ≡ false
+bytes_alone kind.Pointers e = refl
+bytes_alone kind.Words e = cc
+bytes_alone kind.Bytes e = cc
+bytes_alone kind.Method e = cc
+
+replaced_keeps : (i : ℕ) (bs : List ℕ) → Keeps (bytes_replaced i bs)
+replaced_keeps i bs = keeps_if (λ o. is_bytes o.kind) (bytes_stored i bs) (λ o e. ((bytes_keeps i bs).kind o, (bytes_keeps i bs).words o)) (λ o e. bytes_alone o.kind e)
+
 header_keeps : (x : Value) → Keeps (header_stored x)
 header_keeps x = keeps_if (λ o. is_method o.kind && counts_literals x (slice_get o.fields 0)) (λ o. with_field o 0 x) (λ o e. (refl, words-with_field o 0 x)) (λ o e. not_both _ _ (no_method o.kind e))
 
@@ -363,12 +372,12 @@ deed_leaves (StoreWord o i x) = by_leaves _ _ (word_keeps i x)
 deed_leaves (StoreByte o i x) = by_leaves _ _ (byte_keeps i x)
 deed_leaves (StoreNumber o k) = by_leaves _ _ (bytes_keeps 0 (bytes_of_number k))
 deed_leaves (ReplaceBytes o c to from count) =
-    let f : List ℕ → Object → Object = λ vs. bytes_stored to vs in
+    let f : List ℕ → Object → Object = λ vs. bytes_replaced to vs in
     record {
-      alike = λ t n. alike_by (f (bytes_from t (word c) from count)) (bytes_keeps to (bytes_from t (word c) from count)) (word o) t n;
+      alike = λ t n. alike_by (f (bytes_from t (word c) from count)) (replaced_keeps to (bytes_from t (word c) from count)) (word o) t n;
       stores = λ t n q i x e h.
           ap (λ vs. changed_by (f vs) (changed t n (with_field q i x)) (word o)) (bytes_stay t n q i x (word c) from count e h)
-          ∙ stores_by (f (bytes_from t (word c) from count)) (bytes_keeps to (bytes_from t (word c) from count)) (word o) t n q (with_field q i x) e refl h;
+          ∙ stores_by (f (bytes_from t (word c) from count)) (replaced_keeps to (bytes_from t (word c) from count)) (word o) t n q (with_field q i x) e refl h;
     }
 deed_leaves (StoreHeader o x) = by_leaves _ _ (header_keeps (word x))
 deed_leaves (StoreLiteral o j y) =
@@ -389,7 +398,7 @@ module _ (weight : Object → ℕ) (w : (f : Object → Object) → Keeps f → 
   deed_total (StoreWord o i x) t = by_keeps _ _ t (word_keeps i x)
   deed_total (StoreByte o i x) t = by_keeps _ _ t (byte_keeps i x)
   deed_total (StoreNumber o k) t = by_keeps _ _ t (bytes_keeps 0 (bytes_of_number k))
-  deed_total (ReplaceBytes o c to from count) t = by_keeps _ _ t (bytes_keeps to (bytes_from t (word c) from count))
+  deed_total (ReplaceBytes o c to from count) t = by_keeps _ _ t (replaced_keeps to (bytes_from t (word c) from count))
   deed_total (StoreHeader o x) t = by_keeps _ _ t (header_keeps (word x))
   deed_total (StoreLiteral o i x) t = by_keeps _ _ t (literal_keeps i (word x) _)
 

@@ -4,8 +4,10 @@ use Rattle.st_model.specs.declared.call.Performing.{Performing}
 use Rattle.st_model.specs.Values.{Value, renamed}
 use Rattle.st_model.specs.Machine.{ObjectMemory, Step}
 use Rattle.st_model.specs.Sends.{Call}
-use Rattle.st_model.specs.Executing.{goes_on, answer_field, or_activate, respond, respond_by_extension, execute_by, execute, executed, execute_if_any, executed_if_any}
+use Rattle.st_model.specs.Executing.{goes_on, answer_field, or_activate, say_or_activate, respond, respond_by_extension, execute_by, execute, executed, execute_if_any, executed_if_any}
+use Rattle.st_model.proofs.StepsSame.{parts_same}
 use Rattle.st_model.proofs.Same.{Simulation, ValueSame, CallSame, AnyCallSame, SameAnswer, SameCall, SameAnyCall, SameEnd, renamed_call, steps_same}
+use Rattle.st_model.proofs.StorageSame.{say-same, storage-same}
 use Rattle.st_model.proofs.PrimitivesSame.{arithmetic-same, equivalence-same, receiver_class-same, flush_cache-same}
 use Rattle.st_model.proofs.ContextsSame.{headers_same, activate-same, temporary_count-same}
 
@@ -19,12 +21,17 @@ module _ {H K : Type 0} {M : ObjectMemory H} {N : ObjectMemory K} (sim : Simulat
   unfolding or_activate
   or_activate-same c v w m n h k l = search (steps_same, goes_on-same, activate-same) depth 16 fits 4000
 
-  ruleset primitives_same = (arithmetic-same, equivalence-same, receiver_class-same, flush_cache-same)
+  say_or_activate-same : (c : Call) (v w : Value) → ValueSame sim c.method (renamed sim.name c.method) → ValueSame sim v w
+      → SameEnd sim (say_or_activate M c v) (say_or_activate N (renamed_call sim.name c) w)
+  unfolding say_or_activate
+  say_or_activate-same c v w h k = search (parts_same, goes_on-same, activate-same, say-same) depth 16 fits 4000
+
+  ruleset primitives_same = (arithmetic-same, equivalence-same, receiver_class-same, flush_cache-same, storage-same)
 
   respond-same : (p : Performing) (c : Call) (v w : Value) (n : ℕ) → ValueSame sim c.method (renamed sim.name c.method) → ValueSame sim v w
       → SameEnd sim (respond M p c v n) (respond N p (renamed_call sim.name c) w n)
   unfolding respond
-  respond-same p c v w n h k = search (steps_same, goes_on-same, activate-same, or_activate-same, primitives_same) depth 24 fits 4000
+  respond-same p c v w n h k = search (steps_same, goes_on-same, activate-same, or_activate-same, say_or_activate-same, primitives_same) depth 24 fits 4000
 
   execute_by-same : (p : Performing) (c : Call) (v w : Value) (flag other : ℕ) → ValueSame sim c.method (renamed sim.name c.method) → ValueSame sim v w → other ≡ flag
       → SameEnd sim (execute_by M p c v flag) (execute_by N p (renamed_call sim.name c) w other)

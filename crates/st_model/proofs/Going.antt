@@ -1,92 +1,117 @@
--- No bytecode asks for anything besides yet: one that is done went.
-use Rattle.std.proofs.Common.{◌≡◌, ℕ, Option, Some, None, Bool, true, false}
+-- What a bytecode is done with that asks for something is named by the word at the top of the stack.
+use Rattle.std.proofs.Common.{◌≡◌, ℕ, Option, Some, None, Bool, true, false, refl, ◌∙◌, ap, subst}
 use Rattle.std.specs.Prelude.{if◌then◌else◌}
 use Rattle.st_model.specs.declared.dead.Dead.{Dead}
 use Rattle.st_model.specs.declared.bytecode.Bytecode.{Bytecode}
 use Rattle.st_model.specs.declared.bytecode.Bytecode.TheVariants as code
 use Rattle.st_model.specs.declared.call.Performing.{Performing}
 use Rattle.st_model.specs.Values.{Value, Small, Ref}
-use Rattle.st_model.specs.Outcomes.{Outcome, StepEnd, Did, NotBuilt}
+use Rattle.st_model.specs.Outcomes.{StepEnd, Did, NotBuilt}
 use Rattle.st_model.specs.Outcomes as outcome
-use Rattle.st_model.specs.Machine.{ObjectMemory, State, Transition, Died, Went, Step, answer, die, after, ◌>>=◌, ◌>>◌}
+use Rattle.st_model.specs.Machine.{State, Transition, Died, Went, Step, answer, die, after, ◌>>=◌, ◌>>◌}
+use Rattle.st_model.specs.Table.{Table, bounded_table}
+use Rattle.st_model.specs.Steps.{top}
+use Rattle.st_model.specs.Storage.{primitive_say}
 use Rattle.st_model.specs.Sends.{Call}
-use Rattle.st_model.specs.Executing.{goes_on, or_activate, respond, respond_by_extension, execute_by, execute, executed, execute_if_any, executed_if_any}
+use Rattle.st_model.specs.Executing.{goes_on, or_activate, say_or_activate, respond, respond_by_extension, execute_by, execute, executed, execute_if_any, executed_if_any}
 use Rattle.st_model.specs.Bytecodes.{or_send, arithmetic_by, arithmetic_send, primitive_send, bytecode, step}
 use Rattle.st_model.specs.Foreseen.{NamesTop}
+use Rattle.st_model.proofs.OnTop.{said}
 
--- a step that is done only as one that went
-pub record OnlyGoes {H : Type 0} (m : Step H StepEnd) : Type 0 where
-  pub went : (s t : State H) (o : Outcome) → m.run s ≡ Went (Did o) t → o ≡ outcome.Went
+-- a step whose outcome names nothing but the word at the top of the stack that it leaves
+pub record NamesOnlyTop (m : Step Table StepEnd) : Type 0 where
+  pub names : NamesTop bounded_table m
 
-module _ {H : Type 0} where
-  not_built_goes : OnlyGoes {H = H} (answer NotBuilt)
-  unfolding answer
-  not_built_goes = record { went = λ s t o e. cc }
+not_built_names : NamesOnlyTop (answer NotBuilt)
+unfolding answer
+not_built_names = record { names = λ s t v e. cc }
 
-  went_goes : OnlyGoes {H = H} (answer (Did outcome.Went))
-  unfolding answer
-  went_goes = record { went = λ s t o e. cc }
+went_names : NamesOnlyTop (answer (Did outcome.Went))
+unfolding answer
+went_names = record { names = λ s t v e. cc }
 
-  dead_goes : (cause : Dead) → OnlyGoes {H = H} (die cause)
-  unfolding die
-  dead_goes cause = record { went = λ s t o e. cc }
+dead_names : (cause : Dead) → NamesOnlyTop (die cause)
+unfolding die
+dead_names cause = record { names = λ s t v e. cc }
 
-  module _ {A : Type 0} (m : Step H A) (f : A → Step H StepEnd) (goes : (a : A) → OnlyGoes (f a)) where
-    goes_after : (x : Transition (State H) A) (t : State H) (o : Outcome) → after x (λ a u. (f a).run u) ≡ Went (Did o) t → o ≡ outcome.Went
-    unfolding after
-    goes_after (Died cause) t o e = cc
-    goes_after (Went a u) t o e = (goes a).went u t o e
+module _ {A : Type 0} (m : Step Table A) (f : A → Step Table StepEnd) (names : (a : A) → NamesOnlyTop (f a)) where
+  names_after : (x : Transition (State Table) A) (t : State Table) (v : Value) → after x (λ a u. (f a).run u) ≡ Went (Did (outcome.Say v)) t → (top bounded_table).run t ≡ Went v t
+  unfolding after
+  names_after (Died cause) t v e = cc
+  names_after (Went a u) t v e = (names a).names u t v e
 
-    then_goes : OnlyGoes (m >>= f)
-    unfolding ◌>>=◌
-    then_goes = record { went = λ s t o e. goes_after (m.run s) t o e }
+  then_names : NamesOnlyTop (m >>= f)
+  unfolding ◌>>=◌
+  then_names = record { names = λ s t v e. names_after (m.run s) t v e }
 
-  next_goes : {A : Type 0} (m : Step H A) (n : Step H StepEnd) → OnlyGoes n → OnlyGoes (m >> n)
-  unfolding ◌>>◌
-  next_goes m n h = then_goes m (λ a. n) (λ a. h)
+next_names : {A : Type 0} (m : Step Table A) (n : Step Table StepEnd) → NamesOnlyTop n → NamesOnlyTop (m >> n)
+unfolding ◌>>◌
+next_names m n h = then_names m (λ a. n) (λ a. h)
 
-  if_goes : (b : Bool) (m n : Step H StepEnd) → OnlyGoes m → OnlyGoes n → OnlyGoes (if b then m else n)
-  if_goes true m n h k = h
-  if_goes false m n h k = k
+if_names : (b : Bool) (m n : Step Table StepEnd) → NamesOnlyTop m → NamesOnlyTop n → NamesOnlyTop (if b then m else n)
+if_names true m n h k = h
+if_names false m n h k = k
 
-  goes_on_goes : (m : Step H Unit) → OnlyGoes (goes_on m)
-  unfolding goes_on
-  goes_on_goes m = next_goes m (answer (Did outcome.Went)) went_goes
+goes_on_names : (m : Step Table Unit) → NamesOnlyTop (goes_on m)
+unfolding goes_on
+goes_on_names m = next_names m (answer (Did outcome.Went)) went_names
 
-  ruleset goings = (not_built_goes, went_goes, dead_goes, then_goes, next_goes, if_goes, goes_on_goes)
+-- where the primitive succeeded, its receiver is at the top
+said_names : (r : Value) (b : Bool) (n : Step Table StepEnd) (s t : State Table) (v : Value) → NamesOnlyTop n → (b ≡ true → (top bounded_table).run s ≡ Went r s)
+    → (if b then answer (Did (outcome.Say r)) else n).run s ≡ Went (Did (outcome.Say v)) t → (top bounded_table).run t ≡ Went v t
+unfolding answer
+said_names r false n s t v h k e = h.names s t v e
+said_names r true n s t v h k e =
+    let p : r ≡ v = cc in
+    let q : s ≡ t = cc in
+    subst (λ (y : State Table). (top bounded_table).run y ≡ Went v y) q (k refl ∙ ap (λ y. Went y s) p)
 
-  module _ (m : ObjectMemory H) where
-    execute_goes : (p : Performing) (c : Call) → OnlyGoes (execute m p c)
-    unfolding execute execute_by respond_by_extension respond or_activate
-    execute_goes p c = search goings depth 16 fits 4000
+say_after : (r : Value) (n : Step Table StepEnd) (s t : State Table) (v : Value) (x : Transition (State Table) Bool) → NamesOnlyTop n → (primitive_say bounded_table r).run s ≡ x
+    → after x (λ b u. (if b then answer (Did (outcome.Say r)) else n).run u) ≡ Went (Did (outcome.Say v)) t → (top bounded_table).run t ≡ Went v t
+unfolding after
+say_after r n s t v (Died cause) h p e = cc
+say_after r n s t v (Went b u) h p e = said_names r b n u t v h (said r b s u p) e
 
-    executed_goes : (s : Step H Call) → OnlyGoes (executed m s)
-    unfolding executed
-    executed_goes s = search (goings, execute_goes)
+say_names : (r : Value) (n : Step Table StepEnd) → NamesOnlyTop n → NamesOnlyTop (primitive_say bounded_table r >>= (λ b. if b then answer (Did (outcome.Say r)) else n))
+unfolding ◌>>=◌
+say_names r n h = record { names = λ s t v e. say_after r n s t v ((primitive_say bounded_table r).run s) h refl e }
 
-    execute_if_any_goes : (c : Option Call) → OnlyGoes (execute_if_any m c)
-    unfolding execute_if_any
-    execute_if_any_goes None = went_goes
-    execute_if_any_goes (Some c) = execute_goes _ c
+ruleset naming = (not_built_names, went_names, dead_names, say_names, then_names, next_names, if_names, goes_on_names)
 
-    executed_if_any_goes : (s : Step H (Option Call)) → OnlyGoes (executed_if_any m s)
-    unfolding executed_if_any
-    executed_if_any_goes s = search (goings, execute_if_any_goes)
+say_or_activate_names : (c : Call) (v : Value) → NamesOnlyTop (say_or_activate bounded_table c v)
+unfolding say_or_activate
+say_or_activate_names c v = then_names (top bounded_table) _ (λ r. say_names r _ (goes_on_names _))
 
-    arithmetic_by_goes : (k : ℕ) (v : Value) → OnlyGoes (arithmetic_by m k v)
-    unfolding arithmetic_by or_send
-    arithmetic_by_goes k (Small n) = search (goings, executed_goes)
-    arithmetic_by_goes k (Ref n) = executed_goes _
+execute_names : (p : Performing) (c : Call) → NamesOnlyTop (execute bounded_table p c)
+unfolding execute execute_by respond_by_extension respond or_activate
+execute_names p c = search (naming, say_or_activate_names) depth 16 fits 4000
 
-    bytecode_goes : (b : Bytecode) → OnlyGoes (bytecode m b)
-    unfolding bytecode arithmetic_send primitive_send
-    bytecode_goes code.Unused = dead_goes _
-    bytecode_goes b = search (goings, executed_goes, executed_if_any_goes, arithmetic_by_goes)
+executed_names : (s : Step Table Call) → NamesOnlyTop (executed bounded_table s)
+unfolding executed
+executed_names s = search (naming, execute_names)
 
-    pub step_goes : OnlyGoes (step m)
-    unfolding step
-    step_goes = search (goings, bytecode_goes)
+execute_if_any_names : (c : Option Call) → NamesOnlyTop (execute_if_any bounded_table c)
+unfolding execute_if_any
+execute_if_any_names None = went_names
+execute_if_any_names (Some c) = execute_names _ c
 
-    -- so it names nothing yet but the word at the top
-    pub step_names_top : NamesTop m (step m)
-    step_names_top s t v e = let g = step_goes.went s t (outcome.Say v) e in cc
+executed_if_any_names : (s : Step Table (Option Call)) → NamesOnlyTop (executed_if_any bounded_table s)
+unfolding executed_if_any
+executed_if_any_names s = search (naming, execute_if_any_names)
+
+arithmetic_by_names : (k : ℕ) (v : Value) → NamesOnlyTop (arithmetic_by bounded_table k v)
+unfolding arithmetic_by or_send
+arithmetic_by_names k (Small n) = search (naming, executed_names)
+arithmetic_by_names k (Ref n) = executed_names _
+
+bytecode_names : (b : Bytecode) → NamesOnlyTop (bytecode bounded_table b)
+unfolding bytecode arithmetic_send primitive_send
+bytecode_names code.Unused = dead_names _
+bytecode_names b = search (naming, executed_names, executed_if_any_names, arithmetic_by_names)
+
+step_only_names : NamesOnlyTop (step bounded_table)
+unfolding step
+step_only_names = search (naming, bytecode_names)
+
+pub step_names_top : NamesTop bounded_table (step bounded_table)
+step_names_top = step_only_names.names

@@ -1,4 +1,5 @@
--- Worked rows of the primitives on two SmallIntegers: for each number some that succeed, and one at each bound where it fails.
+-- Worked rows of the primitives on two SmallIntegers: for each number some pairs of integers by which it succeeds, and one at each
+-- bound where it fails.
 use Rattle.std.proofs.Common.{◌≡◌, ℕ, List, [], ◌∷◌, ◌++◌, Option, Some, None, true, false, refl}
 use Rattle.std.specs.Prelude.{map, ℤ, pos, neg_ℤ}
 use Rattle.st_model.specs.declared.integers.IntAnswer.{IntAnswer}

@@ -5,12 +5,12 @@ use Rattle.std.specs.Prelude.{◌-◌, ◌==◌, ◌&&◌, slice_get, slice_set,
 use Rattle.std.proofs.lemmas.Bool.Decides.{nat_tests}
 use Rattle.st_model.specs.declared.dead.Dead.{Dead}
 use Rattle.st_model.specs.declared.dead.Dead.TheVariants as dead
-use Rattle.st_model.specs.Values.{Value, Small, Ref, word}
+use Rattle.st_model.specs.Values.{Value, Small, Ref}
 use Rattle.st_model.specs.Objects.{Object, is_words, is_method, has_bytes, first_unit, with_field, with_units, object_with_unit}
 use Rattle.st_model.specs.Machine.{ObjectMemory, State, Transition, Died, Went, Step, is_there, answer, die, after, ◌>>=◌, ◌>>◌}
 use Rattle.st_model.specs.Table.{Table, table, entry, changed, IsTabular}
-use Rattle.st_model.specs.Steps.{found, object_named, object, stored_at, store_at, set_field, units_set, set_units_at, set_units, fit_units, check, or_die, fetch_word, store_word, fetch_byte, store_byte, fetch_method_field, store_method_field}
-use Rattle.st_model.specs.Deeds.{changed_object, changed_by, word_stored, byte_stored, counts_literals, header_stored, literal_stored, over}
+use Rattle.st_model.specs.Steps.{found, object_named, object, stored_at, store_at, set_field, units_set, set_units_at, set_units, check, or_die, fetch_word, store_word, fetch_byte, store_byte, fetch_method_field, store_method_field}
+use Rattle.st_model.specs.Deeds.{changed_object, changed_by, word_stored, byte_stored, literal_stored, over}
 
 got_below : {A : Type 0} (xs : List A) (i : ℕ) (x : A) → slice_get xs i ≡ Some x → nat_lt i (length xs) ≡ true
 got_below [] i x e = cc

@@ -58,3 +58,4 @@ mod Rows
 mod SendRows
 mod ArithmeticRows
 mod StorageRows
+mod StorageBounds

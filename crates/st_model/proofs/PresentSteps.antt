@@ -29,7 +29,7 @@ use Rattle.st_model.specs.Storage.{count_literals, first_by, first_place, place_
 use Rattle.st_model.specs.declared.kind.Kind.{Kind}
 use Rattle.st_model.specs.declared.kind.Kind.TheVariants as kind
 use Rattle.st_model.specs.Arithmetic.{new_point, value_of_answer, integer_under, integer_answer, arithmetic, equivalence, receiver_class, flush_cache}
-use Rattle.st_model.specs.Executing.{goes_on, answer_field, or_activate, respond, respond_by_extension, execute_by, execute, executed, execute_if_any, executed_if_any}
+use Rattle.st_model.specs.Executing.{goes_on, answer_field, or_activate, say_or_activate, respond, respond_by_extension, execute_by, execute, executed, execute_if_any, executed_if_any}
 use Rattle.st_model.specs.Returns.{calls, calls_nothing, cannot_return, return_into, return_to_context, return_to, return_to_sender, return_to_caller, must_be_boolean, jump_on}
 use Rattle.st_model.specs.Bytecodes.{fetch_receiver_variable, fetch_temporary_variable, fetch_literal_constant, fetch_literal_variable, fetch_operand, store_receiver_variable, store_temporary_variable, store_literal_variable, store_operand, constant_value, or_send, arithmetic_by, arithmetic_send, primitive_send, rows, bytecode, step}
 use Rattle.st_model.proofs.Names.{map_all, map_object}
@@ -690,9 +690,13 @@ module _ (o : Object) (lives : ℕ → Type 0) where
   unfolding header_or_literal
   header_or_literal-sure n r a h0 h1 = search (numbers_sure, place_in_method-sure) depth 24 fits 4000
 
+  pub check_header-sure : (n : ℕ) (r : Value) (b : Value) → There n r → There n b → SureAnswer n (check_header bare r b) (check_header (full o) r b)
+  unfolding check_header
+  check_header-sure n r b h0 h1 = search (numbers_sure, count_literals-sure) depth 32 fits 4000
+
   pub check_method_field-sure : (n : ℕ) (r : Value) (b : Value) (first : Bool) → There n r → There n b → SureAnswer n (check_method_field bare r b first) (check_method_field (full o) r b first)
-  unfolding check_method_field check_header
-  check_method_field-sure n r b true h0 h1 = search (numbers_sure, count_literals-sure) depth 32 fits 4000
+  unfolding check_method_field
+  check_method_field-sure n r b true h0 h1 = check_header-sure n r b h0 h1
   check_method_field-sure n r b false h0 h1 = search sures depth 24 fits 4000
 
   pub place_to_store-sure : (n : ℕ) (r : Value) (a : Value) (b : Value) → There n r → There n a → There n b → SureAnswer n (place_to_store bare r a b) (place_to_store (full o) r a b)
@@ -803,7 +807,7 @@ module _ (o : Object) (lives : ℕ → Type 0) where
 
   pub new_method-sure : (n : ℕ) (r : Value) (s : MethodShape) → There n r → SureValue n (new_method bare r s) (new_method (full o) r s)
   unfolding new_method
-  new_method-sure n r s h0 = search parts depth 24 fits 4000
+  new_method-sure n r s h0 = search (parts, check_header-sure) depth 24 fits 4000
 
   pub replace_and_answer-sure : (n : ℕ) (r : Value) (c : Value) (p : Replacing) → There n r → There n c → SureValue n (replace_and_answer bare r c p) (replace_and_answer (full o) r c p)
   unfolding replace_and_answer
@@ -919,9 +923,13 @@ module _ (o : Object) (lives : ℕ → Type 0) where
   unfolding or_activate
   or_activate-sure n c v p p' h0 h1 = search (sures, goes_on-sure, activate-sure) depth 24 fits 4000
 
+  pub say_or_activate-sure : (n : ℕ) (c : Call) (v : Value) → CallThere n c → SureAnswer n (say_or_activate bare c v) (say_or_activate (full o) c v)
+  unfolding say_or_activate
+  say_or_activate-sure n c v h0 = search (parts, goes_on-sure, activate-sure, primitive_say-sure) depth 24 fits 4000
+
   pub respond-sure : (n : ℕ) (p : Performing) (c : Call) (v : Value) (i : ℕ) → CallThere n c → SureAnswer n (respond bare p c v i) (respond (full o) p c v i)
   unfolding respond
-  respond-sure n p c v i h0 = search (sures, goes_on-sure, activate-sure, or_activate-sure, primitives_sure) depth 24 fits 4000
+  respond-sure n p c v i h0 = search (sures, goes_on-sure, activate-sure, or_activate-sure, say_or_activate-sure, primitives_sure) depth 24 fits 4000
 
   pub execute_by-sure : (n : ℕ) (p : Performing) (c : Call) (v : Value) (flag : ℕ) → CallThere n c → SureAnswer n (execute_by bare p c v flag) (execute_by (full o) p c v flag)
   unfolding execute_by respond_by_extension answer_field

@@ -482,6 +482,9 @@ module _ {H K : Type 0} {M : ObjectMemory H} {N : ObjectMemory K} (sim : Simulat
   pub went-same : SameEnd sim (answer (Did outcome.Went)) (answer (Did outcome.Went))
   went-same = answer-same sim _ _ _ _ tt refl
 
+  pub say_value-same : (v w : Value) → ValueSame sim v w → SameEnd sim (answer (Did (outcome.Say v))) (answer (Did (outcome.Say w)))
+  say_value-same v w h = answer-same sim _ _ _ _ h.live (ap (λ x. Did (outcome.Say x)) h.is)
+
   pub not_built-same : SameEnd sim (answer NotBuilt) (answer NotBuilt)
   not_built-same = answer-same sim _ _ _ _ tt refl
 
@@ -522,4 +525,4 @@ module _ {H K : Type 0} {M : ObjectMemory H} {N : ObjectMemory K} (sim : Simulat
   tried_itself-same m n h k = tried-same _ _ _ _ (tt, refl) (λ a l. (tt, refl)) m n h k
 
 -- what a search of steps that do the same goes by
-pub ruleset steps_same = (then_value-same, then_values-same, then_object-same, then_answer-same, then_option-same, then_registers-same, then_world-same, then_call-same, then_any_call-same, then_unit-same, if-same, tried_value-same, tried_itself-same, die-same, answer_value-same, answer_values-same, answer_option-same, answer_registers-same, answer_object-same, answer_itself-same, answer_call-same, answer_some_call-same, answer_no_call-same, went-same, not_built-same, same_value-same, small-same, small_integer-same, class-same, no_values-same, values-same, none-same, some-same, field-same, registers-same, length-renamed, code_byte-renamed)
+pub ruleset steps_same = (then_value-same, then_values-same, then_object-same, then_answer-same, then_option-same, then_registers-same, then_world-same, then_call-same, then_any_call-same, then_unit-same, if-same, tried_value-same, tried_itself-same, die-same, answer_value-same, answer_values-same, answer_option-same, answer_registers-same, answer_object-same, answer_itself-same, answer_call-same, answer_some_call-same, answer_no_call-same, went-same, say_value-same, not_built-same, same_value-same, small-same, small_integer-same, class-same, no_values-same, values-same, none-same, some-same, field-same, registers-same, length-renamed, code_byte-renamed)

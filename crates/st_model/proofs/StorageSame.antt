@@ -177,9 +177,13 @@ module _ {H K : Type 0} {M : ObjectMemory H} {N : ObjectMemory K} (sim : Simulat
   unfolding header_or_literal
   header_or_literal-same v w x y h k = search (numbers_same, place_in_method-same) depth 24 fits 4000
 
+  check_header-same : (v w x y : Value) → ValueSame sim v w → ValueSame sim x y → SameAnswer sim (check_header M v x) (check_header N w y)
+  unfolding check_header
+  check_header-same v w x y h k = search (numbers_same, count_literals-same) depth 32 fits 4000
+
   check_method_field-same : (v w x y : Value) (b : Bool) → ValueSame sim v w → ValueSame sim x y → SameAnswer sim (check_method_field M v x b) (check_method_field N w y b)
-  unfolding check_method_field check_header
-  check_method_field-same v w x y true h k = search (numbers_same, count_literals-same) depth 32 fits 4000
+  unfolding check_method_field
+  check_method_field-same v w x y true h k = check_header-same v w x y h k
   check_method_field-same v w x y false h k = search steps_same
 
   place_to_store-same : (r s a b x y : Value) → ValueSame sim r s → ValueSame sim a b → ValueSame sim x y → SameAnswer sim (place_to_store M r a x) (place_to_store N s b y)
@@ -293,7 +297,7 @@ module _ {H K : Type 0} {M : ObjectMemory H} {N : ObjectMemory K} (sim : Simulat
 
   new_method-same : (v w : Value) (s : MethodShape) → ValueSame sim v w → SameValue sim (new_method M v s) (new_method N w s)
   unfolding new_method
-  new_method-same v w s h = search parts_same depth 24 fits 4000
+  new_method-same v w s h = search (parts_same, check_header-same) depth 24 fits 4000
 
   replace_and_answer-same : (v w x y : Value) (p : Replacing) → ValueSame sim v w → ValueSame sim x y → SameValue sim (replace_and_answer M v x p) (replace_and_answer N w y p)
   unfolding replace_and_answer
@@ -303,7 +307,7 @@ module _ {H K : Type 0} {M : ObjectMemory H} {N : ObjectMemory K} (sim : Simulat
 
   ruleset primitives_same = (parts_same, primitive-same, primitive_value-same, effects_same, conditions_same, truth-same)
 
-  say-same : (v w : Value) → ValueSame sim v w → SameAnswer sim (primitive_say M v) (primitive_say N w)
+  pub say-same : (v w : Value) → ValueSame sim v w → SameAnswer sim (primitive_say M v) (primitive_say N w)
   unfolding primitive_say
   say-same v w h = search primitives_same depth 24 fits 4000
 

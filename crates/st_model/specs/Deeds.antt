@@ -1,9 +1,13 @@
 -- What a primitive leaves to be done on a table: a change of an object's words or bytes, or of a Method's header or literals.
-use Rattle.std.specs.Prelude.{ℕ, suc, ◌+◌, ◌-◌, ◌==◌, List, [], ◌∷◌, Option, Some, None, Bool, false, ◌&&◌, nat_le, if◌then◌else◌, slice_get, take, drop}
+use Rattle.std.specs.Prelude.{ℕ, suc, ◌+◌, ◌-◌, ◌==◌, List, [], ◌∷◌, Option, Some, None, Bool, true, false, ◌&&◌, nat_lt, nat_le, if◌then◌else◌, slice_get, take, drop}
 use Rattle.st_model.specs.declared.deed.Deed.{Deed}
 use Rattle.st_model.specs.declared.deed.Deed.TheVariants.{Nothing, StoreWord, StoreByte, StoreNumber, ReplaceBytes, StoreHeader, StoreLiteral}
+use Rattle.st_model.specs.declared.outcome.StepEnd.{StepEnd as CodeStepEnd}
+use Rattle.st_model.specs.declared.outcome.StepEnd.TheVariants as ends
+use Rattle.st_model.specs.declared.tried.Tried.{Tried as CodeTried}
+use Rattle.st_model.specs.declared.tried.Tried.TheVariants as trials
 use Rattle.st_model.specs.Values.{Value, Small, Ref, word}
-use Rattle.st_model.specs.Objects.{Object, is_words, is_method, has_bytes, first_unit, with_field, object_with_unit}
+use Rattle.st_model.specs.Objects.{Object, is_words, is_bytes, is_method, has_bytes, first_unit, with_field, object_with_unit}
 use Rattle.st_model.specs.Machine.{State, is_there}
 use Rattle.st_model.specs.Table.{Table, table, entry, changed}
 use Rattle.st_model.specs.Primitives.{bytes_of_number}
@@ -30,17 +34,22 @@ abbrev pub bytes_stored : ℕ → List ℕ → Object → Object
 bytes_stored i [] o = o
 bytes_stored i (b ∷ bs) o = bytes_stored (suc i) bs (byte_stored i b o)
 
+-- the same in an object of kind Bytes alone
+abbrev pub bytes_replaced : ℕ → List ℕ → Object → Object
+bytes_replaced i bs o = if is_bytes o.kind then bytes_stored i bs o else o
+
 abbrev pub bytes_of_object : ℕ → ℕ → Option Object → List ℕ
 bytes_of_object i n None = []
-bytes_of_object i n (Some o) = take n (drop (i - first_unit o) o.units)
+bytes_of_object i n (Some o) = if is_bytes o.kind then take n (drop (i - first_unit o) o.units) else []
 
--- n bytes of the object of this value from a place on
+-- n bytes of the object of this value from a place on, or as many as there are, where it is of kind Bytes
 abbrev pub bytes_from : Table → Value → ℕ → ℕ → List ℕ
 bytes_from t (Small k) i n = []
 bytes_from t (Ref k) i n = bytes_of_object i n (entry t k)
 
+-- a SmallInteger of 15 bits counts as many literals as the header before it
 abbrev pub counts_literals : Value → Option Value → Bool
-counts_literals (Small n) (Some h) = literal_count (Small n) == literal_count h
+counts_literals (Small n) (Some h) = nat_lt n 32768 && (literal_count (Small n) == literal_count h)
 counts_literals (Small n) None = false
 counts_literals (Ref n) h = false
 
@@ -56,7 +65,7 @@ deed_done Nothing t = t
 deed_done (StoreWord o i x) t = changed_by (word_stored i x) t (word o)
 deed_done (StoreByte o i x) t = changed_by (byte_stored i x) t (word o)
 deed_done (StoreNumber o k) t = changed_by (bytes_stored 0 (bytes_of_number k)) t (word o)
-deed_done (ReplaceBytes o c to from n) t = changed_by (bytes_stored to (bytes_from t (word c) from n)) t (word o)
+deed_done (ReplaceBytes o c to from n) t = changed_by (bytes_replaced to (bytes_from t (word c) from n)) t (word o)
 deed_done (StoreHeader o x) t = changed_by (header_stored (word x)) t (word o)
 deed_done (StoreLiteral o i x) t = changed_by (literal_stored i (word x) (is_there table t (word x))) t (word o)
 
@@ -67,3 +76,19 @@ over g s = record s { memory = g s.memory }
 -- the state in which a deed is done besides
 abbrev pub with_deed : Deed → State Table → State Table
 with_deed d s = over (deed_done d) s
+
+-- what the end of a step of the code leaves to be done
+abbrev pub deed_of_end : CodeStepEnd → Deed
+deed_of_end (ends.Went deed) = deed
+deed_of_end (ends.Says w) = Nothing
+deed_of_end ends.NotBuilt = Nothing
+
+-- whether a primitive of the code succeeded that was tried
+abbrev pub is_done : CodeTried → Bool
+is_done trials.Failed = false
+is_done (trials.Done deed) = true
+
+-- and what it leaves to be done
+abbrev pub deed_of_trial : CodeTried → Deed
+deed_of_trial trials.Failed = Nothing
+deed_of_trial (trials.Done deed) = deed

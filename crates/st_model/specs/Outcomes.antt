@@ -5,7 +5,7 @@ use Rattle.st_model.specs.declared.outcome.Outcome.{Outcome as CodeOutcome}
 use Rattle.st_model.specs.declared.outcome.Outcome.TheVariants as outcomes
 use Rattle.st_model.specs.declared.outcome.StepEnd.{StepEnd as CodeStepEnd}
 use Rattle.st_model.specs.declared.outcome.StepEnd.TheVariants as ends
-use Rattle.st_model.specs.Values.{Value, value, renamed, IsLive}
+use Rattle.st_model.specs.Values.{Value, value, word, renamed, IsLive}
 
 -- It went on; or something is asked for besides, which is done after the cycle: that an image is saved, that the
 -- bytes of an object are said, that the run ends, or that it ends for a debugger.
@@ -65,7 +65,8 @@ outcome_of (outcomes.Say o) = Say (value o)
 outcome_of outcomes.Quit = Quit
 outcome_of outcomes.Debugger = Debugger
 
--- what the end of a step of the code means
+-- what the end of a step of the code means, whatever it leaves to be done
 abbrev pub end_of : CodeStepEnd → StepEnd
-end_of (ends.Did o) = Did (outcome_of o)
+end_of (ends.Went deed) = Did Went
+end_of (ends.Says w) = Did (Say (word w))
 end_of ends.NotBuilt = NotBuilt

@@ -1,5 +1,5 @@
--- The primitives that read and store objects, make, exchange and find them (chapter 29: array and stream, storage management
--- and system primitives). Each names what it succeeds by, its conditions in their order, and its effect, which gives its answer.
+-- The primitives that read and store objects, make, exchange, find and count them (chapter 29: array and stream, storage
+-- management and system primitives), and 128, which is this machine's own. Each names what it succeeds by, its conditions in their order, and its effect, which gives its answer.
 use Rattle.std.specs.Prelude.{ℕ, ◌+◌, ◌-◌, ◌*◌, ◌/◌, ◌==◌, ◌&&◌, ◌||◌, not, Bool, true, false, nat_lt, nat_le, if◌then◌else◌, ℤ, pos, nat_abs, ◌-ℤ◌, int_lt, int_le}
 use Rattle.st_model.specs.declared.dead.Dead.TheVariants as dead
 use Rattle.st_model.specs.declared.kind.Kind.{Kind}
@@ -411,7 +411,7 @@ fixed_specification m r = do
   check dead.Kind (not (is_indexable s))
   answer s
 
--- 70: a new instance of the class r, which has no indexed ones
+-- 70: a new instance of the class r, whose instances have no indexed fields
 unfoldable pub primitive_new : {H : Type 0} → ObjectMemory H → Step H Bool
 primitive_new m = do
   r ← top m
@@ -562,10 +562,12 @@ method_shape m r a b = do
   check dead.Field (nat_le (method_words (literal_count (Small header)) bytes) 65533)
   answer (record { header = header; bytes = bytes })
 
--- its bytes are 0, and its literals nil
+-- Its bytes are 0, and its literals nil. Its header counts as many literals as the new one, which is asked since a bounded
+-- memory without room answers nil: an image may have any object there.
 unfoldable pub new_method : {H : Type 0} → ObjectMemory H → Value → MethodShape → Step H Value
 new_method m r s = do
   method ← make m r kind.Method (2 * literal_count (Small s.header) + 2 + s.bytes) (literal_count (Small s.header))
+  check_header m method (Small s.header)
   store_method_field m method 0 (Small s.header)
   answer method
 
@@ -577,7 +579,7 @@ primitive_new_method m = do
   b ← top m
   primitive m 2 (method_shape m r a b) (λ s. new_method m r s)
 
--- bytes from a to b, counted from 1, become those of another object from d on
+-- bytes from a to b, counted from 1, become those of an object from d on
 pub record Replacing : Type 0 where
   pub first : ℕ
   pub last : ℕ
@@ -620,11 +622,11 @@ primitive_replace m = do
   d ← top m
   primitive m 4 (replacing m r a b c d) (λ p. replace_and_answer m r c p)
 
--- 112: how many words are free before the number is made
+-- 112: how many words are free before the number is made, which are those that are free as the bytecode begins
 unfoldable pub primitive_core_left : {H : Type 0} → ObjectMemory H → Step H Bool
 primitive_core_left m = primitive m 0 (get_free m) (λ free. number m free.words)
 
--- 115: how many entries are free before the number is made
+-- 115: how many entries are free then
 unfoldable pub primitive_oops_left : {H : Type 0} → ObjectMemory H → Step H Bool
 primitive_oops_left m = primitive m 0 (get_free m) (λ free. number m free.entries)
 

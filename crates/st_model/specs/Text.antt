@@ -1,4 +1,5 @@
--- The text of a report: a run's end, the registers, the input state, what is held, what is used, and every object.
+-- The text of a report: what bytecodes say, a run's end, the registers, the input state, what is held, what is used, and every
+-- object.
 -- Each line ends with LF. Pointers are written as @60, SmallIntegers as numbers.
 use Rattle.std.specs.Prelude.{codes, ℕ, ◌+◌, ◌-◌, ◌*◌, ◌/◌, ◌%◌, ◌==◌, zero, suc, List, [], ◌∷◌, ◌++◌, length, Option, Some, None, ℤ, pos, ◌+ℤ◌, nat_lt, if◌then◌else◌}
 use Rattle.std.specs.Fmt.{decimal, signed_decimal}
@@ -10,7 +11,7 @@ use Rattle.st_model.specs.declared.demand.Demand.{Demand}
 use Rattle.st_model.specs.Outcomes.{Outcome, Ending, With, Space, Unbuilt}
 use Rattle.st_model.specs.Outcomes as outcome
 use Rattle.st_model.specs.Values.{Value, Small, Ref, integer}
-use Rattle.st_model.specs.Objects.{Object, one, words_of}
+use Rattle.st_model.specs.Objects.{Object, is_bytes, one, words_of}
 use Rattle.st_model.specs.Deaths.{dead_number}
 use Rattle.st_model.specs.Machine.{Registers, Devices, World, State, Transition, Died, Went}
 use Rattle.st_model.specs.Table.{Table, total_used}
@@ -120,10 +121,10 @@ escaped_byte b =
 abbrev pub escaped : List ℕ → List ℕ
 escaped bytes = flat_map escaped_byte bytes
 
--- the line that says the bytes of an object
+-- the line that says the bytes of an object of kind Bytes; of nothing else is there a line, nor is anything else said
 abbrev pub said_text : Option Object → List ℕ
 said_text None = []
-said_text (Some o) = codes "say " ++ (escaped o.units ++ codes "\n")
+said_text (Some o) = if is_bytes o.kind then codes "say " ++ (escaped o.units ++ codes "\n") else []
 
 abbrev pub said_value : Births → Value → List ℕ
 said_value h (Small n) = []

@@ -12,7 +12,8 @@ pub struct Call {
     pub ghost few: { arguments < 16384 },
 }
 
-/// Whether primitives 83 and 84, which perform a selector, may still be tried.
+/// Whether primitives 83 and 84, which perform a selector, may still be tried. Both aren't built, so that nothing depends on it
+/// yet.
 #[derive(Clone, Copy)]
 pub enum Performing {
     /// They may.

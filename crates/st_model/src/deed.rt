@@ -1,7 +1,8 @@
 use crate::word::Word;
 
 /// What a primitive leaves to be done on the memory once receiver and arguments are popped and the answer is pushed: a change
-/// of words or bytes, or of a Method's header or literals. Where there is no such place, nothing is done.
+/// of words or bytes, or of a Method's header or literals. What is to be stored where an object lacks the place, or is of
+/// another kind, is not stored, and where there is no such object, nothing is done.
 #[derive(Clone, Copy)]
 pub enum Deed {
     /// Nothing is left to be done.
@@ -19,13 +20,14 @@ pub enum Deed {
         place: u32,
         byte: u8,
     },
-    /// The bytes of a number, the low one first, are stored in an object.
+    /// The bytes of a number, the low one first and no more than it has, are stored in an object of kind Bytes or Method, from
+    /// place 0 on.
     StoreNumber {
         object: Word,
         number: u32,
     },
     /// `count` bytes of an object from place `to` on, counted from 0, become those of another from place `from` on, as they
-    /// were before.
+    /// were before; fewer where that one has fewer.
     ReplaceBytes {
         target: Word,
         source: Word,

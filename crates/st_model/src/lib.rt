@@ -27,6 +27,7 @@ mod oop;
 mod outcome;
 mod page;
 mod place;
+mod tried;
 mod word;
 
 pub use bytecode::{Bytecode, Constant, Operand, decode, extended_operand};
@@ -44,6 +45,7 @@ pub use oop::Oop;
 pub use outcome::{Outcome, StepEnd};
 pub use page::PageObject;
 pub use place::RootPlace;
+pub use tried::Tried;
 pub use word::Word;
 
 /// The first law that joins the book's machine to the code's: a step that is foreseen over a table of 32768 places, where

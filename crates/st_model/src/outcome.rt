@@ -1,10 +1,14 @@
+use crate::deed::Deed;
 use crate::oop::Oop;
+use crate::word::Word;
 
 /// How the step that does a bytecode ended.
 #[derive(Clone, Copy)]
 pub enum StepEnd {
-    /// The bytecode was done.
-    Did(Outcome),
+    /// The bytecode was done, and this is left to be done on the memory.
+    Went(Deed),
+    /// It was done, and the bytes of this object are to be said.
+    Says(Word),
     /// It came to a primitive that isn't built.
     NotBuilt,
 }

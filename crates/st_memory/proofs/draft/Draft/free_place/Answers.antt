@@ -39,8 +39,8 @@ loop-k-preserved g c =
           }
     ]
 
-pub returns-then-left-eq0 : goal.returns-then-left-eq0
-returns-then-left-eq0 g c =
+pub returns-then-left-eq0-clause-place : goal.returns-then-left-eq0-clause-place
+returns-then-left-eq0-clause-place g c =
     let t = (g.M.Memory.view c.args.self.now.base.now).objects in
     let k = c.loop-k.k in
     let low : k < 32768 = let h = c.loop-k-test.true in omega (arith, h) in
@@ -49,8 +49,8 @@ returns-then-left-eq0 g c =
     let free : is_some (entry t k) ≡ false = sym (live_place t k) ∙ sym c.live.ensures ∙ c.if-not-live.true in
     sym (c.loop-k.invariant.same ∙ ap (free_place (drop k t) k) c.if-left-eq0.true ∙ free_here t k k within free)
 
-pub returns : goal.returns
-returns g c =
+pub returns-clause-place : goal.returns-clause-place
+returns-clause-place g c =
     let t = (g.M.Memory.view c.args.self.now.base.now).objects in
     let end : c.loop-k.k ≡ 32768 = let h = c.loop-k-test.false in let e = c.loop-k.auto.k-end in omega (arith, h, e) in
     let places = (g.met.M.Memory.whole c.args.self.now.base.now).places in
