@@ -5,7 +5,7 @@ ghost use Rattle.st_changes.specs.Views.{definition_of};
 
 use crate::{Changes, Definition, Span, load};
 use st_host::{Leave, MemHost};
-use st_outside::read_from;
+use st_outside::{file_length, read_from};
 use st_store::{Store, StoreFault, StorePlace, open_store};
 use st_tree::Text;
 use std::alloc::{AllocError, Global};
@@ -17,7 +17,7 @@ const TWO: &[u8] =
     b"!Point methodsFor: 'a'!\nx ^x! !\n!Point class methodsFor: 'it''s!!'!\ny ^'!!'! !\n";
 
 // One more: `x ^'!'` of Point's instances, in the category `it's!`.
-const THIRD: &[u8] = b"!Point methodsFor: 'it''s!!'!\nx ^'!!'! !\n";
+const THIRD: [u8; 41] = *b"!Point methodsFor: 'it''s!!'!\nx ^'!!'! !\n";
 
 // The base and the length that the root names, and the place in `TWO` at which it is refused, or none.
 const ROOTS: [(u8, u8, Option<u64>); 8] = [
@@ -139,9 +139,10 @@ fn a_definition_is_kept_and_read_back(rt: HostRuntime) -> Result<(), Fail> {
     check_lasts(&rt, &changes, Span { at: 24, length: 4 });
     let (store, changes) = keep(&rt, alloc, &mut host, store, changes)?;
     check_lasts(&rt, &changes, Span { at: 109, length: 7 });
-    let mut bytes = [0; 42];
+    let mut bytes = [0; 41];
     assert_eq!(rt; read_from(&mut host, "s.changes", 79, &mut bytes), Ok(41));
-    assert_eq!(rt; &bytes[..41], THIRD);
+    assert_eq!(rt; bytes, THIRD);
+    assert_eq!(rt; file_length(&mut host, "s.changes"), Ok(Some(120)));
     let loaded = load(alloc, &mut host, &store)?;
     assert_eq!(rt; loaded.definitions().len(), 3);
     check_lasts(&rt, &loaded, Span { at: 109, length: 7 });
