@@ -1,11 +1,12 @@
 // Filling a store, and counting what it has.
-ghost use Rattle.std.specs.Prelude.{◌≡◌, ◌++◌, ◌∷◌, [], IfOk, OnOk, OnErr, length, codes};
-ghost use Rattle.st_chunk.specs.Definitions.{IsDefinition, entries};
+ghost use Rattle.std.specs.Prelude.{◌≡◌, Some, IfOk, length};
+ghost use Rattle.st_chunk.specs.Definitions.{IsDefinition, entry, entries};
 ghost use Rattle.st_changes.specs.Views.{definition_of};
+ghost use Rattle.st_changes.specs.States.{FitsBehind};
 
 use crate::failure::Failure;
 use st_changes::{Changes, Definition, load};
-use st_outside::{Host, say_all};
+use st_outside::{Host, HostFault, say_all};
 use st_store::{Store, StoreFault, clear, found, open_store};
 use st_tree::Text;
 use std::alloc::{AllocError, Global};
@@ -59,6 +60,23 @@ fn definition(alloc: Global) -> Result<Definition, AllocError>
     })
 }
 
+/// Adds a definition that there is room for.
+fn add<H: Host>(
+    host: &mut H,
+    store: Store,
+    changes: Changes,
+    definition: Definition,
+) -> Result<Opened, HostFault>
+    requires good { IsDefinition (definition_of definition) }
+    requires reserved { changes.reserved ≡ Some (entry (definition_of definition)) }
+    requires place { store.root.length ≡ length (entries changes.listed) }
+    requires fits { FitsBehind changes.listed (definition_of definition) }
+{
+    let mut changes = changes;
+    let store = changes.append(host, store, definition)?;
+    Ok(Opened { store, changes })
+}
+
 /// Keeps one definition more, or answers the store as it was where the changes file would be too long.
 fn keep<H: Host>(alloc: Global, host: &mut H, opened: Opened) -> Result<Opened, Failure> {
     let Opened { store, mut changes } = opened;
@@ -67,8 +85,7 @@ fn keep<H: Host>(alloc: Global, host: &mut H, opened: Opened) -> Result<Opened, 
         return Ok(Opened { store, changes });
     }
     changes.reserve(alloc, &definition)?;
-    let store = changes.append(host, store, definition)?;
-    Ok(Opened { store, changes })
+    Ok(add(host, store, changes, definition)?)
 }
 
 fn say_count<H: Host>(alloc: Global, host: &mut H, changes: &Changes) -> Result<(), Failure> {
