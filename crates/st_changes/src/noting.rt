@@ -20,7 +20,8 @@ pub(crate) fn prepare(
     definition: &Definition,
 ) -> Result<Option<Text>, AllocError>
     requires { IsDefinition (definition_of definition.now) }
-    ensures prepared { IfOk result (λ s. IsPrepared index.new (definition_of definition.now) (option_map (λ v. v.items) s)) }
+    ensures prepared { IfOk result (λ s.
+        IsPrepared index.new (definition_of definition.now) (option_map (λ v. v.items) s)) }
     ensures same { (c : List ℕ) (m : Bool) (s : List ℕ) → found index.new c m s ≡ found index.old c m s }
     ensures keeps { (n : List ℕ) → HasName index.old n → HasName index.new n }
     ensures room { index.old.room ≤ index.new.room }
@@ -48,7 +49,8 @@ fn text_span(definition: &Definition, end: u64) -> Span
 /// Notes a definition, whose entry ends at this place of the changes file, behind those that are noted. It takes no memory.
 pub(crate) fn note(index: &mut Index, definition: &Definition, selector: &Option<Text>, end: u64)
     requires good { IsDefinition (definition_of definition.now) }
-    requires prepared { IsPrepared index.old (definition_of definition.now) (option_map (λ v. v.items) selector.now) }
+    requires prepared { IsPrepared index.old (definition_of definition.now)
+        (option_map (λ v. v.items) selector.now) }
     requires fits { length (entry (definition_of definition.now)) ≤ end }
     ensures { (ds : List Defined) → Answers ds (found index.old)
         → end ≡ length (entries ds) + length (entry (definition_of definition.now))
