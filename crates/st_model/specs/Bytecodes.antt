@@ -1,5 +1,5 @@
 -- The bytecodes, a definition for each group of rows of the book's table (chapter 28), and the step that does one.
-use Rattle.std.specs.Prelude.{ℕ, ◌+◌, ◌*◌, ◌==◌, Option, Bool, if◌then◌else◌, ℤ, pos, ◌+ℤ◌, ◌-ℤ◌, ◌*ℤ◌}
+use Rattle.std.specs.Prelude.{ℕ, ◌+◌, ◌*◌, ◌==◌, ◌-◌, Option, Bool, if◌then◌else◌, ℤ, pos, ◌+ℤ◌, ◌-ℤ◌, ◌*ℤ◌}
 use Rattle.st_model.specs.declared.dead.Dead.TheVariants as dead
 use Rattle.st_model.specs.declared.bytecode.Operand.{Operand}
 use Rattle.st_model.specs.declared.bytecode.Operand.TheVariants.{ReceiverVariable, TemporaryVariable, LiteralConstant, LiteralVariable}
@@ -9,13 +9,14 @@ use Rattle.st_model.specs.declared.bytecode.Bytecode.{Bytecode}
 use Rattle.st_model.specs.declared.bytecode.Bytecode.TheVariants as code
 use Rattle.st_model.specs.Values.{Value, Small, Ref}
 use Rattle.st_model.specs.Objects.{NilObject, FalseObject, TrueObject}
-use Rattle.st_model.specs.Outcomes.{StepEnd, Did, NotBuilt}
+use Rattle.st_model.specs.Outcomes.{StepEnd, Did}
 use Rattle.st_model.specs.Outcomes as outcome
 use Rattle.st_model.specs.Decoded.{decoded, operand_of, selector_of, arguments_of}
 use Rattle.st_model.specs.Machine.{ObjectMemory, Step, answer, die, ◌>>=◌}
 use Rattle.st_model.specs.Steps.{get_active, get_home, get_method, get_receiver, fetch_field, store_field, of_page, push, top, under, pop, literal, next_byte, jump}
 use Rattle.st_model.specs.Sends.{Call, send, send_to_super, special_send}
 use Rattle.st_model.specs.Arithmetic.{arithmetic, arithmetic_number, equivalence, receiver_class}
+use Rattle.st_model.specs.Blocks.{primitive_block_copy, primitive_value}
 use Rattle.st_model.specs.Executing.{goes_on, executed, executed_if_any}
 use Rattle.st_model.specs.Returns.{return_to_sender, return_to_caller, jump_on}
 
@@ -247,9 +248,12 @@ arithmetic_send m k = do
   receiver ← under m 1
   arithmetic_by m k receiver
 
--- 198 and 199: the primitives 110 and 111 are done; those of 200 to 202 aren't built
+-- 198 and 199: the primitives 110 and 111 are done. 200 tries 80, and 201 and 202 try 81 with no argument and with one.
 unfoldable pub primitive_send : {H : Type 0} → ObjectMemory H → ℕ → Step H StepEnd
-primitive_send m k = if k == 22 then goes_on (equivalence m) else if k == 23 then goes_on (receiver_class m) else answer NotBuilt
+primitive_send m k =
+    if k == 22 then goes_on (equivalence m) else
+    if k == 23 then goes_on (receiver_class m) else
+    if k == 24 then or_send m k (primitive_block_copy m) else or_send m k (primitive_value m (k - 25))
 
 -- opens the rows
 unfoldable pub rows : Unit {0}

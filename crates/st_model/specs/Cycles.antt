@@ -1,13 +1,64 @@
--- Cycles and runs as functions: a bytecode, the test for space, and reclaiming (chapters 28 and 30).
-use Rattle.std.specs.Prelude.{ℕ, zero, suc, Bool, true, false}
+-- Cycles and runs as functions: what is pending, a process that waits, a bytecode, the test for space, reclaiming, and the
+-- warning that space is low (chapters 28, 29 and 30).
+use Rattle.std.specs.Prelude.{ℕ, zero, suc, Option, Some, None, Bool, true, false, ◌&&◌, ◌||◌, not, length, nat_lt, if◌then◌else◌}
 use Rattle.st_model.specs.declared.demand.Demand.{Demand}
 use Rattle.st_model.specs.Outcomes.{Outcome, StepEnd, Did, NotBuilt, Ending, With, Space, Unbuilt}
 use Rattle.st_model.specs.Outcomes as outcome
+use Rattle.st_model.specs.declared.device.Device.TheVariants.{NewProcess, LowSpace}
+use Rattle.st_model.specs.Values.{Value, Ref}
+use Rattle.st_model.specs.Objects.{NilObject}
 pub use Rattle.st_model.specs.Machine.{less, capacity_of, free_space}
-use Rattle.st_model.specs.Machine.{ObjectMemory, State, Transition, Died, Went, used, is_over}
-use Rattle.st_model.specs.Steps.{next_byte}
+use Rattle.st_model.specs.Machine.{ObjectMemory, World, State, Transition, Died, Went, Step, used, is_over, answer, ◌>>=◌, ◌>>◌}
+use Rattle.st_model.specs.Surroundings.{TakeSignal}
+use Rattle.st_model.specs.Steps.{of_page, same_value, get_device, newest_signal, count_signals, change_world, next_byte}
+use Rattle.st_model.specs.Processes.{signal, switch_to_process}
+use Rattle.st_model.specs.Events.{is_held, signalled_once}
 use Rattle.st_model.specs.Bytecodes.{step}
 use Rattle.st_model.specs.Settled.{reclaim}
+
+unfoldable pub signal_if_any : {H : Type 0} → ObjectMemory H → Option Value → Step H Unit
+signal_if_any m None = answer tt
+signal_if_any m (Some s) = do
+  change_world m TakeSignal
+  signal m s
+
+-- so many pending signals are made, the newest first
+unfoldable pub signal_newest : {H : Type 0} → ObjectMemory H → ℕ → Step H Unit
+signal_newest m zero = answer tt
+signal_newest m (suc n) = do
+  s ← newest_signal
+  signal_if_any m s
+  signal_newest m n
+
+unfoldable pub switch_unless_nil : {H : Type 0} → ObjectMemory H → Value → Bool → Step H Unit
+switch_unless_nil m p true = answer tt
+switch_unless_nil m p false = switch_to_process m p
+
+-- where a new process waits, the machine switches to it
+unfoldable pub switch_if_waiting : {H : Type 0} → ObjectMemory H → Step H Unit
+switch_if_waiting m = do
+  p ← get_device NewProcess
+  nil ← of_page m NilObject
+  switch_unless_nil m p (same_value p nil)
+
+-- what comes before each bytecode: all pending signals are made, and then a process switch, where one waits
+unfoldable pub check_process_switch : {H : Type 0} → ObjectMemory H → Step H Unit
+check_process_switch m = do
+  n ← count_signals
+  signal_newest m n
+  switch_if_waiting m
+
+-- fewer entries or words are free than asked for
+abbrev pub is_low : Demand → World → Bool
+is_low free w = nat_lt free.entries w.low_entries || nat_lt free.words w.low_words
+
+abbrev pub warned_if_low : Value → Demand → World → World
+warned_if_low nil free w =
+    if is_held nil w.devices.low_space && (is_low free w && nat_lt (length w.devices.pending) 4096) then signalled_once nil LowSpace w else w
+
+-- where space is low, the low-space semaphore's signal is added once, and the semaphore is let go
+abbrev pub warned : {H : Type 0} → ObjectMemory H → State H → State H
+warned m s = record s { world = warned_if_low (Ref (m.named s.memory NilObject)) (free_space m s) s.world }
 
 -- what a step makes that goes from s to t: it drops nothing
 abbrev pub made_between : {H : Type 0} → ObjectMemory H → State H → State H → Demand
@@ -24,7 +75,7 @@ next_code m s = byte_answered ((next_byte m).run s)
 -- where the capacities have no room for what the step makes, it isn't done
 abbrev pub done_or_not : {H : Type 0} → ObjectMemory H → State H → Outcome → State H → Bool → Transition (State H) Ending
 done_or_not m s o t true = Went (Space (made_between m s t) (free_space m s)) s
-done_or_not m s o t false = Went (With o) (reclaim m t)
+done_or_not m s o t false = Went (With o) (warned m (reclaim m t))
 
 -- What a cycle makes of a step from s. A death comes first, then the want of space. A step that comes to a primitive that
 -- isn't built leaves s as it was.
@@ -33,8 +84,13 @@ ended m s (Died cause) = Died cause
 ended m s (Went NotBuilt t) = Went (Unbuilt (next_code m s)) s
 ended m s (Went (Did o) t) = done_or_not m s o t (is_over (used m t.memory) s.head)
 
+-- what came before the bytecode stands, however the cycle ends that doesn't die
+abbrev pub cycle_from : {H : Type 0} → ObjectMemory H → Transition (State H) Unit → Transition (State H) Ending
+cycle_from m (Died cause) = Died cause
+cycle_from m (Went u s) = ended m s ((step m).run s)
+
 unfoldable pub cycle : {H : Type 0} → ObjectMemory H → State H → Transition (State H) Ending
-cycle m s = ended m s ((step m).run s)
+cycle m s = cycle_from m ((check_process_switch m).run s)
 
 -- f goes on where a cycle went
 abbrev pub and_on : {S : Type 0} → Transition S Ending → (S → Transition S Ending) → Transition S Ending

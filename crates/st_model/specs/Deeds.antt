@@ -1,14 +1,19 @@
--- What a primitive leaves to be done on a table: a change of an object's words or bytes, or of a Method's header or literals.
+-- What a primitive leaves to be done: a change of an object's words or bytes, or of a Method's header or literals, in the table;
+-- or one of what lies round the machine.
 use Rattle.std.specs.Prelude.{ℕ, suc, ◌+◌, ◌-◌, ◌==◌, List, [], ◌∷◌, Option, Some, None, Bool, true, false, ◌&&◌, nat_lt, nat_le, if◌then◌else◌, slice_get, take, drop}
 use Rattle.st_model.specs.declared.deed.Deed.{Deed}
-use Rattle.st_model.specs.declared.deed.Deed.TheVariants.{Nothing, StoreWord, StoreByte, StoreNumber, ReplaceBytes, StoreHeader, StoreLiteral}
+use Rattle.st_model.specs.declared.deed.Deed.TheVariants.{Nothing, StoreWord, StoreByte, StoreNumber, ReplaceBytes, StoreHeader, StoreLiteral, StoreTime, Hold, SetTimer, RingTimer, SetLowSpace, MoveMouse, TakeWord}
 use Rattle.st_model.specs.declared.outcome.StepEnd.{StepEnd as CodeStepEnd}
 use Rattle.st_model.specs.declared.outcome.StepEnd.TheVariants as ends
 use Rattle.st_model.specs.declared.tried.Tried.{Tried as CodeTried}
 use Rattle.st_model.specs.declared.tried.Tried.TheVariants as trials
 use Rattle.st_model.specs.Values.{Value, Small, Ref, word}
-use Rattle.st_model.specs.Objects.{Object, is_words, is_bytes, is_method, has_bytes, first_unit, with_field, object_with_unit}
-use Rattle.st_model.specs.Machine.{State, is_there}
+use Rattle.st_model.specs.Objects.{Object, nil, is_words, is_bytes, is_method, has_bytes, first_unit, with_field, object_with_unit}
+use Rattle.st_model.specs.declared.device.Device.TheVariants as device
+use Rattle.st_model.specs.Surroundings.{Change, changed_world}
+use Rattle.st_model.specs.Surroundings as surroundings
+use Rattle.st_model.specs.Input.{four_bytes}
+use Rattle.st_model.specs.Machine.{State, World, is_there}
 use Rattle.st_model.specs.Table.{Table, table, entry, changed}
 use Rattle.st_model.specs.Primitives.{bytes_of_number}
 use Rattle.st_model.specs.Methods.{literal_count}
@@ -68,6 +73,37 @@ deed_done (StoreNumber o k) t = changed_by (bytes_stored 0 (bytes_of_number k)) 
 deed_done (ReplaceBytes o c to from n) t = changed_by (bytes_replaced to (bytes_from t (word c) from n)) t (word o)
 deed_done (StoreHeader o x) t = changed_by (header_stored (word x)) t (word o)
 deed_done (StoreLiteral o i x) t = changed_by (literal_stored i (word x) (is_there table t (word x))) t (word o)
+deed_done (StoreTime o time) t = changed_by (bytes_stored 0 (four_bytes time)) t (word o)
+deed_done (Hold d o) t = t
+deed_done (SetTimer s due) t = t
+deed_done (RingTimer s) t = t
+deed_done (SetLowSpace s entries words) t = t
+deed_done (MoveMouse x y) t = t
+deed_done (TakeWord o k) t = changed_by (bytes_stored 0 (bytes_of_number k)) t (word o)
+
+-- two changes of the world
+abbrev pub changed_twice : Change → Change → World → World
+changed_twice c d w = changed_world d (changed_world c w)
+
+-- the world once a deed is done; what isn't there is not held
+abbrev pub world_done : Deed → Table → World → World
+world_done Nothing t w = w
+world_done (StoreWord o i x) t w = w
+world_done (StoreByte o i x) t w = w
+world_done (StoreNumber o k) t w = w
+world_done (ReplaceBytes o c to from n) t w = w
+world_done (StoreHeader o x) t w = w
+world_done (StoreLiteral o i x) t w = w
+world_done (StoreTime o time) t w = w
+world_done (Hold d o) t w = if is_there table t (word o) then changed_world (surroundings.Hold d (word o)) w else w
+world_done (SetTimer s due) t w =
+    if is_there table t (word s) then changed_twice (surroundings.Hold device.Timer (word s)) (surroundings.SetDue due) w else w
+world_done (RingTimer s) t w =
+    if is_there table t (word s) then changed_twice (surroundings.AddSignal (word s)) (surroundings.Hold device.Timer nil) w else w
+world_done (SetLowSpace s entries words) t w =
+    if is_there table t (word s) then changed_twice (surroundings.Hold device.LowSpace (word s)) (surroundings.SetLow entries words) w else w
+world_done (MoveMouse x y) t w = changed_world (surroundings.MoveMouse x y) w
+world_done (TakeWord o k) t w = changed_world surroundings.TakeWord w
 
 -- the state with a change of its table
 abbrev pub over : (Table → Table) → State Table → State Table
@@ -75,12 +111,15 @@ over g s = record s { memory = g s.memory }
 
 -- the state in which a deed is done besides
 abbrev pub with_deed : Deed → State Table → State Table
-with_deed d s = over (deed_done d) s
+with_deed d s = record (over (deed_done d) s) { world = world_done d s.memory s.world }
 
 -- what the end of a step of the code leaves to be done
 abbrev pub deed_of_end : CodeStepEnd → Deed
 deed_of_end (ends.Went deed) = deed
 deed_of_end (ends.Says w) = Nothing
+deed_of_end ends.Snapshot = Nothing
+deed_of_end ends.Quit = Nothing
+deed_of_end ends.Debugger = Nothing
 deed_of_end ends.NotBuilt = Nothing
 
 -- whether a primitive of the code succeeded that was tried

@@ -1,17 +1,22 @@
 -- What executes a method that was called (chapter 28), by its primitive where it has one.
-use Rattle.std.specs.Prelude.{ℕ, ◌==◌, Option, Some, None, Bool, ◌&&◌, ◌||◌, nat_le, if◌then◌else◌}
-use Rattle.st_model.specs.declared.call.Performing.{Performing}
-use Rattle.st_model.specs.declared.call.Performing.TheVariants.{Allowed}
+use Rattle.std.specs.Prelude.{ℕ, zero, suc, ◌+◌, ◌-◌, ◌==◌, Option, Some, None, Bool, true, false, ◌&&◌, ◌||◌, nat_lt, nat_le, if◌then◌else◌}
+use Rattle.st_model.specs.declared.dead.Dead.TheVariants as dead
 use Rattle.st_model.specs.Values.{Value}
-use Rattle.st_model.specs.Machine.{ObjectMemory, Step, answer, ◌>>=◌, ◌>>◌}
-use Rattle.st_model.specs.Outcomes.{StepEnd, Did, NotBuilt}
+use Rattle.st_model.specs.Objects.{ArrayClass}
+use Rattle.st_model.specs.Machine.{ObjectMemory, Step, answer, tried, ◌>>=◌, ◌>>◌}
+use Rattle.st_model.specs.Outcomes.{Outcome, StepEnd, Did, NotBuilt}
 use Rattle.st_model.specs.Outcomes as outcome
-use Rattle.st_model.specs.Steps.{fetch_field, push, pop, top}
-use Rattle.st_model.specs.Methods.{flag_of, temporary_count, method_header, method_primitive}
+use Rattle.st_model.specs.Steps.{class_of, check, count_fields, fetch_field, transfer, get_active, get_sp, set_sp, push, pop, top, under, drop_words}
+use Rattle.st_model.specs.Methods.{flag_of, temporary_count, method_header, method_primitive, method_arguments}
 use Rattle.st_model.specs.Contexts.{activate}
-use Rattle.st_model.specs.Sends.{Call}
+use Rattle.st_model.specs.Lookup.{find}
+use Rattle.st_model.specs.Sends.{Call, not_understood}
+use Rattle.st_model.specs.Primitives.{answer_with, check_class}
 use Rattle.st_model.specs.Arithmetic.{arithmetic, equivalence, receiver_class, flush_cache}
 use Rattle.st_model.specs.Storage.{primitive_say, storage, is_storage}
+use Rattle.st_model.specs.Blocks.{blocks, is_block}
+use Rattle.st_model.specs.Processes.{processes, is_process}
+use Rattle.st_model.specs.Input.{input, is_input}
 
 -- a step that goes on
 unfoldable pub goes_on : {H : Type 0} → Step H Unit → Step H StepEnd
@@ -39,55 +44,167 @@ say_or_activate m call header = do
   succeeded ← primitive_say m r
   if succeeded then answer (Did (outcome.Say r)) else goes_on (activate m call.method header call.arguments)
 
+-- 97, 113 and 114: something is asked for, and the receiver stays as the answer
+unfoldable pub asks : {H : Type 0} → ObjectMemory H → Outcome → Step H StepEnd
+asks m o = do
+  r ← top m
+  answer_with m 0 r
+  answer (Did o)
+
 abbrev pub is_from : ℕ → ℕ → ℕ → Bool
 is_from first last n = nat_le first n && nat_le n last
 
--- the numbers whose primitives aren't built
+-- 96, which copies bits, isn't built
 abbrev pub is_unbuilt : ℕ → Bool
-is_unbuilt n = is_from 80 88 n || (is_from 90 102 n || (is_from 113 114 n || n == 116))
+is_unbuilt n = n == 96
 
--- A method of this primitive is executed; 0 is none. A primitive that is built and given another number of arguments than its
--- own fails, but 89 takes any number. Numbers that aren't built are told whatever they are given. All others always fail, and
--- activate the method as 0 does: among them 21 to 37, 40 to 54, 103 and 104, which the book has for floating-point and large
--- numbers, the scanning of characters and lines. That 83 and 84 may still perform or no more matters only once these are built.
-unfoldable pub respond : {H : Type 0} → ObjectMemory H → Performing → Call → Value → ℕ → Step H StepEnd
-respond m performing call header primitive =
+-- What the primitives do that ask for something, or aren't built. All numbers that no primitive has, always fail, and activate
+-- the method as 0 does: among them 21 to 37, 40 to 54, 103 and 104, which the book has for floating-point and large numbers,
+-- the scanning of characters and lines. So do 83 and 84 where they may perform no more.
+unfoldable pub respond_last : {H : Type 0} → ObjectMemory H → Call → Value → ℕ → Step H StepEnd
+respond_last m call header primitive =
+    if primitive == 128 && call.arguments == 0 then say_or_activate m call header else
+    if primitive == 97 && call.arguments == 0 then asks m outcome.Snapshot else
+    if primitive == 113 && call.arguments == 0 then asks m outcome.Quit else
+    if primitive == 114 && call.arguments == 0 then asks m outcome.Debugger else
+    if is_unbuilt primitive then answer NotBuilt else goes_on (activate m call.method header call.arguments)
+
+-- A method of this primitive is executed; 0 is none. A primitive that is given another number of arguments than its own fails,
+-- but 81 and 89 take any number. 96, which isn't built, is told whatever it is given.
+unfoldable pub respond : {H : Type 0} → ObjectMemory H → Call → Value → ℕ → Step H StepEnd
+respond m call header primitive =
     if is_from 1 18 primitive && call.arguments == 1 then or_activate m call header (arithmetic m primitive) else
     if primitive == 89 then goes_on (flush_cache m call.arguments) else
     if primitive == 110 && call.arguments == 1 then goes_on (equivalence m) else
     if primitive == 111 && call.arguments == 0 then goes_on (receiver_class m) else
     if is_storage primitive then or_activate m call header (storage m primitive call.arguments) else
-    if primitive == 128 && call.arguments == 0 then say_or_activate m call header else
-    if is_unbuilt primitive then answer NotBuilt else goes_on (activate m call.method header call.arguments)
+    if is_block primitive then or_activate m call header (blocks m primitive call.arguments) else
+    if is_process primitive then or_activate m call header (processes m primitive call.arguments) else
+    if is_input primitive then or_activate m call header (input m primitive call.arguments) else respond_last m call header primitive
 
-unfoldable pub respond_by_extension : {H : Type 0} → ObjectMemory H → Performing → Call → Value → Step H StepEnd
-respond_by_extension m performing call header = do
+unfoldable pub respond_by_extension : {H : Type 0} → ObjectMemory H → (ℕ → Step H StepEnd) → Call → Step H StepEnd
+respond_by_extension m respond call = do
   primitive ← method_primitive m call.method
-  respond m performing call header primitive
+  respond primitive
 
 -- By the header's flag: 5 answers the receiver, which stays; 6 answers the field that the temporary count names; with 7
--- there is a header extension; with all others the method is activated.
-unfoldable pub execute_by : {H : Type 0} → ObjectMemory H → Performing → Call → Value → ℕ → Step H StepEnd
-execute_by m performing call header flag =
+-- there is a header extension, and the method responds by its primitive; with all others the method is activated.
+unfoldable pub execute_by : {H : Type 0} → ObjectMemory H → (ℕ → Step H StepEnd) → Call → Value → ℕ → Step H StepEnd
+execute_by m respond call header flag =
     if flag == 5 then answer (Did outcome.Went) else
     if flag == 6 then goes_on (answer_field m (temporary_count header)) else
-    if flag == 7 then respond_by_extension m performing call header else goes_on (activate m call.method header call.arguments)
+    if flag == 7 then respond_by_extension m respond call else goes_on (activate m call.method header call.arguments)
+
+-- a method is executed that 83 or 84 performs: of its primitives these two fail
+unfoldable pub execute_performed : {H : Type 0} → ObjectMemory H → Call → Step H StepEnd
+execute_performed m call = do
+  header ← method_header m call.method
+  execute_by m (respond m call header) call header (flag_of header)
+
+-- 83 and 84, which perform a selector. The method is sought in the receiver's class.
+
+-- whether the method takes n arguments, where one was found; where none was, whatever is given is taken
+unfoldable pub takes : {H : Type 0} → ObjectMemory H → ℕ → Option Value → Step H Bool
+takes m n None = answer true
+takes m n (Some method) = do
+  taken ← method_arguments m method
+  answer (taken == n)
+
+-- it is executed with the n arguments at the top, or the message isn't understood
+unfoldable pub execute_found : {H : Type 0} → ObjectMemory H → Value → Value → ℕ → Option Value → Step H StepEnd
+execute_found m class selector n (Some method) = execute_performed m (record { method = method; arguments = n })
+execute_found m class selector n None = do
+  call ← not_understood m class selector n
+  execute_performed m call
+
+-- the selector leaves, which has n arguments above it
+unfoldable pub drop_selector : {H : Type 0} → ObjectMemory H → ℕ → Step H Unit
+drop_selector m n = do
+  c ← get_active
+  sp ← get_sp
+  transfer m n c (sp + 1 - n) c (sp - n)
+  drop_words 1
+
+-- selector and Array leave, and the Array's n fields are pushed, to a place that a push may reach
+unfoldable pub spread_array : {H : Type 0} → ObjectMemory H → Value → ℕ → Step H Unit
+spread_array m array n = do
+  c ← get_active
+  sp ← get_sp
+  check dead.Sp (nat_le (sp - 2 + n) 16388)
+  transfer m n array 0 c (sp - 1)
+  set_sp (sp - 2 + n)
+
+-- where the method doesn't take n arguments, the performing method is activated
+unfoldable pub perform_if : {H : Type 0} → ObjectMemory H → Call → Value → Value → Value → ℕ → Step H Unit → Option Value → Bool → Step H StepEnd
+perform_if m call header class selector n arrange found true = do
+  arrange
+  execute_found m class selector n found
+perform_if m call header class selector n arrange found false = goes_on (activate m call.method header call.arguments)
+
+-- the selector is performed with n arguments, once these stand at the top
+unfoldable pub perform : {H : Type 0} → ObjectMemory H → Call → Value → Value → Value → ℕ → Step H Unit → Step H StepEnd
+perform m call header receiver selector n arrange = do
+  class ← class_of m receiver
+  found ← find m class selector
+  fits ← takes m n found
+  perform_if m call header class selector n arrange found fits
+
+-- 83: the first argument is performed with the others
+unfoldable pub primitive_perform : {H : Type 0} → ObjectMemory H → Call → Value → ℕ → Step H StepEnd
+primitive_perform m call header n = do
+  r ← under m (n + 1)
+  a ← under m n
+  perform m call header r a n (drop_selector m n)
+
+-- an Array whose fields the active context has room for, in place of selector and Array
+unfoldable pub spreading : {H : Type 0} → ObjectMemory H → Value → Step H ℕ
+spreading m array = do
+  check_class m array ArrayClass
+  n ← count_fields m array
+  c ← get_active
+  fields ← count_fields m c
+  sp ← get_sp
+  check dead.Sp (nat_lt (sp - 2 + n) fields)
+  answer n
+
+unfoldable pub perform_with : {H : Type 0} → ObjectMemory H → Call → Value → Value → Value → Value → Option ℕ → Step H StepEnd
+perform_with m call header r a b None = goes_on (activate m call.method header call.arguments)
+perform_with m call header r a b (Some n) = perform m call header r a n (spread_array m b n)
+
+-- 84: the first argument is performed with the fields of the second
+unfoldable pub primitive_perform_with : {H : Type 0} → ObjectMemory H → Call → Value → Step H StepEnd
+primitive_perform_with m call header = do
+  r ← under m 2
+  a ← under m 1
+  b ← top m
+  n ← tried (spreading m b)
+  perform_with m call header r a b n
+
+unfoldable pub perform_or_activate : {H : Type 0} → ObjectMemory H → Call → Value → ℕ → Step H StepEnd
+perform_or_activate m call header (suc n) = primitive_perform m call header n
+perform_or_activate m call header zero = goes_on (activate m call.method header call.arguments)
+
+-- a method of this primitive is executed, which may be 83 or 84
+unfoldable pub respond_or_perform : {H : Type 0} → ObjectMemory H → Call → Value → ℕ → Step H StepEnd
+respond_or_perform m call header primitive =
+    if primitive == 83 then perform_or_activate m call header call.arguments else
+    if primitive == 84 && call.arguments == 2 then primitive_perform_with m call header else respond m call header primitive
 
 -- the method is executed
-unfoldable pub execute : {H : Type 0} → ObjectMemory H → Performing → Call → Step H StepEnd
-execute m performing call = do
+unfoldable pub execute : {H : Type 0} → ObjectMemory H → Call → Step H StepEnd
+execute m call = do
   header ← method_header m call.method
-  execute_by m performing call header (flag_of header)
+  execute_by m (respond_or_perform m call header) call header (flag_of header)
 
 -- what a step calls is executed
 unfoldable pub executed : {H : Type 0} → ObjectMemory H → Step H Call → Step H StepEnd
 executed m step = do
   call ← step
-  execute m Allowed call
+  execute m call
 
 unfoldable pub execute_if_any : {H : Type 0} → ObjectMemory H → Option Call → Step H StepEnd
 execute_if_any m None = answer (Did outcome.Went)
-execute_if_any m (Some call) = execute m Allowed call
+execute_if_any m (Some call) = execute m call
 
 -- what a step calls is executed, if it calls anything
 unfoldable pub executed_if_any : {H : Type 0} → ObjectMemory H → Step H (Option Call) → Step H StepEnd

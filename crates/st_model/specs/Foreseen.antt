@@ -12,13 +12,13 @@ use Rattle.st_model.specs.Table.{Table, table, apart, bounded_table}
 use Rattle.st_model.specs.Bytecodes.{step}
 use Rattle.st_model.specs.Settled.{reclaim}
 use Rattle.st_model.specs.Show.{Shows, IsClosed, IsUsed, IsKept}
-use Rattle.st_model.specs.Cycles.{next_code, made_between, free_space}
+use Rattle.st_model.specs.Cycles.{check_process_switch, warned, next_code, made_between, free_space}
 
 -- what a cycle makes of the step that is done; one that was foreseen neither dies nor comes to an unbuilt primitive
 abbrev pub done : State Table → Transition (State Table) StepEnd → Transition (State Table) Ending
 done c (Died cause) = Died cause
 done c (Went NotBuilt d) = Died dead.Code
-done c (Went (Did o) d) = Went (With o) (reclaim table d)
+done c (Went (Did o) d) = Went (With o) (warned table (reclaim table d))
 
 abbrev pub done_if_room : State Table → State Table → Bool → Transition (State Table) Ending
 done_if_room c d true = Went (Space (made_between apart c d) (free_space table c)) c
@@ -29,8 +29,13 @@ foreseen c (Died cause) = Died cause
 foreseen c (Went NotBuilt d) = Went (Unbuilt (next_code table c)) c
 foreseen c (Went (Did o) d) = done_if_room c d (is_over (used apart d.memory) c.head)
 
+-- what comes before a bytecode makes nothing, and is done at once
+abbrev pub foreseen_from : Transition (State Table) Unit → Transition (State Table) Ending
+foreseen_from (Died cause) = Died cause
+foreseen_from (Went u c) = foreseen c ((step apart).run c)
+
 unfoldable pub foreseen_cycle : State Table → Transition (State Table) Ending
-foreseen_cycle c = foreseen c ((step apart).run c)
+foreseen_cycle c = foreseen_from ((check_process_switch bounded_table).run c)
 
 -- a memory of 32768 places in which nothing dangles
 pub record IsSound (c : State Table) : Type 0 where

@@ -4,6 +4,7 @@ pub mod Objects
 pub mod Deaths
 pub mod Decoded
 pub mod Machine
+pub mod Surroundings
 pub mod Outcomes
 pub mod Steps
 pub mod Methods
@@ -14,6 +15,9 @@ pub mod Integers
 pub mod Primitives
 pub mod Arithmetic
 pub mod Storage
+pub mod Blocks
+pub mod Processes
+pub mod Input
 pub mod Deeds
 pub mod Executing
 pub mod Returns
@@ -21,7 +25,9 @@ pub mod Bytecodes
 pub mod Births
 pub mod Table
 pub mod Settled
+pub mod Events
 pub mod Cycles
+pub mod Saving
 pub mod Show
 pub mod Foreseen
 pub mod Formed

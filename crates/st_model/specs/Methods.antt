@@ -55,3 +55,22 @@ unfoldable pub method_primitive : {H : Type 0} → ObjectMemory H → Value → 
 method_primitive m v = do
   extension ← literal_from_last m v 1
   primitive_number extension
+
+-- and the number of arguments in bits 2 to 6
+unfoldable pub extension_arguments : {H : Type 0} → Value → Step H ℕ
+extension_arguments (Small n) = answer (n / 256 % 32)
+extension_arguments (Ref n) = die dead.NotSmall
+
+unfoldable pub arguments_by_extension : {H : Type 0} → ObjectMemory H → Value → Step H ℕ
+arguments_by_extension m v = do
+  extension ← literal_from_last m v 1
+  extension_arguments extension
+
+unfoldable pub arguments_by : {H : Type 0} → ObjectMemory H → Value → ℕ → Step H ℕ
+arguments_by m v flag = if flag == 7 then arguments_by_extension m v else if nat_lt flag 5 then answer flag else answer 0
+
+-- how many arguments a method takes: a flag up to 4 is their number, with 7 the extension has it, and with 5 and 6 there are none
+unfoldable pub method_arguments : {H : Type 0} → ObjectMemory H → Value → Step H ℕ
+method_arguments m v = do
+  header ← method_header m v
+  arguments_by m v (flag_of header)

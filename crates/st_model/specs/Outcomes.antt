@@ -69,4 +69,7 @@ outcome_of outcomes.Debugger = Debugger
 abbrev pub end_of : CodeStepEnd → StepEnd
 end_of (ends.Went deed) = Did Went
 end_of (ends.Says w) = Did (Say (word w))
+end_of ends.Snapshot = Did Snapshot
+end_of ends.Quit = Did Quit
+end_of ends.Debugger = Did Debugger
 end_of ends.NotBuilt = NotBuilt

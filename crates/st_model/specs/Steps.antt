@@ -9,7 +9,9 @@ use Rattle.st_model.specs.declared.kind.Kind.TheVariants as kind
 use Rattle.st_model.specs.Values.{Value, Small, Ref, integer}
 use Rattle.st_model.specs.Objects.{Object, PageObject, NilObject, SmallIntegerClass, is_pointers, is_words, has_bytes, is_method, first_unit, size_of, with_field, with_units}
 use Rattle.st_model.specs.Formed.{fresh_with}
-use Rattle.st_model.specs.Machine.{ObjectMemory, Registers, World, State, Transition, Died, Went, Step, is_there, all_there, device_roots, next_of, has_room, free_space, answer, die, ◌>>=◌, ◌>>◌}
+use Rattle.st_model.specs.declared.device.Device.{Device}
+use Rattle.st_model.specs.Surroundings.{Change, held_by, newest_of, changed_world, named_by}
+use Rattle.st_model.specs.Machine.{ObjectMemory, Registers, State, Transition, Died, Went, Step, is_there, all_there, next_of, has_room, free_space, answer, die, ◌>>=◌, ◌>>◌}
 
 -- the registers
 
@@ -136,16 +138,47 @@ set_registers m r = record { run = λ s. registers_set r s (are_there m s.memory
 
 -- what lies round the machine
 
-unfoldable pub get_world : {H : Type 0} → Step H World
-get_world = record { run = λ s. Went s.world s }
+-- what a device holds
+unfoldable pub get_device : {H : Type 0} → Device → Step H Value
+get_device d = record { run = λ s. Went (held_by s.world.devices d) s }
 
-unfoldable pub world_set : {H : Type 0} → World → State H → Bool → Transition (State H) Unit
-world_set w s false = Died dead.Kind
-world_set w s true = Went tt (record s { world = w })
+-- the newest pending signal
+unfoldable pub newest_signal : {H : Type 0} → Step H (Option Value)
+newest_signal = record { run = λ s. Went (newest_of s.world.devices.pending) s }
 
--- what it holds is there, as what the registers name is
-unfoldable pub set_world : {H : Type 0} → ObjectMemory H → World → Step H Unit
-set_world m w = record { run = λ s. world_set w s (all_there m s.memory (device_roots w.devices)) }
+unfoldable pub count_signals : {H : Type 0} → Step H ℕ
+count_signals = record { run = λ s. Went (length s.world.devices.pending) s }
+
+-- the oldest waiting word
+unfoldable pub oldest_word : {H : Type 0} → Step H (Option ℕ)
+oldest_word = record { run = λ s. Went (slice_get s.world.waiting 0) s }
+
+unfoldable pub count_words : {H : Type 0} → Step H ℕ
+count_words = record { run = λ s. Went (length s.world.waiting) s }
+
+unfoldable pub get_mouse_x : {H : Type 0} → Step H ℕ
+get_mouse_x = record { run = λ s. Went s.world.mouse_x s }
+
+unfoldable pub get_mouse_y : {H : Type 0} → Step H ℕ
+get_mouse_y = record { run = λ s. Went s.world.mouse_y s }
+
+unfoldable pub get_second_clock : {H : Type 0} → Step H ℕ
+get_second_clock = record { run = λ s. Went s.world.second_clock s }
+
+unfoldable pub get_millisecond_clock : {H : Type 0} → Step H ℕ
+get_millisecond_clock = record { run = λ s. Went s.world.millisecond_clock s }
+
+-- the millisecond at which the timer is due
+unfoldable pub get_due : {H : Type 0} → Step H ℕ
+get_due = record { run = λ s. Went s.world.timer_due s }
+
+unfoldable pub world_changed : {H : Type 0} → Change → State H → Bool → Transition (State H) Unit
+world_changed c s false = Died dead.Kind
+world_changed c s true = Went tt (record s { world = changed_world c s.world })
+
+-- the change is made; what it names is there, as what the registers name is
+unfoldable pub change_world : {H : Type 0} → ObjectMemory H → Change → Step H Unit
+change_world m c = record { run = λ s. world_changed c s (all_there m s.memory (named_by c)) }
 
 -- the entries and words that are free
 unfoldable pub get_free : {H : Type 0} → ObjectMemory H → Step H Demand

@@ -1,8 +1,10 @@
+use crate::device::Device;
 use crate::word::Word;
 
-/// What a primitive leaves to be done on the memory once receiver and arguments are popped and the answer is pushed: a change
-/// of words or bytes, or of a Method's header or literals. What is to be stored where an object lacks the place, or is of
-/// another kind, is not stored, and where there is no such object, nothing is done.
+/// What a primitive leaves to be done once receiver and arguments are popped and the answer is pushed: a change of words or
+/// bytes, of a Method's header or literals, or of what lies round the machine. What is to be stored where an object lacks the
+/// place, or is of another kind, is not stored; where there is no such object, nothing is done; and what isn't there is not
+/// held.
 #[derive(Clone, Copy)]
 pub enum Deed {
     /// Nothing is left to be done.
@@ -45,5 +47,40 @@ pub enum Deed {
         method: Word,
         number: u32,
         value: Word,
+    },
+    /// The four bytes of a time, the low one first, are stored in an object of kind Bytes or Method, from place 0 on.
+    StoreTime {
+        object: Word,
+        time: u32,
+    },
+    /// A device holds this object from now on, or with nil nothing.
+    Hold {
+        device: Device,
+        object: Word,
+    },
+    /// The semaphore is to be signalled when the millisecond clock is at least `due`.
+    SetTimer {
+        semaphore: Word,
+        due: u32,
+    },
+    /// The semaphore's signal is pending, and the timer is let go.
+    RingTimer {
+        semaphore: Word,
+    },
+    /// The semaphore is to be signalled when fewer entries or words are free.
+    SetLowSpace {
+        semaphore: Word,
+        entries: u32,
+        words: u32,
+    },
+    /// The mouse is moved to this place, from the left and from the top.
+    MoveMouse {
+        x: u16,
+        y: u16,
+    },
+    /// The oldest input word is taken away, and the bytes of its number are stored as `StoreNumber` stores them.
+    TakeWord {
+        object: Word,
+        number: u32,
     },
 }

@@ -9,6 +9,12 @@ pub enum StepEnd {
     Went(Deed),
     /// It was done, and the bytes of this object are to be said.
     Says(Word),
+    /// It was done, and an image is to be saved.
+    Snapshot,
+    /// It was done, and the run is to end.
+    Quit,
+    /// It was done, and the run is to end for a debugger.
+    Debugger,
     /// It came to a primitive that isn't built.
     NotBuilt,
 }

@@ -1,0 +1,147 @@
+-- Blocks (chapter 29, control primitives): a block is made, and its value is computed.
+use Rattle.std.specs.Prelude.{ℕ, ◌+◌, ◌-◌, ◌==◌, ◌||◌, ◌&&◌, Option, Some, None, Bool, true, false, nat_le, if◌then◌else◌, ℤ, pos, ◌+ℤ◌, int_le}
+use Rattle.st_model.specs.declared.dead.Dead.TheVariants as dead
+use Rattle.st_model.specs.Values.{Value, Small, small_integer}
+use Rattle.st_model.specs.Objects.{MethodContextClass, BlockContextClass, ArrayClass}
+use Rattle.st_model.specs.Machine.{ObjectMemory, Step, answer, tried, ◌>>=◌, ◌>>◌}
+use Rattle.st_model.specs.Steps.{of_page, class_of, same_value, check, new_object, count_fields, fetch_field, store_field, fetch_integer, transfer, get_active, get_ip, get_sp, top, under, drop_words}
+use Rattle.st_model.specs.Contexts.{home_of, switch}
+use Rattle.st_model.specs.Primitives.{primitive, taking, check_class, positive_small}
+
+-- an instance of MethodContext or BlockContext
+unfoldable pub check_context : {H : Type 0} → ObjectMemory H → Value → Step H Unit
+check_context m v = do
+  class ← class_of m v
+  method_context ← of_page m MethodContextClass
+  block_context ← of_page m BlockContextClass
+  check dead.Kind (same_value class method_context || same_value class block_context)
+
+-- what a block is made of: its number of arguments, its home with so many fields, and its first instruction pointer as it is
+-- stored, which is that of the byte behind the jump round the block's bytecodes
+pub record Block : Type 0 where
+  pub arguments : ℕ
+  pub home : Value
+  pub fields : ℕ
+  pub first : ℤ
+
+unfoldable pub block_in : {H : Type 0} → ObjectMemory H → ℕ → Value → Step H Block
+block_in m arguments home = do
+  fields ← count_fields m home
+  check dead.Field (nat_le 6 fields)
+  ip ← get_ip
+  check dead.Ip (int_le (ip +ℤ pos 3) (pos 16383))
+  answer (record { arguments = arguments; home = home; fields = fields; first = ip +ℤ pos 3 })
+
+-- a block of the receiver, a context, takes the number of arguments given
+unfoldable pub block_of : {H : Type 0} → ObjectMemory H → Value → Value → Step H Block
+block_of m r a = do
+  check_context m r
+  arguments ← positive_small a
+  home ← home_of m r
+  block_in m arguments home
+
+unfoldable pub fill_block : {H : Type 0} → ObjectMemory H → Value → Block → Step H Unit
+fill_block m block b = do
+  store_field m block 1 (small_integer b.first)
+  store_field m block 2 (Small 0)
+  store_field m block 3 (Small b.arguments)
+  store_field m block 4 (small_integer b.first)
+  store_field m block 5 b.home
+
+-- a new BlockContext as large as its home
+unfoldable pub new_block : {H : Type 0} → ObjectMemory H → Block → Step H Value
+new_block m b = do
+  class ← of_page m BlockContextClass
+  block ← new_object m class b.fields
+  fill_block m block b
+  answer block
+
+-- 80: a block of the receiver's home
+unfoldable pub primitive_block_copy : {H : Type 0} → ObjectMemory H → Step H Bool
+primitive_block_copy m = do
+  r ← under m 1
+  a ← top m
+  primitive m 1 (block_of m r a) (λ b. new_block m b)
+
+-- A block takes n arguments, and has fields for them. It gives its first instruction pointer.
+unfoldable pub start_of : {H : Type 0} → ObjectMemory H → Value → ℕ → Step H ℤ
+start_of m block n = do
+  check_class m block BlockContextClass
+  fields ← count_fields m block
+  arguments ← fetch_field m block 3
+  check dead.NotSmall (same_value arguments (Small n))
+  first ← fetch_integer m block 4
+  check dead.Sp (nat_le (6 + n) fields)
+  answer first
+
+-- it becomes the active context, with n words on its stack; the one that was active is its caller
+unfoldable pub enter_block : {H : Type 0} → ObjectMemory H → Value → ℕ → ℤ → Step H Unit
+enter_block m block n first = do
+  store_field m block 1 (small_integer first)
+  store_field m block 2 (Small n)
+  caller ← get_active
+  store_field m block 0 caller
+  switch m block
+
+-- the n words at the top are its arguments, and the receiver below them leaves with them
+unfoldable pub value_with_words : {H : Type 0} → ObjectMemory H → Value → ℕ → ℤ → Step H Bool
+value_with_words m block n first = do
+  c ← get_active
+  sp ← get_sp
+  transfer m n c (sp + 1 - n) block 6
+  drop_words (n + 1)
+  enter_block m block n first
+  answer true
+
+unfoldable pub value_if_any : {H : Type 0} → ObjectMemory H → Value → ℕ → Option ℤ → Step H Bool
+value_if_any m block n None = answer false
+value_if_any m block n (Some first) = value_with_words m block n first
+
+-- 81: the receiver's value with n arguments
+unfoldable pub primitive_value : {H : Type 0} → ObjectMemory H → ℕ → Step H Bool
+primitive_value m n = do
+  r ← under m n
+  first ← tried (start_of m r n)
+  value_if_any m r n first
+
+-- a block that takes as many arguments as an Array has fields
+pub record Passing : Type 0 where
+  pub count : ℕ
+  pub first : ℤ
+
+unfoldable pub passing : {H : Type 0} → ObjectMemory H → Value → Value → Step H Passing
+passing m block array = do
+  check_class m array ArrayClass
+  count ← count_fields m array
+  first ← start_of m block count
+  answer (record { count = count; first = first })
+
+unfoldable pub value_with_fields : {H : Type 0} → ObjectMemory H → Value → Value → Passing → Step H Bool
+value_with_fields m block array p = do
+  transfer m p.count array 0 block 6
+  drop_words 2
+  enter_block m block p.count p.first
+  answer true
+
+unfoldable pub value_with_if_any : {H : Type 0} → ObjectMemory H → Value → Value → Option Passing → Step H Bool
+value_with_if_any m block array None = answer false
+value_with_if_any m block array (Some p) = value_with_fields m block array p
+
+-- 82: the receiver's value with the fields of an Array as arguments
+unfoldable pub primitive_value_with : {H : Type 0} → ObjectMemory H → Step H Bool
+primitive_value_with m = do
+  r ← under m 1
+  a ← top m
+  p ← tried (passing m r a)
+  value_with_if_any m r a p
+
+-- the primitives of this file by their numbers, each with its number of arguments; 81 takes any
+unfoldable pub blocks : {H : Type 0} → ObjectMemory H → ℕ → ℕ → Step H Bool
+blocks m k n =
+    if k == 80 then taking 1 n (primitive_block_copy m) else
+    if k == 81 then primitive_value m n else
+    if k == 82 then taking 1 n (primitive_value_with m) else answer false
+
+-- a number of these
+abbrev pub is_block : ℕ → Bool
+is_block k = nat_le 80 k && nat_le k 82

@@ -1,0 +1,26 @@
+-- What makes an image of a running machine one that can be begun with (chapter 29): the active context is stored with its process.
+use Rattle.st_model.specs.Machine.{ObjectMemory, State, Transition, Died, Went, Step, ◌>>=◌, ◌>>◌}
+use Rattle.st_model.specs.Steps.{get_active, store_field}
+use Rattle.st_model.specs.Contexts.{store_context_registers, fetch_scheduled_registers}
+use Rattle.st_model.specs.Processes.{scheduled_process}
+use Rattle.st_model.specs.Cycles.{switch_if_waiting}
+use Rattle.st_model.specs.Settled.{reclaim}
+
+-- a waiting process switch is carried out, the registers are stored, and the active context becomes that of the scheduler's
+-- process, from which the registers are fetched again
+unfoldable pub store_process : {H : Type 0} → ObjectMemory H → Step H Unit
+store_process m = do
+  switch_if_waiting m
+  store_context_registers m
+  c ← get_active
+  p ← scheduled_process m
+  store_field m p 1 c
+  fetch_scheduled_registers m
+
+abbrev pub settled_after : {H : Type 0} → ObjectMemory H → Transition (State H) Unit → Transition (State H) Unit
+settled_after m (Died cause) = Died cause
+settled_after m (Went u s) = Went u (reclaim m s)
+
+-- and then what nothing supports is dropped
+unfoldable pub save : {H : Type 0} → ObjectMemory H → State H → Transition (State H) Unit
+save m s = settled_after m ((store_process m).run s)
