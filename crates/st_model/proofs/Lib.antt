@@ -1,5 +1,6 @@
 pub mod Words
 pub mod Same
+mod Surrounding
 pub mod StepsSame
 pub mod ContextsSame
 pub mod LookupSame
