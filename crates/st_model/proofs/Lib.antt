@@ -7,6 +7,8 @@ pub mod LookupSame
 pub mod SendsSame
 pub mod PrimitivesSame
 mod StorageSame
+pub mod ProcessesSame
+pub mod InputSame
 pub mod Deeds
 pub mod Leaving
 pub mod ExecutingSame
