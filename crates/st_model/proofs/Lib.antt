@@ -49,6 +49,8 @@ pub mod Texts
 pub mod Again
 pub mod Present
 pub mod PresentSteps
+pub mod ProcessesSure
+pub mod InputSure
 pub mod Made
 pub mod Making
 mod ImageRows
