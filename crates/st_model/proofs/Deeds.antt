@@ -129,14 +129,15 @@ module _ (g : Table → Table) (u : Table → World → World) where
     there-moved t (Small n) = refl
     there-moved t (Ref n) = rw tabular.read (there_alike (entry t n) (entry (g t) n) (leaves.alike t n))
 
-    both_stored : {t t' : Table} {w w' : World} (s : State Table) → t ≡ t' → w ≡ w' → Went tt (record s { memory = t; world = w }) ≡ Went tt (record s { memory = t'; world = w' })
-    both_stored s e f = λ j. Went tt (record s { memory = e j; world = f j })
+    both_stored : (s : State Table) (t v : Table) (w x : World) → t ≡ v → w ≡ x → record s { memory = t; world = w } ≡ record s { memory = v; world = x }
+    both_stored s t v w x e f = λ j. record s { memory = e j; world = f j }
 
     stored-commutes : (n i : ℕ) (x : Value) (s : State Table) (o : Object) (c : Bool) → entry s.memory n ≡ Some o → is_pointers o.kind ≡ true
         → stored_at m n i x (over_both g u s) (Some o) c ≡ moved g u (stored_at m n i x s (Some o) c)
     unfolding stored_at
     stored-commutes n i x s o false e k = refl
-    stored-commutes n i x s o true e k = rw tabular.replace (both_stored s (sym (leaves.stores s.memory n o i x e k)) (sym (leaves.world s.memory n o i x s.world e)))
+    stored-commutes n i x s o true e k = rw tabular.replace
+        (ap (λ (y : State Table). Went tt y) (both_stored s _ _ _ _ (sym (leaves.stores s.memory n o i x e k)) (sym (leaves.world s.memory n o i x s.world e))))
 
     one_object : (x : Option Object) (o p : Object) → x ≡ Some o → (r : Object) × (x ≡ Some r) × (r ≡ p) → x ≡ Some p
     one_object x o p e r = r.1 ∙ ap (λ y. Some y) r.2
@@ -420,17 +421,17 @@ table_leaves d q = record {
 
 -- each deed leaves objects of kind Pointers
 pub deed_leaves : (d : Deed) → LeavesPointers (deed_done d) (world_done d)
-deed_leaves Nothing = table_leaves _ refl
-deed_leaves (StoreWord o i x) = by_leaves _ _ _ (word_keeps i x) refl
-deed_leaves (StoreByte o i x) = by_leaves _ _ _ (byte_keeps i x) refl
-deed_leaves (StoreNumber o k) = by_leaves _ _ _ (bytes_keeps 0 (bytes_of_number k)) refl
-deed_leaves (StoreTime o time) = by_leaves _ _ _ (bytes_keeps 0 (four_bytes time)) refl
-deed_leaves (TakeWord o k) = by_leaves _ _ _ (bytes_keeps 0 (bytes_of_number k)) refl
-deed_leaves (Hold d o) = table_leaves _ refl
-deed_leaves (SetTimer o due) = table_leaves _ refl
-deed_leaves (RingTimer o) = table_leaves _ refl
-deed_leaves (SetLowSpace o entries words) = table_leaves _ refl
-deed_leaves (MoveMouse x y) = table_leaves _ refl
+deed_leaves Nothing = table_leaves Nothing refl
+deed_leaves (StoreWord o i x) = by_leaves (StoreWord o i x) (word_stored i x) (word o) (word_keeps i x) refl
+deed_leaves (StoreByte o i x) = by_leaves (StoreByte o i x) (byte_stored i x) (word o) (byte_keeps i x) refl
+deed_leaves (StoreNumber o k) = by_leaves (StoreNumber o k) (bytes_stored 0 (bytes_of_number k)) (word o) (bytes_keeps 0 (bytes_of_number k)) refl
+deed_leaves (StoreTime o time) = by_leaves (StoreTime o time) (bytes_stored 0 (four_bytes time)) (word o) (bytes_keeps 0 (four_bytes time)) refl
+deed_leaves (TakeWord o k) = by_leaves (TakeWord o k) (bytes_stored 0 (bytes_of_number k)) (word o) (bytes_keeps 0 (bytes_of_number k)) refl
+deed_leaves (Hold d o) = table_leaves (Hold d o) refl
+deed_leaves (SetTimer o due) = table_leaves (SetTimer o due) refl
+deed_leaves (RingTimer o) = table_leaves (RingTimer o) refl
+deed_leaves (SetLowSpace o entries words) = table_leaves (SetLowSpace o entries words) refl
+deed_leaves (MoveMouse x y) = table_leaves (MoveMouse x y) refl
 deed_leaves (ReplaceBytes o c to from count) =
     let f : List ℕ → Object → Object = λ vs. bytes_replaced to vs in
     record {
@@ -440,7 +441,7 @@ deed_leaves (ReplaceBytes o c to from count) =
           ap (λ vs. changed_by (f vs) (changed t n (with_field q i x)) (word o)) (bytes_stay t n q i x (word c) from count e h)
           ∙ stores_by (f (bytes_from t (word c) from count)) (replaced_keeps to (bytes_from t (word c) from count)) (word o) t n q (with_field q i x) e refl h;
     }
-deed_leaves (StoreHeader o x) = by_leaves _ _ _ (header_keeps (word x)) refl
+deed_leaves (StoreHeader o x) = by_leaves (StoreHeader o x) (header_stored (word x)) (word o) (header_keeps (word x)) refl
 deed_leaves (StoreLiteral o j y) =
     let f : Bool → Object → Object = λ b. literal_stored j (word y) b in
     record {
