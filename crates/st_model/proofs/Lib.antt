@@ -64,3 +64,5 @@ mod SendRows
 mod ArithmeticRows
 mod StorageRows
 mod StorageBounds
+mod ProcessRows
+mod InputRows
