@@ -29,6 +29,10 @@ pub mod Closed
 pub mod Going
 pub mod Reclaiming
 pub mod OnTop
+pub mod CyclesSame
+pub mod Outside
+pub mod Reclaimed
+pub mod Between
 pub mod CyclesShown
 pub mod Runs
 pub mod Tabular
