@@ -55,6 +55,7 @@ pub mod Present
 pub mod PresentSteps
 pub mod ProcessesSure
 pub mod InputSure
+pub mod CyclesSure
 pub mod Made
 pub mod Making
 mod ImageRows
