@@ -7,6 +7,7 @@ pub mod LookupSame
 pub mod SendsSame
 pub mod PrimitivesSame
 mod StorageSame
+mod BlocksSame
 pub mod Deeds
 pub mod Leaving
 pub mod ExecutingSame
@@ -47,6 +48,8 @@ pub mod Texts
 pub mod Again
 pub mod Present
 pub mod PresentSteps
+mod BlocksSure
+pub mod ExecutingSure
 pub mod Made
 pub mod Making
 mod ImageRows
@@ -60,3 +63,5 @@ mod SendRows
 mod ArithmeticRows
 mod StorageRows
 mod StorageBounds
+mod BlockRows
+mod PerformRows

@@ -20,7 +20,7 @@ module _ {H K : Type 0} {M : ObjectMemory H} {N : ObjectMemory K} (sim : Simulat
   not-same : (b c : Bool) → c ≡ b → not c ≡ not b
   not-same b c e = ap not e
 
-  check_class-same : (v w : Value) (q : PageObject) → ValueSame sim v w → SameAnswer sim (check_class M v q) (check_class N w q)
+  pub check_class-same : (v w : Value) (q : PageObject) → ValueSame sim v w → SameAnswer sim (check_class M v q) (check_class N w q)
   unfolding check_class
   check_class-same v w q h = search parts_same depth 24 fits 4000
 
@@ -33,7 +33,7 @@ module _ {H K : Type 0} {M : ObjectMemory H} {N : ObjectMemory K} (sim : Simulat
   bits_or_die-same (Small n) w h = rw h.is (search steps_same)
   bits_or_die-same (Ref n) w h = rw h.is (search steps_same)
 
-  positive_small-same : (v w : Value) → ValueSame sim v w → SameAnswer sim (positive_small v) (positive_small w)
+  pub positive_small-same : (v w : Value) → ValueSame sim v w → SameAnswer sim (positive_small v) (positive_small w)
   unfolding positive_small
   positive_small-same v w h = search (parts_same, bits_or_die-same) depth 24 fits 4000
 
