@@ -1,20 +1,24 @@
--- A change of words or bytes, or of a Method's header or literals, commutes with what reads and stores fields of objects of kind
+-- A change of words or bytes, of a Method's header or literals, or of what lies round the machine commutes with what reads and stores fields of objects of kind
 -- Pointers: with popping, pushing and storing fields. So a deed may be left until after these.
-use Rattle.std.proofs.Common.{◌≡◌, ◌≢◌, ℕ, zero, suc, ◌+◌, List, [], ◌∷◌, length, Option, Some, None, Bool, true, false, refl, sym, ◌∙◌, ap, arith, inl, inr, ◌⊎◌, is_some, length-set}
+use Rattle.std.proofs.Common.{◌≡◌, ◌≢◌, ℕ, zero, suc, ◌+◌, List, [], ◌∷◌, length, Option, Some, None, Bool, true, false, refl, sym, ◌∙◌, ap, subst, arith, inl, inr, ◌⊎◌, is_some, length-set}
 use Rattle.std.specs.Prelude.{◌-◌, ◌&&◌, slice_get, nat_lt, nat_le, if◌then◌else◌}
 use Rattle.st_model.specs.declared.dead.Dead.{Dead}
 use Rattle.st_model.specs.declared.dead.Dead.TheVariants as dead
 use Rattle.st_model.specs.declared.kind.Kind.{Kind}
 use Rattle.st_model.specs.declared.kind.Kind.TheVariants as kind
 use Rattle.st_model.specs.declared.deed.Deed.{Deed}
-use Rattle.st_model.specs.declared.deed.Deed.TheVariants.{Nothing, StoreWord, StoreByte, StoreNumber, ReplaceBytes, StoreHeader, StoreLiteral}
+use Rattle.st_model.specs.declared.deed.Deed.TheVariants.{Nothing, StoreWord, StoreByte, StoreNumber, ReplaceBytes, StoreHeader, StoreLiteral, StoreTime, Hold, SetTimer, RingTimer, SetLowSpace, MoveMouse, TakeWord}
 use Rattle.st_model.specs.Values.{Value, Small, Ref, word}
-use Rattle.st_model.specs.Objects.{Object, is_pointers, is_words, is_bytes, is_method, has_bytes, first_unit, with_field, object_with_unit, words_of, one}
-use Rattle.st_model.specs.Machine.{ObjectMemory, State, Transition, Died, Went, Step, is_there, used, answer, die, after, ◌>>=◌, ◌>>◌}
+use Rattle.st_model.specs.Objects.{Object, nil, is_pointers, is_words, is_bytes, is_method, has_bytes, first_unit, with_field, object_with_unit, words_of, one}
+use Rattle.st_model.specs.Machine.{ObjectMemory, World, State, Transition, Died, Went, Step, is_there, used, answer, die, after, ◌>>=◌, ◌>>◌}
 use Rattle.st_model.specs.Table.{Table, table, entry, changed, total_used, IsTabular}
 use Rattle.st_model.specs.Steps.{get_active, get_sp, set_sp, found, object_named, object, stored_at, store_at, set_field, check, or_die, fetch_field, store_field, count_fields, put, push, top, pop}
 use Rattle.st_model.specs.Primitives.{bytes_of_number, pop_words, answer_with}
-use Rattle.st_model.specs.Deeds.{changed_object, changed_by, word_stored, byte_stored, bytes_stored, bytes_replaced, bytes_from, counts_literals, header_stored, literal_stored, deed_done, over}
+use Rattle.st_model.specs.Deeds.{changed_object, changed_by, word_stored, byte_stored, bytes_stored, bytes_replaced, bytes_from, counts_literals, header_stored, literal_stored, deed_done, world_done, changed_twice, over_both}
+use Rattle.st_model.specs.declared.device.Device.TheVariants as device
+use Rattle.st_model.specs.Surroundings.{changed_world}
+use Rattle.st_model.specs.Surroundings as surroundings
+use Rattle.st_model.specs.Input.{four_bytes}
 use Rattle.st_model.proofs.TableLemmas.{changed-some, changed-other}
 use Rattle.st_model.proofs.Bounded.{total-changed}
 
@@ -23,92 +27,94 @@ abbrev pub Alike : Option Object → Option Object → Type 0
 Alike None b = b ≡ None
 Alike (Some o) b = (p : Object) × (b ≡ Some p) × (p.kind ≡ o.kind) × (is_pointers o.kind ≡ true → p ≡ o)
 
--- a change of a table that leaves objects of kind Pointers, and what is stored in their fields
-pub record LeavesPointers (g : Table → Table) : Type 0 where
+-- a change of a table that leaves objects of kind Pointers, and what is stored in their fields; and one of a world that is the
+-- same before a field is stored and after it
+pub record LeavesPointers (g : Table → Table) (u : Table → World → World) : Type 0 where
+  pub world : (t : Table) (n : ℕ) (o : Object) (i : ℕ) (x : Value) (w : World) → entry t n ≡ Some o → u (changed t n (with_field o i x)) w ≡ u t w
   pub alike : (t : Table) (n : ℕ) → Alike (entry t n) (entry (g t) n)
   pub stores : (t : Table) (n : ℕ) (o : Object) (i : ℕ) (x : Value) → entry t n ≡ Some o → is_pointers o.kind ≡ true → g (changed t n (with_field o i x)) ≡ changed (g t) n (with_field o i x)
 
-abbrev pub moved : {A : Type 0} → (Table → Table) → Transition (State Table) A → Transition (State Table) A
-moved g (Died cause) = Died cause
-moved g (Went a s) = Went a (over g s)
+abbrev pub moved : {A : Type 0} → (Table → Table) → (Table → World → World) → Transition (State Table) A → Transition (State Table) A
+moved g u (Died cause) = Died cause
+moved g u (Went a s) = Went a (over_both g u s)
 
 -- the step does the same before the change and after it
-pub record Commutes {A : Type 0} (g : Table → Table) (m : Step Table A) : Type 0 where
-  pub go : (s : State Table) → m.run (over g s) ≡ moved g (m.run s)
+pub record Commutes {A : Type 0} (g : Table → Table) (u : Table → World → World) (m : Step Table A) : Type 0 where
+  pub go : (s : State Table) → m.run (over_both g u s) ≡ moved g u (m.run s)
 
-module _ (g : Table → Table) where
-  after-commutes : {A B : Type 0} (f : A → Step Table B) → ((a : A) → Commutes g (f a)) → (o : Transition (State Table) A)
-      → after (moved g o) (λ a t. (f a).run t) ≡ moved g (after o (λ a t. (f a).run t))
+module _ (g : Table → Table) (u : Table → World → World) where
+  after-commutes : {A B : Type 0} (f : A → Step Table B) → ((a : A) → Commutes g u (f a)) → (o : Transition (State Table) A)
+      → after (moved g u o) (λ a t. (f a).run t) ≡ moved g u (after o (λ a t. (f a).run t))
   unfolding after
   after-commutes f h (Died cause) = refl
   after-commutes f h (Went a s) = (h a).go s
 
-  then-commutes : {A B : Type 0} (m : Step Table A) (f : A → Step Table B) → Commutes g m → ((a : A) → Commutes g (f a)) → Commutes g (m >>= f)
+  then-commutes : {A B : Type 0} (m : Step Table A) (f : A → Step Table B) → Commutes g u m → ((a : A) → Commutes g u (f a)) → Commutes g u (m >>= f)
   unfolding ◌>>=◌
   then-commutes m f h k = record { go = λ s. ap (λ o. after o (λ a t. (f a).run t)) (h.go s) ∙ after-commutes f k (m.run s) }
 
-  next-commutes : {A B : Type 0} (m : Step Table A) (n : Step Table B) → Commutes g m → Commutes g n → Commutes g (m >> n)
+  next-commutes : {A B : Type 0} (m : Step Table A) (n : Step Table B) → Commutes g u m → Commutes g u n → Commutes g u (m >> n)
   unfolding ◌>>◌
   next-commutes m n h k = then-commutes m (λ a. n) h (λ a. k)
 
-  answer-commutes : {A : Type 0} (a : A) → Commutes g (answer a)
+  answer-commutes : {A : Type 0} (a : A) → Commutes g u (answer a)
   unfolding answer
   answer-commutes a = record { go = λ s. refl }
 
-  die-commutes : {A : Type 0} (cause : Dead) → Commutes {A = A} g (die cause)
+  die-commutes : {A : Type 0} (cause : Dead) → Commutes {A = A} g u (die cause)
   unfolding die
   die-commutes cause = record { go = λ s. refl }
 
-  check-commutes : (cause : Dead) (b : Bool) → Commutes g (check cause b)
+  check-commutes : (cause : Dead) (b : Bool) → Commutes g u (check cause b)
   unfolding check
   check-commutes cause true = answer-commutes tt
   check-commutes cause false = die-commutes cause
 
-  or_die-commutes : {A : Type 0} (cause : Dead) (x : Option A) → Commutes g (or_die cause x)
+  or_die-commutes : {A : Type 0} (cause : Dead) (x : Option A) → Commutes g u (or_die cause x)
   unfolding or_die
   or_die-commutes cause None = die-commutes cause
   or_die-commutes cause (Some a) = answer-commutes a
 
-  get_active-commutes : Commutes g get_active
+  get_active-commutes : Commutes g u get_active
   unfolding get_active
   get_active-commutes = record { go = λ s. refl }
 
-  get_sp-commutes : Commutes g get_sp
+  get_sp-commutes : Commutes g u get_sp
   unfolding get_sp
   get_sp-commutes = record { go = λ s. refl }
 
-  set_sp-commutes : (n : ℕ) → Commutes g (set_sp n)
+  set_sp-commutes : (n : ℕ) → Commutes g u (set_sp n)
   unfolding set_sp
   set_sp-commutes n = record { go = λ s. refl }
 
-  module _ (m : ObjectMemory Table) (tabular : IsTabular m) (leaves : LeavesPointers g) where
+  module _ (m : ObjectMemory Table) (tabular : IsTabular m) (leaves : LeavesPointers g u) where
     -- a look at an object that asks for kind Pointers first
     looking : {A : Type 0} → (Object → Step Table A) → Option Object → Step Table A
     looking f x = found x >>= (λ o. check dead.Kind (is_pointers o.kind) >> f o)
 
     looked : {A : Type 0} (f : Object → Step Table A) (o p : Object) (b : Bool) (s : State Table) → is_pointers o.kind ≡ b → p.kind ≡ o.kind → (is_pointers o.kind ≡ true → p ≡ o)
-        → (b ≡ true → (f o).run (over g s) ≡ moved g ((f o).run s)) → (looking f (Some p)).run (over g s) ≡ moved g ((looking f (Some o)).run s)
+        → (b ≡ true → (f o).run (over_both g u s) ≡ moved g u ((f o).run s)) → (looking f (Some p)).run (over_both g u s) ≡ moved g u ((looking f (Some o)).run s)
     unfolding looking ◌>>=◌ ◌>>◌ after found answer check die
     looked f o p true s e k q h = rw (q e, e) (h refl)
     looked f o p false s e k q h = rw (k, e) refl
 
-    looking-none : {A : Type 0} (f : Object → Step Table A) (s : State Table) → (looking f None).run (over g s) ≡ moved g ((looking f None).run s)
+    looking-none : {A : Type 0} (f : Object → Step Table A) (s : State Table) → (looking f None).run (over_both g u s) ≡ moved g u ((looking f None).run s)
     unfolding looking ◌>>=◌ after found die
     looking-none f s = refl
 
     looking-commutes : {A : Type 0} (f : Object → Step Table A) (a b : Option Object) (s : State Table) → Alike a b
-        → ((o : Object) → a ≡ Some o → is_pointers o.kind ≡ true → (f o).run (over g s) ≡ moved g ((f o).run s)) → (looking f b).run (over g s) ≡ moved g ((looking f a).run s)
+        → ((o : Object) → a ≡ Some o → is_pointers o.kind ≡ true → (f o).run (over_both g u s) ≡ moved g u ((f o).run s)) → (looking f b).run (over_both g u s) ≡ moved g u ((looking f a).run s)
     looking-commutes f None b s k h = rw k (looking-none f s)
     looking-commutes f (Some o) b s k h = rw k.1 (looked f o k.0 (is_pointers o.kind) s refl k.2 k.3 (h o refl))
 
-    pub fetch_field-commutes : (v : Value) (i : ℕ) → Commutes g (fetch_field m v i)
+    pub fetch_field-commutes : (v : Value) (i : ℕ) → Commutes g u (fetch_field m v i)
     unfolding fetch_field object looking object_named ◌>>=◌
     fetch_field-commutes (Small n) i = then-commutes (die dead.Small) _ (die-commutes _) (λ o. next-commutes _ _ (check-commutes _ _) (or_die-commutes _ _))
     fetch_field-commutes (Ref n) i = record {
       go = λ s. rw tabular.read (looking-commutes (λ o. or_die dead.Field (slice_get o.fields i)) (entry s.memory n) (entry (g s.memory) n) s (leaves.alike s.memory n) (λ o e k. (or_die-commutes _ _).go s));
     }
 
-    pub count_fields-commutes : (v : Value) → Commutes g (count_fields m v)
+    pub count_fields-commutes : (v : Value) → Commutes g u (count_fields m v)
     unfolding count_fields object looking object_named ◌>>=◌
     count_fields-commutes (Small n) = then-commutes (die dead.Small) _ (die-commutes _) (λ o. next-commutes _ _ (check-commutes _ _) (answer-commutes _))
     count_fields-commutes (Ref n) = record {
@@ -123,11 +129,15 @@ module _ (g : Table → Table) where
     there-moved t (Small n) = refl
     there-moved t (Ref n) = rw tabular.read (there_alike (entry t n) (entry (g t) n) (leaves.alike t n))
 
+    both_stored : (s : State Table) (t v : Table) (w x : World) → t ≡ v → w ≡ x → record s { memory = t; world = w } ≡ record s { memory = v; world = x }
+    both_stored s t v w x e f = λ j. record s { memory = e j; world = f j }
+
     stored-commutes : (n i : ℕ) (x : Value) (s : State Table) (o : Object) (c : Bool) → entry s.memory n ≡ Some o → is_pointers o.kind ≡ true
-        → stored_at m n i x (over g s) (Some o) c ≡ moved g (stored_at m n i x s (Some o) c)
+        → stored_at m n i x (over_both g u s) (Some o) c ≡ moved g u (stored_at m n i x s (Some o) c)
     unfolding stored_at
     stored-commutes n i x s o false e k = refl
-    stored-commutes n i x s o true e k = rw tabular.replace (ap (λ (t : Table). Went tt (record s { memory = t })) (sym (leaves.stores s.memory n o i x e k)))
+    stored-commutes n i x s o true e k = rw tabular.replace
+        (ap (λ (y : State Table). Went tt y) (both_stored s _ _ _ _ (sym (leaves.stores s.memory n o i x e k)) (sym (leaves.world s.memory n o i x s.world e))))
 
     one_object : (x : Option Object) (o p : Object) → x ≡ Some o → (r : Object) × (x ≡ Some r) × (r ≡ p) → x ≡ Some p
     one_object x o p e r = r.1 ∙ ap (λ y. Some y) r.2
@@ -137,7 +147,7 @@ module _ (g : Table → Table) where
     same_there (Some a) b o e k h = let q : a ≡ o = cc in h.1 ∙ ap (λ y. Some y) (h.3 (rw q k) ∙ q)
 
     set_field-commutes : (n i : ℕ) (x : Value) (s : State Table) (o : Object) → entry s.memory n ≡ Some o → is_pointers o.kind ≡ true
-        → (set_field m (Ref n) i x).run (over g s) ≡ moved g ((set_field m (Ref n) i x).run s)
+        → (set_field m (Ref n) i x).run (over_both g u s) ≡ moved g u ((set_field m (Ref n) i x).run s)
     unfolding set_field store_at
     set_field-commutes n i x s o e k =
         let f = same_there (entry s.memory n) (entry (g s.memory) n) o e k (leaves.alike s.memory n) in
@@ -145,12 +155,12 @@ module _ (g : Table → Table) where
         let r : m.read s.memory n ≡ Some o = (λ j. tabular.read j s.memory n) ∙ e in
         rw (there-moved s.memory x, q, r) (stored-commutes n i x s o (is_there m s.memory x) e k)
 
-    small_field-commutes : (n i : ℕ) (x : Value) → Commutes g (set_field m (Small n) i x)
+    small_field-commutes : (n i : ℕ) (x : Value) → Commutes g u (set_field m (Small n) i x)
     unfolding set_field
     small_field-commutes n i x = die-commutes _
 
-    read_looks : {A : Type 0} (n : ℕ) (s : State Table) (f : Object → Step Table A) → ((o : Object) → entry s.memory n ≡ Some o → is_pointers o.kind ≡ true → (f o).run (over g s) ≡ moved g ((f o).run s))
-        → (looking f (m.read (g s.memory) n)).run (over g s) ≡ moved g ((looking f (m.read s.memory n)).run s)
+    read_looks : {A : Type 0} (n : ℕ) (s : State Table) (f : Object → Step Table A) → ((o : Object) → entry s.memory n ≡ Some o → is_pointers o.kind ≡ true → (f o).run (over_both g u s) ≡ moved g u ((f o).run s))
+        → (looking f (m.read (g s.memory) n)).run (over_both g u s) ≡ moved g u ((looking f (m.read s.memory n)).run s)
     read_looks n s f h =
         let q : m.read (g s.memory) n ≡ entry (g s.memory) n = λ j. tabular.read j (g s.memory) n in
         let r : m.read s.memory n ≡ entry s.memory n = λ j. tabular.read j s.memory n in
@@ -159,21 +169,21 @@ module _ (g : Table → Table) where
     checked_store : ℕ → ℕ → Value → Object → Step Table (Unit {0})
     checked_store n i x o = check dead.Field (nat_lt i (length o.fields)) >> set_field m (Ref n) i x
 
-    passed : (b : Bool) (s : State Table) (f : Step Table (Unit {0})) → f.run (over g s) ≡ moved g (f.run s) → (check dead.Field b >> f).run (over g s) ≡ moved g ((check dead.Field b >> f).run s)
+    passed : (b : Bool) (s : State Table) (f : Step Table (Unit {0})) → f.run (over_both g u s) ≡ moved g u (f.run s) → (check dead.Field b >> f).run (over_both g u s) ≡ moved g u ((check dead.Field b >> f).run s)
     unfolding ◌>>◌ ◌>>=◌ after check answer die
     passed true s f h = h
     passed false s f h = refl
 
     checked_store-commutes : (n i : ℕ) (x : Value) (s : State Table) (o : Object) → entry s.memory n ≡ Some o → is_pointers o.kind ≡ true
-        → (checked_store n i x o).run (over g s) ≡ moved g ((checked_store n i x o).run s)
+        → (checked_store n i x o).run (over_both g u s) ≡ moved g u ((checked_store n i x o).run s)
     unfolding checked_store
     checked_store-commutes n i x s o e k = passed (nat_lt i (length o.fields)) s _ (set_field-commutes n i x s o e k)
 
-    pub store_field-commutes : (v : Value) (i : ℕ) (x : Value) → Commutes g (store_field m v i x)
+    pub store_field-commutes : (v : Value) (i : ℕ) (x : Value) → Commutes g u (store_field m v i x)
     unfolding store_field object looking object_named checked_store ◌>>=◌
     store_field-commutes (Small n) i x = then-commutes (die dead.Small) _ (die-commutes _) (λ o. next-commutes _ _ (check-commutes _ _) (next-commutes _ _ (check-commutes _ _) set_small))
       where
-        set_small : Commutes g (set_field m (Small n) i x)
+        set_small : Commutes g u (set_field m (Small n) i x)
         set_small = small_field-commutes n i x
     store_field-commutes (Ref n) i x = record {
       go = λ s. read_looks n s (checked_store n i x) (λ o e k. checked_store-commutes n i x s o e k);
@@ -181,25 +191,25 @@ module _ (g : Table → Table) where
 
     ruleset commuting = (then-commutes, next-commutes, answer-commutes, die-commutes, check-commutes, or_die-commutes, get_active-commutes, get_sp-commutes, set_sp-commutes, fetch_field-commutes, count_fields-commutes, store_field-commutes)
 
-    put-commutes : (c : Value) (at : ℕ) (x : Value) → Commutes g (put m c at x)
+    put-commutes : (c : Value) (at : ℕ) (x : Value) → Commutes g u (put m c at x)
     unfolding put
     put-commutes c at x = search commuting depth 16 fits 4000
 
-    pub push-commutes : (x : Value) → Commutes g (push m x)
+    pub push-commutes : (x : Value) → Commutes g u (push m x)
     unfolding push
     push-commutes x = search (commuting, put-commutes) depth 16 fits 4000
 
-    pub pop-commutes : Commutes g (pop m)
+    pub pop-commutes : Commutes g u (pop m)
     unfolding pop top
     pop-commutes = search commuting depth 16 fits 4000
 
-    pop_words-commutes : (n : ℕ) → Commutes g (pop_words m n)
+    pop_words-commutes : (n : ℕ) → Commutes g u (pop_words m n)
     unfolding pop_words
     pop_words-commutes zero = search commuting
     pop_words-commutes (suc n) = then-commutes (pop m) (λ x. pop_words m n) pop-commutes (λ x. pop_words-commutes n)
 
     -- the answer takes the place of receiver and arguments
-    pub answer_with-commutes : (n : ℕ) (v : Value) → Commutes g (answer_with m n v)
+    pub answer_with-commutes : (n : ℕ) (v : Value) → Commutes g u (answer_with m n v)
     unfolding answer_with
     answer_with-commutes n v = search (commuting, pop_words-commutes, push-commutes) depth 16 fits 4000
 
@@ -362,27 +372,80 @@ there_stays t n o i x (Ref k) e = elim (number_cases k n) [
   | inr d ↦ rw (changed-other t n k (with_field o i x) d) refl
 ]
 
-by_leaves : (f : Object → Object) (v : Value) → Keeps f → LeavesPointers (λ t. changed_by f t v)
-by_leaves f v k = record { alike = λ t n. alike_by f k v t n; stores = λ t n o i x e h. stores_by f k v t n o (with_field o i x) e refl h }
+-- a world that stays as it is, or is changed where what is named is there
+
+by_there : (v : Value) (f : World → World) (test : World → Bool) (t : Table) (n : ℕ) (o : Object) (i : ℕ) (x : Value) (w : World) → entry t n ≡ Some o
+    → (if is_there table (changed t n (with_field o i x)) v && test w then f w else w) ≡ (if is_there table t v && test w then f w else w)
+by_there v f test t n o i x w e = ap (λ b. if b && test w then f w else w) (there_stays t n o i x v e)
+
+if_there : (v : Value) (f : World → World) (t : Table) (n : ℕ) (o : Object) (i : ℕ) (x : Value) (w : World) → entry t n ≡ Some o
+    → (if is_there table (changed t n (with_field o i x)) v then f w else w) ≡ (if is_there table t v then f w else w)
+if_there v f t n o i x w e = ap (λ b. if b then f w else w) (there_stays t n o i x v e)
+
+-- a change of the world stays the same where a field is stored
+world_stays : (d : Deed) (t : Table) (n : ℕ) (o : Object) (i : ℕ) (x : Value) (w : World) → entry t n ≡ Some o
+    → world_done d (changed t n (with_field o i x)) w ≡ world_done d t w
+world_stays (Hold d v) t n o i x w e = if_there (word v) (changed_world (surroundings.Hold d (word v))) t n o i x w e
+world_stays (SetTimer v due) t n o i x w e = if_there (word v) (changed_twice (surroundings.Hold device.Timer (word v)) (surroundings.SetDue due)) t n o i x w e
+world_stays (RingTimer v) t n o i x w e =
+    by_there (word v) (changed_twice (surroundings.AddSignal (word v)) (surroundings.Hold device.Timer nil)) (λ w. nat_lt (length w.devices.pending) 4096) t n o i x w e
+world_stays (SetLowSpace v entries words) t n o i x w e =
+    if_there (word v) (changed_twice (surroundings.Hold device.LowSpace (word v)) (surroundings.SetLow entries words)) t n o i x w e
+world_stays Nothing t n o i x w e = refl
+world_stays (StoreWord v j y) t n o i x w e = refl
+world_stays (StoreByte v j y) t n o i x w e = refl
+world_stays (StoreNumber v k) t n o i x w e = refl
+world_stays (ReplaceBytes v c to from k) t n o i x w e = refl
+world_stays (StoreHeader v y) t n o i x w e = refl
+world_stays (StoreLiteral v j y) t n o i x w e = refl
+world_stays (StoreTime v time) t n o i x w e = refl
+world_stays (MoveMouse a b) t n o i x w e = refl
+world_stays (TakeWord v k) t n o i x w e = refl
+
+table_stays : (t : Table) (n : ℕ) → Alike (entry t n) (entry t n)
+table_stays t n = alike_itself (λ o. o) (record { kind = λ o. refl; words = λ o. refl; pointers = λ o e. refl }) (entry t n)
+
+by_leaves : (d : Deed) (f : Object → Object) (v : Value) → Keeps f → deed_done d ≡ (λ t. changed_by f t v) → LeavesPointers (deed_done d) (world_done d)
+by_leaves d f v k q = record {
+  world = world_stays d;
+  alike = λ t n. subst (λ (g : Table → Table). Alike (entry t n) (entry (g t) n)) (sym q) (alike_by f k v t n);
+  stores = λ t n o i x e h. subst (λ (g : Table → Table). g (changed t n (with_field o i x)) ≡ changed (g t) n (with_field o i x)) (sym q) (stores_by f k v t n o (with_field o i x) e refl h);
+}
+
+table_leaves : (d : Deed) → deed_done d ≡ (λ t. t) → LeavesPointers (deed_done d) (world_done d)
+table_leaves d q = record {
+  world = world_stays d;
+  alike = λ t n. subst (λ (g : Table → Table). Alike (entry t n) (entry (g t) n)) (sym q) (table_stays t n);
+  stores = λ t n o i x e h. subst (λ (g : Table → Table). g (changed t n (with_field o i x)) ≡ changed (g t) n (with_field o i x)) (sym q) refl;
+}
 
 -- each deed leaves objects of kind Pointers
-pub deed_leaves : (d : Deed) → LeavesPointers (deed_done d)
-deed_leaves Nothing = record { alike = λ t n. alike_itself (λ o. o) (record { kind = λ o. refl; words = λ o. refl; pointers = λ o e. refl }) (entry t n); stores = λ t n o i x e h. refl }
-deed_leaves (StoreWord o i x) = by_leaves _ _ (word_keeps i x)
-deed_leaves (StoreByte o i x) = by_leaves _ _ (byte_keeps i x)
-deed_leaves (StoreNumber o k) = by_leaves _ _ (bytes_keeps 0 (bytes_of_number k))
+pub deed_leaves : (d : Deed) → LeavesPointers (deed_done d) (world_done d)
+deed_leaves Nothing = table_leaves Nothing refl
+deed_leaves (StoreWord o i x) = by_leaves (StoreWord o i x) (word_stored i x) (word o) (word_keeps i x) refl
+deed_leaves (StoreByte o i x) = by_leaves (StoreByte o i x) (byte_stored i x) (word o) (byte_keeps i x) refl
+deed_leaves (StoreNumber o k) = by_leaves (StoreNumber o k) (bytes_stored 0 (bytes_of_number k)) (word o) (bytes_keeps 0 (bytes_of_number k)) refl
+deed_leaves (StoreTime o time) = by_leaves (StoreTime o time) (bytes_stored 0 (four_bytes time)) (word o) (bytes_keeps 0 (four_bytes time)) refl
+deed_leaves (TakeWord o k) = by_leaves (TakeWord o k) (bytes_stored 0 (bytes_of_number k)) (word o) (bytes_keeps 0 (bytes_of_number k)) refl
+deed_leaves (Hold d o) = table_leaves (Hold d o) refl
+deed_leaves (SetTimer o due) = table_leaves (SetTimer o due) refl
+deed_leaves (RingTimer o) = table_leaves (RingTimer o) refl
+deed_leaves (SetLowSpace o entries words) = table_leaves (SetLowSpace o entries words) refl
+deed_leaves (MoveMouse x y) = table_leaves (MoveMouse x y) refl
 deed_leaves (ReplaceBytes o c to from count) =
     let f : List ℕ → Object → Object = λ vs. bytes_replaced to vs in
     record {
+      world = world_stays (ReplaceBytes o c to from count);
       alike = λ t n. alike_by (f (bytes_from t (word c) from count)) (replaced_keeps to (bytes_from t (word c) from count)) (word o) t n;
       stores = λ t n q i x e h.
           ap (λ vs. changed_by (f vs) (changed t n (with_field q i x)) (word o)) (bytes_stay t n q i x (word c) from count e h)
           ∙ stores_by (f (bytes_from t (word c) from count)) (replaced_keeps to (bytes_from t (word c) from count)) (word o) t n q (with_field q i x) e refl h;
     }
-deed_leaves (StoreHeader o x) = by_leaves _ _ (header_keeps (word x))
+deed_leaves (StoreHeader o x) = by_leaves (StoreHeader o x) (header_stored (word x)) (word o) (header_keeps (word x)) refl
 deed_leaves (StoreLiteral o j y) =
     let f : Bool → Object → Object = λ b. literal_stored j (word y) b in
     record {
+      world = world_stays (StoreLiteral o j y);
       alike = λ t n. alike_by (f (is_there table t (word y))) (literal_keeps j (word y) _) (word o) t n;
       stores = λ t n q i x e h.
           ap (λ b. changed_by (f b) (changed t n (with_field q i x)) (word o)) (there_stays t n q i x (word y) e)
@@ -399,6 +462,13 @@ module _ (weight : Object → ℕ) (w : (f : Object → Object) → Keeps f → 
   deed_total (StoreByte o i x) t = by_keeps _ _ t (byte_keeps i x)
   deed_total (StoreNumber o k) t = by_keeps _ _ t (bytes_keeps 0 (bytes_of_number k))
   deed_total (ReplaceBytes o c to from count) t = by_keeps _ _ t (replaced_keeps to (bytes_from t (word c) from count))
+  deed_total (StoreTime o time) t = by_keeps _ _ t (bytes_keeps 0 (four_bytes time))
+  deed_total (TakeWord o k) t = by_keeps _ _ t (bytes_keeps 0 (bytes_of_number k))
+  deed_total (Hold d o) t = refl
+  deed_total (SetTimer o due) t = refl
+  deed_total (RingTimer o) t = refl
+  deed_total (SetLowSpace o entries words) t = refl
+  deed_total (MoveMouse x y) t = refl
   deed_total (StoreHeader o x) t = by_keeps _ _ t (header_keeps (word x))
   deed_total (StoreLiteral o i x) t = by_keeps _ _ t (literal_keeps i (word x) _)
 

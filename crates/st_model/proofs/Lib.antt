@@ -1,11 +1,14 @@
 pub mod Words
 pub mod Same
+mod Surrounding
 pub mod StepsSame
 pub mod ContextsSame
 pub mod LookupSame
 pub mod SendsSame
 pub mod PrimitivesSame
 mod StorageSame
+pub mod ProcessesSame
+pub mod InputSame
 pub mod Deeds
 pub mod Leaving
 pub mod ExecutingSame
@@ -46,6 +49,8 @@ pub mod Texts
 pub mod Again
 pub mod Present
 pub mod PresentSteps
+pub mod ProcessesSure
+pub mod InputSure
 pub mod Made
 pub mod Making
 mod ImageRows

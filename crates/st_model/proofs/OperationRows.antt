@@ -9,7 +9,9 @@ use Rattle.st_model.specs.Objects.{Object, nil}
 use Rattle.st_model.specs.Machine.{State, World, Died, Went, ◌>>◌, empty_world, next_of, tried}
 use Rattle.st_model.specs.Births.{Births, births}
 use Rattle.st_model.specs.Table.{Table, table, apart}
-use Rattle.st_model.specs.Steps.{exchange, set_units, fetch_word, store_word, fetch_byte, store_byte, fetch_field, fetch_method_field, store_method_field, object_at, next_instance, get_world, set_world}
+use Rattle.st_model.specs.declared.device.Device.TheVariants.{Display}
+use Rattle.st_model.specs.Surroundings.{Hold}
+use Rattle.st_model.specs.Steps.{exchange, set_units, fetch_word, store_word, fetch_byte, store_byte, fetch_field, fetch_method_field, store_method_field, object_at, next_instance, get_device, change_world}
 use Rattle.st_model.proofs.Opened.{opened}
 
 plain : Object
@@ -142,16 +144,16 @@ exchanged_apart : (exchange apart (Ref 1) (Ref 3)).run (state (table_of plain (b
 unfolding opened state table_of plain bytes
 exchanged_apart = refl
 
--- the world is read and set whole; what it names is there
+-- a device holds what is there
 
 displayed : Value → World
 displayed v = record (empty_world (Ref 1)) { devices = record (empty_world (Ref 1)).devices { display = v } }
 
-world_set : (set_world table (displayed (Ref 3)) >> get_world).run (state (table_of plain plain))
-    ≡ Went (displayed (Ref 3)) (record (state (table_of plain plain)) { world = displayed (Ref 3) })
+held : (change_world table (Hold Display (Ref 3)) >> get_device Display).run (state (table_of plain plain))
+    ≡ Went (Ref 3) (record (state (table_of plain plain)) { world = displayed (Ref 3) })
 unfolding opened state table_of plain displayed
-world_set = refl
+held = refl
 
-world_missing : (set_world table (displayed (Ref 2))).run (state (table_of plain plain)) ≡ Died dead.Kind
+missing : (change_world table (Hold Display (Ref 2))).run (state (table_of plain plain)) ≡ Died dead.Kind
 unfolding opened state table_of plain displayed
-world_missing = refl
+missing = refl

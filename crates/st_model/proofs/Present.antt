@@ -7,12 +7,15 @@ use Rattle.st_model.specs.declared.kind.Kind.{Kind}
 use Rattle.st_model.specs.Values.{Value, Small, Ref, small_integer, IsLive, AllLive}
 use Rattle.st_model.specs.Objects.{Object, PageObject, NilObject, place_of, IsLiveObject, with_field, with_units}
 use Rattle.st_model.specs.Sends.{Call}
-use Rattle.st_model.specs.Machine.{ObjectMemory, Registers, World, State, Transition, Died, Went, Step, is_there, all_there, names_instance, first_instance, next_of, head_roots, device_roots, roots_of, answer, die, after, ◌>>=◌, ◌>>◌, or_left, tried}
+use Rattle.st_model.specs.Machine.{ObjectMemory, Registers, State, Transition, Died, Went, Step, is_there, all_there, names_instance, first_instance, next_of, head_roots, roots_of, answer, die, after, ◌>>=◌, ◌>>◌, or_left, tried}
+use Rattle.st_model.specs.declared.device.Device.{Device}
+use Rattle.st_model.specs.Surroundings.{Change, Hold, AddSignal, TakeSignal, SetDue, SetLow, MoveMouse, TakeWord, changed_world, named_by}
 use Rattle.st_model.specs.Births.{Birth, Births, births, births_with, or_object, object_born, replaced, is_borne, bearer, borne, born, least_free}
-use Rattle.st_model.specs.Steps.{exchanged_there, exchange_named, exchange, fit_units, units_set, set_units_at, set_units, get_world, world_set, set_world, get_free, named_or_not, object_at, next_instance, get_active, get_home, get_method, get_receiver, get_ip, get_sp, set_ip, set_sp, found, object_named, object, stored_at, store_at, set_field, new_of, made, make_named, make, are_there, registers_set, set_registers, of_page}
+use Rattle.st_model.specs.Steps.{exchanged_there, exchange_named, exchange, fit_units, units_set, set_units_at, set_units, get_device, count_signals, oldest_word, get_mouse_x, get_mouse_y, get_second_clock, get_millisecond_clock, world_changed, change_world, get_free, named_or_not, object_at, next_instance, get_active, get_home, get_method, get_receiver, get_ip, get_sp, set_ip, set_sp, found, object_named, object, stored_at, store_at, set_field, new_of, made, make_named, make, are_there, registers_set, set_registers, of_page}
 use Rattle.st_model.specs.Lookup.{pointer_if, half_word}
 use Rattle.st_model.proofs.Same.{stored_is_live}
 use Rattle.st_model.proofs.StepsSame.{fresh_live}
+use Rattle.st_model.proofs.Surrounding.{held_live, changed_live}
 use Rattle.st_model.proofs.Names.{map_live, map_all, map_object, device_part, with_devices}
 use Rattle.st_model.proofs.BirthLemmas.{object_there, replaced-born, replaced-other, length-replaced, bearer-replaced, object_within, length-born, born-last, born-other, bearer-born, borne-replaced, borne-other, borne_before, borne-bearer}
 
@@ -505,36 +508,75 @@ module _ (o : Object) (lives : ℕ → Type 0) where
 
   -- the world
 
-  pub record WorldThere (n : ℕ) (w : World) : Type 0 where
-    pub live : AllLive (IsPresent n) (device_roots w.devices)
+  pub record ChangeThere (n : ℕ) (c : Change) : Type 0 where
+    pub live : AllLive (IsPresent n) (named_by c)
 
-  pub then_world-sure : {B : Type 0} (Q : ℕ → B → Type 0) (n : ℕ) (m m' : Step Births World) (f f' : World → Step Births B) → Sure n WorldThere m m'
-      → ((k : ℕ) → Later n k → (a : World) → WorldThere k a → Sure k Q (f a) (f' a)) → Sure n Q (m >>= f) (m' >>= f')
-  then_world-sure Q n m m' f f' h k = then-sure _ Q f f' n m m' h k
+  pub hold_there : (n : ℕ) (d : Device) (v : Value) → There n v → ChangeThere n (Hold d v)
+  hold_there n d v h = record { live = (h.live, tt) }
 
-  pub later_world : (n m : ℕ) (w : World) → Later n m → WorldThere n w → WorldThere m w
-  later_world n m w l h = record { live = map_all _ _ (more n m l.is) (device_roots w.devices) h.live }
+  pub add_signal_there : (n : ℕ) (v : Value) → There n v → ChangeThere n (AddSignal v)
+  add_signal_there n v h = record { live = (h.live, tt) }
 
-  pub get_world-sure : (n : ℕ) → Sure n WorldThere get_world get_world
-  unfolding get_world
-  get_world-sure n = record { go = λ s l st. (refl, refl, omega arith, st, record { live = device_part _ (head_roots s.head) _ st.roots.1.1.1.1 }) }
+  pub take_signal_there : (n : ℕ) → ChangeThere n TakeSignal
+  take_signal_there n = record { live = tt }
+
+  pub set_due_there : (n t : ℕ) → ChangeThere n (SetDue t)
+  set_due_there n t = record { live = tt }
+
+  pub set_low_there : (n a b : ℕ) → ChangeThere n (SetLow a b)
+  set_low_there n a b = record { live = tt }
+
+  pub move_mouse_there : (n x y : ℕ) → ChangeThere n (MoveMouse x y)
+  move_mouse_there n x y = record { live = tt }
+
+  pub take_word_there : (n : ℕ) → ChangeThere n TakeWord
+  take_word_there n = record { live = tt }
+
+  pub get_device-sure : (n : ℕ) (d : Device) → SureValue n (get_device d) (get_device d)
+  unfolding get_device
+  get_device-sure n d = record { go = λ s l st. (refl, refl, omega arith, st, record { live = held_live _ d s.world.devices (device_part _ (head_roots s.head) _ st.roots.1.1.1.1) }) }
+
+  pub oldest_word-sure : (n : ℕ) → SureAnswer n oldest_word oldest_word
+  unfolding oldest_word
+  oldest_word-sure n = record { go = λ s l st. (refl, refl, omega arith, st, tt) }
+
+  pub count_signals-sure : (n : ℕ) → SureAnswer n count_signals count_signals
+  unfolding count_signals
+  count_signals-sure n = record { go = λ s l st. (refl, refl, omega arith, st, tt) }
+
+  pub get_mouse_x-sure : (n : ℕ) → SureAnswer n get_mouse_x get_mouse_x
+  unfolding get_mouse_x
+  get_mouse_x-sure n = record { go = λ s l st. (refl, refl, omega arith, st, tt) }
+
+  pub get_mouse_y-sure : (n : ℕ) → SureAnswer n get_mouse_y get_mouse_y
+  unfolding get_mouse_y
+  get_mouse_y-sure n = record { go = λ s l st. (refl, refl, omega arith, st, tt) }
+
+  pub get_second_clock-sure : (n : ℕ) → SureAnswer n get_second_clock get_second_clock
+  unfolding get_second_clock
+  get_second_clock-sure n = record { go = λ s l st. (refl, refl, omega arith, st, tt) }
+
+  pub get_millisecond_clock-sure : (n : ℕ) → SureAnswer n get_millisecond_clock get_millisecond_clock
+  unfolding get_millisecond_clock
+  get_millisecond_clock-sure n = record { go = λ s l st. (refl, refl, omega arith, st, tt) }
 
   all_same : (h : Births) (n : ℕ) (vs : List Value) → n ≤ length h → AllLive (IsPresent n) vs → all_there births h vs ≡ all_there (births_with o) h vs
   all_same h n [] l p = refl
   all_same h n (v ∷ vs) l p = let a = there_same h n v l p.0 in let b = all_same h n vs l p.1 in λ i. a i && b i
 
-  world_same : (w : World) (s : State Births) (b : Bool) → Stands s → AllLive (IsPresent (length s.memory)) (device_roots w.devices) → DoesSame Any s (world_set w s b) (world_set w s b)
-  unfolding world_set
-  world_same w s false st h = refl
-  world_same w s true st h =
+  changed_same : (c : Change) (s : State Births) (b : Bool) → Stands s → AllLive (IsPresent (length s.memory)) (named_by c) → DoesSame Any s (world_changed c s b) (world_changed c s b)
+  unfolding world_changed
+  changed_same c s false st h = refl
+  changed_same c s true st h =
       let r = st.roots in
-      (refl, refl, omega arith, record { page = st.page; objects = st.objects; roots = (r.0, (r.1.0, (r.1.1.0, (r.1.1.1.0, with_devices _ (head_roots s.head) _ _ r.1.1.1.1 h)))); to_come = st.to_come; kept = st.kept }, tt)
+      let k = changed_live _ c s.world h (device_part _ (head_roots s.head) _ r.1.1.1.1) in
+      (refl, refl, omega arith, record { page = st.page; objects = st.objects; roots = (r.0, (r.1.0, (r.1.1.0, (r.1.1.1.0, with_devices _ (head_roots s.head) _ _ r.1.1.1.1 k)))); to_come = st.to_come; kept = st.kept }, tt)
 
-  pub set_world-sure : (n : ℕ) (w : World) → WorldThere n w → SureAnswer n (set_world bare w) (set_world (full o) w)
-  unfolding set_world bare full
-  set_world-sure n w h = record {
+  pub change_world-sure : (n : ℕ) (c : Change) → ChangeThere n c → SureAnswer n (change_world bare c) (change_world (full o) c)
+  unfolding change_world bare full
+  change_world-sure n c h = record {
     go = λ s l st.
-        rw (← all_same s.memory n (device_roots w.devices) l h.live) (world_same w s _ st (map_all _ _ (more n (length s.memory) l) (device_roots w.devices) h.live));
+        rw (← all_same s.memory n (named_by c) l h.live) (changed_same c s _ st (map_all _ _ (more n (length s.memory) l) (named_by c) h.live));
   }
 
   pub get_free-sure : (n : ℕ) → SureAnswer n (get_free bare) (get_free (full o))

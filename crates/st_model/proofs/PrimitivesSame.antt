@@ -64,7 +64,7 @@ module _ {H K : Type 0} {M : ObjectMemory H} {N : ObjectMemory K} (sim : Simulat
   truth-same true c e = rw e (search parts_same)
   truth-same false c e = rw e (search parts_same)
 
-  new_point-same : (x y : ℤ) → SameValue sim (new_point M x y) (new_point N x y)
+  pub new_point-same : (x y : ℤ) → SameValue sim (new_point M x y) (new_point N x y)
   unfolding new_point
   new_point-same x y = search parts_same depth 24 fits 4000
 

@@ -6,8 +6,10 @@ use Rattle.st_model.specs.declared.dead.Dead.{Dead}
 use Rattle.st_model.specs.declared.dead.Dead.TheVariants as dead
 use Rattle.st_model.specs.Values.{Value, Small, Ref, is_small}
 use Rattle.st_model.specs.Objects.{PageObject, place_of, Object, with_field, with_units, first_unit, is_pointers, is_words, is_method, has_bytes}
-use Rattle.st_model.specs.Machine.{ObjectMemory, Registers, World, State, is_there, all_there, device_roots, Transition, Died, Went, Step, after, answer, die, ◌>>=◌, ◌>>◌, or_left, tried}
-use Rattle.st_model.specs.Steps.{get_active, get_home, get_method, get_receiver, get_ip, get_sp, set_ip, set_sp, registers_set, set_registers, are_there, of_page, found, object_named, object, stored_at, store_at, set_field, exchanged_there, exchange_named, exchange, fit_units, units_set, set_units_at, set_units, store_word, store_byte, get_world, world_set, set_world, or_die, check, fetch_field, store_field, store_method_field, integer_or_die}
+use Rattle.st_model.specs.declared.device.Device.{Device}
+use Rattle.st_model.specs.Surroundings.{Change, held_by, newest_of, changed_world, named_by}
+use Rattle.st_model.specs.Machine.{ObjectMemory, Registers, State, is_there, all_there, Transition, Died, Went, Step, after, answer, die, ◌>>=◌, ◌>>◌, or_left, tried}
+use Rattle.st_model.specs.Steps.{get_active, get_home, get_method, get_receiver, get_ip, get_sp, set_ip, set_sp, registers_set, set_registers, are_there, of_page, found, object_named, object, stored_at, store_at, set_field, exchanged_there, exchange_named, exchange, fit_units, units_set, set_units_at, set_units, store_word, store_byte, get_device, newest_signal, count_signals, oldest_word, get_mouse_x, get_mouse_y, get_second_clock, get_millisecond_clock, world_changed, change_world, or_die, check, fetch_field, store_field, store_method_field, integer_or_die}
 use Rattle.st_model.specs.Table.{Table, table, entry, changed, exchanged}
 use Rattle.st_model.specs.Values.{integer_of}
 use Rattle.st_model.specs.Contexts.{home_by}
@@ -221,19 +223,47 @@ run-store_byte v i x s live kind above range =
     let r : nat_lt (i - first_unit (object_of s.memory v)) (length (object_of s.memory v).units) ≡ true = grind (arith, nat_tests) in
     simp (run-then, run-next, after-went, run-live v s live, run-passed dead.Kind _ s kind, run-passed dead.Field _ s a, run-passed dead.Field _ s r, set_unit v (i - first_unit (object_of s.memory v)) x s live) refl
 
-pub run-world : (s : State Table) → get_world.run s ≡ Went s.world s
-unfolding get_world
-run-world s = refl
+pub run-device : (d : Device) (s : State Table) → (get_device d).run s ≡ Went (held_by s.world.devices d) s
+unfolding get_device
+run-device d s = refl
 
-there_world : (w : World) (s : State Table) (b : Bool) → b ≡ true → world_set w s b ≡ Went tt (record s { world = w })
-unfolding world_set
-there_world w s true e = refl
-there_world w s false e = cc
+pub run-newest_signal : (s : State Table) → newest_signal.run s ≡ Went (newest_of s.world.devices.pending) s
+unfolding newest_signal
+run-newest_signal s = refl
 
-pub run-set_world : (m : ObjectMemory Table) (w : World) (s : State Table) → all_there m s.memory (device_roots w.devices) ≡ true
-    → (set_world m w).run s ≡ Went tt (record s { world = w })
-unfolding set_world
-run-set_world m w s e = there_world w s _ e
+pub run-count_signals : (s : State Table) → count_signals.run s ≡ Went (length s.world.devices.pending) s
+unfolding count_signals
+run-count_signals s = refl
+
+pub run-oldest_word : (s : State Table) → oldest_word.run s ≡ Went (slice_get s.world.waiting 0) s
+unfolding oldest_word
+run-oldest_word s = refl
+
+pub run-mouse_x : (s : State Table) → get_mouse_x.run s ≡ Went s.world.mouse_x s
+unfolding get_mouse_x
+run-mouse_x s = refl
+
+pub run-mouse_y : (s : State Table) → get_mouse_y.run s ≡ Went s.world.mouse_y s
+unfolding get_mouse_y
+run-mouse_y s = refl
+
+pub run-second_clock : (s : State Table) → get_second_clock.run s ≡ Went s.world.second_clock s
+unfolding get_second_clock
+run-second_clock s = refl
+
+pub run-millisecond_clock : (s : State Table) → get_millisecond_clock.run s ≡ Went s.world.millisecond_clock s
+unfolding get_millisecond_clock
+run-millisecond_clock s = refl
+
+changed_there : (c : Change) (s : State Table) (b : Bool) → b ≡ true → world_changed c s b ≡ Went tt (record s { world = changed_world c s.world })
+unfolding world_changed
+changed_there c s true e = refl
+changed_there c s false e = cc
+
+pub run-change_world : (m : ObjectMemory Table) (c : Change) (s : State Table) → all_there m s.memory (named_by c) ≡ true
+    → (change_world m c).run s ≡ Went tt (record s { world = changed_world c s.world })
+unfolding change_world
+run-change_world m c s e = changed_there c s _ e
 
 -- a step that is tried
 pub run-tried_went : {A : Type 0} (m : Step Table A) (s t : State Table) (a : A) → m.run s ≡ Went a t → (tried m).run s ≡ Went (Some a) t
@@ -269,7 +299,7 @@ get-past [] i l = refl
 get-past (x ∷ xs) zero l = absurd (omega arith)
 get-past (x ∷ xs) (suc i) l = get-past xs i (omega arith)
 
-pub ruleset runs = (run-then, run-next, after-went, after-died, run-answer, run-die, run-active, run-home, run-method, run-receiver, run-ip, run-sp, run-set_ip, run-set_sp, run-set_registers, run-world, run-set_world, run-of_page, run-passed, run-failed, run-some, run-none, run-small, run-live, run-gone, run-set_field, run-integer, run-no_integer, run-block_home, run-method_home, get-past)
+pub ruleset runs = (run-then, run-next, after-went, after-died, run-answer, run-die, run-active, run-home, run-method, run-receiver, run-ip, run-sp, run-set_ip, run-set_sp, run-set_registers, run-device, run-newest_signal, run-count_signals, run-oldest_word, run-mouse_x, run-mouse_y, run-second_clock, run-millisecond_clock, run-change_world, run-of_page, run-passed, run-failed, run-some, run-none, run-small, run-live, run-gone, run-set_field, run-integer, run-no_integer, run-block_home, run-method_home, get-past)
 
 pub ruleset stores = (run-store, run-store_method_field, run-store_word, run-store_byte, run-exchange)
 

@@ -13,6 +13,8 @@ use Rattle.st_model.specs.Outcomes.{StepEnd, Did, NotBuilt, renamed_outcome, IsL
 use Rattle.st_model.specs.Sends.{Call}
 use Rattle.st_model.specs.Outcomes as outcome
 use Rattle.st_model.specs.Steps.{code_byte, same_value}
+use Rattle.st_model.specs.declared.device.Device.{Device}
+use Rattle.st_model.specs.Surroundings.{Change, Hold, AddSignal, TakeSignal, SetDue, SetLow, MoveMouse, AddWord, TakeWord, SetSecondClock, SetMillisecondClock, named_by, renamed_change}
 use Rattle.st_model.specs.Calls.{itself}
 use Rattle.st_model.specs.Show.{renamed_registers, renamed_world, renamed_head, renamed_option}
 use Rattle.st_model.specs.Machine.{ObjectMemory, Registers, World, Head, State, Transition, Died, Went, Step, is_there, all_there, device_roots, has_room, used, roots_of, answer, die, after, ◌>>=◌, ◌>>◌, or_left, tried}
@@ -226,15 +228,12 @@ pub record RegistersNamed (lives : ℕ → Type 0) (f : ℕ → ℕ) (r q : Regi
 abbrev pub RegistersSame : {H K : Type 0} {M : ObjectMemory H} {N : ObjectMemory K} → Simulation M N → Registers → Registers → Type 0
 RegistersSame sim r q = RegistersNamed sim.live sim.name r q
 
-abbrev pub IsLiveWorld : (ℕ → Type 0) → World → Type 0
-IsLiveWorld live w = AllLive live (device_roots w.devices)
+pub record ChangeNamed (lives : ℕ → Type 0) (f : ℕ → ℕ) (c d : Change) : Type 0 where
+  pub live : AllLive lives (named_by c)
+  pub is : d ≡ renamed_change f c
 
-pub record WorldNamed (lives : ℕ → Type 0) (f : ℕ → ℕ) (w u : World) : Type 0 where
-  pub live : IsLiveWorld lives w
-  pub is : u ≡ renamed_world f w
-
-abbrev pub WorldSame : {H K : Type 0} {M : ObjectMemory H} {N : ObjectMemory K} → Simulation M N → World → World → Type 0
-WorldSame sim w u = WorldNamed sim.live sim.name w u
+abbrev pub ChangeSame : {H K : Type 0} {M : ObjectMemory H} {N : ObjectMemory K} → Simulation M N → Change → Change → Type 0
+ChangeSame sim c d = ChangeNamed sim.live sim.name c d
 
 abbrev pub IsLiveCall : (ℕ → Type 0) → Call → Type 0
 IsLiveCall live c = IsLive live c.method
@@ -287,9 +286,6 @@ SameOption sim m n = Same sim (IsLiveOption sim.live) (renamed_option sim.name) 
 abbrev pub SameRegisters : {H K : Type 0} {M : ObjectMemory H} {N : ObjectMemory K} → Simulation M N → Step H Registers → Step K Registers → Type 0
 SameRegisters sim m n = Same sim (IsLiveRegisters sim.live) (renamed_registers sim.name) m n
 
-abbrev pub SameWorld : {H K : Type 0} {M : ObjectMemory H} {N : ObjectMemory K} → Simulation M N → Step H World → Step K World → Type 0
-SameWorld sim m n = Same sim (IsLiveWorld sim.live) (renamed_world sim.name) m n
-
 abbrev pub SameObject : {H K : Type 0} {M : ObjectMemory H} {N : ObjectMemory K} → Simulation M N → Step H Object → Step K Object → Type 0
 SameObject sim m n = Same sim (IsLiveObject sim.live) (renamed_object sim.name) m n
 
@@ -322,10 +318,6 @@ module _ {H K A B : Type 0} {M : ObjectMemory H} {N : ObjectMemory K} (sim : Sim
   pub then_registers-same : (m : Step H Registers) (n : Step K Registers) (f : Registers → Step H A) (g : Registers → Step K B)
       → SameRegisters sim m n → ((a b : Registers) → RegistersSame sim a b → Same sim Q q (f a) (g b)) → Same sim Q q (m >>= f) (n >>= g)
   then_registers-same m n f g h k = then-same sim _ _ Q q m n f g h (λ a l. k a (renamed_registers sim.name a) (record { live = l; is = refl }))
-
-  pub then_world-same : (m : Step H World) (n : Step K World) (f : World → Step H A) (g : World → Step K B)
-      → SameWorld sim m n → ((a b : World) → WorldSame sim a b → Same sim Q q (f a) (g b)) → Same sim Q q (m >>= f) (n >>= g)
-  then_world-same m n f g h k = then-same sim _ _ Q q m n f g h (λ a l. k a (renamed_world sim.name a) (record { live = l; is = refl }))
 
   pub then_call-same : (m : Step H Call) (n : Step K Call) (f : Call → Step H A) (g : Call → Step K B)
       → SameCall sim m n → ((a b : Call) → CallSame sim a b → Same sim Q q (f a) (g b)) → Same sim Q q (m >>= f) (n >>= g)
@@ -441,6 +433,38 @@ module _ {H K : Type 0} {M : ObjectMemory H} {N : ObjectMemory K} (sim : Simulat
     is = λ i. record { active = x.is i; home = y.is i; method = z.is i; receiver = w.is i; ip = ip; sp = sp };
   }
 
+  -- changes of the world
+
+  pub hold-same : (d : Device) (v w : Value) → ValueSame sim v w → ChangeSame sim (Hold d v) (Hold d w)
+  hold-same d v w h = record { live = (h.live, tt); is = λ i. Hold d (h.is i) }
+
+  pub add_signal-same : (v w : Value) → ValueSame sim v w → ChangeSame sim (AddSignal v) (AddSignal w)
+  add_signal-same v w h = record { live = (h.live, tt); is = λ i. AddSignal (h.is i) }
+
+  pub take_signal-same : ChangeSame sim TakeSignal TakeSignal
+  take_signal-same = record { live = tt; is = refl }
+
+  pub set_due-same : (t : ℕ) → ChangeSame sim (SetDue t) (SetDue t)
+  set_due-same t = record { live = tt; is = refl }
+
+  pub set_low-same : (a b : ℕ) → ChangeSame sim (SetLow a b) (SetLow a b)
+  set_low-same a b = record { live = tt; is = refl }
+
+  pub move_mouse-same : (x y : ℕ) → ChangeSame sim (MoveMouse x y) (MoveMouse x y)
+  move_mouse-same x y = record { live = tt; is = refl }
+
+  pub add_word-same : (n : ℕ) → ChangeSame sim (AddWord n) (AddWord n)
+  add_word-same n = record { live = tt; is = refl }
+
+  pub take_word-same : ChangeSame sim TakeWord TakeWord
+  take_word-same = record { live = tt; is = refl }
+
+  pub second_clock-same : (n : ℕ) → ChangeSame sim (SetSecondClock n) (SetSecondClock n)
+  second_clock-same n = record { live = tt; is = refl }
+
+  pub millisecond_clock-same : (n : ℕ) → ChangeSame sim (SetMillisecondClock n) (SetMillisecondClock n)
+  millisecond_clock-same n = record { live = tt; is = refl }
+
   values_same : (v w : Value) → IsLive sim.live v → IsLive sim.live w → same_value (renamed sim.name v) (renamed sim.name w) ≡ same_value v w
   values_same (Small m) (Small n) h k = refl
   values_same (Small m) (Ref n) h k = refl
@@ -525,4 +549,4 @@ module _ {H K : Type 0} {M : ObjectMemory H} {N : ObjectMemory K} (sim : Simulat
   tried_itself-same m n h k = tried-same _ _ _ _ (tt, refl) (λ a l. (tt, refl)) m n h k
 
 -- what a search of steps that do the same goes by
-pub ruleset steps_same = (then_value-same, then_values-same, then_object-same, then_answer-same, then_option-same, then_registers-same, then_world-same, then_call-same, then_any_call-same, then_unit-same, if-same, tried_value-same, tried_itself-same, die-same, answer_value-same, answer_values-same, answer_option-same, answer_registers-same, answer_object-same, answer_itself-same, answer_call-same, answer_some_call-same, answer_no_call-same, went-same, say_value-same, not_built-same, same_value-same, small-same, small_integer-same, class-same, no_values-same, values-same, none-same, some-same, field-same, registers-same, length-renamed, code_byte-renamed)
+pub ruleset steps_same = (then_value-same, then_values-same, then_object-same, then_answer-same, then_option-same, then_registers-same, then_call-same, then_any_call-same, then_unit-same, if-same, tried_value-same, tried_itself-same, die-same, answer_value-same, answer_values-same, answer_option-same, answer_registers-same, answer_object-same, answer_itself-same, answer_call-same, answer_some_call-same, answer_no_call-same, went-same, say_value-same, not_built-same, same_value-same, small-same, small_integer-same, class-same, no_values-same, values-same, none-same, some-same, field-same, registers-same, hold-same, add_signal-same, take_signal-same, set_due-same, set_low-same, move_mouse-same, add_word-same, take_word-same, second_clock-same, millisecond_clock-same, length-renamed, code_byte-renamed)

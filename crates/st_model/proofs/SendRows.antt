@@ -112,8 +112,3 @@ foreseen_space = refl
 foreseen_not_understood : run_of foreseen_cycle 3 (at_first 31 21) ≡ Went (With outcome.Went) (state 31 (in_method 10) (objects 21 (pointers 8 (Small 1 ∷ [])) (pointers 16 (Ref 33 ∷ Ref 5 ∷ [])) (activation 3 (Ref 9)) (active 10 0 (Small 16383) (Ref 9)) literals bytes))
 unfolding opened at_first activation in_method state in_sender objects active literals bytes plain pointers method
 foreseen_not_understood = refl
-
--- the special send 200 would try a primitive first
-unbuilt : run table 3 (state 32767 (in_sender (pos 4) 5) (objects 33 None None None (active 5 0 nil nil) (Small 1 ∷ Small 16383 ∷ []) (32 ∷ 118 ∷ 200 ∷ []))) ≡ Went (Unbuilt 200) (state 32767 (in_sender (pos 6) 7) (objects 33 None None None (active 5 0 (Small 16383) (Small 1)) (Small 1 ∷ Small 16383 ∷ []) (32 ∷ 118 ∷ 200 ∷ [])))
-unfolding opened at_first activation in_method state in_sender objects active literals bytes plain pointers method
-unbuilt = refl

@@ -1,21 +1,24 @@
 -- Each step on registers, fields, the stack and methods over births does the same over pointers.
 use Rattle.std.proofs.Common.{◌≡◌, ℕ, List, [], ◌∷◌, zero, suc, Option, Some, None, Bool, true, false, refl, ap, ◌∙◌, arith, length, ◌⊎◌, inl, inr}
 use Rattle.std.proofs.Math.ListN.{length-set}
-use Rattle.std.specs.Prelude.{◌+◌, ◌-◌, ◌*◌, ◌&&◌, ◌==◌, if◌then◌else◌, replicate, ℤ}
+use Rattle.std.specs.Prelude.{◌+◌, ◌-◌, ◌*◌, ◌&&◌, ◌==◌, if◌then◌else◌, replicate, slice_get, ℤ}
 use Rattle.st_model.specs.declared.dead.Dead.{Dead}
 use Rattle.st_model.specs.declared.kind.Kind.{Kind}
 use Rattle.st_model.specs.declared.kind.Kind.TheVariants as kind
 use Rattle.st_model.specs.Values.{Value, Small, Ref, renamed, renamed_all, IsLive, AllLive}
 use Rattle.st_model.specs.Objects.{Object, PageObject, NilObject, renamed_object, IsLiveObject, words_of, size_of, with_field, with_units}
-use Rattle.st_model.specs.Machine.{ObjectMemory, Registers, World, State, is_there, all_there, is_of_class, names_instance, first_instance, next_of, has_room, less, capacity_of, head_roots, device_roots, roots_of, answer, die}
+use Rattle.st_model.specs.Machine.{ObjectMemory, Registers, State, is_there, all_there, is_of_class, names_instance, first_instance, next_of, has_room, less, capacity_of, head_roots, device_roots, roots_of, answer, die}
+use Rattle.st_model.specs.declared.device.Device.{Device}
+use Rattle.st_model.specs.Surroundings.{Change, held_by, newest_of, changed_world, named_by, renamed_change}
 use Rattle.st_model.specs.Formed.{fresh_with}
 use Rattle.st_model.specs.Show.{renamed_registers, renamed_world, renamed_option}
 use Rattle.std.specs.Option.{option_map}
 use Rattle.std.proofs.lemmas.Bool.Decides.{nat_tests}
-use Rattle.st_model.specs.Steps.{get_active, get_home, get_method, get_receiver, get_ip, get_sp, set_ip, set_sp, found, object_named, object, stored_at, store_at, set_field, exchanged_there, exchange_named, exchange, fit_units, units_set, set_units_at, set_units, get_world, world_set, set_world, get_free, named_or_not, object_at, next_instance, fetch_kind, fetch_size, fetch_bytes, store_bytes, fetch_word, store_word, fetch_byte, store_byte, made, make_named, make, registers_set, set_registers, new_of, are_there, of_page, new_object, class_of, or_die, check, fetch_field, store_field, integer_or_die, fetch_integer, count_fields, fetch_fields, store_fields, transfer, put, push, under, look_at_words, drop_words, top, pop, literal, fetch_method_field, store_method_field, byte_at, next_byte, jump}
+use Rattle.st_model.specs.Steps.{get_active, get_home, get_method, get_receiver, get_ip, get_sp, set_ip, set_sp, found, object_named, object, stored_at, store_at, set_field, exchanged_there, exchange_named, exchange, fit_units, units_set, set_units_at, set_units, get_device, newest_signal, count_signals, oldest_word, count_words, get_mouse_x, get_mouse_y, get_second_clock, get_millisecond_clock, world_changed, change_world, get_free, named_or_not, object_at, next_instance, fetch_kind, fetch_size, fetch_bytes, store_bytes, fetch_word, store_word, fetch_byte, store_byte, made, make_named, make, registers_set, set_registers, new_of, are_there, of_page, new_object, class_of, or_die, check, fetch_field, store_field, integer_or_die, fetch_integer, count_fields, fetch_fields, store_fields, transfer, put, push, under, look_at_words, drop_words, top, pop, literal, fetch_method_field, store_method_field, byte_at, next_byte, jump}
 use Rattle.st_model.specs.Calls.{itself}
-use Rattle.st_model.proofs.Same.{length-renamed, then_object-same, answer_itself-same, OptionSame, Simulation, StateSame, TransitionSame, StaysOver, Anything, IsLiveOption, IsLiveRegisters, IsLiveWorld, ValueSame, ValuesSame, OptionalSame, RegistersSame, WorldSame, SameValue, SameValues, SameOption, SameWorld, SameObject, SameAnswer, is_there-renamed, all_there-renamed, value_there, values_there, both, some_object, same_value-same, steps_same, then_unit-same, over_value, over_values, over_object, with_field-renamed, stored_is_live}
+use Rattle.st_model.proofs.Same.{length-renamed, then_object-same, answer_itself-same, OptionSame, Simulation, StateSame, TransitionSame, StaysOver, Anything, IsLiveOption, IsLiveRegisters, ValueSame, ValuesSame, OptionalSame, RegistersSame, ChangeSame, SameValue, SameValues, SameOption, SameObject, SameAnswer, is_there-renamed, all_there-renamed, value_there, values_there, both, some_object, same_value-same, steps_same, then_unit-same, over_value, over_values, get_is_live, over_object, with_field-renamed, stored_is_live}
 use Rattle.st_model.proofs.Names.{map_all, device_part, with_devices}
+use Rattle.st_model.proofs.Surrounding.{held_live, held-renamed, newest-renamed, changed_live, changed-renamed, named-renamed}
 
 live_replicate : (live : ℕ → Type 0) (v : Value) (n : ℕ) → IsLive live v → AllLive live (replicate n v)
 live_replicate live v zero h = tt
@@ -344,49 +347,99 @@ module _ {H K : Type 0} {M : ObjectMemory H} {N : ObjectMemory K} (sim : Simulat
   pub set_registers-same : (r q : Registers) → RegistersSame sim r q → SameAnswer sim (set_registers M r) (set_registers N q)
   set_registers-same r q h = rw h.is (set_registers_one-same r h.live)
 
-  pub get_world-same : SameWorld sim get_world get_world
-  unfolding get_world
-  get_world-same = record { go = λ s t st. inr (device_part _ (head_roots s.head) _ st.roots.1.1.1.1, st.world, st); stay = λ s o. (over_values sim s.memory o (device_roots s.world.devices), o) }
+  -- the world
 
-  world_set-same : (w : World) (s : State H) (t : State K) (b : Bool) → IsLiveWorld sim.live w → StateSame sim s t → all_there M s.memory (device_roots w.devices) ≡ b
-      → TransitionSame sim Anything itself (world_set w s b) (world_set (renamed_world sim.name w) t b)
-  unfolding world_set
-  world_set-same w s t false h st e = inl refl
-  world_set-same w s t true h st e =
+  pub get_device-same : (d : Device) → SameValue sim (get_device d) (get_device d)
+  unfolding get_device
+  get_device-same d = record {
+    go = λ s t st. inr (
+      held_live sim.live d s.world.devices (device_part _ (head_roots s.head) _ st.roots.1.1.1.1),
+      ap (λ w. held_by w.devices d) st.world ∙ held-renamed sim.name d s.world.devices,
+      st,
+    );
+    stay = λ s o. (over_value sim s.memory o (held_by s.world.devices d), o);
+  }
+
+  pub newest_signal-same : SameOption sim newest_signal newest_signal
+  unfolding newest_signal
+  newest_signal-same = record {
+    go = λ s t st. inr (
+      get_is_live sim s.world.devices.pending (length s.world.devices.pending - 1) (device_part _ (head_roots s.head) _ st.roots.1.1.1.1).1.1.1.1.1.1,
+      ap (λ w. newest_of w.devices.pending) st.world ∙ newest-renamed sim s.world.devices.pending,
+      st,
+    );
+    stay = λ s o. (get_is_live sim s.world.devices.pending (length s.world.devices.pending - 1) (over_values sim s.memory o s.world.devices.pending), o);
+  }
+
+  pub count_signals-same : SameAnswer sim count_signals count_signals
+  unfolding count_signals
+  count_signals-same = record {
+    go = λ s t st. inr (tt, ap (λ w. length w.devices.pending) st.world ∙ length-renamed sim.name s.world.devices.pending, st);
+    stay = λ s o. (tt, o);
+  }
+
+  pub oldest_word-same : SameAnswer sim oldest_word oldest_word
+  unfolding oldest_word
+  oldest_word-same = record { go = λ s t st. inr (tt, ap (λ w. slice_get w.waiting 0) st.world, st); stay = λ s o. (tt, o) }
+
+  pub count_words-same : SameAnswer sim count_words count_words
+  unfolding count_words
+  count_words-same = record { go = λ s t st. inr (tt, ap (λ w. length w.waiting) st.world, st); stay = λ s o. (tt, o) }
+
+  pub get_mouse_x-same : SameAnswer sim get_mouse_x get_mouse_x
+  unfolding get_mouse_x
+  get_mouse_x-same = record { go = λ s t st. inr (tt, ap (λ w. w.mouse_x) st.world, st); stay = λ s o. (tt, o) }
+
+  pub get_mouse_y-same : SameAnswer sim get_mouse_y get_mouse_y
+  unfolding get_mouse_y
+  get_mouse_y-same = record { go = λ s t st. inr (tt, ap (λ w. w.mouse_y) st.world, st); stay = λ s o. (tt, o) }
+
+  pub get_second_clock-same : SameAnswer sim get_second_clock get_second_clock
+  unfolding get_second_clock
+  get_second_clock-same = record { go = λ s t st. inr (tt, ap (λ w. w.second_clock) st.world, st); stay = λ s o. (tt, o) }
+
+  pub get_millisecond_clock-same : SameAnswer sim get_millisecond_clock get_millisecond_clock
+  unfolding get_millisecond_clock
+  get_millisecond_clock-same = record { go = λ s t st. inr (tt, ap (λ w. w.millisecond_clock) st.world, st); stay = λ s o. (tt, o) }
+
+  changed_same : (c : Change) (s : State H) (t : State K) (b : Bool) → AllLive sim.live (named_by c) → StateSame sim s t → all_there M s.memory (named_by c) ≡ b
+      → TransitionSame sim Anything itself (world_changed c s b) (world_changed (renamed_change sim.name c) t b)
+  unfolding world_changed
+  changed_same c s t false h st e = inl refl
+  changed_same c s t true h st e =
       let r = st.roots in
       let k = st.there in
-      let d = values_there sim s.memory t.memory (device_roots w.devices) st.memory e in
+      let there = values_there sim s.memory t.memory (named_by c) st.memory e in
+      let known = changed_live (sim.there s.memory) c s.world there (device_part _ (head_roots s.head) _ k.1.1.1.1) in
+      let live = changed_live sim.live c s.world h (device_part _ (head_roots s.head) _ r.1.1.1.1) in
       inr (
         tt,
         refl,
         record {
           memory = st.memory;
           limits = st.limits;
-          there = (k.0, (k.1.0, (k.1.1.0, (k.1.1.1.0, with_devices _ (head_roots s.head) _ _ k.1.1.1.1 d))));
-          roots = (r.0, (r.1.0, (r.1.1.0, (r.1.1.1.0, with_devices _ (head_roots s.head) _ _ r.1.1.1.1 h))));
+          there = (k.0, (k.1.0, (k.1.1.0, (k.1.1.1.0, with_devices _ (head_roots s.head) _ _ k.1.1.1.1 known))));
+          roots = (r.0, (r.1.0, (r.1.1.0, (r.1.1.1.0, with_devices _ (head_roots s.head) _ _ r.1.1.1.1 live))));
           registers = st.registers;
-          world = refl;
+          world = ap (changed_world (renamed_change sim.name c)) st.world ∙ changed-renamed sim.name c s.world;
           head = st.head;
         },
       )
 
-  world_set_over : (w : World) (s : State H) (b : Bool) → sim.over s.memory → StaysOver sim Anything (world_set w s b)
-  unfolding world_set
-  world_set_over w s false o = tt
-  world_set_over w s true o = (tt, o)
+  changed_over : (c : Change) (s : State H) (b : Bool) → sim.over s.memory → StaysOver sim Anything (world_changed c s b)
+  unfolding world_changed
+  changed_over c s false o = tt
+  changed_over c s true o = (tt, o)
 
-  devices-renamed : (w : World) → device_roots (renamed_world sim.name w).devices ≡ renamed_all sim.name (device_roots w.devices)
-  devices-renamed w = refl
-
-  set_world_one-same : (w : World) → IsLiveWorld sim.live w → SameAnswer sim (set_world M w) (set_world N (renamed_world sim.name w))
-  unfolding set_world
-  set_world_one-same w h = record {
-    go = λ s t st. rw (all_there-renamed sim s.memory t.memory (device_roots w.devices) st.memory h) (world_set-same w s t _ h st refl);
-    stay = λ s o. world_set_over w s _ o;
+  change_world_one-same : (c : Change) → AllLive sim.live (named_by c) → SameAnswer sim (change_world M c) (change_world N (renamed_change sim.name c))
+  unfolding change_world
+  change_world_one-same c h = record {
+    go = λ s t st. rw (named-renamed sim.name c, all_there-renamed sim s.memory t.memory (named_by c) st.memory h) (changed_same c s t _ h st refl);
+    stay = λ s o. changed_over c s _ o;
   }
 
-  pub set_world-same : (w u : World) → WorldSame sim w u → SameAnswer sim (set_world M w) (set_world N u)
-  set_world-same w u h = rw h.is (set_world_one-same w h.live)
+  pub change_world-same : (c d : Change) → ChangeSame sim c d → SameAnswer sim (change_world M c) (change_world N d)
+  change_world-same c d h = rw h.is (change_world_one-same c h.live)
 
   pub get_free-same : SameAnswer sim (get_free M) (get_free N)
   unfolding get_free
@@ -481,7 +534,7 @@ module _ {H K : Type 0} {M : ObjectMemory H} {N : ObjectMemory K} (sim : Simulat
   integer_or_die-same (Small n) w h = rw h.is (search steps_same)
   integer_or_die-same (Ref n) w h = rw h.is (search steps_same)
 
-  pub ruleset memory_same = (steps_same, get_active-same, get_home-same, get_method-same, get_receiver-same, get_ip-same, get_sp-same, set_ip-same, set_sp-same, object-same, set_field-same, set_units-same, exchange-same, make-same, set_registers-same, get_world-same, set_world-same, get_free-same, object_at-same, next_instance-same, of_page-same, check-same, value_or_die-same, itself_or_die-same, integer_or_die-same)
+  pub ruleset memory_same = (steps_same, get_active-same, get_home-same, get_method-same, get_receiver-same, get_ip-same, get_sp-same, set_ip-same, set_sp-same, object-same, set_field-same, set_units-same, exchange-same, make-same, set_registers-same, get_device-same, newest_signal-same, count_signals-same, oldest_word-same, count_words-same, get_mouse_x-same, get_mouse_y-same, get_second_clock-same, get_millisecond_clock-same, change_world-same, get_free-same, object_at-same, next_instance-same, of_page-same, check-same, value_or_die-same, itself_or_die-same, integer_or_die-same)
 
   -- fields
 

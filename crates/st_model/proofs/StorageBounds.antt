@@ -4,7 +4,6 @@ use Rattle.std.proofs.Common.{◌≡◌, ℕ, List, [], ◌∷◌, ◌++◌, Non
 use Rattle.std.specs.Prelude.{codes, length}
 use Rattle.st_model.specs.declared.kind.Kind.TheVariants as kind
 use Rattle.st_model.specs.declared.dead.Dead.TheVariants as dead
-use Rattle.st_model.specs.declared.call.Performing.TheVariants.{Allowed}
 use Rattle.st_model.specs.Values.{Value, Small, Ref}
 use Rattle.st_model.specs.Objects.{Object, nil}
 use Rattle.st_model.specs.Machine.{State, Transition, Died, Went}
@@ -21,7 +20,7 @@ use Rattle.st_model.proofs.StorageRows.{pointers, words, bytes, method, large, s
 -- a method of this primitive is executed with n arguments, where these words are the stack
 executing : ℕ → ℕ → List Value → List (Option Object) → Transition (State Table) StepEnd
 unfolding state objects
-executing k n stack others = (respond table Allowed (record { method = nil; arguments = n }) (Small 0) k).run (state (length stack) (objects None stack others))
+executing k n stack others = (respond table (record { method = nil; arguments = n }) (Small 0) k).run (state (length stack) (objects None stack others))
 
 -- what a trial that succeeded is to a step; one that failed is none
 succeeded : Transition (State Table) Bool → Transition (State Table) StepEnd

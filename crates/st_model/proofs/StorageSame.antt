@@ -24,16 +24,16 @@ module _ {H K : Type 0} {M : ObjectMemory H} {N : ObjectMemory K} (sim : Simulat
   unfolding check_class
   check_class-same v w q h = search parts_same depth 24 fits 4000
 
-  check_bytes-same : (v w : Value) → ValueSame sim v w → SameAnswer sim (check_bytes M v) (check_bytes N w)
+  pub check_bytes-same : (v w : Value) → ValueSame sim v w → SameAnswer sim (check_bytes M v) (check_bytes N w)
   unfolding check_bytes
   check_bytes-same v w h = search parts_same depth 24 fits 4000
 
-  bits_or_die-same : (v w : Value) → ValueSame sim v w → SameAnswer sim (bits_or_die v) (bits_or_die w)
+  pub bits_or_die-same : (v w : Value) → ValueSame sim v w → SameAnswer sim (bits_or_die v) (bits_or_die w)
   unfolding bits_or_die
   bits_or_die-same (Small n) w h = rw h.is (search steps_same)
   bits_or_die-same (Ref n) w h = rw h.is (search steps_same)
 
-  positive_small-same : (v w : Value) → ValueSame sim v w → SameAnswer sim (positive_small v) (positive_small w)
+  pub positive_small-same : (v w : Value) → ValueSame sim v w → SameAnswer sim (positive_small v) (positive_small w)
   unfolding positive_small
   positive_small-same v w h = search (parts_same, bits_or_die-same) depth 24 fits 4000
 
@@ -45,7 +45,7 @@ module _ {H K : Type 0} {M : ObjectMemory H} {N : ObjectMemory K} (sim : Simulat
   unfolding large_value
   large_value-same v w h = search (parts_same, check_class-same, check_bytes-same) depth 32 fits 4000
 
-  positive_value-same : (v w : Value) → ValueSame sim v w → SameAnswer sim (positive_value M v) (positive_value N w)
+  pub positive_value-same : (v w : Value) → ValueSame sim v w → SameAnswer sim (positive_value M v) (positive_value N w)
   unfolding positive_value
   positive_value-same (Small n) w h = rw h.is (positive_small-same (Small n) (Small n) (record { live = tt; is = refl }))
   positive_value-same (Ref n) w h = rw h.is (large_value-same (Ref n) (Ref (sim.name n)) (record { live = h.live; is = refl }))
@@ -239,7 +239,7 @@ module _ {H K : Type 0} {M : ObjectMemory H} {N : ObjectMemory K} (sim : Simulat
 
 -- effects
 module _ {H K : Type 0} {M : ObjectMemory H} {N : ObjectMemory K} (sim : Simulation M N) (makes : sim.makes) where
-  number-same : (k : ℕ) → SameValue sim (number M k) (number N k)
+  pub number-same : (k : ℕ) → SameValue sim (number M k) (number N k)
   unfolding number new_large
   number-same k = search parts_same depth 24 fits 4000
 

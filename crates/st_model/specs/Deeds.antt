@@ -1,6 +1,6 @@
 -- What a primitive leaves to be done: a change of an object's words or bytes, or of a Method's header or literals, in the table;
 -- or one of what lies round the machine.
-use Rattle.std.specs.Prelude.{ℕ, suc, ◌+◌, ◌-◌, ◌==◌, List, [], ◌∷◌, Option, Some, None, Bool, true, false, ◌&&◌, nat_lt, nat_le, if◌then◌else◌, slice_get, take, drop}
+use Rattle.std.specs.Prelude.{ℕ, suc, ◌+◌, ◌-◌, ◌==◌, List, [], ◌∷◌, Option, Some, None, Bool, true, false, ◌&&◌, nat_lt, nat_le, if◌then◌else◌, slice_get, take, drop, length}
 use Rattle.st_model.specs.declared.deed.Deed.{Deed}
 use Rattle.st_model.specs.declared.deed.Deed.TheVariants.{Nothing, StoreWord, StoreByte, StoreNumber, ReplaceBytes, StoreHeader, StoreLiteral, StoreTime, Hold, SetTimer, RingTimer, SetLowSpace, MoveMouse, TakeWord}
 use Rattle.st_model.specs.declared.outcome.StepEnd.{StepEnd as CodeStepEnd}
@@ -85,7 +85,7 @@ deed_done (TakeWord o k) t = changed_by (bytes_stored 0 (bytes_of_number k)) t (
 abbrev pub changed_twice : Change → Change → World → World
 changed_twice c d w = changed_world d (changed_world c w)
 
--- the world once a deed is done; what isn't there is not held
+-- the world once a deed is done; what isn't there is not held, and what there is no room for is not done
 abbrev pub world_done : Deed → Table → World → World
 world_done Nothing t w = w
 world_done (StoreWord o i x) t w = w
@@ -99,19 +99,23 @@ world_done (Hold d o) t w = if is_there table t (word o) then changed_world (sur
 world_done (SetTimer s due) t w =
     if is_there table t (word s) then changed_twice (surroundings.Hold device.Timer (word s)) (surroundings.SetDue due) w else w
 world_done (RingTimer s) t w =
-    if is_there table t (word s) then changed_twice (surroundings.AddSignal (word s)) (surroundings.Hold device.Timer nil) w else w
+    if is_there table t (word s) && nat_lt (length w.devices.pending) 4096 then changed_twice (surroundings.AddSignal (word s)) (surroundings.Hold device.Timer nil) w else w
 world_done (SetLowSpace s entries words) t w =
     if is_there table t (word s) then changed_twice (surroundings.Hold device.LowSpace (word s)) (surroundings.SetLow entries words) w else w
-world_done (MoveMouse x y) t w = changed_world (surroundings.MoveMouse x y) w
+world_done (MoveMouse x y) t w = if nat_le x 16383 && nat_le y 16383 then changed_world (surroundings.MoveMouse x y) w else w
 world_done (TakeWord o k) t w = changed_world surroundings.TakeWord w
 
 -- the state with a change of its table
 abbrev pub over : (Table → Table) → State Table → State Table
 over g s = record s { memory = g s.memory }
 
+-- the state with a change of its table, and with one of its world that looks at the table
+abbrev pub over_both : (Table → Table) → (Table → World → World) → State Table → State Table
+over_both g u s = record s { memory = g s.memory; world = u s.memory s.world }
+
 -- the state in which a deed is done besides
 abbrev pub with_deed : Deed → State Table → State Table
-with_deed d s = record (over (deed_done d) s) { world = world_done d s.memory s.world }
+with_deed d s = over_both (deed_done d) (world_done d) s
 
 -- what the end of a step of the code leaves to be done
 abbrev pub deed_of_end : CodeStepEnd → Deed

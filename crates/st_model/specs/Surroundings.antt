@@ -47,14 +47,11 @@ pub data Change : Type 0 where
   SetSecondClock : ℕ → Change
   SetMillisecondClock : ℕ → Change
 
-abbrev pub with_devices : Devices → World → World
-with_devices d w = record w { devices = d }
-
 -- what a change makes of the world
 abbrev pub changed_world : Change → World → World
-changed_world (Hold d v) w = with_devices (holding w.devices d v) w
-changed_world (AddSignal v) w = with_devices (record w.devices { pending = w.devices.pending ++ v ∷ [] }) w
-changed_world TakeSignal w = with_devices (record w.devices { pending = take (length w.devices.pending - 1) w.devices.pending }) w
+changed_world (Hold d v) w = record w { devices = holding w.devices d v }
+changed_world (AddSignal v) w = record w { devices = record w.devices { pending = w.devices.pending ++ v ∷ [] } }
+changed_world TakeSignal w = record w { devices = record w.devices { pending = take (length w.devices.pending - 1) w.devices.pending } }
 changed_world (SetDue t) w = record w { timer_due = t }
 changed_world (SetLow entries words) w = record w { low_entries = entries; low_words = words }
 changed_world (MoveMouse x y) w = record w { mouse_x = x; mouse_y = y }

@@ -63,7 +63,7 @@ pub enum Deed {
         semaphore: Word,
         due: u32,
     },
-    /// The semaphore's signal is pending, and the timer is let go.
+    /// The semaphore's signal is pending, and the timer is let go, where fewer than 4096 signals are pending.
     RingTimer {
         semaphore: Word,
     },
@@ -73,7 +73,7 @@ pub enum Deed {
         entries: u32,
         words: u32,
     },
-    /// The mouse is moved to this place, from the left and from the top.
+    /// The mouse is moved to this place, from the left and from the top, where both are at most 16383.
     MoveMouse {
         x: u16,
         y: u16,
