@@ -190,8 +190,8 @@ module _ (a : Head) where
     over_append = λ t o v. stays_beyond t o v;
   }
 
-states_start : (c : State Table) → StateSame (bounded_simulation c.head) c c
-states_start c = record {
+pub bounded_start : (c : State Table) → StateSame (bounded_simulation c.head) c c
+bounded_start c = record {
   memory = refl;
   limits = refl;
   there = any_values (roots_of c);
@@ -201,7 +201,7 @@ states_start c = record {
   head = sym (head-itself c.head);
 }
 
-state_is : (a : Head) (d e : State Table) → StateSame (bounded_simulation a) d e → e ≡ d
+pub state_is : (a : Head) (d e : State Table) → StateSame (bounded_simulation a) d e → e ≡ d
 state_is a d e s =
     let r = s.registers ∙ registers-itself d.registers in
     let w = s.world ∙ world-itself d.world in
@@ -217,5 +217,5 @@ same_within a o d (Went p e) (inr h) f = let x = h.1 ∙ end-itself o in let y =
 -- a step that stays within the capacities is done the same where the table is bounded
 pub bounded_same : (c d : State Table) (o : StepEnd) → (step table).run c ≡ Went o d → is_over (used table d.memory) c.head ≡ false → (step bounded_table).run c ≡ Went o d
 bounded_same c d o e f =
-    let s = (step-same (bounded_simulation c.head) tt).go c c (states_start c) in
+    let s = (step-same (bounded_simulation c.head) tt).go c c (bounded_start c) in
     same_within c.head o d ((step bounded_table).run c) (rw e at s) f

@@ -197,14 +197,23 @@ both_true true c e = refl
 both_true false c e = cc
 
 module _ (a : Head) (few : a.entries ≤ 32767) where
-  places_placed : (t : Table) (o : Object) → length t ≡ 32768 → has_room bounded_table a t o ≡ true → length (placed t o) ≡ 32768
+  pub places_placed : (t : Table) (o : Object) → length t ≡ 32768 → has_room bounded_table a t o ≡ true → length (placed t o) ≡ 32768
   places_placed t o l g =
       let b : nat_le (total_used one t + 1) a.entries ≡ true = both_true _ _ g in
       let m : total_used one t + 1 ≤ a.entries = grind (arith, nat_tests) in
       length-placed t o (omega arith) (omega arith) ∙ l
 
-  -- what a step of a sound state leaves
+  -- a sound table beside itself
+  abbrev pub sound_simulation : Simulation bounded_table bounded_table
+  sound_simulation = closed_simulation true a (λ t. length t ≡ 32768) (λ t n x p. length-changed t n x ∙ p) places_placed
+
+  -- a step that does the same beside itself leaves sound what was
+  pub stays_sound : {A : Type 0} (Q : A → Type 0) (r : A → A) (m : Step Table A) → Same sound_simulation Q r m m
+      → (c d : State Table) (x : A) → IsSound c → c.head ≡ a → m.run c ≡ Went x d → IsSound d × (d.head ≡ a)
+  stays_sound Q r m same c d x k f e =
+      let s = stays_closed true a (λ t. length t ≡ 32768) (λ t n x p. length-changed t n x ∙ p) places_placed Q r m same c d x k.closed k.places f e in
+      (record { places = s.1; closed = s.0 }, s.2)
+
+  -- so does the next bytecode
   pub step_sound : (c d : State Table) (o : StepEnd) → IsSound c → c.head ≡ a → (step bounded_table).run c ≡ Went o d → IsSound d × (d.head ≡ a)
-  step_sound c d o k f e =
-      let r = step_stays a (λ t. length t ≡ 32768) (λ t n x p. length-changed t n x ∙ p) places_placed c d o k.closed k.places f e in
-      (record { places = r.1; closed = r.0 }, r.2)
+  step_sound c d o k f e = stays_sound _ _ (step bounded_table) (step-same sound_simulation tt) c d o k f e

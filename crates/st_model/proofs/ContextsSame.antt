@@ -86,7 +86,7 @@ module _ {H K : Type 0} {M : ObjectMemory H} {N : ObjectMemory K} (sim : Simulat
   unfolding fetch_scheduled_registers scheduled_context
   fetch_scheduled_registers-same = search (parts_same, fetch_context_registers-same) depth 24 fits 4000
 
-  store_context_registers-same : SameAnswer sim (store_context_registers M) (store_context_registers N)
+  pub store_context_registers-same : SameAnswer sim (store_context_registers M) (store_context_registers N)
   unfolding store_context_registers
   store_context_registers-same = search parts_same depth 20 fits 4000
 

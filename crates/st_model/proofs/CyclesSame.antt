@@ -4,8 +4,8 @@ use Rattle.st_model.specs.Values.{Value, renamed}
 use Rattle.st_model.specs.Machine.{ObjectMemory}
 use Rattle.st_model.specs.Cycles.{signal_if_any, signal_newest, switch_unless_nil, switch_if_waiting, check_process_switch}
 use Rattle.st_model.specs.Saving.{store_process}
-use Rattle.st_model.proofs.Same.{Simulation, ValueSame, OptionalSame, SameAnswer, steps_same}
-use Rattle.st_model.proofs.StepsSame.{parts_same}
+use Rattle.st_model.proofs.Same.{Simulation, ValueSame, OptionalSame, SameAnswer, then_option-same, then_unit-same, steps_same}
+use Rattle.st_model.proofs.StepsSame.{newest_signal-same, parts_same}
 use Rattle.st_model.proofs.ContextsSame.{store_context_registers-same, fetch_scheduled_registers-same}
 use Rattle.st_model.proofs.ProcessesSame.{scheduled_process-same, signal-same, switch_to_process-same}
 
@@ -20,7 +20,7 @@ module _ {H K : Type 0} {M : ObjectMemory H} {N : ObjectMemory K} (sim : Simulat
   signal_newest-same : (n : ℕ) → SameAnswer sim (signal_newest M n) (signal_newest N n)
   unfolding signal_newest
   signal_newest-same zero = search steps_same
-  signal_newest-same (suc n) = search (parts_same, signal_if_any-same, signal_newest-same n) depth 16 fits 4000
+  signal_newest-same (suc n) = then_option-same sim _ _ _ _ _ _ (newest_signal-same sim) (λ a b h. then_unit-same sim _ _ _ _ _ _ (signal_if_any-same a b h) (signal_newest-same n))
 
   switch_unless_nil-same : (v w : Value) (b c : Bool) → ValueSame sim v w → c ≡ b → SameAnswer sim (switch_unless_nil M v b) (switch_unless_nil N w c)
   unfolding switch_unless_nil

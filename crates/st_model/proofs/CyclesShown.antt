@@ -14,8 +14,8 @@ use Rattle.st_model.specs.Table.{Table, table, apart, bounded_table, entry}
 use Rattle.st_model.specs.Show.{Shows, IsClosed, IsUsed, IsKept}
 use Rattle.st_model.specs.Settled.{Reclaimed, with_memory, settled_set, reclaim}
 use Rattle.st_model.specs.Calls.{itself}
-use Rattle.st_model.specs.Cycles.{less, capacity_of, free_space, made_between, byte_answered, next_code, ended, done_or_not, cycle, and_on, run_of, run, counted, finished_of, finished}
-use Rattle.st_model.specs.Foreseen.{done, done_if_room, foreseen, foreseen_cycle, IsSound, EndsShown, Foretells, DoesAsBirths}
+use Rattle.st_model.specs.Cycles.{less, capacity_of, free_space, made_between, byte_answered, next_code, check_process_switch, warned, ended, done_or_not, cycle_from, cycle, and_on, run_of, run, counted, finished_of, finished}
+use Rattle.st_model.specs.Foreseen.{done, done_if_room, foreseen, foreseen_from, foreseen_cycle, IsSound, ShownAgain, EndsShown, Foretells, DoesAsBirths}
 use Rattle.st_model.proofs.Same.{StateSame, TransitionSame, Anything, IsLiveEnd, renamed_end}
 use Rattle.st_model.proofs.StepsSame.{next_byte-same}
 use Rattle.st_model.proofs.BytecodesSame.{step-same}
@@ -24,7 +24,10 @@ use Rattle.st_model.proofs.BirthLemmas.{borne_before}
 use Rattle.st_model.proofs.SettledLemmas.{some_is}
 use Rattle.st_model.proofs.HeapsSame.{Naming, cycle_simulation, same_used}
 use Rattle.st_model.proofs.Started.{naming, states_start, heaps_start}
-use Rattle.st_model.proofs.Ended.{reclaimed}
+use Rattle.st_model.proofs.Reclaimed.{went_step}
+use Rattle.st_model.proofs.Outside.{warned_shown, warned_sound}
+use Rattle.st_model.proofs.CyclesSame.{check_process_switch-same}
+use Rattle.st_model.proofs.Between.{shows_again, keeps_sound}
 use Rattle.st_model.proofs.HeapsApart.{apart_simulation, states_apart, used_apart}
 use Rattle.st_model.proofs.Bounded.{bounded_same}
 use Rattle.st_model.proofs.Closed.{step_sound}
@@ -33,51 +36,9 @@ use Rattle.st_model.proofs.Reclaiming.{reclaim_sound, reclaim_head}
 use Rattle.st_model.proofs.OnTop.{outcome_stays}
 use Rattle.st_model.proofs.SettledIs.{settled_is, settled_once}
 
-births_finite : (s : State Births) (n : ℕ) → IsTrue (births.kept s.memory n) → n < length s.memory
-births_finite s n h = let p = some_is (borne s.memory n) h in borne_before s.memory n p.0 p.1
-
-pub table_finite_in : (t : Table) (k : ℕ) → IsTrue (table.kept t k) → k < length t
-table_finite_in t k h = let o = some_is (entry t k) h in entry_before t k o.0 o.1
-
-reclaimed_is : (u t : State Births) → Reclaimed births u t → t ≡ reclaim births u
-unfolding reclaim
-reclaimed_is u t r =
-    let e : r.set ≡ settled_set births u.memory (roots_of u) = fun_ext (settled_once births u.memory (roots_of u) r.set (settled_set births u.memory (roots_of u)) r.is_settled (settled_is births u.memory (roots_of u) (births_finite u))) in
-    r.is ∙ ap (λ set. with_memory u (settled_births u.memory set)) e
-
-reclaim_table : (c : State Table) → Reclaimed table c (reclaim table c)
-unfolding reclaim
-reclaim_table c = record { set = settled_set table c.memory (roots_of c); is_settled = settled_is table c.memory (roots_of c) (table_finite_in c.memory); is = refl }
-
--- an outcome's name is the pointer of what it names, which is kept
-value_shown : (w : Naming) (d : State Table) (t : State Births) (v : Value)
-    → ((n : ℕ) → w.live n → IsUsed d.memory (w.name n) → (w.name n ≡ pointer_of t.memory n) × IsKept t.memory n)
-    → IsLive w.live v → IsLive (IsUsed d.memory) (renamed w.name v) → (renamed w.name v ≡ renamed (pointer_of t.memory) v) × IsLive (IsKept t.memory) v
-value_shown w d t (Small n) f l u = (refl, tt)
-value_shown w d t (Ref n) f l u = let k = f n l u in (ap (λ x. Ref x) k.0, k.1)
-
-outcome_shown : (w : Naming) (d : State Table) (t : State Births) (o : Outcome)
-    → ((n : ℕ) → w.live n → IsUsed d.memory (w.name n) → (w.name n ≡ pointer_of t.memory n) × IsKept t.memory n)
-    → IsLiveOutcome w.live o → IsLiveOutcome (IsUsed d.memory) (renamed_outcome w.name o)
-    → (renamed_outcome w.name o ≡ renamed_outcome (pointer_of t.memory) o) × IsLiveOutcome (IsKept t.memory) o
-outcome_shown w d t outcome.Went f l u = (refl, tt)
-outcome_shown w d t outcome.Snapshot f l u = (refl, tt)
-outcome_shown w d t outcome.Quit f l u = (refl, tt)
-outcome_shown w d t outcome.Debugger f l u = (refl, tt)
-outcome_shown w d t (outcome.Say v) f l u = let k = value_shown w d t v f l u in (ap (λ x. outcome.Say x) k.0, k.1)
-
--- a step that went is followed by reclaiming
-went_step : (w : Naming) (d : State Table) (u : State Births) (o : Outcome) → StateSame (cycle_simulation w) u d → IsLiveOutcome w.live o → IsClosed (reclaim table d)
-    → IsLiveOutcome (IsUsed (reclaim table d).memory) (renamed_outcome w.name o)
-    → (renamed_outcome w.name o ≡ renamed_outcome (pointer_of (reclaim births u).memory) o) × Shows (reclaim table d) (reclaim births u) × IsLiveOutcome (IsKept (reclaim births u).memory) o
-went_step w d u o same live closed used =
-    let r = reclaimed w u d same (reclaim table d) (reclaim_table d) closed in
-    let e = reclaimed_is u r.0 r.1 in
-    let k = outcome_shown w (reclaim table d) r.0 o r.3 live used in (
-      subst (λ (t : State Births). renamed_outcome w.name o ≡ renamed_outcome (pointer_of t.memory) o) e k.0,
-      subst (λ t. Shows (reclaim table d) t) e r.2,
-      subst (λ (t : State Births). IsLiveOutcome (IsKept t.memory) o) e k.1,
-    )
+-- what a bytecode leaves that is done from here is sound once it is reclaimed, and what its outcome names is still there
+abbrev LeavesSound : State Table → Type 0
+LeavesSound c = (o : Outcome) (d : State Table) → (step bounded_table).run c ≡ Went (Did o) d → IsSound (reclaim table d) × IsLiveOutcome (IsUsed (reclaim table d).memory) o
 
 module _ (c : State Table) (s : State Births) (w : Shows c s) (places : length c.memory ≡ 32768) where
   -- foreseeing
@@ -154,24 +115,24 @@ module _ (c : State Table) (s : State Births) (w : Shows c s) (places : length c
       (ap (λ x. Space x (free_space table c)) m ∙ ap (λ x. Space (made_between births s u) x) g, w, tt)
 
   within_space : (o : Outcome) (d : State Table) (u : State Births) → (step births).run s ≡ Went (Did o) u → is_over (used births u.memory) s.head ≡ false
-      → ((e : Outcome) (x : State Table) → done_if_room c d false ≡ Went (With e) x → IsSound x × IsLiveOutcome (IsUsed x.memory) e)
+      → LeavesSound c
       → EndsShown (done_if_room c d false) (done_or_not births s o u false)
   within_space o d u e f k =
       let does = does_as_births o u e f in
-      let q : done_if_room c d false ≡ Went (With does.outcome) (reclaim table does.state) = ap (done c) does.does in
-      let sound = k does.outcome (reclaim table does.state) q in
+      let q : done_if_room c d false ≡ Went (With does.outcome) (warned table (reclaim table does.state)) = ap (done c) does.does in
+      let sound = k does.outcome does.state does.does in
       let shown = does.shows sound.0.closed sound.1 in
-      rw q (ap (λ x. With x) shown.0, shown.1, shown.2)
+      rw q (ap (λ x. With x) shown.0, warned_shown (reclaim table does.state) (reclaim births u) shown.1, shown.2)
 
   with_room : (o : Outcome) (d : State Table) (u : State Births) (b : Bool) → (step births).run s ≡ Went (Did o) u → used apart d.memory ≡ used births u.memory
       → is_over (used births u.memory) s.head ≡ b
-      → ((e : Outcome) (x : State Table) → done_if_room c d b ≡ Went (With e) x → IsSound x × IsLiveOutcome (IsUsed x.memory) e)
+      → LeavesSound c
       → EndsShown (done_if_room c d b) (done_or_not births s o u b)
   with_room o d u true e q f k = no_space d u q
   with_room o d u false e q f k = within_space o d u e f k
 
   cycle_ends : (o : Transition (State Births) StepEnd) (p : Transition (State Table) StepEnd) → (step births).run s ≡ o → Foretells p o
-      → ((e : Outcome) (x : State Table) → foreseen c p ≡ Went (With e) x → IsSound x × IsLiveOutcome (IsUsed x.memory) e)
+      → LeavesSound c
       → EndsShown (foreseen c p) (ended births s o)
   cycle_ends (Died a) (Died b) e h k = h
   cycle_ends (Died a) (Went p d) e h k = absurd h
@@ -182,11 +143,10 @@ module _ (c : State Table) (s : State Births) (w : Shows c s) (places : length c
   cycle_ends (Went (Did o) u) (Went (Did p) d) e h k =
       let t : is_over (used apart d.memory) c.head ≡ is_over (used births u.memory) s.head = ap (λ x. is_over x c.head) h.1 ∙ heads_alike (used births u.memory) in
       subst (λ b. EndsShown (done_if_room c d b) (done_or_not births s o u (is_over (used births u.memory) s.head))) (sym t)
-      (with_room o d u (is_over (used births u.memory) s.head) e h.1 refl (λ x y z. k x y (ap (done_if_room c d) t ∙ z)))
+      (with_room o d u (is_over (used births u.memory) s.head) e h.1 refl k)
 
-  pub cycle_shown : ((e : Outcome) (x : State Table) → foreseen_cycle c ≡ Went (With e) x → IsSound x × IsLiveOutcome (IsUsed x.memory) e) → EndsShown (foreseen_cycle c) (cycle births s)
-  unfolding foreseen_cycle cycle
-  cycle_shown k = cycle_ends ((step births).run s) ((step apart).run c) refl foretells k
+  pub bytecode_shown : LeavesSound c → EndsShown (foreseen c ((step apart).run c)) (ended births s ((step births).run s))
+  bytecode_shown k = cycle_ends ((step births).run s) ((step apart).run c) refl foretells k
 
 -- a run
 
@@ -211,39 +171,71 @@ run_step n (Went a c) (Went b s) h f = rw h.0 (on_step b h f)
 
 -- what a cycle leaves that was done is sound, as what it began with was
 
+step_leaves : (c d : State Table) (o : Outcome) → IsSound c → c.head.entries ≤ 32767 → (step bounded_table).run c ≡ Went (Did o) d
+    → IsSound (reclaim table d) × ((reclaim table d).head ≡ c.head) × IsLiveOutcome (IsUsed (reclaim table d).memory) o
+step_leaves c d o p l e =
+    let r = step_sound c.head l c d (Did o) p refl e in
+    let live = outcome_stays d r.0.closed o (λ v q. step_names_top c d v (e ∙ ap (λ (y : Outcome). Went (Did y) d) q)) in
+    (reclaim_sound d r.0, reclaim_head d ∙ r.1, live)
+
+leaves_sound : (c : State Table) → IsSound c → c.head.entries ≤ 32767 → LeavesSound c
+leaves_sound c p l o d e = let r = step_leaves c d o p l e in (r.0, r.2)
+
 sound_done : (c x : State Table) (o : Outcome) (q : Transition (State Table) StepEnd) → IsSound c → c.head.entries ≤ 32767 → (step bounded_table).run c ≡ q → done c q ≡ Went (With o) x
-    → IsSound x × (x.head ≡ c.head) × IsLiveOutcome (IsUsed x.memory) o
+    → IsSound x × (x.head ≡ c.head)
 sound_done c x o (Died k) p l e f = cc
 sound_done c x o (Went NotBuilt d) p l e f = cc
 sound_done c x o (Went (Did a) d) p l e f =
-    let r = step_sound c.head l c d (Did a) p refl e in
-    let g : reclaim table d ≡ x = cc in
-    let h : a ≡ o = cc in
-    let live = outcome_stays d r.0.closed a (λ v q. step_names_top c d v (e ∙ ap (λ (y : Outcome). Went (Did y) d) q)) in (
-      subst IsSound g (reclaim_sound d r.0),
-      sym (ap (λ (y : State Table). y.head) g) ∙ (reclaim_head d ∙ r.1),
-      subst (λ (y : Outcome). IsLiveOutcome (IsUsed x.memory) y) h (subst (λ (y : State Table). IsLiveOutcome (IsUsed y.memory) a) g live),
+    let r = step_leaves c d a p l e in
+    let g : warned table (reclaim table d) ≡ x = cc in (
+      subst IsSound g (warned_sound (reclaim table d) r.0),
+      sym (ap (λ (y : State Table). y.head) g) ∙ r.1,
     )
 
-sound_if_room : (c d x : State Table) (o : Outcome) (b : Bool) → IsSound c → c.head.entries ≤ 32767 → done_if_room c d b ≡ Went (With o) x → IsSound x × (x.head ≡ c.head) × IsLiveOutcome (IsUsed x.memory) o
+sound_if_room : (c d x : State Table) (o : Outcome) (b : Bool) → IsSound c → c.head.entries ≤ 32767 → done_if_room c d b ≡ Went (With o) x → IsSound x × (x.head ≡ c.head)
 sound_if_room c d x o true p l e = cc
 sound_if_room c d x o false p l e = sound_done c x o ((step bounded_table).run c) p l refl e
 
-sound_foreseen : (c x : State Table) (o : Outcome) (q : Transition (State Table) StepEnd) → IsSound c → c.head.entries ≤ 32767 → foreseen c q ≡ Went (With o) x
-    → IsSound x × (x.head ≡ c.head) × IsLiveOutcome (IsUsed x.memory) o
+sound_foreseen : (c x : State Table) (o : Outcome) (q : Transition (State Table) StepEnd) → IsSound c → c.head.entries ≤ 32767 → foreseen c q ≡ Went (With o) x → IsSound x × (x.head ≡ c.head)
 sound_foreseen c x o (Died k) p l e = cc
 sound_foreseen c x o (Went NotBuilt d) p l e = cc
 sound_foreseen c x o (Went (Did a) d) p l e = sound_if_room c d x o (is_over (used apart d.memory) c.head) p l e
 
-sound_cycle : (c x : State Table) (o : Outcome) → IsSound c → c.head.entries ≤ 32767 → foreseen_cycle c ≡ Went (With o) x → IsSound x × (x.head ≡ c.head) × IsLiveOutcome (IsUsed x.memory) o
+-- what comes before the bytecode leaves a sound table too
+switch_sound : (c d : State Table) (u : Unit {0}) → IsSound c → c.head.entries ≤ 32767 → (check_process_switch bounded_table).run c ≡ Went u d → IsSound d × (d.head ≡ c.head)
+switch_sound c d u p l e = keeps_sound (λ H m. check_process_switch m) (λ H K M N sim. check_process_switch-same sim) c d p l e
+
+few_later : (c d : State Table) → c.head.entries ≤ 32767 → d.head ≡ c.head → d.head.entries ≤ 32767
+few_later c d l e = subst (λ (a : Head). a.entries ≤ 32767) (sym e) l
+
+sound_from : (c x : State Table) (o : Outcome) (q : Transition (State Table) (Unit {0})) → IsSound c → c.head.entries ≤ 32767 → (check_process_switch bounded_table).run c ≡ q → foreseen_from q ≡ Went (With o) x
+    → IsSound x × (x.head ≡ c.head)
+sound_from c x o (Died k) p l e f = cc
+sound_from c x o (Went u d) p l e f =
+    let r = switch_sound c d u p l e in
+    let g = sound_foreseen d x o ((step apart).run d) r.0 (few_later c d l r.1) f in
+    (g.0, g.1 ∙ r.1)
+
+sound_cycle : (c x : State Table) (o : Outcome) → IsSound c → c.head.entries ≤ 32767 → foreseen_cycle c ≡ Went (With o) x → IsSound x × (x.head ≡ c.head)
 unfolding foreseen_cycle
-sound_cycle c x o p l e = sound_foreseen c x o ((step apart).run c) p l e
+sound_cycle c x o p l e = sound_from c x o ((check_process_switch bounded_table).run c) p l refl e
+
+from_shown : (c : State Table) (o : Transition (State Table) (Unit {0})) (p : Transition (State Births) (Unit {0})) → IsSound c → c.head.entries ≤ 32767 → (check_process_switch bounded_table).run c ≡ o
+    → ShownAgain o p → EndsShown (foreseen_from o) (cycle_from births p)
+from_shown c (Died a) (Died b) p l e h = h
+from_shown c (Died a) (Went y t) p l e h = absurd h
+from_shown c (Went x d) (Died b) p l e h = absurd h
+from_shown c (Went x d) (Went y t) p l e h =
+    let r = switch_sound c d x p l e in
+    bytecode_shown d t h.0 r.0.places (leaves_sound d r.0 (few_later c d l r.1))
 
 pub sound_shown : (c : State Table) (s : State Births) → Shows c s → IsSound c → c.head.entries ≤ 32767 → EndsShown (foreseen_cycle c) (cycle births s)
-sound_shown c s w p l = cycle_shown c s w p.places (λ o d e. let r = sound_cycle c d o p l e in (r.0, r.2))
+unfolding foreseen_cycle cycle
+sound_shown c s w p l = from_shown c ((check_process_switch bounded_table).run c) ((check_process_switch births).run s) p l refl
+    (shows_again (λ H m. check_process_switch m) (λ H K M N sim. check_process_switch-same sim) c s w p l)
 
 few_after : (c d : State Table) → IsSound c → c.head.entries ≤ 32767 → foreseen_cycle c ≡ Went (With outcome.Went) d → d.head.entries ≤ 32767
-few_after c d p l e = subst (λ (a : Head). a.entries ≤ 32767) (sym (sound_cycle c d outcome.Went p l e).1) l
+few_after c d p l e = few_later c d l (sound_cycle c d outcome.Went p l e).1
 
 pub run_shown : (n : ℕ) (c : State Table) (s : State Births) → Shows c s → IsSound c → c.head.entries ≤ 32767 → EndsShown (run_of foreseen_cycle n c) (run births n s)
 unfolding run_of run

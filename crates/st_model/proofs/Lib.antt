@@ -29,6 +29,10 @@ pub mod Closed
 pub mod Going
 pub mod Reclaiming
 pub mod OnTop
+pub mod CyclesSame
+pub mod Outside
+pub mod Reclaimed
+pub mod Between
 pub mod CyclesShown
 pub mod Runs
 pub mod Tabular
@@ -51,6 +55,7 @@ pub mod Present
 pub mod PresentSteps
 pub mod ProcessesSure
 pub mod InputSure
+pub mod CyclesSure
 pub mod Made
 pub mod Making
 mod ImageRows
@@ -64,3 +69,5 @@ mod SendRows
 mod ArithmeticRows
 mod StorageRows
 mod StorageBounds
+mod ProcessRows
+mod InputRows

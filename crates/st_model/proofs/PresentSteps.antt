@@ -36,7 +36,7 @@ use Rattle.st_model.proofs.Names.{map_all, map_object}
 use Rattle.st_model.proofs.BirthLemmas.{borne_before, object_within}
 use Rattle.st_model.proofs.Started.{lives}
 use Rattle.st_model.proofs.Present as at
-use Rattle.st_model.proofs.Present.{bare, full, then_value-sure, then_values-sure, then_option-sure, then_object-sure, then_registers-sure, then_call-sure, then_any_call-sure, then_answer-sure, then_unit-sure, if-sure, die-sure, later_value, later_values, later_option, later_object, later_call, small_there, small_integer_there, class_there, field_there, none_there, some_there, no_values_there, values_there, registers_there, method_there, answer_value-sure, answer_values-sure, answer_option-sure, answer_registers-sure, answer_call-sure, answer_some_call-sure, answer_no_call-sure, answer_itself-sure, get_active-sure, get_home-sure, get_method-sure, get_receiver-sure, get_ip-sure, get_sp-sure, set_ip-sure, set_sp-sure, of_page-sure, object_named-sure, object-sure, set_field-sure, make-sure, set_registers-sure, half_word-sure, exchange-sure, set_units-sure, get_device-sure, count_signals-sure, oldest_word-sure, get_mouse_x-sure, get_mouse_y-sure, get_second_clock-sure, get_millisecond_clock-sure, hold_there, add_signal_there, take_signal_there, set_due_there, set_low_there, move_mouse_there, take_word_there, change_world-sure, get_free-sure, object_at-sure, next_instance-sure, tried_value-sure, tried_itself-sure}
+use Rattle.st_model.proofs.Present.{bare, full, then_value-sure, then_values-sure, then_option-sure, then_object-sure, then_registers-sure, then_call-sure, then_any_call-sure, then_answer-sure, then_unit-sure, if-sure, die-sure, later_value, later_values, later_option, later_object, later_call, small_there, small_integer_there, class_there, field_there, none_there, some_there, no_values_there, values_there, registers_there, method_there, answer_value-sure, answer_values-sure, answer_option-sure, answer_registers-sure, answer_call-sure, answer_some_call-sure, answer_no_call-sure, answer_itself-sure, get_active-sure, get_home-sure, get_method-sure, get_receiver-sure, get_ip-sure, get_sp-sure, set_ip-sure, set_sp-sure, of_page-sure, object_named-sure, object-sure, set_field-sure, make-sure, set_registers-sure, half_word-sure, exchange-sure, set_units-sure, get_device-sure, newest_signal-sure, count_signals-sure, oldest_word-sure, get_mouse_x-sure, get_mouse_y-sure, get_second_clock-sure, get_millisecond_clock-sure, hold_there, add_signal_there, take_signal_there, set_due_there, set_low_there, move_mouse_there, take_word_there, change_world-sure, get_free-sure, object_at-sure, next_instance-sure, tried_value-sure, tried_itself-sure}
 
 module _ (o : Object) (lives : ℕ → Type 0) where
   abbrev pub There : ℕ → Value → Type 0
@@ -81,7 +81,7 @@ module _ (o : Object) (lives : ℕ → Type 0) where
   abbrev pub SureAnswer : {A : Type 0} → ℕ → Step Births A → Step Births A → Type 0
   SureAnswer n m m' = at.SureAnswer o lives n m m'
 
-  pub ruleset sures = (then_value-sure, then_values-sure, then_option-sure, then_object-sure, then_registers-sure, then_call-sure, then_any_call-sure, then_answer-sure, then_unit-sure, if-sure, die-sure, later_value, later_values, later_option, later_object, later_call, small_there, small_integer_there, class_there, field_there, none_there, some_there, no_values_there, values_there, registers_there, method_there, answer_value-sure, answer_values-sure, answer_option-sure, answer_registers-sure, answer_call-sure, answer_some_call-sure, answer_no_call-sure, answer_itself-sure, get_active-sure, get_home-sure, get_method-sure, get_receiver-sure, get_ip-sure, get_sp-sure, set_ip-sure, set_sp-sure, of_page-sure, object-sure, set_field-sure, make-sure, set_registers-sure, half_word-sure, exchange-sure, set_units-sure, get_device-sure, count_signals-sure, oldest_word-sure, get_mouse_x-sure, get_mouse_y-sure, get_second_clock-sure, get_millisecond_clock-sure, hold_there, add_signal_there, take_signal_there, set_due_there, set_low_there, move_mouse_there, take_word_there, change_world-sure, get_free-sure, object_at-sure, next_instance-sure, tried_value-sure, tried_itself-sure)
+  pub ruleset sures = (then_value-sure, then_values-sure, then_option-sure, then_object-sure, then_registers-sure, then_call-sure, then_any_call-sure, then_answer-sure, then_unit-sure, if-sure, die-sure, later_value, later_values, later_option, later_object, later_call, small_there, small_integer_there, class_there, field_there, none_there, some_there, no_values_there, values_there, registers_there, method_there, answer_value-sure, answer_values-sure, answer_option-sure, answer_registers-sure, answer_call-sure, answer_some_call-sure, answer_no_call-sure, answer_itself-sure, get_active-sure, get_home-sure, get_method-sure, get_receiver-sure, get_ip-sure, get_sp-sure, set_ip-sure, set_sp-sure, of_page-sure, object-sure, set_field-sure, make-sure, set_registers-sure, half_word-sure, exchange-sure, set_units-sure, get_device-sure, newest_signal-sure, count_signals-sure, oldest_word-sure, get_mouse_x-sure, get_mouse_y-sure, get_second_clock-sure, get_millisecond_clock-sure, hold_there, add_signal_there, take_signal_there, set_due_there, set_low_there, move_mouse_there, take_word_there, change_world-sure, get_free-sure, object_at-sure, next_instance-sure, tried_value-sure, tried_itself-sure)
 
   pub check-sure : (n : ℕ) (cause : Dead) (b : Bool) → SureAnswer n (check cause b) (check cause b)
   unfolding check

@@ -515,7 +515,7 @@ module _ {H K : Type 0} {M : ObjectMemory H} {N : ObjectMemory K} (sim : Simulat
 -- A step that is only tried, and makes nothing. Of a value it answers a value or none, of anything else that or none.
 
 module _ {H K : Type 0} {M : ObjectMemory H} {N : ObjectMemory K} (sim : Simulation M N) where
-  strict_states : (s : State H) (t : State K) → StateSame sim s t → StateSame (strict sim) s t
+  pub strict_states : (s : State H) (t : State K) → StateSame sim s t → StateSame (strict sim) s t
   strict_states s t st = record { memory = st.memory; limits = st.limits; there = st.there; roots = st.roots; registers = st.registers; world = st.world; head = st.head }
 
   module _ {A B : Type 0} (P : A → Type 0) (r : A → B) (Q : Option A → Type 0) (q : Option A → Option B)

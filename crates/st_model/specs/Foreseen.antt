@@ -1,6 +1,6 @@
 -- The cycle of a running machine over a table: the step is foreseen over a table where new objects stand apart, and is
 -- done where the capacities have room for what it makes. And what that has to do with births.
-use Rattle.std.specs.Prelude.{◌≡◌, length, Bool, true, false}
+use Rattle.std.specs.Prelude.{◌≡◌, length, Option, Some, None, Bool, true, false}
 use Rattle.st_model.specs.declared.dead.Dead.TheVariants as dead
 use Rattle.st_model.specs.Outcomes.{Outcome, StepEnd, Did, NotBuilt, is_built, Ending, With, Space, Unbuilt, renamed_outcome, renamed_ending, IsLiveOutcome, IsLiveEnding}
 use Rattle.st_model.specs.Outcomes as outcome
@@ -85,3 +85,10 @@ DoesWithin c s = (o : Outcome) (u : State Births) → (step births).run s ≡ We
 -- a step that goes on leaves a closed table closed
 abbrev pub KeepsClosed : {A : Type 0} → Step Table A → Type 0
 KeepsClosed {A = A} m = (c d : State Table) (a : A) → IsClosed c → m.run c ≡ Went a d → IsClosed d
+
+-- both took an event, and the table shows the births; or neither did
+abbrev pub ShownIfTaken : Option (State Table) → Option (State Births) → Type 0
+ShownIfTaken None None = Unit {0}
+ShownIfTaken None (Some s) = ⊥
+ShownIfTaken (Some c) None = ⊥
+ShownIfTaken (Some c) (Some s) = Shows c s

@@ -10,7 +10,7 @@ ghost use Rattle.st_model.specs.Objects.{NilObject, FalseObject, TrueObject, Sma
 ghost use Rattle.st_model.specs.Table.{bounded_table};
 ghost use Rattle.st_model.specs.Bytecodes.{step};
 ghost use Rattle.st_model.specs.Foreseen.{KeepsClosed};
-ghost use Rattle.st_model.specs.Laws.{ApartForetells, BoundedDoes, StepMissesNothing, RunsShow, RunsCount, StartShows, RunIsSaid};
+ghost use Rattle.st_model.specs.Laws.{ApartForetells, BoundedDoes, StepMissesNothing, SwitchMissesNothing, StoreMissesNothing, RunsShow, RunsCount, StartShows, EventShows, SaveShows, RunIsSaid};
 
 mod bytecode;
 mod call;
@@ -71,9 +71,11 @@ pub fn bounded_stays_closed()
 {}
 
 /// A step over births that some table shows meets no name without an object: whatever object stood for such a name, it would
-/// do the same.
+/// do the same. So it is with a bytecode, with what comes before one, and with what stores a process.
 pub fn step_misses_nothing()
-    ensures { StepMissesNothing }
+    ensures bytecode { StepMissesNothing }
+    ensures switch { SwitchMissesNothing }
+    ensures store { StoreMissesNothing }
 {}
 
 /// So a running machine, which foresees each step and does it where there is room, shows the births after any number of
@@ -88,6 +90,17 @@ pub fn table_shows_births()
 /// cause, or the table shows the births with the registers that are fetched, and nothing dangles in it.
 pub fn start_shows_births()
     ensures { StartShows }
+{}
+
+/// What an event makes of a table shows what it makes of the births that the table shows; or neither takes it.
+pub fn event_shows_births()
+    ensures { EventShows }
+{}
+
+/// Where a running machine stores its process and drops what nothing supports, its table shows what the births are saved as, or
+/// both die of one cause.
+pub fn save_shows_births()
+    ensures { SaveShows }
 {}
 
 /// What is said of cycles, one after the other, is what is said where their run ends, by the number that are finished.
