@@ -1,12 +1,12 @@
 -- The state over the table that a memory, the registers and the world show, and what holds of them at each call.
-use Rattle.std.specs.Prelude.{◌≡◌, ◌≤◌, ◌-◌, ◌++◌, length, replicate, Result, Ok, Err, pos, negsuc, ◌≤ℤ◌}
+use Rattle.std.specs.Prelude.{◌≡◌, ◌≤◌, Result, Ok, Err, pos, negsuc, ◌≤ℤ◌}
 use Rattle.st_model.specs.declared.dead.Dead.{Dead}
 use Rattle.st_model.specs.Values.{value}
-use Rattle.st_model.specs.Objects.{nil}
-use Rattle.st_model.specs.Machine.{Registers, Devices, World, State, Step, Went, Died}
+use Rattle.st_model.specs.Machine.{Registers, World, State, Step, Went, Died}
 use Rattle.st_model.specs.Table.{Table}
 use Rattle.st_model.specs.Calls.{Does}
 use Rattle.st_model.specs.View.{View, IsKnown}
+pub use Rattle.st_world.specs.Naming.{filled}
 use Rattle.st_frames.specs.declared.frame.Frame.{Frame}
 
 abbrev pub registers_of : Frame → Registers
@@ -33,10 +33,6 @@ pub record IsFrame (v : View) (f : Frame) : Type 0 where
   pub ip_high : f.ip ≤ℤ pos 16382
   pub sp_low : 5 ≤ f.sp
   pub sp_high : f.sp ≤ 16388
-
--- devices as a memory holds them: it has 4096 places for pending signals, with nil at those behind the last one
-abbrev pub filled : Devices → Devices
-filled d = record d { pending = d.pending ++ replicate (4096 - length d.pending) nil }
 
 -- the memory holds at their places the registers, and what the world names
 pub record IsReady (v : View) (f : Frame) (w : World) : Type 0 where

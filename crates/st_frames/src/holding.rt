@@ -12,7 +12,7 @@ use crate::context::{are_there, read_registers, read_scheduled_context};
 use crate::fetched::Fetched;
 use crate::frame::Frame;
 use crate::registers::Registers;
-use st_input::World;
+use st_world::World;
 use st_memory::{Memory, live_value};
 use st_model::{Dead, Oop, RootPlace, Word};
 

@@ -1,7 +1,7 @@
 ghost use Rattle.std.specs.Prelude.{◌≤◌, ◌≤ℤ◌, pos, negsuc};
 ghost use Rattle.st_frames.specs.Narrow.{IsNarrow};
 
-use st_input::World;
+use st_world::World;
 use st_model::Word;
 
 /// The registers of the interpreter (chapter 27), as the rows of bytecodes work on them, and the world, which no row changes.

@@ -1,7 +1,10 @@
-//! What lies round the machine: the input words that wait, the mouse, the clocks, and what devices hold (chapter 29).
+//! Input (chapter 29): what comes from outside, and how a memory goes on holding what the world names.
 #![tactic(auto)]
 
-mod world;
+mod coming;
+mod naming;
 
-pub use st_model::Outcome;
-pub use world::World;
+pub use coming::Events;
+pub use naming::{add_signal, hold, signal_once, take_newest_signal};
+pub use st_model::{Event, InputFull, Outcome, Tried};
+pub use st_world::World;

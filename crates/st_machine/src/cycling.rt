@@ -8,7 +8,7 @@ ghost use Rattle.st_frames.specs.Shown.{IsFrame, IsReady, shown};
 ghost use Rattle.st_machine.specs.Runs.{ending_of};
 
 use st_frames::{Frame, load, next_byte};
-use st_input::World;
+use st_world::World;
 use st_memory::Memory;
 use st_model::{Dead, Demand, Halt, Outcome};
 use st_step::{plan, step};

@@ -9,7 +9,7 @@ ghost use Rattle.st_machine.specs.declared.ending.RunEnd.TheVariants.{Dead as De
 use crate::ending::RunEnd;
 use crate::running;
 use st_frames::{Frame, Loaded};
-use st_input::World;
+use st_world::World;
 use st_memory::Memory;
 use st_model::Dead;
 

@@ -5,7 +5,7 @@ ghost use Rattle.st_machine.specs.Runs.{EndsFrom, CountsCycles, run_end};
 use crate::cycling::{CycleEnd, cycle};
 use crate::ending::RunEnd;
 use st_frames::Frame;
-use st_input::World;
+use st_world::World;
 use st_memory::Memory;
 use st_model::{Dead, Outcome};
 

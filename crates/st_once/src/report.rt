@@ -8,7 +8,7 @@ ghost use Rattle.st_report.specs.Saying.{Pushes};
 ghost use Rattle.st_once.specs.Ends.{goes_on, asked_text, end_text, ending_text};
 
 use st_frames::Frame;
-use st_input::World;
+use st_world::World;
 use st_machine::{Machine, RunEnd};
 use st_memory::Memory;
 use st_outside::{Host, SayFault};

@@ -8,7 +8,7 @@ use crate::lines::{push_line, push_values, push_values_line};
 use crate::objects::push_objects;
 use crate::words::{push_integer, push_number};
 use st_frames::Frame;
-use st_input::World;
+use st_world::World;
 use st_memory::Memory;
 use st_model::RootPlace;
 use st_outside::{Host, SayFault};

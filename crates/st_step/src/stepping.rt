@@ -11,7 +11,7 @@ ghost use Rattle.st_step.specs.Planned.{Plans, PlansBirths, IsForeseen, TopSaid}
 use crate::rows::step_row;
 use st_deeds::carry_out;
 use st_frames::{Frame, hold, load};
-use st_input::World;
+use st_world::World;
 use st_memory::{Draft, Memory};
 use st_model::{Dead, Deed, Demand, Halt, Outcome, StepEnd};
 

@@ -2,7 +2,7 @@ use Rattle.std.proofs.Common.{◌≡◌, ◌+◌, ◌-◌, None, true, false, re
 use Rattle.st_model.specs.Machine.{State}
 use Rattle.st_model.specs.Table.{Table}
 use Rattle.st_frames.specs.Shown.{IsReady, shown}
-use Rattle.st_input.specs.declared.world.World.{World}
+use Rattle.st_world.specs.declared.world.World.{World}
 use Rattle.st_machine.specs.declared.ending.RunEnd.{RunEnd}
 use Rattle.st_machine.specs.declared.ending.RunEnd.TheVariants as end
 use Rattle.st_machine.specs.Runs.{cycles_of, death_of}
