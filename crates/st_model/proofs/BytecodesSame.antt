@@ -13,6 +13,7 @@ use Rattle.st_model.proofs.Same.{Simulation, ValueSame, SameValue, SameAnswer, S
 use Rattle.st_model.proofs.StepsSame.{parts_same}
 use Rattle.st_model.proofs.LookupSame.{half_word-same}
 use Rattle.st_model.proofs.PrimitivesSame.{arithmetic-same, equivalence-same, receiver_class-same}
+use Rattle.st_model.proofs.BlocksSame.{block_copy-same, value-same}
 use Rattle.st_model.proofs.ExecutingSame.{goes_on-same, executed-same, executed_if_any-same}
 use Rattle.st_model.proofs.SendsSame.{send-same, send_to_super-same, special_send-same}
 use Rattle.st_model.proofs.ReturnsSame.{return_to_sender-same, return_to_caller-same, jump_on-same}
@@ -48,7 +49,7 @@ module _ {H K : Type 0} {M : ObjectMemory H} {N : ObjectMemory K} (sim : Simulat
   bytecode-same : (b : Bytecode) → SameEnd sim (bytecode M b) (bytecode N b)
   unfolding bytecode rows arithmetic_send primitive_send fetch_literal_constant
   bytecode-same code.Unused = search steps_same
-  bytecode-same b = search (rows_same, arithmetic_by-same, equivalence-same, receiver_class-same) depth 24 fits 4000
+  bytecode-same b = search (rows_same, or_send-same, arithmetic_by-same, equivalence-same, receiver_class-same, block_copy-same, value-same) depth 24 fits 4000
 
   pub step-same : SameEnd sim (step M) (step N)
   unfolding step

@@ -4,7 +4,7 @@ use Rattle.std.specs.Prelude.{◌+◌, ◌==◌, ℤ, pos, negsuc, nat_lt, if◌
 use Rattle.st_model.specs.Values.{Value, Small, Ref}
 use Rattle.st_model.specs.Objects.{Object, renamed_object, IsLiveObject}
 use Rattle.st_model.specs.Machine.{ObjectMemory}
-use Rattle.st_model.specs.Methods.{bits_of, flag_of, temporary_count, literal_count, context_size, from_last, method_header, literal_from_last, primitive_number, method_primitive}
+use Rattle.st_model.specs.Methods.{bits_of, flag_of, temporary_count, literal_count, context_size, from_last, method_header, literal_from_last, primitive_number, method_primitive, extension_arguments, arguments_by_extension, arguments_by, method_arguments}
 use Rattle.st_model.specs.Contexts.{home_by, home_of, stack_place, fetch_stack_pointer, context_registers, fetch_context_registers, scheduled_context, fetch_scheduled_registers, store_context_registers, switch, fill_context, new_context, pass_words, activate}
 use Rattle.st_model.proofs.Same.{Simulation, ValueSame, OptionalSame, SameValue, SameRegisters, SameAnswer, steps_same, length-renamed, none-same, field-same}
 use Rattle.st_model.proofs.StepsSame.{memory_same, parts_same}
@@ -52,6 +52,19 @@ module _ {H K : Type 0} {M : ObjectMemory H} {N : ObjectMemory K} (sim : Simulat
   unfolding method_primitive
   method_primitive-same v w h = search (memory_same, literal_from_last-same, primitive_number-same) depth 16 fits 4000
 
+  extension_arguments-same : (v w : Value) → ValueSame sim v w → SameAnswer sim (extension_arguments v) (extension_arguments w)
+  unfolding extension_arguments
+  extension_arguments-same (Small n) w h = rw h.is (search steps_same)
+  extension_arguments-same (Ref n) w h = rw h.is (search steps_same)
+
+  arguments_by-same : (v w : Value) (flag other : ℕ) → ValueSame sim v w → other ≡ flag → SameAnswer sim (arguments_by M v flag) (arguments_by N w other)
+  unfolding arguments_by arguments_by_extension
+  arguments_by-same v w flag other h e = rw e (search (memory_same, literal_from_last-same, extension_arguments-same) depth 16 fits 4000)
+
+  pub method_arguments-same : (v w : Value) → ValueSame sim v w → SameAnswer sim (method_arguments M v) (method_arguments N w)
+  unfolding method_arguments
+  method_arguments-same v w h = search (memory_same, flag_of-same, method_header-same, arguments_by-same) depth 16 fits 4000
+
   pub ruleset headers_same = (parts_same, flag_of-same, method_header-same, literal_from_last-same, method_primitive-same)
 
   -- contexts
@@ -61,7 +74,7 @@ module _ {H K : Type 0} {M : ObjectMemory H} {N : ObjectMemory K} (sim : Simulat
   home_by-same c d (Small n) w h k = rw k.is (search parts_same depth 16 fits 4000)
   home_by-same c d (Ref n) w h k = rw k.is (search parts_same depth 16 fits 4000)
 
-  home_of-same : (c d : Value) → ValueSame sim c d → SameValue sim (home_of M c) (home_of N d)
+  pub home_of-same : (c d : Value) → ValueSame sim c d → SameValue sim (home_of M c) (home_of N d)
   unfolding home_of
   home_of-same c d h = search (parts_same, home_by-same) depth 16 fits 4000
 

@@ -9,6 +9,7 @@ pub mod PrimitivesSame
 mod StorageSame
 pub mod ProcessesSame
 pub mod InputSame
+mod BlocksSame
 pub mod Deeds
 pub mod Leaving
 pub mod ExecutingSame
@@ -55,6 +56,9 @@ pub mod Present
 pub mod PresentSteps
 pub mod ProcessesSure
 pub mod InputSure
+pub mod CyclesSure
+mod BlocksSure
+pub mod ExecutingSure
 pub mod Made
 pub mod Making
 mod ImageRows
@@ -70,3 +74,5 @@ mod StorageRows
 mod StorageBounds
 mod ProcessRows
 mod InputRows
+mod BlockRows
+mod PerformRows

@@ -11,7 +11,7 @@ use Rattle.st_model.specs.Machine.{ObjectMemory, Registers, State, Transition, D
 use Rattle.st_model.specs.declared.device.Device.{Device}
 use Rattle.st_model.specs.Surroundings.{Change, Hold, AddSignal, TakeSignal, SetDue, SetLow, MoveMouse, TakeWord, changed_world, named_by}
 use Rattle.st_model.specs.Births.{Birth, Births, births, births_with, or_object, object_born, replaced, is_borne, bearer, borne, born, least_free}
-use Rattle.st_model.specs.Steps.{exchanged_there, exchange_named, exchange, fit_units, units_set, set_units_at, set_units, get_device, count_signals, oldest_word, get_mouse_x, get_mouse_y, get_second_clock, get_millisecond_clock, world_changed, change_world, get_free, named_or_not, object_at, next_instance, get_active, get_home, get_method, get_receiver, get_ip, get_sp, set_ip, set_sp, found, object_named, object, stored_at, store_at, set_field, new_of, made, make_named, make, are_there, registers_set, set_registers, of_page}
+use Rattle.st_model.specs.Steps.{exchanged_there, exchange_named, exchange, fit_units, units_set, set_units_at, set_units, get_device, newest_signal, count_signals, oldest_word, get_mouse_x, get_mouse_y, get_second_clock, get_millisecond_clock, world_changed, change_world, get_free, named_or_not, object_at, next_instance, get_active, get_home, get_method, get_receiver, get_ip, get_sp, set_ip, set_sp, found, object_named, object, stored_at, store_at, set_field, new_of, made, make_named, make, are_there, registers_set, set_registers, of_page}
 use Rattle.st_model.specs.Lookup.{pointer_if, half_word}
 use Rattle.st_model.proofs.Same.{stored_is_live}
 use Rattle.st_model.proofs.StepsSame.{fresh_live}
@@ -508,6 +508,11 @@ module _ (o : Object) (lives : ℕ → Type 0) where
 
   -- the world
 
+  newest_there : (n : ℕ) (vs : List Value) (i : ℕ) → AllLive (IsPresent n) vs → ThereIfAny n (slice_get vs i)
+  newest_there n [] i h = record { live = tt }
+  newest_there n (v ∷ vs) zero h = record { live = h.0 }
+  newest_there n (v ∷ vs) (suc i) h = newest_there n vs i h.1
+
   pub record ChangeThere (n : ℕ) (c : Change) : Type 0 where
     pub live : AllLive (IsPresent n) (named_by c)
 
@@ -535,6 +540,12 @@ module _ (o : Object) (lives : ℕ → Type 0) where
   pub get_device-sure : (n : ℕ) (d : Device) → SureValue n (get_device d) (get_device d)
   unfolding get_device
   get_device-sure n d = record { go = λ s l st. (refl, refl, omega arith, st, record { live = held_live _ d s.world.devices (device_part _ (head_roots s.head) _ st.roots.1.1.1.1) }) }
+
+  pub newest_signal-sure : (n : ℕ) → SureOption n newest_signal newest_signal
+  unfolding newest_signal
+  newest_signal-sure n = record {
+    go = λ s l st. (refl, refl, omega arith, st, newest_there (length s.memory) s.world.devices.pending (length s.world.devices.pending - 1) (device_part _ (head_roots s.head) _ st.roots.1.1.1.1).1.1.1.1.1.1);
+  }
 
   pub oldest_word-sure : (n : ℕ) → SureAnswer n oldest_word oldest_word
   unfolding oldest_word

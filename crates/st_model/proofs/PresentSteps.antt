@@ -36,7 +36,7 @@ use Rattle.st_model.proofs.Names.{map_all, map_object}
 use Rattle.st_model.proofs.BirthLemmas.{borne_before, object_within}
 use Rattle.st_model.proofs.Started.{lives}
 use Rattle.st_model.proofs.Present as at
-use Rattle.st_model.proofs.Present.{bare, full, then_value-sure, then_values-sure, then_option-sure, then_object-sure, then_registers-sure, then_call-sure, then_any_call-sure, then_answer-sure, then_unit-sure, if-sure, die-sure, later_value, later_values, later_option, later_object, later_call, small_there, small_integer_there, class_there, field_there, none_there, some_there, no_values_there, values_there, registers_there, method_there, answer_value-sure, answer_values-sure, answer_option-sure, answer_registers-sure, answer_call-sure, answer_some_call-sure, answer_no_call-sure, answer_itself-sure, get_active-sure, get_home-sure, get_method-sure, get_receiver-sure, get_ip-sure, get_sp-sure, set_ip-sure, set_sp-sure, of_page-sure, object_named-sure, object-sure, set_field-sure, make-sure, set_registers-sure, half_word-sure, exchange-sure, set_units-sure, get_device-sure, count_signals-sure, oldest_word-sure, get_mouse_x-sure, get_mouse_y-sure, get_second_clock-sure, get_millisecond_clock-sure, hold_there, add_signal_there, take_signal_there, set_due_there, set_low_there, move_mouse_there, take_word_there, change_world-sure, get_free-sure, object_at-sure, next_instance-sure, tried_value-sure, tried_itself-sure}
+use Rattle.st_model.proofs.Present.{bare, full, then_value-sure, then_values-sure, then_option-sure, then_object-sure, then_registers-sure, then_call-sure, then_any_call-sure, then_answer-sure, then_unit-sure, if-sure, die-sure, later_value, later_values, later_option, later_object, later_call, small_there, small_integer_there, class_there, field_there, none_there, some_there, no_values_there, values_there, registers_there, method_there, answer_value-sure, answer_values-sure, answer_option-sure, answer_registers-sure, answer_call-sure, answer_some_call-sure, answer_no_call-sure, answer_itself-sure, get_active-sure, get_home-sure, get_method-sure, get_receiver-sure, get_ip-sure, get_sp-sure, set_ip-sure, set_sp-sure, of_page-sure, object_named-sure, object-sure, set_field-sure, make-sure, set_registers-sure, half_word-sure, exchange-sure, set_units-sure, get_device-sure, newest_signal-sure, count_signals-sure, oldest_word-sure, get_mouse_x-sure, get_mouse_y-sure, get_second_clock-sure, get_millisecond_clock-sure, hold_there, add_signal_there, take_signal_there, set_due_there, set_low_there, move_mouse_there, take_word_there, change_world-sure, get_free-sure, object_at-sure, next_instance-sure, tried_value-sure, tried_itself-sure}
 
 module _ (o : Object) (lives : ℕ → Type 0) where
   abbrev pub There : ℕ → Value → Type 0
@@ -81,7 +81,7 @@ module _ (o : Object) (lives : ℕ → Type 0) where
   abbrev pub SureAnswer : {A : Type 0} → ℕ → Step Births A → Step Births A → Type 0
   SureAnswer n m m' = at.SureAnswer o lives n m m'
 
-  pub ruleset sures = (then_value-sure, then_values-sure, then_option-sure, then_object-sure, then_registers-sure, then_call-sure, then_any_call-sure, then_answer-sure, then_unit-sure, if-sure, die-sure, later_value, later_values, later_option, later_object, later_call, small_there, small_integer_there, class_there, field_there, none_there, some_there, no_values_there, values_there, registers_there, method_there, answer_value-sure, answer_values-sure, answer_option-sure, answer_registers-sure, answer_call-sure, answer_some_call-sure, answer_no_call-sure, answer_itself-sure, get_active-sure, get_home-sure, get_method-sure, get_receiver-sure, get_ip-sure, get_sp-sure, set_ip-sure, set_sp-sure, of_page-sure, object-sure, set_field-sure, make-sure, set_registers-sure, half_word-sure, exchange-sure, set_units-sure, get_device-sure, count_signals-sure, oldest_word-sure, get_mouse_x-sure, get_mouse_y-sure, get_second_clock-sure, get_millisecond_clock-sure, hold_there, add_signal_there, take_signal_there, set_due_there, set_low_there, move_mouse_there, take_word_there, change_world-sure, get_free-sure, object_at-sure, next_instance-sure, tried_value-sure, tried_itself-sure)
+  pub ruleset sures = (then_value-sure, then_values-sure, then_option-sure, then_object-sure, then_registers-sure, then_call-sure, then_any_call-sure, then_answer-sure, then_unit-sure, if-sure, die-sure, later_value, later_values, later_option, later_object, later_call, small_there, small_integer_there, class_there, field_there, none_there, some_there, no_values_there, values_there, registers_there, method_there, answer_value-sure, answer_values-sure, answer_option-sure, answer_registers-sure, answer_call-sure, answer_some_call-sure, answer_no_call-sure, answer_itself-sure, get_active-sure, get_home-sure, get_method-sure, get_receiver-sure, get_ip-sure, get_sp-sure, set_ip-sure, set_sp-sure, of_page-sure, object-sure, set_field-sure, make-sure, set_registers-sure, half_word-sure, exchange-sure, set_units-sure, get_device-sure, newest_signal-sure, count_signals-sure, oldest_word-sure, get_mouse_x-sure, get_mouse_y-sure, get_second_clock-sure, get_millisecond_clock-sure, hold_there, add_signal_there, take_signal_there, set_due_there, set_low_there, move_mouse_there, take_word_there, change_world-sure, get_free-sure, object_at-sure, next_instance-sure, tried_value-sure, tried_itself-sure)
 
   pub check-sure : (n : ℕ) (cause : Dead) (b : Bool) → SureAnswer n (check cause b) (check cause b)
   unfolding check
@@ -484,9 +484,9 @@ module _ (o : Object) (lives : ℕ → Type 0) where
   succeed_value-sure n k f f' (Some x) h l = then_value-sure o lives _ n _ _ _ _ (l n x (record { is = omega arith }) (record { live = h.live })) (λ m e v p. search (parts, answer_with-sure) depth 24 fits 4000)
 
   pub primitive_value-sure : (n : ℕ) (k : ℕ) (p p' : Step Births Value) (f f' : Value → Step Births Value) → SureValue n p p'
-      → ((m : ℕ) (x : Value) → There m x → SureValue m (f x) (f' x)) → SureAnswer n (primitive bare k p f) (primitive (full o) k p' f')
+      → ((m : ℕ) (x : Value) → Later n m → There m x → SureValue m (f x) (f' x)) → SureAnswer n (primitive bare k p f) (primitive (full o) k p' f')
   unfolding primitive
-  primitive_value-sure n k p p' f f' h l = then_option-sure o lives _ n _ _ _ _ (tried_value-sure o lives n p p' h) (λ m e a q. succeed_value-sure m k f f' a q (λ j x d t. l j x t))
+  primitive_value-sure n k p p' f f' h l = then_option-sure o lives _ n _ _ _ _ (tried_value-sure o lives n p p' h) (λ m e a q. succeed_value-sure m k f f' a q (λ j x d t. l j x (record { is = omega (arith, e.is, d.is) }) t))
 
   pub taking-sure : (n : ℕ) (k arguments : ℕ) (p p' : Step Births Bool) → SureAnswer n p p' → SureAnswer n (taking k arguments p) (taking k arguments p')
   unfolding taking
@@ -916,131 +916,3 @@ module _ (o : Object) (lives : ℕ → Type 0) where
   pub storage-sure : (n : ℕ) (k i : ℕ) → SureAnswer n (storage bare k i) (storage (full o) k i)
   unfolding storage
   storage-sure n k i = search (sures, taking-sure, primitive_at-sure, primitive_at_put-sure, primitive_size-sure, primitive_string_at-sure, primitive_string_at_put-sure, primitive_next-sure, primitive_next_put-sure, primitive_at_end-sure, primitive_object_at-sure, primitive_object_at_put-sure, primitive_new-sure, primitive_new_with-sure, primitive_become-sure, primitive_instance_variable_at-sure, primitive_instance_variable_at_put-sure, primitive_as_oop-sure, primitive_as_object-sure, primitive_some_instance-sure, primitive_next_instance-sure, primitive_new_method-sure, primitive_replace-sure, primitive_core_left-sure, primitive_oops_left-sure) depth 32 fits 4000
-
-  pub ruleset primitives_sure = (arithmetic-sure, equivalence-sure, receiver_class-sure, flush_cache-sure, storage-sure)
-
-  pub or_activate-sure : (n : ℕ) (c : Call) (v : Value) (p p' : Step Births Bool) → CallThere n c → SureAnswer n p p' → SureAnswer n (or_activate bare c v p) (or_activate (full o) c v p')
-  unfolding or_activate
-  or_activate-sure n c v p p' h0 h1 = search (sures, goes_on-sure, activate-sure) depth 24 fits 4000
-
-  pub say_or_activate-sure : (n : ℕ) (c : Call) (v : Value) → CallThere n c → SureAnswer n (say_or_activate bare c v) (say_or_activate (full o) c v)
-  unfolding say_or_activate
-  say_or_activate-sure n c v h0 = search (parts, goes_on-sure, activate-sure, primitive_say-sure) depth 24 fits 4000
-
-  pub respond-sure : (n : ℕ) (p : Performing) (c : Call) (v : Value) (i : ℕ) → CallThere n c → SureAnswer n (respond bare p c v i) (respond (full o) p c v i)
-  unfolding respond
-  respond-sure n p c v i h0 = search (sures, goes_on-sure, activate-sure, or_activate-sure, say_or_activate-sure, primitives_sure) depth 24 fits 4000
-
-  pub execute_by-sure : (n : ℕ) (p : Performing) (c : Call) (v : Value) (flag : ℕ) → CallThere n c → SureAnswer n (execute_by bare p c v flag) (execute_by (full o) p c v flag)
-  unfolding execute_by respond_by_extension answer_field
-  execute_by-sure n p c v flag h0 = search (headers, goes_on-sure, respond-sure, activate-sure) depth 32 fits 4000
-
-  pub execute-sure : (n : ℕ) (p : Performing) (c : Call) → CallThere n c → SureAnswer n (execute bare p c) (execute (full o) p c)
-  unfolding execute
-  execute-sure n p c h0 = search (headers, execute_by-sure) depth 24 fits 4000
-
-  pub executed-sure : (n : ℕ) (m m' : Step Births Call) → SureCall n m m' → SureAnswer n (executed bare m) (executed (full o) m')
-  unfolding executed
-  executed-sure n m m' h = search (sures, execute-sure) depth 16 fits 4000
-
-  pub execute_if_any-sure : (n : ℕ) (c : Option Call) → CallThereIfAny n c → SureAnswer n (execute_if_any bare c) (execute_if_any (full o) c)
-  unfolding execute_if_any
-  execute_if_any-sure n None h = end-sure n _
-  execute_if_any-sure n (Some c) h = execute-sure n _ c (record { method = h.method })
-
-  pub executed_if_any-sure : (n : ℕ) (m m' : Step Births (Option Call)) → SureAnyCall n m m' → SureAnswer n (executed_if_any bare m) (executed_if_any (full o) m')
-  unfolding executed_if_any
-  executed_if_any-sure n m m' h = search (sures, execute_if_any-sure) depth 16 fits 4000
-
-  pub cannot_return-sure : (n : ℕ) (v : Value) → There n v → SureCall n (cannot_return bare v) (cannot_return (full o) v)
-  unfolding cannot_return
-  cannot_return-sure n v h0 = search (parts, send-sure) depth 24 fits 4000
-
-  pub return_into-sure : (n : ℕ) (c : Value) (v : Value) → There n c → There n v → SureAnswer n (return_into bare c v) (return_into (full o) c v)
-  unfolding return_into
-  return_into-sure n c v h0 h1 = search (parts, fetch_context_registers-sure) depth 32 fits 4000
-
-  pub return_to-sure : (n : ℕ) (c : Value) (v : Value) → There n c → There n v → SureAnyCall n (return_to bare c v) (return_to (full o) c v)
-  unfolding return_to return_to_context calls calls_nothing
-  return_to-sure n c v h0 h1 = search (parts, cannot_return-sure, return_into-sure) depth 32 fits 4000
-
-  pub return_to_sender-sure : (n : ℕ) (v : Value) → There n v → SureAnyCall n (return_to_sender bare v) (return_to_sender (full o) v)
-  unfolding return_to_sender
-  return_to_sender-sure n v h0 = search (parts, return_to-sure) depth 24 fits 4000
-
-  pub return_to_caller-sure : (n : ℕ) (v : Value) → There n v → SureAnyCall n (return_to_caller bare v) (return_to_caller (full o) v)
-  unfolding return_to_caller
-  return_to_caller-sure n v h0 = search (parts, return_to-sure) depth 24 fits 4000
-
-  pub jump_on-sure : (n : ℕ) (p : PageObject) (q : PageObject) (d : ℤ) → SureAnyCall n (jump_on bare p q d) (jump_on (full o) p q d)
-  unfolding jump_on must_be_boolean calls calls_nothing
-  jump_on-sure n p q d = search (parts, send-sure) depth 32 fits 4000
-
-  -- rows
-
-  pub fetch_operand-sure : (n : ℕ) (x : Operand) → SureValue n (fetch_operand bare x) (fetch_operand (full o) x)
-  unfolding fetch_operand fetch_receiver_variable fetch_temporary_variable fetch_literal_variable fetch_literal_constant
-  fetch_operand-sure n (ReceiverVariable i) = search parts depth 24 fits 4000
-  fetch_operand-sure n x = search parts depth 24 fits 4000
-
-  pub store_operand-sure : (n : ℕ) (x : Operand) (v : Value) → There n v → SureAnswer n (store_operand bare x v) (store_operand (full o) x v)
-  unfolding store_operand store_receiver_variable store_temporary_variable store_literal_variable fetch_literal_constant
-  store_operand-sure n (LiteralConstant i) v h = die-sure o lives _ n _
-  store_operand-sure n x v h = search parts depth 24 fits 4000
-
-  pub constant_value-sure : (n : ℕ) (c : Constant) → SureValue n (constant_value bare c) (constant_value (full o) c)
-  unfolding constant_value
-  constant_value-sure n constant.Nil = of_page-sure o lives n _
-  constant_value-sure n c = search parts depth 24 fits 4000
-
-  pub ruleset rows_sure = (parts, fetch_operand-sure, store_operand-sure, constant_value-sure, goes_on-sure, executed-sure, executed_if_any-sure, send-sure, send_to_super-sure, special_send-sure, return_to_sender-sure, return_to_caller-sure, jump_on-sure)
-
-  pub or_send-sure : (n : ℕ) (k : ℕ) (p p' : Step Births Bool) → SureAnswer n p p' → SureAnswer n (or_send bare k p) (or_send (full o) k p')
-  unfolding or_send
-  or_send-sure n k p p' h = search rows_sure depth 24 fits 4000
-
-  pub arithmetic_by-sure : (n : ℕ) (k : ℕ) (v : Value) → SureAnswer n (arithmetic_by bare k v) (arithmetic_by (full o) k v)
-  unfolding arithmetic_by
-  arithmetic_by-sure n k (Small i) = search (or_send-sure, arithmetic-sure)
-  arithmetic_by-sure n k (Ref i) = search rows_sure depth 24 fits 4000
-
-  pub bytecode-sure : (n : ℕ) (b : Bytecode) → SureAnswer n (bytecode bare b) (bytecode (full o) b)
-  unfolding bytecode rows arithmetic_send primitive_send fetch_literal_constant
-  bytecode-sure n code.Unused = die-sure o lives _ n _
-  bytecode-sure n b = search (rows_sure, arithmetic_by-sure, equivalence-sure, receiver_class-sure) depth 32 fits 4000
-
-  pub step-sure : (n : ℕ) → SureAnswer n (step bare) (step (full o))
-  unfolding step
-  step-sure n = search (parts, bytecode-sure) depth 24 fits 4000
-
--- from births that a table shows
-
-module _ (o : Object) (c : State Table) (s : State Births) (w : Shows c s) where
-  abbrev IsThere : ℕ → Type 0
-  IsThere k = lives s.memory k × (k < length s.memory)
-
-  kept_there : (k : ℕ) → IsKept s.memory k → IsThere k
-  kept_there k h = (inl h, borne_before s.memory k h.0 h.1)
-
-  object_lives : (k : ℕ) (a : Object) → lives s.memory k → object_born s.memory k ≡ Some a → IsLiveObject IsThere a
-  object_lives k a (inl h) e = map_object (IsKept s.memory) IsThere kept_there a (w.closed k h.0 a h.1 e)
-  object_lives k a (inr l) e = let b = object_within s.memory k a e in absurd (omega arith)
-
-  stands : at.Stands o (lives s.memory) s
-  stands = record {
-    page = λ q. kept_there _ (place_of q, w.page q);
-    objects = object_lives;
-    roots = map_all (IsKept s.memory) IsThere kept_there (roots_of s) w.roots;
-    to_come = λ k l. inr l;
-    kept = λ k p e. inl (p, e);
-  }
-
-  same_transition : (x y : Transition (State Births) StepEnd) → at.DoesSame o (lives s.memory) (at.Any o (lives s.memory)) s x y → y ≡ x
-  same_transition (Died a) (Died b) h = ap (λ k. Died k) (sym h)
-  same_transition (Died a) (Went b u) h = absurd h
-  same_transition (Went a t) (Died b) h = absurd h
-  same_transition (Went a t) (Went b u) h = let e = h.0 in let f = h.1 in λ i. Went (e i) (f i)
-
-  pub misses_nothing : (step (births_with o)).run s ≡ (step births).run s
-  unfolding bare full
-  misses_nothing = same_transition ((step births).run s) ((step (births_with o)).run s) ((step-sure o (lives s.memory) 0).go s (omega arith) stands)

@@ -20,11 +20,11 @@ module _ (o : Object) (lives : ℕ → Type 0) where
   abbrev SureAnswer : {A : Type 0} → ℕ → Step Births A → Step Births A → Type 0
   SureAnswer n m m' = at.SureAnswer o lives n m m'
 
-  scheduler-sure : (n : ℕ) → SureValue n (scheduler bare) (scheduler (full o))
+  pub scheduler-sure : (n : ℕ) → SureValue n (scheduler bare) (scheduler (full o))
   unfolding scheduler
   scheduler-sure n = search parts depth 24 fits 4000
 
-  scheduled_process-sure : (n : ℕ) → SureValue n (scheduled_process bare) (scheduled_process (full o))
+  pub scheduled_process-sure : (n : ℕ) → SureValue n (scheduled_process bare) (scheduled_process (full o))
   unfolding scheduled_process
   scheduled_process-sure n = search (parts, scheduler-sure) depth 24 fits 4000
 
@@ -71,7 +71,7 @@ module _ (o : Object) (lives : ℕ → Type 0) where
   unfolding sleep
   sleep-sure n p h0 = search (parts, list_number-sure, ready_lists-sure, add_last-sure) depth 32 fits 4000
 
-  let_wait-sure : (n : ℕ) (p : Value) → There n p → SureAnswer n (let_wait bare p) (let_wait (full o) p)
+  pub let_wait-sure : (n : ℕ) (p : Value) → There n p → SureAnswer n (let_wait bare p) (let_wait (full o) p)
   unfolding let_wait
   let_wait-sure n p h0 = search parts depth 24 fits 4000
 

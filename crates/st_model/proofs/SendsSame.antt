@@ -29,7 +29,7 @@ module _ {H K : Type 0} {M : ObjectMemory H} {N : ObjectMemory K} (sim : Simulat
       let l : ValueSame sim m (renamed sim.name m) = record { live = k.live; is = refl } in
       rw k.is (search (steps_same, replace_by_message-same) depth 16 fits 4000)
 
-  not_understood-same : (c d s t : Value) (n : ℕ) → ValueSame sim c d → ValueSame sim s t → SameCall sim (not_understood M c s n) (not_understood N d t n)
+  pub not_understood-same : (c d s t : Value) (n : ℕ) → ValueSame sim c d → ValueSame sim s t → SameCall sim (not_understood M c s n) (not_understood N d t n)
   unfolding not_understood
   not_understood-same c d s t n h k = search (parts_same, find-same, call_not_understood-same) depth 16 fits 4000
 

@@ -20,7 +20,7 @@ module _ {H K : Type 0} {M : ObjectMemory H} {N : ObjectMemory K} (sim : Simulat
   not-same : (b c : Bool) → c ≡ b → not c ≡ not b
   not-same b c e = ap not e
 
-  check_class-same : (v w : Value) (q : PageObject) → ValueSame sim v w → SameAnswer sim (check_class M v q) (check_class N w q)
+  pub check_class-same : (v w : Value) (q : PageObject) → ValueSame sim v w → SameAnswer sim (check_class M v q) (check_class N w q)
   unfolding check_class
   check_class-same v w q h = search parts_same depth 24 fits 4000
 

@@ -16,44 +16,36 @@ check_context m v = do
   block_context ← of_page m BlockContextClass
   check dead.Kind (same_value class method_context || same_value class block_context)
 
--- what a block is made of: its number of arguments, its home with so many fields, and its first instruction pointer as it is
--- stored, which is that of the byte behind the jump round the block's bytecodes
-pub record Block : Type 0 where
-  pub arguments : ℕ
-  pub home : Value
-  pub fields : ℕ
-  pub first : ℤ
-
-unfoldable pub block_in : {H : Type 0} → ObjectMemory H → ℕ → Value → Step H Block
-block_in m arguments home = do
+-- the home that a block of the receiver has, where a block that takes this number of arguments may be made
+unfoldable pub home_of_block : {H : Type 0} → ObjectMemory H → Value → Value → Step H Value
+home_of_block m r a = do
+  check_context m r
+  arguments ← positive_small a
+  home ← home_of m r
   fields ← count_fields m home
   check dead.Field (nat_le 6 fields)
   ip ← get_ip
   check dead.Ip (int_le (ip +ℤ pos 3) (pos 16383))
-  answer (record { arguments = arguments; home = home; fields = fields; first = ip +ℤ pos 3 })
+  answer home
 
--- a block of the receiver, a context, takes the number of arguments given
-unfoldable pub block_of : {H : Type 0} → ObjectMemory H → Value → Value → Step H Block
-block_of m r a = do
-  check_context m r
-  arguments ← positive_small a
-  home ← home_of m r
-  block_in m arguments home
-
-unfoldable pub fill_block : {H : Type 0} → ObjectMemory H → Value → Block → Step H Unit
-fill_block m block b = do
-  store_field m block 1 (small_integer b.first)
+-- Its first instruction pointer, as it is stored, is that of the byte behind the jump round its bytecodes; the stack is empty,
+-- and the number of arguments and the home are as given.
+unfoldable pub fill_block : {H : Type 0} → ObjectMemory H → Value → Value → Value → Step H Unit
+fill_block m block home a = do
+  ip ← get_ip
+  store_field m block 1 (small_integer (ip +ℤ pos 3))
   store_field m block 2 (Small 0)
-  store_field m block 3 (Small b.arguments)
-  store_field m block 4 (small_integer b.first)
-  store_field m block 5 b.home
+  store_field m block 3 a
+  store_field m block 4 (small_integer (ip +ℤ pos 3))
+  store_field m block 5 home
 
 -- a new BlockContext as large as its home
-unfoldable pub new_block : {H : Type 0} → ObjectMemory H → Block → Step H Value
-new_block m b = do
+unfoldable pub new_block : {H : Type 0} → ObjectMemory H → Value → Value → Step H Value
+new_block m home a = do
   class ← of_page m BlockContextClass
-  block ← new_object m class b.fields
-  fill_block m block b
+  fields ← count_fields m home
+  block ← new_object m class fields
+  fill_block m block home a
   answer block
 
 -- 80: a block of the receiver's home
@@ -61,15 +53,16 @@ unfoldable pub primitive_block_copy : {H : Type 0} → ObjectMemory H → Step H
 primitive_block_copy m = do
   r ← under m 1
   a ← top m
-  primitive m 1 (block_of m r a) (λ b. new_block m b)
+  primitive m 1 (home_of_block m r a) (λ home. new_block m home a)
 
 -- A block takes n arguments, and has fields for them. It gives its first instruction pointer.
 unfoldable pub start_of : {H : Type 0} → ObjectMemory H → Value → ℕ → Step H ℤ
 start_of m block n = do
   check_class m block BlockContextClass
   fields ← count_fields m block
-  arguments ← fetch_field m block 3
-  check dead.NotSmall (same_value arguments (Small n))
+  x ← fetch_field m block 3
+  arguments ← positive_small x
+  check dead.Field (arguments == n)
   first ← fetch_integer m block 4
   check dead.Sp (nat_le (6 + n) fields)
   answer first

@@ -1,6 +1,6 @@
--- The law is a lemma.
-use Rattle.st_model.proofs.PresentSteps.{misses_nothing}
+-- The law is three lemmas.
+use Rattle.st_model.proofs.ExecutingSure.{misses_nothing, switch_misses_nothing, store_misses_nothing}
 use Rattle.st_model.proofs.step_misses_nothing.Goals as goal
 
 pub returns : goal.returns
-returns c = misses_nothing
+returns z = record { bytecode = misses_nothing; switch = switch_misses_nothing; store = store_misses_nothing }
