@@ -190,3 +190,15 @@ module _ (t u : Table) (v : Value) (place left : ℕ) (few : place < 4) where
 
 pub no_byte : (t : Table) (v : Value) (place : ℕ) → t ≡ changed_by (bytes_stored place []) t v
 no_byte t v place = left_stays (λ o. o) t v refl
+
+-- the four bytes of a time
+
+pub four_stored : (t : Table) (v : Value) (a b c d : ℕ)
+    → changed_by (byte_stored 3 d) (changed_by (byte_stored 2 c) (changed_by (byte_stored 1 b) (changed_by (byte_stored 0 a) t v) v) v) v
+    ≡ changed_by (bytes_stored 0 (a ∷ b ∷ c ∷ d ∷ [])) t v
+four_stored t v a b c d =
+    ap (λ u. changed_by (byte_stored 3 d) (changed_by (byte_stored 2 c) u v) v) (by_both (byte_stored 0 a) (byte_stored 1 b) t v)
+    ∙ ap (λ u. changed_by (byte_stored 3 d) u v) (by_both (λ o. byte_stored 1 b (byte_stored 0 a o)) (byte_stored 2 c) t v)
+    ∙ by_both (λ o. byte_stored 2 c (byte_stored 1 b (byte_stored 0 a o))) (byte_stored 3 d) t v
+
+pub ruleset times = (four_stored)

@@ -1,20 +1,22 @@
 ghost use Rattle.std.specs.Prelude.{◌≡◌};
-ghost use Rattle.st_model.specs.Deeds.{deed_done};
+ghost use Rattle.st_model.specs.Deeds.{deed_done, world_done};
+ghost use Rattle.st_world.specs.Naming.{IsNaming, naming};
 
 use crate::bytes::replace_bytes;
 use crate::methods::{store_header, store_literal};
-use crate::units::{store_byte, store_number, store_word};
+use crate::units::{store_byte, store_number, store_time, store_word};
+use crate::world::change_world;
 use st_memory::Memory;
 use st_model::Deed;
+use st_world::World;
 
-/// Does what a primitive left to be done.
-pub fn carry_out<M: Memory>(m: &mut M, deed: Deed)
+/// Does what a primitive left to be done on objects.
+fn change_objects<M: Memory>(m: &mut M, deed: Deed)
     ensures objects { (M.view m.new).objects ≡ deed_done deed (M.view m.old).objects }
     ensures held { (M.view m.new).held ≡ (M.view m.old).held }
     ensures head { (M.view m.new).head ≡ (M.view m.old).head }
 {
     match deed {
-        Deed::Nothing => {}
         Deed::StoreWord {
             object,
             place,
@@ -39,5 +41,25 @@ pub fn carry_out<M: Memory>(m: &mut M, deed: Deed)
             number,
             value,
         } => store_literal(m, method, number, value),
+        Deed::StoreTime { object, time } => store_time(m, object, time),
+        Deed::TakeWord { object, number } => store_number(m, object, number),
+        Deed::Nothing
+        | Deed::Hold { .. }
+        | Deed::SetTimer { .. }
+        | Deed::RingTimer { .. }
+        | Deed::SetLowSpace { .. }
+        | Deed::MoveMouse { .. } => {}
     }
+}
+
+/// Does what a primitive left to be done, on the memory and on the world. The memory goes on holding what the world names.
+pub fn carry_out<M: Memory>(m: &mut M, w: &mut World, deed: Deed)
+    requires named { IsNaming (M.view m.old).held w.old }
+    ensures objects { (M.view m.new).objects ≡ deed_done deed (M.view m.old).objects }
+    ensures world { w.new ≡ world_done deed (M.view m.old).objects w.old }
+    ensures held { (M.view m.new).held ≡ naming (M.view m.old).held w.new }
+    ensures head { (M.view m.new).head ≡ (M.view m.old).head }
+{
+    change_world(m, w, deed);
+    change_objects(m, deed);
 }

@@ -1,4 +1,5 @@
-//! What a primitive leaves to be done on a memory, done there. Where there is no such object or no such place, nothing is done.
+//! What a primitive leaves to be done on a memory and on what lies round it, done there. Where there is no such object or no
+//! such place, nothing is done.
 #![tactic(auto)]
 
 mod bytes;
@@ -6,5 +7,6 @@ mod carry;
 mod methods;
 mod named;
 mod units;
+mod world;
 
 pub use carry::carry_out;

@@ -3,6 +3,7 @@ ghost use Rattle.st_model.specs.Values.{value, word};
 ghost use Rattle.st_model.specs.Objects.{has_bytes};
 ghost use Rattle.st_model.specs.View.{is_live};
 ghost use Rattle.st_model.specs.Primitives.{bytes_of_number};
+ghost use Rattle.st_model.specs.Input.{four_bytes};
 ghost use Rattle.st_model.specs.Deeds.{changed_by, word_stored, byte_stored, bytes_stored};
 
 use crate::named::object_named;
@@ -88,4 +89,18 @@ pub fn store_number<M: Memory>(m: &mut M, object: Word, number: u32)
         store_byte(m, object, place, (left % 256) as u8);
         left /= 256;
     }
+}
+
+/// Stores the four bytes of a time, the low one first, from the first place of an object on.
+#[tactic(auto, using(crate::proofs::Done::times))]
+pub fn store_time<M: Memory>(m: &mut M, object: Word, time: u32)
+    ensures objects { (M.view m.new).objects
+        ≡ changed_by (bytes_stored 0 (four_bytes time)) (M.view m.old).objects (word object) }
+    ensures held { (M.view m.new).held ≡ (M.view m.old).held }
+    ensures head { (M.view m.new).head ≡ (M.view m.old).head }
+{
+    store_byte(m, object, 0, (time % 256) as u8);
+    store_byte(m, object, 1, (time / 256 % 256) as u8);
+    store_byte(m, object, 2, (time / 65536 % 256) as u8);
+    store_byte(m, object, 3, (time / 16777216 % 256) as u8);
 }

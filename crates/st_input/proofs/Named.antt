@@ -8,7 +8,8 @@ use Rattle.st_model.specs.declared.device.Device.{Device}
 use Rattle.st_model.specs.declared.device.Device.TheVariants as device
 use Rattle.st_model.specs.declared.place.RootPlace.TheVariants as place
 use Rattle.st_model.specs.Values.{Value, Ref, value_of}
-use Rattle.st_model.specs.Objects.{nil, NilObject}
+use Rattle.st_model.specs.Objects.{nil}
+use Rattle.st_model.specs.declared.page.PageObject.TheVariants.{NilObject}
 use Rattle.st_model.specs.Machine.{Devices, World}
 use Rattle.st_model.specs.Surroundings.{held_by, holding, newest_of, changed_world, Hold, AddSignal, TakeSignal}
 use Rattle.st_model.specs.View.{View, Held, IsKnown, IsWhole, with_held}
@@ -31,13 +32,17 @@ filled_holding d device.LowSpace x = refl
 pub device_named : (h : Held) (w : World) (k : Device) (x : Value) → IsNaming h w → record h { devices = holding h.devices k x } ≡ naming h (changed_world (Hold k x) w)
 device_named h w k x e = ap (λ d. record h { devices = d }) (ap (λ d. holding d k x) e ∙ filled_holding w.devices k x)
 
-pub known_device : {v : View} {w : World} → IsWhole v → IsNaming v.held w → (k : Device) → IsKnown v.objects (held_by w.devices k)
-known_device {v} {w} whole e device.NewProcess = subst (λ (d : Devices). IsKnown v.objects d.new_process) e (whole.held place.NewProcess)
-known_device {v} {w} whole e device.Display = subst (λ (d : Devices). IsKnown v.objects d.display) e (whole.held place.Display)
-known_device {v} {w} whole e device.Cursor = subst (λ (d : Devices). IsKnown v.objects d.cursor) e (whole.held place.Cursor)
-known_device {v} {w} whole e device.InputSemaphore = subst (λ (d : Devices). IsKnown v.objects d.input_semaphore) e (whole.held place.InputSemaphore)
-known_device {v} {w} whole e device.Timer = subst (λ (d : Devices). IsKnown v.objects d.timer) e (whole.held place.Timer)
-known_device {v} {w} whole e device.LowSpace = subst (λ (d : Devices). IsKnown v.objects d.low_space) e (whole.held place.LowSpace)
+held_known : (v : View) (w : World) → IsWhole v → IsNaming v.held w → (k : Device) → IsKnown v.objects (held_by w.devices k)
+held_known v w whole e device.NewProcess = subst (λ (d : Devices). IsKnown v.objects d.new_process) e (whole.held place.NewProcess)
+held_known v w whole e device.Display = subst (λ (d : Devices). IsKnown v.objects d.display) e (whole.held place.Display)
+held_known v w whole e device.Cursor = subst (λ (d : Devices). IsKnown v.objects d.cursor) e (whole.held place.Cursor)
+held_known v w whole e device.InputSemaphore = subst (λ (d : Devices). IsKnown v.objects d.input_semaphore) e (whole.held place.InputSemaphore)
+held_known v w whole e device.Timer = subst (λ (d : Devices). IsKnown v.objects d.timer) e (whole.held place.Timer)
+held_known v w whole e device.LowSpace = subst (λ (d : Devices). IsKnown v.objects d.low_space) e (whole.held place.LowSpace)
+
+-- what a device holds is there
+pub known_device : {v : View} {x : Value} (w : World) (k : Device) → IsWhole v → IsNaming v.held w → x ≡ held_by w.devices k → IsKnown v.objects x
+known_device {v} {x} w k whole e same = subst (λ (y : Value). IsKnown v.objects y) (sym same) (held_known v w whole e k)
 
 -- pending signals
 
@@ -81,11 +86,21 @@ signal_gone h w e some few =
     ap (λ d. record h { devices = record d { pending = slice_set d.pending n nil } }) e
     ∙ ap (λ p. record h { devices = record w.devices { pending = p } }) (taken 4096 w.devices.pending nil some few)
 
-pub known_newest : {v : View} {w : World} → IsWhole v → IsNaming v.held w → (x : Value) → 0 < length w.devices.pending → newest_of w.devices.pending ≡ Some x → IsKnown v.objects x
-known_newest {v} {w} whole e x some newest =
+pub any_newest : (xs : List Value) (x : Value) → newest_of xs ≡ Some x → 0 < length xs
+any_newest [] x e = cc
+any_newest (y ∷ ys) x e = omega arith
+
+-- the newest signal's semaphore is there
+pub known_newest : {v : View} {x : Value} (w : World) → IsWhole v → IsNaming v.held w → newest_of w.devices.pending ≡ Some x → IsKnown v.objects x
+known_newest {v} {x} w whole e newest =
     let xs = w.devices.pending in
+    let some = any_newest xs x newest in
     let n = length xs - 1 in
     let inside : n < length xs = omega (arith, some) in
     let at : get_or (xs ++ replicate (4096 - length xs) nil) n nil ≡ x =
-        get_or_append_left xs (replicate (4096 - length xs) nil) nil n inside ∙ get_or_from_slice_get xs n x nil newest in
+    get_or_append_left xs (replicate (4096 - length xs) nil) nil n inside ∙ get_or_from_slice_get xs n x nil newest in
     subst (λ (y : Value). IsKnown v.objects y) at (subst (λ (d : Devices). IsKnown v.objects (slice_index_or d.pending n nil)) e (whole.held (place.Pending n)))
+
+pub ruleset knowns = (known_nil, known_device, known_newest)
+
+pub ruleset signals = (signal_named, signal_gone)
