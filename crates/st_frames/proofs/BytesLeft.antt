@@ -1,6 +1,6 @@
 -- Bytes that are stored at once, and as a deed that is left: both come to one state where the first byte and the size are read.
 use Rattle.std.proofs.Common.{◌≡◌, ℕ, zero, suc, ◌+◌, ◌<◌, ◌≤◌, List, [], ◌∷◌, length, Option, Some, None, Bool, true, false, refl, sym, ◌∙◌, ap, arith, inl, inr, ◌⊎◌, length-set}
-use Rattle.std.specs.Prelude.{◌-◌, ◌&&◌, slice_get, nat_lt, nat_le, if◌then◌else◌}
+use Rattle.std.specs.Prelude.{◌-◌, ◌&&◌, slice_get, nat_le, if◌then◌else◌}
 use Rattle.std.proofs.lemmas.Bool.Decides.{nat_tests}
 use Rattle.st_model.specs.declared.dead.Dead.{Dead}
 use Rattle.st_model.specs.declared.dead.Dead.TheVariants as dead
@@ -9,7 +9,7 @@ use Rattle.st_model.specs.declared.kind.Kind.TheVariants as kind
 use Rattle.st_model.specs.Values.{Value, Small, Ref}
 use Rattle.st_model.specs.Objects.{Object, is_pointers, has_bytes, first_unit, size_of, object_with_unit}
 use Rattle.st_model.specs.Machine.{ObjectMemory, State, Transition, Died, Went, Step, answer, die, after, ◌>>=◌, ◌>>◌}
-use Rattle.st_model.specs.Table.{Table, table, entry, changed, IsTabular}
+use Rattle.st_model.specs.Table.{Table, entry, changed, IsTabular}
 use Rattle.st_model.specs.Steps.{found, object_named, object, check, or_die, fetch_size, fetch_byte, store_byte, store_bytes}
 use Rattle.st_model.specs.Deeds.{changed_object, changed_by, byte_stored, bytes_stored, over}
 use Rattle.st_model.proofs.TableLemmas.{changed-some}
@@ -221,7 +221,6 @@ module _ (m : ObjectMemory Table) (tabular : IsTabular m) where
   pub bytes-unleft : (v : Value) (i : ℕ) (bs : List ℕ) (s : State Table) (k : Dead) → 0 < length bs → (fetch_byte m v i).run s ≡ Died k → (store_bytes m v i bs).run s ≡ Died k
   bytes-unleft v i [] s k l e = absurd (omega (arith, l))
   bytes-unleft v i (b ∷ bs) s k l e = store_died v i b bs s k (byte-unleft m tabular v i b k s e)
-
   -- bytes that are fetched
 
 pub ruleset bytes = (bytes-left, bytes-past, bytes-unleft)

@@ -1,4 +1,5 @@
-ghost use Rattle.std.specs.Prelude.{◌≡◌, ◌≤◌, ◌+◌, length};
+ghost use Rattle.std.specs.Prelude.{◌≡◌, ◌≤◌, ◌+◌, length, IfOk};
+ghost use Rattle.st_model.specs.declared.deed.Deed.TheVariants.{StoreNumber};
 ghost use Rattle.st_model.specs.Primitives.{bytes_of_number, new_large, number};
 ghost use Rattle.st_frames.specs.Answering.{StoresBytes, answer_word, answer_deed};
 ghost use Rattle.st_frames.specs.Rows.{RowLeaves, Takes};
@@ -51,6 +52,7 @@ fn new_large<O: Objects>(m: &mut O, r: &Registers, n: u32) -> Result<Answer, Dea
     requires room { 1 ≤ O.room m.old }
     ensures does { RowLeaves O.Objects.own (new_large O.names (bytes_of_number n))
         answer_word answer_deed m.old r.now result m.new r.now }
+    ensures deed { IfOk result (λ a. a.deed ≡ StoreNumber a.word n) }
     ensures takes { Takes O.Objects.own 1 m.old m.new }
 {
     let class = page(m, PageObject::LargeClass);
@@ -64,18 +66,23 @@ fn new_large<O: Objects>(m: &mut O, r: &Registers, n: u32) -> Result<Answer, Dea
     Ok(Answer { word, deed })
 }
 
-/// The SmallInteger of a number, or a new LargePositiveInteger.
+/// The SmallInteger of a number, or a new LargePositiveInteger, whose bytes are left to be stored.
 #[tactic(auto, using(crate::proofs::Doing::rows), unfolding(st_model::specs::Primitives::number))]
 pub fn number<O: Objects>(m: &mut O, r: &Registers, n: u32) -> Result<Answer, Dead>
     requires room { 1 ≤ O.room m.old }
     ensures does { RowLeaves O.Objects.own (number O.names n)
         answer_word answer_deed m.old r.now result m.new r.now }
+    ensures deed { IfOk result (λ a. a.deed ≡ StoreNumber a.word n) }
     ensures takes { Takes O.Objects.own 1 m.old m.new }
 {
     if n < 16384 {
+        let word = small(n);
         Ok(Answer {
-            word: small(n),
-            deed: Deed::Nothing,
+            word,
+            deed: Deed::StoreNumber {
+                object: word,
+                number: n,
+            },
         })
     } else {
         new_large(m, r, n)

@@ -14,7 +14,9 @@ ghost use Rattle.st_frames.specs.Rows.{RowReads, RowLeaves, Takes};
 use crate::elements::count_literals;
 use crate::numbers::small_word;
 use crate::shapes::MethodShape;
-use st_frames::{Answer, Registers, bits_or_die, page, positive_small, succeed_leaving, succeed_with, top, under};
+use st_frames::{
+    Answer, Registers, bits_or_die, page, positive_small, succeed_leaving, succeed_with, top, under,
+};
 use st_memory::Objects;
 use st_model::{Dead, Deed, Kind, PageObject, Tried, Word};
 

@@ -10,7 +10,9 @@ ghost use Rattle.st_storage.specs.Storing.{replacing_in, IsFewBytes};
 ghost use Rattle.st_frames.specs.Rows.{RowReads, RowLeaves, Takes};
 
 use crate::shapes::Replacing;
-use st_frames::{Answer, Registers, check_bytes, find_bytes, positive_small, succeed_leaving, top, under};
+use st_frames::{
+    Answer, Registers, check_bytes, find_bytes, positive_small, succeed_leaving, top, under,
+};
 use st_memory::Objects;
 use st_model::{Dead, Deed, Tried, Word};
 

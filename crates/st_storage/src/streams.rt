@@ -17,7 +17,10 @@ use crate::putting::store_element;
 use crate::shapes::{Element, Elements, Putting, Standing, Storing};
 use crate::storing::unit_of_element;
 use crate::strings::{character_byte, fetch_character};
-use st_frames::{Answer, Registers, check_bytes, fetch_integer, page, small, succeed_leaving, succeed_with, top, under};
+use st_frames::{
+    Answer, Registers, check_bytes, fetch_integer, page, small, succeed_leaving, succeed_with, top,
+    under,
+};
 use st_memory::Objects;
 use st_model::{Dead, Deed, Kind, PageObject, Tried, Word};
 

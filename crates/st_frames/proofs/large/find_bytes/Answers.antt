@@ -1,4 +1,4 @@
-use Rattle.std.proofs.Common.{rules, ◌≡◌, Err, ℕ, ◌+◌, ◌≤◌, ◌<◌, List, length, arith}
+use Rattle.std.proofs.Common.{rules, ◌≡◌, Err, arith}
 use Rattle.st_frames.specs.Rows.{row_state}
 use Rattle.st_frames.proofs.Doing.{row-memory}
 use Rattle.st_frames.proofs.BytesLeft.{bytes-left, bytes-past, bytes-unleft, bytes-unsized, some_more}

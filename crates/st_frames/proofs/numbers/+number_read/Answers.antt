@@ -1,4 +1,4 @@
-use Rattle.std.proofs.Common.{◌<◌, ◌+◌, ◌*◌, ◌^◌, arith}
+use Rattle.std.proofs.Common.{arith}
 use Rattle.st_frames.proofs.Valued.{next_byte}
 use Rattle.st_frames.proofs.numbers.+number_read.Goals as goal
 
