@@ -76,3 +76,4 @@ mod ProcessRows
 mod InputRows
 mod BlockRows
 mod PerformRows
+mod EventRows
