@@ -3,8 +3,8 @@ use Rattle.std.proofs.Common.{◌≡◌, ℕ, suc, zero, List, [], ◌∷◌, �
 use Rattle.std.specs.Prelude.{pos, replicate}
 use Rattle.st_model.specs.declared.event.Event.{Event}
 use Rattle.st_model.specs.declared.event.Event.TheVariants.{Word, Mouse, Clock, Tick}
-use Rattle.st_model.specs.Values.{Value, Small, Ref}
-use Rattle.st_model.specs.Objects.{Object, nil}
+use Rattle.st_model.specs.Values.{Value, Ref}
+use Rattle.st_model.specs.Objects.{nil}
 use Rattle.st_model.specs.Machine.{State, World, empty_world}
 use Rattle.st_model.specs.Table.{Table, table}
 use Rattle.st_model.specs.Events.{event}

@@ -77,3 +77,5 @@ mod InputRows
 mod BlockRows
 mod PerformRows
 mod EventRows
+mod CycleRows
+mod SaveRows
