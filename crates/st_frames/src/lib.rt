@@ -1,6 +1,9 @@
-//! The registers, in a row and between bytecodes; the contexts that they are fetched from, and the stack (chapter 27).
+//! The registers, in a row and between bytecodes; the contexts that they are fetched from, and the stack (chapter 27). The numbers
+//! that primitives take, and the answers that they push (chapter 29).
 #![tactic(auto)]
 
+mod answer;
+mod answering;
 mod bytes;
 mod context;
 mod fetched;
@@ -9,16 +12,22 @@ mod fields;
 mod frame;
 mod frame_stack;
 mod holding;
+mod large;
+mod numbers;
 mod registers;
 mod stack;
 mod words;
 
+pub use answer::Answer;
+pub use answering::{answer_with, succeed_leaving, succeed_with};
 pub use bytes::next_byte;
 pub use context::{fetch_context_registers, store_context_registers, switch};
 pub use fetched::Fetched;
 pub use fetching::{fetch_integer, page};
 pub use frame::{Frame, Loaded};
 pub use holding::{fetch, fetch_scheduled, hold, load};
+pub use large::{find_bytes, number};
+pub use numbers::{bits_or_die, check_bytes, check_class, positive_small, positive_value};
 pub use registers::Registers;
 pub use stack::{drop_words, jump, look_at_words, pop, push, top, under};
 pub use words::{small, small_integer};

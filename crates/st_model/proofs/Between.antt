@@ -10,9 +10,13 @@ use Rattle.st_model.specs.Settled.{reclaim}
 use Rattle.st_model.specs.Show.{Shows, IsClosed}
 use Rattle.st_model.specs.Foreseen.{IsSound, ShownAgain}
 use Rattle.st_model.specs.Saving.{settled_after}
+use Rattle.st_model.specs.Values.{Value}
+use Rattle.st_model.specs.Processes.{switch_to_process}
+use Rattle.st_model.proofs.ProcessesSame.{switch_to_process-same}
+use Rattle.st_model.proofs.Names.{any_value}
 use Rattle.st_model.proofs.Same.{Simulation, StateSame, TransitionSame, Anything, SameAnswer, strict, strict_states}
 use Rattle.st_model.proofs.HeapsSame.{cycle_simulation}
-use Rattle.st_model.proofs.Bounded.{bounded_simulation, bounded_start, state_is}
+use Rattle.st_model.proofs.Bounded.{bounded_simulation, bounded_start, state_is, value-itself}
 use Rattle.st_model.proofs.Closed.{sound_simulation, stays_sound}
 use Rattle.st_model.proofs.Reclaiming.{reclaim_sound}
 use Rattle.st_model.proofs.Started.{naming, states_start}
@@ -64,3 +68,10 @@ module _ (m : (H : Type 0) → ObjectMemory H → Step H (Unit {0}))
     -- once what nothing supports is dropped in both
     pub shows_settled : IsSound c → c.head.entries ≤ 32767 → ShownAgain (settled_after table ((m Table bounded_table).run c)) (settled_after births ((m Births births).run s))
     shows_settled k few = settled_shown ((m Births births).run s) ((m Table bounded_table).run c) beside (λ d e. (keeps_sound c d k few e).0)
+
+-- a switch to a process leaves sound what was
+pub switched_sound : (c d : State Table) (p : Value) → IsSound c → c.head.entries ≤ 32767 → (switch_to_process bounded_table p).run c ≡ Went tt d → IsSound d × (d.head ≡ c.head)
+switched_sound c d p k few e =
+    let same : SameAnswer (sound_simulation c.head few) (switch_to_process bounded_table p) (switch_to_process bounded_table p) =
+    switch_to_process-same (sound_simulation c.head few) p p (record { live = any_value p; is = sym (value-itself p) }) in
+    stays_sound c.head few Anything itself (switch_to_process bounded_table p) same c d tt k refl e

@@ -478,3 +478,7 @@ deed_uses d t =
     let e = deed_total one (λ f k o. refl) d t in
     let n = deed_total words_of (λ f k o. k.words o) d t in
     λ i. record { entries = e i; words = n i }
+
+-- and leaves there what is there
+pub deed_leaves_there : (d : Deed) (t : Table) (x : Value) → is_there table (deed_done d t) x ≡ is_there table t x
+deed_leaves_there d t x = there-moved (deed_done d) (world_done d) table (record { read = refl; replace = refl; exchange = refl; named = refl }) (deed_leaves d) t x

@@ -1,43 +1,22 @@
--- Answers where a deed is left: it commutes with what pops and pushes.
-use Rattle.std.proofs.Common.{◌≡◌, ℕ, ◌+◌, true, refl, ap, ◌∙◌}
+-- The next element of a stream is taken or put where a deed is left, and then its position rises.
+use Rattle.std.proofs.Common.{◌≡◌, ℕ, ◌+◌, refl}
 use Rattle.st_model.specs.declared.dead.Dead.{Dead}
 use Rattle.st_model.specs.declared.deed.Deed.{Deed}
 use Rattle.st_model.specs.Values.{Value, Small}
-use Rattle.st_model.specs.Machine.{ObjectMemory, State, Transition, Died, Went, Step, answer, after, ◌>>=◌, ◌>>◌}
+use Rattle.st_model.specs.Machine.{ObjectMemory, State, Died, Went, answer, after, ◌>>=◌, ◌>>◌}
 use Rattle.st_model.specs.Table.{Table, IsTabular}
 use Rattle.st_model.specs.Steps.{fetch_field, store_field}
 use Rattle.st_model.specs.Storage.{Standing, Putting, store_element, stream_element, take_next, put_next}
-use Rattle.st_model.specs.Primitives.{answer_with}
-use Rattle.st_model.specs.Deeds.{deed_done, with_deed}
-use Rattle.st_model.proofs.Deeds.{Commutes, moved, deed_leaves, answer_with-commutes, store_field-commutes}
-use Rattle.st_storage.specs.Reading.{succeed_with}
-
-went : {A : Type 0} (g : Table → Table) (step : Step Table A) (a : A) (s t : State Table) → Commutes g step → step.run s ≡ Went a t → step.run (record s { memory = g s.memory }) ≡ Went a (record t { memory = g t.memory })
-went g step a s t h e = h.go s ∙ ap (moved g) e
-
-died : {A : Type 0} (g : Table → Table) (step : Step Table A) (s : State Table) (k : Dead) → Commutes g step → step.run s ≡ Died k → step.run (record s { memory = g s.memory }) ≡ Died k
-died g step s k h e = h.go s ∙ ap (moved g) e
-
-then_true : (m : ObjectMemory Table) (n : ℕ) (v : Value) (s : State Table) (x : Transition (State Table) (Unit {0})) → (answer_with m n v).run s ≡ x → (succeed_with m n v).run s ≡ after x (λ u t. Went true t)
-unfolding succeed_with answer ◌>>◌ ◌>>=◌
-then_true m n v s x e = ap (λ y. after y (λ u t. Went true t)) e
+use Rattle.st_model.specs.Deeds.{deed_done, world_done, with_deed}
+use Rattle.st_model.proofs.Deeds.{deed_leaves, store_field-commutes}
+use Rattle.st_frames.proofs.Commuting.{went, died}
 
 module _ (m : ObjectMemory Table) (tabular : IsTabular m) (d : Deed) where
-  pub answered-left : (n : ℕ) (v : Value) (s t : State Table) → (answer_with m n v).run s ≡ Went tt t → (succeed_with m n v).run (with_deed d s) ≡ Went true (with_deed d t)
-  unfolding after
-  answered-left n v s t e = then_true m n v (with_deed d s) _ (went (deed_done d) (answer_with m n v) tt s t (answer_with-commutes (deed_done d) m tabular (deed_leaves d) n v) e)
-
-  pub answered-died : (n : ℕ) (v : Value) (s : State Table) (k : Dead) → (answer_with m n v).run s ≡ Died k → (succeed_with m n v).run (with_deed d s) ≡ Died k
-  unfolding after
-  answered-died n v s k e = then_true m n v (with_deed d s) _ (died (deed_done d) (answer_with m n v) s k (answer_with-commutes (deed_done d) m tabular (deed_leaves d) n v) e)
-
   field-left : (v : Value) (i : ℕ) (x : Value) (s t : State Table) → (store_field m v i x).run s ≡ Went tt t → (store_field m v i x).run (with_deed d s) ≡ Went tt (with_deed d t)
-  field-left v i x s t e = went (deed_done d) (store_field m v i x) tt s t (store_field-commutes (deed_done d) m tabular (deed_leaves d) v i x) e
+  field-left v i x s t e = went (deed_done d) (world_done d) (store_field m v i x) tt s t (store_field-commutes (deed_done d) (world_done d) m tabular (deed_leaves d) v i x) e
 
   field-died : (v : Value) (i : ℕ) (x : Value) (s : State Table) (k : Dead) → (store_field m v i x).run s ≡ Died k → (store_field m v i x).run (with_deed d s) ≡ Died k
-  field-died v i x s k e = died (deed_done d) (store_field m v i x) s k (store_field-commutes (deed_done d) m tabular (deed_leaves d) v i x) e
-
-pub ruleset answered = (answered-left, answered-died)
+  field-died v i x s k e = died (deed_done d) (world_done d) (store_field m v i x) s k (store_field-commutes (deed_done d) (world_done d) m tabular (deed_leaves d) v i x) e
 
 -- the next element of a stream is taken or put, and then its position rises
 module _ (m : ObjectMemory Table) (tabular : IsTabular m) (d : Deed) where

@@ -7,8 +7,8 @@ use Rattle.st_model.specs.Table.{Table}
 use Rattle.st_model.specs.Steps.{top, under}
 use Rattle.st_model.specs.Primitives.{number_of}
 use Rattle.st_model.specs.Storage.{count_elements, fetch_element, place_at, place_behind_fixed, store_and_answer, storing_behind_fixed, storing_by_index, storing_character, primitive_at, primitive_at_put, primitive_instance_variable_at, primitive_instance_variable_at_put, primitive_size, primitive_string_at_put, Storing}
-use Rattle.st_storage.specs.Reading.{succeed_by}
-use Rattle.st_storage.proofs.Tries.{primitive-done}
+use Rattle.st_frames.specs.Answering.{succeed_by}
+use Rattle.st_frames.proofs.Tries.{primitive-done}
 
 pub tried-at : (m : ObjectMemory Table) (v w : Value) (a : ℕ) (s : State Table) (y : Transition (State Table) Bool) → (under m 1).run s ≡ Went v s → (top m).run s ≡ Went w s
     → (place_behind_fixed m v w).run s ≡ Went a s → (succeed_by m 1 (fetch_element m v a)).run s ≡ y

@@ -1,5 +1,5 @@
--- Bytes and headers that are stored at once, and as a deed that is left: both come to one state where the first byte and the
--- size are read, or the header and its count.
+-- Bytes and headers that are stored at once, and as a deed that is left: both come to one state where the bytes are read, or the
+-- header and its count.
 use Rattle.std.proofs.Common.{◌≡◌, ◌≢◌, ℕ, zero, suc, ◌+◌, ◌<◌, ◌≤◌, List, [], ◌∷◌, length, Option, Some, None, Bool, true, false, refl, sym, ◌∙◌, ap, arith, inl, inr, ◌⊎◌, length-set, take, drop}
 use Rattle.std.specs.Prelude.{◌-◌, ◌==◌, ◌&&◌, slice_get, nat_lt, nat_le, if◌then◌else◌}
 use Rattle.std.proofs.lemmas.Bool.Decides.{nat_tests}
@@ -18,215 +18,9 @@ use Rattle.st_model.specs.Storage.{count_literals, check_header, Replacing, repl
 use Rattle.st_model.specs.Deeds.{changed_object, changed_by, byte_stored, bytes_stored, bytes_replaced, bytes_of_object, bytes_from, header_stored, literal_stored, over}
 use Rattle.st_model.proofs.TableLemmas.{changed-some}
 use Rattle.st_model.proofs.Leaving.{word-left, word-unleft, byte-left, byte-unleft, literal-left}
-
-changed-again : (t : Table) (n : ℕ) (a b : Object) → changed (changed t n a) n b ≡ changed t n b
-changed-again [] n a b = refl
-changed-again (None ∷ t) zero a b = refl
-changed-again (Some o ∷ t) zero a b = refl
-changed-again (None ∷ t) (suc n) a b = ap (λ u. None ∷ u) (changed-again t n a b)
-changed-again (Some o ∷ t) (suc n) a b = ap (λ u. Some o ∷ u) (changed-again t n a b)
-
-changed-same : (t : Table) (n : ℕ) (o : Object) → entry t n ≡ Some o → changed t n o ≡ t
-changed-same [] n o e = cc
-changed-same (None ∷ t) zero o e = refl
-changed-same (Some a ∷ t) zero o e = let q : a ≡ o = cc in ap (λ b. Some b ∷ t) (sym q)
-changed-same (None ∷ t) (suc n) o e = ap (λ u. None ∷ u) (changed-same t n o e)
-changed-same (Some a ∷ t) (suc n) o e = ap (λ u. Some a ∷ u) (changed-same t n o e)
-
-got : {A : Type 0} (xs : List A) (i : ℕ) → i < length xs → (x : A) × (slice_get xs i ≡ Some x)
-got [] i l = absurd (omega arith)
-got (y ∷ xs) zero l = (y, refl)
-got (y ∷ xs) (suc i) l = got xs i (omega arith)
-
-got_below : {A : Type 0} (xs : List A) (i : ℕ) (x : A) → slice_get xs i ≡ Some x → i < length xs
-got_below [] i x e = cc
-got_below (y ∷ xs) zero x e = omega arith
-got_below (y ∷ xs) (suc i) x e = let h = got_below xs i x e in omega (arith, h)
-
-got_past : {A : Type 0} (xs : List A) (i : ℕ) → length xs ≤ i → slice_get xs i ≡ None
-got_past [] i l = refl
-got_past (y ∷ xs) zero l = absurd (omega arith)
-got_past (y ∷ xs) (suc i) l = got_past xs i (omega arith)
-
-died : {A B : Type 0} (a k : Dead) → (let x : Transition (State Table) A = Died a in x ≡ Died k) → (let x : Transition (State Table) B = Died a in x ≡ Died k)
-died a k e = let q : a ≡ k = cc in ap (λ c. Died c) q
-
--- where a byte is stored, kind, fields and the number of units stay
-kept : {A : Type 0} (f : Object → A) (b : Bool) (p o : Object) → f p ≡ f o → f (if b then p else o) ≡ f o
-kept f true p o e = e
-kept f false p o e = refl
-
-module _ (i x : ℕ) (o : Object) where
-  stored_kind : (byte_stored i x o).kind ≡ o.kind
-  stored_kind = kept (λ p. p.kind) (has_bytes o.kind && nat_le (first_unit o) i) (object_with_unit o (i - first_unit o) x) o refl
-
-  stored_first : first_unit (byte_stored i x o) ≡ first_unit o
-  stored_first = kept first_unit (has_bytes o.kind && nat_le (first_unit o) i) (object_with_unit o (i - first_unit o) x) o refl
-
-  stored_length : length (byte_stored i x o).units ≡ length o.units
-  stored_length = kept (λ p. length p.units) (has_bytes o.kind && nat_le (first_unit o) i) (object_with_unit o (i - first_unit o) x) o (length-set o.units (i - first_unit o) x)
-
--- an object is there that has this byte
-pub record HasByte (t : Table) (n i : ℕ) (o : Object) : Type 0 where
-  pub is : entry t n ≡ Some o
-  pub bytes : has_bytes o.kind ≡ true
-  pub low : first_unit o ≤ i
-  pub high : i < first_unit o + length o.units
-
-no_pointers : (k : Kind) → has_bytes k ≡ true → is_pointers k ≡ false
-no_pointers kind.Pointers e = cc
-no_pointers kind.Words e = cc
-no_pointers kind.Bytes e = refl
-no_pointers kind.Method e = refl
-
-size_with_bytes : (o : Object) → has_bytes o.kind ≡ true → size_of o ≡ first_unit o + length o.units
-size_with_bytes o e = rw (no_pointers o.kind e) refl
-
-below : (x y : ℕ) → (x < y) ⊎ (y ≤ x)
-below x y = grind arith
+use Rattle.st_frames.proofs.BytesLeft.{got, got_below, died, HasByte, no_pointers, size_with_bytes, below, looks, read_is, has_byte, fetched, past, sized, sized_there, bytes-left}
 
 module _ (m : ObjectMemory Table) (tabular : IsTabular m) where
-  looks : {A : Type 0} → (Object → Step Table A) → Option Object → Step Table A
-  looks f x = found x >>= f
-
-  read_is : (t : Table) (n : ℕ) → m.read t n ≡ entry t n
-  read_is t n = λ j. tabular.read j t n
-
-  byte_of : ℕ → Object → Step Table ℕ
-  byte_of i o = check dead.Kind (has_bytes o.kind) >> (check dead.Field (nat_le (first_unit o) i) >> or_die dead.Field (slice_get o.units (i - first_unit o)))
-
-  byte_looks : (n i : ℕ) (s : State Table) (y : Option Object) (w : ℕ) (u : State Table) → entry s.memory n ≡ y → (looks (byte_of i) y).run s ≡ Went w u → (o : Object) × HasByte s.memory n i o
-  unfolding looks byte_of ◌>>=◌ ◌>>◌ after found answer die check or_die
-  byte_looks n i s None w u e f = cc
-  byte_looks n i s (Some o) w u e f = of_kind (has_bytes o.kind) (nat_le (first_unit o) i) (slice_get o.units (i - first_unit o)) refl refl refl f
-    where
-      of_kind : (b c : Bool) (x : Option ℕ) → has_bytes o.kind ≡ b → nat_le (first_unit o) i ≡ c → slice_get o.units (i - first_unit o) ≡ x
-          → (check dead.Kind b >> (check dead.Field c >> or_die dead.Field x)).run s ≡ Went w u → (o : Object) × HasByte s.memory n i o
-      of_kind false c x k l g f = cc
-      of_kind true false x k l g f = cc
-      of_kind true true None k l g f = cc
-      of_kind true true (Some v) k l g f =
-          let h = got_below o.units (i - first_unit o) v g in
-          let a : first_unit o ≤ i = grind (arith, nat_tests) in
-          (o, record { is = e; bytes = k; low = a; high = omega (arith, a, h) })
-
-  has_byte : (n i w : ℕ) (s u : State Table) → (fetch_byte m (Ref n) i).run s ≡ Went w u → (o : Object) × HasByte s.memory n i o
-  unfolding fetch_byte object object_named looks byte_of ◌>>=◌
-  has_byte n i w s u e = byte_looks n i s (m.read s.memory n) w u (sym (read_is s.memory n)) e
-
-  fetched : (n i : ℕ) (s : State Table) (o : Object) → HasByte s.memory n i o → (w : ℕ) × ((fetch_byte m (Ref n) i).run s ≡ Went w s)
-  unfolding fetch_byte object object_named ◌>>=◌ ◌>>◌ after found answer check or_die
-  fetched n i s o h =
-      let r : m.read s.memory n ≡ Some o = read_is s.memory n ∙ h.is in
-      let x = got o.units (i - first_unit o) (omega (arith, h.low, h.high)) in
-      let l : nat_le (first_unit o) i ≡ true = let q = h.low in grind (arith, nat_tests) in
-      (x.0, rw (r, h.bytes, l, x.1) refl)
-
-  past : (n i : ℕ) (s : State Table) (o : Object) → entry s.memory n ≡ Some o → has_bytes o.kind ≡ true → first_unit o ≤ i → first_unit o + length o.units ≤ i
-      → (fetch_byte m (Ref n) i).run s ≡ Died dead.Field
-  unfolding fetch_byte object object_named ◌>>=◌ ◌>>◌ after found answer check or_die die
-  past n i s o e k low high =
-      let r : m.read s.memory n ≡ Some o = read_is s.memory n ∙ e in
-      let x = got_past o.units (i - first_unit o) (omega (arith, low, high)) in
-      let l : nat_le (first_unit o) i ≡ true = grind (arith, nat_tests) in
-      rw (r, k, l, x) refl
-
-  sized : (n k : ℕ) (s u : State Table) (o : Object) → entry s.memory n ≡ Some o → (fetch_size m (Ref n)).run s ≡ Went k u → k ≡ size_of o
-  unfolding fetch_size object object_named ◌>>=◌ after found answer
-  sized n k s u o e f =
-      let r : m.read s.memory n ≡ Some o = read_is s.memory n ∙ e in
-      let q = rw r at f in cc
-
-  sized_there : (n : ℕ) (k : Dead) (s : State Table) (o : Object) → entry s.memory n ≡ Some o → (fetch_size m (Ref n)).run s ≡ Died k → ⊥
-  unfolding fetch_size object object_named ◌>>=◌ after found answer
-  sized_there n k s o e f =
-      let r : m.read s.memory n ≡ Some o = read_is s.memory n ∙ e in
-      let q = rw r at f in cc
-
-  store_then : (v : Value) (i b : ℕ) (bs : List ℕ) (s u : State Table) → (store_byte m v i b).run s ≡ Went tt u → (store_bytes m v i (b ∷ bs)).run s ≡ (store_bytes m v (suc i) bs).run u
-  unfolding store_bytes ◌>>◌ ◌>>=◌ after
-  store_then v i b bs s u e = rw e refl
-
-  store_died : (v : Value) (i b : ℕ) (bs : List ℕ) (s : State Table) (k : Dead) → (store_byte m v i b).run s ≡ Died k → (store_bytes m v i (b ∷ bs)).run s ≡ Died k
-  unfolding store_bytes ◌>>◌ ◌>>=◌ after
-  store_died v i b bs s k e = rw e refl
-
-  stored_none : (v : Value) (i : ℕ) (s : State Table) → (store_bytes m v i []).run s ≡ Went tt s
-  unfolding store_bytes answer
-  stored_none v i s = refl
-
-  stored_byte : (n i b : ℕ) (s : State Table) (o : Object) → HasByte s.memory n i o → (store_byte m (Ref n) i b).run s ≡ Went tt (record s { memory = changed s.memory n (byte_stored i b o) })
-  stored_byte n i b s o h =
-      let w = fetched n i s o h in
-      byte-left m tabular (Ref n) i b w.0 s w.1 ∙ ap (λ y. Went tt (record s { memory = changed_object (byte_stored i b) s.memory n y })) h.is
-
-  -- bytes that the object has
-  stored_all : (n i : ℕ) (bs : List ℕ) (s : State Table) (o : Object) → entry s.memory n ≡ Some o → has_bytes o.kind ≡ true → first_unit o ≤ i → i + length bs ≤ first_unit o + length o.units
-      → (store_bytes m (Ref n) i bs).run s ≡ Went tt (record s { memory = changed s.memory n (bytes_stored i bs o) })
-  stored_all n i [] s o e k low high = stored_none (Ref n) i s ∙ ap (λ (t : Table). Went tt (record s { memory = t })) (sym (changed-same s.memory n o e))
-  stored_all n i (b ∷ bs) s o e k low high =
-      let p = byte_stored i b o in
-      let h : HasByte s.memory n i o = record { is = e; bytes = k; low = low; high = omega (arith, high) } in
-      let a = stored_kind i b o in
-      let f = stored_first i b o in
-      let l = stored_length i b o in
-      store_then (Ref n) i b bs s (record s { memory = changed s.memory n p }) (stored_byte n i b s o h)
-      ∙ (stored_all n (suc i) bs (record s { memory = changed s.memory n p }) p (changed-some s.memory n p o e) (ap has_bytes a ∙ k) (omega (arith, f, low)) (omega (arith, f, l, high))
-      ∙ ap (λ (t : Table). Went tt (record s { memory = t })) (changed-again s.memory n p (bytes_stored (suc i) bs p)))
-
-  -- and more than it has
-  stored_past : (n i : ℕ) (bs : List ℕ) (s : State Table) (o : Object) → entry s.memory n ≡ Some o → has_bytes o.kind ≡ true → first_unit o ≤ i → i ≤ first_unit o + length o.units
-      → first_unit o + length o.units < i + length bs → (store_bytes m (Ref n) i bs).run s ≡ Died dead.Field
-  stored_past n i [] s o e k low within high = absurd (omega (arith, within, high))
-  stored_past n i (b ∷ bs) s o e k low within high =
-      let p = byte_stored i b o in
-      let a = stored_kind i b o in
-      let f = stored_first i b o in
-      let g = stored_length i b o in
-      elim (below i (first_unit o + length o.units)) [
-        | inl l ↦
-            store_then (Ref n) i b bs s (record s { memory = changed s.memory n p }) (stored_byte n i b s o (record { is = e; bytes = k; low = low; high = l }))
-            ∙ stored_past n (suc i) bs (record s { memory = changed s.memory n p }) p (changed-some s.memory n p o e) (ap has_bytes a ∙ k) (omega (arith, f, low)) (omega (arith, f, g, l)) (omega (arith, f, g, high))
-        | inr l ↦ store_died (Ref n) i b bs s dead.Field (byte-unleft m tabular (Ref n) i b dead.Field s (past n i s o e k low l))
-      ]
-
-  -- of a value, by what is read first: its byte and its size
-  pub bytes-left : (v : Value) (i : ℕ) (bs : List ℕ) (s : State Table) (w size : ℕ) → (fetch_byte m v i).run s ≡ Went w s → (fetch_size m v).run s ≡ Went size s → i + length bs ≤ size
-      → (store_bytes m v i bs).run s ≡ Went tt (over (λ t. changed_by (bytes_stored i bs) t v) s)
-  unfolding fetch_byte object ◌>>=◌ after die
-  bytes-left (Small n) i bs s w size e f l = cc
-  bytes-left (Ref n) i bs s w size e f l = by (has_byte n i w s s e)
-    where
-      by : ((o : Object) × HasByte s.memory n i o) → (store_bytes m (Ref n) i bs).run s ≡ Went tt (over (λ t. changed_by (bytes_stored i bs) t (Ref n)) s)
-      by q =
-          let o = q.0 in
-          let h = q.1 in
-          let z : size ≡ first_unit o + length o.units = sized n size s s o h.is f ∙ size_with_bytes o h.bytes in
-          stored_all n i bs s o h.is h.bytes h.low (omega (arith, l, z)) ∙ ap (λ y. Went tt (record s { memory = changed_object (bytes_stored i bs) s.memory n y })) (sym h.is)
-
-  pub bytes-past : (v : Value) (i : ℕ) (bs : List ℕ) (s : State Table) (w size : ℕ) → (fetch_byte m v i).run s ≡ Went w s → (fetch_size m v).run s ≡ Went size s → size < i + length bs
-      → (store_bytes m v i bs).run s ≡ Died dead.Field
-  unfolding fetch_byte object ◌>>=◌ after die
-  bytes-past (Small n) i bs s w size e f l = cc
-  bytes-past (Ref n) i bs s w size e f l = by (has_byte n i w s s e)
-    where
-      by : ((o : Object) × HasByte s.memory n i o) → (store_bytes m (Ref n) i bs).run s ≡ Died dead.Field
-      by q =
-          let o = q.0 in
-          let h = q.1 in
-          let z : size ≡ first_unit o + length o.units = sized n size s s o h.is f ∙ size_with_bytes o h.bytes in
-          stored_past n i bs s o h.is h.bytes h.low (let a = h.high in omega (arith, a)) (omega (arith, l, z))
-
-  pub bytes-unsized : (v : Value) (i : ℕ) (s : State Table) (w : ℕ) (k : Dead) → (fetch_byte m v i).run s ≡ Went w s → (fetch_size m v).run s ≡ Died k → ⊥
-  unfolding fetch_byte object ◌>>=◌ after die
-  bytes-unsized (Small n) i s w k e f = cc
-  bytes-unsized (Ref n) i s w k e f = let q = has_byte n i w s s e in sized_there n k s q.0 q.1.is f
-
-  pub bytes-unleft : (v : Value) (i : ℕ) (bs : List ℕ) (s : State Table) (k : Dead) → 0 < length bs → (fetch_byte m v i).run s ≡ Died k → (store_bytes m v i bs).run s ≡ Died k
-  bytes-unleft v i [] s k l e = absurd (omega (arith, l))
-  bytes-unleft v i (b ∷ bs) s k l e = store_died v i b bs s k (byte-unleft m tabular v i b k s e)
-
-  -- bytes that are fetched
   fetch_then : (v : Value) (i n b : ℕ) (bs : List ℕ) (s : State Table) → (fetch_byte m v i).run s ≡ Went b s → (fetch_bytes m v (suc i) n).run s ≡ Went bs s → (fetch_bytes m v i (suc n)).run s ≡ Went (b ∷ bs) s
   unfolding fetch_bytes ◌>>=◌ after answer
   fetch_then v i n b bs s e f = rw (e, f) refl
@@ -238,7 +32,7 @@ module _ (m : ObjectMemory Table) (tabular : IsTabular m) where
   fetched_at : (n i : ℕ) (s : State Table) (o : Object) (b : ℕ) → HasByte s.memory n i o → slice_get o.units (i - first_unit o) ≡ Some b → (fetch_byte m (Ref n) i).run s ≡ Went b s
   unfolding fetch_byte object object_named ◌>>=◌ ◌>>◌ after found answer check or_die
   fetched_at n i s o b h x =
-      let r : m.read s.memory n ≡ Some o = read_is s.memory n ∙ h.is in
+      let r : m.read s.memory n ≡ Some o = read_is m tabular s.memory n ∙ h.is in
       let l : nat_le (first_unit o) i ≡ true = let q = h.low in grind (arith, nat_tests) in
       rw (r, h.bytes, l, x) refl
 
@@ -261,20 +55,20 @@ module _ (m : ObjectMemory Table) (tabular : IsTabular m) where
   kind_is : (n : ℕ) (s u : State Table) (k : Kind) (o : Object) → entry s.memory n ≡ Some o → (fetch_kind m (Ref n)).run s ≡ Went k u → k ≡ o.kind
   unfolding fetch_kind object object_named ◌>>=◌ after found answer
   kind_is n s u k o e f =
-      let r : m.read s.memory n ≡ Some o = read_is s.memory n ∙ e in
+      let r : m.read s.memory n ≡ Some o = read_is m tabular s.memory n ∙ e in
       let q = rw r at f in cc
 
   pub bytes-fetched : (v : Value) (i k : ℕ) (s : State Table) (w size : ℕ) → (fetch_byte m v i).run s ≡ Went w s → (fetch_size m v).run s ≡ Went size s → (fetch_kind m v).run s ≡ Went kind.Bytes s
       → i + k ≤ size → (fetch_bytes m v i k).run s ≡ Went (bytes_from s.memory v i k) s
   unfolding fetch_byte object ◌>>=◌ after die
   bytes-fetched (Small n) i k s w size e f g l = cc
-  bytes-fetched (Ref n) i k s w size e f g l = by (has_byte n i w s s e)
+  bytes-fetched (Ref n) i k s w size e f g l = by (has_byte m tabular n i w s s e)
     where
       by : ((o : Object) × HasByte s.memory n i o) → (fetch_bytes m (Ref n) i k).run s ≡ Went (bytes_from s.memory (Ref n) i k) s
       by q =
           let o = q.0 in
           let h = q.1 in
-          let z : size ≡ first_unit o + length o.units = sized n size s s o h.is f ∙ size_with_bytes o h.bytes in
+          let z : size ≡ first_unit o + length o.units = sized m tabular n size s s o h.is f ∙ size_with_bytes o h.bytes in
           let b : is_bytes o.kind ≡ true = ap is_bytes (sym (kind_is n s s kind.Bytes o h.is g)) in
           fetched_all n i k s o h.is h.bytes h.low (omega (arith, l, z)) ∙ ap (λ bs. Went bs s) (sym (rw (h.is, b) refl))
 
@@ -293,22 +87,22 @@ module _ (m : ObjectMemory Table) (tabular : IsTabular m) where
   fetched_past n i zero s o e f low within high = absurd (omega (arith, within, high))
   fetched_past n i (suc k) s o e f low within high = elim (below i (first_unit o + length o.units)) [
     | inl l ↦
-        let w = fetched n i s o (record { is = e; bytes = f; low = low; high = l }) in
+        let w = fetched m tabular n i s o (record { is = e; bytes = f; low = low; high = l }) in
         fetch_died (Ref n) i k w.0 s dead.Field w.1 (fetched_past n (suc i) k s o e f (omega (arith, low)) (omega (arith, l)) (omega (arith, high)))
-    | inr l ↦ bytes-unfetched (Ref n) i (suc k) s dead.Field (omega arith) (past n i s o e f low l)
+    | inr l ↦ bytes-unfetched (Ref n) i (suc k) s dead.Field (omega arith) (past m tabular n i s o e f low l)
   ]
 
   pub bytes-unfetchable : (v : Value) (i k : ℕ) (s : State Table) (w size : ℕ) → (fetch_byte m v i).run s ≡ Went w s → (fetch_size m v).run s ≡ Went size s → size < i + k
       → (fetch_bytes m v i k).run s ≡ Died dead.Field
   unfolding fetch_byte object ◌>>=◌ after die
   bytes-unfetchable (Small n) i k s w size e f l = cc
-  bytes-unfetchable (Ref n) i k s w size e f l = by (has_byte n i w s s e)
+  bytes-unfetchable (Ref n) i k s w size e f l = by (has_byte m tabular n i w s s e)
     where
       by : ((o : Object) × HasByte s.memory n i o) → (fetch_bytes m (Ref n) i k).run s ≡ Died dead.Field
       by q =
           let o = q.0 in
           let h = q.1 in
-          let z : size ≡ first_unit o + length o.units = sized n size s s o h.is f ∙ size_with_bytes o h.bytes in
+          let z : size ≡ first_unit o + length o.units = sized m tabular n size s s o h.is f ∙ size_with_bytes o h.bytes in
           fetched_past n i k s o h.is h.bytes h.low (let a = h.high in omega (arith, a)) (omega (arith, l, z))
 
   taken_length : (xs : List ℕ) (j k : ℕ) → j + k ≤ length xs → length (take k (drop j xs)) ≡ k
@@ -321,19 +115,19 @@ module _ (m : ObjectMemory Table) (tabular : IsTabular m) where
       → i + k ≤ size → length (bytes_from s.memory v i k) ≡ k
   unfolding fetch_byte object ◌>>=◌ after die
   bytes-counted (Small n) i k s w size e f g l = cc
-  bytes-counted (Ref n) i k s w size e f g l = by (has_byte n i w s s e)
+  bytes-counted (Ref n) i k s w size e f g l = by (has_byte m tabular n i w s s e)
     where
       by : ((o : Object) × HasByte s.memory n i o) → length (bytes_from s.memory (Ref n) i k) ≡ k
       by q =
           let o = q.0 in
           let h = q.1 in
-          let z : size ≡ first_unit o + length o.units = sized n size s s o h.is f ∙ size_with_bytes o h.bytes in
+          let z : size ≡ first_unit o + length o.units = sized m tabular n size s s o h.is f ∙ size_with_bytes o h.bytes in
           let b : is_bytes o.kind ≡ true = ap is_bytes (sym (kind_is n s s kind.Bytes o h.is g)) in
           let low = h.low in
           rw (h.is, b) (taken_length o.units (i - first_unit o) k (omega (arith, l, z, low)))
 
   -- bytes stored in an object of kind Bytes
-  of_kind_bytes : (n : ℕ) (s : State Table) (y : Option Object) → (looks (λ o. answer o.kind) y).run s ≡ Went kind.Bytes s → (o : Object) × (y ≡ Some o) × (is_bytes o.kind ≡ true)
+  of_kind_bytes : (n : ℕ) (s : State Table) (y : Option Object) → (looks m tabular (λ o. answer o.kind) y).run s ≡ Went kind.Bytes s → (o : Object) × (y ≡ Some o) × (is_bytes o.kind ≡ true)
   unfolding looks ◌>>=◌ after found answer die
   of_kind_bytes n s None e = cc
   of_kind_bytes n s (Some o) e = let q : o.kind ≡ kind.Bytes = cc in (o, refl, ap is_bytes q)
@@ -346,7 +140,7 @@ module _ (m : ObjectMemory Table) (tabular : IsTabular m) where
     where
       by : ((o : Object) × (m.read s.memory n ≡ Some o) × (is_bytes o.kind ≡ true)) → changed_by (bytes_stored i bs) s.memory (Ref n) ≡ changed_by (bytes_replaced i bs) s.memory (Ref n)
       by q =
-          let is : entry s.memory n ≡ Some q.0 = sym (read_is s.memory n) ∙ q.1 in
+          let is : entry s.memory n ≡ Some q.0 = sym (read_is m tabular s.memory n) ∙ q.1 in
           rw (is, q.2) refl
 
   -- bytes that become those of another object
@@ -394,14 +188,14 @@ module _ (m : ObjectMemory Table) (tabular : IsTabular m) where
 
   header_by : Value → Option Object → Step Table (Unit {0})
   header_by x y =
-      (looks (λ o. check dead.Kind (is_method o.kind) >> or_die dead.Field (slice_get o.fields 0)) y >>= (λ header. bits_or_die header >>= (λ bits. answer (literal_count (Small bits)))))
+      (looks m tabular (λ o. check dead.Kind (is_method o.kind) >> or_die dead.Field (slice_get o.fields 0)) y >>= (λ header. bits_or_die header >>= (λ bits. answer (literal_count (Small bits)))))
       >>= (λ n. bits_or_die x >>= (λ bits. check dead.Field (literal_count (Small bits) == n)))
 
   header_stored_there : (n : ℕ) (x : Value) (s : State Table) (o : Object) → entry s.memory n ≡ Some o → is_method o.kind ≡ true → 0 < length o.fields → is_there m s.memory x ≡ true
       → (store_method_field m (Ref n) 0 x).run s ≡ Went tt (record s { memory = changed s.memory n (with_field o 0 x) })
   unfolding store_method_field object object_named ◌>>=◌ ◌>>◌ after found answer check set_field store_at stored_at
   header_stored_there n x s o e k l there =
-      let r : m.read s.memory n ≡ Some o = read_is s.memory n ∙ e in
+      let r : m.read s.memory n ≡ Some o = read_is m tabular s.memory n ∙ e in
       let b : nat_lt 0 (length o.fields) ≡ true = grind (arith, nat_tests) in
       rw (r, k, b, r, there) (λ j. Went tt (record s { memory = tabular.replace j s.memory n (with_field o 0 x) }))
 
@@ -434,8 +228,8 @@ module _ (m : ObjectMemory Table) (tabular : IsTabular m) where
   unfolding stored_at
   not_stored n i x s o = refl
 
-  gone_object : (n i : ℕ) (x w : Value) (s u : State Table) (y : Option Object) → entry s.memory n ≡ y → (looks (λ o. check dead.Kind (is_method o.kind) >> or_die dead.Field (slice_get o.fields i)) y).run s ≡ Went w u → is_there m s.memory x ≡ false
-      → (looks (λ o. check dead.Kind (is_method o.kind) >> (check dead.Field (nat_lt i (length o.fields)) >> set_field m (Ref n) i x)) y).run s ≡ Died dead.Kind
+  gone_object : (n i : ℕ) (x w : Value) (s u : State Table) (y : Option Object) → entry s.memory n ≡ y → (looks m tabular (λ o. check dead.Kind (is_method o.kind) >> or_die dead.Field (slice_get o.fields i)) y).run s ≡ Went w u → is_there m s.memory x ≡ false
+      → (looks m tabular (λ o. check dead.Kind (is_method o.kind) >> (check dead.Field (nat_lt i (length o.fields)) >> set_field m (Ref n) i x)) y).run s ≡ Died dead.Kind
   unfolding looks ◌>>=◌ ◌>>◌ after found answer die check or_die set_field store_at
   gone_object n i x w s u None e f there = cc
   gone_object n i x w s u (Some o) e f there = of_kind (is_method o.kind) (slice_get o.fields i) refl f
@@ -447,19 +241,19 @@ module _ (m : ObjectMemory Table) (tabular : IsTabular m) where
       of_kind true (Some v) g f =
           let l = got_below o.fields i v g in
           let b : nat_lt i (length o.fields) ≡ true = grind (arith, nat_tests) in
-          let r : m.read s.memory n ≡ Some o = read_is s.memory n ∙ e in
+          let r : m.read s.memory n ≡ Some o = read_is m tabular s.memory n ∙ e in
           rw (b, r, there) (not_stored n i x s o)
 
   pub field-gone : (v : Value) (i : ℕ) (x w : Value) (s u : State Table) → (fetch_method_field m v i).run s ≡ Went w u → is_there m s.memory x ≡ false → (store_method_field m v i x).run s ≡ Died dead.Kind
   unfolding fetch_method_field store_method_field object object_named looks ◌>>=◌ die after
   field-gone (Small n) i x w s u e there = cc
-  field-gone (Ref n) i x w s u e there = gone_object n i x w s u (m.read s.memory n) (sym (read_is s.memory n)) e there
+  field-gone (Ref n) i x w s u e there = gone_object n i x w s u (m.read s.memory n) (sym (read_is m tabular s.memory n)) e there
 
   pub field-missing : (v : Value) (i : ℕ) (x w : Value) (s : State Table) (t : Table) → s.memory ≡ t → (fetch_method_field m v i).run s ≡ Went w s → is_there m t x ≡ false → (store_method_field m v i x).run s ≡ Died dead.Kind
   field-missing v i x w s t q e there = field-gone v i x w s s e (ap (λ u. is_there m u x) q ∙ there)
 
-  unfetched_object : (n i : ℕ) (x : Value) (k : Dead) (s : State Table) (y : Option Object) → (looks (λ o. check dead.Kind (is_method o.kind) >> or_die dead.Field (slice_get o.fields i)) y).run s ≡ Died k
-      → (looks (λ o. check dead.Kind (is_method o.kind) >> (check dead.Field (nat_lt i (length o.fields)) >> set_field m (Ref n) i x)) y).run s ≡ Died k
+  unfetched_object : (n i : ℕ) (x : Value) (k : Dead) (s : State Table) (y : Option Object) → (looks m tabular (λ o. check dead.Kind (is_method o.kind) >> or_die dead.Field (slice_get o.fields i)) y).run s ≡ Died k
+      → (looks m tabular (λ o. check dead.Kind (is_method o.kind) >> (check dead.Field (nat_lt i (length o.fields)) >> set_field m (Ref n) i x)) y).run s ≡ Died k
   unfolding looks ◌>>=◌ ◌>>◌ after found answer die check or_die
   unfetched_object n i x k s None f = died dead.Kind k f
   unfetched_object n i x k s (Some o) f = of_kind (is_method o.kind) (slice_get o.fields i) refl f
@@ -506,22 +300,17 @@ module _ (m : ObjectMemory Table) (tabular : IsTabular m) where
   unfolding check_header count_literals method_header object object_named header_by looks bits_or_die ◌>>=◌ ◌>>◌ after die
   header-left (Small n) x s e there = cc
   header-left (Ref n) (Ref k) s e there = absurd (no_header k s (m.read s.memory n) e)
-  header-left (Ref n) (Small h) s e there = by (header_looks n h s (m.read s.memory n) (sym (read_is s.memory n)) e there)
+  header-left (Ref n) (Small h) s e there = by (header_looks n h s (m.read s.memory n) (sym (read_is m tabular s.memory n)) e there)
     where
       by : ((o : Object) × (m.read s.memory n ≡ Some o) × (is_method o.kind ≡ true) × (0 < length o.fields) × (header_stored (Small h) o ≡ with_field o 0 (Small h)))
           → (store_method_field m (Ref n) 0 (Small h)).run s ≡ Went tt (over (λ t. changed_by (header_stored (Small h)) t (Ref n)) s)
       by q =
           let o = q.0 in
-          let is : entry s.memory n ≡ Some o = sym (read_is s.memory n) ∙ q.1 in
+          let is : entry s.memory n ≡ Some o = sym (read_is m tabular s.memory n) ∙ q.1 in
           header_stored_there n (Small h) s o is q.2 q.3 there
           ∙ (ap (λ p. Went tt (record s { memory = changed s.memory n p })) (sym q.4)
           ∙ ap (λ y. Went tt (record s { memory = changed_object (header_stored (Small h)) s.memory n y })) (sym is))
 
-pub ruleset bytes = (bytes-left, bytes-past, bytes-unleft)
-
 pub ruleset method_fields = (header-left, literal-done, field-gone, field-unfetched)
 
 pub ruleset units = (word-left, word-unleft, byte-left, byte-unleft)
-
-pub some_more : (bs : List ℕ) (n : ℕ) → length bs ≡ n → 1 ≤ n → 0 < length bs
-some_more bs n e l = omega (arith, e, l)

@@ -1,11 +1,9 @@
 pub mod Commuting
 pub mod ElementTries
-pub mod Leaves
 pub mod Left
 pub mod Makeable
 pub mod MethodTries
 pub mod ObjectTries
 pub mod StreamTries
-pub mod Tries
 pub mod Valued
 pub mod ByNumber

@@ -9,8 +9,8 @@ use Rattle.st_model.specs.Steps.{of_page, same_value, check, top, under}
 use Rattle.st_model.specs.declared.page.PageObject.TheVariants.{MethodClass}
 use Rattle.st_model.specs.Primitives.{positive_small, bits_or_die}
 use Rattle.st_model.specs.Storage.{method_shape, new_method, place_to_store, store_in_method, method_words, primitive_new_method, primitive_object_at_put, MethodShape}
-use Rattle.st_storage.specs.Reading.{succeed_by}
-use Rattle.st_storage.proofs.Tries.{primitive-done}
+use Rattle.st_frames.specs.Answering.{succeed_by}
+use Rattle.st_frames.proofs.Tries.{primitive-done}
 
 pub tried-object_at_put : (m : ObjectMemory Table) (v w x : Value) (a : ℕ) (s : State Table) (y : Transition (State Table) Bool) → (under m 2).run s ≡ Went v s → (under m 1).run s ≡ Went w s → (top m).run s ≡ Went x s
     → (place_to_store m v w x).run s ≡ Went a s → (succeed_by m 2 (store_in_method m v x a)).run s ≡ y

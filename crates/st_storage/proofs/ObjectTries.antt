@@ -12,8 +12,8 @@ use Rattle.st_model.specs.Calls.{Changes, itself}
 use Rattle.st_frames.specs.declared.registers.Registers.{Registers as Words}
 use Rattle.st_frames.specs.Rows.{row_state}
 use Rattle.st_frames.proofs.Doing.{row-memory, row-head, row-stored}
-use Rattle.st_storage.specs.Reading.{succeed_by, succeed_with}
-use Rattle.st_storage.proofs.Tries.{primitive-failed, primitive-done, primitive-small, primitive-same}
+use Rattle.st_frames.specs.Answering.{succeed_by, succeed_with}
+use Rattle.st_frames.proofs.Tries.{primitive-failed, primitive-done, primitive-small, primitive-same}
 
 pub tried-new : (m : ObjectMemory Table) (v : Value) (a : ℕ) (s : State Table) (y : Transition (State Table) Bool) → (top m).run s ≡ Went v s
     → (fixed_specification m v).run s ≡ Went a s → (succeed_by m 0 (make m v (kind_of_fixed a) (fixed_count a) 0)).run s ≡ y

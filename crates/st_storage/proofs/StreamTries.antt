@@ -5,8 +5,8 @@ use Rattle.st_model.specs.Machine.{ObjectMemory, State, Transition, Went, after,
 use Rattle.st_model.specs.Table.{Table}
 use Rattle.st_model.specs.Steps.{top, under}
 use Rattle.st_model.specs.Storage.{put_next, stream_putting, stream_standing, take_next, primitive_next, primitive_next_put, Standing, Putting}
-use Rattle.st_storage.specs.Reading.{succeed_by}
-use Rattle.st_storage.proofs.Tries.{primitive-done}
+use Rattle.st_frames.specs.Answering.{succeed_by}
+use Rattle.st_frames.proofs.Tries.{primitive-done}
 
 pub tried-next : (m : ObjectMemory Table) (v : Value) (a : Standing) (s : State Table) (y : Transition (State Table) Bool) → (top m).run s ≡ Went v s
     → (stream_standing m v 2).run s ≡ Went a s → (succeed_by m 0 (take_next m v a)).run s ≡ y

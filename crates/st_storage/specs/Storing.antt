@@ -1,15 +1,13 @@
--- What the structs of the code mean that say what was found, what is stored, and what is answered.
+-- What the structs of the code mean that say what was found and what is stored.
 use Rattle.std.specs.Prelude.{◌≡◌, ℕ, ◌+◌, ◌<◌, ◌≤◌, Bool, true, false, Ok}
-use Rattle.st_model.specs.declared.deed.Deed.{Deed}
 use Rattle.st_model.specs.declared.kind.Kind.TheVariants as kind
 use Rattle.st_model.specs.declared.word.Word.{Word}
 use Rattle.st_model.specs.Values.{Value, word}
 use Rattle.st_model.specs.Calls.{Reads}
 use Rattle.st_model.specs.Steps.{fetch_field}
 use Rattle.st_memory.specs.declared.objects.Objects.{Ghosts}
-use Rattle.st_storage.specs.Reading.{IsOfKind}
+use Rattle.st_frames.specs.Answering.{IsOfKind}
 use Rattle.st_model.specs.Storage.{Storing, Standing, Putting, Shape, MethodShape, Replacing}
-use Rattle.st_storage.specs.declared.shapes.Answer.{Answer}
 use Rattle.st_storage.specs.declared.shapes.Element.{Element}
 use Rattle.st_storage.specs.declared.shapes.Elements.{Elements}
 use Rattle.st_storage.specs.declared.shapes.Elements.TheVariants as elements
@@ -19,17 +17,6 @@ use Rattle.st_storage.specs.declared.shapes.Replacing.{Replacing as CodeReplacin
 use Rattle.st_storage.specs.declared.shapes.Shape.{Shape as CodeShape}
 use Rattle.st_storage.specs.declared.shapes.Standing.{Standing as CodeStanding}
 use Rattle.st_storage.specs.declared.shapes.Storing.{Storing as CodeStoring}
-
--- the answer of an effect, and what it leaves to be done
-abbrev pub answer_word : Answer → Value
-answer_word a = word a.word
-
-abbrev pub answer_deed : Answer → Deed
-answer_deed a = a.deed
-
--- what answers nothing but a deed
-abbrev pub no_word : Deed → Unit {0}
-no_word d = tt
 
 abbrev pub element_unit : Element → ℕ
 element_unit e = e.unit

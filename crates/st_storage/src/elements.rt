@@ -4,13 +4,13 @@ ghost use Rattle.st_model.specs.Calls.{itself};
 ghost use Rattle.st_model.specs.Storage.{count_literals, first_place, place_of_element, place_at, place_behind_fixed, count_elements};
 ghost use Rattle.st_frames.specs.Rows.{RowReads};
 
-use crate::numbers::{bits_or_die, fixed_fields, positive_small};
-use st_frames::Registers;
+use crate::numbers::fixed_fields;
+use st_frames::{Registers, bits_or_die, positive_small};
 use st_memory::Objects;
 use st_model::{Dead, Word};
 
 /// How many literals a method has, as its header counts them.
-#[tactic(auto, using(st_frames::proofs::Doing::rows, crate::proofs::Tries::counts), unfolding(st_model::specs::Storage::count_literals))]
+#[tactic(auto, using(st_frames::proofs::Doing::rows, st_frames::proofs::Tries::counts), unfolding(st_model::specs::Storage::count_literals))]
 pub fn count_literals<O: Objects>(m: &O, r: &Registers, v: Word) -> Result<u32, Dead>
     ensures does { RowReads O.Objects.own (count_literals O.names (word v)) itself m.now r.now result }
     ensures few { IfOk result (λ n. n < 64) }

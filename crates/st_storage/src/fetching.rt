@@ -2,15 +2,12 @@ ghost use Rattle.std.specs.Prelude.{◌≡◌, ◌<◌, ◌≤◌, ◌+◌};
 ghost use Rattle.st_model.specs.Values.{word};
 ghost use Rattle.st_model.specs.Storage.{element_by, fetch_element, primitive_at, primitive_size, primitive_instance_variable_at};
 ghost use Rattle.st_model.specs.Deeds.{is_done, deed_of_trial};
-ghost use Rattle.st_storage.specs.Reading.{succeed_by};
-ghost use Rattle.st_storage.specs.Storing.{answer_word, answer_deed};
+ghost use Rattle.st_frames.specs.Answering.{succeed_by, answer_word, answer_deed};
 ghost use Rattle.st_frames.specs.Rows.{RowLeaves, Takes};
 
-use crate::answering::succeed_leaving;
 use crate::elements::{count_elements, place_at, place_behind_fixed};
-use crate::large::{answer_integer, number};
-use crate::shapes::Answer;
-use st_frames::{Registers, small, top, under};
+use crate::large::answer_integer;
+use st_frames::{Answer, Registers, number, small, succeed_leaving, top, under};
 use st_memory::Objects;
 use st_model::{Dead, Deed, Kind, Tried, Word};
 
@@ -46,7 +43,7 @@ pub fn fetch_element<O: Objects>(
 }
 
 /// Answers the element at a place.
-#[tactic(auto, using(st_frames::proofs::Doing::rows), unfolding(crate::specs::Reading::succeed_by))]
+#[tactic(auto, using(st_frames::proofs::Doing::rows), unfolding(st_frames::specs::Answering::succeed_by))]
 fn answer_element<O: Objects>(
     m: &mut O,
     r: &mut Registers,
@@ -64,7 +61,7 @@ fn answer_element<O: Objects>(
 }
 
 /// Primitive 60: the element of the receiver that the argument numbers, behind the fixed fields.
-#[tactic(auto, using(crate::proofs::Tries::effects), unfolding(st_model::specs::Storage::primitive_at))]
+#[tactic(auto, using(st_frames::proofs::Tries::effects), unfolding(st_model::specs::Storage::primitive_at))]
 pub fn primitive_at<O: Objects>(m: &mut O, r: &mut Registers) -> Result<Tried, Dead>
     requires room { 2 ≤ O.room m.old }
     ensures does { RowLeaves O.Objects.own (primitive_at O.names)
@@ -80,7 +77,7 @@ pub fn primitive_at<O: Objects>(m: &mut O, r: &mut Registers) -> Result<Tried, D
 }
 
 /// Primitive 73: the element of the receiver that the argument numbers, where fixed fields count.
-#[tactic(auto, using(crate::proofs::Tries::effects), unfolding(st_model::specs::Storage::primitive_instance_variable_at))]
+#[tactic(auto, using(st_frames::proofs::Tries::effects), unfolding(st_model::specs::Storage::primitive_instance_variable_at))]
 pub fn primitive_instance_variable_at<O: Objects>(
     m: &mut O,
     r: &mut Registers,
@@ -99,7 +96,7 @@ pub fn primitive_instance_variable_at<O: Objects>(
 }
 
 /// Primitive 62: how many elements the receiver has.
-#[tactic(auto, using(crate::proofs::Tries::effects), unfolding(st_model::specs::Storage::primitive_size))]
+#[tactic(auto, using(st_frames::proofs::Tries::effects), unfolding(st_model::specs::Storage::primitive_size))]
 pub fn primitive_size<O: Objects>(m: &mut O, r: &mut Registers) -> Result<Tried, Dead>
     requires room { 2 ≤ O.room m.old }
     ensures does { RowLeaves O.Objects.own (primitive_size O.names)

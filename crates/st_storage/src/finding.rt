@@ -2,13 +2,12 @@ ghost use Rattle.std.specs.Prelude.{◌≡◌, ◌<◌, ◌≤◌, ◌+◌, ◌^
 ghost use Rattle.st_model.specs.Values.{word};
 ghost use Rattle.st_model.specs.Calls.{itself};
 ghost use Rattle.st_model.specs.Storage.{check_object, check_objects, exchange_and_answer, primitive_become, half_pointer, primitive_as_oop, kept_object_at, primitive_as_object, first_kept_instance, primitive_some_instance, instance_after, primitive_next_instance};
-ghost use Rattle.st_storage.specs.Reading.{succeed_by};
+ghost use Rattle.st_frames.specs.Answering.{succeed_by};
 ghost use Rattle.st_model.specs.Deeds.{is_done, deed_of_trial};
 ghost use Rattle.st_frames.specs.Rows.{RowReads, RowLeaves, Takes};
 
-use crate::answering::succeed_with;
-use crate::numbers::{bits_or_die, small_word};
-use st_frames::{Registers, top, under};
+use crate::numbers::small_word;
+use st_frames::{Registers, bits_or_die, succeed_with, top, under};
 use st_memory::Objects;
 use st_model::{Dead, Tried, Word};
 
@@ -32,7 +31,7 @@ fn check_objects<O: Objects>(m: &O, r: &Registers, v: Word, w: Word) -> Result<(
 }
 
 /// Exchanges what two words name, and answers the first.
-#[tactic(auto, using(st_frames::proofs::Doing::rows), unfolding(crate::specs::Reading::succeed_by, st_model::specs::Storage::exchange_and_answer))]
+#[tactic(auto, using(st_frames::proofs::Doing::rows), unfolding(st_frames::specs::Answering::succeed_by, st_model::specs::Storage::exchange_and_answer))]
 fn exchange_and_answer<O: Objects>(
     m: &mut O,
     r: &mut Registers,
@@ -50,7 +49,7 @@ fn exchange_and_answer<O: Objects>(
 }
 
 /// Primitive 72: receiver and argument, which are objects, become each other.
-#[tactic(auto, using(crate::proofs::Tries::effects), unfolding(st_model::specs::Storage::primitive_become))]
+#[tactic(auto, using(st_frames::proofs::Tries::effects), unfolding(st_model::specs::Storage::primitive_become))]
 pub fn primitive_become<O: Objects>(m: &mut O, r: &mut Registers) -> Result<Tried, Dead>
     requires room { 2 ≤ O.room m.old }
     ensures does { RowLeaves O.Objects.own (primitive_become O.names)
@@ -76,7 +75,7 @@ fn half_pointer<O: Objects>(m: &O, r: &Registers, v: Word) -> Result<u32, Dead>
 }
 
 /// Primitive 75: the pointer of the receiver, with its lowest bit set.
-#[tactic(auto, using(crate::proofs::Tries::tries), unfolding(st_model::specs::Storage::primitive_as_oop))]
+#[tactic(auto, using(st_frames::proofs::Tries::tries), unfolding(st_model::specs::Storage::primitive_as_oop))]
 pub fn primitive_as_oop<O: Objects>(m: &mut O, r: &mut Registers) -> Result<Tried, Dead>
     requires room { 1 ≤ O.room m.old }
     ensures does { RowLeaves O.Objects.own (primitive_as_oop O.names)
@@ -103,7 +102,7 @@ fn kept_object_at<O: Objects>(m: &O, r: &Registers, v: Word) -> Result<Word, Dea
 }
 
 /// Primitive 76: the kept object whose pointer is the receiver's word less 1.
-#[tactic(auto, using(crate::proofs::Tries::tries), unfolding(st_model::specs::Storage::primitive_as_object))]
+#[tactic(auto, using(st_frames::proofs::Tries::tries), unfolding(st_model::specs::Storage::primitive_as_object))]
 pub fn primitive_as_object<O: Objects>(m: &mut O, r: &mut Registers) -> Result<Tried, Dead>
     requires room { 1 ≤ O.room m.old }
     ensures does { RowLeaves O.Objects.own (primitive_as_object O.names)
@@ -130,7 +129,7 @@ fn first_kept_instance<O: Objects>(m: &O, r: &Registers, class: Word) -> Result<
 }
 
 /// Primitive 77: of the kept instances of the receiver the one with the least pointer.
-#[tactic(auto, using(crate::proofs::Tries::tries), unfolding(st_model::specs::Storage::primitive_some_instance))]
+#[tactic(auto, using(st_frames::proofs::Tries::tries), unfolding(st_model::specs::Storage::primitive_some_instance))]
 pub fn primitive_some_instance<O: Objects>(m: &mut O, r: &mut Registers) -> Result<Tried, Dead>
     requires room { 1 ≤ O.room m.old }
     ensures does { RowLeaves O.Objects.own (primitive_some_instance O.names)
@@ -158,7 +157,7 @@ fn instance_after<O: Objects>(m: &O, r: &Registers, v: Word) -> Result<Word, Dea
 }
 
 /// Primitive 78: of the kept instances of the receiver's class that bear greater pointers the one with the least.
-#[tactic(auto, using(crate::proofs::Tries::tries), unfolding(st_model::specs::Storage::primitive_next_instance))]
+#[tactic(auto, using(st_frames::proofs::Tries::tries), unfolding(st_model::specs::Storage::primitive_next_instance))]
 pub fn primitive_next_instance<O: Objects>(m: &mut O, r: &mut Registers) -> Result<Tried, Dead>
     requires room { 1 ≤ O.room m.old }
     ensures does { RowLeaves O.Objects.own (primitive_next_instance O.names)

@@ -2,7 +2,6 @@
 //! does is a definition of `st_model/specs/Storage.antt`, of the same name.
 #![tactic(auto)]
 
-mod answering;
 mod dispatch;
 mod elements;
 mod fetching;

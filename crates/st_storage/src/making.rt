@@ -6,22 +6,19 @@ ghost use Rattle.st_model.specs.Calls.{itself};
 ghost use Rattle.st_model.specs.Storage.{check_not_method_class, kind_of_fixed, fixed_specification, primitive_new, kind_of_indexed, body_words, checked_shape, indexed_shape, primitive_new_with};
 ghost use Rattle.st_model.specs.Steps.{make};
 ghost use Rattle.st_model.specs.Primitives.{fixed_count};
-ghost use Rattle.st_storage.specs.Reading.{succeed_by};
+ghost use Rattle.st_frames.specs.Answering.{succeed_by};
 ghost use Rattle.st_storage.specs.Storing.{shape_in};
 ghost use Rattle.st_model.specs.Deeds.{is_done, deed_of_trial};
 ghost use Rattle.st_frames.specs.Rows.{RowReads, RowLeaves, Takes};
 
-use crate::answering::succeed_with;
-use crate::numbers::{
-    fixed_count, has_pointers, has_words, is_indexable, positive_value, specification,
-};
+use crate::numbers::{fixed_count, has_pointers, has_words, is_indexable, specification};
 use crate::shapes::Shape;
-use st_frames::{Registers, page, top, under};
+use st_frames::{Registers, page, positive_value, succeed_with, top, under};
 use st_memory::Objects;
 use st_model::{Dead, Kind, PageObject, Tried, Word};
 
 /// Any class but CompiledMethod.
-#[tactic(auto, using(st_frames::proofs::Doing::rows, crate::proofs::Tries::tests, crate::proofs::Makeable::classes), unfolding(st_model::specs::Storage::check_not_method_class))]
+#[tactic(auto, using(st_frames::proofs::Doing::rows, st_frames::proofs::Tries::tests, crate::proofs::Makeable::classes), unfolding(st_model::specs::Storage::check_not_method_class))]
 fn check_not_method_class<O: Objects>(m: &O, r: &Registers, class: Word) -> Result<(), Dead>
     ensures does { RowReads O.Objects.own (check_not_method_class O.names (word class))
         itself m.now r.now result }
@@ -48,7 +45,7 @@ fn kind_of_fixed(specification: u32) -> Kind
 }
 
 /// The specification of a class that isn't indexable, nor CompiledMethod.
-#[tactic(auto, using(st_frames::proofs::Doing::rows, crate::proofs::Tries::tests), unfolding(st_model::specs::Storage::fixed_specification))]
+#[tactic(auto, using(st_frames::proofs::Doing::rows, st_frames::proofs::Tries::tests), unfolding(st_model::specs::Storage::fixed_specification))]
 fn fixed_specification<O: Objects>(m: &O, r: &Registers, class: Word) -> Result<u32, Dead>
     ensures does { RowReads O.Objects.own (fixed_specification O.names (word class))
         itself m.now r.now result }
@@ -64,7 +61,7 @@ fn fixed_specification<O: Objects>(m: &O, r: &Registers, class: Word) -> Result<
 }
 
 /// Answers a new instance of a class, by its specification.
-#[tactic(auto, using(st_frames::proofs::Doing::rows, crate::proofs::Makeable::makeable), unfolding(crate::specs::Reading::succeed_by))]
+#[tactic(auto, using(st_frames::proofs::Doing::rows, crate::proofs::Makeable::makeable), unfolding(st_frames::specs::Answering::succeed_by))]
 fn answer_fixed<O: Objects>(
     m: &mut O,
     r: &mut Registers,
@@ -83,7 +80,7 @@ fn answer_fixed<O: Objects>(
 }
 
 /// Primitive 70: a new instance of the receiver, which has no indexed fields.
-#[tactic(auto, using(crate::proofs::Tries::effects), unfolding(st_model::specs::Storage::primitive_new))]
+#[tactic(auto, using(st_frames::proofs::Tries::effects), unfolding(st_model::specs::Storage::primitive_new))]
 pub fn primitive_new<O: Objects>(m: &mut O, r: &mut Registers) -> Result<Tried, Dead>
     requires room { 2 ≤ O.room m.old }
     ensures does { RowLeaves O.Objects.own (primitive_new O.names)
@@ -137,7 +134,7 @@ fn checked_shape<O: Objects>(m: &O, r: &Registers, kind: Kind, n: u64) -> Result
 }
 
 /// The shape of a new instance of a class that is indexable, but isn't CompiledMethod.
-#[tactic(auto, using(st_frames::proofs::Doing::rows, crate::proofs::Tries::tests), unfolding(st_model::specs::Storage::indexed_shape))]
+#[tactic(auto, using(st_frames::proofs::Doing::rows, st_frames::proofs::Tries::tests), unfolding(st_model::specs::Storage::indexed_shape))]
 fn indexed_shape<O: Objects>(m: &O, r: &Registers, class: Word, count: Word) -> Result<Shape, Dead>
     ensures does { RowReads O.Objects.own (indexed_shape O.names (word class) (word count))
         shape_in m.now r.now result }
@@ -153,7 +150,7 @@ fn indexed_shape<O: Objects>(m: &O, r: &Registers, class: Word, count: Word) -> 
 }
 
 /// Answers a new instance of a class, by its shape.
-#[tactic(auto, using(st_frames::proofs::Doing::rows, crate::proofs::Makeable::makeable), unfolding(crate::specs::Reading::succeed_by))]
+#[tactic(auto, using(st_frames::proofs::Doing::rows, crate::proofs::Makeable::makeable), unfolding(st_frames::specs::Answering::succeed_by))]
 fn answer_shaped<O: Objects>(
     m: &mut O,
     r: &mut Registers,
@@ -172,7 +169,7 @@ fn answer_shaped<O: Objects>(
 }
 
 /// Primitive 71: a new instance of the receiver with as many indexed fields as the argument says.
-#[tactic(auto, using(crate::proofs::Tries::effects), unfolding(st_model::specs::Storage::primitive_new_with))]
+#[tactic(auto, using(st_frames::proofs::Tries::effects), unfolding(st_model::specs::Storage::primitive_new_with))]
 pub fn primitive_new_with<O: Objects>(m: &mut O, r: &mut Registers) -> Result<Tried, Dead>
     requires room { 2 ≤ O.room m.old }
     ensures does { RowLeaves O.Objects.own (primitive_new_with O.names)

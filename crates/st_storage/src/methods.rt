@@ -6,16 +6,17 @@ ghost use Rattle.st_model.specs.Values.{Ref};
 ghost use Rattle.st_model.specs.Objects.{place_of};
 ghost use Rattle.st_model.specs.declared.page.PageObject.TheVariants.{MethodClass};
 ghost use Rattle.st_model.specs.Steps.{store_method_field};
-ghost use Rattle.st_storage.specs.Reading.{succeed_by};
-ghost use Rattle.st_storage.specs.Storing.{answer_word, answer_deed, no_word, method_shape_in};
+ghost use Rattle.st_frames.specs.Answering.{succeed_by, answer_word, answer_deed, no_word};
+ghost use Rattle.st_storage.specs.Storing.{method_shape_in};
 ghost use Rattle.st_model.specs.Deeds.{is_done, deed_of_trial};
 ghost use Rattle.st_frames.specs.Rows.{RowReads, RowLeaves, Takes};
 
-use crate::answering::{succeed_leaving, succeed_with};
 use crate::elements::count_literals;
-use crate::numbers::{bits_or_die, positive_small, small_word};
-use crate::shapes::{Answer, MethodShape};
-use st_frames::{Registers, page, top, under};
+use crate::numbers::small_word;
+use crate::shapes::MethodShape;
+use st_frames::{
+    Answer, Registers, bits_or_die, page, positive_small, succeed_leaving, succeed_with, top, under,
+};
 use st_memory::Objects;
 use st_model::{Dead, Deed, Kind, PageObject, Tried, Word};
 
@@ -61,7 +62,7 @@ fn header_or_literal<O: Objects>(
 }
 
 /// Primitive 68: the header of the receiver, a Method, or the literal that the argument numbers.
-#[tactic(auto, using(crate::proofs::Tries::tries), unfolding(st_model::specs::Storage::primitive_object_at))]
+#[tactic(auto, using(st_frames::proofs::Tries::tries), unfolding(st_model::specs::Storage::primitive_object_at))]
 pub fn primitive_object_at<O: Objects>(m: &mut O, r: &mut Registers) -> Result<Tried, Dead>
     requires room { 1 ≤ O.room m.old }
     ensures does { RowLeaves O.Objects.own (primitive_object_at O.names)
@@ -77,7 +78,7 @@ pub fn primitive_object_at<O: Objects>(m: &mut O, r: &mut Registers) -> Result<T
 }
 
 /// A header that counts as many literals as that of a Method.
-#[tactic(auto, using(st_frames::proofs::Doing::rows, crate::proofs::Tries::tests, crate::proofs::Tries::counts), unfolding(st_model::specs::Storage::check_header))]
+#[tactic(auto, using(st_frames::proofs::Doing::rows, st_frames::proofs::Tries::tests, st_frames::proofs::Tries::counts), unfolding(st_model::specs::Storage::check_header))]
 pub fn check_header<O: Objects>(
     m: &O,
     r: &Registers,
@@ -172,7 +173,7 @@ fn store_in_method<O: Objects>(
 }
 
 /// Stores a value in a Method, and answers it.
-#[tactic(auto, using(st_frames::proofs::Doing::rows), unfolding(crate::specs::Reading::succeed_by))]
+#[tactic(auto, using(st_frames::proofs::Doing::rows), unfolding(st_frames::specs::Answering::succeed_by))]
 fn answer_in_method<O: Objects>(
     m: &mut O,
     r: &mut Registers,
@@ -193,7 +194,7 @@ fn answer_in_method<O: Objects>(
 }
 
 /// Primitive 69: the second argument becomes the header of the receiver, a Method, or the literal that the first one numbers.
-#[tactic(auto, using(crate::proofs::Tries::effects), unfolding(st_model::specs::Storage::primitive_object_at_put))]
+#[tactic(auto, using(st_frames::proofs::Tries::effects), unfolding(st_model::specs::Storage::primitive_object_at_put))]
 pub fn primitive_object_at_put<O: Objects>(m: &mut O, r: &mut Registers) -> Result<Tried, Dead>
     requires room { 1 ≤ O.room m.old }
     ensures does { RowLeaves O.Objects.own (primitive_object_at_put O.names)
@@ -219,7 +220,7 @@ fn method_words(literals: u32, bytes: u32) -> u32
 }
 
 /// The shape of a new Method of the class CompiledMethod.
-#[tactic(auto, using(st_frames::proofs::Doing::checks, crate::proofs::Tries::tests, crate::proofs::Tries::counts, crate::proofs::Makeable::methods), unfolding(st_model::specs::Storage::method_shape))]
+#[tactic(auto, using(st_frames::proofs::Doing::checks, st_frames::proofs::Tries::tests, st_frames::proofs::Tries::counts, crate::proofs::Makeable::methods), unfolding(st_model::specs::Storage::method_shape))]
 fn method_shape<O: Objects>(
     m: &O,
     r: &Registers,
@@ -246,7 +247,7 @@ fn method_shape<O: Objects>(
 
 /// A new Method, whose header is left to be stored. Where there is no room for it, nil is no Method of so many literals, or
 /// becomes one with this header.
-#[tactic(auto, using(st_frames::proofs::Doing::rows, crate::proofs::Tries::counts, crate::proofs::Makeable::methods), unfolding(st_model::specs::Storage::new_method))]
+#[tactic(auto, using(st_frames::proofs::Doing::rows, st_frames::proofs::Tries::counts, crate::proofs::Makeable::methods), unfolding(st_model::specs::Storage::new_method))]
 fn new_method<O: Objects>(
     m: &mut O,
     r: &Registers,
@@ -273,7 +274,7 @@ fn new_method<O: Objects>(
 }
 
 /// Answers a new Method.
-#[tactic(auto, using(st_frames::proofs::Doing::rows), unfolding(crate::specs::Reading::succeed_by))]
+#[tactic(auto, using(st_frames::proofs::Doing::rows), unfolding(st_frames::specs::Answering::succeed_by))]
 fn answer_method<O: Objects>(
     m: &mut O,
     r: &mut Registers,
@@ -292,7 +293,7 @@ fn answer_method<O: Objects>(
 }
 
 /// Primitive 79: a new Method with the header that the second argument says, and as many bytes as the first.
-#[tactic(auto, using(crate::proofs::Tries::effects), unfolding(st_model::specs::Storage::primitive_new_method))]
+#[tactic(auto, using(st_frames::proofs::Tries::effects), unfolding(st_model::specs::Storage::primitive_new_method))]
 pub fn primitive_new_method<O: Objects>(m: &mut O, r: &mut Registers) -> Result<Tried, Dead>
     requires room { 2 ≤ O.room m.old }
     ensures does { RowLeaves O.Objects.own (primitive_new_method O.names)

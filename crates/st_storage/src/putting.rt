@@ -4,15 +4,14 @@ ghost use Rattle.st_model.specs.Storage.{store_element, store_and_answer, primit
 ghost use Rattle.st_model.specs.Steps.{store_word, store_byte};
 ghost use Rattle.st_model.specs.Calls.{itself};
 ghost use Rattle.st_model.specs.Deeds.{is_done, deed_of_trial};
-ghost use Rattle.st_storage.specs.Reading.{IsOfKind, succeed_by};
-ghost use Rattle.st_storage.specs.Storing.{answer_word, answer_deed, no_word, storing_in};
+ghost use Rattle.st_frames.specs.Answering.{IsOfKind, succeed_by, answer_word, answer_deed, no_word};
+ghost use Rattle.st_storage.specs.Storing.{storing_in};
 ghost use Rattle.st_frames.specs.Rows.{RowLeaves, Takes};
 
-use crate::answering::succeed_leaving;
-use crate::shapes::{Answer, Storing};
+use crate::shapes::Storing;
 use crate::storing::{storing_behind_fixed, storing_by_index};
 use crate::strings::storing_character;
-use st_frames::{Registers, top, under};
+use st_frames::{Answer, Registers, succeed_leaving, top, under};
 use st_memory::Objects;
 use st_model::{Dead, Deed, Kind, Tried, Word};
 
@@ -96,7 +95,7 @@ fn store_and_answer<O: Objects>(
 }
 
 /// Stores a value as an element, and answers it to a primitive of two arguments.
-#[tactic(auto, using(st_frames::proofs::Doing::rows), unfolding(crate::specs::Reading::succeed_by))]
+#[tactic(auto, using(st_frames::proofs::Doing::rows), unfolding(st_frames::specs::Answering::succeed_by))]
 fn answer_stored<O: Objects>(
     m: &mut O,
     r: &mut Registers,
@@ -116,7 +115,7 @@ fn answer_stored<O: Objects>(
 }
 
 /// Primitive 61: the second argument becomes the element of the receiver that the first one numbers, behind the fixed fields.
-#[tactic(auto, using(crate::proofs::Tries::effects), unfolding(st_model::specs::Storage::primitive_at_put))]
+#[tactic(auto, using(st_frames::proofs::Tries::effects), unfolding(st_model::specs::Storage::primitive_at_put))]
 pub fn primitive_at_put<O: Objects>(m: &mut O, r: &mut Registers) -> Result<Tried, Dead>
     requires room { 2 ≤ O.room m.old }
     ensures does { RowLeaves O.Objects.own (primitive_at_put O.names)
@@ -133,7 +132,7 @@ pub fn primitive_at_put<O: Objects>(m: &mut O, r: &mut Registers) -> Result<Trie
 }
 
 /// Primitive 74: the second argument becomes the element of the receiver that the first one numbers, where fixed fields count.
-#[tactic(auto, using(crate::proofs::Tries::effects), unfolding(st_model::specs::Storage::primitive_instance_variable_at_put))]
+#[tactic(auto, using(st_frames::proofs::Tries::effects), unfolding(st_model::specs::Storage::primitive_instance_variable_at_put))]
 pub fn primitive_instance_variable_at_put<O: Objects>(
     m: &mut O,
     r: &mut Registers,
@@ -153,7 +152,7 @@ pub fn primitive_instance_variable_at_put<O: Objects>(
 }
 
 /// Primitive 64: the second argument, a Character, becomes that of the receiver that the first one numbers.
-#[tactic(auto, using(crate::proofs::Tries::effects), unfolding(st_model::specs::Storage::primitive_string_at_put))]
+#[tactic(auto, using(st_frames::proofs::Tries::effects), unfolding(st_model::specs::Storage::primitive_string_at_put))]
 pub fn primitive_string_at_put<O: Objects>(m: &mut O, r: &mut Registers) -> Result<Tried, Dead>
     requires room { 2 ≤ O.room m.old }
     ensures does { RowLeaves O.Objects.own (primitive_string_at_put O.names)

@@ -5,15 +5,14 @@ ghost use Rattle.st_model.specs.Calls.{itself};
 ghost use Rattle.st_model.specs.Storage.{checked_replacing, replacing, replace_and_answer, primitive_replace};
 ghost use Rattle.st_model.specs.Steps.{fetch_bytes};
 ghost use Rattle.st_model.specs.Deeds.{bytes_from, is_done, deed_of_trial};
-ghost use Rattle.st_storage.specs.Reading.{IsOfKind, succeed_by};
-ghost use Rattle.st_storage.specs.Storing.{answer_word, answer_deed, replacing_in, IsFewBytes};
+ghost use Rattle.st_frames.specs.Answering.{IsOfKind, succeed_by, answer_word, answer_deed};
+ghost use Rattle.st_storage.specs.Storing.{replacing_in, IsFewBytes};
 ghost use Rattle.st_frames.specs.Rows.{RowReads, RowLeaves, Takes};
 
-use crate::answering::succeed_leaving;
-use crate::large::find_bytes;
-use crate::numbers::{check_bytes, positive_small};
-use crate::shapes::{Answer, Replacing};
-use st_frames::{Registers, top, under};
+use crate::shapes::Replacing;
+use st_frames::{
+    Answer, Registers, check_bytes, find_bytes, positive_small, succeed_leaving, top, under,
+};
 use st_memory::Objects;
 use st_model::{Dead, Deed, Tried, Word};
 
@@ -134,7 +133,7 @@ fn replace_and_answer<O: Objects>(
 }
 
 /// Replaces bytes of an object of kind Bytes, and answers it.
-#[tactic(auto, using(st_frames::proofs::Doing::rows), unfolding(crate::specs::Reading::succeed_by))]
+#[tactic(auto, using(st_frames::proofs::Doing::rows), unfolding(st_frames::specs::Answering::succeed_by))]
 fn answer_replaced<O: Objects>(
     m: &mut O,
     r: &mut Registers,
@@ -156,7 +155,7 @@ fn answer_replaced<O: Objects>(
 }
 
 /// Primitive 105: bytes of the receiver, from the first argument to the second, become those of the third from the fourth on.
-#[tactic(auto, using(crate::proofs::Tries::effects), unfolding(st_model::specs::Storage::primitive_replace))]
+#[tactic(auto, using(st_frames::proofs::Tries::effects), unfolding(st_model::specs::Storage::primitive_replace))]
 pub fn primitive_replace<O: Objects>(m: &mut O, r: &mut Registers) -> Result<Tried, Dead>
     requires room { 1 ≤ O.room m.old }
     ensures does { RowLeaves O.Objects.own (primitive_replace O.names)

@@ -4,9 +4,7 @@ ghost use Rattle.st_model.specs.Calls.{itself};
 ghost use Rattle.st_model.specs.Storage.{primitive_say};
 ghost use Rattle.st_frames.specs.Rows.{RowDoes, Takes};
 
-use crate::answering::answer_with;
-use crate::numbers::check_bytes;
-use st_frames::Registers;
+use st_frames::{Registers, answer_with, check_bytes};
 use st_memory::Objects;
 use st_model::{Dead, Word};
 

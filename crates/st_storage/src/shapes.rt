@@ -5,16 +5,7 @@ ghost use Rattle.st_model.specs.Objects.{is_method};
 ghost use Rattle.st_model.specs.Formed.{unit_limit};
 ghost use Rattle.st_model.specs.Storage.{body_words, method_words};
 
-use st_model::{Deed, Kind, Word};
-
-/// The answer of a primitive's effect, and what it leaves to be done.
-#[derive(Clone, Copy)]
-pub struct Answer {
-    /// The word that is pushed.
-    pub word: Word,
-    /// What is left to be done once it is pushed.
-    pub deed: Deed,
-}
+use st_model::{Kind, Word};
 
 /// What a value is as an element of an object.
 #[derive(Clone, Copy)]

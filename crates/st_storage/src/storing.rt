@@ -3,14 +3,14 @@ ghost use Rattle.st_model.specs.Values.{word};
 ghost use Rattle.st_model.specs.Formed.{unit_limit};
 ghost use Rattle.st_model.specs.Calls.{itself};
 ghost use Rattle.st_model.specs.Storage.{word_of_value, unit_by, unit_of_element, storing_at, storing_by_index, storing_behind_fixed};
-ghost use Rattle.st_storage.specs.Reading.{IsOfKind};
+ghost use Rattle.st_frames.specs.Answering.{IsOfKind};
 ghost use Rattle.st_storage.specs.Storing.{element_unit, storing_in};
 ghost use Rattle.st_frames.specs.Rows.{RowReads};
 
 use crate::elements::{place_at, place_behind_fixed};
-use crate::numbers::{byte_or_die, positive_value};
+use crate::numbers::byte_or_die;
 use crate::shapes::{Element, Storing};
-use st_frames::Registers;
+use st_frames::{Registers, positive_value};
 use st_memory::Objects;
 use st_model::{Dead, Kind, Word};
 

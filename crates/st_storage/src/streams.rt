@@ -6,19 +6,21 @@ ghost use Rattle.st_model.specs.Primitives.{truth};
 ghost use Rattle.st_model.specs.Storage.{has_characters, is_at_end, primitive_at_end, place_of_object, place_of_character, stream_place, position_below, standing_at, stream_standing, stream_element, take_next, primitive_next, stream_unit, putting_at, stream_putting, put_next, primitive_next_put};
 ghost use Rattle.st_model.specs.Steps.{store_field};
 ghost use Rattle.st_model.specs.Deeds.{is_done, deed_of_trial};
-ghost use Rattle.st_storage.specs.Reading.{IsOfKind, succeed_by};
-ghost use Rattle.st_storage.specs.Storing.{answer_word, answer_deed, element_unit, are_characters, standing_in, StandsIn, putting_in};
+ghost use Rattle.st_frames.specs.Answering.{IsOfKind, succeed_by, answer_word, answer_deed};
+ghost use Rattle.st_storage.specs.Storing.{element_unit, are_characters, standing_in, StandsIn, putting_in};
 ghost use Rattle.st_frames.specs.Rows.{RowReads, RowDoes, RowLeaves, Takes};
 
-use crate::answering::{succeed_leaving, succeed_with};
 use crate::elements::place_of_element;
 use crate::fetching::fetch_element;
-use crate::numbers::{check_bytes, fixed_fields};
+use crate::numbers::fixed_fields;
 use crate::putting::store_element;
-use crate::shapes::{Answer, Element, Elements, Putting, Standing, Storing};
+use crate::shapes::{Element, Elements, Putting, Standing, Storing};
 use crate::storing::unit_of_element;
 use crate::strings::{character_byte, fetch_character};
-use st_frames::{Registers, fetch_integer, page, small, top, under};
+use st_frames::{
+    Answer, Registers, check_bytes, fetch_integer, page, small, succeed_leaving, succeed_with, top,
+    under,
+};
 use st_memory::Objects;
 use st_model::{Dead, Deed, Kind, PageObject, Tried, Word};
 
@@ -66,7 +68,7 @@ fn truth<O: Objects>(m: &O, r: &Registers, holds: bool) -> Word
 }
 
 /// Primitive 67: whether the receiver, a stream, is at its end.
-#[tactic(auto, using(crate::proofs::Tries::tries), unfolding(st_model::specs::Storage::primitive_at_end))]
+#[tactic(auto, using(st_frames::proofs::Tries::tries), unfolding(st_model::specs::Storage::primitive_at_end))]
 pub fn primitive_at_end<O: Objects>(m: &mut O, r: &mut Registers) -> Result<Tried, Dead>
     requires room { 1 ≤ O.room m.old }
     ensures does { RowLeaves O.Objects.own (primitive_at_end O.names)
@@ -232,7 +234,7 @@ fn take_next<O: Objects>(
 }
 
 /// Answers the next element of a stream.
-#[tactic(auto, using(st_frames::proofs::Doing::rows), unfolding(crate::specs::Reading::succeed_by))]
+#[tactic(auto, using(st_frames::proofs::Doing::rows), unfolding(st_frames::specs::Answering::succeed_by))]
 fn answer_next<O: Objects>(
     m: &mut O,
     r: &mut Registers,
@@ -251,7 +253,7 @@ fn answer_next<O: Objects>(
 }
 
 /// Primitive 65: the next element of the receiver, a stream, whose position rises by 1.
-#[tactic(auto, using(crate::proofs::Tries::effects), unfolding(st_model::specs::Storage::primitive_next))]
+#[tactic(auto, using(st_frames::proofs::Tries::effects), unfolding(st_model::specs::Storage::primitive_next))]
 pub fn primitive_next<O: Objects>(m: &mut O, r: &mut Registers) -> Result<Tried, Dead>
     requires room { 3 ≤ O.room m.old }
     ensures does { RowLeaves O.Objects.own (primitive_next O.names)
@@ -344,7 +346,7 @@ fn put_next<O: Objects>(
 }
 
 /// Stores the next element of a stream, and answers it.
-#[tactic(auto, using(st_frames::proofs::Doing::rows), unfolding(crate::specs::Reading::succeed_by))]
+#[tactic(auto, using(st_frames::proofs::Doing::rows), unfolding(st_frames::specs::Answering::succeed_by))]
 fn answer_put<O: Objects>(
     m: &mut O,
     r: &mut Registers,
@@ -365,7 +367,7 @@ fn answer_put<O: Objects>(
 }
 
 /// Primitive 66: the argument becomes the next element of the receiver, a stream, whose position rises by 1.
-#[tactic(auto, using(crate::proofs::Tries::effects), unfolding(st_model::specs::Storage::primitive_next_put))]
+#[tactic(auto, using(st_frames::proofs::Tries::effects), unfolding(st_model::specs::Storage::primitive_next_put))]
 pub fn primitive_next_put<O: Objects>(m: &mut O, r: &mut Registers) -> Result<Tried, Dead>
     requires room { 3 ≤ O.room m.old }
     ensures does { RowLeaves O.Objects.own (primitive_next_put O.names)

@@ -3,16 +3,15 @@ ghost use Rattle.st_model.specs.declared.kind.Kind.TheVariants.{Bytes};
 ghost use Rattle.st_model.specs.Values.{word};
 ghost use Rattle.st_model.specs.Calls.{itself};
 ghost use Rattle.st_model.specs.Storage.{fetch_character, place_in_bytes, character_at, primitive_string_at, character_byte, character_storing_at, storing_character};
-ghost use Rattle.st_storage.specs.Reading.{IsOfKind};
+ghost use Rattle.st_frames.specs.Answering.{IsOfKind};
 ghost use Rattle.st_storage.specs.Storing.{storing_in};
 ghost use Rattle.st_model.specs.Deeds.{is_done, deed_of_trial};
 ghost use Rattle.st_frames.specs.Rows.{RowReads, RowLeaves, Takes};
 
-use crate::answering::succeed_with;
 use crate::elements::place_at;
-use crate::numbers::{byte_or_die, check_bytes, check_class};
+use crate::numbers::byte_or_die;
 use crate::shapes::Storing;
-use st_frames::{Registers, page, top, under};
+use st_frames::{Registers, check_bytes, check_class, page, succeed_with, top, under};
 use st_memory::Objects;
 use st_model::{Dead, Kind, PageObject, Tried, Word};
 
@@ -48,7 +47,7 @@ fn character_at<O: Objects>(m: &O, r: &Registers, string: Word, index: Word) -> 
 }
 
 /// Primitive 63: the Character that the argument numbers in the receiver.
-#[tactic(auto, using(crate::proofs::Tries::tries), unfolding(st_model::specs::Storage::primitive_string_at))]
+#[tactic(auto, using(st_frames::proofs::Tries::tries), unfolding(st_model::specs::Storage::primitive_string_at))]
 pub fn primitive_string_at<O: Objects>(m: &mut O, r: &mut Registers) -> Result<Tried, Dead>
     requires room { 1 ≤ O.room m.old }
     ensures does { RowLeaves O.Objects.own (primitive_string_at O.names)

@@ -1,7 +1,7 @@
 use Rattle.std.proofs.Common.{rules}
 use Rattle.st_frames.proofs.Doing.{rows}
-use Rattle.st_storage.specs.Reading.{succeed_by}
-use Rattle.st_storage.proofs.Leaves.{left}
+use Rattle.st_frames.specs.Answering.{succeed_by}
+use Rattle.st_frames.proofs.Leaves.{left}
 use Rattle.st_storage.proofs.large.answer_integer.Goals as goal
 
 pub returns-in_err-answer-clause-does : goal.returns-in_err-answer-clause-does

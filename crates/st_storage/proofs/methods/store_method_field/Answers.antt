@@ -2,7 +2,7 @@ use Rattle.std.proofs.Common.{rules, ◌≡◌, Err, false, refl}
 use Rattle.st_model.specs.Values.{word}
 use Rattle.st_model.specs.Machine.{is_there}
 use Rattle.st_frames.proofs.Doing.{row-memory}
-use Rattle.st_storage.proofs.Leaves.{leaves-died}
+use Rattle.st_frames.proofs.Leaves.{leaves-died}
 use Rattle.st_storage.proofs.Left.{field-missing, field-unfetched}
 use Rattle.st_storage.proofs.methods.store_method_field.Goals as goal
 

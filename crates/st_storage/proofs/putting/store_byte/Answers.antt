@@ -1,7 +1,7 @@
 use Rattle.std.proofs.Common.{rules, ◌≡◌, Err, refl}
 use Rattle.st_model.proofs.Leaving.{byte-left, byte-unleft}
 use Rattle.st_frames.proofs.Doing.{row-memory}
-use Rattle.st_storage.proofs.Leaves.{leaves-died}
+use Rattle.st_frames.proofs.Leaves.{leaves-died}
 use Rattle.st_storage.proofs.putting.store_byte.Goals as goal
 
 pub returns-in_err-fetch_byte : goal.returns-in_err-fetch_byte

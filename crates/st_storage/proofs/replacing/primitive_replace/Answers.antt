@@ -1,5 +1,5 @@
 use Rattle.std.proofs.Common.{rules, ◌≡◌, Err, refl}
-use Rattle.st_storage.proofs.Leaves.{leaves-died}
+use Rattle.st_frames.proofs.Leaves.{leaves-died}
 use Rattle.st_storage.proofs.ObjectTries.{tried-replace, died-replace, failed-replace}
 use Rattle.st_storage.proofs.replacing.primitive_replace.Goals as goal
 

@@ -1,7 +1,7 @@
 use Rattle.std.proofs.Common.{rules, ◌≡◌, Err, ℕ, ◌+◌, refl, arith}
 use Rattle.std.specs.Prelude.{◌-◌}
 use Rattle.st_frames.proofs.Doing.{row-memory}
-use Rattle.st_storage.proofs.Leaves.{leaves-died}
+use Rattle.st_frames.proofs.Leaves.{leaves-died}
 use Rattle.st_storage.proofs.Left.{replace-none, replace-unfetched, replace-unstored, replace-left}
 use Rattle.st_storage.proofs.replacing.replace_and_answer.Goals as goal
 

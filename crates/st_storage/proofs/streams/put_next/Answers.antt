@@ -1,7 +1,7 @@
 use Rattle.std.proofs.Common.{rules, ◌≡◌, Err}
 use Rattle.st_frames.proofs.Doing.{row-memory}
 use Rattle.st_storage.proofs.Commuting.{put-left, put-died}
-use Rattle.st_storage.proofs.Leaves.{leaves-died}
+use Rattle.st_frames.proofs.Leaves.{leaves-died}
 use Rattle.st_storage.proofs.streams.put_next.Goals as goal
 
 pub returns-in_err-store_position-clause-does : goal.returns-in_err-store_position-clause-does

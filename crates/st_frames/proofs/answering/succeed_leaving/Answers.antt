@@ -1,7 +1,7 @@
 use Rattle.std.proofs.Common.{rules, ◌≡◌, Err}
-use Rattle.st_storage.proofs.Commuting.{answered-died}
-use Rattle.st_storage.proofs.Leaves.{follows-died}
-use Rattle.st_storage.proofs.answering.succeed_leaving.Goals as goal
+use Rattle.st_frames.proofs.Commuting.{answered-died}
+use Rattle.st_frames.proofs.Leaves.{follows-died}
+use Rattle.st_frames.proofs.answering.succeed_leaving.Goals as goal
 
 pub returns-in_err-answer_with-clause-does : goal.returns-in_err-answer_with-clause-does
 returns-in_err-answer_with-clause-does g c =

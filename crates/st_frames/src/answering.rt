@@ -3,16 +3,17 @@ ghost use Rattle.st_model.specs.Values.{word};
 ghost use Rattle.st_model.specs.Primitives.{pop_words, answer_with};
 ghost use Rattle.st_model.specs.Calls.{itself};
 ghost use Rattle.st_model.specs.Deeds.{is_done, deed_of_trial};
-ghost use Rattle.st_storage.specs.Reading.{RowFollows, succeed_with};
+ghost use Rattle.st_frames.specs.Answering.{RowFollows, succeed_with};
 ghost use Rattle.st_frames.specs.Rows.{RowMoves, RowDoes, RowLeaves, Takes};
 
-use crate::shapes::Answer;
-use st_frames::{Registers, pop, push};
+use crate::answer::Answer;
+use crate::registers::Registers;
+use crate::stack::{pop, push};
 use st_memory::Objects;
 use st_model::{Dead, Deed, Tried, Word};
 
 /// Pops n words, the top one first.
-#[tactic(auto, using(st_frames::proofs::Doing::rows, crate::proofs::Tries::pops))]
+#[tactic(auto, using(crate::proofs::Doing::rows, crate::proofs::Tries::pops))]
 fn pop_words<O: Objects>(m: &O, r: &mut Registers, n: u32) -> Result<(), Dead>
     ensures does { RowMoves O.Objects.own (pop_words O.names n) itself m.now r.old result r.new }
 {
@@ -24,7 +25,7 @@ fn pop_words<O: Objects>(m: &O, r: &mut Registers, n: u32) -> Result<(), Dead>
 }
 
 /// Pops receiver and n arguments, and pushes the answer.
-#[tactic(auto, using(st_frames::proofs::Doing::rows), unfolding(st_model::specs::Primitives::answer_with))]
+#[tactic(auto, using(crate::proofs::Doing::rows), unfolding(st_model::specs::Primitives::answer_with))]
 pub fn answer_with<O: Objects>(
     m: &mut O,
     r: &mut Registers,
@@ -42,7 +43,7 @@ pub fn answer_with<O: Objects>(
 }
 
 /// The answer takes the place of receiver and n arguments, and the primitive has succeeded and leaves nothing to be done.
-#[tactic(auto, using(st_frames::proofs::Doing::rows), unfolding(crate::specs::Reading::succeed_with))]
+#[tactic(auto, using(crate::proofs::Doing::rows), unfolding(crate::specs::Answering::succeed_with))]
 pub fn succeed_with<O: Objects>(
     m: &mut O,
     r: &mut Registers,
@@ -60,7 +61,7 @@ pub fn succeed_with<O: Objects>(
 }
 
 /// The same where an effect leaves something to be done besides its answer.
-#[tactic(auto, using(st_frames::proofs::Doing::rows, crate::proofs::Commuting::answered))]
+#[tactic(auto, using(crate::proofs::Doing::rows, crate::proofs::Commuting::answered))]
 pub fn succeed_leaving<O: Objects>(
     m: &mut O,
     r: &mut Registers,

@@ -1,8 +1,8 @@
-use Rattle.std.proofs.Common.{rules, ◌≡◌, Err, ℕ, ◌+◌, ◌≤◌, ◌<◌, List, length, arith}
+use Rattle.std.proofs.Common.{rules, ◌≡◌, Err, arith}
 use Rattle.st_frames.specs.Rows.{row_state}
 use Rattle.st_frames.proofs.Doing.{row-memory}
-use Rattle.st_storage.proofs.Left.{bytes-left, bytes-past, bytes-unleft, bytes-unsized, some_more}
-use Rattle.st_storage.proofs.large.find_bytes.Goals as goal
+use Rattle.st_frames.proofs.BytesLeft.{bytes-left, bytes-past, bytes-unleft, bytes-unsized, some_more}
+use Rattle.st_frames.proofs.large.find_bytes.Goals as goal
 
 pub returns-in_err-fetch_byte : goal.returns-in_err-fetch_byte
 returns-in_err-fetch_byte g c = λ bs e.

@@ -1,6 +1,6 @@
-use Rattle.std.proofs.Common.{◌<◌, ◌+◌, ◌*◌, ◌^◌, arith}
-use Rattle.st_storage.proofs.Valued.{next_byte}
-use Rattle.st_storage.proofs.numbers.+number_read.Goals as goal
+use Rattle.std.proofs.Common.{arith}
+use Rattle.st_frames.proofs.Valued.{next_byte}
+use Rattle.st_frames.proofs.numbers.+number_read.Goals as goal
 
 pub overflow_mul-result : goal.overflow_mul-result
 overflow_mul-result g t c = let h = next_byte 0 c.in_ok-high.high c.args.n (omega arith) (omega arith) (omega arith) c.in_ok-high.ensures.small in omega (arith, h.1)

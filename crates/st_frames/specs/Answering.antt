@@ -1,4 +1,4 @@
--- What functions of the code do together, and what they say of an object.
+-- What functions do together that answer a primitive, and what they say of an object.
 use Rattle.std.specs.Prelude.{◌≡◌, ℕ, List, length, Bool, true, Result, Ok}
 use Rattle.st_model.specs.declared.dead.Dead.{Dead}
 use Rattle.st_model.specs.declared.deed.Deed.{Deed}
@@ -12,6 +12,7 @@ use Rattle.st_model.specs.Steps.{fetch_kind, fetch_bytes, store_bytes}
 use Rattle.st_model.specs.Deeds.{changed_by, bytes_stored, over, with_deed}
 use Rattle.st_model.specs.Primitives.{answer_with, number_of_bytes}
 use Rattle.st_memory.specs.declared.objects.Objects.{Ghosts}
+use Rattle.st_frames.specs.declared.answer.Answer.{Answer}
 use Rattle.st_frames.specs.declared.registers.Registers.{Registers as Words}
 use Rattle.st_frames.specs.Rows.{state_of, with_left}
 
@@ -48,3 +49,14 @@ unfoldable pub succeed_by : {H : Type 0} → ObjectMemory H → ℕ → Step H V
 succeed_by m n step = do
   v ← step
   succeed_with m n v
+
+-- the answer of an effect, and what it leaves to be done
+abbrev pub answer_word : Answer → Value
+answer_word a = word a.word
+
+abbrev pub answer_deed : Answer → Deed
+answer_deed a = a.deed
+
+-- what answers nothing but a deed
+abbrev pub no_word : Deed → Unit {0}
+no_word d = tt
