@@ -4,8 +4,10 @@
 
 mod arithmetic;
 mod execute;
+mod flags;
 mod jump;
 mod operands;
+mod perform;
 mod receivers;
 mod respond;
 mod returns;
@@ -13,5 +15,6 @@ mod rows;
 mod send;
 mod stack;
 mod stepping;
+mod stub;
 
 pub use stepping::{plan, step};
