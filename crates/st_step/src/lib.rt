@@ -15,6 +15,5 @@ mod rows;
 mod send;
 mod stack;
 mod stepping;
-mod stub;
 
 pub use stepping::{plan, step};

@@ -160,8 +160,8 @@ pub fn perform_or_activate<O: Objects>(
     if call.arguments == 0 {
         return activated(m, r, call, header);
     }
-    let receiver = under(m, r, call.arguments)?;
     let n = call.arguments - 1;
+    let receiver = under(m, r, n + 1)?;
     let selector = under(m, r, n)?;
     perform_selector(m, r, call, header, receiver, selector, n)
 }
@@ -238,7 +238,7 @@ fn perform_with_array<O: Objects>(
 }
 
 /// Primitive 84: the first argument, a selector, is performed with the fields of the second, an Array.
-#[tactic(auto, using(crate::proofs::Performed::tries), unfolding(st_model::specs::Executing::primitive_perform_with, st_model::specs::Executing::perform_with))]
+#[tactic(auto, using(st_frames::proofs::Doing::rows), unfolding(st_model::specs::Executing::primitive_perform_with))]
 pub fn primitive_perform_with<O: Objects>(
     m: &mut O,
     r: &mut Registers,

@@ -21,7 +21,7 @@ use st_frames::{Registers, answer_with, top};
 use st_memory::Objects;
 use st_method::Header;
 use st_model::{Call, Dead, Deed, StepEnd, Tried};
-use crate::stub::{try_input, try_process};
+use st_process::{try_input, try_process};
 use st_storage::{primitive_say, try_storage};
 
 /// Whether a primitive is one of 1 to 18, with the one argument of these.
