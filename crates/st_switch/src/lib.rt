@@ -1,13 +1,10 @@
-// A library with one function.
+//! What is done between bytecodes (chapters 28 and 29): the signals that are pending are made, the machine switches to a process
+//! that waits, and a process is stored so that an image can be begun with it.
 #![tactic(auto)]
 
-ghost use Rattle.std.specs.Prelude.{◌≡◌};
-ghost use Rattle.st_switch.specs.Echo.{echo_of};
+mod saving;
+mod signals;
+mod switching;
 
-// The `ensures` clause is the contract: what `echo` returns is `echo_of` of its argument, a definition
-// in `specs/Echo.antt`, which a caller's clause can cite too.
-pub fn echo(x: usize) -> usize
-    ensures { result ≡ echo_of x }
-{
-    x
-}
+pub use saving::store_process;
+pub use switching::check_process_switch;
