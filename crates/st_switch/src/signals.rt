@@ -15,12 +15,7 @@ use st_process::signal;
 use st_world::World;
 
 /// Signals a semaphore.
-fn make_signal<M: Memory>(
-    m: &mut M,
-    f: &Frame,
-    w: &mut World,
-    semaphore: Oop,
-) -> Result<(), Dead>
+fn make_signal<M: Memory>(m: &mut M, f: &Frame, w: &mut World, semaphore: Oop) -> Result<(), Dead>
     requires ready { IsReady (M.view m.old) f.now w.old }
     ensures does { Does (signal bounded_table (value semaphore)) itself
         (shown (M.view m.old) f.now w.old) result (shown (M.view m.new) f.now w.new) }

@@ -28,12 +28,7 @@ fn leave<M: Memory>(m: &mut M, f: &Frame, w: &mut World, process: Oop) -> Result
 }
 
 /// Switches to a process.
-fn switch_to<M: Memory>(
-    m: &mut M,
-    f: &mut Frame,
-    w: &mut World,
-    process: Oop,
-) -> Result<(), Dead>
+fn switch_to<M: Memory>(m: &mut M, f: &mut Frame, w: &mut World, process: Oop) -> Result<(), Dead>
     requires ready { IsReady (M.view m.old) f.old w.old }
     ensures does { Does (switch_to_process bounded_table (value process)) itself
         (shown (M.view m.old) f.old w.old) result (shown (M.view m.new) f.new w.new) }
@@ -62,11 +57,7 @@ pub fn switch_if_waiting<M: Memory>(m: &mut M, f: &mut Frame, w: &mut World) -> 
 }
 
 /// What comes before each bytecode: all pending signals are made, and then the machine switches to a process that waits.
-pub fn check_process_switch<M: Memory>(
-    m: &mut M,
-    f: &mut Frame,
-    w: &mut World,
-) -> Result<(), Dead>
+pub fn check_process_switch<M: Memory>(m: &mut M, f: &mut Frame, w: &mut World) -> Result<(), Dead>
     requires ready { IsReady (M.view m.old) f.old w.old }
     ensures does { Does (check_process_switch bounded_table) itself
         (shown (M.view m.old) f.old w.old) result (shown (M.view m.new) f.new w.new) }
