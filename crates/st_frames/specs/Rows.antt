@@ -2,6 +2,8 @@
 use Rattle.std.specs.Prelude.{◌≡◌, ℕ, ◌+◌, ◌≤◌, Result, Ok, Err}
 use Rattle.st_model.specs.declared.dead.Dead.{Dead}
 use Rattle.st_model.specs.declared.deed.Deed.{Deed}
+use Rattle.st_model.specs.declared.tried.Tried.{Tried}
+use Rattle.st_model.specs.declared.tried.Tried.TheVariants.{Done, Failed}
 use Rattle.st_model.specs.Values.{word}
 use Rattle.st_model.specs.Machine.{Registers, Head, State, Step}
 use Rattle.st_model.specs.Table.{Table}
@@ -54,21 +56,37 @@ pub record Takes {M : Type 0} (o : Ghosts M) (most : ℕ) (old new : M) : Type 0
   pub room : o.room old ≤ o.room new + most
   pub fixed : o.fixed new ≡ o.fixed old
 
--- bounds of how many changes are made: by what activates a method; by a primitive on objects that is tried, besides the deed
--- that it leaves; by what executes a method, which may try such a primitive before; by a send, which may make a Message; by a
--- jump on a condition and by a return, which may send; by each of these with the execution of what was called; and by a
--- bytecode, of which a return makes the most
+-- of a primitive that was tried: none where it failed
+abbrev pub tried_changes : ℕ → Result Tried Dead → ℕ
+tried_changes most (Ok Failed) = 0
+tried_changes most (Ok (Done deed)) = most
+tried_changes most (Err cause) = most
+
+-- Bounds of how many changes are made: by what activates a method; by a primitive on objects, on blocks, or on processes and
+-- devices that is tried, besides the deed that it leaves; by what responds to a primitive, which may activate the method once
+-- one on objects was tried; by a send, which may make a Message; by what executes a method, which may perform a selector, and
+-- so arrange the stack and send before it responds; by a jump on a condition and by a return, which may send; by each of these
+-- with the execution of what was called; and by a bytecode, of which a return makes the most.
 abbrev pub activation_changes : ℕ
 activation_changes = 8
 
 abbrev pub storage_changes : ℕ
 storage_changes = 4
 
-abbrev pub execution_changes : ℕ
-execution_changes = storage_changes + activation_changes
+abbrev pub block_changes : ℕ
+block_changes = 7
+
+abbrev pub process_changes : ℕ
+process_changes = 7
+
+abbrev pub response_changes : ℕ
+response_changes = storage_changes + activation_changes
 
 abbrev pub send_changes : ℕ
 send_changes = 6
+
+abbrev pub execution_changes : ℕ
+execution_changes = 1 + send_changes + response_changes
 
 abbrev pub jump_changes : ℕ
 jump_changes = 7

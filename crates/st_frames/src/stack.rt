@@ -66,6 +66,7 @@ pub fn top<O: Objects>(m: &O, r: &Registers) -> Result<Word, Dead>
 pub fn under<O: Objects>(m: &O, r: &Registers, k: u32) -> Result<Word, Dead>
     requires few { k < 32768 }
     ensures does { RowReads O.Objects.own (under O.names k) word m.now r.now result }
+    ensures above { OnOk result (6 + k ≤ r.now.sp) }
 {
     if r.sp <= 5 + k {
         return Err(Dead::Sp);

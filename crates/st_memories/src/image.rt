@@ -1,8 +1,11 @@
-ghost use Rattle.std.specs.Prelude.{◌≡◌, ◌/◌, true};
+ghost use Rattle.std.specs.Prelude.{◌≡◌, ◌/◌, true, IfOk};
 ghost use Rattle.st_model.specs.Formed.{IsMakeable, fresh};
 ghost use Rattle.st_model.specs.Objects.{words_of};
+ghost use Rattle.st_model.specs.View.{no_devices};
+ghost use Rattle.st_world.specs.Naming.{IsNaming};
 
 use st_image::{HeadValues, ReadImage, read};
+use st_input::World;
 use st_memory::{Loader, Memory};
 use st_model::{Demand, Kind, Oop, RootPlace};
 use std::alloc::{AllocError, Global};
@@ -53,7 +56,9 @@ fn bytes_of_b(alloc: Global, entry_of_10: [u16; 2]) -> Result<Vec<u8>, AllocErro
     Ok(bytes)
 }
 
-fn loaded<L: Loader>(alloc: Global, bytes: &[u8], words: u32) -> Result<L::Done, Fail> {
+fn loaded<L: Loader>(alloc: Global, bytes: &[u8], words: u32) -> Result<L::Done, Fail>
+    ensures { IfOk result (λ m. (L.Done.view m).held.devices ≡ no_devices) }
+{
     let over = HeadValues {
         words: Some(words),
         ..HeadValues::NONE
@@ -65,9 +70,20 @@ fn loaded<L: Loader>(alloc: Global, bytes: &[u8], words: u32) -> Result<L::Done,
 }
 
 /// Image B with so many words.
-pub fn image_b<L: Loader>(alloc: Global, words: u32) -> Result<L::Done, Fail> {
+pub fn image_b<L: Loader>(alloc: Global, words: u32) -> Result<L::Done, Fail>
+    ensures { IfOk result (λ m. (L.Done.view m).held.devices ≡ no_devices) }
+{
     let bytes = bytes_of_b(alloc, [32, 0])?;
     loaded::<L>(alloc, &bytes, words)
+}
+
+/// Image B, in a memory that holds no device, and a new world, so that all that the world names is held.
+pub fn quiet_b<L: Loader>(alloc: Global) -> Result<(L::Done, World), Fail>
+    ensures { IfOk result (λ p. IsNaming (L.Done.view p.0).held p.1) }
+{
+    let memory = image_b::<L>(alloc, 1048576)?;
+    let world = World::new(alloc)?;
+    Ok((memory, world))
 }
 
 /// Image B with an object under pointer 10 that nothing names.

@@ -1,6 +1,8 @@
-//! Tests of the memory over a heap, alone and beside the plain one. No crate uses it.
+//! Tests of the memory over a heap, alone and beside the plain one, and of events over both. No crate uses it.
 #![tactic(auto)]
 
+#[cfg(test)]
+mod events;
 #[cfg(test)]
 mod image;
 #[cfg(test)]

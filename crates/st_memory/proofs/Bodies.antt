@@ -6,7 +6,7 @@ use Rattle.st_model.specs.declared.kind.Kind.TheVariants as kind
 use Rattle.st_model.specs.Values.{Value, Small, Ref, value_of, is_small}
 use Rattle.st_model.proofs.Words.{is_small-value_of}
 use Rattle.std.proofs.lemmas.Bool.Decides.{nat_tests}
-use Rattle.st_model.specs.Objects.{Object, holds_fields, is_pointers, is_words}
+use Rattle.st_model.specs.Objects.{Object, holds_fields, is_pointers, is_words, size_of}
 use Rattle.st_model.specs.Table.{Table, entry}
 use Rattle.st_model.specs.Formed.{IsFormed}
 use Rattle.st_model.specs.View.{View, IsWhole, is_live, object_of, nothing}
@@ -41,6 +41,18 @@ most_units {v} x whole live =
     let o = object_of v.objects x in
     let formed = formed_object v x whole live in
     most_words (is_words o.kind) (length o.fields) (length o.units) (λ words. ap length (formed.fieldless (words_hold o.kind words))) formed.size
+
+few_fields : (k : Kind) (f u : ℕ) → is_pointers k ≡ true → (if is_words k then 2 + u else 2 + f + (u + 1) / 2) ≤ 65535 → (if is_pointers k then f else 2 * f + u) ≤ 65533
+few_fields kind.Pointers f u e l = omega (arith, l)
+few_fields kind.Words f u e l = cc
+few_fields kind.Bytes f u e l = cc
+few_fields kind.Method f u e l = cc
+
+-- an object of kind Pointers has no more fields than a body has words
+pub most_fields : {v : View} (x : Value) → IsWhole v → is_live v.objects x ≡ true → is_pointers (object_of v.objects x).kind ≡ true → size_of (object_of v.objects x) ≤ 65533
+most_fields {v} x whole live kind =
+    let o = object_of v.objects x in
+    few_fields o.kind (length o.fields) (length o.units) kind (formed_object v x whole live).size
 
 pub live_small : (t : Table) (v : Value) → is_live t v ≡ true → is_small v ≡ false
 unfolding is_live

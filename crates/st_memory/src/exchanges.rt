@@ -5,13 +5,13 @@ ghost use Rattle.st_memory.specs.Drafts.{value_before, AreEven};
 use crate::change::Exchange;
 use st_model::Word;
 
-/// The pairs of objects that a row exchanges, in its order. There is room for 24.
+/// The pairs of objects that a row exchanges, in its order. There is room for 28.
 #[derive(Drop)]
 pub struct Exchanges {
-    pub pairs: [Exchange; 24],
+    pub pairs: [Exchange; 28],
     pub count: u32,
-    pub ghost few: { count ≤ 24 },
-    pub ghost sizes: { length pairs ≡ 24 },
+    pub ghost few: { count ≤ 28 },
+    pub ghost sizes: { length pairs ≡ 28 },
     pub ghost even: { AreEven pairs count },
 }
 
@@ -47,7 +47,7 @@ impl Exchanges {
             second: Word::NIL,
         };
         Exchanges {
-            pairs: [none; 24],
+            pairs: [none; 28],
             count: 0,
         }
     }
@@ -67,7 +67,7 @@ impl Exchanges {
 
     /// One exchange more.
     pub fn add(&mut self, pair: Exchange)
-        requires room { self.old.count < 24 }
+        requires room { self.old.count < 28 }
         requires first { is_small (word pair.first) ≡ false }
         requires second { is_small (word pair.second) ≡ false }
         ensures more { (t : Table) → exchanged_by t self.new.pairs self.new.count

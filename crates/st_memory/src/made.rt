@@ -41,7 +41,7 @@ impl Made {
     pub fn count_fields(self) -> Result<u32, Dead>
         requires { IsMade self }
         ensures counts { Reads (count_fields table (Ref 0)) itself (alone (made_object self)) result }
-        ensures small { IfOk result (λ n. n ≤ 131066) }
+        ensures small { IfOk result (λ n. n ≤ 65533) }
     {
         if self.kind.is_pointers() {
             Ok(self.size)

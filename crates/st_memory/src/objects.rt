@@ -44,7 +44,7 @@ pub trait Objects {
     /// How many fields an object of kind Pointers has.
     fn count_fields(&self, o: Word) -> Result<u32, Dead>
         ensures counts { Reads (count_fields names (word o)) itself (table self.now) result }
-        ensures small { IfOk result (λ n. n ≤ 131066) };
+        ensures small { IfOk result (λ n. n ≤ 65533) };
 
     /// The class of an object.
     fn fetch_class(&self, o: Word) -> Result<Word, Dead>

@@ -5,9 +5,9 @@ use Rattle.st_model.specs.Objects.{Object, SchedulerAssociation}
 use Rattle.st_model.specs.Machine.{Step}
 use Rattle.st_model.specs.Births.{Births}
 use Rattle.st_model.specs.Contexts.{scheduled_context, fetch_scheduled_registers}
-use Rattle.st_model.specs.Processes.{switch_to_process}
-use Rattle.st_model.specs.Cycles.{signal_if_any, signal_newest, switch_unless_nil, switch_if_waiting, check_process_switch}
-use Rattle.st_model.specs.Saving.{store_process}
+use Rattle.st_model.specs.Processes.{leave_process, enter_process, switch_to_process}
+use Rattle.st_model.specs.Cycles.{signal_if_any, signal_next, signal_newest, switch_unless_nil, switch_if_waiting, check_process_switch}
+use Rattle.st_model.specs.Saving.{store_active, store_process}
 use Rattle.st_model.proofs.Present.{bare, full}
 use Rattle.st_model.proofs.PresentSteps as at
 use Rattle.st_model.proofs.PresentSteps.{sures, parts, switch-sure, store_context_registers-sure, fetch_context_registers-sure}
@@ -30,16 +30,28 @@ module _ (o : Object) (lives : ℕ → Type 0) where
       let there : There n s = record { live = h.live } in
       search (parts, signal-sure) depth 24 fits 4000
 
+  signal_next-sure : (n : ℕ) → SureAnswer n (signal_next bare) (signal_next (full o))
+  unfolding signal_next
+  signal_next-sure n = search (parts, signal_if_any-sure) depth 24 fits 4000
+
   signal_newest-sure : (n k : ℕ) → SureAnswer n (signal_newest bare k) (signal_newest (full o) k)
   unfolding signal_newest
   signal_newest-sure n zero = search sures
   signal_newest-sure n (suc k) =
       let others : (j : ℕ) → SureAnswer j (signal_newest bare k) (signal_newest (full o) k) = λ j. signal_newest-sure j k in
-      search (parts, signal_if_any-sure, others) depth 24 fits 4000
+      search (parts, signal_next-sure, others) depth 24 fits 4000
+
+  leave_process-sure : (n : ℕ) (p : Value) → There n p → SureAnswer n (leave_process bare p) (leave_process (full o) p)
+  unfolding leave_process
+  leave_process-sure n p h = search (parts, scheduler-sure, scheduled_process-sure, let_wait-sure) depth 32 fits 4000
+
+  enter_process-sure : (n : ℕ) (p : Value) → There n p → SureAnswer n (enter_process bare p) (enter_process (full o) p)
+  unfolding enter_process
+  enter_process-sure n p h = search (parts, switch-sure) depth 24 fits 4000
 
   switch_to_process-sure : (n : ℕ) (p : Value) → There n p → SureAnswer n (switch_to_process bare p) (switch_to_process (full o) p)
   unfolding switch_to_process
-  switch_to_process-sure n p h = search (parts, scheduler-sure, scheduled_process-sure, let_wait-sure, switch-sure) depth 32 fits 4000
+  switch_to_process-sure n p h = search (parts, leave_process-sure, enter_process-sure) depth 24 fits 4000
 
   switch_unless_nil-sure : (n : ℕ) (p : Value) (b : Bool) → There n p → SureAnswer n (switch_unless_nil bare p b) (switch_unless_nil (full o) p b)
   unfolding switch_unless_nil
@@ -62,6 +74,10 @@ module _ (o : Object) (lives : ℕ → Type 0) where
   unfolding fetch_scheduled_registers
   fetch_scheduled_registers-sure n = search (parts, scheduled_context-sure, fetch_context_registers-sure) depth 24 fits 4000
 
+  store_active-sure : (n : ℕ) → SureAnswer n (store_active bare) (store_active (full o))
+  unfolding store_active
+  store_active-sure n = search (parts, store_context_registers-sure, scheduled_process-sure) depth 24 fits 4000
+
   pub store_process-sure : (n : ℕ) → SureAnswer n (store_process bare) (store_process (full o))
   unfolding store_process
-  store_process-sure n = search (parts, switch_if_waiting-sure, store_context_registers-sure, scheduled_process-sure, fetch_scheduled_registers-sure) depth 32 fits 4000
+  store_process-sure n = search (parts, switch_if_waiting-sure, store_active-sure, fetch_scheduled_registers-sure) depth 32 fits 4000

@@ -76,3 +76,6 @@ mod ProcessRows
 mod InputRows
 mod BlockRows
 mod PerformRows
+mod EventRows
+mod CycleRows
+mod SaveRows

@@ -3,7 +3,7 @@ use Rattle.std.proofs.Common.{◌≡◌, ℕ, zero, suc, Bool, true, false}
 use Rattle.std.specs.Prelude.{ℤ, pos, negsuc}
 use Rattle.st_model.specs.Values.{Value}
 use Rattle.st_model.specs.Machine.{ObjectMemory}
-use Rattle.st_model.specs.Processes.{scheduler, scheduled_process, active_or_new, active_process, link_first, add_last, unlink_first, take_first, ready_lists, list_number, sleep, let_wait, resume_over, resume, add_excess, wake_first, signal, go_on_with, highest_goes_on, suspend, switch_to_process, check_fields, signal_and_answer, primitive_signal, excess_of, wait_in, take_excess, wait_and_answer, primitive_wait, resume_and_answer, primitive_resume, check_active, suspend_and_answer, primitive_suspend, processes}
+use Rattle.st_model.specs.Processes.{scheduler, scheduled_process, active_or_new, active_process, link_first, add_last, unlink_first, take_first, ready_lists, list_number, sleep, let_wait, resume_over, resume, add_excess, wake_first, signal, go_on_with, highest_goes_on, suspend, leave_process, enter_process, switch_to_process, check_fields, signal_and_answer, primitive_signal, excess_of, wait_in, take_excess, wait_and_answer, primitive_wait, resume_and_answer, primitive_resume, check_active, suspend_and_answer, primitive_suspend, processes}
 use Rattle.st_model.proofs.Same.{Simulation, ValueSame, SameValue, SameAnswer, steps_same}
 use Rattle.st_model.proofs.StepsSame.{parts_same}
 use Rattle.st_model.proofs.ContextsSame.{switch-same}
@@ -100,9 +100,17 @@ module _ {H K : Type 0} {M : ObjectMemory H} {N : ObjectMemory K} (sim : Simulat
   unfolding suspend
   suspend-same = search (parts_same, ready_lists-same, highest_goes_on-same) depth 24 fits 4000
 
+  leave_process-same : (p q : Value) → ValueSame sim p q → SameAnswer sim (leave_process M p) (leave_process N q)
+  unfolding leave_process
+  leave_process-same p q h = search (parts_same, scheduler-same, scheduled_process-same, let_wait-same) depth 32 fits 4000
+
+  enter_process-same : (p q : Value) → ValueSame sim p q → SameAnswer sim (enter_process M p) (enter_process N q)
+  unfolding enter_process
+  enter_process-same p q h = search (parts_same, switch-same) depth 24 fits 4000
+
   pub switch_to_process-same : (p q : Value) → ValueSame sim p q → SameAnswer sim (switch_to_process M p) (switch_to_process N q)
   unfolding switch_to_process
-  switch_to_process-same p q h = search (parts_same, scheduler-same, scheduled_process-same, let_wait-same, switch-same) depth 32 fits 4000
+  switch_to_process-same p q h = search (parts_same, leave_process-same, enter_process-same) depth 24 fits 4000
 
   -- conditions and effects
 

@@ -22,12 +22,17 @@ signal_if_any m (Some s) = do
   change_world m TakeSignal
   signal m s
 
+-- the newest pending signal is made
+unfoldable pub signal_next : {H : Type 0} → ObjectMemory H → Step H Unit
+signal_next m = do
+  s ← newest_signal
+  signal_if_any m s
+
 -- so many pending signals are made, the newest first
 unfoldable pub signal_newest : {H : Type 0} → ObjectMemory H → ℕ → Step H Unit
 signal_newest m zero = answer tt
 signal_newest m (suc n) = do
-  s ← newest_signal
-  signal_if_any m s
+  signal_next m
   signal_newest m n
 
 unfoldable pub switch_unless_nil : {H : Type 0} → ObjectMemory H → Value → Bool → Step H Unit

@@ -150,9 +150,9 @@ suspend m = do
   n ← count_fields m lists
   highest_goes_on m lists n
 
--- the active context is kept in the scheduler's process, p takes that one's place, and its context becomes the active one
-unfoldable pub switch_to_process : {H : Type 0} → ObjectMemory H → Value → Step H Unit
-switch_to_process m p = do
+-- the active context is kept in the scheduler's process, p takes that one's place, and none waits any more
+unfoldable pub leave_process : {H : Type 0} → ObjectMemory H → Value → Step H Unit
+leave_process m p = do
   c ← get_active
   old ← scheduled_process m
   store_field m old 1 c
@@ -160,8 +160,18 @@ switch_to_process m p = do
   store_field m s 1 p
   nil ← of_page m NilObject
   let_wait m nil
+
+-- the context of p becomes the active one
+unfoldable pub enter_process : {H : Type 0} → ObjectMemory H → Value → Step H Unit
+enter_process m p = do
   context ← fetch_field m p 1
   switch m context
+
+-- the machine switches to p
+unfoldable pub switch_to_process : {H : Type 0} → ObjectMemory H → Value → Step H Unit
+switch_to_process m p = do
+  leave_process m p
+  enter_process m p
 
 -- primitives
 

@@ -6,15 +6,20 @@ use Rattle.st_model.specs.Processes.{scheduled_process}
 use Rattle.st_model.specs.Cycles.{switch_if_waiting}
 use Rattle.st_model.specs.Settled.{reclaim}
 
--- a waiting process switch is carried out, the registers are stored, and the active context becomes that of the scheduler's
--- process, from which the registers are fetched again
-unfoldable pub store_process : {H : Type 0} → ObjectMemory H → Step H Unit
-store_process m = do
-  switch_if_waiting m
+-- the registers are stored, and the active context becomes that of the scheduler's process
+unfoldable pub store_active : {H : Type 0} → ObjectMemory H → Step H Unit
+store_active m = do
   store_context_registers m
   c ← get_active
   p ← scheduled_process m
   store_field m p 1 c
+
+-- a waiting process switch is carried out, the active context is stored with its process, and the registers are fetched again
+-- from there
+unfoldable pub store_process : {H : Type 0} → ObjectMemory H → Step H Unit
+store_process m = do
+  switch_if_waiting m
+  store_active m
   fetch_scheduled_registers m
 
 abbrev pub settled_after : {H : Type 0} → ObjectMemory H → Transition (State H) Unit → Transition (State H) Unit

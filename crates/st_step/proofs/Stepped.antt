@@ -12,27 +12,28 @@ use Rattle.st_model.specs.declared.outcome.StepEnd.TheVariants as ends
 use Rattle.st_model.specs.declared.word.Word.{Word}
 use Rattle.st_model.specs.Values.{Small, Ref, value_of, word, is_small, IsLive}
 use Rattle.st_model.specs.Objects.{one, words_of}
-use Rattle.st_model.specs.Outcomes.{StepEnd, Did, NotBuilt, end_of}
+use Rattle.st_model.specs.Outcomes.{StepEnd, Did, NotBuilt, is_built, end_of}
 use Rattle.st_model.specs.Machine.{World, Head, State, Transition, Died, Went, is_there, used}
 use Rattle.st_model.specs.Births.{Births, births}
 use Rattle.st_model.specs.Steps.{are_there}
 use Rattle.st_model.specs.Table.{Table, table, apart, bounded_table, total_used}
 use Rattle.st_model.specs.Calls.{transition_of}
-use Rattle.st_model.specs.Deeds.{deed_of_end, deed_done}
+use Rattle.st_model.specs.Deeds.{deed_of_end, deed_done, world_done}
 use Rattle.st_model.specs.Bytecodes.{step}
 use Rattle.st_model.specs.Show.{Shows, IsUsed}
 use Rattle.st_model.specs.Foreseen.{Foretells}
-use Rattle.st_model.specs.View.{View, IsWhole}
+use Rattle.st_model.specs.View.{View, Held, IsWhole}
 use Rattle.st_model.proofs.HeapsSame.{same_used}
 use Rattle.st_model.proofs.Started.{naming, heaps_start}
 use Rattle.st_model.proofs.CyclesShown.{foretells}
 use Rattle.st_model.proofs.Closed.{step_closed}
-use Rattle.st_model.proofs.Deeds.{deed_uses}
+use Rattle.st_model.proofs.Deeds.{deed_uses, deed_leaves_there}
 use Rattle.st_frames.specs.declared.frame.Frame.{Frame}
 use Rattle.st_frames.specs.declared.registers.Registers.{Registers as Words}
 use Rattle.st_frames.specs.Narrow.{IsNarrow}
 use Rattle.st_frames.specs.Rows.{row_state, registers_in, with_left}
-use Rattle.st_frames.specs.Shown.{shown, registers_of, IsReady, StaysFrame}
+use Rattle.st_frames.specs.Shown.{shown, registers_of, IsFrame, IsReady}
+use Rattle.st_world.specs.Naming as world
 use Rattle.st_frames.proofs.Closed.{is_closed}
 use Rattle.st_step.specs.Planned.{PlansOver, Plans, PlansBirths, plus}
 
@@ -48,16 +49,23 @@ module _ (before : Demand) (c s : State Table) (t : Table) (a : Head) (r : Words
   planned : (y : Result CodeStepEnd Dead) → x ≡ y → (step apart).run c ≡ transition_of end_of y (with_left deed_of_end y (row_state t a r))
   planned y e = ap (λ z. (step apart).run z) (sym same) ∙ (does ∙ ap (λ z. transition_of end_of z (with_left deed_of_end z (row_state t a r))) e)
 
-  pub plan_goes : (d : Deed) (n : Demand) → x ≡ Ok (ends.Went d) → used apart t ≡ plus before n → Plans before ((step apart).run c) (Ok n)
+  -- an end that was done uses what the row made
+  pub plan_done : (end : CodeStepEnd) (n : Demand) → x ≡ Ok end → is_built (end_of end) ≡ true → used apart t ≡ plus before n → Plans before ((step apart).run c) (Ok n)
   unfolding row_state
-  plan_goes d n e u = subst (λ y. Plans before y (Ok n)) (sym (planned (Ok (ends.Went d)) e)) (deed_uses d t ∙ u)
+  plan_done (ends.Went d) n e b u = subst (λ y. Plans before y (Ok n)) (sym (planned (Ok (ends.Went d)) e)) (deed_uses d t ∙ u)
+  plan_done (ends.Says w) n e b u = subst (λ y. Plans before y (Ok n)) (sym (planned (Ok (ends.Says w)) e)) u
+  plan_done ends.Snapshot n e b u = subst (λ y. Plans before y (Ok n)) (sym (planned (Ok ends.Snapshot) e)) u
+  plan_done ends.Quit n e b u = subst (λ y. Plans before y (Ok n)) (sym (planned (Ok ends.Quit) e)) u
+  plan_done ends.Debugger n e b u = subst (λ y. Plans before y (Ok n)) (sym (planned (Ok ends.Debugger) e)) u
+  plan_done ends.NotBuilt n e b u = cc
 
-  pub plan_says : (w : Word) (n : Demand) → x ≡ Ok (ends.Says w) → used apart t ≡ plus before n → Plans before ((step apart).run c) (Ok n)
-  unfolding row_state
-  plan_says w n e u = subst (λ y. Plans before y (Ok n)) (sym (planned (Ok (ends.Says w)) e)) u
-
-  pub plan_unbuilt : x ≡ Ok ends.NotBuilt → Plans before ((step apart).run c) (Err halt.Unbuilt)
-  plan_unbuilt e = subst (λ y. Plans before y (Err halt.Unbuilt)) (sym (planned (Ok ends.NotBuilt) e)) tt
+  pub plan_unbuilt : (end : CodeStepEnd) → x ≡ Ok end → is_built (end_of end) ≡ false → Plans before ((step apart).run c) (Err halt.Unbuilt)
+  plan_unbuilt ends.NotBuilt e b = subst (λ y. Plans before y (Err halt.Unbuilt)) (sym (planned (Ok ends.NotBuilt) e)) tt
+  plan_unbuilt (ends.Went d) e b = cc
+  plan_unbuilt (ends.Says w) e b = cc
+  plan_unbuilt ends.Snapshot e b = cc
+  plan_unbuilt ends.Quit e b = cc
+  plan_unbuilt ends.Debugger e b = cc
 
   pub plan_dies : (cause : Dead) → x ≡ Err cause → Plans before ((step apart).run c) (Err (halt.Dead cause))
   plan_dies cause e = subst (λ y. Plans before y (Err (halt.Dead cause))) (sym (planned (Err cause) e)) refl
@@ -100,16 +108,30 @@ unfolding row_state
 held_again v u f w r e q o h = λ i. record { memory = sym o i; registers = sym e i; world = q i; head = sym h i }
 
 -- what was left is done
-pub done_after : (u z : View) (r : Words) (end : CodeStepEnd) (d : Deed) → d ≡ deed_of_end end → z.objects ≡ deed_done d u.objects → z.head ≡ u.head
-    → with_left deed_of_end (Ok end) (row_state u.objects u.head r) ≡ row_state z.objects z.head r
+pub done_after : (u h z : View) (f : Frame) (w x : World) (r : Words) (end : CodeStepEnd) (d : Deed) → d ≡ deed_of_end end → registers_of f ≡ registers_in r → r.world.now ≡ w → h.objects ≡ u.objects
+    → h.head ≡ u.head → z.objects ≡ deed_done d h.objects → z.head ≡ h.head → x ≡ world_done d h.objects w
+    → with_left deed_of_end (Ok end) (row_state u.objects u.head r) ≡ shown z f x
 unfolding row_state
-done_after u z r end d e o h =
-    let p : z.objects ≡ deed_done (deed_of_end end) u.objects = o ∙ ap (λ x. deed_done x u.objects) e in
-    λ i. record { memory = sym p i; registers = registers_in r; world = r.world.now; head = sym h i }
+done_after u h z f w x r end d e same world objects head done head_done changed =
+    let o : z.objects ≡ deed_done (deed_of_end end) u.objects = done ∙ (λ i. deed_done (e i) (objects i)) in
+    let c : x ≡ world_done (deed_of_end end) u.objects r.world.now = changed ∙ (λ i. world_done (e i) (objects i) (sym world i)) in
+    λ i. record { memory = sym o i; registers = sym same i; world = sym c i; head = sym (head_done ∙ head) i }
 
--- what the devices hold is as it was, and registers are held again
-pub ready_again : (v u : View) (f g : Frame) (w : World) → IsReady v f w → StaysFrame v u g → IsReady u g w
-ready_again v u f g w ready stays = record { frame = stays.frame; devices = stays.devices ∙ ready.devices }
+-- the registers are held as before, and what the world names is held again
+pub ready_after : (h z : View) (f : Frame) (x : World) → IsFrame h f → z.held ≡ world.naming h.held x → IsReady z f x
+ready_after h z f x frame e = record {
+  frame = record {
+    active = frame.active ∙ sym (ap (λ (y : Held). y.active) e);
+    home = frame.home ∙ sym (ap (λ (y : Held). y.home) e);
+    method = frame.method ∙ sym (ap (λ (y : Held). y.method) e);
+    receiver = frame.receiver ∙ sym (ap (λ (y : Held). y.receiver) e);
+    ip_low = frame.ip_low;
+    ip_high = frame.ip_high;
+    sp_low = frame.sp_low;
+    sp_high = frame.sp_high;
+  };
+  devices = ap (λ (y : Held). y.devices) e;
+}
 
 there_if : (t : Table) (b : Bool) (n : ℕ) → IsLive (IsUsed t) (if b then Small n else Ref n) → (is_small (if b then Small n else Ref n) ≡ true → n < 32768)
     → is_there table t (if b then Small n else Ref n) ≡ true
@@ -123,11 +145,13 @@ there t w h s = there_if t (w.0 % 2 == 1) (w.0 / 2) h (λ e. let l = s e in omeg
 all_there : (a b c d : Bool) → a ≡ true → b ≡ true → c ≡ true → d ≡ true → (a && (b && (c && d))) ≡ true
 all_there a b c d p q r s = rw (p, q, r, s) refl
 
-pub there_after : (v : View) (f : Frame) (world : World) (t : Table) (a : Head) (r : Words) (o : StepEnd) → IsWhole v → IsReady v f world
-    → (step bounded_table).run (shown v f world) ≡ Went o (row_state t a r) → are_there table t (registers_in r) ≡ true
+pub there_after : (v : View) (f : Frame) (world : World) (t : Table) (a : Head) (r : Words) (end : CodeStepEnd) → IsWhole v → IsReady v f world
+    → (step bounded_table).run (shown v f world) ≡ Went (end_of end) (with_left deed_of_end (Ok end) (row_state t a r)) → are_there table t (registers_in r) ≡ true
 unfolding row_state
-there_after v f world t a r o w ready e =
-    let closed = step_closed (shown v f world) (row_state t a r) o (is_closed v f world w ready) e in
+there_after v f world t a r end w ready e =
+    let d = deed_of_end end in
+    let closed = step_closed (shown v f world) (with_left deed_of_end (Ok end) (row_state t a r)) (end_of end) (is_closed v f world w ready) e in
+    let before : (x : Word) → IsLive (IsUsed (deed_done d t)) (word x) → IsNarrow x → is_there table t (word x) ≡ true = λ x l n. sym (deed_leaves_there d t (word x)) ∙ there (deed_done d t) x l n in
     all_there (is_there table t (word r.active)) (is_there table t (word r.home)) (is_there table t (word r.method)) (is_there table t (word r.receiver))
-    (there t r.active closed.roots.0 r.active_narrow) (there t r.home closed.roots.1.0 r.home_narrow)
-    (there t r.method closed.roots.1.1.0 r.method_narrow) (there t r.receiver closed.roots.1.1.1.0 r.receiver_narrow)
+    (before r.active closed.roots.0 r.active_narrow) (before r.home closed.roots.1.0 r.home_narrow)
+    (before r.method closed.roots.1.1.0 r.method_narrow) (before r.receiver closed.roots.1.1.1.0 r.receiver_narrow)

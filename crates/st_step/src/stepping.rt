@@ -1,5 +1,5 @@
 ghost use Rattle.std.specs.Prelude.{◌≡◌, IfOk};
-ghost use Rattle.st_model.specs.Outcomes.{Did, end_of, outcome_of};
+ghost use Rattle.st_model.specs.Outcomes.{Did, is_built, end_of, outcome_of};
 ghost use Rattle.st_model.specs.Deeds.{deed_of_end};
 ghost use Rattle.st_model.specs.Machine.{used, Went};
 ghost use Rattle.st_model.specs.Table.{table, apart, bounded_table};
@@ -11,9 +11,16 @@ ghost use Rattle.st_step.specs.Planned.{Plans, PlansBirths, IsForeseen, TopSaid}
 use crate::rows::step_row;
 use st_deeds::carry_out;
 use st_frames::{Frame, hold, load};
-use st_world::World;
 use st_memory::{Draft, Memory};
 use st_model::{Dead, Deed, Demand, Halt, Outcome, StepEnd};
+use st_world::World;
+
+/// Whether a step was done, and came to no primitive that isn't built.
+fn is_built(end: StepEnd) -> bool
+    ensures { result ≡ is_built (end_of end) }
+{
+    !matches!(end, StepEnd::NotBuilt)
+}
 
 /// What the next bytecode would take of the capacities, or why it can't be done, also over births that memory, registers and
 /// world show. Nothing is changed.
@@ -26,9 +33,13 @@ pub fn plan<M: Memory>(m: &M, f: &Frame, w: &World) -> Result<Demand, Halt>
     let mut draft = Draft::new(m);
     let mut r = load(m, f, w);
     match step_row(&mut draft, &mut r) {
-        Ok(StepEnd::Went(_)) => Ok(draft.demand()),
-        Ok(StepEnd::Says(_)) => Ok(draft.demand()),
-        Ok(StepEnd::NotBuilt) => Err(Halt::Unbuilt),
+        Ok(end) => {
+            if is_built(end) {
+                Ok(draft.demand())
+            } else {
+                Err(Halt::Unbuilt)
+            }
+        }
         Err(cause) => Err(Halt::Dead(cause)),
     }
 }
@@ -39,22 +50,25 @@ fn deed_of(end: StepEnd) -> Deed
 {
     match end {
         StepEnd::Went(deed) => deed,
-        StepEnd::Says(_) => Deed::Nothing,
-        StepEnd::NotBuilt => Deed::Nothing,
+        StepEnd::Says(_)
+        | StepEnd::Snapshot
+        | StepEnd::Quit
+        | StepEnd::Debugger
+        | StepEnd::NotBuilt => Deed::Nothing,
     }
 }
 
-/// Does the next bytecode over the memory. Where it went, what it leaves is done, and the registers are held again.
-fn try_step<M: Memory>(m: &mut M, f: &mut Frame, w: &World) -> Result<StepEnd, Dead>
-    requires ready { IsReady (M.view m.old) f.old w.now }
+/// Does the next bytecode over the memory. Where it went, the registers are held again, and what it leaves is done.
+fn try_step<M: Memory>(m: &mut M, f: &mut Frame, w: &mut World) -> Result<StepEnd, Dead>
+    requires ready { IsReady (M.view m.old) f.old w.old }
     ensures step { Does (step bounded_table)
-        end_of (shown (M.view m.old) f.old w.now) result (shown (M.view m.new) f.new w.now) }
-    ensures ready { IfOk result (λ o. IsReady (M.view m.new) f.new w.now) }
+        end_of (shown (M.view m.old) f.old w.old) result (shown (M.view m.new) f.new w.new) }
+    ensures ready { IfOk result (λ o. IsReady (M.view m.new) f.new w.new) }
 {
     let mut r = load(m, f, w);
     let end = step_row(m, &mut r)?;
-    carry_out(m, deed_of(end));
     *f = hold(m, &r);
+    carry_out(m, w, deed_of(end));
     Ok(end)
 }
 
@@ -69,19 +83,20 @@ fn say_top<M: Memory>(m: &M, f: &Frame) -> Outcome
     }
 }
 
-/// Does the next bytecode, once a plan has said what it takes and there is room for that. No bytecode changes the world
-/// yet.
+/// Does the next bytecode, once a plan has said what it takes and there is room for that.
 pub fn step<M: Memory>(m: &mut M, f: &mut Frame, w: &mut World) -> Outcome
     requires ready { IsReady (M.view m.old) f.old w.old }
     requires foreseen { IsForeseen (shown (M.view m.old) f.old w.old) }
     ensures step { (step bounded_table).run (shown (M.view m.old) f.old w.old)
         ≡ Went (Did (outcome_of result)) (shown (M.view m.new) f.new w.new) }
     ensures ready { IsReady (M.view m.new) f.new w.new }
-    ensures world { w.new ≡ w.old }
 {
     match try_step(m, f, w) {
         Ok(StepEnd::Went(_)) => Outcome::Went,
         Ok(StepEnd::Says(_)) => say_top(m, f),
+        Ok(StepEnd::Snapshot) => Outcome::Snapshot,
+        Ok(StepEnd::Quit) => Outcome::Quit,
+        Ok(StepEnd::Debugger) => Outcome::Debugger,
         Ok(StepEnd::NotBuilt) => Outcome::Went,
         Err(_) => Outcome::Went,
     }

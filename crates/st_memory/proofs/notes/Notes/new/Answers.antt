@@ -8,10 +8,10 @@ use Rattle.st_memory.proofs.notes.Notes.new.Goals as goal
 
 -- what stands in the unused cells
 abbrev unmade : List Made
-unmade = replicate 24 (record { class = record { 0 = 2 }; kind = kind.Pointers; size = 0; literals = 0 })
+unmade = replicate 28 (record { class = record { 0 = 2 }; kind = kind.Pointers; size = 0; literals = 0 })
 
 abbrev unchanged : List Change
-unchanged = replicate 24 (Field (record { 0 = 2 }) 0 (record { 0 = 2 }))
+unchanged = replicate 28 (Field (record { 0 = 2 }) 0 (record { 0 = 2 }))
 
 pub returns-clause-none : goal.returns-clause-none
 returns-clause-none c = λ t. nothing_made t unmade unchanged
