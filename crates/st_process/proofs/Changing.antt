@@ -1,6 +1,6 @@
 -- A change of the world is what the deed does that is left for it, where what it names is there.
-use Rattle.std.proofs.Common.{◌≡◌, ℕ, ◌≤◌, Bool, true, false, List, [], ◌∷◌, is_some, refl, ap, sym, ◌∙◌, arith}
-use Rattle.std.specs.Prelude.{◌||◌, ◌&&◌, nat_le, if◌then◌else◌}
+use Rattle.std.proofs.Common.{◌≡◌, Bool, true, false, [], ◌∷◌, is_some, refl, ap, sym, ◌∙◌, arith}
+use Rattle.std.specs.Prelude.{◌||◌, nat_le}
 use Rattle.std.proofs.lemmas.Bool.Decides.{nat_tests}
 use Rattle.st_model.specs.declared.dead.Dead.{Dead}
 use Rattle.st_model.specs.declared.dead.Dead.TheVariants as dead
@@ -10,12 +10,12 @@ use Rattle.st_model.specs.declared.deed.Deed.TheVariants as deed
 use Rattle.st_model.specs.declared.word.Word.{Word}
 use Rattle.st_model.specs.Values.{Value, Small, Ref, word}
 use Rattle.st_model.specs.Surroundings.{Change, Hold, SetLow, MoveMouse, changed_world, named_by}
-use Rattle.st_model.specs.Machine.{ObjectMemory, State, Transition, Died, Went, is_there, all_there, answer, after, tried, ◌>>=◌, ◌>>◌}
+use Rattle.st_model.specs.Machine.{ObjectMemory, State, Died, Went, is_there, all_there, answer, after, tried, ◌>>=◌, ◌>>◌}
 use Rattle.st_model.specs.Table.{Table, table, IsTabular}
 use Rattle.st_model.specs.Steps.{world_changed, change_world, check}
 use Rattle.st_model.specs.Primitives.{succeed, primitive}
 use Rattle.st_model.specs.Deeds.{with_deed}
-use Rattle.st_model.specs.Input.{always, mouse_point, primitive_mouse_point, move_mouse, Low, set_low_space}
+use Rattle.st_model.specs.Input.{always, mouse_point, primitive_mouse_point, move_mouse, set_low_space}
 use Rattle.st_model.proofs.Runs.{run-change_world, run-passed, run-failed}
 use Rattle.st_frames.specs.Answering.{succeed_with}
 use Rattle.st_frames.proofs.Tries.{primitive-same}
@@ -94,8 +94,9 @@ pub ruleset mice = (mouse-left)
 pub either-first : (k : Dead) (b c : Bool) (s : State Table) → b ≡ true → (check k (b || c)).run s ≡ Went tt s
 either-first k b c s e = run-passed k (b || c) s (rw e refl)
 
-pub either-second : (k : Dead) (b c : Bool) (s : State Table) → b ≡ false → c ≡ true → (check k (b || c)).run s ≡ Went tt s
-either-second k b c s e f = run-passed k (b || c) s (rw (e, f) refl)
+pub either-second : (k : Dead) (b c : Bool) (s : State Table) → c ≡ true → (check k (b || c)).run s ≡ Went tt s
+either-second k true c s f = run-passed k (true || c) s refl
+either-second k false c s f = run-passed k (false || c) s f
 
 pub neither : (k : Dead) (b c : Bool) (s : State Table) → b ≡ false → c ≡ false → (check k (b || c)).run s ≡ Died k
 neither k b c s e f = run-failed k (b || c) s (rw (e, f) refl)

@@ -1,15 +1,14 @@
 -- Of the lists of those that are ready the highest that has a process, list by list.
-use Rattle.std.proofs.Common.{◌≡◌, ℕ, zero, suc, ◌<◌, ◌-◌, Bool, true, false, refl, sym, ap, ◌∙◌, arith}
+use Rattle.std.proofs.Common.{◌≡◌, ℕ, zero, suc, ◌<◌, ◌-◌, Bool, true, false, refl, sym, ◌∙◌, arith}
 use Rattle.std.specs.Prelude.{if◌then◌else◌}
 use Rattle.st_model.specs.declared.dead.Dead.{Dead}
 use Rattle.st_model.specs.declared.dead.Dead.TheVariants as dead
 use Rattle.st_model.specs.Values.{Value}
 use Rattle.st_model.specs.declared.page.PageObject.TheVariants.{NilObject}
-use Rattle.st_model.specs.Machine.{ObjectMemory, State, Transition, Died, Went, Step, answer, die, after, ◌>>=◌, ◌>>◌}
+use Rattle.st_model.specs.Machine.{ObjectMemory, State, Transition, Died, Went, answer, die, after, ◌>>=◌}
 use Rattle.st_model.specs.Table.{Table}
 use Rattle.st_model.specs.Steps.{of_page, same_value, fetch_field, count_fields}
 use Rattle.st_model.specs.Processes.{ready_lists, go_on_with, highest_goes_on, suspend}
-use Rattle.st_frames.proofs.Doing.{rows}
 use Rattle.st_process.specs.Scheduling.{is_empty, highest_list}
 
 after_after : {S A B C : Type 0} (x : Transition S A) (f : A → S → Transition S B) (g : B → S → Transition S C) → after (after x f) g ≡ after x (λ a s. after (f a s) g)
@@ -48,7 +47,7 @@ module _ (m : ObjectMemory Table) (lists : Value) where
 
   -- it is found, and then its first process goes on
   pub highest-then : (n : ℕ) (s : State Table) → (highest_goes_on m lists n).run s ≡ after ((highest_list m lists n).run s) (λ x t. (go_on_with m x).run t)
-  unfolding highest_goes_on highest_list ◌>>=◌ after die
+  unfolding highest_goes_on highest_list ◌>>=◌ after die goes_on finds then_goes_on
   highest-then zero s = refl
   highest-then (suc n) s =
       after_each ((fetch_field m lists n).run s) _ (λ l t. after (after ((is_empty m l).run t) (finds n l)) then_goes_on) (λ l t.

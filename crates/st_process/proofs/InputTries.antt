@@ -5,10 +5,11 @@ use Rattle.st_model.specs.Values.{Value}
 use Rattle.st_model.specs.Machine.{ObjectMemory, State, Transition, Went, after, ◌>>=◌}
 use Rattle.st_model.specs.Table.{Table}
 use Rattle.st_model.specs.Steps.{top, under}
+use Rattle.st_model.specs.Primitives.{bits_or_die}
 use Rattle.st_model.specs.Processes.{check_fields}
-use Rattle.st_model.specs.Input.{Place, place_in, move_mouse, primitive_move_mouse, hold_and_answer, primitive_input_semaphore, word_that_waits, take_word, primitive_input_word, check_four_bytes, store_seconds, primitive_second_clock, store_milliseconds, primitive_millisecond_clock, Timing, timing, set_timer_and_answer, primitive_timer, primitive_be_cursor, primitive_be_display, Low, low_space, set_low_space, primitive_low_space}
-use Rattle.st_frames.specs.Answering.{succeed_by}
-use Rattle.st_frames.proofs.Tries.{primitive-done}
+use Rattle.st_model.specs.Input.{check_truth, primitive_link_cursor, primitive_sample_interval, Place, place_in, move_mouse, primitive_move_mouse, hold_and_answer, primitive_input_semaphore, word_that_waits, take_word, primitive_input_word, check_four_bytes, store_seconds, primitive_second_clock, store_milliseconds, primitive_millisecond_clock, Timing, timing, set_timer_and_answer, primitive_timer, primitive_be_cursor, primitive_be_display, Low, low_space, set_low_space, primitive_low_space}
+use Rattle.st_frames.specs.Answering.{succeed_by, succeed_with}
+use Rattle.st_frames.proofs.Tries.{primitive-done, primitive-same}
 
 pub tried-move_mouse : (m : ObjectMemory Table) (v w : Value) (a : Place) (s : State Table) (y : Transition (State Table) Bool) → (under m 1).run s ≡ Went v s → (top m).run s ≡ Went w s → (place_in m w).run s ≡ Went a s → (succeed_by m 1 (move_mouse m v a)).run s ≡ y
     → (primitive_move_mouse m).run s ≡ y
@@ -54,3 +55,13 @@ pub tried-low_space : (m : ObjectMemory Table) (v w x y : Value) (a : Low) (s : 
     → (primitive_low_space m).run s ≡ z
 unfolding primitive_low_space ◌>>=◌ after
 tried-low_space m v w x y a s z e0 e1 e2 e3 h k = rw (e0, e1, e2, e3) (primitive-done m 3 (low_space m w x y) (λ (a : Low). set_low_space m w a v) s a z h k)
+
+pub tried-link_cursor : (m : ObjectMemory Table) (v w : Value) (s : State Table) (y : Transition (State Table) Bool) → (under m 1).run s ≡ Went v s → (top m).run s ≡ Went w s → (check_truth m w).run s ≡ Went tt s → (succeed_with m 1 v).run s ≡ y
+    → (primitive_link_cursor m).run s ≡ y
+unfolding primitive_link_cursor ◌>>=◌ after
+tried-link_cursor m v w s y e0 e1 h k = rw (e0, e1) (primitive-same m 1 (check_truth m w) s tt v y h k)
+
+pub tried-sample_interval : (m : ObjectMemory Table) (v w : Value) (a : ℕ) (s : State Table) (y : Transition (State Table) Bool) → (under m 1).run s ≡ Went v s → (top m).run s ≡ Went w s → (bits_or_die w).run s ≡ Went a s
+    → (succeed_with m 1 v).run s ≡ y → (primitive_sample_interval m).run s ≡ y
+unfolding primitive_sample_interval ◌>>=◌ after
+tried-sample_interval m v w a s y e0 e1 h k = rw (e0, e1) (primitive-same m 1 (bits_or_die w) s a v y h k)

@@ -2,6 +2,7 @@ pub mod Worlds
 pub mod Changing
 pub mod Numbering
 pub mod Highest
+pub mod Sleeping
 pub mod Semaphores
 pub mod Timers
 pub mod Taking

@@ -1,12 +1,12 @@
 -- Steps that go by integers, by cases.
-use Rattle.std.proofs.Common.{◌≡◌, ℕ, zero, suc, Bool, true, false, refl, ap, arith}
+use Rattle.std.proofs.Common.{◌≡◌, zero, suc, Bool, true, false, refl, ap, arith}
 use Rattle.std.specs.Prelude.{ℤ, pos, negsuc, ◌+ℤ◌, ◌-ℤ◌, ◌≤ℤ◌, ◌<ℤ◌, int_lt, int_le, if◌then◌else◌}
 use Rattle.std.proofs.lemmas.Int.{ints}
 use mir.Syntax.{w32}
 use mir.Val.{to_z, of_z}
 use Rattle.st_model.specs.declared.dead.Dead.{Dead}
 use Rattle.st_model.specs.declared.dead.Dead.TheVariants as dead
-use Rattle.st_model.specs.Values.{Value, Small, small_integer}
+use Rattle.st_model.specs.Values.{Value, small_integer}
 use Rattle.st_model.specs.Machine.{ObjectMemory, State, Died, Went, Step, answer, die, ◌>>◌}
 use Rattle.st_model.specs.Table.{Table}
 use Rattle.st_model.specs.Steps.{check, store_field}
@@ -36,6 +36,15 @@ le_false (pos a) (pos b) l = grind (arith, ints, l)
 le_false (pos a) (negsuc b) l = grind (arith, ints, l)
 le_false (negsuc a) (pos b) l = grind (arith, ints, l)
 le_false (negsuc a) (negsuc b) l = grind (arith, ints, l)
+
+-- an integer that a field holds stays the same as it is passed on, and as 1 is added or taken away
+pub passed-is : (n : ℤ) → negsuc 16383 ≤ℤ n → n ≤ℤ pos 16383 → to_z w32 (of_z w32 n) ≡ n
+passed-is n l h = omega (arith, ints)
+
+pub raised-is : (n : ℤ) → negsuc 16383 ≤ℤ n → n ≤ℤ pos 16383 → to_z w32 (of_z w32 (to_z w32 (of_z w32 n) +ℤ pos 1)) ≡ n +ℤ pos 1
+raised-is n l h = omega (arith, ints)
+
+pub ruleset passes = (passed-is, raised-is)
 
 -- priorities count from 1
 pub number-none : (z : ℤ) (s : State Table) → z <ℤ pos 1 → (list_number z).run s ≡ Died dead.Field
@@ -69,7 +78,7 @@ limit-within k a b s l = run-passed k (int_le a b) s (le_true a b l)
 pub limit-past : (k : Dead) (a b : ℤ) (s : State Table) → b <ℤ a → (check k (int_le a b)).run s ≡ Died k
 limit-past k a b s l = run-failed k (int_le a b) s (le_false a b l)
 
-pub ruleset limits = (limit-within, limit-past)
+pub ruleset limits = (limit-within, limit-past, passed-is, raised-is)
 
 pub choose-first : {A : Type 0} (b : Bool) (p q : Step Table A) (s : State Table) → b ≡ true → (if b then p else q).run s ≡ p.run s
 choose-first b p q s e = rw e refl
@@ -92,4 +101,7 @@ excess-none m v (pos zero) s l = refl
 excess-none m v (pos (suc n)) s l = absurd (grind (arith, ints, l))
 excess-none m v (negsuc n) s l = refl
 
-pub ruleset takes = (excess-taken, excess-none)
+pub lowered-is : (n : ℤ) → pos 0 <ℤ n → n ≤ℤ pos 16383 → to_z w32 (of_z w32 (n -ℤ pos 1)) ≡ n -ℤ pos 1
+lowered-is n l h = omega (arith, ints)
+
+pub ruleset takes = (excess-taken, excess-none, lowered-is)

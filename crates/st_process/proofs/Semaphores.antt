@@ -11,7 +11,7 @@ use Rattle.st_model.specs.Machine.{ObjectMemory, Head, State, Transition, Died, 
 use Rattle.st_model.specs.Table.{Table}
 use Rattle.st_model.specs.Steps.{found, object, object_named, check, fetch_kind, fetch_bytes, count_fields, count_signals, get_millisecond_clock}
 use Rattle.st_model.specs.Primitives.{number_of_bytes}
-use Rattle.st_model.specs.Input.{Timing, Rings, Waits, LetsGo, check_four_bytes, can_be_signalled, ring, ring_or_wait, timing}
+use Rattle.st_model.specs.Input.{Timing, Rings, Waits, check_four_bytes, can_be_signalled, ring, ring_or_wait, timing}
 use Rattle.st_frames.specs.declared.registers.Registers.{Registers as Words}
 use Rattle.st_frames.specs.Rows.{row_state}
 use Rattle.st_frames.specs.Answering.{number_read}
@@ -93,11 +93,11 @@ module _ (t : Table) (a : Head) (r : Words) (time now : ℕ) (is : now ≡ r.wor
   by_time = if nat_le time now then ring else answer (Waits time)
 
   compared : (ring_or_wait time).run (row_state t a r) ≡ by_time.run (row_state t a r)
-  unfolding ring_or_wait ◌>>=◌ after
+  unfolding ring_or_wait ◌>>=◌ after by_time
   compared = ap (λ x. after x (λ n u. (if nat_le time n then ring else answer (Waits time)).run u)) clock_is
 
   pub due-later : now < time → (ring_or_wait time).run (row_state t a r) ≡ Went (Waits time) (row_state t a r)
-  unfolding answer
+  unfolding answer by_time
   due-later l =
       let b : nat_le time now ≡ false = grind (arith, nat_tests) in
       compared ∙ ap (λ (x : Bool). (if x then ring else answer (Waits time)).run (row_state t a r)) b
@@ -108,7 +108,7 @@ module _ (t : Table) (a : Head) (r : Words) (time now : ℕ) (is : now ≡ r.wor
     count_is = ap (λ n. Went n (row_state t a r)) (sym count)
 
     rung : (b : Bool) → nat_lt pending 4096 ≡ b → time ≤ now → (ring_or_wait time).run (row_state t a r) ≡ (check dead.Excess b >> answer Rings).run (row_state t a r)
-    unfolding ring ◌>>=◌ after
+    unfolding ring ◌>>=◌ ◌>>◌ after by_time
     rung b e l =
         let c : nat_le time now ≡ true = grind (arith, nat_tests) in
         compared

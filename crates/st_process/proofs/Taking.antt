@@ -1,6 +1,6 @@
 -- The number of an input word is made the same whether the word still waits or was taken away, so that it may be taken last.
-use Rattle.std.proofs.Common.{◌≡◌, ℕ, suc, List, [], ◌∷◌, Option, Some, None, Bool, true, false, length, refl, ap, sym, ◌∙◌}
-use Rattle.std.specs.Prelude.{◌-◌, ◌==◌, nat_lt, nat_le, if◌then◌else◌}
+use Rattle.std.proofs.Common.{◌≡◌, ℕ, suc, List, [], ◌∷◌, Option, Some, None, Bool, true, false, refl, ap, sym, subst, ◌∙◌}
+use Rattle.std.specs.Prelude.{nat_lt, if◌then◌else◌}
 use Rattle.st_model.specs.declared.dead.Dead.{Dead}
 use Rattle.st_model.specs.declared.kind.Kind.{Kind}
 use Rattle.st_model.specs.declared.deed.Deed.{Deed}
@@ -12,7 +12,7 @@ use Rattle.st_model.specs.Objects.{Object}
 use Rattle.st_model.specs.Surroundings.{TakeWord, changed_world}
 use Rattle.st_model.specs.Machine.{ObjectMemory, World, State, Transition, Died, Went, Step, answer, die, after, is_there, has_room, ◌>>=◌, ◌>>◌}
 use Rattle.st_model.specs.Table.{Table}
-use Rattle.st_model.specs.Steps.{found, object_named, object, of_page, made, make_named, make, new_of, fit_units, units_set, set_units_at, set_units, check, store_byte, store_bytes, change_world}
+use Rattle.st_model.specs.Steps.{found, object_named, object, of_page, made, make_named, make, new_of, fit_units, units_set, set_units_at, set_units, check, store_byte, store_bytes}
 use Rattle.st_model.specs.Primitives.{number, new_large, bytes_of_number}
 use Rattle.st_model.specs.Deeds.{with_deed}
 use Rattle.st_model.specs.Input.{take_word}
@@ -113,16 +113,24 @@ module _ (m : ObjectMemory Table) where
       by true = answer-apart (Small k)
       by false = new_large-apart (bytes_of_number k)
 
-  pub word-left : (k : ℕ) (o : Word) (d : Deed) (s t : State Table) → t.world ≡ s.world → d ≡ deed.StoreNumber o k → (number m k).run s ≡ Went (word o) (with_deed d t)
+  word_left : (k : ℕ) (o : Word) (d : Deed) (s t : State Table) → t.world ≡ s.world → d ≡ deed.StoreNumber o k → (number m k).run s ≡ Went (word o) (with_deed d t)
       → (take_word m k).run s ≡ Went (word o) (with_deed (deed.TakeWord o k) t)
   unfolding take_word ◌>>◌ ◌>>=◌ after
-  word-left k o d s t e f h =
+  word_left k o d s t e f h =
       let taken = changed_world TakeWord s.world in
       let g : (number m k).run s ≡ Went (word o) (with_deed (deed.StoreNumber o k) t) = h ∙ ap (λ x. Went (word o) (with_deed x t)) f in
       rw (run-change_world m TakeWord s refl) ((number-apart k).go taken s ∙ (rw g (ap (λ w. Went (word o) (record (with_deed (deed.TakeWord o k) t) { world = changed_world TakeWord w })) (sym e))))
 
-  pub word-died : (k : ℕ) (c : Dead) (s : State Table) → (number m k).run s ≡ Died c → (take_word m k).run s ≡ Died c
+  word_died : (k : ℕ) (c : Dead) (s : State Table) → (number m k).run s ≡ Died c → (take_word m k).run s ≡ Died c
   unfolding take_word ◌>>◌ ◌>>=◌ after
-  word-died k c s h = rw (run-change_world m TakeWord s refl) ((number-apart k).go (changed_world TakeWord s.world) s ∙ rw h refl)
+  word_died k c s h = rw (run-change_world m TakeWord s refl) ((number-apart k).go (changed_world TakeWord s.world) s ∙ rw h refl)
+
+  module _ (k j : ℕ) (same : j ≡ k) where
+    pub word-left : (o : Word) (d : Deed) (s t : State Table) → t.world ≡ s.world → d ≡ deed.StoreNumber o j → (number m j).run s ≡ Went (word o) (with_deed d t)
+        → (take_word m k).run s ≡ Went (word o) (with_deed (deed.TakeWord o j) t)
+    word-left o d s t e f h = subst (λ (x : ℕ). (take_word m x).run s ≡ Went (word o) (with_deed (deed.TakeWord o j) t)) same (word_left j o d s t e f h)
+
+    pub word-died : (c : Dead) (s : State Table) → (number m j).run s ≡ Died c → (take_word m k).run s ≡ Died c
+    word-died c s h = subst (λ (x : ℕ). (take_word m x).run s ≡ Died c) same (word_died j c s h)
 
 pub ruleset words = (word-left, word-died)

@@ -1,6 +1,6 @@
 -- What is done to the timer is what the deed does that is left for it.
-use Rattle.std.proofs.Common.{◌≡◌, ℕ, ◌<◌, Bool, true, false, List, [], ◌∷◌, length, refl, ap, sym, ◌∙◌, arith}
-use Rattle.std.specs.Prelude.{◌&&◌, nat_lt, if◌then◌else◌}
+use Rattle.std.proofs.Common.{◌≡◌, ℕ, ◌<◌, true, false, length, refl, ap, sym, ◌∙◌, arith}
+use Rattle.std.specs.Prelude.{nat_lt}
 use Rattle.std.proofs.lemmas.Bool.Decides.{nat_tests}
 use Rattle.st_model.specs.declared.dead.Dead.TheVariants as dead
 use Rattle.st_model.specs.declared.device.Device.TheVariants as device
@@ -11,7 +11,7 @@ use Rattle.st_model.specs.declared.page.PageObject.TheVariants.{NilObject}
 use Rattle.st_model.specs.Objects.{nil, place_of}
 use Rattle.st_model.specs.Surroundings.{Hold, AddSignal, SetDue, changed_world}
 use Rattle.st_model.specs.Machine.{ObjectMemory, State, Died, Went, is_there, after, ◌>>=◌, ◌>>◌}
-use Rattle.st_model.specs.Table.{Table, table, IsTabular}
+use Rattle.st_model.specs.Table.{Table, IsTabular}
 use Rattle.st_model.specs.Steps.{of_page, change_world}
 use Rattle.st_model.specs.Deeds.{with_deed}
 use Rattle.st_model.specs.Input.{Rings, Waits, LetsGo, signal_once, set_timer}

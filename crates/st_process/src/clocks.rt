@@ -96,10 +96,7 @@ fn answer_milliseconds<O: Objects>(
 
 /// Primitive 99: the first four bytes of the argument become the millisecond clock.
 #[tactic(auto, using(st_frames::proofs::Tries::effects), unfolding(st_model::specs::Input::primitive_millisecond_clock))]
-pub fn primitive_millisecond_clock<O: Objects>(
-    m: &mut O,
-    r: &mut Registers,
-) -> Result<Tried, Dead>
+pub fn primitive_millisecond_clock<O: Objects>(m: &mut O, r: &mut Registers) -> Result<Tried, Dead>
     requires room { 1 ≤ O.room m.old }
     ensures does { RowLeaves O.Objects.own (primitive_millisecond_clock O.names)
         is_done deed_of_trial m.old r.old result m.new r.new }

@@ -19,7 +19,9 @@ use st_model::{Dead, Deed, Device, PageObject, Tried, Word};
 fn check_truth<O: Objects>(m: &O, r: &Registers, v: Word) -> Result<(), Dead>
     ensures does { RowReads O.Objects.own (check_truth O.names (word v)) itself m.now r.now result }
 {
-    if v.same(page(m, PageObject::TrueObject)) || v.same(page(m, PageObject::FalseObject)) {
+    let truth = page(m, PageObject::TrueObject);
+    let falsehood = page(m, PageObject::FalseObject);
+    if v.same(truth) || v.same(falsehood) {
         Ok(())
     } else {
         Err(Dead::Kind)
@@ -127,11 +129,7 @@ fn take_word<O: Objects>(m: &mut O, r: &Registers, oldest: u16) -> Result<Answer
 
 /// Takes the oldest input word and answers its number.
 #[tactic(auto, using(st_frames::proofs::Doing::rows), unfolding(st_frames::specs::Answering::succeed_by))]
-fn answer_word_taken<O: Objects>(
-    m: &mut O,
-    r: &mut Registers,
-    oldest: u16,
-) -> Result<Tried, Dead>
+fn answer_word_taken<O: Objects>(m: &mut O, r: &mut Registers, oldest: u16) -> Result<Tried, Dead>
     requires room { 2 ≤ O.room m.old }
     ensures does { RowLeaves O.Objects.own (succeed_by O.names 0 (take_word O.names oldest))
         is_done deed_of_trial m.old r.old result m.new r.new }

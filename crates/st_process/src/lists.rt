@@ -1,6 +1,5 @@
 ghost use Rattle.std.specs.Prelude.{◌≡◌, ◌≤◌, ◌+◌};
 ghost use Rattle.st_model.specs.Values.{word};
-ghost use Rattle.st_model.specs.Objects.{nil};
 ghost use Rattle.st_model.specs.Steps.{same_value};
 ghost use Rattle.st_model.specs.Processes.{link_first, add_last, unlink_first, take_first};
 ghost use Rattle.st_model.specs.Calls.{Reads, itself};
@@ -20,7 +19,7 @@ pub fn is_empty<O: Objects>(m: &O, list: Word) -> Result<bool, Dead>
     Ok(first.same(page(m, PageObject::NilObject)))
 }
 
-/// Links a process behind the last one of a list, or where the first one is nil, as the first.
+/// Links a process behind the last one of a list, or where its first one is nil, as the first.
 #[tactic(auto, using(st_frames::proofs::Doing::rows), unfolding(st_model::specs::Processes::link_first))]
 fn link_first<O: Objects>(
     m: &mut O,
@@ -28,14 +27,15 @@ fn link_first<O: Objects>(
     process: Word,
     list: Word,
     first: Word,
+    nil: Word,
 ) -> Result<(), Dead>
     requires room { 1 ≤ O.room m.old }
     ensures does { RowDoes O.Objects.own
-        (link_first O.names (word process) (word list) (same_value (word first) nil))
+        (link_first O.names (word process) (word list) (same_value (word first) (word nil)))
         itself m.old r.now result m.new r.now }
     ensures takes { Takes O.Objects.own 1 m.old m.new }
 {
-    if first.same(page(m, PageObject::NilObject)) {
+    if first.same(nil) {
         m.store_field(list, 0, process)
     } else {
         let last = m.fetch_field(list, 1)?;
@@ -44,20 +44,16 @@ fn link_first<O: Objects>(
 }
 
 /// A process goes behind the last one of a list.
-#[tactic(auto, using(st_frames::proofs::Doing::rows, st_frames::proofs::Doing::pages), unfolding(st_model::specs::Processes::add_last))]
-pub fn add_last<O: Objects>(
-    m: &mut O,
-    r: &Registers,
-    process: Word,
-    list: Word,
-) -> Result<(), Dead>
+#[tactic(auto, using(st_frames::proofs::Doing::rows), unfolding(st_model::specs::Processes::add_last))]
+pub fn add_last<O: Objects>(m: &mut O, r: &Registers, process: Word, list: Word) -> Result<(), Dead>
     requires room { 3 ≤ O.room m.old }
     ensures does { RowDoes O.Objects.own (add_last O.names (word process) (word list))
         itself m.old r.now result m.new r.now }
     ensures takes { Takes O.Objects.own 3 m.old m.new }
 {
     let first = m.fetch_field(list, 0)?;
-    link_first(m, r, process, list, first)?;
+    let nil = page(m, PageObject::NilObject);
+    link_first(m, r, process, list, first, nil)?;
     m.store_field(list, 1, process)?;
     m.store_field(process, 3, list)
 }
@@ -70,15 +66,15 @@ fn unlink_first<O: Objects>(
     process: Word,
     list: Word,
     last: Word,
+    nil: Word,
 ) -> Result<(), Dead>
     requires room { 2 ≤ O.room m.old }
     ensures does { RowDoes O.Objects.own
-        (unlink_first O.names (word process) (word list) nil (same_value (word last) (word process)))
-        itself m.old r.now result m.new r.now }
+        (unlink_first O.names (word process) (word list) (word nil)
+        (same_value (word last) (word process))) itself m.old r.now result m.new r.now }
     ensures takes { Takes O.Objects.own 2 m.old m.new }
 {
     if last.same(process) {
-        let nil = page(m, PageObject::NilObject);
         m.store_field(list, 0, nil)?;
         m.store_field(list, 1, nil)
     } else {
@@ -88,7 +84,7 @@ fn unlink_first<O: Objects>(
 }
 
 /// The first process of a list, which leaves it.
-#[tactic(auto, using(st_frames::proofs::Doing::rows, st_frames::proofs::Doing::pages), unfolding(st_model::specs::Processes::take_first))]
+#[tactic(auto, using(st_frames::proofs::Doing::rows), unfolding(st_model::specs::Processes::take_first))]
 pub fn take_first<O: Objects>(m: &mut O, r: &Registers, list: Word) -> Result<Word, Dead>
     requires room { 3 ≤ O.room m.old }
     ensures does { RowDoes O.Objects.own (take_first O.names (word list))
@@ -97,7 +93,8 @@ pub fn take_first<O: Objects>(m: &mut O, r: &Registers, list: Word) -> Result<Wo
 {
     let first = m.fetch_field(list, 0)?;
     let last = m.fetch_field(list, 1)?;
-    unlink_first(m, r, first, list, last)?;
-    m.store_field(first, 0, page(m, PageObject::NilObject))?;
+    let nil = page(m, PageObject::NilObject);
+    unlink_first(m, r, first, list, last, nil)?;
+    m.store_field(first, 0, nil)?;
     Ok(first)
 }

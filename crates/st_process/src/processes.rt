@@ -1,4 +1,4 @@
-ghost use Rattle.std.specs.Prelude.{◌≡◌, ◌≤◌, ◌+◌, ◌≤ℤ◌, pos, IfOk};
+ghost use Rattle.std.specs.Prelude.{◌≡◌, ◌≤◌, ◌+◌, ◌≤ℤ◌, pos, negsuc, IfOk};
 ghost use Rattle.st_model.specs.Values.{word};
 ghost use Rattle.st_model.specs.Processes.{check_fields, signal_and_answer, primitive_signal, excess_of, wait_and_answer, primitive_wait, resume_and_answer, primitive_resume, check_active, suspend_and_answer, primitive_suspend};
 ghost use Rattle.st_model.specs.Calls.{itself};
@@ -27,11 +27,7 @@ pub fn check_fields<O: Objects>(m: &O, r: &Registers, v: Word, n: u32) -> Result
 
 /// Signals a semaphore and answers it.
 #[tactic(auto, using(st_frames::proofs::Doing::rows), unfolding(st_frames::specs::Answering::succeed_by, st_model::specs::Processes::signal_and_answer))]
-fn answer_signal<O: Objects>(
-    m: &mut O,
-    r: &mut Registers,
-    semaphore: Word,
-) -> Result<Tried, Dead>
+fn answer_signal<O: Objects>(m: &mut O, r: &mut Registers, semaphore: Word) -> Result<Tried, Dead>
     requires room { 7 ≤ O.room m.old }
     ensures does { RowLeaves O.Objects.own
         (succeed_by O.names 0 (signal_and_answer O.names (word semaphore)))
@@ -62,6 +58,7 @@ pub fn primitive_signal<O: Objects>(m: &mut O, r: &mut Registers) -> Result<Trie
 #[tactic(auto, using(st_frames::proofs::Doing::rows), unfolding(st_model::specs::Processes::excess_of))]
 fn excess_of<O: Objects>(m: &O, r: &Registers, semaphore: Word) -> Result<i32, Dead>
     ensures does { RowReads O.Objects.own (excess_of O.names (word semaphore)) itself m.now r.now result }
+    ensures low { IfOk result (λ n. negsuc 16383 ≤ℤ n) }
     ensures high { IfOk result (λ n. n ≤ℤ pos 16383) }
 {
     check_fields(m, r, semaphore, 3)?;
@@ -69,7 +66,7 @@ fn excess_of<O: Objects>(m: &O, r: &Registers, semaphore: Word) -> Result<i32, D
 }
 
 /// Takes a signal in excess, or has the active process wait, and answers the semaphore.
-#[tactic(auto, using(st_frames::proofs::Doing::rows), unfolding(st_frames::specs::Answering::succeed_by, st_model::specs::Processes::wait_and_answer))]
+#[tactic(auto, using(st_frames::proofs::Doing::rows, st_frames::proofs::Leaves::left), unfolding(st_frames::specs::Answering::succeed_by, st_model::specs::Processes::wait_and_answer))]
 fn answer_wait<O: Objects>(
     m: &mut O,
     r: &mut Registers,

@@ -59,7 +59,7 @@ fn wait_in<O: Objects>(m: &mut O, r: &Registers, semaphore: Word) -> Result<Deed
 }
 
 /// A signal in excess is taken, or where there is none, the active process waits.
-#[tactic(auto, using(st_frames::proofs::Doing::rows, crate::proofs::Numbering::takes))]
+#[tactic(auto, using(st_frames::proofs::Doing::rows, st_frames::proofs::Leaves::left, crate::proofs::Numbering::takes))]
 pub fn take_excess<O: Objects>(
     m: &mut O,
     r: &Registers,

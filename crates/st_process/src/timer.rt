@@ -60,7 +60,12 @@ fn timing_by<O: Objects>(m: &O, r: &Registers, semaphore: Word, time: u32) -> Re
 
 /// What is done to the timer, by the time that the first four bytes of an object say.
 #[tactic(auto, using(st_frames::proofs::Doing::rows, crate::proofs::Semaphores::timings))]
-fn find_timing<O: Objects>(m: &O, r: &Registers, semaphore: Word, bytes: Word) -> Result<Timing, Dead>
+fn find_timing<O: Objects>(
+    m: &O,
+    r: &Registers,
+    semaphore: Word,
+    bytes: Word,
+) -> Result<Timing, Dead>
     ensures does { RowReads O.Objects.own (timing O.names (word semaphore) (word bytes))
         timing_in m.now r.now result }
     ensures room { IfOk result (HasRoom r.now.world.now) }
