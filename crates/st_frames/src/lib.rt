@@ -21,7 +21,7 @@ mod words;
 pub use answer::Answer;
 pub use answering::{answer_with, succeed_leaving, succeed_with};
 pub use bytes::next_byte;
-pub use context::{fetch_context_registers, store_context_registers, switch};
+pub use context::{fetch_context_registers, home_of, store_context_registers, switch};
 pub use fetched::Fetched;
 pub use fetching::{fetch_integer, page};
 pub use frame::{Frame, Loaded};
