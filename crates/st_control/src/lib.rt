@@ -1,14 +1,20 @@
-//! Sends, what activates a method, returns, and jumps with a condition (chapter 28), over any objects. Sends, and returns and
-//! jumps that come to send, answer what they call.
+//! Sends, what activates a method, returns, jumps with a condition (chapter 28), and blocks (chapter 29), over any objects.
+//! Sends, and returns and jumps that come to send, answer what they call.
 #![tactic(auto)]
 
 mod activation;
+mod blocks;
 mod jumps;
 mod messages;
+mod passing;
 mod returns;
 mod sends;
+mod values;
 
 pub use activation::activate;
+pub use blocks::{primitive_block_copy, try_blocks};
 pub use jumps::jump_on;
+pub use passing::Passing;
 pub use returns::{return_to_caller, return_to_sender};
-pub use sends::{send, send_to_super, special_send};
+pub use sends::{not_understood, send, send_to_super, special_send};
+pub use values::primitive_value;

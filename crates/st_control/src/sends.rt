@@ -40,7 +40,7 @@ fn call_not_understood<O: Objects>(
 
 /// The selector isn't understood.
 #[tactic(auto, using(st_frames::proofs::Doing::rows), unfolding(st_model::specs::Sends::not_understood))]
-fn not_understood<O: Objects>(
+pub fn not_understood<O: Objects>(
     m: &mut O,
     r: &mut Registers,
     class: Word,

@@ -82,7 +82,7 @@ pub below : (x y : ℕ) → (x < y) ⊎ (y ≤ x)
 below x y = grind arith
 
 module _ (m : ObjectMemory Table) (tabular : IsTabular m) where
-  pub looks : {A : Type 0} → (Object → Step Table A) → Option Object → Step Table A
+  looks : {A : Type 0} → (Object → Step Table A) → Option Object → Step Table A
   looks f x = found x >>= f
 
   pub read_is : (t : Table) (n : ℕ) → m.read t n ≡ entry t n

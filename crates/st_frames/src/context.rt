@@ -26,7 +26,7 @@ fn home_by<O: Objects>(m: &O, context: Word, method: Word) -> Result<Word, Dead>
 
 /// The home context of a context.
 #[tactic(auto, using(st_model::proofs::Runs::runs), unfolding(st_model::specs::Contexts::home_of))]
-fn home_of<O: Objects>(m: &O, context: Word) -> Result<Word, Dead>
+pub fn home_of<O: Objects>(m: &O, context: Word) -> Result<Word, Dead>
     ensures { Reads (home_of O.names (word context)) word (O.table m.now) result }
 {
     let method = m.fetch_field(context, 3)?;

@@ -21,13 +21,15 @@ mod words;
 pub use answer::Answer;
 pub use answering::{answer_with, succeed_leaving, succeed_with};
 pub use bytes::next_byte;
-pub use context::{fetch_context_registers, store_context_registers, switch};
+pub use context::{fetch_context_registers, home_of, store_context_registers, switch};
 pub use fetched::Fetched;
 pub use fetching::{fetch_integer, page};
 pub use frame::{Frame, Loaded};
 pub use holding::{fetch, fetch_scheduled, hold, load};
 pub use large::{find_bytes, number};
-pub use numbers::{bits_or_die, check_bytes, check_class, positive_small, positive_value};
+pub use numbers::{
+    bits_or_die, check_bytes, check_class, number_read, positive_small, positive_value,
+};
 pub use registers::Registers;
 pub use stack::{drop_words, jump, look_at_words, pop, push, top, under};
 pub use words::{small, small_integer};

@@ -1,26 +1,28 @@
 -- Bytes and headers that are stored at once, and as a deed that is left: both come to one state where the bytes are read, or the
 -- header and its count.
-use Rattle.std.proofs.Common.{◌≡◌, ◌≢◌, ℕ, zero, suc, ◌+◌, ◌<◌, ◌≤◌, List, [], ◌∷◌, length, Option, Some, None, Bool, true, false, refl, sym, ◌∙◌, ap, arith, inl, inr, ◌⊎◌, length-set, take, drop}
-use Rattle.std.specs.Prelude.{◌-◌, ◌==◌, ◌&&◌, slice_get, nat_lt, nat_le, if◌then◌else◌}
+use Rattle.std.proofs.Common.{◌≡◌, ◌≢◌, ℕ, zero, suc, ◌+◌, ◌<◌, ◌≤◌, List, [], ◌∷◌, length, Option, Some, None, Bool, true, false, refl, sym, ◌∙◌, ap, arith, inl, inr, take, drop}
+use Rattle.std.specs.Prelude.{◌-◌, ◌==◌, slice_get, nat_lt, nat_le}
 use Rattle.std.proofs.lemmas.Bool.Decides.{nat_tests}
 use Rattle.st_model.specs.declared.dead.Dead.{Dead}
 use Rattle.st_model.specs.declared.dead.Dead.TheVariants as dead
 use Rattle.st_model.specs.declared.kind.Kind.{Kind}
 use Rattle.st_model.specs.declared.kind.Kind.TheVariants as kind
 use Rattle.st_model.specs.Values.{Value, Small, Ref}
-use Rattle.st_model.specs.Objects.{Object, is_pointers, is_bytes, is_method, has_bytes, first_unit, size_of, with_field, object_with_unit}
-use Rattle.st_model.specs.Machine.{ObjectMemory, State, Transition, Died, Went, Step, is_there, answer, die, after, ◌>>=◌, ◌>>◌}
+use Rattle.st_model.specs.Objects.{Object, is_bytes, is_method, has_bytes, first_unit, with_field}
+use Rattle.st_model.specs.Machine.{ObjectMemory, State, Died, Went, Step, is_there, answer, die, after, ◌>>=◌, ◌>>◌}
 use Rattle.st_model.specs.Table.{Table, table, entry, changed, IsTabular}
-use Rattle.st_model.specs.Steps.{found, object_named, object, stored_at, store_at, set_field, check, or_die, fetch_kind, fetch_size, fetch_byte, fetch_bytes, store_byte, store_bytes, fetch_method_field, store_method_field}
+use Rattle.st_model.specs.Steps.{found, object_named, object, stored_at, store_at, set_field, check, or_die, fetch_kind, fetch_size, fetch_byte, fetch_bytes, store_bytes, fetch_method_field, store_method_field}
 use Rattle.st_model.specs.Methods.{literal_count, method_header}
 use Rattle.st_model.specs.Primitives.{bits_or_die}
 use Rattle.st_model.specs.Storage.{count_literals, check_header, Replacing, replace_and_answer}
-use Rattle.st_model.specs.Deeds.{changed_object, changed_by, byte_stored, bytes_stored, bytes_replaced, bytes_of_object, bytes_from, header_stored, literal_stored, over}
-use Rattle.st_model.proofs.TableLemmas.{changed-some}
+use Rattle.st_model.specs.Deeds.{changed_object, changed_by, bytes_stored, bytes_replaced, bytes_from, header_stored, literal_stored, over}
 use Rattle.st_model.proofs.Leaving.{word-left, word-unleft, byte-left, byte-unleft, literal-left}
-use Rattle.st_frames.proofs.BytesLeft.{got, got_below, died, HasByte, no_pointers, size_with_bytes, below, looks, read_is, has_byte, fetched, past, sized, sized_there, bytes-left}
+use Rattle.st_frames.proofs.BytesLeft.{got, got_below, died, HasByte, size_with_bytes, below, read_is, has_byte, fetched, past, sized}
 
 module _ (m : ObjectMemory Table) (tabular : IsTabular m) where
+  looks : {A : Type 0} → (Object → Step Table A) → Option Object → Step Table A
+  looks f x = found x >>= f
+
   fetch_then : (v : Value) (i n b : ℕ) (bs : List ℕ) (s : State Table) → (fetch_byte m v i).run s ≡ Went b s → (fetch_bytes m v (suc i) n).run s ≡ Went bs s → (fetch_bytes m v i (suc n)).run s ≡ Went (b ∷ bs) s
   unfolding fetch_bytes ◌>>=◌ after answer
   fetch_then v i n b bs s e f = rw (e, f) refl
@@ -127,7 +129,7 @@ module _ (m : ObjectMemory Table) (tabular : IsTabular m) where
           rw (h.is, b) (taken_length o.units (i - first_unit o) k (omega (arith, l, z, low)))
 
   -- bytes stored in an object of kind Bytes
-  of_kind_bytes : (n : ℕ) (s : State Table) (y : Option Object) → (looks m tabular (λ o. answer o.kind) y).run s ≡ Went kind.Bytes s → (o : Object) × (y ≡ Some o) × (is_bytes o.kind ≡ true)
+  of_kind_bytes : (n : ℕ) (s : State Table) (y : Option Object) → (looks (λ o. answer o.kind) y).run s ≡ Went kind.Bytes s → (o : Object) × (y ≡ Some o) × (is_bytes o.kind ≡ true)
   unfolding looks ◌>>=◌ after found answer die
   of_kind_bytes n s None e = cc
   of_kind_bytes n s (Some o) e = let q : o.kind ≡ kind.Bytes = cc in (o, refl, ap is_bytes q)
@@ -188,7 +190,7 @@ module _ (m : ObjectMemory Table) (tabular : IsTabular m) where
 
   header_by : Value → Option Object → Step Table (Unit {0})
   header_by x y =
-      (looks m tabular (λ o. check dead.Kind (is_method o.kind) >> or_die dead.Field (slice_get o.fields 0)) y >>= (λ header. bits_or_die header >>= (λ bits. answer (literal_count (Small bits)))))
+      (looks (λ o. check dead.Kind (is_method o.kind) >> or_die dead.Field (slice_get o.fields 0)) y >>= (λ header. bits_or_die header >>= (λ bits. answer (literal_count (Small bits)))))
       >>= (λ n. bits_or_die x >>= (λ bits. check dead.Field (literal_count (Small bits) == n)))
 
   header_stored_there : (n : ℕ) (x : Value) (s : State Table) (o : Object) → entry s.memory n ≡ Some o → is_method o.kind ≡ true → 0 < length o.fields → is_there m s.memory x ≡ true
@@ -228,8 +230,8 @@ module _ (m : ObjectMemory Table) (tabular : IsTabular m) where
   unfolding stored_at
   not_stored n i x s o = refl
 
-  gone_object : (n i : ℕ) (x w : Value) (s u : State Table) (y : Option Object) → entry s.memory n ≡ y → (looks m tabular (λ o. check dead.Kind (is_method o.kind) >> or_die dead.Field (slice_get o.fields i)) y).run s ≡ Went w u → is_there m s.memory x ≡ false
-      → (looks m tabular (λ o. check dead.Kind (is_method o.kind) >> (check dead.Field (nat_lt i (length o.fields)) >> set_field m (Ref n) i x)) y).run s ≡ Died dead.Kind
+  gone_object : (n i : ℕ) (x w : Value) (s u : State Table) (y : Option Object) → entry s.memory n ≡ y → (looks (λ o. check dead.Kind (is_method o.kind) >> or_die dead.Field (slice_get o.fields i)) y).run s ≡ Went w u → is_there m s.memory x ≡ false
+      → (looks (λ o. check dead.Kind (is_method o.kind) >> (check dead.Field (nat_lt i (length o.fields)) >> set_field m (Ref n) i x)) y).run s ≡ Died dead.Kind
   unfolding looks ◌>>=◌ ◌>>◌ after found answer die check or_die set_field store_at
   gone_object n i x w s u None e f there = cc
   gone_object n i x w s u (Some o) e f there = of_kind (is_method o.kind) (slice_get o.fields i) refl f
@@ -252,8 +254,8 @@ module _ (m : ObjectMemory Table) (tabular : IsTabular m) where
   pub field-missing : (v : Value) (i : ℕ) (x w : Value) (s : State Table) (t : Table) → s.memory ≡ t → (fetch_method_field m v i).run s ≡ Went w s → is_there m t x ≡ false → (store_method_field m v i x).run s ≡ Died dead.Kind
   field-missing v i x w s t q e there = field-gone v i x w s s e (ap (λ u. is_there m u x) q ∙ there)
 
-  unfetched_object : (n i : ℕ) (x : Value) (k : Dead) (s : State Table) (y : Option Object) → (looks m tabular (λ o. check dead.Kind (is_method o.kind) >> or_die dead.Field (slice_get o.fields i)) y).run s ≡ Died k
-      → (looks m tabular (λ o. check dead.Kind (is_method o.kind) >> (check dead.Field (nat_lt i (length o.fields)) >> set_field m (Ref n) i x)) y).run s ≡ Died k
+  unfetched_object : (n i : ℕ) (x : Value) (k : Dead) (s : State Table) (y : Option Object) → (looks (λ o. check dead.Kind (is_method o.kind) >> or_die dead.Field (slice_get o.fields i)) y).run s ≡ Died k
+      → (looks (λ o. check dead.Kind (is_method o.kind) >> (check dead.Field (nat_lt i (length o.fields)) >> set_field m (Ref n) i x)) y).run s ≡ Died k
   unfolding looks ◌>>=◌ ◌>>◌ after found answer die check or_die
   unfetched_object n i x k s None f = died dead.Kind k f
   unfetched_object n i x k s (Some o) f = of_kind (is_method o.kind) (slice_get o.fields i) refl f

@@ -1,5 +1,5 @@
 -- Primitives on streams, whose conditions hold.
-use Rattle.std.proofs.Common.{◌≡◌, ℕ, Bool}
+use Rattle.std.proofs.Common.{◌≡◌, Bool}
 use Rattle.st_model.specs.Values.{Value}
 use Rattle.st_model.specs.Machine.{ObjectMemory, State, Transition, Went, after, ◌>>=◌}
 use Rattle.st_model.specs.Table.{Table}

@@ -2,7 +2,7 @@
 use Rattle.std.specs.Prelude.{◌≡◌, ℕ, ◌+◌, ◌<◌, ◌≤◌, Bool, true, false, Ok}
 use Rattle.st_model.specs.declared.kind.Kind.TheVariants as kind
 use Rattle.st_model.specs.declared.word.Word.{Word}
-use Rattle.st_model.specs.Values.{Value, word}
+use Rattle.st_model.specs.Values.{word}
 use Rattle.st_model.specs.Calls.{Reads}
 use Rattle.st_model.specs.Steps.{fetch_field}
 use Rattle.st_memory.specs.declared.objects.Objects.{Ghosts}

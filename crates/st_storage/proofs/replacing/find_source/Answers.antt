@@ -1,7 +1,8 @@
-use Rattle.std.proofs.Common.{rules, ◌≡◌, Err, ℕ, ◌+◌, ◌≤◌, ◌<◌, List, length, arith}
+use Rattle.std.proofs.Common.{rules, ◌≡◌, Err, arith}
 use Rattle.st_frames.specs.Rows.{row_state}
 use Rattle.st_frames.proofs.Doing.{row-memory}
-use Rattle.st_storage.proofs.Left.{fetched-of, counted-of, bytes-unfetched, bytes-unfetchable, bytes-unsized}
+use Rattle.st_storage.proofs.Left.{fetched-of, counted-of, bytes-unfetched, bytes-unfetchable}
+use Rattle.st_frames.proofs.BytesLeft.{bytes-unsized}
 use Rattle.st_storage.proofs.replacing.find_source.Goals as goal
 
 pub returns-in_err-fetch_byte-clause-does : goal.returns-in_err-fetch_byte-clause-does

@@ -1,4 +1,4 @@
-use Rattle.std.proofs.Common.{rules, ◌≡◌, Err, ℕ, ◌+◌, refl, arith}
+use Rattle.std.proofs.Common.{rules, ◌≡◌, Err, ◌+◌, refl, arith}
 use Rattle.std.specs.Prelude.{◌-◌}
 use Rattle.st_frames.proofs.Doing.{row-memory}
 use Rattle.st_frames.proofs.Leaves.{leaves-died}

@@ -1,0 +1,105 @@
+-- How blocks are made and valued, by their conditions.
+use Rattle.std.proofs.Common.{◌≡◌, ◌≢◌, ◌≤◌, ℕ, Bool, true, false, refl, arith}
+use Rattle.std.specs.Prelude.{◌||◌, ◌==◌, ℤ, pos, negsuc, ◌+ℤ◌, ◌≤ℤ◌, ◌<ℤ◌, int_le}
+use Rattle.std.proofs.lemmas.Bool.Decides.{nat_tests}
+use Rattle.std.proofs.lemmas.Int.{ints, to_z-of_z}
+use Rattle.st_model.specs.declared.dead.Dead.{Dead}
+use Rattle.st_model.specs.declared.dead.Dead.TheVariants as dead
+use Rattle.st_model.specs.Values.{Value, word}
+use Rattle.st_model.specs.Machine.{ObjectMemory, Head, State, Transition, Died, Went, answer, after, tried, ◌>>=◌, ◌>>◌}
+use Rattle.st_model.specs.Steps.{check, count_fields, get_active, get_ip, top, under}
+use Rattle.st_model.specs.Contexts.{home_of}
+use Rattle.st_model.specs.Primitives.{positive_small}
+use Rattle.st_model.specs.Blocks.{check_context, home_of_block, new_block, primitive_block_copy, start_of, value_with_words, value_if_any, primitive_value, Passing, passing, value_with_fields, value_with_if_any, primitive_value_with}
+use Rattle.st_model.specs.Table.{Table}
+use Rattle.st_model.proofs.Runs.{check-at_most, run-passed, run-failed, run-tried_went, run-tried_died}
+use Rattle.st_frames.specs.declared.registers.Registers.{Registers as Words}
+use Rattle.st_frames.specs.Rows.{row_state}
+use Rattle.st_frames.specs.Answering.{succeed_by}
+use Rattle.st_frames.proofs.Doing.{rows, checks}
+use Rattle.st_frames.proofs.Tries.{primitive-done}
+
+-- either test holds, or neither
+pub either : (a b : Bool) → a ≡ true → (a || b) ≡ true
+either true b e = refl
+either false b e = cc
+
+pub other : (a b : Bool) → a ≡ false → b ≡ true → (a || b) ≡ true
+other true b e f = refl
+other false b e f = f
+
+pub neither : (a b : Bool) → a ≡ false → b ≡ false → (a || b) ≡ false
+neither true b e f = cc
+neither false b e f = f
+
+pub ruleset contexts = (rows, run-passed, run-failed, either, other, neither)
+
+-- the place 3 bytes on is at most 16383, or past it
+
+le_true : (a b : ℤ) → a ≤ℤ b → int_le a b ≡ true
+le_true (pos a) (pos b) l = grind (arith, ints, l)
+le_true (pos a) (negsuc b) l = grind (arith, ints, l)
+le_true (negsuc a) (pos b) l = grind (arith, ints, l)
+le_true (negsuc a) (negsuc b) l = grind (arith, ints, l)
+
+le_false : (a b : ℤ) → b <ℤ a → int_le a b ≡ false
+le_false (pos a) (pos b) l = grind (arith, ints, l)
+le_false (pos a) (negsuc b) l = grind (arith, ints, l)
+le_false (negsuc a) (pos b) l = grind (arith, ints, l)
+le_false (negsuc a) (negsuc b) l = grind (arith, ints, l)
+
+pub place-within : (k : Dead) (i : ℤ) (s : State Table) → i ≤ℤ pos 16380 → (check k (int_le (i +ℤ pos 3) (pos 16383))).run s ≡ Went tt s
+place-within k i s l = run-passed k _ s (le_true (i +ℤ pos 3) (pos 16383) (omega (arith, ints, l)))
+
+pub place-past : (k : Dead) (i : ℤ) (s : State Table) → pos 16380 <ℤ i → (check k (int_le (i +ℤ pos 3) (pos 16383))).run s ≡ Died k
+place-past k i s l = run-failed k _ s (le_false (i +ℤ pos 3) (pos 16383) (omega (arith, ints, l)))
+
+module _ (m : ObjectMemory Table) (v w home : Value) (a n : ℕ) (i : ℤ) (s : State Table) (context : (check_context m v).run s ≡ Went tt s) (small : (positive_small w).run s ≡ Went a s)
+    (is : (home_of m v).run s ≡ Went home s) (count : (count_fields m home).run s ≡ Went n s) (large : 6 ≤ n) (at : get_ip.run s ≡ Went i s) where
+  pub home-within : i ≤ℤ pos 16380 → (home_of_block m v w).run s ≡ Went home s
+  unfolding home_of_block ◌>>=◌ ◌>>◌ after answer
+  home-within l = rw (context, small, is, count, check-at_most dead.Field 6 n s large, at, place-within dead.Ip i s l) refl
+
+  pub home-past : pos 16380 <ℤ i → (home_of_block m v w).run s ≡ Died dead.Ip
+  unfolding home_of_block ◌>>=◌ ◌>>◌ after answer
+  home-past l = rw (context, small, is, count, check-at_most dead.Field 6 n s large, at, place-past dead.Ip i s l) refl
+
+-- a block's number of arguments is the one asked for, or another
+
+pub count-same : (k : Dead) (a b : ℕ) (s : State Table) → a ≡ b → (check k (a == b)).run s ≡ Went tt s
+count-same k a b s e = run-passed k (a == b) s (grind (arith, nat_tests))
+
+pub count-other : (k : Dead) (a b : ℕ) (s : State Table) → a ≢ b → (check k (a == b)).run s ≡ Died k
+count-other k a b s d = run-failed k (a == b) s (grind (arith, nat_tests))
+
+pub ruleset starts = (checks, count-same, count-other)
+
+-- with an integer that is passed on
+pub ruleset integers = (rows, to_z-of_z)
+
+-- what is stored changes no register
+pub stored-active : (t u : Table) (a : Head) (r : Words) → get_active.run (record (row_state t a r) { memory = u }) ≡ Went (word r.active) (record (row_state t a r) { memory = u })
+unfolding get_active row_state
+stored-active t u a r = refl
+
+pub ruleset entering = (rows, to_z-of_z, stored-active)
+
+-- primitives whose conditions hold
+
+pub tried-block : (m : ObjectMemory Table) (v w home : Value) (s : State Table) (y : Transition (State Table) Bool) → (under m 1).run s ≡ Went v s → (top m).run s ≡ Went w s
+    → (home_of_block m v w).run s ≡ Went home s → (succeed_by m 1 (new_block m home w)).run s ≡ y → (primitive_block_copy m).run s ≡ y
+unfolding primitive_block_copy ◌>>=◌ after
+tried-block m v w home s y e f h k = rw (e, f) (primitive-done m 1 (home_of_block m v w) (λ home. new_block m home w) s home y h k)
+
+pub tried-value : (m : ObjectMemory Table) (n : ℕ) (v : Value) (i j : ℤ) (s : State Table) (y : Transition (State Table) Bool) → j ≡ i → (under m n).run s ≡ Went v s
+    → (start_of m v n).run s ≡ Went i s → (value_with_words m v n j).run s ≡ y → (primitive_value m n).run s ≡ y
+unfolding primitive_value value_if_any ◌>>=◌ after
+tried-value m n v i j s y q e h k = rw (e, run-tried_went (start_of m v n) s s i h) (rw q at k)
+
+pub tried-value_with : (m : ObjectMemory Table) (v w : Value) (p : Passing) (s : State Table) (y : Transition (State Table) Bool) → (under m 1).run s ≡ Went v s → (top m).run s ≡ Went w s
+    → (passing m v w).run s ≡ Went p s → (value_with_fields m v w p).run s ≡ y → (primitive_value_with m).run s ≡ y
+unfolding primitive_value_with value_with_if_any ◌>>=◌ after
+tried-value_with m v w p s y e f h k = rw (e, f, run-tried_went (passing m v w) s s p h) k
+
+-- and such as fail
+pub ruleset values = (rows, run-tried_died)

@@ -1,0 +1,17 @@
+use Rattle.std.proofs.Common.{rules, ◌≡◌, Err}
+use Rattle.st_control.proofs.Valued.{tried-value_with}
+use Rattle.st_control.proofs.values.primitive_value_with.Goals as goal
+
+pub returns-in_err-value_with_fields-in-Ok-clause-does : goal.returns-in_err-value_with_fields-in-Ok-clause-does
+returns-in_err-value_with_fields-in-Ok-clause-does g c =
+    let e : c.from_residual-in_err-value_with_fields-in-Ok.result ≡ Err c.in_err-value_with_fields-in-Ok.field-0.0 = search rules in
+    rw e (record {
+      does = tried-value_with _ _ _ _ _ _ c.in_ok-block.ensures.does c.in_ok-array.ensures.does c.in-Ok.ensures.does c.in_err-value_with_fields-in-Ok.ensures.does.does;
+      world = c.in_err-value_with_fields-in-Ok.ensures.does.world;
+    })
+
+pub returns-in_ok-value_with_fields-in-Ok-clause-does : goal.returns-in_ok-value_with_fields-in-Ok-clause-does
+returns-in_ok-value_with_fields-in-Ok-clause-does g c = record {
+  does = tried-value_with _ _ _ _ _ _ c.in_ok-block.ensures.does c.in_ok-array.ensures.does c.in-Ok.ensures.does c.in_ok-value_with_fields-in-Ok.ensures.does.does;
+  world = c.in_ok-value_with_fields-in-Ok.ensures.does.world;
+}

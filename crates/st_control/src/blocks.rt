@@ -1,0 +1,178 @@
+ghost use Rattle.std.specs.Prelude.{◌≡◌, ◌<◌, ◌≤◌, ◌+◌, ◌≤ℤ◌, ◌+ℤ◌, pos, true, IfOk};
+ghost use Rattle.st_model.specs.Values.{word, small_integer};
+ghost use Rattle.st_model.specs.Blocks.{check_context, home_of_block, fill_block, new_block, primitive_block_copy, blocks};
+ghost use Rattle.st_model.specs.Calls.{itself};
+ghost use Rattle.st_model.specs.Deeds.{is_done, deed_of_trial};
+ghost use Rattle.st_frames.specs.Answering.{succeed_by};
+ghost use Rattle.st_frames.specs.Rows.{RowReads, RowDoes, RowLeaves, Takes, tried_changes, block_changes};
+
+use crate::values::{primitive_value, primitive_value_with};
+use st_frames::{
+    Registers, answer_with, home_of, page, positive_small, small, small_integer, top, under,
+};
+use st_memory::Objects;
+use st_model::{Dead, Deed, PageObject, Tried, Word};
+
+/// An instance of MethodContext or BlockContext.
+#[tactic(auto, using(crate::proofs::Valued::contexts), unfolding(st_model::specs::Blocks::check_context))]
+fn check_context<O: Objects>(m: &O, r: &Registers, v: Word) -> Result<(), Dead>
+    ensures does { RowReads O.Objects.own (check_context O.names (word v)) itself m.now r.now result }
+{
+    let class = m.fetch_class(v)?;
+    let method_context = page(m, PageObject::MethodContextClass);
+    let block_context = page(m, PageObject::BlockContextClass);
+    if class.same(method_context) || class.same(block_context) {
+        Ok(())
+    } else {
+        Err(Dead::Kind)
+    }
+}
+
+/// The home that a block of a context has, where a block that takes this number of arguments may be made.
+#[tactic(auto, using(st_frames::proofs::Doing::checks), unfolding(st_model::specs::Blocks::home_of_block))]
+fn home_of_block<O: Objects>(
+    m: &O,
+    r: &Registers,
+    context: Word,
+    arguments: Word,
+) -> Result<Word, Dead>
+    ensures does { RowReads O.Objects.own (home_of_block O.names (word context) (word arguments))
+        word m.now r.now result }
+    ensures within { IfOk result (λ home. r.now.ip ≤ℤ pos 16380) }
+{
+    check_context(m, r, context)?;
+    positive_small(m, r, arguments)?;
+    let home = home_of(m, context)?;
+    let fields = m.count_fields(home)?;
+    if fields < 6 {
+        return Err(Dead::Field);
+    }
+    if 16380 < r.ip {
+        return Err(Dead::Ip);
+    }
+    Ok(home)
+}
+
+/// The first instruction pointer of a new block, as it is stored: that of the byte behind the jump round its bytecodes.
+fn first_pointer(r: &Registers) -> Word
+    requires within { r.now.ip ≤ℤ pos 16380 }
+    ensures { word result ≡ small_integer (r.now.ip +ℤ pos 3) }
+{
+    small_integer(r.ip + 3)
+}
+
+/// Fills a new block: its first bytecode is behind the jump round it, and its stack is empty.
+#[tactic(auto, using(st_frames::proofs::Doing::rows), unfolding(st_model::specs::Blocks::fill_block))]
+fn fill_block<O: Objects>(
+    m: &mut O,
+    r: &Registers,
+    block: Word,
+    home: Word,
+    arguments: Word,
+) -> Result<(), Dead>
+    requires within { r.now.ip ≤ℤ pos 16380 }
+    requires room { 5 ≤ O.room m.old }
+    ensures does { RowDoes O.Objects.own (fill_block O.names (word block) (word home) (word arguments))
+        itself m.old r.now result m.new r.now }
+    ensures takes { Takes O.Objects.own 5 m.old m.new }
+{
+    let first = first_pointer(r);
+    m.store_field(block, 1, first)?;
+    m.store_field(block, 2, small(0))?;
+    m.store_field(block, 3, arguments)?;
+    m.store_field(block, 4, first)?;
+    m.store_field(block, 5, home)
+}
+
+/// A new BlockContext as large as its home.
+#[tactic(auto, using(st_frames::proofs::Doing::rows), unfolding(st_model::specs::Blocks::new_block))]
+fn new_block<O: Objects>(
+    m: &mut O,
+    r: &Registers,
+    home: Word,
+    arguments: Word,
+) -> Result<Word, Dead>
+    requires within { r.now.ip ≤ℤ pos 16380 }
+    requires room { 6 ≤ O.room m.old }
+    ensures does { RowDoes O.Objects.own (new_block O.names (word home) (word arguments))
+        word m.old r.now result m.new r.now }
+    ensures takes { Takes O.Objects.own 6 m.old m.new }
+{
+    let class = page(m, PageObject::BlockContextClass);
+    let fields = m.count_fields(home)?;
+    let block = m.new_object(class, fields)?;
+    fill_block(m, r, block, home, arguments)?;
+    Ok(block)
+}
+
+/// A new block takes the place of receiver and argument.
+#[tactic(auto, using(st_frames::proofs::Doing::rows), unfolding(st_frames::specs::Answering::succeed_by, st_frames::specs::Answering::succeed_with))]
+fn answer_block<O: Objects>(
+    m: &mut O,
+    r: &mut Registers,
+    home: Word,
+    arguments: Word,
+) -> Result<(), Dead>
+    requires within { r.old.ip ≤ℤ pos 16380 }
+    requires room { 7 ≤ O.room m.old }
+    ensures does { RowDoes O.Objects.own
+        (succeed_by O.names 1 (new_block O.names (word home) (word arguments)))
+        (λ x. true) m.old r.old result m.new r.new }
+    ensures takes { Takes O.Objects.own 7 m.old m.new }
+{
+    let block = new_block(m, r, home, arguments)?;
+    answer_with(m, r, 1, block)
+}
+
+/// Primitive 80: a block of the receiver's home, which takes as many arguments as the argument says.
+#[tactic(auto, using(st_frames::proofs::Tries::effects), unfolding(st_model::specs::Blocks::primitive_block_copy))]
+pub fn primitive_block_copy<O: Objects>(m: &mut O, r: &mut Registers) -> Result<Tried, Dead>
+    requires room { block_changes ≤ O.room m.old }
+    ensures does { RowLeaves O.Objects.own (primitive_block_copy O.names)
+        is_done deed_of_trial m.old r.old result m.new r.new }
+    ensures takes { Takes O.Objects.own (tried_changes block_changes result) m.old m.new }
+{
+    let context = under(m, r, 1)?;
+    let arguments = top(m, r)?;
+    match home_of_block(m, r, context, arguments) {
+        Ok(home) => {
+            answer_block(m, r, home, arguments)?;
+            Ok(Tried::Done(Deed::Nothing))
+        }
+        Err(_) => Ok(Tried::Failed),
+    }
+}
+
+/// Tries the primitive on blocks of this number. It fails where it takes another number of arguments, and where there is none.
+#[tactic(auto, using(st_frames::proofs::Doing::rows), unfolding(st_model::specs::Blocks::blocks, st_model::specs::Primitives::taking))]
+pub fn try_blocks<O: Objects>(
+    m: &mut O,
+    r: &mut Registers,
+    primitive: u32,
+    arguments: u32,
+) -> Result<Tried, Dead>
+    requires few { arguments < 16384 }
+    requires room { block_changes ≤ O.room m.old }
+    ensures does { RowLeaves O.Objects.own (blocks O.names primitive arguments)
+        is_done deed_of_trial m.old r.old result m.new r.new }
+    ensures takes { Takes O.Objects.own (tried_changes block_changes result) m.old m.new }
+{
+    match primitive {
+        80 => {
+            if arguments == 1 {
+                primitive_block_copy(m, r)
+            } else {
+                Ok(Tried::Failed)
+            }
+        }
+        81 => primitive_value(m, r, arguments),
+        82 => {
+            if arguments == 1 {
+                primitive_value_with(m, r)
+            } else {
+                Ok(Tried::Failed)
+            }
+        }
+        _ => Ok(Tried::Failed),
+    }
+}
