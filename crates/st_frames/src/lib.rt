@@ -27,7 +27,9 @@ pub use fetching::{fetch_integer, page};
 pub use frame::{Frame, Loaded};
 pub use holding::{fetch, fetch_scheduled, hold, load};
 pub use large::{find_bytes, number};
-pub use numbers::{bits_or_die, check_bytes, check_class, positive_small, positive_value};
+pub use numbers::{
+    bits_or_die, check_bytes, check_class, number_read, positive_small, positive_value,
+};
 pub use registers::Registers;
 pub use stack::{drop_words, jump, look_at_words, pop, push, set_stack_pointer, top, under};
 pub use words::{small, small_integer};

@@ -62,7 +62,13 @@ pub fn positive_small<O: Objects>(m: &O, r: &Registers, v: Word) -> Result<u32, 
 
 /// The number that n bytes say from one on, the low one first.
 #[tactic(auto, using(crate::proofs::Valued::reads))]
-fn number_read<O: Objects>(m: &O, r: &Registers, v: Word, from: u32, n: u32) -> Result<u64, Dead>
+pub fn number_read<O: Objects>(
+    m: &O,
+    r: &Registers,
+    v: Word,
+    from: u32,
+    n: u32,
+) -> Result<u64, Dead>
     requires few { from + n ≤ 4 }
     ensures does { RowReads O.Objects.own (number_read O.names (word v) from n)
         itself m.now r.now result }

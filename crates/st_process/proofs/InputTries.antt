@@ -1,0 +1,67 @@
+-- Primitives on devices and clocks whose conditions hold.
+use Rattle.std.proofs.Common.{◌≡◌, ℕ, Bool}
+use Rattle.st_model.specs.declared.device.Device.TheVariants as device
+use Rattle.st_model.specs.Values.{Value}
+use Rattle.st_model.specs.Machine.{ObjectMemory, State, Transition, Went, after, ◌>>=◌}
+use Rattle.st_model.specs.Table.{Table}
+use Rattle.st_model.specs.Steps.{top, under}
+use Rattle.st_model.specs.Primitives.{bits_or_die}
+use Rattle.st_model.specs.Processes.{check_fields}
+use Rattle.st_model.specs.Input.{check_truth, primitive_link_cursor, primitive_sample_interval, Place, place_in, move_mouse, primitive_move_mouse, hold_and_answer, primitive_input_semaphore, word_that_waits, take_word, primitive_input_word, check_four_bytes, store_seconds, primitive_second_clock, store_milliseconds, primitive_millisecond_clock, Timing, timing, set_timer_and_answer, primitive_timer, primitive_be_cursor, primitive_be_display, Low, low_space, set_low_space, primitive_low_space}
+use Rattle.st_frames.specs.Answering.{succeed_by, succeed_with}
+use Rattle.st_frames.proofs.Tries.{primitive-done, primitive-same}
+
+pub tried-move_mouse : (m : ObjectMemory Table) (v w : Value) (a : Place) (s : State Table) (y : Transition (State Table) Bool) → (under m 1).run s ≡ Went v s → (top m).run s ≡ Went w s → (place_in m w).run s ≡ Went a s → (succeed_by m 1 (move_mouse m v a)).run s ≡ y
+    → (primitive_move_mouse m).run s ≡ y
+unfolding primitive_move_mouse ◌>>=◌ after
+tried-move_mouse m v w a s y e0 e1 h k = rw (e0, e1) (primitive-done m 1 (place_in m w) (λ (a : Place). move_mouse m v a) s a y h k)
+
+pub tried-input_semaphore : (m : ObjectMemory Table) (v w : Value) (s : State Table) (y : Transition (State Table) Bool) → (under m 1).run s ≡ Went v s → (top m).run s ≡ Went w s → (check_fields m w 3).run s ≡ Went tt s → (succeed_by m 1 (hold_and_answer m device.InputSemaphore w v)).run s ≡ y
+    → (primitive_input_semaphore m).run s ≡ y
+unfolding primitive_input_semaphore ◌>>=◌ after
+tried-input_semaphore m v w s y e0 e1 h k = rw (e0, e1) (primitive-done m 1 (check_fields m w 3) (λ (u : Unit {0}). hold_and_answer m device.InputSemaphore w v) s tt y h k)
+
+pub tried-input_word : (m : ObjectMemory Table) (a : ℕ) (s : State Table) (y : Transition (State Table) Bool) → word_that_waits.run s ≡ Went a s → (succeed_by m 0 (take_word m a)).run s ≡ y
+    → (primitive_input_word m).run s ≡ y
+unfolding primitive_input_word ◌>>=◌ after
+tried-input_word m a s y h k = primitive-done m 0 word_that_waits (λ (a : ℕ). take_word m a) s a y h k
+
+pub tried-be_cursor : (m : ObjectMemory Table) (v : Value) (s : State Table) (y : Transition (State Table) Bool) → (top m).run s ≡ Went v s → (check_fields m v 3).run s ≡ Went tt s → (succeed_by m 0 (hold_and_answer m device.Cursor v v)).run s ≡ y
+    → (primitive_be_cursor m).run s ≡ y
+unfolding primitive_be_cursor ◌>>=◌ after
+tried-be_cursor m v s y e0 h k = rw e0 (primitive-done m 0 (check_fields m v 3) (λ (u : Unit {0}). hold_and_answer m device.Cursor v v) s tt y h k)
+
+pub tried-be_display : (m : ObjectMemory Table) (v : Value) (s : State Table) (y : Transition (State Table) Bool) → (top m).run s ≡ Went v s → (check_fields m v 3).run s ≡ Went tt s → (succeed_by m 0 (hold_and_answer m device.Display v v)).run s ≡ y
+    → (primitive_be_display m).run s ≡ y
+unfolding primitive_be_display ◌>>=◌ after
+tried-be_display m v s y e0 h k = rw e0 (primitive-done m 0 (check_fields m v 3) (λ (u : Unit {0}). hold_and_answer m device.Display v v) s tt y h k)
+
+pub tried-second_clock : (m : ObjectMemory Table) (v w : Value) (s : State Table) (y : Transition (State Table) Bool) → (under m 1).run s ≡ Went v s → (top m).run s ≡ Went w s → (check_four_bytes m w).run s ≡ Went tt s → (succeed_by m 1 (store_seconds m w v)).run s ≡ y
+    → (primitive_second_clock m).run s ≡ y
+unfolding primitive_second_clock ◌>>=◌ after
+tried-second_clock m v w s y e0 e1 h k = rw (e0, e1) (primitive-done m 1 (check_four_bytes m w) (λ (u : Unit {0}). store_seconds m w v) s tt y h k)
+
+pub tried-millisecond_clock : (m : ObjectMemory Table) (v w : Value) (s : State Table) (y : Transition (State Table) Bool) → (under m 1).run s ≡ Went v s → (top m).run s ≡ Went w s → (check_four_bytes m w).run s ≡ Went tt s → (succeed_by m 1 (store_milliseconds m w v)).run s ≡ y
+    → (primitive_millisecond_clock m).run s ≡ y
+unfolding primitive_millisecond_clock ◌>>=◌ after
+tried-millisecond_clock m v w s y e0 e1 h k = rw (e0, e1) (primitive-done m 1 (check_four_bytes m w) (λ (u : Unit {0}). store_milliseconds m w v) s tt y h k)
+
+pub tried-timer : (m : ObjectMemory Table) (v w x : Value) (a : Timing) (s : State Table) (y : Transition (State Table) Bool) → (under m 2).run s ≡ Went v s → (under m 1).run s ≡ Went w s → (top m).run s ≡ Went x s → (timing m w x).run s ≡ Went a s → (succeed_by m 2 (set_timer_and_answer m w a v)).run s ≡ y
+    → (primitive_timer m).run s ≡ y
+unfolding primitive_timer ◌>>=◌ after
+tried-timer m v w x a s y e0 e1 e2 h k = rw (e0, e1, e2) (primitive-done m 2 (timing m w x) (λ (a : Timing). set_timer_and_answer m w a v) s a y h k)
+
+pub tried-low_space : (m : ObjectMemory Table) (v w x y : Value) (a : Low) (s : State Table) (z : Transition (State Table) Bool) → (under m 3).run s ≡ Went v s → (under m 2).run s ≡ Went w s → (under m 1).run s ≡ Went x s → (top m).run s ≡ Went y s → (low_space m w x y).run s ≡ Went a s → (succeed_by m 3 (set_low_space m w a v)).run s ≡ z
+    → (primitive_low_space m).run s ≡ z
+unfolding primitive_low_space ◌>>=◌ after
+tried-low_space m v w x y a s z e0 e1 e2 e3 h k = rw (e0, e1, e2, e3) (primitive-done m 3 (low_space m w x y) (λ (a : Low). set_low_space m w a v) s a z h k)
+
+pub tried-link_cursor : (m : ObjectMemory Table) (v w : Value) (s : State Table) (y : Transition (State Table) Bool) → (under m 1).run s ≡ Went v s → (top m).run s ≡ Went w s → (check_truth m w).run s ≡ Went tt s → (succeed_with m 1 v).run s ≡ y
+    → (primitive_link_cursor m).run s ≡ y
+unfolding primitive_link_cursor ◌>>=◌ after
+tried-link_cursor m v w s y e0 e1 h k = rw (e0, e1) (primitive-same m 1 (check_truth m w) s tt v y h k)
+
+pub tried-sample_interval : (m : ObjectMemory Table) (v w : Value) (a : ℕ) (s : State Table) (y : Transition (State Table) Bool) → (under m 1).run s ≡ Went v s → (top m).run s ≡ Went w s → (bits_or_die w).run s ≡ Went a s
+    → (succeed_with m 1 v).run s ≡ y → (primitive_sample_interval m).run s ≡ y
+unfolding primitive_sample_interval ◌>>=◌ after
+tried-sample_interval m v w a s y e0 e1 h k = rw (e0, e1) (primitive-same m 1 (bits_or_die w) s a v y h k)

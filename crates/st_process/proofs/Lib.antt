@@ -1,0 +1,11 @@
+pub mod Worlds
+pub mod Changing
+pub mod Numbering
+pub mod Highest
+pub mod Sleeping
+pub mod Semaphores
+pub mod Timers
+pub mod Taking
+pub mod ByNumber
+pub mod ProcessTries
+pub mod InputTries

@@ -1,0 +1,107 @@
+-- Steps that go by integers, by cases.
+use Rattle.std.proofs.Common.{◌≡◌, zero, suc, Bool, true, false, refl, ap, arith}
+use Rattle.std.specs.Prelude.{ℤ, pos, negsuc, ◌+ℤ◌, ◌-ℤ◌, ◌≤ℤ◌, ◌<ℤ◌, int_lt, int_le, if◌then◌else◌}
+use Rattle.std.proofs.lemmas.Int.{ints}
+use mir.Syntax.{w32}
+use mir.Val.{to_z, of_z}
+use Rattle.st_model.specs.declared.dead.Dead.{Dead}
+use Rattle.st_model.specs.declared.dead.Dead.TheVariants as dead
+use Rattle.st_model.specs.Values.{Value, small_integer}
+use Rattle.st_model.specs.Machine.{ObjectMemory, State, Died, Went, Step, answer, die, ◌>>◌}
+use Rattle.st_model.specs.Table.{Table}
+use Rattle.st_model.specs.Steps.{check, store_field}
+use Rattle.st_model.specs.Processes.{list_number, sleep, let_wait, resume_over, wait_in, take_excess}
+use Rattle.st_model.proofs.Runs.{run-passed, run-failed}
+
+lt_true : (a b : ℤ) → a <ℤ b → int_lt a b ≡ true
+lt_true (pos a) (pos b) l = grind (arith, ints, l)
+lt_true (pos a) (negsuc b) l = grind (arith, ints, l)
+lt_true (negsuc a) (pos b) l = grind (arith, ints, l)
+lt_true (negsuc a) (negsuc b) l = grind (arith, ints, l)
+
+lt_false : (a b : ℤ) → b ≤ℤ a → int_lt a b ≡ false
+lt_false (pos a) (pos b) l = grind (arith, ints, l)
+lt_false (pos a) (negsuc b) l = grind (arith, ints, l)
+lt_false (negsuc a) (pos b) l = grind (arith, ints, l)
+lt_false (negsuc a) (negsuc b) l = grind (arith, ints, l)
+
+le_true : (a b : ℤ) → a ≤ℤ b → int_le a b ≡ true
+le_true (pos a) (pos b) l = grind (arith, ints, l)
+le_true (pos a) (negsuc b) l = grind (arith, ints, l)
+le_true (negsuc a) (pos b) l = grind (arith, ints, l)
+le_true (negsuc a) (negsuc b) l = grind (arith, ints, l)
+
+le_false : (a b : ℤ) → b <ℤ a → int_le a b ≡ false
+le_false (pos a) (pos b) l = grind (arith, ints, l)
+le_false (pos a) (negsuc b) l = grind (arith, ints, l)
+le_false (negsuc a) (pos b) l = grind (arith, ints, l)
+le_false (negsuc a) (negsuc b) l = grind (arith, ints, l)
+
+-- an integer that a field holds stays the same as it is passed on, and as 1 is added or taken away
+pub passed-is : (n : ℤ) → negsuc 16383 ≤ℤ n → n ≤ℤ pos 16383 → to_z w32 (of_z w32 n) ≡ n
+passed-is n l h = omega (arith, ints)
+
+pub raised-is : (n : ℤ) → negsuc 16383 ≤ℤ n → n ≤ℤ pos 16383 → to_z w32 (of_z w32 (to_z w32 (of_z w32 n) +ℤ pos 1)) ≡ n +ℤ pos 1
+raised-is n l h = omega (arith, ints)
+
+pub ruleset passes = (passed-is, raised-is)
+
+-- priorities count from 1
+pub number-none : (z : ℤ) (s : State Table) → z <ℤ pos 1 → (list_number z).run s ≡ Died dead.Field
+unfolding list_number die
+number-none (pos zero) s l = refl
+number-none (pos (suc n)) s l = absurd (grind (arith, ints, l))
+number-none (negsuc n) s l = refl
+
+pub number-is : (z : ℤ) (s : State Table) → pos 1 ≤ℤ z → z ≤ℤ pos 16383 → (list_number z).run s ≡ Went (of_z w32 (z -ℤ pos 1)) s
+unfolding list_number answer
+number-is (pos zero) s l h = absurd (grind (arith, ints, l))
+number-is (pos (suc n)) s l h = let e : n ≡ of_z w32 (pos (suc n) -ℤ pos 1) = grind (arith, ints) in ap (λ k. Went k s) e
+number-is (negsuc n) s l h = absurd (grind (arith, ints, l))
+
+pub ruleset numbers = (number-none, number-is)
+
+-- a priority that is greater, and one that is not
+pub over-greater : (m : ObjectMemory Table) (p a : Value) (x y : ℤ) (s : State Table) → x <ℤ y → (resume_over m p a (int_lt x y)).run s ≡ (sleep m a >> let_wait m p).run s
+unfolding resume_over
+over-greater m p a x y s l = rw (lt_true x y l) refl
+
+pub over-not : (m : ObjectMemory Table) (p a : Value) (x y : ℤ) (s : State Table) → y ≤ℤ x → (resume_over m p a (int_lt x y)).run s ≡ (sleep m p).run s
+unfolding resume_over
+over-not m p a x y s l = rw (lt_false x y l) refl
+
+pub ruleset compares = (over-greater, over-not)
+
+pub limit-within : (k : Dead) (a b : ℤ) (s : State Table) → a ≤ℤ b → (check k (int_le a b)).run s ≡ Went tt s
+limit-within k a b s l = run-passed k (int_le a b) s (le_true a b l)
+
+pub limit-past : (k : Dead) (a b : ℤ) (s : State Table) → b <ℤ a → (check k (int_le a b)).run s ≡ Died k
+limit-past k a b s l = run-failed k (int_le a b) s (le_false a b l)
+
+pub ruleset limits = (limit-within, limit-past, passed-is, raised-is)
+
+pub choose-first : {A : Type 0} (b : Bool) (p q : Step Table A) (s : State Table) → b ≡ true → (if b then p else q).run s ≡ p.run s
+choose-first b p q s e = rw e refl
+
+pub choose-second : {A : Type 0} (b : Bool) (p q : Step Table A) (s : State Table) → b ≡ false → (if b then p else q).run s ≡ q.run s
+choose-second b p q s e = rw e refl
+
+pub ruleset chooses = (choose-first, choose-second)
+
+-- a signal in excess, and none
+pub excess-taken : (m : ObjectMemory Table) (v : Value) (z : ℤ) (s : State Table) → pos 0 <ℤ z → (take_excess m v z).run s ≡ (store_field m v 2 (small_integer (z -ℤ pos 1))).run s
+unfolding take_excess
+excess-taken m v (pos zero) s l = absurd (grind (arith, ints, l))
+excess-taken m v (pos (suc n)) s l = let e : pos n ≡ pos (suc n) -ℤ pos 1 = grind (arith, ints) in ap (λ x. (store_field m v 2 (small_integer x)).run s) e
+excess-taken m v (negsuc n) s l = absurd (grind (arith, ints, l))
+
+pub excess-none : (m : ObjectMemory Table) (v : Value) (z : ℤ) (s : State Table) → z ≤ℤ pos 0 → (take_excess m v z).run s ≡ (wait_in m v).run s
+unfolding take_excess
+excess-none m v (pos zero) s l = refl
+excess-none m v (pos (suc n)) s l = absurd (grind (arith, ints, l))
+excess-none m v (negsuc n) s l = refl
+
+pub lowered-is : (n : ℤ) → pos 0 <ℤ n → n ≤ℤ pos 16383 → to_z w32 (of_z w32 (n -ℤ pos 1)) ≡ n -ℤ pos 1
+lowered-is n l h = omega (arith, ints)
+
+pub ruleset takes = (excess-taken, excess-none, lowered-is)

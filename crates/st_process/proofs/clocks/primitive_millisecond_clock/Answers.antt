@@ -1,0 +1,8 @@
+use Rattle.st_process.proofs.InputTries.{tried-millisecond_clock}
+use Rattle.st_process.proofs.clocks.primitive_millisecond_clock.Goals as goal
+
+pub returns-in-Ok-clause-does : goal.returns-in-Ok-clause-does
+returns-in-Ok-clause-does g c = record {
+  does = tried-millisecond_clock _ _ _ _ _ c.in_ok-receiver.ensures.does c.in_ok-argument.ensures.does c.in-Ok.ensures.does c.answer_milliseconds.ensures.does.does;
+  world = c.answer_milliseconds.ensures.does.world;
+}
