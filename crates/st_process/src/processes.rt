@@ -4,7 +4,7 @@ ghost use Rattle.st_model.specs.Processes.{check_fields, signal_and_answer, prim
 ghost use Rattle.st_model.specs.Calls.{itself};
 ghost use Rattle.st_model.specs.Deeds.{is_done, deed_of_trial};
 ghost use Rattle.st_frames.specs.Answering.{succeed_by};
-ghost use Rattle.st_frames.specs.Rows.{RowReads, RowLeaves, Takes};
+ghost use Rattle.st_frames.specs.Rows.{RowReads, RowLeaves, Takes, tried_changes, process_changes};
 
 use crate::ready::{resume, suspend};
 use crate::scheduler::active_process;
@@ -42,10 +42,10 @@ fn answer_signal<O: Objects>(m: &mut O, r: &mut Registers, semaphore: Word) -> R
 /// Primitive 85: the receiver is signalled.
 #[tactic(auto, using(st_frames::proofs::Tries::effects), unfolding(st_model::specs::Processes::primitive_signal))]
 pub fn primitive_signal<O: Objects>(m: &mut O, r: &mut Registers) -> Result<Tried, Dead>
-    requires room { 7 ≤ O.room m.old }
+    requires room { process_changes ≤ O.room m.old }
     ensures does { RowLeaves O.Objects.own (primitive_signal O.names)
         is_done deed_of_trial m.old r.old result m.new r.new }
-    ensures takes { Takes O.Objects.own 7 m.old m.new }
+    ensures takes { Takes O.Objects.own (tried_changes process_changes result) m.old m.new }
 {
     let receiver = top(m, r)?;
     match check_fields(m, r, receiver, 3) {
@@ -88,10 +88,10 @@ fn answer_wait<O: Objects>(
 /// Primitive 86: the active process waits for a signal of the receiver.
 #[tactic(auto, using(st_frames::proofs::Tries::effects), unfolding(st_model::specs::Processes::primitive_wait))]
 pub fn primitive_wait<O: Objects>(m: &mut O, r: &mut Registers) -> Result<Tried, Dead>
-    requires room { 7 ≤ O.room m.old }
+    requires room { process_changes ≤ O.room m.old }
     ensures does { RowLeaves O.Objects.own (primitive_wait O.names)
         is_done deed_of_trial m.old r.old result m.new r.new }
-    ensures takes { Takes O.Objects.own 7 m.old m.new }
+    ensures takes { Takes O.Objects.own (tried_changes process_changes result) m.old m.new }
 {
     let receiver = top(m, r)?;
     match excess_of(m, r, receiver) {
@@ -117,10 +117,10 @@ fn answer_resume<O: Objects>(m: &mut O, r: &mut Registers, process: Word) -> Res
 /// Primitive 87: the receiver is resumed.
 #[tactic(auto, using(st_frames::proofs::Tries::effects), unfolding(st_model::specs::Processes::primitive_resume))]
 pub fn primitive_resume<O: Objects>(m: &mut O, r: &mut Registers) -> Result<Tried, Dead>
-    requires room { 4 ≤ O.room m.old }
+    requires room { process_changes ≤ O.room m.old }
     ensures does { RowLeaves O.Objects.own (primitive_resume O.names)
         is_done deed_of_trial m.old r.old result m.new r.new }
-    ensures takes { Takes O.Objects.own 4 m.old m.new }
+    ensures takes { Takes O.Objects.own (tried_changes process_changes result) m.old m.new }
 {
     let receiver = top(m, r)?;
     match check_fields(m, r, receiver, 4) {
@@ -158,10 +158,10 @@ fn answer_suspend<O: Objects>(m: &mut O, r: &mut Registers) -> Result<Tried, Dea
 /// Primitive 88: the receiver, which is active, is suspended.
 #[tactic(auto, using(st_frames::proofs::Tries::effects), unfolding(st_model::specs::Processes::primitive_suspend))]
 pub fn primitive_suspend<O: Objects>(m: &mut O, r: &mut Registers) -> Result<Tried, Dead>
-    requires room { 4 ≤ O.room m.old }
+    requires room { process_changes ≤ O.room m.old }
     ensures does { RowLeaves O.Objects.own (primitive_suspend O.names)
         is_done deed_of_trial m.old r.old result m.new r.new }
-    ensures takes { Takes O.Objects.own 4 m.old m.new }
+    ensures takes { Takes O.Objects.own (tried_changes process_changes result) m.old m.new }
 {
     let receiver = top(m, r)?;
     match check_active(m, r, receiver) {

@@ -129,7 +129,7 @@ fn perform_selector<O: Objects>(
     requires room { execution_changes ≤ O.room m.old }
     ensures does { RowLeaves O.Objects.own
         (perform O.names (call_of call) (word header.0) (word receiver) (word selector) n
-            (drop_selector O.names n))
+        (drop_selector O.names n))
         end_of deed_of_end m.old r.old result m.new r.new }
     ensures takes { Takes O.Objects.own execution_changes m.old m.new }
 {
@@ -183,12 +183,7 @@ fn spreading<O: Objects>(m: &O, r: &Registers, array: Word) -> Result<u32, Dead>
 
 /// The n fields of an Array take the places of selector and Array.
 #[tactic(auto, using(st_frames::proofs::Doing::checks), unfolding(st_model::specs::Executing::spread_array))]
-fn spread_array<O: Objects>(
-    m: &mut O,
-    r: &mut Registers,
-    array: Word,
-    n: u32,
-) -> Result<(), Dead>
+fn spread_array<O: Objects>(m: &mut O, r: &mut Registers, array: Word, n: u32) -> Result<(), Dead>
     requires size { n ≤ 65533 }
     requires above { 7 ≤ r.old.sp }
     requires room { 1 ≤ O.room m.old }
@@ -223,7 +218,7 @@ fn perform_with_array<O: Objects>(
     requires room { execution_changes ≤ O.room m.old }
     ensures does { RowLeaves O.Objects.own
         (perform O.names (call_of call) (word header.0) (word receiver) (word selector) n
-            (spread_array O.names (word array) n))
+        (spread_array O.names (word array) n))
         end_of deed_of_end m.old r.old result m.new r.new }
     ensures takes { Takes O.Objects.own execution_changes m.old m.new }
 {

@@ -229,12 +229,7 @@ fn block_copy_or_send<O: Objects>(m: &mut O, r: &mut Registers, k: u32) -> Resul
 
 /// Computes a block's value with n arguments (primitive 81), or sends the special selector of this number where it fails.
 #[tactic(auto, using(st_frames::proofs::Doing::rows), unfolding(st_model::specs::Bytecodes::or_send))]
-fn value_or_send<O: Objects>(
-    m: &mut O,
-    r: &mut Registers,
-    k: u32,
-    n: u32,
-) -> Result<StepEnd, Dead>
+fn value_or_send<O: Objects>(m: &mut O, r: &mut Registers, k: u32, n: u32) -> Result<StepEnd, Dead>
     requires number { k < 32 }
     requires few { n < 16384 }
     requires room { executed_send_changes ≤ O.room m.old }
