@@ -11,16 +11,17 @@ use Rattle.st_model.specs.Machine.{State, World, Transition, Died, Went, Step, a
 use Rattle.st_model.specs.Table.{Table, table, apart, bounded_table}
 use Rattle.st_model.specs.Bytecodes.{step}
 use Rattle.st_model.specs.Settled.{reclaim}
-use Rattle.st_model.specs.Cycles.{next_code, byte_answered, made_between, free_space, less}
-use Rattle.st_model.specs.Foreseen.{foreseen, foreseen_cycle, done, done_if_room}
-use Rattle.st_model.specs.View.{View, fits}
+use Rattle.st_model.specs.Objects.{nil}
+use Rattle.st_model.specs.Cycles.{next_code, byte_answered, made_between, free_space, less, capacity_of, check_process_switch, warned, warned_if_low}
+use Rattle.st_model.specs.Foreseen.{foreseen, foreseen_from, foreseen_cycle, done, done_if_room}
+use Rattle.st_model.specs.View.{View, Held, fits}
 use Rattle.st_step.specs.Planned.{Plans, plus, IsForeseen}
 use Rattle.st_model.specs.Steps.{get_method, get_ip, set_ip, next_byte}
 use Rattle.st_model.specs.Calls.{Does, itself, transition_of}
 use Rattle.st_model.proofs.Tabular.{byte_at-as}
 use Rattle.st_memory.specs.Tabular.{bounded_tabular}
 use Rattle.st_frames.specs.declared.frame.Frame.{Frame}
-use Rattle.st_frames.specs.Shown.{shown, registers_of}
+use Rattle.st_frames.specs.Shown.{shown, registers_of, IsFrame}
 use Rattle.st_frames.specs.Rows.{registers_in, row_state}
 use Rattle.st_frames.specs.declared.registers.Registers.{Registers as Words}
 use Rattle.st_frames.proofs.Stored.{loaded}
@@ -38,8 +39,7 @@ module _ (c : State Table) where
   dies (Went NotBuilt d) cause h = absurd h
   dies (Went (Did o) d) cause h = absurd h
 
-  pub cycle_dies : (cause : Dead) → Plans (used table c.memory) ((step apart).run c) (Err (halt.Dead cause)) → foreseen_cycle c ≡ Died cause
-  unfolding foreseen_cycle
+  pub cycle_dies : (cause : Dead) → Plans (used table c.memory) ((step apart).run c) (Err (halt.Dead cause)) → foreseen c ((step apart).run c) ≡ Died cause
   cycle_dies cause h = dies ((step apart).run c) cause h
 
   unbuilt : (t : Transition (State Table) StepEnd) → Plans (used table c.memory) t (Err halt.Unbuilt) → foreseen c t ≡ Went (Unbuilt (next_code table c)) c
@@ -47,8 +47,7 @@ module _ (c : State Table) where
   unbuilt (Went NotBuilt d) h = refl
   unbuilt (Went (Did o) d) h = absurd h
 
-  pub cycle_unbuilt : Plans (used table c.memory) ((step apart).run c) (Err halt.Unbuilt) → foreseen_cycle c ≡ Went (Unbuilt (next_code table c)) c
-  unfolding foreseen_cycle
+  pub cycle_unbuilt : Plans (used table c.memory) ((step apart).run c) (Err halt.Unbuilt) → foreseen c ((step apart).run c) ≡ Went (Unbuilt (next_code table c)) c
   cycle_unbuilt h = unbuilt ((step apart).run c) h
 
   less_plus : (u d : Demand) → less (plus u d) u ≡ d
@@ -78,14 +77,27 @@ module _ (c : State Table) where
   is_foreseen d h e = (with_room ((step apart).run c) d refl h e).0
 
   pub cycle_space : (d : Demand) → Plans (used table c.memory) ((step apart).run c) (Ok d) → is_over (plus (used table c.memory) d) c.head ≡ true
-      → foreseen_cycle c ≡ Went (Space d (free_space table c)) c
-  unfolding foreseen_cycle
+      → foreseen c ((step apart).run c) ≡ Went (Space d (free_space table c)) c
   cycle_space d h e = no_room ((step apart).run c) d h e
 
-  pub cycle_done : (d : Demand) (o : Outcome) (t u : State Table) → Plans (used table c.memory) ((step apart).run c) (Ok d) → is_over (plus (used table c.memory) d) c.head ≡ false
-      → (step bounded_table).run c ≡ Went (Did o) t → reclaim table t ≡ u → foreseen_cycle c ≡ Went (With o) u
-  unfolding foreseen_cycle
-  cycle_done d o t u h e s r = (with_room ((step apart).run c) d refl h e).1 ∙ (ap (done c) s ∙ ap (λ x. Went (With o) x) r)
+  pub cycle_done : (d : Demand) (o : Outcome) (t u x : State Table) → Plans (used table c.memory) ((step apart).run c) (Ok d) → is_over (plus (used table c.memory) d) c.head ≡ false
+      → (step bounded_table).run c ≡ Went (Did o) t → reclaim table t ≡ u → warned table u ≡ x → foreseen c ((step apart).run c) ≡ Went (With o) x
+  cycle_done d o t u x h e s r w = (with_room ((step apart).run c) d refl h e).1 ∙ (ap (done c) s ∙ ap (λ y. Went (With o) y) (ap (warned table) r ∙ w))
+
+-- what came before the bytecode
+
+pub from_switch : (s c : State Table) (x : Transition (State Table) Ending) → (check_process_switch bounded_table).run s ≡ Went tt c → foreseen c ((step apart).run c) ≡ x → foreseen_cycle s ≡ x
+unfolding foreseen_cycle
+from_switch s c x e f = ap foreseen_from e ∙ f
+
+pub switch_dies : (s : State Table) (cause : Dead) → (check_process_switch bounded_table).run s ≡ Died cause → foreseen_cycle s ≡ Died cause
+unfolding foreseen_cycle
+switch_dies s cause e = ap foreseen_from e
+
+-- what is warned of stands in the world alone
+pub warned_same : (v z : View) (f : Frame) (w x : World) → x ≡ warned_if_low nil (less (capacity_of v.head) (used table v.objects)) w → z.objects ≡ v.objects → z.head ≡ v.head
+    → warned table (shown v f w) ≡ shown z f x
+warned_same v z f w x world objects head = λ i. record { memory = sym objects i; registers = registers_of f; world = sym world i; head = sym head i }
 
 module _ (v : View) (d : Demand) where
   pub not_over : fits v d ≡ true → is_over (plus (used table v.objects) d) v.head ≡ false
@@ -120,3 +132,16 @@ code_is v f w r x d same world h =
     let e : (next_byte table).run (shown v f w) ≡ transition_of itself x d =
     ap (λ (m : Step Table ℕ). m.run (shown v f w)) (sym byte-same) ∙ (ap (λ (s : State Table). (next_byte bounded_table).run s) (sym (loaded v f w r same world)) ∙ h) in
     ap byte_answered e ∙ byte_of x d
+
+-- the registers are held as before
+pub frame_stays : (u v : View) (f : Frame) → IsFrame u f → v.held ≡ u.held → IsFrame v f
+frame_stays u v f h e = record {
+  active = h.active ∙ sym (ap (λ (x : Held). x.active) e);
+  home = h.home ∙ sym (ap (λ (x : Held). x.home) e);
+  method = h.method ∙ sym (ap (λ (x : Held). x.method) e);
+  receiver = h.receiver ∙ sym (ap (λ (x : Held). x.receiver) e);
+  ip_low = h.ip_low;
+  ip_high = h.ip_high;
+  sp_low = h.sp_low;
+  sp_high = h.sp_high;
+}

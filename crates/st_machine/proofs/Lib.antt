@@ -2,3 +2,4 @@ mod Settled
 mod Endings
 mod Foreseeing
 mod Runs
+mod Asked

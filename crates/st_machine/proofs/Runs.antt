@@ -1,6 +1,6 @@
 -- Cycles over a table, one after the other, show the run over the births.
 use Rattle.std.proofs.Common.{◌≡◌, ℕ, suc, ◌+◌, ◌-◌, ◌<◌, false, Ok, Err, refl, ap, sym, ◌∙◌, subst, arith}
-use Rattle.std.specs.Prelude.{◌≤◌, Result, Option, Some, None, IfSome}
+use Rattle.std.specs.Prelude.{◌≤◌, Result, Option, Some, None, IfSome, OnOk}
 use Rattle.st_model.specs.declared.dead.Dead.{Dead}
 use Rattle.st_model.specs.Outcomes.{Ending, With, IsLiveEnding, renamed_ending}
 use Rattle.st_model.specs.Outcomes as outcome
@@ -18,7 +18,7 @@ use Rattle.st_machine.specs.declared.cycling.CycleEnd.{CycleEnd}
 use Rattle.st_machine.specs.declared.cycling.CycleEnd.TheVariants as cycle_end
 use Rattle.st_machine.specs.declared.ending.RunEnd.{RunEnd}
 use Rattle.st_machine.specs.declared.ending.RunEnd.TheVariants as run_ends
-use Rattle.st_machine.specs.Runs.{EndsAs, CountsCycles, ending_of, run_end, transition_at}
+use Rattle.st_machine.specs.Runs.{EndsAs, CountsCycles, ending_of, run_end, transition_at, death_of}
 use Rattle.st_machine.proofs.Endings.{goes_on, cycles_in, renamed_goes, renamed_cycles, run_on, finished_on, run_stops, run_dies, finished_stops, finished_dies, Stops, run_end_stops, run_end_goes}
 
 -- the births' run so far went, and what it left is shown
@@ -134,3 +134,15 @@ counts_if n k (Err cause) l = record { most = omega arith; least = λ asked. abs
 
 pub run_counts : (n k : ℕ) (x : Result CycleEnd Dead) (e : RunEnd) → run_end x k ≡ Some e → k < n → CountsCycles n e
 run_counts n k x e h l = subst (λ (o : Option RunEnd). IfSome o (CountsCycles n)) h (counts_if n k x l)
+
+-- a run that goes on, or ends without a death, had a cycle that ended
+pub goes_ok : (x : Result CycleEnd Dead) (k : ℕ) (P : Type 0) → run_end x k ≡ None → OnOk x P → P
+goes_ok (Ok end) k P e h = h
+goes_ok (Err cause) k P e h = cc
+
+pub lives_ok : (x : Result CycleEnd Dead) (k : ℕ) (e : RunEnd) (P : Type 0) → run_end x k ≡ Some e → death_of e ≡ None → OnOk x P → P
+lives_ok (Ok end) k e P h d p = p
+lives_ok (Err cause) k e P h d p =
+    let q : run_ends.Dead k cause ≡ e = cc in
+    let r : Some cause ≡ None = ap death_of q ∙ d in
+    cc

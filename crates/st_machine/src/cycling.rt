@@ -1,17 +1,21 @@
 ghost use Rattle.std.specs.Prelude.{◌≡◌, OnOk};
 ghost use Rattle.st_model.specs.Table.{table};
 ghost use Rattle.st_model.specs.Machine.{used};
-ghost use Rattle.st_model.specs.Cycles.{next_code, less, capacity_of};
+ghost use Rattle.st_model.specs.Objects.{nil};
+ghost use Rattle.st_model.specs.Cycles.{next_code, less, capacity_of, is_low, warned_if_low};
+ghost use Rattle.st_world.specs.Naming.{IsNaming, naming};
 ghost use Rattle.st_model.specs.Foreseen.{foreseen_cycle};
 ghost use Rattle.st_model.specs.Calls.{transition_of};
 ghost use Rattle.st_frames.specs.Shown.{IsFrame, IsReady, shown};
 ghost use Rattle.st_machine.specs.Runs.{ending_of};
 
 use st_frames::{Frame, load, next_byte};
-use st_world::World;
+use st_input::signal_once;
 use st_memory::Memory;
-use st_model::{Dead, Demand, Halt, Outcome};
+use st_model::{Dead, Demand, Device, Halt, Outcome};
 use st_step::{plan, step};
+use st_switch::check_process_switch;
+use st_world::World;
 
 /// How a cycle ended in which the machine didn't die.
 #[derive(Clone, Copy)]
@@ -48,15 +52,40 @@ fn next_code<M: Memory>(m: &M, f: &Frame, w: &World) -> u8
     }
 }
 
-/// One cycle: the next bytecode is foreseen, and done where there is room for what it makes; then what nothing supports any
-/// more is dropped. For want of room, and at a primitive that isn't built, what is shown stays as it was.
+/// Whether fewer entries or words are free than the low-space request asks for.
+fn is_low(free: Demand, w: &World) -> bool
+    ensures { result ≡ is_low free w.now }
+{
+    free.entries < w.low_entries() || free.words < w.low_words()
+}
+
+/// Where space is low, has the low-space semaphore's signal pending, and lets the semaphore go.
+fn warn<M: Memory>(m: &mut M, w: &mut World)
+    requires named { IsNaming (M.view m.old).held w.old }
+    ensures world { let free = less (capacity_of (M.view m.old).head) (used table (M.view m.old).objects) in
+        w.new ≡ warned_if_low nil free w.old }
+    ensures held { (M.view m.new).held ≡ naming (M.view m.old).held w.new }
+    ensures objects { (M.view m.new).objects ≡ (M.view m.old).objects }
+    ensures head { (M.view m.new).head ≡ (M.view m.old).head }
+{
+    if !w.holds(Device::LowSpace) {
+        return;
+    }
+    if is_low(free_space(m), w) && w.has_signal_room() {
+        signal_once(m, w, Device::LowSpace);
+    }
+}
+
+/// One cycle: pending signals are made and a process switch that waits is done; the next bytecode is foreseen, and done where
+/// there is room for what it makes; what nothing supports any more is dropped; and where space is low that is told. For want
+/// of room, and at a primitive that isn't built, what came before the bytecode stands.
 pub fn cycle<M: Memory>(m: &mut M, f: &mut Frame, w: &mut World) -> Result<CycleEnd, Dead>
     requires ready { IsReady (M.view m.old) f.old w.old }
     ensures cycle { foreseen_cycle (shown (M.view m.old) f.old w.old)
         ≡ transition_of ending_of result (shown (M.view m.new) f.new w.new) }
-    ensures ready { IsReady (M.view m.new) f.new w.new }
-    ensures world { w.new ≡ w.old }
+    ensures ready { OnOk result (IsReady (M.view m.new) f.new w.new) }
 {
+    check_process_switch(m, f, w)?;
     let demand = match plan(m, f, w) {
         Ok(demand) => demand,
         Err(Halt::Dead(cause)) => return Err(cause),
@@ -68,5 +97,6 @@ pub fn cycle<M: Memory>(m: &mut M, f: &mut Frame, w: &mut World) -> Result<Cycle
     }
     let outcome = step(m, f, w);
     m.settle();
+    warn(m, w);
     Ok(CycleEnd::With(outcome))
 }

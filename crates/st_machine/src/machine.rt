@@ -1,17 +1,21 @@
-ghost use Rattle.std.specs.Prelude.{◌≡◌, Some, None};
+ghost use Rattle.std.specs.Prelude.{◌≡◌, Some, None, Err, OnErr};
 ghost use Rattle.std.specs.Borrow.{sem};
 ghost use Rattle.st_model.specs.Show.{Shows, raised};
 ghost use Rattle.st_frames.specs.Shown.{IsReady, shown};
 ghost use Rattle.st_machine.specs.Machines.{lends_memory};
+ghost use Rattle.st_input.specs.Coming.{HasPlace};
+ghost use Rattle.st_machine.specs.Asked.{ComesFrom, SavesFrom, death_by};
 ghost use Rattle.st_machine.specs.Runs.{EndsFrom, CountsCycles, death_of};
 ghost use Rattle.st_machine.specs.declared.ending.RunEnd.TheVariants.{Dead as DeadEnd};
 
+use crate::coming::come;
 use crate::ending::RunEnd;
 use crate::running;
+use crate::saving::save;
 use st_frames::{Frame, Loaded};
-use st_world::World;
 use st_memory::Memory;
-use st_model::Dead;
+use st_model::{Dead, Event, InputFull};
+use st_world::World;
 
 /// A machine: its objects, its registers, and what lies round it; and, once it is dead, the cause. A run asks that it is
 /// dead, or ready: the memory holds the registers at their places, and what the world names. `boot` and `run` leave it so;
@@ -52,8 +56,6 @@ impl<M: Memory> Machine<M> {
             → IsReady (M.view self.old.memory) self.old.frame self.old.world }
         ensures ready { self.new.death ≡ None
             → IsReady (M.view self.new.memory) self.new.frame self.new.world }
-        ensures left { self.old.death ≡ None
-            → IsReady (M.view self.new.memory) self.new.frame self.new.world }
         ensures ends { let first = shown (M.view self.old.memory) self.old.frame self.old.world in
             let last = shown (M.view self.new.memory) self.new.frame self.new.world in
             self.old.death ≡ None → EndsFrom n first result last }
@@ -61,7 +63,6 @@ impl<M: Memory> Machine<M> {
         ensures dead { (cause : _) → self.old.death ≡ Some cause
             → (result ≡ DeadEnd 0 cause) × (self.new ≡ self.old) }
         ensures counts { CountsCycles n result }
-        ensures world { self.new.world ≡ self.old.world }
     {
         if let Some(cause) = self.death {
             return RunEnd::Dead { done: 0, cause };
@@ -71,6 +72,49 @@ impl<M: Memory> Machine<M> {
             self.death = Some(cause);
         }
         end
+    }
+
+    /// An event comes: an input word, a place of the mouse, whose numbers are at most 16383, or the time of a clock. It does what
+    /// it does in the book's machine from each state over births that the machine shows. The input is full, and nothing changes,
+    /// where it is a word and 256 wait, or where it has a signal added and 4096 are pending.
+    pub fn event(&mut self, e: Event) -> Result<(), InputFull>
+        requires alive { self.old.death ≡ None }
+        requires ready { IsReady (M.view self.old.memory) self.old.frame self.old.world }
+        requires place { HasPlace e }
+        ensures comes { ComesFrom e (shown (M.view self.old.memory) self.old.frame self.old.world)
+            result (shown (M.view self.new.memory) self.new.frame self.new.world) }
+        ensures full { OnErr result (shown (M.view self.new.memory) self.new.frame self.new.world
+            ≡ shown (M.view self.old.memory) self.old.frame self.old.world) }
+        ensures ready { IsReady (M.view self.new.memory) self.new.frame self.new.world }
+        ensures alive { self.new.death ≡ None }
+    {
+        come(&mut self.memory, &self.frame, &mut self.world, e)
+    }
+
+    /// Makes the machine one that an image can be written of: a process switch that waits is carried out, the active context is
+    /// stored with its process, the registers are fetched again from there, and what nothing supports is dropped. It does what
+    /// saving does from each state over births that the machine shows. Where that dies the machine is dead of that cause, and a
+    /// dead machine stays as it is.
+    pub fn save(&mut self) -> Result<(), Dead>
+        requires ready { self.old.death ≡ None
+            → IsReady (M.view self.old.memory) self.old.frame self.old.world }
+        ensures ready { self.new.death ≡ None
+            → IsReady (M.view self.new.memory) self.new.frame self.new.world }
+        ensures saves { let first = shown (M.view self.old.memory) self.old.frame self.old.world in
+            let last = shown (M.view self.new.memory) self.new.frame self.new.world in
+            self.old.death ≡ None → SavesFrom first result last }
+        ensures death { self.old.death ≡ None → self.new.death ≡ death_by result }
+        ensures dead { (cause : _) → self.old.death ≡ Some cause
+            → (result ≡ Err cause) × (self.new ≡ self.old) }
+    {
+        if let Some(cause) = self.death {
+            return Err(cause);
+        }
+        let saved = save(&mut self.memory, &mut self.frame, &mut self.world);
+        if let Err(cause) = saved {
+            self.death = Some(cause);
+        }
+        saved
     }
 
     /// The objects, to be changed.

@@ -1,13 +1,13 @@
-ghost use Rattle.std.specs.Prelude.{◌≡◌, ◌<◌};
+ghost use Rattle.std.specs.Prelude.{◌≡◌, ◌<◌, None};
 ghost use Rattle.st_frames.specs.Shown.{IsReady, shown};
-ghost use Rattle.st_machine.specs.Runs.{EndsFrom, CountsCycles, run_end};
+ghost use Rattle.st_machine.specs.Runs.{EndsFrom, CountsCycles, run_end, death_of};
 
 use crate::cycling::{CycleEnd, cycle};
 use crate::ending::RunEnd;
 use st_frames::Frame;
-use st_world::World;
 use st_memory::Memory;
 use st_model::{Dead, Outcome};
+use st_world::World;
 
 /// The end of the run whose cycle after so many ended so; none where the run goes on.
 fn run_end(end: Result<CycleEnd, Dead>, done: u32) -> Option<RunEnd>
@@ -41,8 +41,7 @@ pub fn run<M: Memory>(m: &mut M, f: &mut Frame, w: &mut World, n: u32) -> RunEnd
     requires ready { IsReady (M.view m.old) f.old w.old }
     ensures ends { EndsFrom n (shown (M.view m.old) f.old w.old)
         result (shown (M.view m.new) f.new w.new) }
-    ensures ready { IsReady (M.view m.new) f.new w.new }
-    ensures world { w.new ≡ w.old }
+    ensures ready { death_of result ≡ None → IsReady (M.view m.new) f.new w.new }
     ensures counts { CountsCycles n result }
 {
     for done in 0..n {

@@ -1,4 +1,3 @@
-use Rattle.std.proofs.Common.{◌≡◌}
 use Rattle.st_model.specs.Machine.{State}
 use Rattle.st_model.specs.Births.{Births}
 use Rattle.st_model.specs.Show.{Shows}
@@ -10,6 +9,5 @@ use Rattle.st_machine.proofs.running.run.Given as goal
 abbrev pub invariant-loop-done : goal.invariant-loop-done
 invariant-loop-done g l = record {
   ready : IsReady (g.M.Memory.view l.m) l.f l.w;
-  world : l.w ≡ l.fn.w;
   shows : (s : State Births) → Shows (shown (g.M.Memory.view l.fn.m) l.fn.f l.fn.w) s → SoFar l.done s (shown (g.M.Memory.view l.m) l.f l.w);
 }
