@@ -5,6 +5,7 @@ ghost use Rattle.st_model.specs.Show.{Shows};
 ghost use Rattle.st_model.specs.Text.{run_text};
 ghost use Rattle.st_frames.specs.Shown.{IsReady, shown};
 ghost use Rattle.st_report.specs.Saying.{Pushes};
+ghost use Rattle.st_machine.specs.Runs.{death_of};
 ghost use Rattle.st_once.specs.Ends.{goes_on, asked_text, end_text, ending_text};
 
 use st_frames::Frame;
@@ -86,7 +87,7 @@ fn push_run<H: Host, M: Memory>(
     finished: u32,
     end: RunEnd,
 ) -> Result<(), SayFault>
-    requires ready { IsReady (M.view m.now) f.now w.now }
+    requires ready { death_of end ≡ None → IsReady (M.view m.now) f.now w.now }
     ensures { let text = ending_text finished end (shown (M.view m.now) f.now w.now) in
         Pushes H.Host.own text host.old host.new out.old out.new result }
 {
