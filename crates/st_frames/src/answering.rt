@@ -1,4 +1,4 @@
-ghost use Rattle.std.specs.Prelude.{◌≡◌, ◌<◌, ◌≤◌, ◌+◌, ◌-◌, true};
+ghost use Rattle.std.specs.Prelude.{◌≡◌, ◌<◌, ◌≤◌, ◌+◌, ◌-◌, true, IfOk};
 ghost use Rattle.st_model.specs.Values.{word};
 ghost use Rattle.st_model.specs.Primitives.{pop_words, answer_with};
 ghost use Rattle.st_model.specs.Calls.{itself};
@@ -54,6 +54,7 @@ pub fn succeed_with<O: Objects>(
     requires room { 1 ≤ O.room m.old }
     ensures does { RowLeaves O.Objects.own (succeed_with O.names n (word answer))
         is_done deed_of_trial m.old r.old result m.new r.new }
+    ensures done { IfOk result (λ t. is_done t ≡ true) }
     ensures takes { Takes O.Objects.own 1 m.old m.new }
 {
     answer_with(m, r, n, answer)?;
@@ -72,6 +73,7 @@ pub fn succeed_leaving<O: Objects>(
     requires room { 1 ≤ O.room m.old }
     ensures does { RowFollows O.Objects.own answer.deed (succeed_with O.names n (word answer.word))
         is_done deed_of_trial m.old r.old result m.new r.new }
+    ensures done { IfOk result (λ t. is_done t ≡ true) }
     ensures takes { Takes O.Objects.own 1 m.old m.new }
 {
     answer_with(m, r, n, answer.word)?;

@@ -1,20 +1,19 @@
 -- What is done between bytecodes and makes nothing: it does the same where the table is bounded, leaves it sound, and the table
 -- shows the births again, also once both have reclaimed.
-use Rattle.std.proofs.Common.{◌≡◌, ◌≤◌, ℕ, refl, sym, ap, subst, inl, inr}
+use Rattle.std.proofs.Common.{◌≡◌, ◌≤◌, refl, sym, ap, subst, inl, inr}
 use Rattle.st_model.specs.Outcomes as outcome
 use Rattle.st_model.specs.Machine.{ObjectMemory, Head, State, Transition, Died, Went, Step}
 use Rattle.st_model.specs.Births.{Births, births}
 use Rattle.st_model.specs.Table.{Table, table, bounded_table}
 use Rattle.st_model.specs.Calls.{itself}
-use Rattle.st_model.specs.Settled.{reclaim}
-use Rattle.st_model.specs.Show.{Shows, IsClosed}
+use Rattle.st_model.specs.Show.{Shows}
 use Rattle.st_model.specs.Foreseen.{IsSound, ShownAgain}
 use Rattle.st_model.specs.Saving.{settled_after}
 use Rattle.st_model.specs.Values.{Value}
 use Rattle.st_model.specs.Processes.{switch_to_process}
 use Rattle.st_model.proofs.ProcessesSame.{switch_to_process-same}
 use Rattle.st_model.proofs.Names.{any_value}
-use Rattle.st_model.proofs.Same.{Simulation, StateSame, TransitionSame, Anything, SameAnswer, strict, strict_states}
+use Rattle.st_model.proofs.Same.{Simulation, TransitionSame, Anything, SameAnswer, strict, strict_states}
 use Rattle.st_model.proofs.HeapsSame.{cycle_simulation}
 use Rattle.st_model.proofs.Bounded.{bounded_simulation, bounded_start, state_is, value-itself}
 use Rattle.st_model.proofs.Closed.{sound_simulation, stays_sound}

@@ -1,7 +1,7 @@
 -- Blocks over births do the same over pointers: the conditions of their primitives, and their effects.
-use Rattle.std.proofs.Common.{◌≡◌, ℕ, Option, Some, None, Bool, refl}
+use Rattle.std.proofs.Common.{◌≡◌, ℕ, Option, Some, None, Bool}
 use Rattle.std.specs.Prelude.{◌||◌, ℤ}
-use Rattle.st_model.specs.Values.{Value, renamed}
+use Rattle.st_model.specs.Values.{Value}
 use Rattle.st_model.specs.Machine.{ObjectMemory}
 use Rattle.st_model.specs.Blocks.{check_context, home_of_block, fill_block, new_block, primitive_block_copy, start_of, enter_block, value_with_words, value_if_any, primitive_value, Passing, passing, value_with_fields, value_with_if_any, primitive_value_with, blocks}
 use Rattle.st_model.proofs.Same.{Simulation, ValueSame, SameValue, SameAnswer, steps_same}

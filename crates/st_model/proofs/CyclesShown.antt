@@ -1,28 +1,22 @@
 -- A running machine over a table does, cycle by cycle, what the births do that its table shows.
-use Rattle.std.proofs.Common.{◌≡◌, ℕ, zero, suc, ◌<◌, ◌≤◌, Bool, true, false, refl, sym, ◌∙◌, ap, subst, length, inl, inr}
-use Rattle.std.specs.Prelude.{IsTrue}
-use mathlib.Core.Path.{fun_ext}
+use Rattle.std.proofs.Common.{◌≡◌, ℕ, zero, suc, ◌≤◌, Bool, true, false, refl, sym, ◌∙◌, ap, subst, length, inl, inr}
 use Rattle.st_model.specs.declared.demand.Demand.{Demand}
-use Rattle.st_model.specs.Values.{Value, Small, Ref, renamed, IsLive}
 use Rattle.st_model.specs.Outcomes.{Outcome, StepEnd, Did, NotBuilt, is_built, Ending, With, Space, Unbuilt, renamed_outcome, renamed_ending, IsLiveOutcome, IsLiveEnding}
 use Rattle.st_model.specs.Outcomes as outcome
-use Rattle.st_model.specs.Machine.{Head, State, Transition, Died, Went, used, is_over, roots_of}
+use Rattle.st_model.specs.Machine.{Head, State, Transition, Died, Went, used, is_over}
 use Rattle.st_model.specs.Steps.{next_byte}
 use Rattle.st_model.specs.Bytecodes.{step}
-use Rattle.st_model.specs.Births.{Births, births, borne, settled_births, pointer_of}
-use Rattle.st_model.specs.Table.{Table, table, apart, bounded_table, entry}
-use Rattle.st_model.specs.Show.{Shows, IsClosed, IsUsed, IsKept}
-use Rattle.st_model.specs.Settled.{Reclaimed, with_memory, settled_set, reclaim}
+use Rattle.st_model.specs.Births.{Births, births, pointer_of}
+use Rattle.st_model.specs.Table.{Table, table, apart, bounded_table}
+use Rattle.st_model.specs.Show.{Shows, IsUsed, IsKept}
+use Rattle.st_model.specs.Settled.{reclaim}
 use Rattle.st_model.specs.Calls.{itself}
 use Rattle.st_model.specs.Cycles.{less, capacity_of, free_space, made_between, byte_answered, next_code, check_process_switch, warned, ended, done_or_not, cycle_from, cycle, and_on, run_of, run, counted, finished_of, finished}
 use Rattle.st_model.specs.Foreseen.{done, done_if_room, foreseen, foreseen_from, foreseen_cycle, IsSound, ShownAgain, EndsShown, Foretells, DoesAsBirths}
-use Rattle.st_model.proofs.Same.{StateSame, TransitionSame, Anything, IsLiveEnd, renamed_end}
+use Rattle.st_model.proofs.Same.{TransitionSame, Anything, IsLiveEnd, renamed_end}
 use Rattle.st_model.proofs.StepsSame.{next_byte-same}
 use Rattle.st_model.proofs.BytecodesSame.{step-same}
-use Rattle.st_model.proofs.TableLemmas.{entry_before}
-use Rattle.st_model.proofs.BirthLemmas.{borne_before}
-use Rattle.st_model.proofs.SettledLemmas.{some_is}
-use Rattle.st_model.proofs.HeapsSame.{Naming, cycle_simulation, same_used}
+use Rattle.st_model.proofs.HeapsSame.{cycle_simulation, same_used}
 use Rattle.st_model.proofs.Started.{naming, states_start, heaps_start}
 use Rattle.st_model.proofs.Reclaimed.{went_step}
 use Rattle.st_model.proofs.Outside.{warned_shown, warned_sound}
@@ -34,7 +28,6 @@ use Rattle.st_model.proofs.Closed.{step_sound}
 use Rattle.st_model.proofs.Going.{step_names_top}
 use Rattle.st_model.proofs.Reclaiming.{reclaim_sound, reclaim_head}
 use Rattle.st_model.proofs.OnTop.{outcome_stays}
-use Rattle.st_model.proofs.SettledIs.{settled_is, settled_once}
 
 -- what a bytecode leaves that is done from here is sound once it is reclaimed, and what its outcome names is still there
 abbrev LeavesSound : State Table → Type 0

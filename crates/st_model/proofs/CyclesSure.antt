@@ -1,7 +1,7 @@
 -- What is done before a bytecode, and what stores a process for an image, meets no name without an object.
 use Rattle.std.proofs.Common.{ℕ, zero, suc, Option, Some, None, Bool, true, false}
 use Rattle.st_model.specs.Values.{Value}
-use Rattle.st_model.specs.Objects.{Object, SchedulerAssociation}
+use Rattle.st_model.specs.Objects.{Object}
 use Rattle.st_model.specs.Machine.{Step}
 use Rattle.st_model.specs.Births.{Births}
 use Rattle.st_model.specs.Contexts.{scheduled_context, fetch_scheduled_registers}

@@ -16,7 +16,7 @@ use Rattle.st_model.specs.Table.{Table}
 use Rattle.st_model.specs.Show.{Shows, IsKept}
 use Rattle.st_model.specs.Methods.{extension_arguments, arguments_by_extension, arguments_by, method_arguments}
 use Rattle.st_model.specs.Sends.{Call}
-use Rattle.st_model.specs.Executing.{goes_on, answer_field, or_activate, say_or_activate, asks, respond_last, respond, respond_by_extension, execute_by, execute_performed, takes, execute_found, drop_selector, spread_array, perform_if, perform, primitive_perform, spreading, perform_with, primitive_perform_with, perform_or_activate, respond_or_perform, execute, executed, execute_if_any, executed_if_any}
+use Rattle.st_model.specs.Executing.{answer_field, or_activate, say_or_activate, asks, respond_last, respond, respond_by_extension, execute_by, execute_performed, takes, execute_found, drop_selector, spread_array, perform_if, perform, primitive_perform, spreading, perform_with, primitive_perform_with, perform_or_activate, respond_or_perform, execute, executed, execute_if_any, executed_if_any}
 use Rattle.st_model.specs.Returns.{calls, calls_nothing, cannot_return, return_into, return_to_context, return_to, return_to_sender, return_to_caller, must_be_boolean, jump_on}
 use Rattle.st_model.specs.Bytecodes.{fetch_receiver_variable, fetch_temporary_variable, fetch_literal_constant, fetch_literal_variable, fetch_operand, store_receiver_variable, store_temporary_variable, store_literal_variable, store_operand, constant_value, or_send, arithmetic_by, arithmetic_send, primitive_send, rows, bytecode, step}
 use Rattle.st_model.proofs.Names.{map_all, map_object}

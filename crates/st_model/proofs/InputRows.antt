@@ -1,8 +1,7 @@
 -- Worked rows of the primitives of input and output devices and of clocks, computed from the definitions. Receiver and
 -- arguments are the words on the stack; what is popped stays in its field.
-use Rattle.std.proofs.Common.{◌≡◌, ℕ, List, [], ◌∷◌, Some, None, Option, Bool, true, false, refl}
+use Rattle.std.proofs.Common.{◌≡◌, ℕ, List, [], ◌∷◌, None, Option, Bool, true, false, refl}
 use Rattle.std.specs.Prelude.{◌+◌, pos, length, replicate}
-use Rattle.st_model.specs.declared.kind.Kind.TheVariants as kind
 use Rattle.st_model.specs.Values.{Value, Small, Ref}
 use Rattle.st_model.specs.Objects.{Object, nil}
 use Rattle.st_model.specs.Machine.{State, World, Devices, Transition, Went, empty_world}

@@ -1,6 +1,6 @@
 -- What lies round a machine over a table that shows births is what lies round them, with references written as pointers; also
 -- once an event has come, or space is low.
-use Rattle.std.proofs.Common.{◌≡◌, ℕ, [], ◌∷◌, length, Option, Some, None, Bool, true, false, refl, sym, ◌∙◌, ap, subst, arith}
+use Rattle.std.proofs.Common.{◌≡◌, ℕ, length, Option, Some, None, Bool, true, false, refl, sym, ◌∙◌, ap, subst, arith}
 use Rattle.std.specs.Prelude.{◌==◌, ◌&&◌, not, nat_lt, nat_le, if◌then◌else◌}
 use Rattle.std.specs.Option.{option_map}
 use Rattle.std.proofs.lemmas.Bool.Decides.{nat_tests}
@@ -11,12 +11,12 @@ use Rattle.st_model.specs.declared.event.Event.TheVariants as events
 use Rattle.st_model.specs.declared.demand.Demand.{Demand}
 use Rattle.st_model.specs.Values.{Value, Small, Ref, renamed, IsLive, AllLive}
 use Rattle.st_model.specs.Objects.{NilObject, place_of}
-use Rattle.st_model.specs.Machine.{World, State, used, less, capacity_of, free_space, device_roots, head_roots}
+use Rattle.st_model.specs.Machine.{World, State, less, capacity_of, free_space, device_roots, head_roots}
 use Rattle.st_model.specs.Steps.{same_value}
 use Rattle.st_model.specs.Births.{Births, births, bearer, borne}
 use Rattle.st_model.specs.Table.{Table, table}
-use Rattle.st_model.specs.Show.{Shows, IsKept, IsUsed, IsClosed, pointer_of, renamed_world}
-use Rattle.st_model.specs.Surroundings.{Change, Hold, AddSignal, AddWord, MoveMouse, SetSecondClock, SetMillisecondClock, held_by, changed_world}
+use Rattle.st_model.specs.Show.{Shows, IsKept, IsUsed, pointer_of, renamed_world}
+use Rattle.st_model.specs.Surroundings.{Hold, AddSignal, AddWord, MoveMouse, SetSecondClock, SetMillisecondClock, held_by, changed_world}
 use Rattle.st_model.specs.Events.{is_held, signalled_once, has_signal_room, word_comes, is_due, time_comes, comes, in_world, event}
 use Rattle.st_model.specs.Cycles.{is_low, warned_if_low, warned}
 use Rattle.st_model.specs.Foreseen.{IsSound, ShownIfTaken}

@@ -9,7 +9,7 @@ use Rattle.st_model.specs.Objects.{Object, PageObject, NilObject, place_of, IsLi
 use Rattle.st_model.specs.Sends.{Call}
 use Rattle.st_model.specs.Machine.{ObjectMemory, Registers, State, Transition, Died, Went, Step, is_there, all_there, names_instance, first_instance, next_of, head_roots, roots_of, answer, die, after, ◌>>=◌, ◌>>◌, or_left, tried}
 use Rattle.st_model.specs.declared.device.Device.{Device}
-use Rattle.st_model.specs.Surroundings.{Change, Hold, AddSignal, TakeSignal, SetDue, SetLow, MoveMouse, TakeWord, changed_world, named_by}
+use Rattle.st_model.specs.Surroundings.{Change, Hold, AddSignal, TakeSignal, SetDue, SetLow, MoveMouse, TakeWord, named_by}
 use Rattle.st_model.specs.Births.{Birth, Births, births, births_with, or_object, object_born, replaced, is_borne, bearer, borne, born, least_free}
 use Rattle.st_model.specs.Steps.{exchanged_there, exchange_named, exchange, fit_units, units_set, set_units_at, set_units, get_device, newest_signal, count_signals, oldest_word, get_mouse_x, get_mouse_y, get_second_clock, get_millisecond_clock, world_changed, change_world, get_free, named_or_not, object_at, next_instance, get_active, get_home, get_method, get_receiver, get_ip, get_sp, set_ip, set_sp, found, object_named, object, stored_at, store_at, set_field, new_of, made, make_named, make, are_there, registers_set, set_registers, of_page}
 use Rattle.st_model.specs.Lookup.{pointer_if, half_word}

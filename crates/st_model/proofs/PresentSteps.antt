@@ -1,22 +1,13 @@
 -- Each definition of the machine meets no name without an object: it does the same over births where an object stands under
 -- each name. Each of these is found from its text, as that births and tables do the same is.
-use Rattle.std.proofs.Common.{◌≡◌, ℕ, ◌+◌, ◌-◌, ◌<◌, List, [], ◌∷◌, zero, suc, length, Option, Some, None, Bool, true, false, sym, ap, arith, inl, inr}
+use Rattle.std.proofs.Common.{ℕ, ◌+◌, ◌-◌, List, [], ◌∷◌, zero, suc, length, Option, Some, None, Bool, true, false, arith}
 use Rattle.std.specs.Prelude.{if◌then◌else◌, nat_lt, ℤ, pos, negsuc}
 use Rattle.st_model.specs.declared.dead.Dead.{Dead}
-use Rattle.st_model.specs.declared.bytecode.Operand.{Operand}
-use Rattle.st_model.specs.declared.bytecode.Operand.TheVariants.{ReceiverVariable, LiteralConstant}
-use Rattle.st_model.specs.declared.bytecode.Constant.{Constant}
-use Rattle.st_model.specs.declared.bytecode.Constant.TheVariants as constant
-use Rattle.st_model.specs.declared.bytecode.Bytecode.{Bytecode}
-use Rattle.st_model.specs.declared.bytecode.Bytecode.TheVariants as code
-use Rattle.st_model.specs.declared.call.Performing.{Performing}
 use Rattle.st_model.specs.Values.{Value, Small, Ref}
-use Rattle.st_model.specs.Objects.{Object, PageObject, NilObject, place_of, IsLiveObject}
+use Rattle.st_model.specs.Objects.{Object, PageObject, NilObject}
 use Rattle.st_model.specs.Outcomes.{StepEnd}
-use Rattle.st_model.specs.Machine.{Registers, State, Transition, Died, Went, Step, answer, roots_of}
-use Rattle.st_model.specs.Births.{Births, births, births_with, object_born}
-use Rattle.st_model.specs.Table.{Table}
-use Rattle.st_model.specs.Show.{Shows, IsKept}
+use Rattle.st_model.specs.Machine.{Registers, Step, answer}
+use Rattle.st_model.specs.Births.{Births}
 use Rattle.st_model.specs.Steps.{same_value, fetch_kind, fetch_size, fetch_bytes, store_bytes, new_object, class_of, or_die, check, fetch_field, store_field, integer_or_die, fetch_integer, count_fields, fetch_fields, store_fields, fetch_word, fetch_byte, store_word, store_byte, transfer, put, push, top, under, look_at_words, drop_words, pop, literal, fetch_method_field, store_method_field, byte_at, next_byte, jump}
 use Rattle.st_model.specs.Methods.{from_last, method_header, literal_from_last, primitive_number, method_primitive}
 use Rattle.st_model.specs.Contexts.{home_by, home_of, stack_place, fetch_stack_pointer, context_registers, fetch_context_registers, store_context_registers, switch, fill_context, new_context, pass_words, activate}
@@ -29,12 +20,7 @@ use Rattle.st_model.specs.Storage.{count_literals, first_by, first_place, place_
 use Rattle.st_model.specs.declared.kind.Kind.{Kind}
 use Rattle.st_model.specs.declared.kind.Kind.TheVariants as kind
 use Rattle.st_model.specs.Arithmetic.{new_point, value_of_answer, integer_under, integer_answer, arithmetic, equivalence, receiver_class, flush_cache}
-use Rattle.st_model.specs.Executing.{goes_on, answer_field, or_activate, say_or_activate, respond, respond_by_extension, execute_by, execute, executed, execute_if_any, executed_if_any}
-use Rattle.st_model.specs.Returns.{calls, calls_nothing, cannot_return, return_into, return_to_context, return_to, return_to_sender, return_to_caller, must_be_boolean, jump_on}
-use Rattle.st_model.specs.Bytecodes.{fetch_receiver_variable, fetch_temporary_variable, fetch_literal_constant, fetch_literal_variable, fetch_operand, store_receiver_variable, store_temporary_variable, store_literal_variable, store_operand, constant_value, or_send, arithmetic_by, arithmetic_send, primitive_send, rows, bytecode, step}
-use Rattle.st_model.proofs.Names.{map_all, map_object}
-use Rattle.st_model.proofs.BirthLemmas.{borne_before, object_within}
-use Rattle.st_model.proofs.Started.{lives}
+use Rattle.st_model.specs.Executing.{goes_on}
 use Rattle.st_model.proofs.Present as at
 use Rattle.st_model.proofs.Present.{bare, full, then_value-sure, then_values-sure, then_option-sure, then_object-sure, then_registers-sure, then_call-sure, then_any_call-sure, then_answer-sure, then_unit-sure, if-sure, die-sure, later_value, later_values, later_option, later_object, later_call, small_there, small_integer_there, class_there, field_there, none_there, some_there, no_values_there, values_there, registers_there, method_there, answer_value-sure, answer_values-sure, answer_option-sure, answer_registers-sure, answer_call-sure, answer_some_call-sure, answer_no_call-sure, answer_itself-sure, get_active-sure, get_home-sure, get_method-sure, get_receiver-sure, get_ip-sure, get_sp-sure, set_ip-sure, set_sp-sure, of_page-sure, object_named-sure, object-sure, set_field-sure, make-sure, set_registers-sure, half_word-sure, exchange-sure, set_units-sure, get_device-sure, newest_signal-sure, count_signals-sure, oldest_word-sure, get_mouse_x-sure, get_mouse_y-sure, get_second_clock-sure, get_millisecond_clock-sure, hold_there, add_signal_there, take_signal_there, set_due_there, set_low_there, move_mouse_there, take_word_there, change_world-sure, get_free-sure, object_at-sure, next_instance-sure, tried_value-sure, tried_itself-sure}
 

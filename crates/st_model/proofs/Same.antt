@@ -17,7 +17,7 @@ use Rattle.st_model.specs.declared.device.Device.{Device}
 use Rattle.st_model.specs.Surroundings.{Change, Hold, AddSignal, TakeSignal, SetDue, SetLow, MoveMouse, AddWord, TakeWord, SetSecondClock, SetMillisecondClock, named_by, renamed_change}
 use Rattle.st_model.specs.Calls.{itself}
 use Rattle.st_model.specs.Show.{renamed_registers, renamed_world, renamed_head, renamed_option}
-use Rattle.st_model.specs.Machine.{ObjectMemory, Registers, World, Head, State, Transition, Died, Went, Step, is_there, all_there, device_roots, has_room, used, roots_of, answer, die, after, ◌>>=◌, ◌>>◌, or_left, tried}
+use Rattle.st_model.specs.Machine.{ObjectMemory, Registers, Head, State, Transition, Died, Went, Step, is_there, all_there, has_room, used, roots_of, answer, die, after, ◌>>=◌, ◌>>◌, or_left, tried}
 
 pub set_all_live : (live : ℕ → Type 0) (vs : List Value) (i : ℕ) (v : Value) → AllLive live vs → IsLive live v → AllLive live (slice_set vs i v)
 set_all_live live [] i v h k = h

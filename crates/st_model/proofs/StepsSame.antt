@@ -7,11 +7,11 @@ use Rattle.st_model.specs.declared.kind.Kind.{Kind}
 use Rattle.st_model.specs.declared.kind.Kind.TheVariants as kind
 use Rattle.st_model.specs.Values.{Value, Small, Ref, renamed, renamed_all, IsLive, AllLive}
 use Rattle.st_model.specs.Objects.{Object, PageObject, NilObject, renamed_object, IsLiveObject, words_of, size_of, with_field, with_units}
-use Rattle.st_model.specs.Machine.{ObjectMemory, Registers, State, is_there, all_there, is_of_class, names_instance, first_instance, next_of, has_room, less, capacity_of, head_roots, device_roots, roots_of, answer, die}
+use Rattle.st_model.specs.Machine.{ObjectMemory, Registers, State, is_there, all_there, is_of_class, names_instance, first_instance, next_of, has_room, less, capacity_of, head_roots, roots_of, answer, die}
 use Rattle.st_model.specs.declared.device.Device.{Device}
 use Rattle.st_model.specs.Surroundings.{Change, held_by, newest_of, changed_world, named_by, renamed_change}
 use Rattle.st_model.specs.Formed.{fresh_with}
-use Rattle.st_model.specs.Show.{renamed_registers, renamed_world, renamed_option}
+use Rattle.st_model.specs.Show.{renamed_registers, renamed_option}
 use Rattle.std.specs.Option.{option_map}
 use Rattle.std.proofs.lemmas.Bool.Decides.{nat_tests}
 use Rattle.st_model.specs.Steps.{get_active, get_home, get_method, get_receiver, get_ip, get_sp, set_ip, set_sp, found, object_named, object, stored_at, store_at, set_field, exchanged_there, exchange_named, exchange, fit_units, units_set, set_units_at, set_units, get_device, newest_signal, count_signals, oldest_word, count_words, get_mouse_x, get_mouse_y, get_second_clock, get_millisecond_clock, world_changed, change_world, get_free, named_or_not, object_at, next_instance, fetch_kind, fetch_size, fetch_bytes, store_bytes, fetch_word, store_word, fetch_byte, store_byte, made, make_named, make, registers_set, set_registers, new_of, are_there, of_page, new_object, class_of, or_die, check, fetch_field, store_field, integer_or_die, fetch_integer, count_fields, fetch_fields, store_fields, transfer, put, push, under, look_at_words, drop_words, top, pop, literal, fetch_method_field, store_method_field, byte_at, next_byte, jump}

@@ -1,5 +1,5 @@
 -- What lies round the machine: what it holds lives through each change, and stands for the same over pointers.
-use Rattle.std.proofs.Common.{◌≡◌, ℕ, List, [], ◌∷◌, zero, suc, Option, refl, ap, ◌∙◌, length}
+use Rattle.std.proofs.Common.{◌≡◌, ℕ, List, [], ◌∷◌, zero, suc, refl, ap, ◌∙◌, length}
 use Rattle.std.specs.Prelude.{◌-◌, ◌++◌, take, slice_get}
 use Rattle.st_model.specs.declared.device.Device.{Device}
 use Rattle.st_model.specs.declared.device.Device.TheVariants as device

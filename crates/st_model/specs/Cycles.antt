@@ -1,6 +1,6 @@
 -- Cycles and runs as functions: what is pending, a process that waits, a bytecode, the test for space, reclaiming, and the
 -- warning that space is low (chapters 28, 29 and 30).
-use Rattle.std.specs.Prelude.{ℕ, zero, suc, Option, Some, None, Bool, true, false, ◌&&◌, ◌||◌, not, length, nat_lt, if◌then◌else◌}
+use Rattle.std.specs.Prelude.{ℕ, zero, suc, Option, Some, None, Bool, true, false, ◌&&◌, ◌||◌, length, nat_lt, if◌then◌else◌}
 use Rattle.st_model.specs.declared.demand.Demand.{Demand}
 use Rattle.st_model.specs.Outcomes.{Outcome, StepEnd, Did, NotBuilt, Ending, With, Space, Unbuilt}
 use Rattle.st_model.specs.Outcomes as outcome

@@ -1,5 +1,5 @@
 -- The primitives of the input and output devices and of the clocks (chapter 29).
-use Rattle.std.specs.Prelude.{ℕ, ◌+◌, ◌/◌, ◌%◌, ◌==◌, ◌&&◌, ◌||◌, List, [], ◌∷◌, length, Bool, true, false, nat_lt, nat_le, if◌then◌else◌, pos}
+use Rattle.std.specs.Prelude.{ℕ, ◌/◌, ◌%◌, ◌==◌, ◌&&◌, ◌||◌, List, [], ◌∷◌, length, Bool, false, nat_lt, nat_le, if◌then◌else◌, pos}
 use Rattle.st_model.specs.declared.dead.Dead.TheVariants as dead
 use Rattle.st_model.specs.declared.device.Device.{Device}
 use Rattle.st_model.specs.declared.device.Device.TheVariants as device

@@ -11,13 +11,3 @@ pub struct Call {
     pub arguments: u32,
     pub ghost few: { arguments < 16384 },
 }
-
-/// Whether primitives 83 and 84, which perform a selector, may still be tried. Both aren't built, so that nothing depends on it
-/// yet.
-#[derive(Clone, Copy)]
-pub enum Performing {
-    /// They may.
-    Allowed,
-    /// One of them has performed in this bytecode, and both fail for the rest of it.
-    Spent,
-}

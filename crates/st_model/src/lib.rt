@@ -33,7 +33,7 @@ mod tried;
 mod word;
 
 pub use bytecode::{Bytecode, Constant, Operand, decode, extended_operand};
-pub use call::{Call, Performing};
+pub use call::Call;
 pub use dead::Dead;
 pub use deed::Deed;
 pub use demand::Demand;

@@ -3,7 +3,7 @@ ghost use Rattle.st_model.specs.Processes.{processes};
 ghost use Rattle.st_model.specs.Input.{input};
 ghost use Rattle.st_model.specs.Deeds.{is_done, deed_of_trial};
 ghost use Rattle.st_process.specs.Numbers.{process_takes, input_takes};
-ghost use Rattle.st_frames.specs.Rows.{RowLeaves, Takes};
+ghost use Rattle.st_frames.specs.Rows.{RowLeaves, Takes, tried_changes, process_changes};
 
 use crate::clocks::{primitive_millisecond_clock, primitive_second_clock};
 use crate::devices::{
@@ -39,10 +39,10 @@ pub fn try_process<O: Objects>(
     primitive: u32,
     arguments: u32,
 ) -> Result<Tried, Dead>
-    requires room { 7 ≤ O.room m.old }
+    requires room { process_changes ≤ O.room m.old }
     ensures does { RowLeaves O.Objects.own (processes O.names primitive arguments)
         is_done deed_of_trial m.old r.old result m.new r.new }
-    ensures takes { Takes O.Objects.own 7 m.old m.new }
+    ensures takes { Takes O.Objects.own (tried_changes process_changes result) m.old m.new }
 {
     if !process_takes(primitive, arguments) {
         return Ok(Tried::Failed);
@@ -86,10 +86,10 @@ pub fn try_input<O: Objects>(
     primitive: u32,
     arguments: u32,
 ) -> Result<Tried, Dead>
-    requires room { 7 ≤ O.room m.old }
+    requires room { process_changes ≤ O.room m.old }
     ensures does { RowLeaves O.Objects.own (input O.names primitive arguments)
         is_done deed_of_trial m.old r.old result m.new r.new }
-    ensures takes { Takes O.Objects.own 7 m.old m.new }
+    ensures takes { Takes O.Objects.own (tried_changes process_changes result) m.old m.new }
 {
     if !input_takes(primitive, arguments) {
         return Ok(Tried::Failed);
