@@ -9,11 +9,11 @@ ghost use Rattle.st_machine.specs.Runs.{death_of};
 ghost use Rattle.st_once.specs.Ends.{goes_on, asked_text, end_text, ending_text};
 
 use st_frames::Frame;
-use st_world::World;
 use st_machine::{Machine, RunEnd};
 use st_memory::Memory;
 use st_outside::{Host, SayFault};
 use st_report::{Output, push_line, push_said, push_state};
+use st_world::World;
 
 /// Whether a run goes on after the cycle that ended so.
 fn goes_on(end: RunEnd) -> bool
