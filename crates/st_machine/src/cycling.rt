@@ -68,10 +68,10 @@ fn warn<M: Memory>(m: &mut M, w: &mut World)
     ensures objects { (M.view m.new).objects ≡ (M.view m.old).objects }
     ensures head { (M.view m.new).head ≡ (M.view m.old).head }
 {
-    if !w.holds(Device::LowSpace) {
+    if w.is_quiet() {
         return;
     }
-    if is_low(free_space(m), w) && w.has_signal_room() {
+    if w.holds(Device::LowSpace) && is_low(free_space(m), w) && w.has_signal_room() {
         signal_once(m, w, Device::LowSpace);
     }
 }

@@ -12,10 +12,10 @@ ghost use Rattle.st_once.specs.Ends.{IsReadable, IsRefusal, RefusalHasCause};
 use crate::refusal::Refusal;
 use st_frames::Loaded;
 use st_image::{HeadValues, ReadImage, read};
-use st_world::World;
 use st_machine::Machine;
 use st_memory::Loader;
 use st_outside::{Host, file_length, read_from};
+use st_world::World;
 use std::alloc::Global;
 
 /// The most bytes that an image file may have, 2^23.

@@ -5,14 +5,15 @@ ghost use Rattle.st_model.specs.Show.{Shows};
 ghost use Rattle.st_model.specs.Text.{run_text};
 ghost use Rattle.st_frames.specs.Shown.{IsReady, shown};
 ghost use Rattle.st_report.specs.Saying.{Pushes};
+ghost use Rattle.st_machine.specs.Runs.{death_of};
 ghost use Rattle.st_once.specs.Ends.{goes_on, asked_text, end_text, ending_text};
 
 use st_frames::Frame;
-use st_world::World;
 use st_machine::{Machine, RunEnd};
 use st_memory::Memory;
 use st_outside::{Host, SayFault};
 use st_report::{Output, push_line, push_said, push_state};
+use st_world::World;
 
 /// Whether a run goes on after the cycle that ended so.
 fn goes_on(end: RunEnd) -> bool
@@ -86,7 +87,7 @@ fn push_run<H: Host, M: Memory>(
     finished: u32,
     end: RunEnd,
 ) -> Result<(), SayFault>
-    requires ready { IsReady (M.view m.now) f.now w.now }
+    requires ready { death_of end ≡ None → IsReady (M.view m.now) f.now w.now }
     ensures { let text = ending_text finished end (shown (M.view m.now) f.now w.now) in
         Pushes H.Host.own text host.old host.new out.old out.new result }
 {

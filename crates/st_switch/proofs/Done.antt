@@ -21,6 +21,7 @@ use Rattle.st_model.proofs.Between.{as_table, switched_sound}
 use Rattle.st_model.proofs.ContextsSame.{fetch_scheduled_registers-same}
 use Rattle.st_frames.specs.Narrow.{IsNarrow}
 use Rattle.st_frames.proofs.Closed.{is_closed}
+use Rattle.st_model.specs.Events.{is_held}
 use Rattle.st_model.specs.Calls.{itself, transition_of}
 use Rattle.st_model.specs.Deeds.{deed_done, world_done, with_deed}
 use Rattle.st_model.specs.Processes.{signal, enter_process, leave_process, switch_to_process}
@@ -226,3 +227,25 @@ signals_die s k e = next_dies (signal_newest bounded_table (length s.world.devic
 pub signals_made : (s t : State Table) → (signal_newest bounded_table (length s.world.devices.pending)).run s ≡ Went tt t → (check_process_switch bounded_table).run s ≡ (switch_if_waiting bounded_table).run t
 unfolding check_process_switch count_signals ◌>>=◌ after
 signals_made s t e = next_goes (signal_newest bounded_table (length s.world.devices.pending)) (switch_if_waiting bounded_table) s t e
+
+quiet_parts : (a b c : Bool) → (a && (b && c)) ≡ true → (a ≡ true) × (b ≡ true)
+quiet_parts true true c e = (refl, refl)
+quiet_parts true false c e = cc
+quiet_parts false b c e = cc
+
+no_signals : (xs : List Value) → (length xs == 0) ≡ true → length xs ≡ 0
+no_signals [] e = refl
+no_signals (x ∷ xs) e = grind (arith, nat_tests, e)
+
+-- nothing comes before a bytecode where nothing is asked
+pub quiet_goes : (s : State Table) → (length s.world.devices.pending == 0 && (not (is_held nil s.world.devices.new_process) && not (is_held nil s.world.devices.low_space))) ≡ true
+    → (check_process_switch bounded_table).run s ≡ Went tt s
+quiet_goes s e =
+    let p = quiet_parts (length s.world.devices.pending == 0) (not (is_held nil s.world.devices.new_process)) (not (is_held nil s.world.devices.low_space)) e in
+    let none : (signal_newest bounded_table (length s.world.devices.pending)).run s ≡ Went tt s =
+    ap (λ (n : ℕ). (signal_newest bounded_table n).run s) (no_signals s.world.devices.pending p.0) ∙ none_left s in
+    signals_made s s none ∙ waits_not s (held_not (is_held nil s.world.devices.new_process) p.1)
+  where
+    held_not : (b : Bool) → not b ≡ true → b ≡ false
+    held_not true f = cc
+    held_not false f = refl

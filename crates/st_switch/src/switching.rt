@@ -63,6 +63,9 @@ pub fn check_process_switch<M: Memory>(m: &mut M, f: &mut Frame, w: &mut World) 
         (shown (M.view m.old) f.old w.old) result (shown (M.view m.new) f.new w.new) }
     ensures ready { OnOk result (IsReady (M.view m.new) f.new w.new) }
 {
+    if w.is_quiet() {
+        return Ok(());
+    }
     signal_newest(m, f, w)?;
     switch_if_waiting(m, f, w)
 }

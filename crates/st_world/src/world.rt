@@ -1,4 +1,4 @@
-ghost use Rattle.std.specs.Prelude.{◌≡◌, ◌<◌, ◌≤◌, map, length, slice_get, IfOk};
+ghost use Rattle.std.specs.Prelude.{◌≡◌, ◌<◌, ◌≤◌, ◌==◌, ◌&&◌, not, map, length, slice_get, IfOk};
 ghost use Rattle.std.specs.Option.{option_map};
 ghost use Rattle.st_model.specs.Values.{value};
 ghost use Rattle.st_model.specs.Objects.{nil};
@@ -224,6 +224,18 @@ impl World {
         ensures { self.new ≡ changed_world (AddSignal (value semaphore)) self.old }
     {
         let _replaced = self.pending.push_back(semaphore);
+    }
+
+    /// Whether nothing is asked of a cycle besides its bytecode: no signal is pending, no process waits to be switched to, and no
+    /// semaphore is held for low space. It is one test for all three.
+    pub fn is_quiet(&self) -> bool
+        ensures { let devices = self.now.devices in
+            result ≡ (length devices.pending == 0
+            && (not (is_held nil devices.new_process) && not (is_held nil devices.low_space))) }
+    {
+        let waits = u32::from(self.holds(Device::NewProcess));
+        let warns = u32::from(self.holds(Device::LowSpace));
+        self.pending_count() + waits + warns == 0
     }
 
     /// The newest pending signal is taken away.

@@ -57,7 +57,7 @@ loop-out-preserved g c =
     let count = c.finished-finished.ensures in
     let few = c.loop-out.invariant.few in
     record {
-      ready = c.run-end.ensures.left alive;
+      ready = c.run-end.ensures.ready (c.run-end.ensures.death alive ∙ living e goes);
       alive = c.run-end.ensures.death alive ∙ living e goes;
       few = omega (arith, most, count, few);
       said = λ s h.

@@ -1,4 +1,4 @@
-use Rattle.std.proofs.Common.{◌≡◌, ℕ, refl}
+use Rattle.std.proofs.Common.{◌≡◌, ℕ, None, refl}
 use Rattle.st_model.specs.declared.dead.Dead.{Dead}
 use Rattle.st_model.specs.Machine.{State}
 use Rattle.st_model.specs.Table.{Table}
@@ -7,6 +7,7 @@ use Rattle.st_frames.specs.Shown.{shown}
 use Rattle.st_report.proofs.Pushing.{push_then, push_begun, push_as}
 use Rattle.st_machine.specs.declared.ending.RunEnd.{RunEnd}
 use Rattle.st_machine.specs.declared.ending.RunEnd.TheVariants as end
+use Rattle.st_machine.specs.Runs.{death_of}
 use Rattle.st_once.specs.Ends.{rest_text}
 use Rattle.st_once.proofs.report.push_run.Goals as goal
 
@@ -20,6 +21,19 @@ alive (end.Quit done) s h = refl
 alive (end.Debugger done) s h = refl
 alive (end.Dead done cause) s h = absurd (h done cause refl)
 alive (end.Unbuilt done code) s h = refl
+
+no_death : (e : RunEnd) → ((done : ℕ) (cause : Dead) → e ≡ end.Dead done cause → ⊥) → death_of e ≡ None
+no_death end.Ran h = refl
+no_death (end.Space done demand entries words) h = refl
+no_death (end.Snapshot done) h = refl
+no_death (end.Say done o) h = refl
+no_death (end.Quit done) h = refl
+no_death (end.Debugger done) h = refl
+no_death (end.Dead done cause) h = absurd (h done cause refl)
+no_death (end.Unbuilt done code) h = refl
+
+pub push_state-requires : goal.push_state-requires
+push_state-requires g c = c.requires.ready (no_death c.args.end c.in_default.not-Dead)
 
 pub returns-in_err-push_end : goal.returns-in_err-push_end
 returns-in_err-push_end g c = push_begun _ c.from_residual.ensures.0 c.in_err-push_end.ensures

@@ -3,7 +3,7 @@ use Rattle.st_model.specs.Table.{bounded_table}
 use Rattle.st_model.specs.Cycles.{check_process_switch}
 use Rattle.st_model.specs.Calls.{Does, itself}
 use Rattle.st_frames.specs.Shown.{shown}
-use Rattle.st_switch.proofs.Done.{signals_die, signals_made}
+use Rattle.st_switch.proofs.Done.{signals_die, signals_made, quiet_goes}
 use Rattle.st_switch.proofs.switching.check_process_switch.Goals as goal
 
 pub returns-in_err-signal_newest-clause-does : goal.returns-in_err-signal_newest-clause-does
@@ -18,3 +18,6 @@ returns-clause-does g c =
     let s = shown (g.M.Memory.view c.args.m.now) c.args.f.now c.args.w.now in
     let t = shown (g.M.Memory.view c.signal_newest.new.m) c.args.f.now c.signal_newest.new.w in
     signals_made s t c.in_ok-signal_newest.ensures.does ∙ c.switch_if_waiting.ensures.does
+
+pub returns-then-is_quiet-clause-does : goal.returns-then-is_quiet-clause-does
+returns-then-is_quiet-clause-does g c = quiet_goes (shown (g.M.Memory.view c.args.m.now) c.args.f.now c.args.w.now) (sym c.if-is_quiet.ensures)
