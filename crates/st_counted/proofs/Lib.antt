@@ -5,4 +5,5 @@ mod Rooting
 mod Sizes
 mod Storing
 mod Swept
+mod Taking
 mod Tallying

@@ -49,7 +49,7 @@ object_from s = record {
 abbrev pub objects_in : List (Option Stored) → Table
 objects_in all = map (option_map object_from) all
 
--- The first word is the number of words, the second names a class, and the fields are within. Only what has bytes is odd.
+-- The first word is the number of words, the second names a class, and the fields are within. Only what has units is odd.
 pub record IsSound (s : Stored) : Type 0 where
   pub size : cell s 0 ≡ length s.cells
   pub small : length s.cells ≤ 65535

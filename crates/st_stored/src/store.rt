@@ -20,7 +20,7 @@ pub struct Store {
     table: Table,
     /// How many blocks there are, and how many words they have.
     pub used: Demand,
-    ghost tied: { AreTied table (blocks_of heap) },
+    pub ghost tied: { AreTied table (blocks_of heap) },
     pub ghost places: { length table ≡ 32768 },
     pub ghost counted: { used ≡ used_of (stored_all (words_of heap) (blocks_of heap) table) },
     ghost held: { held (blocks_of heap) ≡ used.words },
