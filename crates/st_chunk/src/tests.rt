@@ -36,11 +36,12 @@ fn told(alloc: Global, text: &[u8]) -> Result<String, AllocError> {
 }
 
 /// What stands first in a text, how many `x` stand behind it, what stands last, and what is told.
-const TEXTS: [(&[u8], usize, &[u8], &str); 5] = [
+const TEXTS: [(&[u8], usize, &[u8], &str); 6] = [
     (b"a!b!!c! ", 0, b"", "Chunk 1 a; Chunk 3 b!c; More 1  ; "),
     (b"", 65_536, b"!", "Chunk 65536 xxx; "),
     (b"", 65_536, b"!y", "Chunk 65536 xxx; More 1 y; "),
     (b"", 65_537, b"", "Long 65536 xxx; "),
+    (b"", 65_536, b"!!", "Long 65536 xxx; "),
     (b"!!", 65_535, b"!", "Chunk 65536 !xx; "),
 ];
 

@@ -18,7 +18,7 @@ use st_tree::{MethodTree, Text};
 use std::alloc::{AllocError, Global};
 
 /// A method: its selector, header, literals and bytes. A header with flag 7 has its extension among the literals.
-#[derive(Debug, Drop)]
+#[derive(Drop)]
 pub struct MethodParts {
     pub selector: Text,
     pub header: u16,

@@ -13,8 +13,7 @@ use std::alloc::{AllocError, Global};
 pub type LiteralList = Vec<Literal>;
 
 /// A literal. `Named` is an association, nil, false or true, and `Owner` the association of the method's class.
-#[derive(Debug, Drop)]
-#[cycle(literal)]
+#[derive(Drop)]
 pub enum Literal {
     Number { minus: bool, size: u128 },
     Character(u8),

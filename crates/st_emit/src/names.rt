@@ -18,7 +18,7 @@ pub type NamedOops = Vec<(Text, Oop)>;
 
 /// The names of a class: its instance variables in order, what its pools and the globals share, and whether the image
 /// has a symbol table.
-#[derive(Debug, Drop)]
+#[derive(Drop)]
 pub struct Names {
     pub fields: TextList,
     pub shared: NamedOops,

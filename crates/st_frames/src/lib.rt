@@ -31,5 +31,5 @@ pub use numbers::{
     bits_or_die, check_bytes, check_class, number_read, positive_small, positive_value,
 };
 pub use registers::Registers;
-pub use stack::{drop_words, jump, look_at_words, pop, push, top, under};
+pub use stack::{drop_words, jump, look_at_words, pop, push, set_stack_pointer, top, under};
 pub use words::{small, small_integer};

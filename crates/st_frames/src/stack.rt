@@ -29,7 +29,7 @@ fn put<O: Objects>(m: &mut O, r: &Registers, context: Word, at: u32, x: Word) ->
 
 /// Moves the top of the stack to a place of the active context.
 #[tactic(auto, unfolding(crate::specs::Rows::row_state, st_model::specs::Steps::set_sp))]
-fn set_stack_pointer<O: Objects>(m: &O, r: &mut Registers, sp: u32)
+pub fn set_stack_pointer<O: Objects>(m: &O, r: &mut Registers, sp: u32)
     requires low { 5 ≤ sp }
     requires high { sp ≤ 16388 }
     ensures does { RowMoves O.Objects.own (set_sp sp) itself m.now r.old (Ok tt) r.new }

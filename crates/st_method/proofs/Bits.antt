@@ -5,7 +5,7 @@ use Rattle.st_model.specs.Values.{Value, Small, Ref, value_of, is_small}
 use Rattle.st_model.specs.declared.dead.Dead.TheVariants as dead
 use Rattle.st_model.specs.Machine.{State, Died, Went, answer, die}
 use Rattle.st_model.specs.Formed.{literals_of}
-use Rattle.st_model.specs.Methods.{bits_of, literal_count, primitive_number}
+use Rattle.st_model.specs.Methods.{bits_of, literal_count, primitive_number, extension_arguments}
 use Rattle.st_model.specs.Table.{Table}
 
 bits_small : (b : Bool) (n : ℕ) → is_small (if b then Small n else Ref n) ≡ true → bits_of (if b then Small n else Ref n) ≡ n
@@ -63,3 +63,25 @@ unfolding value_of
 primitive-large w s e = primitive_large (w % 2 == 1) (w / 2) s e
 
 pub ruleset primitives = (primitive-small, primitive-large)
+
+-- the number of arguments that a header extension names
+
+arguments_small : (b : Bool) (n : ℕ) (s : State Table) → is_small (if b then Small n else Ref n) ≡ true → (extension_arguments (if b then Small n else Ref n)).run s ≡ Went (n / 256 % 32) s
+unfolding extension_arguments answer
+arguments_small true n s e = refl
+arguments_small false n s e = cc
+
+arguments_large : (b : Bool) (n : ℕ) (s : State Table) → is_small (if b then Small n else Ref n) ≡ false → (extension_arguments (if b then Small n else Ref n)).run s ≡ Died dead.NotSmall
+unfolding extension_arguments die
+arguments_large true n s e = cc
+arguments_large false n s e = refl
+
+pub arguments-small : (w : ℕ) (s : State Table) → is_small (value_of w) ≡ true → (extension_arguments (value_of w)).run s ≡ Went (w / 2 / 256 % 32) s
+unfolding value_of
+arguments-small w s e = arguments_small (w % 2 == 1) (w / 2) s e
+
+pub arguments-large : (w : ℕ) (s : State Table) → is_small (value_of w) ≡ false → (extension_arguments (value_of w)).run s ≡ Died dead.NotSmall
+unfolding value_of
+arguments-large w s e = arguments_large (w % 2 == 1) (w / 2) s e
+
+pub ruleset arguments = (arguments-small, arguments-large)

@@ -9,4 +9,4 @@ pub mod Taking
 pub mod ByNumber
 pub mod ProcessTries
 pub mod InputTries
-pub mod Room
+pub mod Taken

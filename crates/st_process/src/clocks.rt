@@ -1,10 +1,10 @@
-ghost use Rattle.std.specs.Prelude.{◌≡◌, ◌≤◌, ◌+◌, IfOk, true};
+ghost use Rattle.std.specs.Prelude.{◌≡◌, ◌≤◌, ◌+◌};
 ghost use Rattle.st_model.specs.Values.{word};
 ghost use Rattle.st_model.specs.Input.{check_four_bytes, store_time, store_seconds, primitive_second_clock, store_milliseconds, primitive_millisecond_clock};
 ghost use Rattle.st_model.specs.Calls.{itself};
 ghost use Rattle.st_model.specs.Deeds.{is_done, deed_of_trial};
 ghost use Rattle.st_frames.specs.Answering.{succeed_by, answer_word, answer_deed};
-ghost use Rattle.st_frames.specs.Rows.{RowReads, RowLeaves, Takes, tried_changes, process_changes};
+ghost use Rattle.st_frames.specs.Rows.{RowReads, RowLeaves, Takes};
 
 use st_frames::{Answer, Registers, check_bytes, find_bytes, succeed_leaving, top, under};
 use st_memory::Objects;
@@ -54,7 +54,6 @@ fn answer_seconds<O: Objects>(
     ensures does { RowLeaves O.Objects.own
         (succeed_by O.names 1 (store_seconds O.names (word object) (word receiver)))
         is_done deed_of_trial m.old r.old result m.new r.new }
-    ensures done { IfOk result (λ t. is_done t ≡ true) }
     ensures takes { Takes O.Objects.own 1 m.old m.new }
 {
     let answer = store_time(m, r, object, r.world.second_clock(), receiver)?;
@@ -62,12 +61,12 @@ fn answer_seconds<O: Objects>(
 }
 
 /// Primitive 98: the first four bytes of the argument become the second clock.
-#[tactic(auto, using(st_frames::proofs::Tries::effects, crate::proofs::Room::room), unfolding(st_model::specs::Input::primitive_second_clock))]
+#[tactic(auto, using(st_frames::proofs::Tries::effects), unfolding(st_model::specs::Input::primitive_second_clock))]
 pub fn primitive_second_clock<O: Objects>(m: &mut O, r: &mut Registers) -> Result<Tried, Dead>
-    requires room { process_changes ≤ O.room m.old }
+    requires room { 1 ≤ O.room m.old }
     ensures does { RowLeaves O.Objects.own (primitive_second_clock O.names)
         is_done deed_of_trial m.old r.old result m.new r.new }
-    ensures takes { Takes O.Objects.own (tried_changes process_changes result) m.old m.new }
+    ensures takes { Takes O.Objects.own 1 m.old m.new }
 {
     let receiver = under(m, r, 1)?;
     let argument = top(m, r)?;
@@ -89,7 +88,6 @@ fn answer_milliseconds<O: Objects>(
     ensures does { RowLeaves O.Objects.own
         (succeed_by O.names 1 (store_milliseconds O.names (word object) (word receiver)))
         is_done deed_of_trial m.old r.old result m.new r.new }
-    ensures done { IfOk result (λ t. is_done t ≡ true) }
     ensures takes { Takes O.Objects.own 1 m.old m.new }
 {
     let answer = store_time(m, r, object, r.world.millisecond_clock(), receiver)?;
@@ -97,12 +95,12 @@ fn answer_milliseconds<O: Objects>(
 }
 
 /// Primitive 99: the first four bytes of the argument become the millisecond clock.
-#[tactic(auto, using(st_frames::proofs::Tries::effects, crate::proofs::Room::room), unfolding(st_model::specs::Input::primitive_millisecond_clock))]
+#[tactic(auto, using(st_frames::proofs::Tries::effects), unfolding(st_model::specs::Input::primitive_millisecond_clock))]
 pub fn primitive_millisecond_clock<O: Objects>(m: &mut O, r: &mut Registers) -> Result<Tried, Dead>
-    requires room { process_changes ≤ O.room m.old }
+    requires room { 1 ≤ O.room m.old }
     ensures does { RowLeaves O.Objects.own (primitive_millisecond_clock O.names)
         is_done deed_of_trial m.old r.old result m.new r.new }
-    ensures takes { Takes O.Objects.own (tried_changes process_changes result) m.old m.new }
+    ensures takes { Takes O.Objects.own 1 m.old m.new }
 {
     let receiver = under(m, r, 1)?;
     let argument = top(m, r)?;

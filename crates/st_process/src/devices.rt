@@ -1,10 +1,10 @@
-ghost use Rattle.std.specs.Prelude.{◌≡◌, ◌<◌, ◌≤◌, ◌+◌, IfOk, true};
+ghost use Rattle.std.specs.Prelude.{◌≡◌, ◌<◌, ◌≤◌, ◌+◌, IfOk};
 ghost use Rattle.st_model.specs.Values.{word};
 ghost use Rattle.st_model.specs.Input.{check_truth, primitive_link_cursor, hold_and_answer, primitive_input_semaphore, primitive_sample_interval, word_that_waits, take_word, primitive_input_word, primitive_be_cursor, primitive_be_display};
 ghost use Rattle.st_model.specs.Calls.{itself};
 ghost use Rattle.st_model.specs.Deeds.{is_done, deed_of_trial};
 ghost use Rattle.st_frames.specs.Answering.{succeed_by, answer_word, answer_deed};
-ghost use Rattle.st_frames.specs.Rows.{RowReads, RowLeaves, Takes, tried_changes, process_changes};
+ghost use Rattle.st_frames.specs.Rows.{RowReads, RowLeaves, Takes};
 
 use crate::holding::hold;
 use crate::processes::check_fields;
@@ -29,12 +29,12 @@ fn check_truth<O: Objects>(m: &O, r: &Registers, v: Word) -> Result<(), Dead>
 }
 
 /// Primitive 92 links the cursor to the mouse or no more: nothing is seen of it.
-#[tactic(auto, using(st_frames::proofs::Tries::tries, crate::proofs::Changing::same, crate::proofs::Room::room), unfolding(st_model::specs::Input::primitive_link_cursor))]
+#[tactic(auto, using(st_frames::proofs::Tries::tries, crate::proofs::Changing::same), unfolding(st_model::specs::Input::primitive_link_cursor))]
 pub fn primitive_link_cursor<O: Objects>(m: &mut O, r: &mut Registers) -> Result<Tried, Dead>
-    requires room { process_changes ≤ O.room m.old }
+    requires room { 1 ≤ O.room m.old }
     ensures does { RowLeaves O.Objects.own (primitive_link_cursor O.names)
         is_done deed_of_trial m.old r.old result m.new r.new }
-    ensures takes { Takes O.Objects.own (tried_changes process_changes result) m.old m.new }
+    ensures takes { Takes O.Objects.own 1 m.old m.new }
 {
     let receiver = under(m, r, 1)?;
     let argument = top(m, r)?;
@@ -59,7 +59,6 @@ fn answer_held<O: Objects>(
     ensures does { RowLeaves O.Objects.own
         (succeed_by O.names n (hold_and_answer O.names device (word object) (word receiver)))
         is_done deed_of_trial m.old r.old result m.new r.new }
-    ensures done { IfOk result (λ t. is_done t ≡ true) }
     ensures takes { Takes O.Objects.own 1 m.old m.new }
 {
     let deed = hold(m, r, device, object)?;
@@ -68,12 +67,12 @@ fn answer_held<O: Objects>(
 }
 
 /// Primitive 93: the argument is the semaphore that is signalled at each input word.
-#[tactic(auto, using(st_frames::proofs::Tries::effects, crate::proofs::Room::room), unfolding(st_model::specs::Input::primitive_input_semaphore))]
+#[tactic(auto, using(st_frames::proofs::Tries::effects), unfolding(st_model::specs::Input::primitive_input_semaphore))]
 pub fn primitive_input_semaphore<O: Objects>(m: &mut O, r: &mut Registers) -> Result<Tried, Dead>
-    requires room { process_changes ≤ O.room m.old }
+    requires room { 1 ≤ O.room m.old }
     ensures does { RowLeaves O.Objects.own (primitive_input_semaphore O.names)
         is_done deed_of_trial m.old r.old result m.new r.new }
-    ensures takes { Takes O.Objects.own (tried_changes process_changes result) m.old m.new }
+    ensures takes { Takes O.Objects.own 1 m.old m.new }
 {
     let receiver = under(m, r, 1)?;
     let argument = top(m, r)?;
@@ -84,12 +83,12 @@ pub fn primitive_input_semaphore<O: Objects>(m: &mut O, r: &mut Registers) -> Re
 }
 
 /// Primitive 94 sets how often the mouse is looked at: nothing is seen of it.
-#[tactic(auto, using(st_frames::proofs::Tries::tries, crate::proofs::Changing::same, crate::proofs::Room::room), unfolding(st_model::specs::Input::primitive_sample_interval))]
+#[tactic(auto, using(st_frames::proofs::Tries::tries, crate::proofs::Changing::same), unfolding(st_model::specs::Input::primitive_sample_interval))]
 pub fn primitive_sample_interval<O: Objects>(m: &mut O, r: &mut Registers) -> Result<Tried, Dead>
-    requires room { process_changes ≤ O.room m.old }
+    requires room { 1 ≤ O.room m.old }
     ensures does { RowLeaves O.Objects.own (primitive_sample_interval O.names)
         is_done deed_of_trial m.old r.old result m.new r.new }
-    ensures takes { Takes O.Objects.own (tried_changes process_changes result) m.old m.new }
+    ensures takes { Takes O.Objects.own 1 m.old m.new }
 {
     let receiver = under(m, r, 1)?;
     let argument = top(m, r)?;
@@ -134,7 +133,6 @@ fn answer_word_taken<O: Objects>(m: &mut O, r: &mut Registers, oldest: u16) -> R
     requires room { 2 ≤ O.room m.old }
     ensures does { RowLeaves O.Objects.own (succeed_by O.names 0 (take_word O.names oldest))
         is_done deed_of_trial m.old r.old result m.new r.new }
-    ensures done { IfOk result (λ t. is_done t ≡ true) }
     ensures takes { Takes O.Objects.own 2 m.old m.new }
 {
     let answer = take_word(m, r, oldest)?;
@@ -142,12 +140,12 @@ fn answer_word_taken<O: Objects>(m: &mut O, r: &mut Registers, oldest: u16) -> R
 }
 
 /// Primitive 95: the oldest input word is taken.
-#[tactic(auto, using(st_frames::proofs::Tries::effects, crate::proofs::Room::room), unfolding(st_model::specs::Input::primitive_input_word))]
+#[tactic(auto, using(st_frames::proofs::Tries::effects), unfolding(st_model::specs::Input::primitive_input_word))]
 pub fn primitive_input_word<O: Objects>(m: &mut O, r: &mut Registers) -> Result<Tried, Dead>
-    requires room { process_changes ≤ O.room m.old }
+    requires room { 2 ≤ O.room m.old }
     ensures does { RowLeaves O.Objects.own (primitive_input_word O.names)
         is_done deed_of_trial m.old r.old result m.new r.new }
-    ensures takes { Takes O.Objects.own (tried_changes process_changes result) m.old m.new }
+    ensures takes { Takes O.Objects.own 2 m.old m.new }
 {
     match word_that_waits(m, r) {
         Ok(oldest) => answer_word_taken(m, r, oldest),
@@ -156,12 +154,12 @@ pub fn primitive_input_word<O: Objects>(m: &mut O, r: &mut Registers) -> Result<
 }
 
 /// Primitive 101: the receiver is the cursor.
-#[tactic(auto, using(st_frames::proofs::Tries::effects, crate::proofs::Room::room), unfolding(st_model::specs::Input::primitive_be_cursor))]
+#[tactic(auto, using(st_frames::proofs::Tries::effects), unfolding(st_model::specs::Input::primitive_be_cursor))]
 pub fn primitive_be_cursor<O: Objects>(m: &mut O, r: &mut Registers) -> Result<Tried, Dead>
-    requires room { process_changes ≤ O.room m.old }
+    requires room { 1 ≤ O.room m.old }
     ensures does { RowLeaves O.Objects.own (primitive_be_cursor O.names)
         is_done deed_of_trial m.old r.old result m.new r.new }
-    ensures takes { Takes O.Objects.own (tried_changes process_changes result) m.old m.new }
+    ensures takes { Takes O.Objects.own 1 m.old m.new }
 {
     let receiver = top(m, r)?;
     match check_fields(m, r, receiver, 3) {
@@ -171,12 +169,12 @@ pub fn primitive_be_cursor<O: Objects>(m: &mut O, r: &mut Registers) -> Result<T
 }
 
 /// Primitive 102: the receiver is the display.
-#[tactic(auto, using(st_frames::proofs::Tries::effects, crate::proofs::Room::room), unfolding(st_model::specs::Input::primitive_be_display))]
+#[tactic(auto, using(st_frames::proofs::Tries::effects), unfolding(st_model::specs::Input::primitive_be_display))]
 pub fn primitive_be_display<O: Objects>(m: &mut O, r: &mut Registers) -> Result<Tried, Dead>
-    requires room { process_changes ≤ O.room m.old }
+    requires room { 1 ≤ O.room m.old }
     ensures does { RowLeaves O.Objects.own (primitive_be_display O.names)
         is_done deed_of_trial m.old r.old result m.new r.new }
-    ensures takes { Takes O.Objects.own (tried_changes process_changes result) m.old m.new }
+    ensures takes { Takes O.Objects.own 1 m.old m.new }
 {
     let receiver = top(m, r)?;
     match check_fields(m, r, receiver, 3) {

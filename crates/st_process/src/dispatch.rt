@@ -86,10 +86,10 @@ pub fn try_input<O: Objects>(
     primitive: u32,
     arguments: u32,
 ) -> Result<Tried, Dead>
-    requires room { process_changes ≤ O.room m.old }
+    requires room { 4 ≤ O.room m.old }
     ensures does { RowLeaves O.Objects.own (input O.names primitive arguments)
         is_done deed_of_trial m.old r.old result m.new r.new }
-    ensures takes { Takes O.Objects.own (tried_changes process_changes result) m.old m.new }
+    ensures takes { Takes O.Objects.own 4 m.old m.new }
 {
     if !input_takes(primitive, arguments) {
         return Ok(Tried::Failed);

@@ -1,11 +1,11 @@
-ghost use Rattle.std.specs.Prelude.{◌≡◌, ◌≤◌, ◌+◌, IfOk, true};
+ghost use Rattle.std.specs.Prelude.{◌≡◌, ◌≤◌, ◌+◌};
 ghost use Rattle.st_model.specs.Values.{word};
 ghost use Rattle.st_model.specs.Input.{low_space, set_low_space, primitive_low_space};
 ghost use Rattle.st_model.specs.Calls.{itself};
 ghost use Rattle.st_model.specs.Deeds.{is_done, deed_of_trial};
 ghost use Rattle.st_process.specs.Timing.{low_in};
 ghost use Rattle.st_frames.specs.Answering.{succeed_by, answer_word, answer_deed};
-ghost use Rattle.st_frames.specs.Rows.{RowReads, RowLeaves, Takes, tried_changes, process_changes};
+ghost use Rattle.st_frames.specs.Rows.{RowReads, RowLeaves, Takes};
 
 use crate::processes::check_fields;
 use crate::shapes::Low;
@@ -74,7 +74,6 @@ fn answer_low_space<O: Objects>(
     ensures does { RowLeaves O.Objects.own (succeed_by O.names 3
         (set_low_space O.names (word semaphore) (low_in low) (word receiver)))
         is_done deed_of_trial m.old r.old result m.new r.new }
-    ensures done { IfOk result (λ t. is_done t ≡ true) }
     ensures takes { Takes O.Objects.own 1 m.old m.new }
 {
     let answer = set_low_space(m, r, semaphore, low, receiver)?;
@@ -82,12 +81,12 @@ fn answer_low_space<O: Objects>(
 }
 
 /// Primitive 116: the first argument is to be signalled once fewer entries or words are free than the others say.
-#[tactic(auto, using(st_frames::proofs::Tries::effects, crate::proofs::Room::room), unfolding(st_model::specs::Input::primitive_low_space))]
+#[tactic(auto, using(st_frames::proofs::Tries::effects), unfolding(st_model::specs::Input::primitive_low_space))]
 pub fn primitive_low_space<O: Objects>(m: &mut O, r: &mut Registers) -> Result<Tried, Dead>
-    requires room { process_changes ≤ O.room m.old }
+    requires room { 1 ≤ O.room m.old }
     ensures does { RowLeaves O.Objects.own (primitive_low_space O.names)
         is_done deed_of_trial m.old r.old result m.new r.new }
-    ensures takes { Takes O.Objects.own (tried_changes process_changes result) m.old m.new }
+    ensures takes { Takes O.Objects.own 1 m.old m.new }
 {
     let receiver = under(m, r, 3)?;
     let semaphore = under(m, r, 2)?;

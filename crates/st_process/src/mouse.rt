@@ -1,4 +1,4 @@
-ghost use Rattle.std.specs.Prelude.{◌≡◌, ◌<◌, ◌≤◌, ◌+◌, pos, IfOk, true};
+ghost use Rattle.std.specs.Prelude.{◌≡◌, ◌<◌, ◌≤◌, ◌+◌, pos, IfOk};
 ghost use Rattle.st_model.specs.Values.{word};
 ghost use Rattle.st_model.specs.Arithmetic.{new_point};
 ghost use Rattle.st_model.specs.Input.{mouse_point, primitive_mouse_point, place_in, move_mouse, primitive_move_mouse};
@@ -6,7 +6,7 @@ ghost use Rattle.st_model.specs.Calls.{itself};
 ghost use Rattle.st_model.specs.Deeds.{is_done, deed_of_trial};
 ghost use Rattle.st_process.specs.Timing as meaning;
 ghost use Rattle.st_frames.specs.Answering.{succeed_by};
-ghost use Rattle.st_frames.specs.Rows.{RowReads, RowDoes, RowLeaves, Takes, tried_changes, process_changes};
+ghost use Rattle.st_frames.specs.Rows.{RowReads, RowDoes, RowLeaves, Takes};
 
 use crate::shapes::Place;
 use st_frames::{
@@ -43,12 +43,12 @@ fn mouse_point<O: Objects>(m: &mut O, r: &Registers) -> Result<Word, Dead>
 }
 
 /// Primitive 90: a new Point of the mouse's place.
-#[tactic(auto, using(st_frames::proofs::Doing::rows, crate::proofs::Changing::points, crate::proofs::Room::room))]
+#[tactic(auto, using(st_frames::proofs::Doing::rows, crate::proofs::Changing::points))]
 pub fn primitive_mouse_point<O: Objects>(m: &mut O, r: &mut Registers) -> Result<Tried, Dead>
-    requires room { process_changes ≤ O.room m.old }
+    requires room { 4 ≤ O.room m.old }
     ensures does { RowLeaves O.Objects.own (primitive_mouse_point O.names)
         is_done deed_of_trial m.old r.old result m.new r.new }
-    ensures takes { Takes O.Objects.own (tried_changes process_changes result) m.old m.new }
+    ensures takes { Takes O.Objects.own 4 m.old m.new }
 {
     let point = mouse_point(m, r)?;
     succeed_with(m, r, 0, point)
@@ -81,7 +81,6 @@ fn answer_move<O: Objects>(
     ensures does { RowLeaves O.Objects.own
         (succeed_by O.names 1 (move_mouse O.names (word receiver) (meaning.place_in place)))
         is_done deed_of_trial m.old r.old result m.new r.new }
-    ensures done { IfOk result (λ t. is_done t ≡ true) }
     ensures takes { Takes O.Objects.own 1 m.old m.new }
 {
     let deed = Deed::MoveMouse {
@@ -93,12 +92,12 @@ fn answer_move<O: Objects>(
 }
 
 /// Primitive 91: the mouse is moved to the place that the argument says.
-#[tactic(auto, using(st_frames::proofs::Tries::effects, crate::proofs::Room::room), unfolding(st_model::specs::Input::primitive_move_mouse))]
+#[tactic(auto, using(st_frames::proofs::Tries::effects), unfolding(st_model::specs::Input::primitive_move_mouse))]
 pub fn primitive_move_mouse<O: Objects>(m: &mut O, r: &mut Registers) -> Result<Tried, Dead>
-    requires room { process_changes ≤ O.room m.old }
+    requires room { 1 ≤ O.room m.old }
     ensures does { RowLeaves O.Objects.own (primitive_move_mouse O.names)
         is_done deed_of_trial m.old r.old result m.new r.new }
-    ensures takes { Takes O.Objects.own (tried_changes process_changes result) m.old m.new }
+    ensures takes { Takes O.Objects.own 1 m.old m.new }
 {
     let receiver = under(m, r, 1)?;
     let argument = top(m, r)?;

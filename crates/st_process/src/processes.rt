@@ -1,4 +1,4 @@
-ghost use Rattle.std.specs.Prelude.{◌≡◌, ◌≤◌, ◌+◌, ◌≤ℤ◌, pos, negsuc, IfOk, true};
+ghost use Rattle.std.specs.Prelude.{◌≡◌, ◌≤◌, ◌+◌, ◌≤ℤ◌, pos, negsuc, IfOk};
 ghost use Rattle.st_model.specs.Values.{word};
 ghost use Rattle.st_model.specs.Processes.{check_fields, signal_and_answer, primitive_signal, excess_of, wait_and_answer, primitive_wait, resume_and_answer, primitive_resume, check_active, suspend_and_answer, primitive_suspend};
 ghost use Rattle.st_model.specs.Calls.{itself};
@@ -32,7 +32,6 @@ fn answer_signal<O: Objects>(m: &mut O, r: &mut Registers, semaphore: Word) -> R
     ensures does { RowLeaves O.Objects.own
         (succeed_by O.names 0 (signal_and_answer O.names (word semaphore)))
         is_done deed_of_trial m.old r.old result m.new r.new }
-    ensures done { IfOk result (λ t. is_done t ≡ true) }
     ensures takes { Takes O.Objects.own 7 m.old m.new }
 {
     let deed = signal(m, r, semaphore)?;
@@ -41,7 +40,7 @@ fn answer_signal<O: Objects>(m: &mut O, r: &mut Registers, semaphore: Word) -> R
 }
 
 /// Primitive 85: the receiver is signalled.
-#[tactic(auto, using(st_frames::proofs::Tries::effects, crate::proofs::Room::room), unfolding(st_model::specs::Processes::primitive_signal))]
+#[tactic(auto, using(st_frames::proofs::Tries::effects), unfolding(st_model::specs::Processes::primitive_signal))]
 pub fn primitive_signal<O: Objects>(m: &mut O, r: &mut Registers) -> Result<Tried, Dead>
     requires room { process_changes ≤ O.room m.old }
     ensures does { RowLeaves O.Objects.own (primitive_signal O.names)
@@ -79,7 +78,6 @@ fn answer_wait<O: Objects>(
     ensures does { RowLeaves O.Objects.own
         (succeed_by O.names 0 (wait_and_answer O.names (word semaphore) excess))
         is_done deed_of_trial m.old r.old result m.new r.new }
-    ensures done { IfOk result (λ t. is_done t ≡ true) }
     ensures takes { Takes O.Objects.own 7 m.old m.new }
 {
     let deed = take_excess(m, r, semaphore, excess)?;
@@ -88,7 +86,7 @@ fn answer_wait<O: Objects>(
 }
 
 /// Primitive 86: the active process waits for a signal of the receiver.
-#[tactic(auto, using(st_frames::proofs::Tries::effects, crate::proofs::Room::room), unfolding(st_model::specs::Processes::primitive_wait))]
+#[tactic(auto, using(st_frames::proofs::Tries::effects), unfolding(st_model::specs::Processes::primitive_wait))]
 pub fn primitive_wait<O: Objects>(m: &mut O, r: &mut Registers) -> Result<Tried, Dead>
     requires room { process_changes ≤ O.room m.old }
     ensures does { RowLeaves O.Objects.own (primitive_wait O.names)
@@ -109,7 +107,6 @@ fn answer_resume<O: Objects>(m: &mut O, r: &mut Registers, process: Word) -> Res
     ensures does { RowLeaves O.Objects.own
         (succeed_by O.names 0 (resume_and_answer O.names (word process)))
         is_done deed_of_trial m.old r.old result m.new r.new }
-    ensures done { IfOk result (λ t. is_done t ≡ true) }
     ensures takes { Takes O.Objects.own 4 m.old m.new }
 {
     let deed = resume(m, r, process)?;
@@ -118,7 +115,7 @@ fn answer_resume<O: Objects>(m: &mut O, r: &mut Registers, process: Word) -> Res
 }
 
 /// Primitive 87: the receiver is resumed.
-#[tactic(auto, using(st_frames::proofs::Tries::effects, crate::proofs::Room::room), unfolding(st_model::specs::Processes::primitive_resume))]
+#[tactic(auto, using(st_frames::proofs::Tries::effects), unfolding(st_model::specs::Processes::primitive_resume))]
 pub fn primitive_resume<O: Objects>(m: &mut O, r: &mut Registers) -> Result<Tried, Dead>
     requires room { process_changes ≤ O.room m.old }
     ensures does { RowLeaves O.Objects.own (primitive_resume O.names)
@@ -151,7 +148,6 @@ fn answer_suspend<O: Objects>(m: &mut O, r: &mut Registers) -> Result<Tried, Dea
     requires room { 4 ≤ O.room m.old }
     ensures does { RowLeaves O.Objects.own (succeed_by O.names 0 (suspend_and_answer O.names))
         is_done deed_of_trial m.old r.old result m.new r.new }
-    ensures done { IfOk result (λ t. is_done t ≡ true) }
     ensures takes { Takes O.Objects.own 4 m.old m.new }
 {
     let deed = suspend(m, r)?;
@@ -160,7 +156,7 @@ fn answer_suspend<O: Objects>(m: &mut O, r: &mut Registers) -> Result<Tried, Dea
 }
 
 /// Primitive 88: the receiver, which is active, is suspended.
-#[tactic(auto, using(st_frames::proofs::Tries::effects, crate::proofs::Room::room), unfolding(st_model::specs::Processes::primitive_suspend))]
+#[tactic(auto, using(st_frames::proofs::Tries::effects), unfolding(st_model::specs::Processes::primitive_suspend))]
 pub fn primitive_suspend<O: Objects>(m: &mut O, r: &mut Registers) -> Result<Tried, Dead>
     requires room { process_changes ≤ O.room m.old }
     ensures does { RowLeaves O.Objects.own (primitive_suspend O.names)

@@ -1,4 +1,4 @@
-ghost use Rattle.std.specs.Prelude.{◌≡◌, ◌<◌, ◌≤◌, ◌+◌, length, IfOk, true};
+ghost use Rattle.std.specs.Prelude.{◌≡◌, ◌<◌, ◌≤◌, ◌+◌, length, IfOk};
 ghost use Rattle.st_model.specs.Values.{word};
 ghost use Rattle.st_model.specs.Input.{can_be_signalled, ring_or_wait, timing, signal_once, set_timer, set_timer_and_answer, primitive_timer};
 ghost use Rattle.st_model.specs.declared.device.Device.TheVariants.{Timer};
@@ -6,7 +6,7 @@ ghost use Rattle.st_model.specs.Calls.{Reads, itself};
 ghost use Rattle.st_model.specs.Deeds.{is_done, deed_of_trial};
 ghost use Rattle.st_process.specs.Timing.{timing_in, timing_by, wait_for, HasRoom};
 ghost use Rattle.st_frames.specs.Answering.{succeed_by, no_word};
-ghost use Rattle.st_frames.specs.Rows.{RowReads, RowLeaves, Takes, tried_changes, process_changes};
+ghost use Rattle.st_frames.specs.Rows.{RowReads, RowLeaves, Takes};
 
 use crate::clocks::check_four_bytes;
 use crate::holding::hold;
@@ -137,7 +137,6 @@ fn answer_timer<O: Objects>(
     ensures does { RowLeaves O.Objects.own (succeed_by O.names 2
         (set_timer_and_answer O.names (word semaphore) (timing_in timing) (word receiver)))
         is_done deed_of_trial m.old r.old result m.new r.new }
-    ensures done { IfOk result (λ t. is_done t ≡ true) }
     ensures takes { Takes O.Objects.own 1 m.old m.new }
 {
     let deed = set_timer(m, r, semaphore, timing)?;
@@ -146,12 +145,12 @@ fn answer_timer<O: Objects>(
 }
 
 /// Primitive 100: the first argument is to be signalled once the millisecond clock is at least the second.
-#[tactic(auto, using(st_frames::proofs::Tries::effects, crate::proofs::Room::room), unfolding(st_model::specs::Input::primitive_timer))]
+#[tactic(auto, using(st_frames::proofs::Tries::effects), unfolding(st_model::specs::Input::primitive_timer))]
 pub fn primitive_timer<O: Objects>(m: &mut O, r: &mut Registers) -> Result<Tried, Dead>
-    requires room { process_changes ≤ O.room m.old }
+    requires room { 1 ≤ O.room m.old }
     ensures does { RowLeaves O.Objects.own (primitive_timer O.names)
         is_done deed_of_trial m.old r.old result m.new r.new }
-    ensures takes { Takes O.Objects.own (tried_changes process_changes result) m.old m.new }
+    ensures takes { Takes O.Objects.own 1 m.old m.new }
 {
     let receiver = under(m, r, 2)?;
     let semaphore = under(m, r, 1)?;

@@ -2,3 +2,4 @@ pub mod Tries
 pub mod Stepped
 pub mod Foreseeing
 pub mod Said
+pub mod Performed

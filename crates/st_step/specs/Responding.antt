@@ -1,20 +1,37 @@
--- Parts of how a method responds by its primitive.
-use Rattle.std.specs.Prelude.{ℕ, ◌==◌, ◌&&◌, if◌then◌else◌}
+-- Parts of how a method responds by its primitive, and of how it is executed.
+use Rattle.std.specs.Prelude.{ℕ, ◌==◌, if◌then◌else◌}
 use Rattle.st_model.specs.Values.{Value}
-use Rattle.st_model.specs.Machine.{ObjectMemory, Step, answer}
-use Rattle.st_model.specs.Outcomes.{StepEnd, NotBuilt}
+use Rattle.st_model.specs.Machine.{ObjectMemory, Step, answer, ◌>>=◌, ◌>>◌}
+use Rattle.st_model.specs.Steps.{top}
+use Rattle.st_model.specs.Outcomes.{StepEnd, Did}
+use Rattle.st_model.specs.Outcomes as outcome
 use Rattle.st_model.specs.Contexts.{activate}
+use Rattle.st_model.specs.Methods.{temporary_count}
 use Rattle.st_model.specs.Sends.{Call}
+use Rattle.st_model.specs.Primitives.{answer_with}
 use Rattle.st_model.specs.Storage.{storage, is_storage}
-use Rattle.st_model.specs.Executing.{goes_on, or_activate, say_or_activate, is_unbuilt}
+use Rattle.st_model.specs.Blocks.{blocks, is_block}
+use Rattle.st_model.specs.Processes.{processes, is_process}
+use Rattle.st_model.specs.Input.{input, is_input}
+use Rattle.st_model.specs.Executing.{goes_on, answer_field, or_activate, respond_last}
 
--- the method is activated, where its primitive isn't one that waits to be built
-unfoldable pub activated_if_built : {H : Type 0} → ObjectMemory H → Call → Value → ℕ → Step H StepEnd
-activated_if_built m call header primitive =
-    if is_unbuilt primitive then answer NotBuilt else goes_on (activate m call.method header call.arguments)
+-- the receiver stays as the answer, and the step ends so
+unfoldable pub asks_for : {H : Type 0} → ObjectMemory H → StepEnd → Step H StepEnd
+asks_for m end = do
+  r ← top m
+  answer_with m 0 r
+  answer end
 
 -- what a method does whose primitive is none on SmallIntegers, and none that any receiver has
 unfoldable pub on_objects : {H : Type 0} → ObjectMemory H → Call → Value → ℕ → Step H StepEnd
 on_objects m call header primitive =
     if is_storage primitive then or_activate m call header (storage m primitive call.arguments) else
-    if primitive == 128 && call.arguments == 0 then say_or_activate m call header else activated_if_built m call header primitive
+    if is_block primitive then or_activate m call header (blocks m primitive call.arguments) else
+    if is_process primitive then or_activate m call header (processes m primitive call.arguments) else
+    if is_input primitive then or_activate m call header (input m primitive call.arguments) else respond_last m call header primitive
+
+-- what a method does that has no header extension
+unfoldable pub by_flag : {H : Type 0} → ObjectMemory H → Call → Value → ℕ → Step H StepEnd
+by_flag m call header flag =
+    if flag == 5 then answer (Did outcome.Went) else
+    if flag == 6 then goes_on (answer_field m (temporary_count header)) else goes_on (activate m call.method header call.arguments)

@@ -4,8 +4,10 @@
 
 mod arithmetic;
 mod execute;
+mod flags;
 mod jump;
 mod operands;
+mod perform;
 mod receivers;
 mod respond;
 mod returns;

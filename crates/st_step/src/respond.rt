@@ -1,22 +1,27 @@
 ghost use Rattle.std.specs.Prelude.{◌≡◌, ◌<◌, ◌≤◌, ◌+◌, ◌==◌, ◌&&◌};
 ghost use Rattle.st_model.specs.Values.{word};
+ghost use Rattle.st_model.specs.declared.deed.Deed.TheVariants.{Nothing};
 ghost use Rattle.st_model.specs.Outcomes.{end_of};
 ghost use Rattle.st_model.specs.Deeds.{deed_of_end};
 ghost use Rattle.st_model.specs.Sends.{call_of};
-ghost use Rattle.st_model.specs.Executing.{goes_on, is_from, is_unbuilt, or_activate, say_or_activate, respond};
+ghost use Rattle.st_model.specs.Executing.{goes_on, is_from, is_unbuilt, or_activate, say_or_activate, respond_last, respond};
 ghost use Rattle.st_model.specs.Arithmetic.{arithmetic};
 ghost use Rattle.st_model.specs.Storage.{is_storage, storage};
+ghost use Rattle.st_model.specs.Blocks.{is_block, blocks};
+ghost use Rattle.st_model.specs.Processes.{is_process, processes};
+ghost use Rattle.st_model.specs.Input.{is_input, input};
 ghost use Rattle.st_model.specs.Contexts.{activate};
-ghost use Rattle.st_step.specs.Responding.{activated_if_built, on_objects};
-ghost use Rattle.st_frames.specs.Rows.{RowLeaves, RowDoes, Takes, activation_changes, execution_changes};
+ghost use Rattle.st_step.specs.Responding.{asks_for, on_objects};
+ghost use Rattle.st_frames.specs.Rows.{RowLeaves, RowDoes, Takes, activation_changes, response_changes};
 
 use crate::arithmetic::{answer_integers, integer_answer};
 use crate::receivers::{equivalence, flush_cache, receiver_class};
-use st_control::activate;
-use st_frames::{Registers, top};
+use st_control::{activate, try_blocks};
+use st_frames::{Registers, answer_with, top};
 use st_memory::Objects;
 use st_method::Header;
-use st_model::{Call, Dead, Deed, Performing, StepEnd, Tried};
+use st_model::{Call, Dead, Deed, StepEnd, Tried};
+use st_process::{try_input, try_process};
 use st_storage::{primitive_say, try_storage};
 
 /// Whether a primitive is one of 1 to 18, with the one argument of these.
@@ -30,7 +35,7 @@ fn is_arithmetic(primitive: u32, arguments: u32) -> bool
 fn is_unbuilt(primitive: u32) -> bool
     ensures { result ≡ is_unbuilt primitive }
 {
-    matches!(primitive, 80..=88 | 90..=102 | 113 | 114 | 116)
+    primitive == 96
 }
 
 /// Whether a primitive is one of those on objects.
@@ -40,8 +45,29 @@ fn is_storage(primitive: u32) -> bool
     matches!(primitive, 60..=79 | 105 | 112 | 115)
 }
 
+/// Whether a primitive is one of those on blocks.
+fn is_block(primitive: u32) -> bool
+    ensures { result ≡ is_block primitive }
+{
+    matches!(primitive, 80..=82)
+}
+
+/// Whether a primitive is one of those on processes.
+fn is_process(primitive: u32) -> bool
+    ensures { result ≡ is_process primitive }
+{
+    matches!(primitive, 85..=88)
+}
+
+/// Whether a primitive is one of those on devices and clocks.
+fn is_input(primitive: u32) -> bool
+    ensures { result ≡ is_input primitive }
+{
+    matches!(primitive, 90..=95 | 98..=102 | 116)
+}
+
 /// Whether a primitive has this number, and as many arguments as it takes.
-fn is_with(primitive: u32, number: u32, arguments: u32, count: u32) -> bool
+pub fn is_with(primitive: u32, number: u32, arguments: u32, count: u32) -> bool
     ensures { result ≡ (primitive == number && arguments == count) }
 {
     primitive == number && arguments == count
@@ -100,13 +126,76 @@ fn storage_or_activate<O: Objects>(
     header: Header,
     primitive: u32,
 ) -> Result<StepEnd, Dead>
-    requires room { execution_changes ≤ O.room m.old }
+    requires room { response_changes ≤ O.room m.old }
     ensures does { RowLeaves O.Objects.own
         (or_activate O.names (call_of call) (word header.0) (storage O.names primitive call.arguments))
         end_of deed_of_end m.old r.old result m.new r.new }
-    ensures takes { Takes O.Objects.own execution_changes m.old m.new }
+    ensures takes { Takes O.Objects.own response_changes m.old m.new }
 {
     match try_storage(m, r, primitive, call.arguments)? {
+        Tried::Done(deed) => Ok(StepEnd::Went(deed)),
+        Tried::Failed => activated(m, r, call, header),
+    }
+}
+
+/// Does a primitive on blocks, or activates the method where it fails.
+#[tactic(auto, using(st_frames::proofs::Doing::rows), unfolding(st_model::specs::Executing::or_activate, st_model::specs::Executing::goes_on))]
+fn block_or_activate<O: Objects>(
+    m: &mut O,
+    r: &mut Registers,
+    call: Call,
+    header: Header,
+    primitive: u32,
+) -> Result<StepEnd, Dead>
+    requires room { response_changes ≤ O.room m.old }
+    ensures does { RowLeaves O.Objects.own
+        (or_activate O.names (call_of call) (word header.0) (blocks O.names primitive call.arguments))
+        end_of deed_of_end m.old r.old result m.new r.new }
+    ensures takes { Takes O.Objects.own response_changes m.old m.new }
+{
+    match try_blocks(m, r, primitive, call.arguments)? {
+        Tried::Done(deed) => Ok(StepEnd::Went(deed)),
+        Tried::Failed => activated(m, r, call, header),
+    }
+}
+
+/// Does a primitive on processes, or activates the method where it fails.
+#[tactic(auto, using(st_frames::proofs::Doing::rows), unfolding(st_model::specs::Executing::or_activate, st_model::specs::Executing::goes_on))]
+fn process_or_activate<O: Objects>(
+    m: &mut O,
+    r: &mut Registers,
+    call: Call,
+    header: Header,
+    primitive: u32,
+) -> Result<StepEnd, Dead>
+    requires room { response_changes ≤ O.room m.old }
+    ensures does { RowLeaves O.Objects.own
+        (or_activate O.names (call_of call) (word header.0) (processes O.names primitive call.arguments))
+        end_of deed_of_end m.old r.old result m.new r.new }
+    ensures takes { Takes O.Objects.own response_changes m.old m.new }
+{
+    match try_process(m, r, primitive, call.arguments)? {
+        Tried::Done(deed) => Ok(StepEnd::Went(deed)),
+        Tried::Failed => activated(m, r, call, header),
+    }
+}
+
+/// Does a primitive on devices or clocks, or activates the method where it fails.
+#[tactic(auto, using(st_frames::proofs::Doing::rows), unfolding(st_model::specs::Executing::or_activate, st_model::specs::Executing::goes_on))]
+fn input_or_activate<O: Objects>(
+    m: &mut O,
+    r: &mut Registers,
+    call: Call,
+    header: Header,
+    primitive: u32,
+) -> Result<StepEnd, Dead>
+    requires room { response_changes ≤ O.room m.old }
+    ensures does { RowLeaves O.Objects.own
+        (or_activate O.names (call_of call) (word header.0) (input O.names primitive call.arguments))
+        end_of deed_of_end m.old r.old result m.new r.new }
+    ensures takes { Takes O.Objects.own response_changes m.old m.new }
+{
+    match try_input(m, r, primitive, call.arguments)? {
         Tried::Done(deed) => Ok(StepEnd::Went(deed)),
         Tried::Failed => activated(m, r, call, header),
     }
@@ -120,10 +209,10 @@ fn say_or_activate<O: Objects>(
     call: Call,
     header: Header,
 ) -> Result<StepEnd, Dead>
-    requires room { execution_changes ≤ O.room m.old }
+    requires room { response_changes ≤ O.room m.old }
     ensures does { RowLeaves O.Objects.own (say_or_activate O.names (call_of call) (word header.0))
         end_of deed_of_end m.old r.old result m.new r.new }
-    ensures takes { Takes O.Objects.own execution_changes m.old m.new }
+    ensures takes { Takes O.Objects.own response_changes m.old m.new }
 {
     let receiver = top(m, r)?;
     if primitive_say(m, r, receiver)? {
@@ -133,21 +222,47 @@ fn say_or_activate<O: Objects>(
     }
 }
 
-/// Activates the method, where its primitive isn't one that waits to be built; that one is only told.
-#[tactic(auto, using(st_frames::proofs::Doing::rows), unfolding(crate::specs::Responding::activated_if_built))]
-fn activated_if_built<O: Objects>(
+/// Something is asked for (primitives 97, 113 and 114), and the receiver stays as the answer.
+#[tactic(auto, using(st_frames::proofs::Doing::rows), unfolding(crate::specs::Responding::asks_for))]
+fn asks<O: Objects>(m: &mut O, r: &mut Registers, end: StepEnd) -> Result<StepEnd, Dead>
+    requires asked { deed_of_end end ≡ Nothing }
+    requires room { 1 ≤ O.room m.old }
+    ensures does { RowLeaves O.Objects.own (asks_for O.names (end_of end))
+        end_of deed_of_end m.old r.old result m.new r.new }
+    ensures takes { Takes O.Objects.own 1 m.old m.new }
+{
+    let receiver = top(m, r)?;
+    answer_with(m, r, 0, receiver)?;
+    Ok(end)
+}
+
+/// Does a primitive that asks for something, or activates the method; one that isn't built is only told.
+#[tactic(auto, using(st_frames::proofs::Doing::rows), unfolding(st_model::specs::Executing::respond_last, st_model::specs::Executing::asks, crate::specs::Responding::asks_for))]
+fn respond_last<O: Objects>(
     m: &mut O,
     r: &mut Registers,
     call: Call,
     header: Header,
     primitive: u32,
 ) -> Result<StepEnd, Dead>
-    requires room { activation_changes ≤ O.room m.old }
+    requires room { response_changes ≤ O.room m.old }
     ensures does { RowLeaves O.Objects.own
-        (activated_if_built O.names (call_of call) (word header.0) primitive)
+        (respond_last O.names (call_of call) (word header.0) primitive)
         end_of deed_of_end m.old r.old result m.new r.new }
-    ensures takes { Takes O.Objects.own activation_changes m.old m.new }
+    ensures takes { Takes O.Objects.own response_changes m.old m.new }
 {
+    if is_with(primitive, 128, call.arguments, 0) {
+        return say_or_activate(m, r, call, header);
+    }
+    if is_with(primitive, 97, call.arguments, 0) {
+        return asks(m, r, StepEnd::Snapshot);
+    }
+    if is_with(primitive, 113, call.arguments, 0) {
+        return asks(m, r, StepEnd::Quit);
+    }
+    if is_with(primitive, 114, call.arguments, 0) {
+        return asks(m, r, StepEnd::Debugger);
+    }
     if is_unbuilt(primitive) {
         Ok(StepEnd::NotBuilt)
     } else {
@@ -155,8 +270,7 @@ fn activated_if_built<O: Objects>(
     }
 }
 
-/// Does a primitive on objects, or says the receiver; else the method is activated, where its primitive isn't one that waits
-/// to be built.
+/// Does a primitive on objects, blocks, processes, devices or clocks, or one that asks for something; else the method is activated.
 #[tactic(auto, using(st_frames::proofs::Doing::rows), unfolding(crate::specs::Responding::on_objects))]
 fn respond_on_objects<O: Objects>(
     m: &mut O,
@@ -165,35 +279,41 @@ fn respond_on_objects<O: Objects>(
     header: Header,
     primitive: u32,
 ) -> Result<StepEnd, Dead>
-    requires room { execution_changes ≤ O.room m.old }
+    requires room { response_changes ≤ O.room m.old }
     ensures does { RowLeaves O.Objects.own (on_objects O.names (call_of call) (word header.0) primitive)
         end_of deed_of_end m.old r.old result m.new r.new }
-    ensures takes { Takes O.Objects.own execution_changes m.old m.new }
+    ensures takes { Takes O.Objects.own response_changes m.old m.new }
 {
     if is_storage(primitive) {
         return storage_or_activate(m, r, call, header, primitive);
     }
-    if is_with(primitive, 128, call.arguments, 0) {
-        return say_or_activate(m, r, call, header);
+    if is_block(primitive) {
+        return block_or_activate(m, r, call, header, primitive);
     }
-    activated_if_built(m, r, call, header, primitive)
+    if is_process(primitive) {
+        return process_or_activate(m, r, call, header, primitive);
+    }
+    if is_input(primitive) {
+        return input_or_activate(m, r, call, header, primitive);
+    }
+    respond_last(m, r, call, header, primitive)
 }
 
-/// Does the method's primitive, or activates the method where it has none or it fails; one that isn't built is only told.
-#[tactic(auto, using(st_frames::proofs::Doing::rows), unfolding(st_model::specs::Executing::respond, st_model::specs::Executing::goes_on, crate::specs::Responding::on_objects, crate::specs::Responding::activated_if_built))]
+/// Does the method's primitive, or activates the method where it has none or it fails; one that isn't built is only told. 83 and
+/// 84 fail.
+#[tactic(auto, using(st_frames::proofs::Doing::rows), unfolding(st_model::specs::Executing::respond, st_model::specs::Executing::goes_on, crate::specs::Responding::on_objects))]
 pub fn respond<O: Objects>(
     m: &mut O,
     r: &mut Registers,
-    performing: Performing,
     call: Call,
     header: Header,
     primitive: u32,
 ) -> Result<StepEnd, Dead>
-    requires room { execution_changes ≤ O.room m.old }
+    requires room { response_changes ≤ O.room m.old }
     ensures does { RowLeaves O.Objects.own
-        (respond O.names performing (call_of call) (word header.0) primitive)
+        (respond O.names (call_of call) (word header.0) primitive)
         end_of deed_of_end m.old r.old result m.new r.new }
-    ensures takes { Takes O.Objects.own execution_changes m.old m.new }
+    ensures takes { Takes O.Objects.own response_changes m.old m.new }
 {
     if is_arithmetic(primitive, call.arguments) {
         return arithmetic_or_activate(m, r, call, header, primitive);

@@ -6,16 +6,17 @@ ghost use Rattle.st_model.specs.Sends.{call_of, special_send};
 ghost use Rattle.st_model.specs.Executing.{executed};
 ghost use Rattle.st_model.specs.Bytecodes.{send_literal, send_literal_to_super, extended_send, double_extended_send, extended_super_send, double_extended_super_send, or_send, arithmetic_by, arithmetic_send, primitive_send};
 ghost use Rattle.st_model.specs.Arithmetic.{arithmetic, arithmetic_number};
+ghost use Rattle.st_model.specs.Blocks.{primitive_block_copy, primitive_value};
 ghost use Rattle.st_frames.specs.Rows.{RowDoes, RowLeaves, Takes, send_changes, executed_send_changes};
 
 use crate::arithmetic::{answer_integers, integer_answer};
 use crate::execute::execute;
 use crate::operands::fetch_literal_constant;
 use crate::receivers::{equivalence, receiver_class};
-use st_control::{send, send_to_super, special_send};
+use st_control::{primitive_block_copy, primitive_value, send, send_to_super, special_send};
 use st_frames::{Registers, next_byte, under};
 use st_memory::Objects;
-use st_model::{Call, Dead, Deed, Performing, StepEnd, Word};
+use st_model::{Call, Dead, Deed, StepEnd, Tried, Word};
 
 /// Sends literal i with n arguments.
 #[tactic(auto, using(st_frames::proofs::Doing::rows), unfolding(st_model::specs::Bytecodes::send_literal))]
@@ -57,7 +58,7 @@ pub fn extended_send<O: Objects>(m: &mut O, r: &mut Registers) -> Result<StepEnd
 {
     let byte = next_byte(m, r)?;
     let call = send_literal(m, r, u32::from(byte % 32), u32::from(byte / 32))?;
-    execute(m, r, Performing::Allowed, call)
+    execute(m, r, call)
 }
 
 /// Sends the literal of the second byte with as many arguments as the first says.
@@ -71,7 +72,7 @@ pub fn double_extended_send<O: Objects>(m: &mut O, r: &mut Registers) -> Result<
     let arguments = next_byte(m, r)?;
     let literal = next_byte(m, r)?;
     let call = send_literal(m, r, u32::from(literal), u32::from(arguments))?;
-    execute(m, r, Performing::Allowed, call)
+    execute(m, r, call)
 }
 
 /// Sends the literal that the next byte names to super, with as many arguments as it says.
@@ -84,7 +85,7 @@ pub fn extended_super_send<O: Objects>(m: &mut O, r: &mut Registers) -> Result<S
 {
     let byte = next_byte(m, r)?;
     let call = send_literal_to_super(m, r, u32::from(byte % 32), u32::from(byte / 32))?;
-    execute(m, r, Performing::Allowed, call)
+    execute(m, r, call)
 }
 
 /// Sends the literal of the second byte to super, with as many arguments as the first says.
@@ -98,7 +99,7 @@ pub fn double_extended_super_send<O: Objects>(m: &mut O, r: &mut Registers) -> R
     let arguments = next_byte(m, r)?;
     let literal = next_byte(m, r)?;
     let call = send_literal_to_super(m, r, u32::from(literal), u32::from(arguments))?;
-    execute(m, r, Performing::Allowed, call)
+    execute(m, r, call)
 }
 
 /// Sends literal i with n arguments, and executes what is called.
@@ -116,7 +117,7 @@ pub fn send_literal_selector<O: Objects>(
     ensures takes { Takes O.Objects.own executed_send_changes m.old m.new }
 {
     let call = send_literal(m, r, i, n)?;
-    execute(m, r, Performing::Allowed, call)
+    execute(m, r, call)
 }
 
 /// Sends the special selector of this number, and executes what is called.
@@ -133,7 +134,7 @@ pub fn send_special_selector<O: Objects>(
     ensures takes { Takes O.Objects.own executed_send_changes m.old m.new }
 {
     let call = special_send(m, r, k)?;
-    execute(m, r, Performing::Allowed, call)
+    execute(m, r, call)
 }
 
 /// The primitive that is tried first for a special selector of 0 to 15.
@@ -211,9 +212,41 @@ pub fn arithmetic_send<O: Objects>(m: &mut O, r: &mut Registers, k: u32) -> Resu
     arithmetic_by(m, r, k, receiver)
 }
 
-/// Does the primitive of the code 176 + k: 110 and 111 for 198 and 199. Those of 200 to 202 aren't built.
+/// Makes a block (primitive 80), or sends the special selector of this number where it fails.
+#[tactic(auto, using(st_frames::proofs::Doing::rows), unfolding(st_model::specs::Bytecodes::or_send))]
+fn block_copy_or_send<O: Objects>(m: &mut O, r: &mut Registers, k: u32) -> Result<StepEnd, Dead>
+    requires number { k < 32 }
+    requires room { executed_send_changes ≤ O.room m.old }
+    ensures does { RowLeaves O.Objects.own (or_send O.names k (primitive_block_copy O.names))
+        end_of deed_of_end m.old r.old result m.new r.new }
+    ensures takes { Takes O.Objects.own executed_send_changes m.old m.new }
+{
+    match primitive_block_copy(m, r)? {
+        Tried::Done(deed) => Ok(StepEnd::Went(deed)),
+        Tried::Failed => send_special_selector(m, r, k),
+    }
+}
+
+/// Computes a block's value with n arguments (primitive 81), or sends the special selector of this number where it fails.
+#[tactic(auto, using(st_frames::proofs::Doing::rows), unfolding(st_model::specs::Bytecodes::or_send))]
+fn value_or_send<O: Objects>(m: &mut O, r: &mut Registers, k: u32, n: u32) -> Result<StepEnd, Dead>
+    requires number { k < 32 }
+    requires few { n < 16384 }
+    requires room { executed_send_changes ≤ O.room m.old }
+    ensures does { RowLeaves O.Objects.own (or_send O.names k (primitive_value O.names n))
+        end_of deed_of_end m.old r.old result m.new r.new }
+    ensures takes { Takes O.Objects.own executed_send_changes m.old m.new }
+{
+    match primitive_value(m, r, n)? {
+        Tried::Done(deed) => Ok(StepEnd::Went(deed)),
+        Tried::Failed => send_special_selector(m, r, k),
+    }
+}
+
+/// Does the code 176 + k: primitives 110 and 111 for 198 and 199. 200 tries primitive 80, and 201 and 202 try 81.
 #[tactic(auto, using(st_frames::proofs::Doing::rows), unfolding(st_model::specs::Bytecodes::primitive_send, st_model::specs::Executing::goes_on))]
 pub fn primitive_send<O: Objects>(m: &mut O, r: &mut Registers, k: u32) -> Result<StepEnd, Dead>
+    requires number { k < 32 }
     requires room { executed_send_changes ≤ O.room m.old }
     ensures does { RowLeaves O.Objects.own (primitive_send O.names k)
         end_of deed_of_end m.old r.old result m.new r.new }
@@ -222,7 +255,8 @@ pub fn primitive_send<O: Objects>(m: &mut O, r: &mut Registers, k: u32) -> Resul
     match k {
         22 => equivalence(m, r)?,
         23 => receiver_class(m, r)?,
-        _ => return Ok(StepEnd::NotBuilt),
+        24 => return block_copy_or_send(m, r, k),
+        _ => return value_or_send(m, r, k, k.saturating_sub(25)),
     }
     Ok(StepEnd::Went(Deed::Nothing))
 }

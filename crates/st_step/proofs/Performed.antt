@@ -1,0 +1,53 @@
+-- How a selector is performed, by the number of arguments and by the condition on an Array.
+use Rattle.std.proofs.Common.{◌≡◌, ◌≢◌, ◌<◌, ◌≤◌, ◌+◌, ℕ, zero, suc, refl, arith}
+use Rattle.std.specs.Prelude.{◌-◌}
+use Rattle.st_model.specs.declared.dead.Dead.{Dead}
+use Rattle.st_model.specs.declared.dead.Dead.TheVariants as dead
+use Rattle.st_model.specs.Values.{Value}
+use Rattle.st_model.specs.declared.page.PageObject.TheVariants.{ArrayClass}
+use Rattle.st_model.specs.Outcomes.{StepEnd}
+use Rattle.st_model.specs.Machine.{ObjectMemory, State, Transition, Died, Went, answer, after, tried, ◌>>=◌, ◌>>◌}
+use Rattle.st_model.specs.Steps.{count_fields, get_active, get_sp, top, under}
+use Rattle.st_model.specs.Primitives.{check_class}
+use Rattle.st_model.specs.Sends.{Call}
+use Rattle.st_model.specs.Contexts.{activate}
+use Rattle.st_model.specs.Executing.{goes_on, spread_array, perform, primitive_perform, spreading, perform_with, primitive_perform_with, perform_or_activate}
+use Rattle.st_model.specs.Table.{Table}
+use Rattle.st_model.proofs.Runs.{check-below, check-not_below, run-tried_went, run-tried_died}
+use Rattle.st_frames.proofs.Doing.{rows}
+
+pub perform-none : (m : ObjectMemory Table) (c : Call) (v : Value) (n : ℕ) (s : State Table) → n ≡ 0
+    → (perform_or_activate m c v n).run s ≡ (goes_on (activate m c.method v c.arguments)).run s
+unfolding perform_or_activate
+perform-none m c v zero s e = refl
+perform-none m c v (suc n) s e = cc
+
+pub perform-more : (m : ObjectMemory Table) (c : Call) (v : Value) (n : ℕ) (s : State Table) → n ≢ 0
+    → (perform_or_activate m c v n).run s ≡ (primitive_perform m c v (n - 1)).run s
+unfolding perform_or_activate
+perform-more m c v zero s d = absurd (d refl)
+perform-more m c v (suc n) s d = let f : suc n - 1 ≡ n = omega arith in rw f refl
+
+pub ruleset counts = (rows, perform-none, perform-more)
+
+-- 84, whose condition holds, or fails
+module _ (m : ObjectMemory Table) (c : Call) (h v w b : Value) (s : State Table) (y : Transition (State Table) StepEnd)
+    (receiver : (under m 2).run s ≡ Went v s) (selector : (under m 1).run s ≡ Went w s) (array : (top m).run s ≡ Went b s) where
+  pub performs-with : (n : ℕ) → (spreading m b).run s ≡ Went n s → (perform m c h v w n (spread_array m b n)).run s ≡ y → (primitive_perform_with m c h).run s ≡ y
+  unfolding primitive_perform_with perform_with ◌>>=◌ after
+  performs-with n e k = rw (receiver, selector, array, run-tried_went (spreading m b) s s n e) k
+
+  pub activates-for : (k : Dead) → (spreading m b).run s ≡ Died k → (goes_on (activate m c.method h c.arguments)).run s ≡ y → (primitive_perform_with m c h).run s ≡ y
+  unfolding primitive_perform_with perform_with ◌>>=◌ after
+  activates-for k e f = rw (receiver, selector, array, run-tried_died (spreading m b) s k e) f
+
+-- the fields of an Array that the active context has room for, or hasn't
+module _ (m : ObjectMemory Table) (b c : Value) (n f sp : ℕ) (s : State Table) (class : (check_class m b ArrayClass).run s ≡ Went tt s) (count : (count_fields m b).run s ≡ Went n s)
+    (active : get_active.run s ≡ Went c s) (fields : (count_fields m c).run s ≡ Went f s) (at : get_sp.run s ≡ Went sp s) where
+  pub spread-fits : sp - 2 + n < f → (spreading m b).run s ≡ Went n s
+  unfolding spreading ◌>>=◌ ◌>>◌ after answer
+  spread-fits l = rw (class, count, active, fields, at, check-below dead.Sp (sp - 2 + n) f s l) refl
+
+  pub spread-over : f ≤ sp - 2 + n → (spreading m b).run s ≡ Died dead.Sp
+  unfolding spreading ◌>>=◌ ◌>>◌ after answer
+  spread-over l = rw (class, count, active, fields, at, check-not_below dead.Sp (sp - 2 + n) f s l) refl

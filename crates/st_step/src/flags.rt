@@ -1,0 +1,95 @@
+ghost use Rattle.std.specs.Prelude.{◌≡◌, ◌≤◌, ◌+◌, ◌<◌};
+ghost use Rattle.st_model.specs.Values.{word};
+ghost use Rattle.st_model.specs.Outcomes.{end_of};
+ghost use Rattle.st_model.specs.Deeds.{deed_of_end};
+ghost use Rattle.st_model.specs.Sends.{call_of};
+ghost use Rattle.st_model.specs.Executing.{answer_field, execute_performed};
+ghost use Rattle.st_model.specs.Methods.{primitive_number, method_primitive};
+ghost use Rattle.st_model.specs.Calls.{itself};
+ghost use Rattle.st_step.specs.Responding.{by_flag};
+ghost use Rattle.st_frames.specs.Rows.{RowReads, RowDoes, RowLeaves, Takes, activation_changes, response_changes};
+
+use crate::respond::{activated, respond};
+use st_frames::{Registers, pop, push};
+use st_memory::Objects;
+use st_method::Header;
+use st_model::{Call, Dead, Deed, StepEnd, Word};
+
+/// A field of the word at the top takes its place.
+#[tactic(auto, using(st_frames::proofs::Doing::rows), unfolding(st_model::specs::Executing::answer_field))]
+fn answer_field<O: Objects>(m: &mut O, r: &mut Registers, i: u32) -> Result<(), Dead>
+    requires room { 1 ≤ O.room m.old }
+    ensures does { RowDoes O.Objects.own (answer_field O.names i) itself m.old r.old result m.new r.new }
+    ensures takes { Takes O.Objects.own 1 m.old m.new }
+{
+    let object = pop(m, r)?;
+    let answer = m.fetch_field(object, i)?;
+    push(m, r, answer)
+}
+
+/// The primitive that a header extension names.
+#[tactic(auto, using(st_method::proofs::Bits::primitives), unfolding(st_model::specs::Methods::primitive_number))]
+fn primitive_number<O: Objects>(m: &O, r: &Registers, extension: Word) -> Result<u32, Dead>
+    ensures does { RowReads O.Objects.own (primitive_number (word extension)) itself m.now r.now result }
+{
+    if extension.is_small() {
+        Ok(extension.0 / 2 % 256)
+    } else {
+        Err(Dead::NotSmall)
+    }
+}
+
+/// The primitive of a method.
+#[tactic(auto, using(st_frames::proofs::Doing::rows), unfolding(st_model::specs::Methods::method_primitive))]
+pub fn method_primitive<O: Objects>(m: &O, r: &Registers, method: Word) -> Result<u32, Dead>
+    ensures does { RowReads O.Objects.own (method_primitive O.names (word method)) itself m.now r.now result }
+{
+    let extension = m.literal_from_last(method, 1)?;
+    primitive_number(m, r, extension)
+}
+
+/// A method that has no header extension is executed by its flag.
+#[tactic(auto, using(st_frames::proofs::Doing::rows), unfolding(crate::specs::Responding::by_flag, st_model::specs::Executing::goes_on))]
+pub fn by_flag<O: Objects>(
+    m: &mut O,
+    r: &mut Registers,
+    call: Call,
+    header: Header,
+    flag: u32,
+) -> Result<StepEnd, Dead>
+    requires room { activation_changes ≤ O.room m.old }
+    ensures does { RowLeaves O.Objects.own (by_flag O.names (call_of call) (word header.0) flag)
+        end_of deed_of_end m.old r.old result m.new r.new }
+    ensures takes { Takes O.Objects.own activation_changes m.old m.new }
+{
+    match flag {
+        5 => Ok(StepEnd::Went(Deed::Nothing)),
+        6 => {
+            answer_field(m, r, header.temporaries())?;
+            Ok(StepEnd::Went(Deed::Nothing))
+        }
+        _ => activated(m, r, call, header),
+    }
+}
+
+/// Executes the method that primitive 83 or 84 performs: of its primitives these two fail.
+#[tactic(auto, using(st_frames::proofs::Doing::rows), unfolding(st_model::specs::Executing::execute_performed, st_model::specs::Executing::execute_by, st_model::specs::Executing::respond_by_extension, crate::specs::Responding::by_flag))]
+pub fn execute_performed<O: Objects>(
+    m: &mut O,
+    r: &mut Registers,
+    call: Call,
+) -> Result<StepEnd, Dead>
+    requires room { response_changes ≤ O.room m.old }
+    ensures does { RowLeaves O.Objects.own (execute_performed O.names (call_of call))
+        end_of deed_of_end m.old r.old result m.new r.new }
+    ensures takes { Takes O.Objects.own response_changes m.old m.new }
+{
+    let header = Header(m.method_header(call.method)?);
+    let flag = header.flag();
+    if flag == 7 {
+        let primitive = method_primitive(m, r, call.method)?;
+        respond(m, r, call, header, primitive)
+    } else {
+        by_flag(m, r, call, header, flag)
+    }
+}

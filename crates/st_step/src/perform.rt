@@ -1,0 +1,256 @@
+ghost use Rattle.std.specs.Prelude.{◌≡◌, ◌<◌, ◌≤◌, ◌+◌, IfOk};
+ghost use Rattle.st_model.specs.Values.{word};
+ghost use Rattle.st_model.specs.Outcomes.{end_of};
+ghost use Rattle.st_model.specs.Deeds.{deed_of_end};
+ghost use Rattle.st_model.specs.Sends.{call_of};
+ghost use Rattle.st_model.specs.Methods.{extension_arguments, arguments_by_extension, arguments_by, method_arguments};
+ghost use Rattle.st_model.specs.Executing.{takes, execute_found, drop_selector, spread_array, perform, primitive_perform, spreading, primitive_perform_with, perform_or_activate};
+ghost use Rattle.st_model.specs.Calls.{itself};
+ghost use Rattle.st_lookup.specs.Places.{found_word};
+ghost use Rattle.st_frames.specs.Rows.{RowReads, RowDoes, RowLeaves, Takes, send_changes, response_changes, execution_changes};
+
+use crate::flags::execute_performed;
+use crate::respond::activated;
+use st_control::not_understood;
+use st_frames::{Registers, check_class, drop_words, set_stack_pointer, top, under};
+use st_lookup::look_up;
+use st_memory::Objects;
+use st_method::Header;
+use st_model::{Call, Dead, PageObject, StepEnd, Word};
+
+/// The number of arguments that a header extension names.
+#[tactic(auto, using(st_method::proofs::Bits::arguments), unfolding(st_model::specs::Methods::extension_arguments))]
+fn extension_arguments<O: Objects>(m: &O, r: &Registers, extension: Word) -> Result<u32, Dead>
+    ensures does { RowReads O.Objects.own (extension_arguments (word extension))
+        itself m.now r.now result }
+{
+    if extension.is_small() {
+        Ok(extension.0 / 2 / 256 % 32)
+    } else {
+        Err(Dead::NotSmall)
+    }
+}
+
+/// How many arguments a method of this flag takes.
+#[tactic(auto, using(st_frames::proofs::Doing::rows), unfolding(st_model::specs::Methods::arguments_by, st_model::specs::Methods::arguments_by_extension))]
+fn arguments_by<O: Objects>(m: &O, r: &Registers, method: Word, flag: u32) -> Result<u32, Dead>
+    ensures does { RowReads O.Objects.own (arguments_by O.names (word method) flag)
+        itself m.now r.now result }
+{
+    if flag == 7 {
+        let extension = m.literal_from_last(method, 1)?;
+        return extension_arguments(m, r, extension);
+    }
+    if flag < 5 { Ok(flag) } else { Ok(0) }
+}
+
+/// How many arguments a method takes.
+#[tactic(auto, using(st_frames::proofs::Doing::rows), unfolding(st_model::specs::Methods::method_arguments))]
+fn method_arguments<O: Objects>(m: &O, r: &Registers, method: Word) -> Result<u32, Dead>
+    ensures does { RowReads O.Objects.own (method_arguments O.names (word method))
+        itself m.now r.now result }
+{
+    let header = Header(m.method_header(method)?);
+    arguments_by(m, r, method, header.flag())
+}
+
+/// Whether the method takes n arguments, where one was found; where none was, whatever is given is taken.
+#[tactic(auto, using(st_frames::proofs::Doing::rows), unfolding(st_model::specs::Executing::takes))]
+fn takes<O: Objects>(m: &O, r: &Registers, n: u32, found: Option<Word>) -> Result<bool, Dead>
+    ensures does { RowReads O.Objects.own (takes O.names n (found_word found)) itself m.now r.now result }
+{
+    match found {
+        None => Ok(true),
+        Some(method) => {
+            let taken = method_arguments(m, r, method)?;
+            Ok(taken == n)
+        }
+    }
+}
+
+/// Executes the method with the n arguments at the top, or tells that the selector isn't understood.
+#[tactic(auto, using(st_frames::proofs::Doing::rows), unfolding(st_model::specs::Executing::execute_found))]
+fn execute_found<O: Objects>(
+    m: &mut O,
+    r: &mut Registers,
+    class: Word,
+    selector: Word,
+    n: u32,
+    found: Option<Word>,
+) -> Result<StepEnd, Dead>
+    requires few { n < 16384 }
+    requires room { send_changes + response_changes ≤ O.room m.old }
+    ensures does { RowLeaves O.Objects.own
+        (execute_found O.names (word class) (word selector) n (found_word found))
+        end_of deed_of_end m.old r.old result m.new r.new }
+    ensures takes { Takes O.Objects.own (send_changes + response_changes) m.old m.new }
+{
+    match found {
+        Some(method) => execute_performed(
+            m,
+            r,
+            Call {
+                method,
+                arguments: n,
+            },
+        ),
+        None => {
+            let call = not_understood(m, r, class, selector, n)?;
+            execute_performed(m, r, call)
+        }
+    }
+}
+
+/// The selector leaves, which has n arguments above it.
+#[tactic(auto, using(st_frames::proofs::Doing::rows), unfolding(st_model::specs::Executing::drop_selector))]
+fn drop_selector<O: Objects>(m: &mut O, r: &mut Registers, n: u32) -> Result<(), Dead>
+    requires few { n < 16384 }
+    requires room { 1 ≤ O.room m.old }
+    ensures does { RowDoes O.Objects.own (drop_selector O.names n) itself m.old r.old result m.new r.new }
+    ensures takes { Takes O.Objects.own 1 m.old m.new }
+{
+    let from = (r.sp + 1).saturating_sub(n);
+    m.transfer(n, r.active, from, r.active, r.sp.saturating_sub(n))?;
+    drop_words(m, r, 1)
+}
+
+/// The selector is performed with the n arguments above it.
+#[tactic(auto, using(st_frames::proofs::Doing::rows), unfolding(st_model::specs::Executing::perform, st_model::specs::Executing::perform_if))]
+fn perform_selector<O: Objects>(
+    m: &mut O,
+    r: &mut Registers,
+    call: Call,
+    header: Header,
+    receiver: Word,
+    selector: Word,
+    n: u32,
+) -> Result<StepEnd, Dead>
+    requires few { n < 16384 }
+    requires room { execution_changes ≤ O.room m.old }
+    ensures does { RowLeaves O.Objects.own
+        (perform O.names (call_of call) (word header.0) (word receiver) (word selector) n
+        (drop_selector O.names n))
+        end_of deed_of_end m.old r.old result m.new r.new }
+    ensures takes { Takes O.Objects.own execution_changes m.old m.new }
+{
+    let class = m.fetch_class(receiver)?;
+    let found = look_up(m, class, selector)?;
+    if takes(m, r, n, found)? {
+        drop_selector(m, r, n)?;
+        execute_found(m, r, class, selector, n, found)
+    } else {
+        activated(m, r, call, header)
+    }
+}
+
+/// Primitive 83: the first argument, a selector, is performed with the others.
+#[tactic(auto, using(crate::proofs::Performed::counts), unfolding(st_model::specs::Executing::primitive_perform))]
+pub fn perform_or_activate<O: Objects>(
+    m: &mut O,
+    r: &mut Registers,
+    call: Call,
+    header: Header,
+) -> Result<StepEnd, Dead>
+    requires room { execution_changes ≤ O.room m.old }
+    ensures does { RowLeaves O.Objects.own
+        (perform_or_activate O.names (call_of call) (word header.0) call.arguments)
+        end_of deed_of_end m.old r.old result m.new r.new }
+    ensures takes { Takes O.Objects.own execution_changes m.old m.new }
+{
+    if call.arguments == 0 {
+        return activated(m, r, call, header);
+    }
+    let n = call.arguments - 1;
+    let receiver = under(m, r, n + 1)?;
+    let selector = under(m, r, n)?;
+    perform_selector(m, r, call, header, receiver, selector, n)
+}
+
+/// How many fields an Array has, where the active context has room for them in place of selector and Array.
+#[tactic(auto, using(st_frames::proofs::Doing::checks), unfolding(st_model::specs::Executing::spreading))]
+fn spreading<O: Objects>(m: &O, r: &Registers, array: Word) -> Result<u32, Dead>
+    ensures does { RowReads O.Objects.own (spreading O.names (word array)) itself m.now r.now result }
+    ensures size { IfOk result (λ n. n ≤ 65533) }
+{
+    check_class(m, r, array, PageObject::ArrayClass)?;
+    let n = m.count_fields(array)?;
+    let fields = m.count_fields(r.active)?;
+    if fields <= r.sp - 2 + n {
+        return Err(Dead::Sp);
+    }
+    Ok(n)
+}
+
+/// The n fields of an Array take the places of selector and Array.
+#[tactic(auto, using(st_frames::proofs::Doing::checks), unfolding(st_model::specs::Executing::spread_array))]
+fn spread_array<O: Objects>(m: &mut O, r: &mut Registers, array: Word, n: u32) -> Result<(), Dead>
+    requires size { n ≤ 65533 }
+    requires above { 7 ≤ r.old.sp }
+    requires room { 1 ≤ O.room m.old }
+    ensures does { RowDoes O.Objects.own (spread_array O.names (word array) n)
+        itself m.old r.old result m.new r.new }
+    ensures few { IfOk result (λ u. n < 16384) }
+    ensures takes { Takes O.Objects.own 1 m.old m.new }
+{
+    let end = r.sp - 2 + n;
+    if 16388 < end {
+        return Err(Dead::Sp);
+    }
+    m.transfer(n, array, 0, r.active, r.sp - 1)?;
+    set_stack_pointer(m, r, end);
+    Ok(())
+}
+
+/// The selector is performed with the n fields of an Array, which stands above it.
+#[tactic(auto, using(st_frames::proofs::Doing::rows), unfolding(st_model::specs::Executing::perform, st_model::specs::Executing::perform_if))]
+fn perform_with_array<O: Objects>(
+    m: &mut O,
+    r: &mut Registers,
+    call: Call,
+    header: Header,
+    receiver: Word,
+    selector: Word,
+    array: Word,
+    n: u32,
+) -> Result<StepEnd, Dead>
+    requires size { n ≤ 65533 }
+    requires above { 7 ≤ r.old.sp }
+    requires room { execution_changes ≤ O.room m.old }
+    ensures does { RowLeaves O.Objects.own
+        (perform O.names (call_of call) (word header.0) (word receiver) (word selector) n
+        (spread_array O.names (word array) n))
+        end_of deed_of_end m.old r.old result m.new r.new }
+    ensures takes { Takes O.Objects.own execution_changes m.old m.new }
+{
+    let class = m.fetch_class(receiver)?;
+    let found = look_up(m, class, selector)?;
+    if takes(m, r, n, found)? {
+        spread_array(m, r, array, n)?;
+        execute_found(m, r, class, selector, n, found)
+    } else {
+        activated(m, r, call, header)
+    }
+}
+
+/// Primitive 84: the first argument, a selector, is performed with the fields of the second, an Array.
+#[tactic(auto, using(st_frames::proofs::Doing::rows), unfolding(st_model::specs::Executing::primitive_perform_with))]
+pub fn primitive_perform_with<O: Objects>(
+    m: &mut O,
+    r: &mut Registers,
+    call: Call,
+    header: Header,
+) -> Result<StepEnd, Dead>
+    requires room { execution_changes ≤ O.room m.old }
+    ensures does { RowLeaves O.Objects.own
+        (primitive_perform_with O.names (call_of call) (word header.0))
+        end_of deed_of_end m.old r.old result m.new r.new }
+    ensures takes { Takes O.Objects.own execution_changes m.old m.new }
+{
+    let receiver = under(m, r, 2)?;
+    let selector = under(m, r, 1)?;
+    let array = top(m, r)?;
+    match spreading(m, r, array) {
+        Ok(n) => perform_with_array(m, r, call, header, receiver, selector, array, n),
+        Err(_) => activated(m, r, call, header),
+    }
+}
