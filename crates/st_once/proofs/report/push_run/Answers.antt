@@ -33,7 +33,7 @@ no_death (end.Dead done cause) h = absurd (h done cause refl)
 no_death (end.Unbuilt done code) h = refl
 
 pub push_state-requires : goal.push_state-requires
-push_state-requires g c = c.requires.ready (no_death c.args.end c.in_default.not-Dead)
+push_state-requires g c = record { ready = c.requires.ready (no_death c.args.end c.in_default.not-Dead) }
 
 pub returns-in_err-push_end : goal.returns-in_err-push_end
 returns-in_err-push_end g c = push_begun _ c.from_residual.ensures.0 c.in_err-push_end.ensures
