@@ -6,4 +6,5 @@ mod Sizes
 mod Storing
 mod Swept
 mod Taking
+mod TakingRows
 mod Tallying

@@ -47,6 +47,9 @@ number_cases m n = grind arith
 other_number : (k n : ℕ) → k ≢ n → IsTrue (not (k == n))
 other_number k n d = grind (arith, nat_tests)
 
+pub without_below : (set : ℕ → Bool) (k n : ℕ) → IsTrue (without set k n) → IsTrue (set n)
+without_below set k n t = (both (set n) (not (n == k)) t).0
+
 last_case : (k n : ℕ) → k < suc n → (k ≡ n) ⊎ (k < n)
 last_case k n l = grind arith
 
@@ -61,7 +64,7 @@ module _ {H : Type 0} (m : ObjectMemory H) (h : H) (roots : List Value) where
   -- what is left was there
   left_within : (set : ℕ → Bool) (order : List ℕ) (left : ℕ → Bool) → TakesAway m h roots set order left → (n : ℕ) → IsTrue (left n) → IsTrue (set n)
   left_within set [] left takes n t = subst (λ b. IsTrue b) (takes n) t
-  left_within set (k ∷ ks) left takes n t = (both (set n) (not (n == k)) (left_within (without set k) ks left takes.1 n t)).0
+  left_within set (k ∷ ks) left takes n t = without_below set k n (left_within (without set k) ks left takes.1 n t)
 
   -- a set that supports itself has no member that is unsupported in a set round it
   stays : (set other : ℕ → Bool) (k : ℕ) → SupportsItself m h roots other → ((n : ℕ) → IsTrue (other n) → IsTrue (set n)) → IsUnsupported m h roots set k → IsTrue (other k) → ⊥
@@ -104,17 +107,21 @@ module _ {H : Type 0} (m : ObjectMemory H) (h : H) (roots : List Value) where
       (true_below (m.size h) r.from (λ k. set k && object_names (m.read h k) n) l
       (and_true (set r.from) (object_names (m.read h r.from) n) r.member (is_object (m.read h r.from) r.object n r.is r.refers)))
 
+  -- what the test of support doesn't hold of may be taken away
+  pub unsupported : (set : ℕ → Bool) → ((n : ℕ) → IsTrue (set n) → n < m.size h) → (n : ℕ) → IsTrue (set n) → is_supported m h roots set n ≡ false → IsUnsupported m h roots set n
+  unsupported set below n t f = record {
+    member = t;
+    no_root = λ r. both_ways (is_supported m h roots set n) (root_supported set n r) f;
+    no_referred = λ r. both_ways (is_supported m h roots set n) (referred_supported set n r (below r.from r.member)) f;
+  }
+
   module _ (finite : (n : ℕ) → IsTrue (m.kept h n) → n < m.size h) where
     left_supports : (order : List ℕ) (left : ℕ → Bool) → TakesAway m h roots (m.kept h) order left → ((n : ℕ) → IsUnsupported m h roots left n → ⊥) → SupportsItself m h roots left
     left_supports order left takes none = record {
       kept = kept;
       supported = λ n t. elim (bool_cases (is_supported m h roots left n)) [
         | inl s ↦ supported_is left n s
-        | inr f ↦ absurd (none n (record {
-          member = t;
-          no_root = λ r. both_ways (is_supported m h roots left n) (root_supported left n r) f;
-          no_referred = λ r. both_ways (is_supported m h roots left n) (referred_supported left n r (finite r.from (kept r.from r.member))) f;
-        }))
+        | inr f ↦ absurd (none n (unsupported left (λ k u. finite k (kept k u)) n t f))
       ];
     }
       where
