@@ -1,6 +1,7 @@
 -- How often what is held refers, and how many references there can be.
 use Rattle.std.proofs.Common.{◌≡◌, ℕ, suc, ◌+◌, ◌/◌, ◌<◌, ◌≤◌, Bool, true, false, cond, List, [], ◌∷◌, length, get_or, refl, sym, ap, subst, is_some, arith}
 use Rattle.std.specs.Prelude.{◌==◌, Option, Some, None, if◌then◌else◌}
+use Rattle.std.proofs.lemmas.List.{set-get_or}
 use Rattle.std.proofs.lemmas.Option.{slice_get-get_or}
 use Rattle.st_model.specs.declared.place.RootPlace.{RootPlace}
 use Rattle.st_model.specs.declared.place.RootPlace.TheVariants as place
@@ -29,6 +30,20 @@ pub roots_parts : (v : View) (k : ℕ) → times k (all_roots v) ≡ times k (pa
 roots_parts v k =
     let a = times_append k (page_values page) (view_roots v) in
     let b = times_append k (head_roots v.head) (device_roots v.held.devices) in omega (arith, a, b)
+
+-- what a place holds is held there already
+pub held_already : (h : Held) (p : RootPlace) → with_held h p (held_at h p) ≡ h
+held_already h place.Active = refl
+held_already h place.Home = refl
+held_already h place.Method = refl
+held_already h place.Receiver = refl
+held_already h place.NewProcess = refl
+held_already h place.Display = refl
+held_already h place.Cursor = refl
+held_already h place.InputSemaphore = refl
+held_already h place.Timer = refl
+held_already h place.LowSpace = refl
+held_already h (place.Pending k) = λ i. record h { devices = record h.devices { pending = set-get_or h.devices.pending k nil i } }
 
 -- a place takes a reference, and gives what it held
 held_moves : (h : Held) (p : RootPlace) (x : Value) (k : ℕ) → IsPlace p → length h.devices.pending ≡ 4096 → held_times k (with_held h p x) + times k (held_at h p ∷ []) ≡ held_times k h + times k (x ∷ [])

@@ -94,8 +94,11 @@ impl Contents {
         ensures counted { AllCounted self.new }
         ensures room { HasRoom self.old → HasRoom self.new }
     {
-        raise(&mut self.counts, o, 1);
         let old = self.roots.held(place);
+        if old == o {
+            return;
+        }
+        raise(&mut self.counts, o, 1);
         self.roots.hold(place, o);
         lower(&mut self.counts, old);
     }

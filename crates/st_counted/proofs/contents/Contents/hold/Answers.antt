@@ -1,10 +1,13 @@
-use Rattle.std.proofs.Common.{◌/◌, [], ◌∷◌, refl, sym, subst, arith}
-use Rattle.st_model.specs.Values.{Value, value}
+use Rattle.std.proofs.Common.{◌≡◌, ◌∙◌, ap, ◌/◌, [], ◌∷◌, refl, sym, subst, arith}
+use Rattle.std.proofs.lemmas.Bool.{eqb-true}
+use Rattle.st_model.specs.View.{with_held}
+use Rattle.st_lists.specs.Held.{held_of}
+use Rattle.st_model.specs.Values.{Value, value, value_of}
 use Rattle.st_counts.specs.Contents.{counts_of}
 use Rattle.st_counted.specs.References.{all_roots, references, IsCounted}
 use Rattle.st_counted.specs.Counted.{counted_view, numbers_of}
 use Rattle.st_counted.proofs.Tallying.{known_counted, hand_counted, hand_some}
-use Rattle.st_counted.proofs.Rooting.{counted_few, counted_held}
+use Rattle.st_counted.proofs.Rooting.{counted_few, counted_held, held_already}
 use Rattle.st_counted.proofs.Storing.{raised_to, lowered_to}
 use Rattle.st_counted.proofs.contents.Contents.hold.Goals as goal
 
@@ -51,3 +54,10 @@ returns-clause-counted c =
     (subst (λ (x : Value). IsCounted w.objects (all_roots w) (x ∷ []) cs1) (sym c.held-old.ensures)
     (counted_held v w [] cs1 c.args.place (value c.args.o) (raised_to v.objects (all_roots v) [] (numbers_of m) cs1 (value c.args.o) 1 c.requires.counted c.requires.known c.raise.ensures)
     c.requires.place c.requires.whole.pending refl c.hold.ensures refl)) c.lower.ensures
+
+-- what is held already stays
+pub returns-then-eq-clause-held : goal.returns-then-eq-clause-held
+returns-then-eq-clause-held c =
+    let h = held_of c.args.self.now.roots in
+    let same : value c.held-old.result ≡ value c.args.o = ap value_of (eqb-true c.held-old.result.0 c.args.o.0 (sym c.eq.ensures ∙ c.if-eq.true)) in
+    sym (ap (with_held h c.args.place) (sym same ∙ c.held-old.ensures) ∙ held_already h c.args.place)
