@@ -1,1 +1,1 @@
-pub mod NewWorld
+pub mod Ready

@@ -46,7 +46,7 @@ fn holds_semaphore<M: Memory>(rt: &impl Abort, m: &mut M, w: &mut World, device:
 }
 
 /// How many words wait, and how many signals are pending.
-fn counts(rt: &impl Abort, w: &World, words: u32, signals: u32) {
+pub fn counts(rt: &impl Abort, w: &World, words: u32, signals: u32) {
     assert_eq!(rt; w.waiting_count(), words);
     assert_eq!(rt; w.pending_count(), signals);
 }

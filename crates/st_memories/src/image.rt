@@ -2,8 +2,10 @@ ghost use Rattle.std.specs.Prelude.{◌≡◌, ◌/◌, true, IfOk};
 ghost use Rattle.st_model.specs.Formed.{IsMakeable, fresh};
 ghost use Rattle.st_model.specs.Objects.{words_of};
 ghost use Rattle.st_model.specs.View.{no_devices};
+ghost use Rattle.st_frames.specs.Shown.{IsFrame, IsReady};
 ghost use Rattle.st_world.specs.Naming.{IsNaming};
 
+use st_frames::Loaded;
 use st_image::{HeadValues, ReadImage, read};
 use st_input::World;
 use st_memory::{Loader, Memory};
@@ -56,40 +58,48 @@ fn bytes_of_b(alloc: Global, entry_of_10: [u16; 2]) -> Result<Vec<u8>, AllocErro
     Ok(bytes)
 }
 
-fn loaded<L: Loader>(alloc: Global, bytes: &[u8], words: u32) -> Result<L::Done, Fail>
-    ensures { IfOk result (λ m. (L.Done.view m).held.devices ≡ no_devices) }
+fn loaded<L: Loader>(alloc: Global, bytes: &[u8], words: u32) -> Result<Loaded<L::Done>, Fail>
+    ensures frame { IfOk result (λ l. IsFrame (L.Done.view l.memory) l.frame) }
+    ensures quiet { IfOk result (λ l. (L.Done.view l.memory).held.devices ≡ no_devices) }
 {
     let over = HeadValues {
         words: Some(words),
         ..HeadValues::NONE
     };
     match read::<L>(alloc, bytes, &over) {
-        Ok(loaded) => Ok(loaded.memory),
+        Ok(loaded) => Ok(loaded),
         Err(ReadImage::Fault(_)) | Err(ReadImage::OutOfMemory) => Err(AllocError.into()),
     }
 }
 
 /// Image B with so many words.
-pub fn image_b<L: Loader>(alloc: Global, words: u32) -> Result<L::Done, Fail>
-    ensures { IfOk result (λ m. (L.Done.view m).held.devices ≡ no_devices) }
+pub fn image_b<L: Loader>(alloc: Global, words: u32) -> Result<L::Done, Fail> {
+    let bytes = bytes_of_b(alloc, [32, 0])?;
+    Ok(loaded::<L>(alloc, &bytes, words)?.memory)
+}
+
+/// Image B with its registers, and a new world. The memory holds these alone.
+pub fn ready_b<L: Loader>(alloc: Global) -> Result<(Loaded<L::Done>, World), Fail>
+    ensures { IfOk result (λ p. IsReady (L.Done.view p.0.memory) p.0.frame p.1) }
 {
     let bytes = bytes_of_b(alloc, [32, 0])?;
-    loaded::<L>(alloc, &bytes, words)
+    let loaded = loaded::<L>(alloc, &bytes, 1048576)?;
+    let world = World::new(alloc)?;
+    Ok((loaded, world))
 }
 
 /// Image B, in a memory that holds no device, and a new world, so that all that the world names is held.
 pub fn quiet_b<L: Loader>(alloc: Global) -> Result<(L::Done, World), Fail>
     ensures { IfOk result (λ p. IsNaming (L.Done.view p.0).held p.1) }
 {
-    let memory = image_b::<L>(alloc, 1048576)?;
-    let world = World::new(alloc)?;
-    Ok((memory, world))
+    let (loaded, world) = ready_b::<L>(alloc)?;
+    Ok((loaded.memory, world))
 }
 
 /// Image B with an object under pointer 10 that nothing names.
 pub fn image_with_unnamed<L: Loader>(alloc: Global) -> Result<L::Done, Fail> {
     let bytes = bytes_of_b(alloc, [64, 78])?;
-    loaded::<L>(alloc, &bytes, 1048576)
+    Ok(loaded::<L>(alloc, &bytes, 1048576)?.memory)
 }
 
 /// Whether there can be such an object without literals; it asks for a small one.
@@ -112,7 +122,9 @@ pub fn words_for(class: Oop, kind: Kind, size: u32) -> u32
 }
 
 /// Makes an object without literals, for which there must be room.
-pub fn make<M: Memory>(rt: &impl Abort, m: &mut M, class: u16, kind: Kind, size: u32) -> u16 {
+pub fn make<M: Memory>(rt: &impl Abort, m: &mut M, class: u16, kind: Kind, size: u32) -> u16
+    ensures { (M.view m.new).held ≡ (M.view m.old).held }
+{
     let class = Oop(class);
     assert!(rt; m.live(class));
     assert!(rt; is_makeable(class, kind, size));
@@ -130,13 +142,39 @@ pub fn hold<M: Memory>(rt: &impl Abort, m: &mut M, place: RootPlace, o: u16) {
 }
 
 /// Stores into a field of an object of kind Pointers.
-pub fn write<M: Memory>(rt: &impl Abort, m: &mut M, o: u16, at: u32, v: u16) {
+pub fn write<M: Memory>(rt: &impl Abort, m: &mut M, o: u16, at: u32, v: u16)
+    ensures { (M.view m.new).held ≡ (M.view m.old).held }
+{
     let o = Oop(o);
     let v = Oop(v);
-    assert!(rt; m.live(o) && m.live(v));
+    assert!(rt; m.live(o));
+    assert!(rt; v.is_small() || m.live(v));
     assert!(rt; m.kind(o).is_pointers());
     assert!(rt; at < m.size(o));
     m.set_pointer(o, at, v);
+}
+
+/// Stores these into the first fields of an object of kind Pointers.
+pub fn write_first<M: Memory>(rt: &impl Abort, m: &mut M, o: u16, values: &[u16])
+    ensures { (M.view m.new).held ≡ (M.view m.old).held }
+{
+    assert!(rt; m.live(Oop(o)));
+    for at in 0..m.size(Oop(o)) {
+        if let Some(v) = values.get(at as usize) {
+            write(rt, m, o, at, *v);
+        }
+    }
+}
+
+/// The first fields of an object of kind Pointers are these, and all further ones nil.
+pub fn first_are<M: Memory>(rt: &impl Abort, m: &M, o: u16, values: &[u16]) {
+    let object = Oop(o);
+    assert!(rt; m.live(object), "{o} is gone");
+    assert!(rt; m.kind(object).is_pointers());
+    for at in 0..m.size(object) {
+        let wanted = values.get(at as usize).copied().unwrap_or(Oop::NIL.0);
+        assert_eq!(rt; m.pointer(object, at).0, wanted, "field {at} of {o}");
+    }
 }
 
 pub fn used<M: Memory>(rt: &impl Abort, m: &M, entries: u32, words: u32) {

@@ -1,10 +1,12 @@
-//! Tests of the memory over a heap, alone and beside the plain one, and of events over both. No crate uses it.
+//! Tests of the memory over a heap, alone and beside the plain one, and of events and machines over both. No crate uses it.
 #![tactic(auto)]
 
 #[cfg(test)]
 mod events;
 #[cfg(test)]
 mod image;
+#[cfg(test)]
+mod machines;
 #[cfg(test)]
 mod rows;
 #[cfg(test)]
