@@ -1,6 +1,6 @@
 use Rattle.std.proofs.Common.{rules, ◌≡◌, Err, sym, subst, ap, ◌∙◌}
 use Rattle.st_model.specs.declared.demand.Demand.{Demand}
-use Rattle.st_model.specs.Outcomes.{Space, Unbuilt, outcome_of}
+use Rattle.st_model.specs.Outcomes.{Space, outcome_of}
 use Rattle.st_model.specs.Machine.{Transition, State, Went, used}
 use Rattle.st_model.specs.Table.{table, apart}
 use Rattle.st_model.specs.Bytecodes.{step}
