@@ -72,6 +72,7 @@ mod SendRows
 mod ArithmeticRows
 mod StorageRows
 mod StorageBounds
+mod BitBltRows
 mod ProcessRows
 mod InputRows
 mod BlockRows

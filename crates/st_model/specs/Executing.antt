@@ -4,7 +4,7 @@ use Rattle.st_model.specs.declared.dead.Dead.TheVariants as dead
 use Rattle.st_model.specs.Values.{Value}
 use Rattle.st_model.specs.Objects.{ArrayClass}
 use Rattle.st_model.specs.Machine.{ObjectMemory, Step, answer, tried, ◌>>=◌, ◌>>◌}
-use Rattle.st_model.specs.Outcomes.{Outcome, StepEnd, Did, NotBuilt}
+use Rattle.st_model.specs.Outcomes.{Outcome, StepEnd, Did}
 use Rattle.st_model.specs.Outcomes as outcome
 use Rattle.st_model.specs.Steps.{class_of, check, count_fields, fetch_field, transfer, get_active, get_sp, set_sp, push, pop, top, under, drop_words}
 use Rattle.st_model.specs.Methods.{flag_of, temporary_count, method_header, method_primitive, method_arguments}
@@ -54,11 +54,7 @@ asks m o = do
 abbrev pub is_from : ℕ → ℕ → ℕ → Bool
 is_from first last n = nat_le first n && nat_le n last
 
--- 96, which copies bits, isn't built
-abbrev pub is_unbuilt : ℕ → Bool
-is_unbuilt n = n == 96
-
--- What the primitives do that ask for something, or aren't built. All numbers that no primitive has, always fail, and activate
+-- What the primitives do that ask for something. All numbers that no primitive has, always fail, and activate
 -- the method as 0 does: among them 21 to 37, 40 to 54, 103 and 104, which the book has for floating-point and large numbers,
 -- the scanning of characters and lines. So do 83 and 84 where they may perform no more.
 unfoldable pub respond_last : {H : Type 0} → ObjectMemory H → Call → Value → ℕ → Step H StepEnd
@@ -67,10 +63,10 @@ respond_last m call header primitive =
     if primitive == 97 && call.arguments == 0 then asks m outcome.Snapshot else
     if primitive == 113 && call.arguments == 0 then asks m outcome.Quit else
     if primitive == 114 && call.arguments == 0 then asks m outcome.Debugger else
-    if is_unbuilt primitive then answer NotBuilt else goes_on (activate m call.method header call.arguments)
+    goes_on (activate m call.method header call.arguments)
 
 -- A method of this primitive is executed; 0 is none. A primitive that is given another number of arguments than its own fails,
--- but 81 and 89 take any number. 96, which isn't built, is told whatever it is given.
+-- but 81 and 89 take any number.
 unfoldable pub respond : {H : Type 0} → ObjectMemory H → Call → Value → ℕ → Step H StepEnd
 respond m call header primitive =
     if is_from 1 18 primitive && call.arguments == 1 then or_activate m call header (arithmetic m primitive) else
