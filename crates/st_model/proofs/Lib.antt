@@ -6,6 +6,7 @@ pub mod ContextsSame
 pub mod LookupSame
 pub mod SendsSame
 pub mod PrimitivesSame
+mod BitBltSame
 mod StorageSame
 pub mod ProcessesSame
 pub mod InputSame
@@ -54,6 +55,8 @@ pub mod Texts
 pub mod Again
 pub mod Present
 pub mod PresentSteps
+mod BitBltSure
+mod StorageSure
 pub mod ProcessesSure
 pub mod InputSure
 pub mod CyclesSure
@@ -72,6 +75,7 @@ mod SendRows
 mod ArithmeticRows
 mod StorageRows
 mod StorageBounds
+mod BitBltRows
 mod ProcessRows
 mod InputRows
 mod BlockRows
