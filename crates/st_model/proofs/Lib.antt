@@ -11,6 +11,8 @@ mod StorageSame
 pub mod ProcessesSame
 pub mod InputSame
 mod BlocksSame
+mod Looking
+mod CopyingBits
 pub mod Deeds
 pub mod Leaving
 pub mod ExecutingSame
