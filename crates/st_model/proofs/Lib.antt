@@ -6,10 +6,13 @@ pub mod ContextsSame
 pub mod LookupSame
 pub mod SendsSame
 pub mod PrimitivesSame
+mod BitBltSame
 mod StorageSame
 pub mod ProcessesSame
 pub mod InputSame
 mod BlocksSame
+mod Looking
+mod CopyingBits
 pub mod Deeds
 pub mod Leaving
 pub mod ExecutingSame
@@ -54,6 +57,8 @@ pub mod Texts
 pub mod Again
 pub mod Present
 pub mod PresentSteps
+mod BitBltSure
+mod StorageSure
 pub mod ProcessesSure
 pub mod InputSure
 pub mod CyclesSure
@@ -72,6 +77,7 @@ mod SendRows
 mod ArithmeticRows
 mod StorageRows
 mod StorageBounds
+mod BitBltRows
 mod ProcessRows
 mod InputRows
 mod BlockRows
