@@ -127,7 +127,7 @@ unfolding painted
 painted_size c = length-made _ _
 
 -- what a step that looks comes to from one state over a table, it comes to from each
-from_each : {A : Type 0} {m : _} → Looks m → (s : State Table) (a : A) → m.run s ≡ Went a s → Reads m itself s.memory (Ok a)
+pub from_each : {A : Type 0} {m : _} → Looks m → (s : State Table) (a : A) → m.run s ≡ Went a s → Reads m itself s.memory (Ok a)
 from_each h s a e = λ u q. went_too (h.comes s.memory) s u a (sym (h.does s) ∙ e) (h.does u ∙ ap (λ t. transition_of itself (h.comes t) u) q)
   where
     went_too : {A : Type 0} {x : Transition (State Table) A} (r : Result A Dead) (s u : State Table) (a : A) → transition_of itself r s ≡ Went a s → x ≡ transition_of itself r u → x ≡ Went a u

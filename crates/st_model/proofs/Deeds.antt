@@ -408,6 +408,14 @@ world_stays (MoveMouse a b) t n o i x w e = refl
 world_stays (CopyBits v) t n o i x w e = refl
 world_stays (TakeWord v k) t n o i x w e = refl
 
+-- a change of one object that is kept, and no change of the world
+pub kept_leaves : (f : Object → Object) → Keeps f → (v : Value) → LeavesPointers (λ t. changed_by f t v) (λ t w. w)
+kept_leaves f k v = record {
+  world = λ t n o i x w e. refl;
+  alike = λ t n. alike_by f k v t n;
+  stores = λ t n o i x e h. stores_by f k v t n o (with_field o i x) e refl h;
+}
+
 table_stays : (t : Table) (n : ℕ) → Alike (entry t n) (entry t n)
 table_stays t n = alike_itself (λ o. o) (record { kind = λ o. refl; words = λ o. refl; pointers = λ o e. refl }) (entry t n)
 
@@ -426,7 +434,7 @@ table_leaves d q = record {
 }
 
 -- the words of an object of kind Words become these, where they are as many
-words_replaced : List ℕ → Object → Object
+pub words_replaced : List ℕ → Object → Object
 words_replaced us o = if is_words o.kind && (length us == length o.units) then with_units o us else o
 
 second : (a b : Bool) → (a && b) ≡ true → b ≡ true
@@ -436,16 +444,16 @@ second false b e = cc
 words-with_units : (us : List ℕ) (o : Object) → (length us == length o.units) ≡ true → words_of (with_units o us) ≡ words_of o
 words-with_units us o e = let l : length us ≡ length o.units = grind (arith, nat_tests) in rw l refl
 
-words_keep : (us : List ℕ) → Keeps (words_replaced us)
+pub words_keep : (us : List ℕ) → Keeps (words_replaced us)
 unfolding words_replaced
 words_keep us = keeps_if (λ o. is_words o.kind && (length us == length o.units)) (λ o. with_units o us) (λ o e. (refl, words-with_units us o (second _ _ e))) (λ o e. not_both _ _ (no_words o.kind e))
 
 -- where pixels are copied, the words of one object become others; where the copy can't be read, the table stays
 module _ (t : Table) (v : Value) (c : Copy) (reads : Reads (read_copy table v) itself t (Ok c)) where
-  painting : Target t v c
+  pub painting : Target t v c
   painting = target t v c reads
 
-  painted-by : table_after (copy_bits table v) t ≡ changed_by (words_replaced (painted c)) t (Ref painting.place)
+  pub painted-by : table_after (copy_bits table v) t ≡ changed_by (words_replaced (painted c)) t (Ref painting.place)
   unfolding words_replaced
   painted-by =
       let l : (length (painted c) == length painting.object.units) ≡ true = let e = painting.size in grind (arith, nat_tests) in

@@ -12,8 +12,10 @@ pub mod ProcessesSame
 pub mod InputSame
 mod BlocksSame
 mod Looking
-mod CopyingBits
+pub mod CopyingBits
 pub mod Deeds
+pub mod Resting
+pub mod BitBltLeft
 pub mod Leaving
 pub mod ExecutingSame
 pub mod ReturnsSame
