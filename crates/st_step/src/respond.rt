@@ -35,7 +35,7 @@ fn is_arithmetic(primitive: u32, arguments: u32) -> bool
 fn is_storage(primitive: u32) -> bool
     ensures { result ≡ is_storage primitive }
 {
-    matches!(primitive, 60..=79 | 105 | 112 | 115)
+    matches!(primitive, 60..=79 | 96 | 105 | 112 | 115)
 }
 
 /// Whether a primitive is one of those on blocks.
