@@ -1,0 +1,4 @@
+pub mod Copied
+pub mod Rows
+pub mod Rules
+pub mod Words
