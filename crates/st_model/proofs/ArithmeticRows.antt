@@ -5,7 +5,7 @@ use Rattle.std.specs.Prelude.{map, replicate, pos}
 use Rattle.st_model.specs.declared.dead.Dead.TheVariants as dead
 use Rattle.st_model.specs.Values.{Value, Small, Ref}
 use Rattle.st_model.specs.Objects.{Object, nil}
-use Rattle.st_model.specs.Outcomes.{Outcome, StepEnd, Did, NotBuilt, With, Space, Ending}
+use Rattle.st_model.specs.Outcomes.{Outcome, StepEnd, Did, With, Space, Ending}
 use Rattle.st_model.specs.Outcomes as outcome
 use Rattle.st_model.specs.Machine.{State, Transition, Died, Went}
 use Rattle.st_model.specs.Table.{Table, table}
@@ -120,11 +120,6 @@ failing : map (responds 1 (Small 5) (Small 6)) (19 ∷ 20 ∷ 21 ∷ 37 ∷ 38 �
     ≡ replicate 18 (responds 1 (Small 5) (Small 6) 0)
 unfolding opened responds called state in_sender objects active plain pointers method
 failing = refl
-
--- 96 isn't built, whatever it is given
-waiting : responds 0 (Small 5) (Small 6) 96 ∷ responds 1 (Small 5) (Small 6) 96 ∷ [] ≡ replicate 2 (Went NotBuilt (called (Small 5) (Small 6)))
-unfolding opened responds called state in_sender objects active plain pointers method
-waiting = refl
 
 -- 97, 113 and 114 ask for something, and the receiver stays; with an argument they fail
 asking : responds 0 nil (Small 6) 97 ∷ responds 0 nil (Small 6) 113 ∷ responds 0 nil (Small 6) 114 ∷ []

@@ -6,7 +6,7 @@ use Rattle.st_model.specs.declared.kind.Kind.TheVariants as kind
 use Rattle.st_model.specs.declared.dead.Dead.TheVariants as dead
 use Rattle.st_model.specs.Values.{Value, Small, Ref}
 use Rattle.st_model.specs.Objects.{Object, nil}
-use Rattle.st_model.specs.Outcomes.{StepEnd, Did, NotBuilt}
+use Rattle.st_model.specs.Outcomes.{StepEnd, Did}
 use Rattle.st_model.specs.Outcomes as outcome
 use Rattle.st_model.specs.Machine.{State, Transition, Died, Went, empty_world}
 use Rattle.st_model.specs.Table.{Table, table}
@@ -94,16 +94,14 @@ performed : performing 83 2 (Small 5 ∷ Ref 36 ∷ Small 6 ∷ []) (Ref 36) tak
 unfolding opened performing performed_by state in_sender objects active activation with_primitive takes_one method pointers
 performed = refl
 
--- of a method that is found a primitive is tried: 111 answers the class, and 96 isn't built; but 83 and 84 are not, so that the method
--- that has one of them is activated. Its extension says that it takes one argument.
+-- of a method that is found a primitive is tried: 111 answers the class; but 83 and 84 are not, so that the method that has one of
+-- them is activated. Its extension says that it takes one argument.
 performed_primitive : (performing 83 1 (Small 5 ∷ Ref 36 ∷ []) (Ref 36) (with_primitive 0 111) (pointers 6 [] ∷ [])
     ≡ Went (Did outcome.Went) (in_sender 1 (objects None None None (active 0 0 (Ref 6 ∷ Ref 36 ∷ [])) 83 (Ref 36) (with_primitive 0 111) (pointers 6 [] ∷ []))))
-    × (performing 83 1 (Small 5 ∷ Ref 36 ∷ []) (Ref 36) (with_primitive 0 96) (pointers 6 [] ∷ [])
-    ≡ Went NotBuilt (in_sender 1 (objects None None None (active 0 0 (Small 5 ∷ Ref 36 ∷ [])) 83 (Ref 36) (with_primitive 0 96) (pointers 6 [] ∷ []))))
     × (performing 83 2 (Small 5 ∷ Ref 36 ∷ Small 6 ∷ []) (Ref 36) (with_primitive 1 83) (pointers 6 [] ∷ [])
     ≡ performed_by (Ref 35) 7 0 (Small 6) (Small 6) 83 (Ref 36) (with_primitive 1 83) (pointers 6 [] ∷ []))
 unfolding opened performing performed_by state in_sender objects active activation with_primitive method pointers
-performed_primitive = (refl, refl, refl)
+performed_primitive = (refl, refl)
 
 -- 84 performs 84, which fails as it takes two arguments: receiver, selector and Array
 performed_again : performing 84 2 (Small 5 ∷ Ref 36 ∷ Ref 37 ∷ []) (Ref 36) (with_primitive 2 84) (pointers 6 [] ∷ pointers 8 (Ref 36 ∷ Ref 37 ∷ []) ∷ [])

@@ -62,8 +62,7 @@ respond_last m call header primitive =
     if primitive == 128 && call.arguments == 0 then say_or_activate m call header else
     if primitive == 97 && call.arguments == 0 then asks m outcome.Snapshot else
     if primitive == 113 && call.arguments == 0 then asks m outcome.Quit else
-    if primitive == 114 && call.arguments == 0 then asks m outcome.Debugger else
-    goes_on (activate m call.method header call.arguments)
+    if primitive == 114 && call.arguments == 0 then asks m outcome.Debugger else goes_on (activate m call.method header call.arguments)
 
 -- A method of this primitive is executed; 0 is none. A primitive that is given another number of arguments than its own fails,
 -- but 81 and 89 take any number.
