@@ -1,4 +1,5 @@
 pub mod Bits
 pub mod Words
 pub mod Parts
-pub mod Rows
+pub mod RowLaws
+pub mod Readings

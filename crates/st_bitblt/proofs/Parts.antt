@@ -147,7 +147,7 @@ source_kept rule f (Some o) dest old new p n k r out =
     ]
 
 -- two changes of one object are the second one
-rest_twice : (dest : Value) (old mid new : View) → HasWords old dest → mid ≡ with_words old dest (words mid dest) → new ≡ with_words mid dest (words new dest) → new ≡ with_words old dest (words new dest)
+pub rest_twice : (dest : Value) (old mid new : View) → HasWords old dest → mid ≡ with_words old dest (words mid dest) → new ≡ with_words mid dest (words new dest) → new ≡ with_words old dest (words new dest)
 rest_twice dest old mid new has a b = b ∙ ap (λ v. with_words v dest (words new dest)) a ∙ words_twice old dest (words mid dest) has.live (words new dest)
 
 -- To the right: the first n pixels, and then the next m. Where the source is the destination, it must not lie behind.

@@ -1,4 +1,5 @@
 pub mod Copied
+pub mod Reading
 pub mod Rows
 pub mod Rules
 pub mod Words

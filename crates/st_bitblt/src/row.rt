@@ -73,7 +73,12 @@ fn is_behind(ends: Ends, p: u32, q: u32) -> bool
     ensures { IsTrue result ↔ ((object_of_source ends.source ≡ Some (value ends.dest)) × (q < p)) }
 {
     match ends.source {
-        Source::Words { object, .. } => object.0 == ends.dest.0 && q < p,
+        Source::Words { object, .. } => {
+            if object.0 != ends.dest.0 {
+                return false;
+            }
+            q < p
+        }
         Source::Ones => false,
     }
 }

@@ -1,4 +1,4 @@
-ghost use Rattle.std.specs.Prelude.{◌≡◌, ◌≢◌, ◌+◌, ◌*◌, ◌^◌, ◌<◌, ◌≤◌, length, Some};
+ghost use Rattle.std.specs.Prelude.{◌≡◌, ◌+◌, ◌*◌, ◌^◌, ◌<◌, ◌≤◌, length};
 ghost use Rattle.st_model.specs.Values.{value};
 ghost use Rattle.st_bitblt.specs.Copied.{HasSource, object_of_source};
 ghost use Rattle.st_bitblt.specs.Rows.{HasRoom, FitsPlaces, RowsCopied, tone_of};
@@ -6,7 +6,6 @@ ghost use Rattle.st_bitblt.specs.Words.{words, HasWords};
 
 use crate::row::{Ends, copy_row};
 use crate::rule::Rule;
-use crate::source::Source;
 use st_memory::Memory;
 
 /// How the rows of a copy are put down: by a rule, through a halftone of which word `first` modulo 16 is for the first row.
@@ -48,31 +47,11 @@ fn place(start: u32, step: u32, row: u32, height: u32) -> u32
     start + row * step
 }
 
-/// Copies rows between two objects, or where no object is the source.
-fn copy_rows_apart<M: Memory>(m: &mut M, pen: &Pen, ends: Ends, a: Layout)
+/// Copies rows: first, from the top, those whose source does not lie behind their destination, and then the others, from the
+/// bottom. So within one object none is read once it was changed.
+pub fn copy_rows<M: Memory>(m: &mut M, pen: &Pen, ends: Ends, a: Layout)
     requires source { HasSource (M.view m.old) ends.source }
     requires dest { HasWords (M.view m.old) (value ends.dest) }
-    requires apart { object_of_source ends.source ≢ Some (value ends.dest) }
-    requires wide { a.n ≤ a.along }
-    requires room { HasRoom a (length (words (M.view m.old) (value ends.dest))) }
-    requires fits { FitsPlaces a }
-    requires first { pen.now.first + a.height < 2 ^ 32 }
-    ensures { RowsCopied pen.now (object_of_source ends.source) (value ends.dest)
-        (M.view m.old) (M.view m.new) a (λ j. j < a.height) }
-{
-    for j in 0..a.height {
-        let p = place(a.p, a.along, j, a.height);
-        let q = place(a.q, a.across, j, a.height);
-        copy_row(m, &pen.rule, pen.tone(j), ends, p, q, a.n);
-    }
-}
-
-/// Copies rows within one object: first, from the top, those whose source does not lie behind their destination, and then the
-/// others, from the bottom.
-fn copy_rows_within<M: Memory>(m: &mut M, pen: &Pen, ends: Ends, a: Layout)
-    requires source { HasSource (M.view m.old) ends.source }
-    requires dest { HasWords (M.view m.old) (value ends.dest) }
-    requires one { object_of_source ends.source ≡ Some (value ends.dest) }
     requires wide { a.n ≤ a.along }
     requires narrow { a.n ≤ a.across }
     requires room { HasRoom a (length (words (M.view m.old) (value ends.dest))) }

@@ -6,7 +6,7 @@ pub loop-done-init : goal.loop-done-init
 loop-done-init g c = record {
   within = omega arith;
   copied = copied_none _ _ _ _ _ _ _ _ c.requires.dest refl;
-  left = λ lt. piece_at _ _ _ _ _ (omega arith) c.word_before-left.ensures;
+  left = λ lt. piece_at (g.M.Memory.view c.args.m.now) _ _ _ _ (omega arith) c.word_before-left.ensures;
 }
 
 pub loop-done-preserved : goal.loop-done-preserved

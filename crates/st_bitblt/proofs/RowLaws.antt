@@ -105,7 +105,7 @@ rows_told pen source dest old new a done told f g x = record {
   rest = x.rest;
 }
 
--- In one object: the rows whose source does not lie behind their destination are taken first, from the top ..
+-- The rows whose source does not lie behind their destination are taken first, from the top.
 abbrev pub Up : Layout → ℕ → Type 0
 Up a j = a.p + j * a.along ≤ a.q + j * a.across
 
@@ -127,11 +127,11 @@ clear_down a j r wide narrow down ne which =
       ]
     ]
 
--- The rows above row k that go up.
+-- the rows above row k that go up
 abbrev pub UpTo : Layout → ℕ → ℕ → Type 0
 UpTo a k = λ r. (r < k) × Up a r
 
--- All rows that go up, and the others from row k on.
+-- all rows that go up, and the others from row k on
 abbrev pub DownTo : Layout → ℕ → ℕ → Type 0
 DownTo a k = λ r. (r < a.height) × (Up a r ⊎ (k ≤ r))
 
@@ -152,34 +152,27 @@ row_more_at pen source dest old mid new a done r i p q has ei ep eq wide other c
     let z : Copied pen.rule (tone_of pen r) source dest mid new (a.p + r * a.along) (a.q + r * a.across) a.n = rw (ei, ep, eq) at y in
     row_more pen source dest old mid new a done r has wide other clear x z
 
-pub apart_step : (pen : Pen) (source : Option Value) (dest : Value) (old mid new : View) (a : Layout) (k : ℕ) (i : ℕ) (p q : ℕ)
-    → HasWords old dest → i ≡ tone_of pen k → p ≡ a.p + k * a.along → q ≡ a.q + k * a.across → a.n ≤ a.along → source ≢ Some dest
-    → RowsCopied pen source dest old mid a (λ r. r < k) → Copied pen.rule i source dest mid new p q a.n → RowsCopied pen source dest old new a (λ r. r < k + 1)
-apart_step pen source dest old mid new a k i p q has ei ep eq wide ne x y =
-    rows_told pen source dest old new a (λ r. (r < k) ⊎ (r ≡ k)) (λ r. r < k + 1) (λ r h. split k r h) (λ r d. elim d [ inl lt ↦ omega arith | inr e ↦ omega arith ])
-    (row_more_at pen source dest old mid new a (λ r. r < k) k i p q has ei ep eq wide (λ r lt e. omega arith) (λ h. absurd (ne h)) x y)
-
-pub up_step : (pen : Pen) (dest : Value) (old mid new : View) (a : Layout) (k : ℕ) (i : ℕ) (p q : ℕ)
+pub up_step : (pen : Pen) (source : Option Value) (dest : Value) (old mid new : View) (a : Layout) (k : ℕ) (i : ℕ) (p q : ℕ)
     → HasWords old dest → i ≡ tone_of pen k → p ≡ a.p + k * a.along → q ≡ a.q + k * a.across → a.n ≤ a.along → p ≤ q
-    → RowsCopied pen (Some dest) dest old mid a (UpTo a k) → Copied pen.rule i (Some dest) dest mid new p q a.n → RowsCopied pen (Some dest) dest old new a (UpTo a (k + 1))
-up_step pen dest old mid new a k i p q has ei ep eq wide le x y =
+    → RowsCopied pen source dest old mid a (UpTo a k) → Copied pen.rule i source dest mid new p q a.n → RowsCopied pen source dest old new a (UpTo a (k + 1))
+up_step pen source dest old mid new a k i p q has ei ep eq wide le x y =
     let up : Up a k = omega arith in
-    rows_told pen (Some dest) dest old new a (λ r. UpTo a k r ⊎ (r ≡ k)) (UpTo a (k + 1))
+    rows_told pen source dest old new a (λ r. UpTo a k r ⊎ (r ≡ k)) (UpTo a (k + 1))
     (λ r h. elim (split k r h.0) [ inl lt ↦ inl (lt, h.1) | inr e ↦ inr e ])
     (λ r d. elim d [ inl h ↦ (let l : r < k = h.0 in omega arith, h.1) | inr e ↦ (omega arith, same_row a r k e up) ])
-    (row_more_at pen (Some dest) dest old mid new a (UpTo a k) k i p q has ei ep eq wide (λ r h e. let l : r < k = h.0 in omega arith) (λ s r h. inr (clear_up a r k wide h.0 up)) x y)
+    (row_more_at pen source dest old mid new a (UpTo a k) k i p q has ei ep eq wide (λ r h e. let l : r < k = h.0 in omega arith) (λ s r h. inr (clear_up a r k wide h.0 up)) x y)
 
-pub up_skip : (pen : Pen) (dest : Value) (old new : View) (a : Layout) (k p q : ℕ) → p ≡ a.p + k * a.along → q ≡ a.q + k * a.across → q < p
-    → RowsCopied pen (Some dest) dest old new a (UpTo a k) → RowsCopied pen (Some dest) dest old new a (UpTo a (k + 1))
-up_skip pen dest old new a k p q ep eq lt x =
-    rows_told pen (Some dest) dest old new a (UpTo a k) (UpTo a (k + 1))
+pub up_skip : (pen : Pen) (source : Option Value) (dest : Value) (old new : View) (a : Layout) (k p q : ℕ) → p ≡ a.p + k * a.along → q ≡ a.q + k * a.across → q < p
+    → RowsCopied pen source dest old new a (UpTo a k) → RowsCopied pen source dest old new a (UpTo a (k + 1))
+up_skip pen source dest old new a k p q ep eq lt x =
+    rows_told pen source dest old new a (UpTo a k) (UpTo a (k + 1))
     (λ r h. elim (split k r h.0) [ inl l ↦ (l, h.1) | inr e ↦ absurd (let up : Up a k = same_row a k r (sym e) h.1 in omega arith) ])
     (λ r h. (let l : r < k = h.0 in omega arith, h.1)) x
 
-pub down_start : (pen : Pen) (dest : Value) (old new : View) (a : Layout) (k : ℕ) → k ≡ a.height
-    → RowsCopied pen (Some dest) dest old new a (UpTo a k) → RowsCopied pen (Some dest) dest old new a (DownTo a a.height)
-down_start pen dest old new a k e x =
-    rows_told pen (Some dest) dest old new a (UpTo a k) (DownTo a a.height)
+pub down_start : (pen : Pen) (source : Option Value) (dest : Value) (old new : View) (a : Layout) (k : ℕ) → k ≡ a.height
+    → RowsCopied pen source dest old new a (UpTo a k) → RowsCopied pen source dest old new a (DownTo a a.height)
+down_start pen source dest old new a k e x =
+    rows_told pen source dest old new a (UpTo a k) (DownTo a a.height)
     (λ r h. let l : r < a.height = h.0 in (omega arith, elim h.1 [ inl up ↦ up | inr ge ↦ absurd (omega arith) ]))
     (λ r h. (let l : r < k = h.0 in omega arith, inl h.1)) x
 
@@ -190,26 +183,26 @@ down_told a k r pos h =
 down_other : (a : Layout) (k r : ℕ) → 0 < k → a.q + (k - 1) * a.across < a.p + (k - 1) * a.along → DownTo a k r → r ≢ k - 1
 down_other a k r pos lt h e = elim h.1 [ inl up ↦ let u : Up a (k - 1) = same_row a (k - 1) r (sym e) up in omega arith | inr ge ↦ omega arith ]
 
-pub down_step : (pen : Pen) (dest : Value) (old mid new : View) (a : Layout) (k : ℕ) (i : ℕ) (p q : ℕ)
+pub down_step : (pen : Pen) (source : Option Value) (dest : Value) (old mid new : View) (a : Layout) (k : ℕ) (i : ℕ) (p q : ℕ)
     → HasWords old dest → i ≡ tone_of pen (k - 1) → p ≡ a.p + (k - 1) * a.along → q ≡ a.q + (k - 1) * a.across → a.n ≤ a.along → a.n ≤ a.across → q < p → 0 < k → k ≤ a.height
-    → RowsCopied pen (Some dest) dest old mid a (DownTo a k) → Copied pen.rule i (Some dest) dest mid new p q a.n → RowsCopied pen (Some dest) dest old new a (DownTo a (k - 1))
-down_step pen dest old mid new a k i p q has ei ep eq wide narrow lt pos within x y =
+    → RowsCopied pen source dest old mid a (DownTo a k) → Copied pen.rule i source dest mid new p q a.n → RowsCopied pen source dest old new a (DownTo a (k - 1))
+down_step pen source dest old mid new a k i p q has ei ep eq wide narrow lt pos within x y =
     let down : a.q + (k - 1) * a.across < a.p + (k - 1) * a.along = omega arith in
-    rows_told pen (Some dest) dest old new a (λ r. DownTo a k r ⊎ (r ≡ k - 1)) (DownTo a (k - 1))
+    rows_told pen source dest old new a (λ r. DownTo a k r ⊎ (r ≡ k - 1)) (DownTo a (k - 1))
     (λ r h. down_told a k r pos h)
     (λ r d. elim d [ inl h ↦ (h.0, elim h.1 [ inl up ↦ inl up | inr ge ↦ inr (omega arith) ]) | inr e ↦ (omega arith, inr (omega arith)) ])
-    (row_more_at pen (Some dest) dest old mid new a (DownTo a k) (k - 1) i p q has ei ep eq wide (λ r h. down_other a k r pos down h)
+    (row_more_at pen source dest old mid new a (DownTo a k) (k - 1) i p q has ei ep eq wide (λ r h. down_other a k r pos down h)
     (λ s r h. clear_down a r (k - 1) wide narrow down (down_other a k r pos down h) (elim h.1 [ inl up ↦ inl up | inr ge ↦ inr (omega arith) ])) x y)
 
-pub down_skip : (pen : Pen) (dest : Value) (old new : View) (a : Layout) (k p q : ℕ) → p ≡ a.p + (k - 1) * a.along → q ≡ a.q + (k - 1) * a.across → p ≤ q → 0 < k → k ≤ a.height
-    → RowsCopied pen (Some dest) dest old new a (DownTo a k) → RowsCopied pen (Some dest) dest old new a (DownTo a (k - 1))
-down_skip pen dest old new a k p q ep eq le pos within x =
+pub down_skip : (pen : Pen) (source : Option Value) (dest : Value) (old new : View) (a : Layout) (k p q : ℕ) → p ≡ a.p + (k - 1) * a.along → q ≡ a.q + (k - 1) * a.across → p ≤ q → 0 < k → k ≤ a.height
+    → RowsCopied pen source dest old new a (DownTo a k) → RowsCopied pen source dest old new a (DownTo a (k - 1))
+down_skip pen source dest old new a k p q ep eq le pos within x =
     let up : Up a (k - 1) = omega arith in
-    rows_told pen (Some dest) dest old new a (DownTo a k) (DownTo a (k - 1))
+    rows_told pen source dest old new a (DownTo a k) (DownTo a (k - 1))
     (λ r h. elim (down_told a k r pos h) [ inl d ↦ d | inr e ↦ (h.0, inl (same_row a r (k - 1) e up)) ])
     (λ r h. (h.0, elim h.1 [ inl u ↦ inl u | inr ge ↦ inr (omega arith) ])) x
 
-pub down_end : (pen : Pen) (dest : Value) (old new : View) (a : Layout) (k : ℕ) → k ≡ 0
-    → RowsCopied pen (Some dest) dest old new a (DownTo a k) → RowsCopied pen (Some dest) dest old new a (λ r. r < a.height)
-down_end pen dest old new a k e x =
-    rows_told pen (Some dest) dest old new a (DownTo a k) (λ r. r < a.height) (λ r h. (h, inr (omega arith))) (λ r h. h.0) x
+pub down_end : (pen : Pen) (source : Option Value) (dest : Value) (old new : View) (a : Layout) (k : ℕ) → k ≡ 0
+    → RowsCopied pen source dest old new a (DownTo a k) → RowsCopied pen source dest old new a (λ r. r < a.height)
+down_end pen source dest old new a k e x =
+    rows_told pen source dest old new a (DownTo a k) (λ r. r < a.height) (λ r h. (h, inr (omega arith))) (λ r h. h.0) x
