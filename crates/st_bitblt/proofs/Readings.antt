@@ -1,5 +1,5 @@
 -- What is read of a BitBlt and its Forms, call by call.
-use Rattle.std.proofs.Common.{◌≡◌, ℕ, zero, suc, ◌+◌, ◌*◌, ◌/◌, ◌<◌, ◌≤◌, List, [], ◌∷◌, length, Bool, true, false, Option, Some, None, Ok, Err, refl, sym, ap, ◌∙◌, arith}
+use Rattle.std.proofs.Common.{◌≡◌, ℕ, zero, suc, ◌+◌, ◌*◌, ◌/◌, ◌<◌, ◌≤◌, List, [], ◌∷◌, length, Bool, true, false, Option, Some, None, Ok, Err, inl, inr, refl, sym, ap, ◌∙◌, arith}
 use Rattle.std.specs.Prelude.{slice_get, nat_le, unwrap_or, is_some, if◌then◌else◌, ◌%◌, ◌==◌}
 use Rattle.std.proofs.lemmas.Bool.Decides.{nat_tests}
 use Rattle.st_model.specs.declared.dead.Dead.{Dead}
@@ -13,11 +13,15 @@ use Rattle.st_model.specs.Machine.{ObjectMemory, State, Transition, Died, Went, 
 use Rattle.st_model.specs.Table.{Table, table, entry, IsTabular}
 use Rattle.st_model.specs.Steps.{found, object_named, object, check, or_die, fetch_kind, fetch_word, fetch_field, of_page, same_value}
 use Rattle.st_model.specs.Primitives.{bits_or_die}
+use Rattle.st_model.specs.Deeds.{over_table}
 use Rattle.st_model.specs.View.{is_live, object_of, nothing}
 use Rattle.st_model.specs.Calls.{Reads, itself}
-use Rattle.st_model.specs.BitBlt.{Form, fetch_words, fetch_positive, read_form, read_unless}
+use Rattle.st_model.specs.BitBlt.{Form, Axis, fetch_words, fetch_positive, read_form, read_unless, read_form_if_any, fetch_form, fetch_destination, fetch_halftone, fetch_rule, fetch_axis, read_copy}
 use Rattle.st_model.specs.Pixels.{row_words}
+use Rattle.std.proofs.lemmas.Bool.{cases_lt}
 use Rattle.st_model.proofs.Tabular.{object-as}
+use Rattle.st_model.proofs.Runs.{run-live}
+use Rattle.st_model.proofs.Words.{value_of-nil}
 use Rattle.st_bitblt.specs.Reading.{units_in, HasWordsIn, checked_words}
 
 bits_small : (b : Bool) (n : ℕ) (s : State Table) → is_small (if b then Small n else Ref n) ≡ true → (bits_or_die (if b then Small n else Ref n)).run s ≡ Went n s
@@ -134,6 +138,20 @@ module _ {m : ObjectMemory Table} (h : IsTabular m) (v : Value) (t : Table) wher
         let l = word_died s c i x.0 y (f s e) in
         checked_short s x.0 y (omega (arith, l.0)) ∙ ap Died (sym l.1)
 
+    pub words-none : (k : Kind) → Reads (fetch_kind m v) itself t (Ok k) → is_words k ≡ true → n ≡ 0 → HasWordsIn t v n
+    words-none k r b z =
+        let s = over_table t in
+        let x = kind_object k s refl (r s refl) in
+        record { live = x.2; kind = ap is_words (sym x.1) ∙ b; enough = omega arith }
+
+    pub words-read : (k : Kind) (w i : ℕ) → Reads (fetch_kind m v) itself t (Ok k) → is_words k ≡ true → n ≡ i + 1 → Reads (fetch_word m v i) itself t (Ok w) → HasWordsIn t v n
+    words-read k w i r b z f =
+        let s = over_table t in
+        let x = kind_object k s refl (r s refl) in
+        let y = ap is_words (sym x.1) ∙ b in
+        let l = word_went s w i x.0 y (f s refl) in
+        record { live = x.2; kind = y; enough = omega (arith, l) }
+
 -- a Form, or none
 
 pub form-none : (m : ObjectMemory Table) (v nil : Value) (s : State Table) → same_value v nil ≡ true → (read_unless m v (same_value v nil)).run s ≡ Went None s
@@ -182,3 +200,46 @@ module _ (m : ObjectMemory Table) (v bits : Value) (w n : ℕ) (s : State Table)
   pub form_died : (k : Dead) → (checked_words m bits (n * row_words w)).run s ≡ Died k → (read_form m v).run s ≡ Died k
   unfolding read_form checked_words ◌>>=◌ ◌>>◌ answer after
   form_died k e = rw (a, b, c) (checked_off ((fetch_words m bits).run s) (n * row_words w) (λ ws. record { words = ws; width = w; height = n }) k e)
+
+module _ {m : ObjectMemory Table} (h : IsTabular m) (r x : Value) (i : ℕ) (s : State Table) (a : (fetch_field m r i).run s ≡ Went x s) where
+  pub fetch_form_none : same_value x (value_of 2) ≡ true → (fetch_form m r i).run s ≡ Went None s
+  unfolding fetch_form read_form_if_any of_page ◌>>=◌ after
+  fetch_form_none b =
+      let e : same_value x (Ref (m.named s.memory NilObject)) ≡ true = ap (λ f. same_value x (Ref (f s.memory NilObject))) h.named ∙ ap (same_value x) (sym value_of-nil) ∙ b in
+      rw a (form-none m x (Ref (m.named s.memory NilObject)) s e)
+
+  pub fetch_form_died : (c : Dead) → same_value x (value_of 2) ≡ false → (read_form m x).run s ≡ Died c → (fetch_form m r i).run s ≡ Died c
+  unfolding fetch_form read_form_if_any of_page ◌>>=◌ after
+  fetch_form_died c b d =
+      let e : same_value x (Ref (m.named s.memory NilObject)) ≡ false = ap (λ f. same_value x (Ref (f s.memory NilObject))) h.named ∙ ap (same_value x) (sym value_of-nil) ∙ b in
+      rw a (form-read m x (Ref (m.named s.memory NilObject)) s e ∙ ap (λ y. after y (λ f t. Went (Some f) t)) d)
+
+-- words of an object that is there are too few
+checked_dies : {m : ObjectMemory Table} (h : IsTabular m) (v : Value) (t : Table) (n k : ℕ) (s : State Table) (c : Dead) → HasWordsIn t v k → s.memory ≡ t → (checked_words m v n).run s ≡ Died c → (length (units_in t v) < n) × (c ≡ dead.Field)
+checked_dies h v t n k s c has q e =
+    let live : is_live s.memory v ≡ true = ap (λ u. is_live u v) q ∙ has.live in
+    let o : (object _ v).run s ≡ Went (object_of t v) s = ap (λ (st : Step Table Object). st.run s) (object-as h v) ∙ run-live v s live ∙ ap (λ u. Went (object_of u v) s) q in
+    elim (cases_lt (length (units_in t v)) n) [
+      | inl l ↦ let d : Died dead.Field ≡ Died c = sym (checked_short h v t n s o has.kind l) ∙ e in (l, cc)
+      | inr l ↦ let d : Went (units_in t v) s ≡ Died c = sym (checked_went h v t n s o has.kind l) ∙ e in cc
+    ]
+
+pub halftone_short : {m : ObjectMemory Table} (h : IsTabular m) (r v : Value) (t : Table) (k : ℕ) (f : Form) (s : State Table) (c : Dead) → HasWordsIn t v k → s.memory ≡ t → f.words ≡ units_in t v
+    → (fetch_form m r 2).run s ≡ Went (Some f) s → (checked_words m v 16).run s ≡ Died c → (fetch_halftone m r).run s ≡ Died c
+unfolding fetch_halftone ◌>>=◌ ◌>>◌ after check die
+halftone_short h r v t k f s c has q w a e =
+    let d = checked_dies h v t 16 k s c has q e in
+    let b : nat_le 16 (length f.words) ≡ false = rw w (grind (arith, nat_tests, d.0)) in
+    rw (a, b) (ap Died (sym d.1))
+
+-- a BitBlt, once its parts were read
+module _ (m : ObjectMemory Table) (r : Value) (s : State Table) (d : Form) (f g : Option Form) (rule : ℕ) (x : Axis)
+    (a1 : (fetch_destination m r).run s ≡ Went d s) (a2 : (fetch_form m r 1).run s ≡ Went f s) (a3 : (fetch_halftone m r).run s ≡ Went g s)
+    (a4 : (fetch_rule m r).run s ≡ Went rule s) (a5 : (fetch_axis m r 0).run s ≡ Went x s) where
+  pub copy_died : (c : Dead) → (fetch_axis m r 1).run s ≡ Died c → (read_copy m r).run s ≡ Died c
+  unfolding read_copy ◌>>=◌ after
+  copy_died c e = rw (a1, a2, a3, a4, a5, e) refl
+
+  pub copy_went : (y : Axis) → (fetch_axis m r 1).run s ≡ Went y s → (read_copy m r).run s ≡ Went (record { destination = d; source = f; halftone = g; rule = rule; across = x; down = y }) s
+  unfolding read_copy ◌>>=◌ after answer
+  copy_went y e = rw (a1, a2, a3, a4, a5, e) refl
