@@ -1,5 +1,5 @@
 -- A change of words or bytes, of a Method's header or literals, or of what lies round the machine commutes with what reads and stores fields of objects of kind
--- Pointers: with popping, pushing and storing fields. So a deed may be left until after these.
+-- Pointers: with popping, pushing and storing fields. So a deed that copies no pixels may be left until after these; one that does leaves these objects too.
 use Rattle.std.proofs.Common.{◌≡◌, ◌≢◌, ℕ, zero, suc, ◌+◌, List, [], ◌∷◌, length, Option, Some, None, Bool, true, false, refl, sym, ◌∙◌, ap, subst, arith, inl, inr, ◌⊎◌, is_some, length-set}
 use Rattle.std.specs.Prelude.{◌-◌, ◌==◌, ◌&&◌, slice_get, nat_lt, nat_le, if◌then◌else◌, Result, Ok, Err}
 use Rattle.std.proofs.lemmas.Bool.Decides.{nat_tests}

@@ -13,6 +13,7 @@ pub mod InputSame
 mod BlocksSame
 mod Looking
 pub mod CopyingBits
+pub mod Painting
 pub mod Deeds
 pub mod Resting
 pub mod BitBltLeft

@@ -5,7 +5,7 @@ use Rattle.std.specs.Prelude.{if◌then◌else◌, nat_lt, ℤ, pos, negsuc}
 use Rattle.st_model.specs.declared.dead.Dead.{Dead}
 use Rattle.st_model.specs.Values.{Value, Small, Ref}
 use Rattle.st_model.specs.Objects.{Object, PageObject, NilObject}
-use Rattle.st_model.specs.Outcomes.{StepEnd}
+use Rattle.st_model.specs.Outcomes.{Outcome}
 use Rattle.st_model.specs.Machine.{Registers, Step, answer}
 use Rattle.st_model.specs.Births.{Births}
 use Rattle.st_model.specs.Steps.{same_value, fetch_kind, fetch_size, fetch_bytes, store_bytes, new_object, class_of, or_die, check, fetch_field, store_field, integer_or_die, fetch_integer, count_fields, fetch_fields, store_fields, fetch_word, fetch_byte, store_word, store_byte, transfer, put, push, top, under, look_at_words, drop_words, pop, literal, fetch_method_field, store_method_field, byte_at, next_byte, jump}
@@ -434,7 +434,7 @@ module _ (o : Object) (lives : ℕ → Type 0) where
   unfolding special_send
   special_send-sure n k = search (parts, argument_count-sure, send-sure) depth 32 fits 4000
 
-  pub end-sure : (n : ℕ) (e : StepEnd) → SureAnswer n (answer e) (answer e)
+  pub end-sure : (n : ℕ) (e : Outcome) → SureAnswer n (answer e) (answer e)
   end-sure n e = answer_itself-sure o lives n e
 
   pub goes_on-sure : (n : ℕ) (m : Step Births Unit) (m' : Step Births Unit) → SureAnswer n m m' → SureAnswer n (goes_on m) (goes_on m')

@@ -3,7 +3,7 @@
 use Rattle.std.specs.Prelude.{ℕ, suc, ◌+◌, ◌-◌, ◌==◌, List, [], ◌∷◌, Option, Some, None, Bool, true, false, ◌&&◌, nat_lt, nat_le, if◌then◌else◌, slice_get, take, drop, length, pos}
 use Rattle.st_model.specs.declared.deed.Deed.{Deed}
 use Rattle.st_model.specs.declared.deed.Deed.TheVariants.{Nothing, StoreWord, StoreByte, StoreNumber, ReplaceBytes, StoreHeader, StoreLiteral, StoreTime, Hold, SetTimer, RingTimer, SetLowSpace, MoveMouse, CopyBits, TakeWord}
-use Rattle.st_model.specs.declared.outcome.StepEnd.{StepEnd as CodeStepEnd}
+use Rattle.st_model.specs.declared.outcome.StepEnd.{StepEnd}
 use Rattle.st_model.specs.declared.outcome.StepEnd.TheVariants as ends
 use Rattle.st_model.specs.declared.tried.Tried.{Tried as CodeTried}
 use Rattle.st_model.specs.declared.tried.Tried.TheVariants as trials
@@ -156,13 +156,12 @@ abbrev pub with_deed : Deed → State Table → State Table
 with_deed d s = over_both (deed_done d) (world_done d) s
 
 -- what the end of a step of the code leaves to be done
-abbrev pub deed_of_end : CodeStepEnd → Deed
+abbrev pub deed_of_end : StepEnd → Deed
 deed_of_end (ends.Went deed) = deed
 deed_of_end (ends.Says w) = Nothing
 deed_of_end ends.Snapshot = Nothing
 deed_of_end ends.Quit = Nothing
 deed_of_end ends.Debugger = Nothing
-deed_of_end ends.NotBuilt = Nothing
 
 -- whether a primitive of the code succeeded that was tried
 abbrev pub is_done : CodeTried → Bool
