@@ -3,3 +3,5 @@ pub mod Words
 pub mod Parts
 pub mod RowLaws
 pub mod Readings
+pub mod Clipping
+pub mod Painted

@@ -10,6 +10,7 @@ mod row;
 mod rows;
 mod rule;
 mod source;
+mod span;
 
 pub use bit_blt::{BitBlt, read_bit_blt};
 pub use direction::Direction;
