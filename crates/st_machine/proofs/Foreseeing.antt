@@ -84,6 +84,13 @@ module _ (c : State Table) where
       → (step bounded_table).run c ≡ Went (Did o) t → reclaim table t ≡ u → warned table u ≡ x → foreseen c ((step apart).run c) ≡ Went (With o) x
   cycle_done d o t u x h e s r w = (with_room ((step apart).run c) d refl h e).1 ∙ (ap (done c) s ∙ ap (λ y. Went (With o) y) (ap (warned table) r ∙ w))
 
+  -- a bytecode that was done at once
+  pub cycle_at_once : (d x : State Table) → IsForeseen c → (step bounded_table).run c ≡ Went (Did outcome.Went) d → warned table (reclaim table d) ≡ x → foreseen c ((step apart).run c) ≡ Went (With outcome.Went) x
+  cycle_at_once d x e s w = ap (foreseen c) e.goes ∙ (ap (done_if_room c e.after) e.fits ∙ (ap (done c) s ∙ ap (λ y. Went (With outcome.Went) y) w))
+
+  pub dies_at_once : (cause : Dead) → (step apart).run c ≡ Died cause → foreseen c ((step apart).run c) ≡ Died cause
+  dies_at_once cause e = ap (foreseen c) e
+
 -- what came before the bytecode
 
 pub from_switch : (s c : State Table) (x : Transition (State Table) Ending) → (check_process_switch bounded_table).run s ≡ Went tt c → foreseen c ((step apart).run c) ≡ x → foreseen_cycle s ≡ x

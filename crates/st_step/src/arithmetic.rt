@@ -77,7 +77,7 @@ pub fn integer_answer<O: Objects>(m: &O, r: &Registers, n: u32) -> Result<IntAns
 
 /// The word of an integer from -16384 to 16383.
 #[tactic(auto, using(std::proofs::lemmas::Int::ints))]
-fn word_of(n: i16) -> Word
+pub fn word_of(n: i16) -> Word
     requires small { IsSmall n }
     ensures { word result ≡ small_integer n }
 {

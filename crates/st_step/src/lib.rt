@@ -3,11 +3,13 @@
 #![tactic(auto)]
 
 mod arithmetic;
+mod at_once;
 mod execute;
 mod flags;
 mod jump;
 mod operands;
 mod perform;
+mod quick;
 mod receivers;
 mod respond;
 mod returns;
@@ -16,4 +18,5 @@ mod send;
 mod stack;
 mod stepping;
 
+pub use quick::step_at_once;
 pub use stepping::{plan, step};

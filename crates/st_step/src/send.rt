@@ -138,7 +138,7 @@ pub fn send_special_selector<O: Objects>(
 }
 
 /// The primitive that is tried first for a special selector of 0 to 15.
-fn arithmetic_number(k: u32) -> u32
+pub fn arithmetic_number(k: u32) -> u32
     requires few { k < 16 }
     ensures number { result ≡ arithmetic_number k }
     ensures first { 1 ≤ result }

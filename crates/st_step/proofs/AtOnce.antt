@@ -1,0 +1,205 @@
+-- What is done at once is the bytecode: it dies of the same cause, or goes on to the same state.
+use Rattle.std.proofs.Common.{◌≡◌, ℕ, Bool, true, false, Option, Some, None, refl, ap}
+use Rattle.std.specs.Prelude.{◌==◌, if◌then◌else◌, ℤ, pos, ◌+◌, ◌*◌}
+use Rattle.st_model.specs.declared.dead.Dead.{Dead}
+use Rattle.st_model.specs.declared.bytecode.Bytecode.{Bytecode}
+use Rattle.st_model.specs.declared.bytecode.Bytecode.TheVariants as code
+use Rattle.st_model.specs.declared.bytecode.Constant.{Constant}
+use Rattle.st_model.specs.declared.integers.IntAnswer.{IntAnswer}
+use Rattle.st_model.specs.declared.integers.IntAnswer.TheVariants.{Number, Truth, Point}
+use Rattle.st_model.specs.Values.{Value, Small, Ref, is_small}
+use Rattle.st_model.specs.Objects.{PageObject, FalseObject, TrueObject}
+use Rattle.st_model.specs.Outcomes.{StepEnd, Did}
+use Rattle.st_model.specs.Outcomes as outcome
+use Rattle.st_model.specs.Machine.{ObjectMemory, State, Transition, Died, Went, Step, answer, after, ◌>>=◌, ◌>>◌}
+use Rattle.st_model.specs.Steps.{same_value, jump, next_byte}
+use Rattle.st_model.specs.Sends.{Call}
+use Rattle.st_model.specs.Returns.{calls, calls_nothing, cannot_return, return_into, return_to_context, return_to, return_to_sender, return_to_caller, jump_on}
+use Rattle.st_model.specs.Primitives.{succeed, primitive}
+use Rattle.st_model.specs.Arithmetic.{arithmetic, arithmetic_number, integer_answer, value_of_answer}
+use Rattle.st_model.specs.Blocks.{primitive_block_copy}
+use Rattle.st_model.specs.Executing.{goes_on, execute_if_any, executed_if_any}
+use Rattle.st_model.specs.Bytecodes.{or_send, arithmetic_by, arithmetic_send, primitive_send, return_receiver, return_constant, return_top_to_sender, return_top_to_caller, short_jump_on_false, long_jump_on_true, long_jump_on_false, bytecode, step}
+use Rattle.st_model.specs.Table.{Table}
+use Rattle.st_model.proofs.Runs.{run-tried_went, run-tried_died}
+use Rattle.st_control.specs.AtOnce.{at_once, jump_at_once, return_to_context_at_once, return_at_once, return_to_sender_at_once, return_to_caller_at_once}
+use Rattle.st_frames.proofs.Doing.{rows}
+use Rattle.st_step.specs.AtOnce.{answered_at_once, arithmetic_at_once_by, arithmetic_at_once, primitive_at_once, long_jump_at_once, return_receiver_at_once, return_constant_at_once, return_top_to_sender_at_once, return_top_to_caller_at_once, bytecode_at_once, step_at_once}
+
+-- a primitive on SmallIntegers that is tried
+
+pub by-answers : (m : ObjectMemory Table) (k : ℕ) (v : Value) (a : IntAnswer) (s : State Table) → is_small v ≡ true → (integer_answer m (arithmetic_number k)).run s ≡ Went a s
+    → (arithmetic_at_once_by m k v).run s ≡ (answered_at_once m (Some a)).run s
+unfolding arithmetic_at_once_by ◌>>=◌ after
+by-answers m k (Small n) a s l e = rw (run-tried_went (integer_answer m (arithmetic_number k)) s s a e) refl
+by-answers m k (Ref n) a s l e = cc
+
+pub by-fails : (m : ObjectMemory Table) (k : ℕ) (v : Value) (cause : Dead) (s : State Table) → is_small v ≡ true → (integer_answer m (arithmetic_number k)).run s ≡ Died cause
+    → (arithmetic_at_once_by m k v).run s ≡ Went false s
+unfolding arithmetic_at_once_by answered_at_once ◌>>=◌ after answer
+by-fails m k (Small n) cause s l e = rw (run-tried_died (integer_answer m (arithmetic_number k)) s cause e) refl
+by-fails m k (Ref n) cause s l e = cc
+
+pub by-object : (m : ObjectMemory Table) (k : ℕ) (v : Value) (s : State Table) → is_small v ≡ false → (arithmetic_at_once_by m k v).run s ≡ Went false s
+unfolding arithmetic_at_once_by answer
+by-object m k (Small n) s e = cc
+by-object m k (Ref n) s e = refl
+
+pub ruleset tries = (rows, by-answers, by-fails, by-object)
+
+-- The second dies of the cause of which the first does, and where the first was done, it answers x and leaves the same state.
+
+abbrev pub As : {S A : Type 0} → A → Transition S Bool → Transition S A → Type 0
+As x (Died cause) o = o ≡ Died cause
+As x (Went true t) o = o ≡ Went x t
+As x (Went false t) o = Unit {0}
+
+abbrev pub IsAs : {A : Type 0} → A → Step Table Bool → Step Table A → Type 0
+IsAs x p q = (s : State Table) → As x (p.run s) (q.run s)
+
+after-as : {A B : Type 0} (x : B) (o : Transition (State Table) A) (f : A → Step Table Bool) (g : A → Step Table B) → ((a : A) → IsAs x (f a) (g a))
+    → As x (after o (λ a t. (f a).run t)) (after o (λ a t. (g a).run t))
+unfolding after
+after-as x (Died cause) f g h = refl
+after-as x (Went a t) f g h = h a t
+
+then-as : {A B : Type 0} (x : B) (m : Step Table A) (f : A → Step Table Bool) (g : A → Step Table B) → ((a : A) → IsAs x (f a) (g a)) → IsAs x (m >>= f) (m >>= g)
+unfolding ◌>>=◌
+then-as x m f g h s = after-as x (m.run s) f g h
+
+if-as : {A : Type 0} (x : A) (b : Bool) (p q : Step Table Bool) (u v : Step Table A) → IsAs x p u → IsAs x q v → IsAs x (if b then p else q) (if b then u else v)
+if-as x true p q u v h k = h
+if-as x false p q u v h k = k
+
+not-as : {A : Type 0} (x : A) (q : Step Table A) → IsAs x (answer false) q
+unfolding answer
+not-as x q s = tt
+
+done-as : {A : Type 0} (x : A) (o : Transition (State Table) Unit) → As x (after o (λ a t. Went true t)) (after o (λ a t. Went x t))
+unfolding after
+done-as x (Died cause) = refl
+done-as x (Went a t) = refl
+
+goes_on-as : (m : Step Table Unit) → IsAs (Did outcome.Went) (at_once m) (goes_on m)
+unfolding at_once goes_on ◌>>◌ ◌>>=◌ answer
+goes_on-as m s = done-as (Did outcome.Went) (m.run s)
+
+calls_nothing-as : (m : Step Table Unit) → IsAs None (at_once m) (calls_nothing m)
+unfolding at_once calls_nothing ◌>>◌ ◌>>=◌ answer
+calls_nothing-as m s = done-as None (m.run s)
+
+choice-as : (b : Bool) (q : Step Table (Option Call)) → IsAs None (answer b) (if b then answer None else q)
+unfolding answer
+choice-as true q s = refl
+choice-as false q s = tt
+
+self-as : (o : Transition (State Table) Bool) → As true o o
+self-as (Died cause) = refl
+self-as (Went true t) = refl
+self-as (Went false t) = tt
+
+executed-on : (m : ObjectMemory Table) (o : Transition (State Table) Bool) (r : Transition (State Table) (Option Call)) → As None o r
+    → As (Did outcome.Went) o (after r (λ c t. (execute_if_any m c).run t))
+unfolding after execute_if_any answer
+executed-on m (Died cause) r h = rw h refl
+executed-on m (Went true t) r h = rw h refl
+executed-on m (Went false t) r h = tt
+
+-- a step that may call, and called nothing
+executed-as : (m : ObjectMemory Table) (p : Step Table Bool) (q : Step Table (Option Call)) → IsAs None p q → IsAs (Did outcome.Went) p (executed_if_any m q)
+unfolding executed_if_any ◌>>=◌
+executed-as m p q h s = executed-on m (p.run s) (q.run s) (h s)
+
+sent-on : (m : ObjectMemory Table) (k : ℕ) (e : Step Table StepEnd) (o r : Transition (State Table) Bool) → As true o r
+    → As (Did outcome.Went) o (after r (λ b t. (if b then answer (Did outcome.Went) else e).run t))
+unfolding after answer
+sent-on m k e (Died cause) r h = rw h refl
+sent-on m k e (Went true t) r h = rw h refl
+sent-on m k e (Went false t) r h = tt
+
+-- a primitive that succeeded
+or_send-as : (m : ObjectMemory Table) (k : ℕ) (p q : Step Table Bool) → IsAs true p q → IsAs (Did outcome.Went) p (or_send m k q)
+unfolding or_send ◌>>=◌
+or_send-as m k p q h s = sent-on m k _ (p.run s) (q.run s) (h s)
+
+module _ (m : ObjectMemory Table) where
+  answered-as : (a : Option IntAnswer) → IsAs true (answered_at_once m a) (succeed m 1 (value_of_answer m) a)
+  unfolding answered_at_once
+  answered-as None = not-as true _
+  answered-as (Some (Number n)) = λ s. self-as _
+  answered-as (Some (Truth b)) = λ s. self-as _
+  answered-as (Some (Point x y)) = not-as true _
+
+  arithmetic_by-as : (k : ℕ) (v : Value) → IsAs (Did outcome.Went) (arithmetic_at_once_by m k v) (arithmetic_by m k v)
+  unfolding arithmetic_at_once_by arithmetic_by arithmetic primitive
+  arithmetic_by-as k (Small n) = or_send-as m k _ _ (then-as true _ _ _ answered-as)
+  arithmetic_by-as k (Ref n) = not-as _ _
+
+  arithmetic-as : (k : ℕ) → IsAs (Did outcome.Went) (arithmetic_at_once m k) (arithmetic_send m k)
+  unfolding arithmetic_at_once arithmetic_send
+  arithmetic-as k = then-as _ _ _ _ (arithmetic_by-as k)
+
+  primitive-as : (k : ℕ) → IsAs (Did outcome.Went) (primitive_at_once m k) (primitive_send m k)
+  unfolding primitive_at_once primitive_send
+  primitive-as k =
+      if-as _ (k == 22) _ _ _ _ (goes_on-as _)
+      (if-as _ (k == 23) _ _ _ _ (goes_on-as _)
+      (if-as _ (k == 24) _ _ _ _ (not-as _ _) (or_send-as m k _ _ (λ s. self-as _))))
+
+  jump_on-as : (wanted other : PageObject) (d : ℤ) → IsAs None (jump_at_once m wanted other d) (jump_on m wanted other d)
+  unfolding jump_at_once jump_on
+  jump_on-as wanted other d =
+      then-as _ _ _ _ (λ x. then-as _ _ _ _ (λ a. then-as _ _ _ _ (λ b. if-as _ (same_value x a) _ _ _ _ (calls_nothing-as (jump d)) (choice-as (same_value x b) _))))
+
+  return_to-as : (c v : Value) → IsAs None (return_at_once m c v) (return_to m c v)
+  unfolding return_at_once return_to return_to_context_at_once return_to_context
+  return_to-as c v =
+      then-as _ _ _ _ (λ nil. if-as _ (same_value c nil) _ _ _ _ (not-as _ _)
+      (then-as _ _ _ _ (λ ip. if-as _ (same_value ip nil) _ _ _ _ (not-as _ _) (calls_nothing-as (return_into m c v)))))
+
+  return_to_sender-as : (v : Value) → IsAs None (return_to_sender_at_once m v) (return_to_sender m v)
+  unfolding return_to_sender_at_once return_to_sender
+  return_to_sender-as v = then-as _ _ _ _ (λ home. then-as _ _ _ _ (λ c. return_to-as c v))
+
+  return_to_caller-as : (v : Value) → IsAs None (return_to_caller_at_once m v) (return_to_caller m v)
+  unfolding return_to_caller_at_once return_to_caller
+  return_to_caller-as v = then-as _ _ _ _ (λ active. then-as _ _ _ _ (λ c. return_to-as c v))
+
+  long_jump-as : (wanted other : PageObject) (i : ℕ) → IsAs None (long_jump_at_once m wanted other i) (next_byte m >>= (λ b. jump_on m wanted other (pos (i * 256 + b))))
+  unfolding long_jump_at_once
+  long_jump-as wanted other i = then-as _ _ _ _ (λ b. jump_on-as wanted other (pos (i * 256 + b)))
+
+  bytecode-as : (b : Bytecode) → IsAs (Did outcome.Went) (bytecode_at_once m b) (bytecode m b)
+  unfolding bytecode_at_once bytecode return_receiver_at_once return_constant_at_once return_top_to_sender_at_once return_top_to_caller_at_once return_receiver return_constant return_top_to_sender return_top_to_caller short_jump_on_false long_jump_on_true long_jump_on_false
+  bytecode-as (code.Push operand) = goes_on-as _
+  bytecode-as (code.StoreAndPop operand) = goes_on-as _
+  bytecode-as code.PushReceiver = goes_on-as _
+  bytecode-as (code.PushConstant c) = goes_on-as _
+  bytecode-as code.ReturnReceiver = executed-as m _ _ (then-as _ _ _ _ return_to_sender-as)
+  bytecode-as (code.ReturnConstant c) = executed-as m _ _ (then-as _ _ _ _ return_to_sender-as)
+  bytecode-as code.ReturnTopToSender = executed-as m _ _ (then-as _ _ _ _ return_to_sender-as)
+  bytecode-as code.ReturnTopToCaller = executed-as m _ _ (then-as _ _ _ _ return_to_caller-as)
+  bytecode-as code.Unused = not-as _ _
+  bytecode-as code.ExtendedPush = goes_on-as _
+  bytecode-as code.ExtendedStore = goes_on-as _
+  bytecode-as code.ExtendedStoreAndPop = goes_on-as _
+  bytecode-as code.ExtendedSend = not-as _ _
+  bytecode-as code.DoubleExtendedSend = not-as _ _
+  bytecode-as code.ExtendedSuperSend = not-as _ _
+  bytecode-as code.DoubleExtendedSuperSend = not-as _ _
+  bytecode-as code.PopStack = goes_on-as _
+  bytecode-as code.DuplicateTop = goes_on-as _
+  bytecode-as code.PushActiveContext = goes_on-as _
+  bytecode-as (code.ShortUnconditionalJump i) = goes_on-as _
+  bytecode-as (code.ShortJumpOnFalse i) = executed-as m _ _ (jump_on-as FalseObject TrueObject (pos (i + 1)))
+  bytecode-as (code.LongUnconditionalJump i) = goes_on-as _
+  bytecode-as (code.LongJumpOnTrue i) = executed-as m _ _ (long_jump-as TrueObject FalseObject i)
+  bytecode-as (code.LongJumpOnFalse i) = executed-as m _ _ (long_jump-as FalseObject TrueObject i)
+  bytecode-as (code.ArithmeticSend k) = arithmetic-as k
+  bytecode-as (code.SpecialSend k) = not-as _ _
+  bytecode-as (code.PrimitiveSend k) = primitive-as k
+  bytecode-as (code.LiteralSend i n) = not-as _ _
+
+  pub step-as : IsAs (Did outcome.Went) (step_at_once m) (step m)
+  unfolding step_at_once step
+  step-as = then-as _ _ _ _ (λ b. bytecode-as _)
