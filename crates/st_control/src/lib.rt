@@ -12,7 +12,7 @@ mod returns;
 mod sends;
 mod values;
 
-pub use activation::activate;
+pub use activation::{activate, activate_at_once};
 pub use at_once::{jump_at_once, return_to_caller_at_once, return_to_sender_at_once};
 pub use blocks::{primitive_block_copy, try_blocks};
 pub use jumps::jump_on;

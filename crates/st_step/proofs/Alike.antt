@@ -1,5 +1,5 @@
 -- What is done at once over a memory that reads, changes and names objects as the table does, is what is done over the table.
-use Rattle.std.proofs.Common.{◌≡◌, ℕ, Bool, true, false, zero, suc, Option, Some, None, refl, sym, ◌∙◌}
+use Rattle.std.proofs.Common.{◌≡◌, ℕ, Bool, true, false, zero, suc, Option, Some, None, refl, sym}
 use mathlib.Core.Path.{fun_ext}
 use Rattle.std.specs.Prelude.{ℤ, pos, negsuc, ◌&&◌}
 use Rattle.st_model.specs.declared.bytecode.Bytecode.{Bytecode}
@@ -11,7 +11,7 @@ use Rattle.st_model.specs.declared.bytecode.Constant.TheVariants as constant
 use Rattle.st_model.specs.declared.integers.IntAnswer.{IntAnswer}
 use Rattle.st_model.specs.declared.integers.IntAnswer.TheVariants.{Number, Truth, Point}
 use Rattle.st_model.specs.Values.{Value, Small, Ref}
-use Rattle.st_model.specs.Objects.{PageObject}
+use Rattle.st_model.specs.declared.page.PageObject.{PageObject}
 use Rattle.st_model.specs.Machine.{ObjectMemory, Registers, is_there, tried}
 use Rattle.st_model.specs.Steps.{registers_set, set_registers, are_there, of_page, class_of, fetch_field, store_field, fetch_integer, count_fields, transfer, put, push, under, top, pop, literal, byte_at, next_byte}
 use Rattle.st_model.specs.Contexts.{home_by, home_of, stack_place, fetch_stack_pointer, context_registers, fetch_context_registers, store_context_registers, switch}
@@ -20,32 +20,32 @@ use Rattle.st_model.specs.Primitives.{pop_words, answer_with, succeed, truth, ch
 use Rattle.st_model.specs.Arithmetic.{integer_under, integer_answer, value_of_answer, equivalence, receiver_class}
 use Rattle.st_model.specs.Blocks.{start_of, enter_block, value_with_words, value_if_any, primitive_value}
 use Rattle.st_model.specs.Bytecodes.{fetch_receiver_variable, fetch_temporary_variable, fetch_literal_constant, fetch_literal_variable, fetch_operand, store_receiver_variable, store_temporary_variable, store_literal_variable, store_operand, constant_value, push_operand, store_and_pop, push_receiver, push_constant, extended_push, extended_store, extended_store_and_pop, pop_stack, duplicate_top, push_active_context, long_unconditional_jump}
-use Rattle.st_model.specs.Table.{Table, table, apart, bounded_table, IsTabular}
+use Rattle.st_model.specs.Table.{Table, table, bounded_table, IsTabular}
 use Rattle.st_model.proofs.Tabular.{of_page-as, class_of-as, fetch_field-as, store_field-as, count_fields-as, transfer-as, literal-as, byte_at-as}
-use Rattle.st_memory.specs.Tabular.{apart_tabular, bounded_tabular}
+use Rattle.st_memory.specs.Tabular.{bounded_tabular}
 use Rattle.st_control.specs.AtOnce.{at_once, jump_at_once, return_to_context_at_once, return_at_once, return_to_sender_at_once, return_to_caller_at_once}
 use Rattle.st_step.specs.AtOnce.{answered_at_once, arithmetic_at_once_by, arithmetic_at_once, primitive_at_once, long_jump_at_once, return_receiver_at_once, return_constant_at_once, return_top_to_sender_at_once, return_top_to_caller_at_once, bytecode_at_once, step_at_once}
 
 module _ {m : ObjectMemory Table} (h : IsTabular m) where
-  page-is : of_page m ≡ of_page table
+  pub page-is : of_page m ≡ of_page table
   page-is = fun_ext (of_page-as h)
 
-  class-is : class_of m ≡ class_of table
+  pub class-is : class_of m ≡ class_of table
   class-is = fun_ext (class_of-as h)
 
-  field-is : fetch_field m ≡ fetch_field table
+  pub field-is : fetch_field m ≡ fetch_field table
   field-is = fun_ext (λ v. fun_ext (λ i. fetch_field-as h v i))
 
-  count-is : count_fields m ≡ count_fields table
+  pub count-is : count_fields m ≡ count_fields table
   count-is = fun_ext (count_fields-as h)
 
-  store-is : store_field m ≡ store_field table
+  pub store-is : store_field m ≡ store_field table
   store-is = fun_ext (λ v. fun_ext (λ i. fun_ext (λ x. store_field-as h v i x)))
 
-  transfer-is : transfer m ≡ transfer table
+  pub transfer-is : transfer m ≡ transfer table
   transfer-is = fun_ext (λ n. fun_ext (λ source. fun_ext (λ from. fun_ext (λ target. fun_ext (λ to. transfer-as h n source from target to)))))
 
-  literal-is : literal m ≡ literal table
+  pub literal-is : literal m ≡ literal table
   literal-is = fun_ext (λ v. fun_ext (λ i. literal-as h v i))
 
   byte-is : byte_at m ≡ byte_at table
@@ -53,22 +53,22 @@ module _ {m : ObjectMemory Table} (h : IsTabular m) where
 
   -- the stack
 
-  next_byte-is : next_byte m ≡ next_byte table
+  pub next_byte-is : next_byte m ≡ next_byte table
   unfolding next_byte
   next_byte-is = rw byte-is refl
 
-  top-is : top m ≡ top table
+  pub top-is : top m ≡ top table
   unfolding top
   top-is = rw field-is refl
 
-  under-as : (k : ℕ) → under m k ≡ under table k
+  pub under-as : (k : ℕ) → under m k ≡ under table k
   unfolding under
   under-as k = rw field-is refl
 
-  under-is : under m ≡ under table
+  pub under-is : under m ≡ under table
   under-is = fun_ext under-as
 
-  pop-is : pop m ≡ pop table
+  pub pop-is : pop m ≡ pop table
   unfolding pop
   pop-is = rw top-is refl
 
@@ -76,7 +76,7 @@ module _ {m : ObjectMemory Table} (h : IsTabular m) where
   unfolding push put
   push-as x = rw (count-is, store-is) refl
 
-  push-is : push m ≡ push table
+  pub push-is : push m ≡ push table
   push-is = fun_ext push-as
 
   -- operands
@@ -95,10 +95,10 @@ module _ {m : ObjectMemory Table} (h : IsTabular m) where
   store_operand-as (LiteralConstant i) x = refl
   store_operand-as (LiteralVariable i) x = rw (literal-is, store-is) refl
 
-  store_operand-is : store_operand m ≡ store_operand table
+  pub store_operand-is : store_operand m ≡ store_operand table
   store_operand-is = fun_ext (λ o. fun_ext (λ x. store_operand-as o x))
 
-  constant_value-as : (c : Constant) → constant_value m c ≡ constant_value table c
+  pub constant_value-as : (c : Constant) → constant_value m c ≡ constant_value table c
   unfolding constant_value
   constant_value-as constant.True = rw page-is refl
   constant_value-as constant.False = rw page-is refl
@@ -112,14 +112,14 @@ module _ {m : ObjectMemory Table} (h : IsTabular m) where
   unfolding push_operand
   push_operand-as o = rw (fetch_operand-as o, push-is) refl
 
-  push_operand-is : push_operand m ≡ push_operand table
+  pub push_operand-is : push_operand m ≡ push_operand table
   push_operand-is = fun_ext push_operand-as
 
   store_and_pop-as : (o : Operand) → store_and_pop m o ≡ store_and_pop table o
   unfolding store_and_pop
   store_and_pop-as o = rw (pop-is, store_operand-is) refl
 
-  store_and_pop-is : store_and_pop m ≡ store_and_pop table
+  pub store_and_pop-is : store_and_pop m ≡ store_and_pop table
   store_and_pop-is = fun_ext store_and_pop-as
 
   -- primitives
@@ -166,7 +166,7 @@ module _ {m : ObjectMemory Table} (h : IsTabular m) where
   arithmetic_by-as k (Small n) = rw (integer_answer-is, answered-is) refl
   arithmetic_by-as k (Ref n) = refl
 
-  arithmetic_by-is : arithmetic_at_once_by m ≡ arithmetic_at_once_by table
+  pub arithmetic_by-is : arithmetic_at_once_by m ≡ arithmetic_at_once_by table
   arithmetic_by-is = fun_ext (λ k. fun_ext (λ v. arithmetic_by-as k v))
 
   equivalence-is : equivalence m ≡ equivalence table
@@ -227,7 +227,7 @@ module _ {m : ObjectMemory Table} (h : IsTabular m) where
   unfolding switch store_context_registers
   switch-as c = rw (store-is, fetch_registers-is) refl
 
-  switch-is : switch m ≡ switch table
+  pub switch-is : switch m ≡ switch table
   switch-is = fun_ext switch-as
 
   -- blocks
@@ -251,7 +251,7 @@ module _ {m : ObjectMemory Table} (h : IsTabular m) where
   unfolding primitive_value
   value-as n = rw (under-is, start_of-is, value_if_any-is) refl
 
-  primitive-as : (k : ℕ) → primitive_at_once m k ≡ primitive_at_once table k
+  pub primitive-as : (k : ℕ) → primitive_at_once m k ≡ primitive_at_once table k
   unfolding primitive_at_once
   primitive-as k = rw (equivalence-is, receiver_class-is, fun_ext value-as) refl
 
@@ -261,7 +261,7 @@ module _ {m : ObjectMemory Table} (h : IsTabular m) where
   unfolding jump_at_once
   jump_on-as wanted other d = rw (pop-is, page-is) refl
 
-  jump_on-is : jump_at_once m ≡ jump_at_once table
+  pub jump_on-is : jump_at_once m ≡ jump_at_once table
   jump_on-is = fun_ext (λ wanted. fun_ext (λ other. fun_ext (λ d. jump_on-as wanted other d)))
 
   return_to-as : (c v : Value) → return_at_once m c v ≡ return_at_once table c v
@@ -275,45 +275,12 @@ module _ {m : ObjectMemory Table} (h : IsTabular m) where
   unfolding return_to_sender_at_once
   sender-as v = rw (field-is, return_to-is) refl
 
-  sender-is : return_to_sender_at_once m ≡ return_to_sender_at_once table
+  pub sender-is : return_to_sender_at_once m ≡ return_to_sender_at_once table
   sender-is = fun_ext sender-as
 
   caller-as : (v : Value) → return_to_caller_at_once m v ≡ return_to_caller_at_once table v
   unfolding return_to_caller_at_once
   caller-as v = rw (field-is, return_to-is) refl
 
-  caller-is : return_to_caller_at_once m ≡ return_to_caller_at_once table
+  pub caller-is : return_to_caller_at_once m ≡ return_to_caller_at_once table
   caller-is = fun_ext caller-as
-
-  bytecode-as : (b : Bytecode) → bytecode_at_once m b ≡ bytecode_at_once table b
-  unfolding bytecode_at_once push_receiver push_constant extended_push extended_store extended_store_and_pop pop_stack duplicate_top push_active_context long_unconditional_jump arithmetic_at_once long_jump_at_once return_receiver_at_once return_constant_at_once return_top_to_sender_at_once return_top_to_caller_at_once
-  bytecode-as (code.Push operand) = rw push_operand-is refl
-  bytecode-as (code.StoreAndPop operand) = rw store_and_pop-is refl
-  bytecode-as code.PushReceiver = rw push-is refl
-  bytecode-as (code.PushConstant c) = rw (constant_value-as c, push-is) refl
-  bytecode-as code.ReturnReceiver = rw sender-is refl
-  bytecode-as (code.ReturnConstant c) = rw (constant_value-as c, sender-is) refl
-  bytecode-as code.ReturnTopToSender = rw (pop-is, sender-is) refl
-  bytecode-as code.ReturnTopToCaller = rw (pop-is, caller-is) refl
-  bytecode-as code.ExtendedPush = rw (next_byte-is, push_operand-is) refl
-  bytecode-as code.ExtendedStore = rw (next_byte-is, top-is, store_operand-is) refl
-  bytecode-as code.ExtendedStoreAndPop = rw (next_byte-is, store_and_pop-is) refl
-  bytecode-as code.PopStack = rw pop-is refl
-  bytecode-as code.DuplicateTop = rw (top-is, push-is) refl
-  bytecode-as code.PushActiveContext = rw push-is refl
-  bytecode-as (code.ShortUnconditionalJump i) = refl
-  bytecode-as (code.ShortJumpOnFalse i) = rw jump_on-is refl
-  bytecode-as (code.LongUnconditionalJump i) = rw next_byte-is refl
-  bytecode-as (code.LongJumpOnTrue i) = rw (next_byte-is, jump_on-is) refl
-  bytecode-as (code.LongJumpOnFalse i) = rw (next_byte-is, jump_on-is) refl
-  bytecode-as (code.ArithmeticSend k) = rw (under-is, arithmetic_by-is) refl
-  bytecode-as (code.PrimitiveSend k) = primitive-as k
-  bytecode-as b = refl
-
-  pub step-alike : step_at_once m ≡ step_at_once table
-  unfolding step_at_once
-  step-alike = rw (next_byte-is, fun_ext bytecode-as) refl
-
--- whether foreseen or done, it is the same
-pub same_at_once : step_at_once apart ≡ step_at_once bounded_table
-same_at_once = step-alike apart_tabular ∙ sym (step-alike bounded_tabular)

@@ -8,23 +8,26 @@ use Rattle.st_model.specs.declared.bytecode.Constant.{Constant}
 use Rattle.st_model.specs.declared.integers.IntAnswer.{IntAnswer}
 use Rattle.st_model.specs.declared.integers.IntAnswer.TheVariants.{Number, Truth, Point}
 use Rattle.st_model.specs.Values.{Value, Small, Ref, is_small}
-use Rattle.st_model.specs.Objects.{PageObject, FalseObject, TrueObject}
+use Rattle.st_model.specs.declared.page.PageObject.{PageObject}
+use Rattle.st_model.specs.declared.page.PageObject.TheVariants.{FalseObject, TrueObject}
 use Rattle.st_model.specs.Outcomes.{StepEnd, Did}
 use Rattle.st_model.specs.Outcomes as outcome
 use Rattle.st_model.specs.Machine.{ObjectMemory, State, Transition, Died, Went, Step, answer, after, ◌>>=◌, ◌>>◌}
-use Rattle.st_model.specs.Steps.{same_value, jump, next_byte}
-use Rattle.st_model.specs.Sends.{Call}
+use Rattle.st_model.specs.Steps.{same_value, jump, next_byte, get_free}
+use Rattle.st_model.specs.Sends.{Call, call_found, send_from, send}
+use Rattle.st_model.specs.Methods.{flag_of}
+use Rattle.st_model.specs.Contexts.{activate}
 use Rattle.st_model.specs.Returns.{calls, calls_nothing, cannot_return, return_into, return_to_context, return_to, return_to_sender, return_to_caller, jump_on}
 use Rattle.st_model.specs.Primitives.{succeed, primitive}
 use Rattle.st_model.specs.Arithmetic.{arithmetic, arithmetic_number, integer_answer, value_of_answer}
 use Rattle.st_model.specs.Blocks.{primitive_block_copy}
-use Rattle.st_model.specs.Executing.{goes_on, execute_if_any, executed_if_any}
-use Rattle.st_model.specs.Bytecodes.{or_send, arithmetic_by, arithmetic_send, primitive_send, return_receiver, return_constant, return_top_to_sender, return_top_to_caller, short_jump_on_false, long_jump_on_true, long_jump_on_false, bytecode, step}
+use Rattle.st_model.specs.Executing.{goes_on, execute_by, execute, executed, execute_if_any, executed_if_any}
+use Rattle.st_model.specs.Bytecodes.{send_literal, or_send, arithmetic_by, arithmetic_send, primitive_send, return_receiver, return_constant, return_top_to_sender, return_top_to_caller, short_jump_on_false, long_jump_on_true, long_jump_on_false, bytecode, step}
 use Rattle.st_model.specs.Table.{Table}
 use Rattle.st_model.proofs.Runs.{run-tried_went, run-tried_died}
-use Rattle.st_control.specs.AtOnce.{at_once, jump_at_once, return_to_context_at_once, return_at_once, return_to_sender_at_once, return_to_caller_at_once}
+use Rattle.st_control.specs.AtOnce.{at_once, enter_context, context_space, activate_at_once, jump_at_once, return_to_context_at_once, return_at_once, return_to_sender_at_once, return_to_caller_at_once}
 use Rattle.st_frames.proofs.Doing.{rows}
-use Rattle.st_step.specs.AtOnce.{answered_at_once, arithmetic_at_once_by, arithmetic_at_once, primitive_at_once, long_jump_at_once, return_receiver_at_once, return_constant_at_once, return_top_to_sender_at_once, return_top_to_caller_at_once, bytecode_at_once, step_at_once}
+use Rattle.st_step.specs.AtOnce.{execute_at_once_by, execute_at_once, found_at_once, send_from_at_once, send_at_once, literal_send_at_once, answered_at_once, arithmetic_at_once_by, arithmetic_at_once, primitive_at_once, long_jump_at_once, return_receiver_at_once, return_constant_at_once, return_top_to_sender_at_once, return_top_to_caller_at_once, bytecode_at_once, step_at_once}
 
 -- a primitive on SmallIntegers that is tried
 
@@ -122,7 +125,71 @@ or_send-as : (m : ObjectMemory Table) (k : ℕ) (p q : Step Table Bool) → IsAs
 unfolding or_send ◌>>=◌
 or_send-as m k p q h s = sent-on m k _ (p.run s) (q.run s) (h s)
 
+both-as : {A : Type 0} (x : A) (b : Bool) (p : Step Table Bool) (q : Step Table A) → IsAs x p q → IsAs x (if b then p else answer false) q
+both-as x true p q h = h
+both-as x false p q h = not-as x q
+
+on-next : (u : Transition (State Table) Unit) (f : Step Table Bool) (g : Step Table Unit) → IsAs (Did outcome.Went) f (goes_on g)
+    → As (Did outcome.Went) (after u (λ a t. f.run t)) (after (after u (λ a t. g.run t)) (λ a t. Went (Did outcome.Went) t))
+unfolding after goes_on ◌>>◌ ◌>>=◌ answer
+on-next (Died cause) f g h = refl
+on-next (Went a t) f g h = h t
+
+-- one part of what goes on
+next-as : (u : Step Table Unit) (f : Step Table Bool) (g : Step Table Unit) → IsAs (Did outcome.Went) f (goes_on g) → IsAs (Did outcome.Went) (u >> f) (goes_on (u >> g))
+unfolding goes_on ◌>>◌ ◌>>=◌ answer
+next-as u f g h s = on-next (u.run s) f g h
+
+space-as : {A : Type 0} (m : ObjectMemory Table) (x : A) (f : Bool → Step Table Bool) (q : Step Table A) → ((b : Bool) → IsAs x (f b) q) → IsAs x (context_space m >>= f) q
+unfolding context_space get_free ◌>>=◌ after answer
+space-as m x f q h s = h _ s
+
 module _ (m : ObjectMemory Table) where
+  -- what is called is executed
+
+  calls-on : {A : Type 0} (o : Transition (State Table) A) (f : A → Step Table Bool) (g : A → Step Table Call) → ((a : A) → IsAs (Did outcome.Went) (f a) (executed m (g a)))
+      → As (Did outcome.Went) (after o (λ a t. (f a).run t)) (after (after o (λ a t. (g a).run t)) (λ c t. (execute m c).run t))
+  unfolding after executed ◌>>=◌
+  calls-on (Died cause) f g h = refl
+  calls-on (Went a t) f g h = h a t
+
+  calls-as : {A : Type 0} (u : Step Table A) (f : A → Step Table Bool) (g : A → Step Table Call) → ((a : A) → IsAs (Did outcome.Went) (f a) (executed m (g a)))
+      → IsAs (Did outcome.Went) (u >>= f) (executed m (u >>= g))
+  unfolding executed ◌>>=◌
+  calls-as u f g h s = calls-on (u.run s) f g h
+
+  called-as : (p : Step Table Bool) (c : Call) → IsAs (Did outcome.Went) p (execute m c) → IsAs (Did outcome.Went) p (executed m (answer c))
+  unfolding executed ◌>>=◌ after answer
+  called-as p c h s = h s
+
+  activate-as : (method header : Value) (n : ℕ) → IsAs (Did outcome.Went) (activate_at_once m method header n) (goes_on (activate m method header n))
+  unfolding activate_at_once activate enter_context
+  activate-as method header n = next-as _ _ _ (next-as _ _ _ (next-as _ _ _ (space-as m _ _ _ (λ b. both-as _ b _ _ (goes_on-as _)))))
+
+  went-as : IsAs (Did outcome.Went) (answer true) (answer (Did outcome.Went))
+  unfolding answer
+  went-as s = refl
+
+  execute-as : (method : Value) (n : ℕ) → IsAs (Did outcome.Went) (execute_at_once m method n) (execute m (record { method = method; arguments = n }))
+  unfolding execute_at_once execute_at_once_by execute execute_by
+  execute-as method n =
+      then-as _ _ _ _ (λ header. if-as _ (flag_of header == 5) _ _ _ _ went-as
+      (if-as _ (flag_of header == 6) _ _ _ _ (goes_on-as _)
+      (if-as _ (flag_of header == 7) _ _ _ _ (not-as _ _) (activate-as method header n))))
+
+  found-as : (class selector : Value) (n : ℕ) (method : Option Value) → IsAs (Did outcome.Went) (found_at_once m n method) (executed m (call_found m class selector n method))
+  unfolding found_at_once call_found
+  found-as class selector n None = not-as _ _
+  found-as class selector n (Some method) = called-as _ _ (execute-as method n)
+
+  send-as : (selector : Value) (n : ℕ) → IsAs (Did outcome.Went) (send_at_once m selector n) (executed m (send m selector n))
+  unfolding send_at_once send_from_at_once send send_from
+  send-as selector n = calls-as _ _ _ (λ receiver. calls-as _ _ _ (λ class. calls-as _ _ _ (found-as class selector n)))
+
+  literal_send-as : (i n : ℕ) → IsAs (Did outcome.Went) (literal_send_at_once m i n) (executed m (send_literal m i n))
+  unfolding literal_send_at_once send_literal
+  literal_send-as i n = calls-as _ _ _ (λ selector. send-as selector n)
+
   answered-as : (a : Option IntAnswer) → IsAs true (answered_at_once m a) (succeed m 1 (value_of_answer m) a)
   unfolding answered_at_once
   answered-as None = not-as true _
@@ -198,7 +265,7 @@ module _ (m : ObjectMemory Table) where
   bytecode-as (code.ArithmeticSend k) = arithmetic-as k
   bytecode-as (code.SpecialSend k) = not-as _ _
   bytecode-as (code.PrimitiveSend k) = primitive-as k
-  bytecode-as (code.LiteralSend i n) = not-as _ _
+  bytecode-as (code.LiteralSend i n) = literal_send-as i n
 
   pub step-as : IsAs (Did outcome.Went) (step_at_once m) (step m)
   unfolding step_at_once step

@@ -5,4 +5,7 @@ pub mod Said
 pub mod Performed
 pub mod AtOnce
 pub mod Alike
+pub mod Entered
+pub mod AlikeRows
+pub mod Linked
 pub mod Quick

@@ -1,5 +1,6 @@
--- Bytecodes that make no object are done at once, without being foreseen. Each answers whether it was such a one. Where it
--- wasn't, what it leaves is of no use: the bytecode is to be foreseen.
+-- Bytecodes that make no object are done at once, without being foreseen; and so are sends that activate a method, where there
+-- is room for its context. Each answers whether it was such a one. Where it wasn't, what it leaves is of no use: the bytecode is
+-- to be foreseen.
 use Rattle.std.specs.Prelude.{◌≡◌, ℕ, ◌+◌, ◌*◌, ◌-◌, ◌==◌, Bool, true, false, Option, Some, None, Result, Ok, Err, if◌then◌else◌, pos}
 use Rattle.st_model.specs.declared.dead.Dead.{Dead}
 use Rattle.st_model.specs.declared.dead.Dead.TheVariants as dead
@@ -9,19 +10,23 @@ use Rattle.st_model.specs.declared.bytecode.Bytecode.TheVariants as code
 use Rattle.st_model.specs.declared.integers.IntAnswer.{IntAnswer}
 use Rattle.st_model.specs.declared.integers.IntAnswer.TheVariants.{Number, Truth, Point}
 use Rattle.st_model.specs.Values.{Value, Small, Ref}
-use Rattle.st_model.specs.Objects.{PageObject, FalseObject, TrueObject}
+use Rattle.st_model.specs.declared.page.PageObject.{PageObject}
+use Rattle.st_model.specs.declared.page.PageObject.TheVariants.{FalseObject, TrueObject}
 use Rattle.st_model.specs.Decoded.{decoded}
 use Rattle.st_model.specs.Outcomes.{Did}
 use Rattle.st_model.specs.Outcomes as outcome
 use Rattle.st_model.specs.Machine.{ObjectMemory, State, Died, Went, Step, answer, die, tried, ◌>>=◌}
-use Rattle.st_model.specs.Steps.{get_receiver, under, pop, next_byte}
+use Rattle.st_model.specs.Steps.{get_receiver, class_of, under, pop, next_byte}
+use Rattle.st_model.specs.Methods.{method_header, temporary_count, flag_of}
+use Rattle.st_model.specs.Lookup.{find}
+use Rattle.st_model.specs.Executing.{answer_field}
 use Rattle.st_model.specs.Primitives.{succeed}
 use Rattle.st_model.specs.Arithmetic.{integer_answer, value_of_answer, arithmetic_number, equivalence, receiver_class}
 use Rattle.st_model.specs.Blocks.{primitive_value}
-use Rattle.st_model.specs.Bytecodes.{push_operand, store_and_pop, push_receiver, push_constant, constant_value, extended_push, extended_store, extended_store_and_pop, pop_stack, duplicate_top, push_active_context, short_unconditional_jump, long_unconditional_jump, step}
+use Rattle.st_model.specs.Bytecodes.{fetch_literal_constant, push_operand, store_and_pop, push_receiver, push_constant, constant_value, extended_push, extended_store, extended_store_and_pop, pop_stack, duplicate_top, push_active_context, short_unconditional_jump, long_unconditional_jump, step}
 use Rattle.st_model.specs.Table.{Table, apart, bounded_table}
 use Rattle.st_step.specs.Planned.{IsForeseen}
-use Rattle.st_control.specs.AtOnce.{at_once, jump_at_once, return_to_sender_at_once, return_to_caller_at_once}
+use Rattle.st_control.specs.AtOnce.{at_once, activate_at_once, jump_at_once, return_to_sender_at_once, return_to_caller_at_once}
 
 -- what a primitive on SmallIntegers answered, unless it failed, or answers a Point, which would have to be made
 unfoldable pub answered_at_once : {H : Type 0} → ObjectMemory H → Option IntAnswer → Step H Bool
@@ -79,7 +84,42 @@ return_top_to_caller_at_once m = do
   x ← pop m
   return_to_caller_at_once m x
 
--- the row of a bytecode, where that makes nothing
+-- The method is executed whose header has this flag: one that answers the receiver or a field, or is activated. Where it has a
+-- primitive, it is to be foreseen.
+unfoldable pub execute_at_once_by : {H : Type 0} → ObjectMemory H → Value → Value → ℕ → ℕ → Step H Bool
+execute_at_once_by m method header n flag =
+    if flag == 5 then answer true else
+    if flag == 6 then at_once (answer_field m (temporary_count header)) else
+    if flag == 7 then answer false else activate_at_once m method header n
+
+unfoldable pub execute_at_once : {H : Type 0} → ObjectMemory H → Value → ℕ → Step H Bool
+execute_at_once m method n = do
+  header ← method_header m method
+  execute_at_once_by m method header n (flag_of header)
+
+-- a message that isn't understood would have to be made
+unfoldable pub found_at_once : {H : Type 0} → ObjectMemory H → ℕ → Option Value → Step H Bool
+found_at_once m n None = answer false
+found_at_once m n (Some method) = execute_at_once m method n
+
+unfoldable pub send_from_at_once : {H : Type 0} → ObjectMemory H → Value → Value → ℕ → Step H Bool
+send_from_at_once m class selector n = do
+  method ← find m class selector
+  found_at_once m n method
+
+unfoldable pub send_at_once : {H : Type 0} → ObjectMemory H → Value → ℕ → Step H Bool
+send_at_once m selector n = do
+  receiver ← under m n
+  class ← class_of m receiver
+  send_from_at_once m class selector n
+
+-- 208 to 255
+unfoldable pub literal_send_at_once : {H : Type 0} → ObjectMemory H → ℕ → ℕ → Step H Bool
+literal_send_at_once m i n = do
+  selector ← fetch_literal_constant m i
+  send_at_once m selector n
+
+-- the row of a bytecode, where that is done at once
 unfoldable pub bytecode_at_once : {H : Type 0} → ObjectMemory H → Bytecode → Step H Bool
 bytecode_at_once m (code.Push operand) = at_once (push_operand m operand)
 bytecode_at_once m (code.StoreAndPop operand) = at_once (store_and_pop m operand)
@@ -108,7 +148,7 @@ bytecode_at_once m (code.LongJumpOnFalse i) = long_jump_at_once m FalseObject Tr
 bytecode_at_once m (code.ArithmeticSend k) = arithmetic_at_once m k
 bytecode_at_once m (code.SpecialSend k) = answer false
 bytecode_at_once m (code.PrimitiveSend k) = primitive_at_once m k
-bytecode_at_once m (code.LiteralSend i n) = answer false
+bytecode_at_once m (code.LiteralSend i n) = literal_send_at_once m i n
 
 -- the next bytecode, where it makes nothing
 unfoldable pub step_at_once : {H : Type 0} → ObjectMemory H → Step H Bool

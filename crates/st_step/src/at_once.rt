@@ -4,12 +4,15 @@ ghost use Rattle.st_model.specs.Calls.{itself};
 ghost use Rattle.st_model.specs.Decoded.{IsNumbered};
 ghost use Rattle.st_ints.specs.Answers.{IsOfSmall};
 ghost use Rattle.st_control.specs.AtOnce.{IsStill, at_once, return_to_sender_at_once};
-ghost use Rattle.st_step.specs.AtOnce.{answered_at_once, arithmetic_at_once_by, arithmetic_at_once, primitive_at_once, long_jump_at_once, return_receiver_at_once, return_constant_at_once, return_top_to_sender_at_once, return_top_to_caller_at_once, bytecode_at_once, step_at_once};
-ghost use Rattle.st_frames.specs.Rows.{RowMoves, RowDoes, Takes};
+ghost use Rattle.st_step.specs.AtOnce.{execute_at_once_by, execute_at_once, found_at_once, send_from_at_once, send_at_once, literal_send_at_once, answered_at_once, arithmetic_at_once_by, arithmetic_at_once, primitive_at_once, long_jump_at_once, return_receiver_at_once, return_constant_at_once, return_top_to_sender_at_once, return_top_to_caller_at_once, bytecode_at_once, step_at_once};
+ghost use Rattle.st_model.specs.Methods.{flag_of};
+ghost use Rattle.st_lookup.specs.Places.{found_word};
+ghost use Rattle.st_frames.specs.Rows.{RowMoves, RowDoes, Takes, activation_changes};
 
 use crate::arithmetic::{answer_pair, integer_answer, word_of};
+use crate::flags::answer_field;
 use crate::jump::{long_unconditional_jump, short_unconditional_jump};
-use crate::operands::constant_value;
+use crate::operands::{constant_value, fetch_literal_constant};
 use crate::receivers::{equivalence, receiver_class};
 use crate::send::arithmetic_number;
 use crate::stack::{
@@ -17,11 +20,14 @@ use crate::stack::{
     push_active_context, push_constant, push_operand, push_receiver, store_and_pop,
 };
 use st_control::{
-    jump_at_once, return_to_caller_at_once, return_to_sender_at_once, value_at_once,
+    activate_at_once, jump_at_once, return_to_caller_at_once, return_to_sender_at_once,
+    value_at_once,
 };
 use st_frames::{Registers, next_byte, page, pop, under};
 use st_ints::IntAnswer;
+use st_lookup::look_up;
 use st_memory::Objects;
+use st_method::Header;
 use st_model::{Bytecode, Constant, Dead, PageObject, Word, decode};
 
 /// A number or a truth takes the place of receiver and argument. Answers whether it was one: a Point isn't made.
@@ -174,14 +180,140 @@ fn return_top_to_caller_at_once<O: Objects>(m: &mut O, r: &mut Registers) -> Res
     return_to_caller_at_once(m, r, x)
 }
 
-/// Does the row of a bytecode, where it makes no object. Answers whether that is so.
+/// Executes a method by its header's flag, unless it has a primitive. Answers whether it did.
+#[tactic(auto, using(st_frames::proofs::Doing::rows), unfolding(crate::specs::AtOnce::execute_at_once_by, st_control::specs::AtOnce::at_once))]
+fn execute_at_once_by<O: Objects>(
+    m: &mut O,
+    r: &mut Registers,
+    method: Word,
+    header: Header,
+    n: u32,
+) -> Result<bool, Dead>
+    requires few { n < 16384 }
+    requires room { activation_changes ≤ O.room m.old }
+    ensures does { RowDoes O.Objects.own
+        (execute_at_once_by O.names (word method) (word header.0) n (flag_of (word header.0)))
+        itself m.old r.old result m.new r.new }
+    ensures takes { Takes O.Objects.own activation_changes m.old m.new }
+    ensures still { IsStill m.old result m.new }
+{
+    match header.flag() {
+        5 => Ok(true),
+        6 => {
+            answer_field(m, r, header.temporaries())?;
+            Ok(true)
+        }
+        7 => Ok(false),
+        _ => activate_at_once(m, r, method, header, n),
+    }
+}
+
+/// Executes a method with n arguments, unless it has a primitive. Answers whether it did.
+#[tactic(auto, using(st_frames::proofs::Doing::rows), unfolding(crate::specs::AtOnce::execute_at_once))]
+fn execute_at_once<O: Objects>(
+    m: &mut O,
+    r: &mut Registers,
+    method: Word,
+    n: u32,
+) -> Result<bool, Dead>
+    requires few { n < 16384 }
+    requires room { activation_changes ≤ O.room m.old }
+    ensures does { RowDoes O.Objects.own (execute_at_once O.names (word method) n)
+        itself m.old r.old result m.new r.new }
+    ensures takes { Takes O.Objects.own activation_changes m.old m.new }
+    ensures still { IsStill m.old result m.new }
+{
+    let header = Header(m.method_header(method)?);
+    execute_at_once_by(m, r, method, header, n)
+}
+
+/// Executes the method that was found, if one was, with n arguments. Answers whether it did.
+#[tactic(auto, using(st_frames::proofs::Doing::rows), unfolding(crate::specs::AtOnce::found_at_once))]
+fn found_at_once<O: Objects>(
+    m: &mut O,
+    r: &mut Registers,
+    n: u32,
+    method: Option<Word>,
+) -> Result<bool, Dead>
+    requires few { n < 16384 }
+    requires room { activation_changes ≤ O.room m.old }
+    ensures does { RowDoes O.Objects.own (found_at_once O.names n (found_word method))
+        itself m.old r.old result m.new r.new }
+    ensures takes { Takes O.Objects.own activation_changes m.old m.new }
+    ensures still { IsStill m.old result m.new }
+{
+    match method {
+        Some(method) => execute_at_once(m, r, method, n),
+        None => Ok(false),
+    }
+}
+
+/// Sends the selector with n arguments, where the search begins in this class. Answers whether it did.
+#[tactic(auto, using(st_frames::proofs::Doing::rows), unfolding(crate::specs::AtOnce::send_from_at_once))]
+fn send_from_at_once<O: Objects>(
+    m: &mut O,
+    r: &mut Registers,
+    class: Word,
+    selector: Word,
+    n: u32,
+) -> Result<bool, Dead>
+    requires few { n < 16384 }
+    requires room { activation_changes ≤ O.room m.old }
+    ensures does { RowDoes O.Objects.own (send_from_at_once O.names (word class) (word selector) n)
+        itself m.old r.old result m.new r.new }
+    ensures takes { Takes O.Objects.own activation_changes m.old m.new }
+    ensures still { IsStill m.old result m.new }
+{
+    let method = look_up(m, class, selector)?;
+    found_at_once(m, r, n, method)
+}
+
+/// Sends the selector with n arguments to the word n words below the top. Answers whether it did.
+#[tactic(auto, using(st_frames::proofs::Doing::rows), unfolding(crate::specs::AtOnce::send_at_once))]
+fn send_at_once<O: Objects>(
+    m: &mut O,
+    r: &mut Registers,
+    selector: Word,
+    n: u32,
+) -> Result<bool, Dead>
+    requires few { n < 16384 }
+    requires room { activation_changes ≤ O.room m.old }
+    ensures does { RowDoes O.Objects.own (send_at_once O.names (word selector) n)
+        itself m.old r.old result m.new r.new }
+    ensures takes { Takes O.Objects.own activation_changes m.old m.new }
+    ensures still { IsStill m.old result m.new }
+{
+    let receiver = under(m, r, n)?;
+    let class = m.fetch_class(receiver)?;
+    send_from_at_once(m, r, class, selector, n)
+}
+
+/// Sends literal i with n arguments. Answers whether it did.
+#[tactic(auto, using(st_frames::proofs::Doing::rows), unfolding(crate::specs::AtOnce::literal_send_at_once))]
+fn literal_send_at_once<O: Objects>(
+    m: &mut O,
+    r: &mut Registers,
+    i: u32,
+    n: u32,
+) -> Result<bool, Dead>
+    requires few { n < 16384 }
+    requires room { activation_changes ≤ O.room m.old }
+    ensures does { RowDoes O.Objects.own (literal_send_at_once O.names i n) itself m.old r.old result m.new r.new }
+    ensures takes { Takes O.Objects.own activation_changes m.old m.new }
+    ensures still { IsStill m.old result m.new }
+{
+    let selector = fetch_literal_constant(m, r, i)?;
+    send_at_once(m, r, selector, n)
+}
+
+/// Does the row of a bytecode, where that is done at once. Answers whether that is so.
 #[tactic(auto, using(st_frames::proofs::Doing::rows), unfolding(crate::specs::AtOnce::bytecode_at_once, st_control::specs::AtOnce::at_once))]
 fn bytecode_at_once<O: Objects>(m: &mut O, r: &mut Registers, code: Bytecode) -> Result<bool, Dead>
     requires numbered { IsNumbered code }
-    requires room { 6 ≤ O.room m.old }
+    requires room { activation_changes ≤ O.room m.old }
     ensures does { RowDoes O.Objects.own (bytecode_at_once O.names code)
         itself m.old r.old result m.new r.new }
-    ensures takes { Takes O.Objects.own 6 m.old m.new }
+    ensures takes { Takes O.Objects.own activation_changes m.old m.new }
     ensures still { IsStill m.old result m.new }
 {
     let (is, other) = (PageObject::FalseObject, PageObject::TrueObject);
@@ -207,23 +339,25 @@ fn bytecode_at_once<O: Objects>(m: &mut O, r: &mut Registers, code: Bytecode) ->
         Bytecode::LongJumpOnTrue(i) => return long_jump_at_once(m, r, other, is, i),
         Bytecode::ArithmeticSend(k) => return arithmetic_at_once(m, r, u32::from(k)),
         Bytecode::PrimitiveSend(k) => return primitive_at_once(m, r, u32::from(k)),
+        Bytecode::LiteralSend { literal, arguments } => {
+            return literal_send_at_once(m, r, u32::from(literal), u32::from(arguments));
+        }
         Bytecode::Unused
         | Bytecode::ExtendedSend
         | Bytecode::DoubleExtendedSend
         | Bytecode::ExtendedSuperSend
         | Bytecode::DoubleExtendedSuperSend
-        | Bytecode::SpecialSend(_)
-        | Bytecode::LiteralSend { .. } => return Ok(false),
+        | Bytecode::SpecialSend(_) => return Ok(false),
     }
     Ok(true)
 }
 
-/// Does the next bytecode, where it makes no object. Answers whether that is so.
+/// Does the next bytecode, where that is done at once. Answers whether that is so.
 #[tactic(auto, using(st_frames::proofs::Doing::rows), unfolding(crate::specs::AtOnce::step_at_once))]
 pub fn row_at_once<O: Objects>(m: &mut O, r: &mut Registers) -> Result<bool, Dead>
-    requires room { 6 ≤ O.room m.old }
+    requires room { activation_changes ≤ O.room m.old }
     ensures does { RowDoes O.Objects.own (step_at_once O.names) itself m.old r.old result m.new r.new }
-    ensures takes { Takes O.Objects.own 6 m.old m.new }
+    ensures takes { Takes O.Objects.own activation_changes m.old m.new }
     ensures still { IsStill m.old result m.new }
 {
     let byte = next_byte(m, r)?;

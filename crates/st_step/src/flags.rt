@@ -17,7 +17,7 @@ use st_model::{Call, Dead, Deed, StepEnd, Word};
 
 /// A field of the word at the top takes its place.
 #[tactic(auto, using(st_frames::proofs::Doing::rows), unfolding(st_model::specs::Executing::answer_field))]
-fn answer_field<O: Objects>(m: &mut O, r: &mut Registers, i: u32) -> Result<(), Dead>
+pub fn answer_field<O: Objects>(m: &mut O, r: &mut Registers, i: u32) -> Result<(), Dead>
     requires room { 1 ≤ O.room m.old }
     ensures does { RowDoes O.Objects.own (answer_field O.names i) itself m.old r.old result m.new r.new }
     ensures takes { Takes O.Objects.own 1 m.old m.new }
