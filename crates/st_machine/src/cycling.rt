@@ -14,7 +14,8 @@ use st_frames::{Frame, load, next_byte};
 use st_input::signal_once;
 use st_memory::Memory;
 use st_model::{Dead, Demand, Device, Halt, Outcome};
-use st_step::{plan, step, step_at_once};
+use st_quick::step_at_once;
+use st_step::{plan, step};
 use st_switch::check_process_switch;
 use st_world::World;
 

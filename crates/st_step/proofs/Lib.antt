@@ -3,9 +3,3 @@ pub mod Stepped
 pub mod Foreseeing
 pub mod Said
 pub mod Performed
-pub mod AtOnce
-pub mod Alike
-pub mod Entered
-pub mod AlikeRows
-pub mod Linked
-pub mod Quick

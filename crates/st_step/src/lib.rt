@@ -2,21 +2,14 @@
 //! what the next bytecode would take, and one does it.
 #![tactic(auto)]
 
-mod arithmetic;
-mod at_once;
 mod execute;
 mod flags;
 mod jump;
-mod operands;
 mod perform;
-mod quick;
-mod receivers;
 mod respond;
 mod returns;
 mod rows;
 mod send;
-mod stack;
 mod stepping;
 
-pub use quick::step_at_once;
 pub use stepping::{plan, step};

@@ -24,7 +24,7 @@ use Rattle.st_model.specs.Table.{Table, table, bounded_table, IsTabular}
 use Rattle.st_model.proofs.Tabular.{of_page-as, class_of-as, fetch_field-as, store_field-as, count_fields-as, transfer-as, literal-as, byte_at-as}
 use Rattle.st_memory.specs.Tabular.{bounded_tabular}
 use Rattle.st_control.specs.AtOnce.{at_once, jump_at_once, return_to_context_at_once, return_at_once, return_to_sender_at_once, return_to_caller_at_once}
-use Rattle.st_step.specs.AtOnce.{answered_at_once, arithmetic_at_once_by, arithmetic_at_once, primitive_at_once, long_jump_at_once, return_receiver_at_once, return_constant_at_once, return_top_to_sender_at_once, return_top_to_caller_at_once, bytecode_at_once, step_at_once}
+use Rattle.st_quick.specs.AtOnce.{answered_at_once, arithmetic_at_once_by, arithmetic_at_once, primitive_at_once, long_jump_at_once, return_receiver_at_once, return_constant_at_once, return_top_to_sender_at_once, return_top_to_caller_at_once, bytecode_at_once, step_at_once}
 
 module _ {m : ObjectMemory Table} (h : IsTabular m) where
   pub page-is : of_page m ≡ of_page table

@@ -19,8 +19,8 @@ use Rattle.st_model.specs.Table.{Table, table, bounded_table, total_used}
 use Rattle.st_model.proofs.Tabular.{method_header-as}
 use Rattle.st_memory.specs.Tabular.{bounded_tabular}
 use Rattle.st_control.specs.AtOnce.{at_once, enter_context, context_space, activate_at_once}
-use Rattle.st_step.specs.AtOnce.{execute_at_once_by, execute_at_once, found_at_once, send_from_at_once, send_at_once}
-use Rattle.st_step.proofs.Alike.{page-is, class-is, field-is, count-is, store-is, transfer-is, top-is, under-is, under-as, pop-is, push-is, switch-is}
+use Rattle.st_quick.specs.AtOnce.{execute_at_once_by, execute_at_once, found_at_once, send_from_at_once, send_at_once}
+use Rattle.st_quick.proofs.Alike.{page-is, class-is, field-is, count-is, store-is, transfer-is, top-is, under-is, under-as, pop-is, push-is, switch-is}
 
 -- the search for a method
 

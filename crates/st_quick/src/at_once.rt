@@ -4,21 +4,11 @@ ghost use Rattle.st_model.specs.Calls.{itself};
 ghost use Rattle.st_model.specs.Decoded.{IsNumbered};
 ghost use Rattle.st_ints.specs.Answers.{IsOfSmall};
 ghost use Rattle.st_control.specs.AtOnce.{IsStill, at_once, return_to_sender_at_once};
-ghost use Rattle.st_step.specs.AtOnce.{execute_at_once_by, execute_at_once, found_at_once, send_from_at_once, send_at_once, literal_send_at_once, answered_at_once, arithmetic_at_once_by, arithmetic_at_once, primitive_at_once, long_jump_at_once, return_receiver_at_once, return_constant_at_once, return_top_to_sender_at_once, return_top_to_caller_at_once, bytecode_at_once, step_at_once};
+ghost use Rattle.st_quick.specs.AtOnce.{execute_at_once_by, execute_at_once, found_at_once, send_from_at_once, send_at_once, literal_send_at_once, answered_at_once, arithmetic_at_once_by, arithmetic_at_once, primitive_at_once, long_jump_at_once, return_receiver_at_once, return_constant_at_once, return_top_to_sender_at_once, return_top_to_caller_at_once, bytecode_at_once, step_at_once};
 ghost use Rattle.st_model.specs.Methods.{flag_of};
 ghost use Rattle.st_lookup.specs.Places.{found_word};
 ghost use Rattle.st_frames.specs.Rows.{RowMoves, RowDoes, Takes, activation_changes};
 
-use crate::arithmetic::{answer_pair, integer_answer, word_of};
-use crate::flags::answer_field;
-use crate::jump::{long_unconditional_jump, short_unconditional_jump};
-use crate::operands::{constant_value, fetch_literal_constant};
-use crate::receivers::{equivalence, receiver_class};
-use crate::send::arithmetic_number;
-use crate::stack::{
-    duplicate_top, extended_push, extended_store, extended_store_and_pop, pop_stack,
-    push_active_context, push_constant, push_operand, push_receiver, store_and_pop,
-};
 use st_control::{
     activate_at_once, jump_at_once, return_to_caller_at_once, return_to_sender_at_once,
     value_at_once,
@@ -29,9 +19,15 @@ use st_lookup::look_up;
 use st_memory::Objects;
 use st_method::Header;
 use st_model::{Bytecode, Constant, Dead, PageObject, Word, decode};
+use st_rows::{
+    answer_field, answer_pair, arithmetic_number, constant_value, duplicate_top, equivalence,
+    extended_push, extended_store, extended_store_and_pop, fetch_literal_constant, integer_answer,
+    long_unconditional_jump, pop_stack, push_active_context, push_constant, push_operand,
+    push_receiver, receiver_class, short_unconditional_jump, store_and_pop, word_of,
+};
 
 /// A number or a truth takes the place of receiver and argument. Answers whether it was one: a Point isn't made.
-#[tactic(auto, using(crate::proofs::Tries::values), unfolding(crate::specs::AtOnce::answered_at_once, st_model::specs::Primitives::succeed, st_model::specs::Arithmetic::value_of_answer, st_model::specs::Primitives::truth))]
+#[tactic(auto, using(st_rows::proofs::Tries::values), unfolding(crate::specs::AtOnce::answered_at_once, st_model::specs::Primitives::succeed, st_model::specs::Arithmetic::value_of_answer, st_model::specs::Primitives::truth))]
 fn answered_at_once<O: Objects>(
     m: &mut O,
     r: &mut Registers,

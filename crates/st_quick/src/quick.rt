@@ -4,7 +4,7 @@ ghost use Rattle.st_model.specs.Table.{table};
 ghost use Rattle.st_model.specs.Steps.{are_there};
 ghost use Rattle.st_frames.specs.Rows.{registers_in};
 ghost use Rattle.st_frames.specs.Shown.{IsFrame, IsReady, StaysFrame, registers_of, shown};
-ghost use Rattle.st_step.specs.AtOnce.{IsDoneAtOnce};
+ghost use Rattle.st_quick.specs.AtOnce.{IsDoneAtOnce};
 
 use crate::at_once::row_at_once;
 use st_frames::{Frame, Registers, hold, load};

@@ -1,14 +1,17 @@
 -- A step that was done at once, over a memory and its registers.
-use Rattle.std.proofs.Common.{◌≡◌, ◌≤◌, ℕ, arith, Bool, true, false, Ok, Err, refl, sym, ap, ◌∙◌, subst}
-use Rattle.std.specs.Prelude.{Result, nat_lt, if◌then◌else◌}
+use Rattle.std.proofs.Common.{◌≡◌, ◌<◌, ◌≤◌, ℕ, arith, Bool, true, false, Ok, Err, refl, sym, ap, ◌∙◌, subst}
+use Rattle.std.specs.Prelude.{Result, nat_lt, ◌/◌, ◌%◌, ◌==◌, ◌&&◌, is_some, if◌then◌else◌}
 use Rattle.std.proofs.lemmas.Bool.Decides.{nat_tests}
 use Rattle.st_model.specs.declared.dead.Dead.{Dead}
-use Rattle.st_model.specs.declared.deed.Deed.TheVariants.{Nothing}
-use Rattle.st_model.specs.declared.outcome.StepEnd.TheVariants as ends
+use Rattle.st_model.specs.declared.word.Word.{Word}
+use Rattle.st_model.specs.Values.{Small, Ref, value_of, word, is_small, IsLive}
+use Rattle.st_model.specs.Show.{IsUsed}
+use Rattle.st_model.proofs.Closed.{step_closed}
+use Rattle.st_frames.specs.Narrow.{IsNarrow}
 use Rattle.st_model.specs.Objects.{one, words_of}
 use Rattle.st_model.specs.Outcomes.{StepEnd, Did}
 use Rattle.st_model.specs.Outcomes as outcome
-use Rattle.st_model.specs.Machine.{World, Head, State, Step, Transition, Died, Went, used, is_over}
+use Rattle.st_model.specs.Machine.{World, Head, State, Step, Transition, Died, Went, is_there, used, is_over}
 use Rattle.st_model.specs.Steps.{are_there}
 use Rattle.st_model.specs.Table.{Table, table, apart, bounded_table, total_used}
 use Rattle.st_model.specs.Calls.{transition_of, itself}
@@ -18,12 +21,11 @@ use Rattle.st_frames.specs.declared.frame.Frame.{Frame}
 use Rattle.st_frames.specs.declared.registers.Registers.{Registers as Words}
 use Rattle.st_frames.specs.Rows.{row_state, registers_in}
 use Rattle.st_frames.specs.Shown.{shown, registers_of, IsReady, StaysFrame}
-use Rattle.st_step.specs.AtOnce.{step_at_once}
-use Rattle.st_step.specs.Planned.{IsForeseen}
-use Rattle.st_step.proofs.AtOnce.{As, step-as}
-use Rattle.st_step.proofs.AlikeRows.{same_at_once}
-use Rattle.st_step.proofs.Linked.{Linked, linked}
-use Rattle.st_step.proofs.Stepped.{there_after}
+use Rattle.st_quick.specs.AtOnce.{WasForeseen, step_at_once}
+use Rattle.st_quick.proofs.AtOnce.{As, step-as}
+use Rattle.st_quick.proofs.AlikeRows.{same_at_once}
+use Rattle.st_quick.proofs.Linked.{Linked, linked}
+use Rattle.st_frames.proofs.Closed.{is_closed}
 
 within_if : (a b c d : ℕ) → a ≤ b → c ≤ d → (if nat_lt b a then true else nat_lt d c) ≡ false
 within_if a b c d l k = grind (arith, nat_tests, l, k)
@@ -59,7 +61,7 @@ module _ (v : View) (f : Frame) (w : World) (whole : IsWhole v) (ready : IsReady
   pub quick_dies : (cause : Dead) → x ≡ Err cause → (step apart).run (shown v f w) ≡ Died cause
   quick_dies cause q = link (Died cause) (table_dies (shown v f w) x d does cause q)
 
-  pub quick_foreseen : (u : View) → x ≡ Ok true → IsWhole u → d.memory ≡ u.objects → u.head ≡ v.head → IsForeseen (shown v f w)
+  pub quick_foreseen : (u : View) → x ≡ Ok true → IsWhole u → d.memory ≡ u.objects → u.head ≡ v.head → WasForeseen (shown v f w)
   quick_foreseen u q there objects head =
       let l = link (Went (Did outcome.Went) d) (table_done (shown v f w) x d does q) in
       record {
@@ -69,9 +71,27 @@ module _ (v : View) (f : Frame) (w : World) (whole : IsWhole v) (ready : IsReady
         fits = ap (λ y. is_over y v.head) (l.3 ∙ ap (λ t. used table t) objects) ∙ within u v.head there head;
       }
 
+there_if : (t : Table) (b : Bool) (n : ℕ) → IsLive (IsUsed t) (if b then Small n else Ref n) → (is_small (if b then Small n else Ref n) ≡ true → n < 32768)
+    → is_there table t (if b then Small n else Ref n) ≡ true
+there_if t true n h s = let l = s refl in grind (arith, nat_tests, l)
+there_if t false n h s = ap (λ x. is_some x) h.1
+
+there : (t : Table) (w : Word) → IsLive (IsUsed t) (word w) → IsNarrow w → is_there table t (word w) ≡ true
+unfolding value_of
+there t w h s = there_if t (w.0 % 2 == 1) (w.0 / 2) h (λ e. let l = s e in omega (arith, l))
+
+all_there : (a b c d : Bool) → a ≡ true → b ≡ true → c ≡ true → d ≡ true → (a && (b && (c && d))) ≡ true
+all_there a b c d p q r s = rw (p, q, r, s) refl
+
+-- what the registers name is there
 pub quick_there : (v : View) (f : Frame) (world : World) (t : Table) (a : Head) (r : Words) → IsWhole v → IsReady v f world
     → (step bounded_table).run (shown v f world) ≡ Went (Did outcome.Went) (row_state t a r) → are_there table t (registers_in r) ≡ true
-quick_there v f world t a r w ready e = there_after v f world t a r (ends.Went Nothing) w ready e
+unfolding row_state
+quick_there v f world t a r w ready e =
+    let closed = step_closed (shown v f world) (row_state t a r) (Did outcome.Went) (is_closed v f world w ready) e in
+    all_there (is_there table t (word r.active)) (is_there table t (word r.home)) (is_there table t (word r.method)) (is_there table t (word r.receiver))
+    (there t r.active closed.roots.0 r.active_narrow) (there t r.home closed.roots.1.0 r.home_narrow)
+    (there t r.method closed.roots.1.1.0 r.method_narrow) (there t r.receiver closed.roots.1.1.1.0 r.receiver_narrow)
 
 -- the registers are held as before, or again, and so is what the world names
 pub quick_ready : (u v : View) (f g : Frame) (w : World) → IsReady u f w → StaysFrame u v g → IsReady v g w

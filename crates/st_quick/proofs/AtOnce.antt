@@ -27,7 +27,7 @@ use Rattle.st_model.specs.Table.{Table}
 use Rattle.st_model.proofs.Runs.{run-tried_went, run-tried_died}
 use Rattle.st_control.specs.AtOnce.{at_once, enter_context, context_space, activate_at_once, jump_at_once, return_to_context_at_once, return_at_once, return_to_sender_at_once, return_to_caller_at_once}
 use Rattle.st_frames.proofs.Doing.{rows}
-use Rattle.st_step.specs.AtOnce.{execute_at_once_by, execute_at_once, found_at_once, send_from_at_once, send_at_once, literal_send_at_once, answered_at_once, arithmetic_at_once_by, arithmetic_at_once, primitive_at_once, long_jump_at_once, return_receiver_at_once, return_constant_at_once, return_top_to_sender_at_once, return_top_to_caller_at_once, bytecode_at_once, step_at_once}
+use Rattle.st_quick.specs.AtOnce.{execute_at_once_by, execute_at_once, found_at_once, send_from_at_once, send_at_once, literal_send_at_once, answered_at_once, arithmetic_at_once_by, arithmetic_at_once, primitive_at_once, long_jump_at_once, return_receiver_at_once, return_constant_at_once, return_top_to_sender_at_once, return_top_to_caller_at_once, bytecode_at_once, step_at_once}
 
 -- a primitive on SmallIntegers that is tried
 
