@@ -131,7 +131,7 @@ module _ {m : ObjectMemory Table} (h : IsTabular m) where
 
   answer_with-as : (n : ℕ) (v : Value) → answer_with m n v ≡ answer_with table n v
   unfolding answer_with
-  answer_with-as n v = rw (pop_words-as (suc n), push-is) refl
+  answer_with-as n v = rw (fun_ext pop_words-as, push-is) refl
 
   answer_with-is : answer_with m ≡ answer_with table
   answer_with-is = fun_ext (λ n. fun_ext (λ v. answer_with-as n v))

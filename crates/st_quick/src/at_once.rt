@@ -3,7 +3,8 @@ ghost use Rattle.st_model.specs.Values.{word};
 ghost use Rattle.st_model.specs.Calls.{itself};
 ghost use Rattle.st_model.specs.Decoded.{IsNumbered};
 ghost use Rattle.st_ints.specs.Answers.{IsOfSmall};
-ghost use Rattle.st_control.specs.AtOnce.{IsStill, at_once, return_to_sender_at_once};
+ghost use Rattle.st_model.specs.declared.page.PageObject.TheVariants.{FalseObject, TrueObject};
+ghost use Rattle.st_control.specs.AtOnce.{IsStill, at_once, jump_at_once, return_to_sender_at_once};
 ghost use Rattle.st_quick.specs.AtOnce.{execute_at_once_by, execute_at_once, found_at_once, send_from_at_once, send_at_once, literal_send_at_once, answered_at_once, arithmetic_at_once_by, arithmetic_at_once, primitive_at_once, long_jump_at_once, return_receiver_at_once, return_constant_at_once, return_top_to_sender_at_once, return_top_to_caller_at_once, bytecode_at_once, step_at_once};
 ghost use Rattle.st_model.specs.Methods.{flag_of};
 ghost use Rattle.st_lookup.specs.Places.{found_word};
@@ -105,21 +106,57 @@ fn primitive_at_once<O: Objects>(m: &mut O, r: &mut Registers, k: u32) -> Result
     Ok(true)
 }
 
-/// Pops, and jumps by i times 256 plus the next byte where the word is the wanted boolean. Answers whether it is a boolean.
+/// Pops, and jumps on false by i plus 1. Answers whether the word is a boolean.
+#[tactic(auto, using(st_frames::proofs::Doing::rows))]
+fn short_jump_at_once<O: Objects>(m: &O, r: &mut Registers, i: u8) -> Result<bool, Dead>
+    requires number { i < 8 }
+    ensures does { RowMoves O.Objects.own (jump_at_once O.names FalseObject TrueObject (pos (i + 1)))
+        itself m.now r.old result r.new }
+{
+    let distance = u32::from(i) + 1;
+    jump_at_once(
+        m,
+        r,
+        PageObject::FalseObject,
+        PageObject::TrueObject,
+        distance,
+    )
+}
+
+/// Pops, and jumps on false by i times 256 plus the next byte. Answers whether the word is a boolean.
 #[tactic(auto, using(st_frames::proofs::Doing::rows), unfolding(crate::specs::AtOnce::long_jump_at_once))]
-fn long_jump_at_once<O: Objects>(
-    m: &O,
-    r: &mut Registers,
-    wanted: PageObject,
-    other: PageObject,
-    i: u8,
-) -> Result<bool, Dead>
+fn jump_on_false_at_once<O: Objects>(m: &O, r: &mut Registers, i: u8) -> Result<bool, Dead>
     requires number { i < 4 }
-    ensures does { RowMoves O.Objects.own (long_jump_at_once O.names wanted other i)
+    ensures does { RowMoves O.Objects.own (long_jump_at_once O.names FalseObject TrueObject i)
         itself m.now r.old result r.new }
 {
     let byte = next_byte(m, r)?;
-    jump_at_once(m, r, wanted, other, u32::from(i) * 256 + u32::from(byte))
+    let distance = u32::from(i) * 256 + u32::from(byte);
+    jump_at_once(
+        m,
+        r,
+        PageObject::FalseObject,
+        PageObject::TrueObject,
+        distance,
+    )
+}
+
+/// Pops, and jumps on true by i times 256 plus the next byte. Answers whether the word is a boolean.
+#[tactic(auto, using(st_frames::proofs::Doing::rows), unfolding(crate::specs::AtOnce::long_jump_at_once))]
+fn jump_on_true_at_once<O: Objects>(m: &O, r: &mut Registers, i: u8) -> Result<bool, Dead>
+    requires number { i < 4 }
+    ensures does { RowMoves O.Objects.own (long_jump_at_once O.names TrueObject FalseObject i)
+        itself m.now r.old result r.new }
+{
+    let byte = next_byte(m, r)?;
+    let distance = u32::from(i) * 256 + u32::from(byte);
+    jump_at_once(
+        m,
+        r,
+        PageObject::TrueObject,
+        PageObject::FalseObject,
+        distance,
+    )
 }
 
 /// Returns the receiver to the sender. Answers whether it did.
@@ -312,7 +349,6 @@ fn bytecode_at_once<O: Objects>(m: &mut O, r: &mut Registers, code: Bytecode) ->
     ensures takes { Takes O.Objects.own activation_changes m.old m.new }
     ensures still { IsStill m.old result m.new }
 {
-    let (is, other) = (PageObject::FalseObject, PageObject::TrueObject);
     match code {
         Bytecode::Push(operand) => push_operand(m, r, operand)?,
         Bytecode::StoreAndPop(operand) => store_and_pop(m, r, operand)?,
@@ -330,9 +366,9 @@ fn bytecode_at_once<O: Objects>(m: &mut O, r: &mut Registers, code: Bytecode) ->
         Bytecode::ReturnConstant(constant) => return return_constant_at_once(m, r, constant),
         Bytecode::ReturnTopToSender => return return_top_to_sender_at_once(m, r),
         Bytecode::ReturnTopToCaller => return return_top_to_caller_at_once(m, r),
-        Bytecode::ShortJumpOnFalse(i) => return jump_at_once(m, r, is, other, u32::from(i) + 1),
-        Bytecode::LongJumpOnFalse(i) => return long_jump_at_once(m, r, is, other, i),
-        Bytecode::LongJumpOnTrue(i) => return long_jump_at_once(m, r, other, is, i),
+        Bytecode::ShortJumpOnFalse(i) => return short_jump_at_once(m, r, i),
+        Bytecode::LongJumpOnFalse(i) => return jump_on_false_at_once(m, r, i),
+        Bytecode::LongJumpOnTrue(i) => return jump_on_true_at_once(m, r, i),
         Bytecode::ArithmeticSend(k) => return arithmetic_at_once(m, r, u32::from(k)),
         Bytecode::PrimitiveSend(k) => return primitive_at_once(m, r, u32::from(k)),
         Bytecode::LiteralSend { literal, arguments } => {
