@@ -1,7 +1,8 @@
 ghost use Rattle.std.specs.Prelude.{◌≡◌, ◌≤◌, ◌+◌, pos};
 ghost use Rattle.st_model.specs.Values.{word};
+ghost use Rattle.st_model.specs.Steps.{jump};
 ghost use Rattle.st_model.specs.Calls.{itself};
-ghost use Rattle.st_control.specs.AtOnce.{IsStill, jump_at_once, return_to_context_at_once, return_at_once, return_to_sender_at_once, return_to_caller_at_once};
+ghost use Rattle.st_control.specs.AtOnce.{IsStill, at_once, jump_at_once, return_to_context_at_once, return_at_once, return_to_sender_at_once, return_to_caller_at_once};
 ghost use Rattle.st_frames.specs.Rows.{RowMoves, RowDoes, Takes};
 
 use crate::returns::return_into;
@@ -9,8 +10,18 @@ use st_frames::{Registers, jump, page, pop};
 use st_memory::Objects;
 use st_model::{Dead, PageObject, Word};
 
+/// Jumps forward at once.
+#[tactic(auto, using(st_frames::proofs::Doing::rows), unfolding(crate::specs::AtOnce::at_once))]
+fn jump_forward_at_once<O: Objects>(m: &O, r: &mut Registers, d: u32) -> Result<bool, Dead>
+    requires short { d ≤ 1023 }
+    ensures does { RowMoves O.Objects.own (at_once (jump (pos d))) itself m.now r.old result r.new }
+{
+    jump(m, r, d as i32)?;
+    Ok(true)
+}
+
 /// Pops, and jumps forward where the word is the wanted boolean. Answers whether it is a boolean.
-#[tactic(auto, using(st_frames::proofs::Doing::rows), unfolding(crate::specs::AtOnce::jump_at_once, crate::specs::AtOnce::at_once))]
+#[tactic(auto, using(st_frames::proofs::Doing::rows), unfolding(crate::specs::AtOnce::jump_at_once))]
 pub fn jump_at_once<O: Objects>(
     m: &O,
     r: &mut Registers,
@@ -26,8 +37,7 @@ pub fn jump_at_once<O: Objects>(
     let a = page(m, wanted);
     let b = page(m, other);
     if x.same(a) {
-        jump(m, r, d as i32)?;
-        return Ok(true);
+        return jump_forward_at_once(m, r, d);
     }
     Ok(x.same(b))
 }
