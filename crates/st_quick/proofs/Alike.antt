@@ -1,9 +1,7 @@
 -- What is done at once over a memory that reads, changes and names objects as the table does, is what is done over the table.
-use Rattle.std.proofs.Common.{◌≡◌, ℕ, Bool, true, false, zero, suc, Option, Some, None, refl, sym}
+use Rattle.std.proofs.Common.{◌≡◌, ℕ, Bool, true, false, zero, suc, Option, Some, None, refl}
 use mathlib.Core.Path.{fun_ext}
 use Rattle.std.specs.Prelude.{ℤ, pos, negsuc, ◌&&◌}
-use Rattle.st_model.specs.declared.bytecode.Bytecode.{Bytecode}
-use Rattle.st_model.specs.declared.bytecode.Bytecode.TheVariants as code
 use Rattle.st_model.specs.declared.bytecode.Operand.{Operand}
 use Rattle.st_model.specs.declared.bytecode.Operand.TheVariants.{ReceiverVariable, TemporaryVariable, LiteralConstant, LiteralVariable}
 use Rattle.st_model.specs.declared.bytecode.Constant.{Constant}
@@ -12,19 +10,18 @@ use Rattle.st_model.specs.declared.integers.IntAnswer.{IntAnswer}
 use Rattle.st_model.specs.declared.integers.IntAnswer.TheVariants.{Number, Truth, Point}
 use Rattle.st_model.specs.Values.{Value, Small, Ref}
 use Rattle.st_model.specs.declared.page.PageObject.{PageObject}
-use Rattle.st_model.specs.Machine.{ObjectMemory, Registers, is_there, tried}
-use Rattle.st_model.specs.Steps.{registers_set, set_registers, are_there, of_page, class_of, fetch_field, store_field, fetch_integer, count_fields, transfer, put, push, under, top, pop, literal, byte_at, next_byte}
+use Rattle.st_model.specs.Machine.{ObjectMemory, Registers, is_there}
+use Rattle.st_model.specs.Steps.{registers_set, set_registers, of_page, class_of, fetch_field, store_field, fetch_integer, count_fields, transfer, put, push, under, top, pop, literal, byte_at, next_byte}
 use Rattle.st_model.specs.Contexts.{home_by, home_of, stack_place, fetch_stack_pointer, context_registers, fetch_context_registers, store_context_registers, switch}
 use Rattle.st_model.specs.Returns.{return_into}
 use Rattle.st_model.specs.Primitives.{pop_words, answer_with, succeed, truth, check_class}
 use Rattle.st_model.specs.Arithmetic.{integer_under, integer_answer, value_of_answer, equivalence, receiver_class}
 use Rattle.st_model.specs.Blocks.{start_of, enter_block, value_with_words, value_if_any, primitive_value}
-use Rattle.st_model.specs.Bytecodes.{fetch_receiver_variable, fetch_temporary_variable, fetch_literal_constant, fetch_literal_variable, fetch_operand, store_receiver_variable, store_temporary_variable, store_literal_variable, store_operand, constant_value, push_operand, store_and_pop, push_receiver, push_constant, extended_push, extended_store, extended_store_and_pop, pop_stack, duplicate_top, push_active_context, long_unconditional_jump}
-use Rattle.st_model.specs.Table.{Table, table, bounded_table, IsTabular}
+use Rattle.st_model.specs.Bytecodes.{fetch_receiver_variable, fetch_temporary_variable, fetch_literal_constant, fetch_literal_variable, fetch_operand, store_receiver_variable, store_temporary_variable, store_literal_variable, store_operand, constant_value, push_operand, store_and_pop}
+use Rattle.st_model.specs.Table.{Table, table, IsTabular}
 use Rattle.st_model.proofs.Tabular.{of_page-as, class_of-as, fetch_field-as, store_field-as, count_fields-as, transfer-as, literal-as, byte_at-as}
-use Rattle.st_memory.specs.Tabular.{bounded_tabular}
-use Rattle.st_control.specs.AtOnce.{at_once, jump_at_once, return_to_context_at_once, return_at_once, return_to_sender_at_once, return_to_caller_at_once}
-use Rattle.st_quick.specs.AtOnce.{answered_at_once, arithmetic_at_once_by, arithmetic_at_once, primitive_at_once, long_jump_at_once, return_receiver_at_once, return_constant_at_once, return_top_to_sender_at_once, return_top_to_caller_at_once, bytecode_at_once, step_at_once}
+use Rattle.st_control.specs.AtOnce.{jump_at_once, return_to_context_at_once, return_at_once, return_to_sender_at_once, return_to_caller_at_once}
+use Rattle.st_quick.specs.AtOnce.{answered_at_once, arithmetic_at_once_by, primitive_at_once}
 
 module _ {m : ObjectMemory Table} (h : IsTabular m) where
   pub page-is : of_page m ≡ of_page table

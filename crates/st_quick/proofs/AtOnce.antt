@@ -1,10 +1,9 @@
 -- What is done at once is the bytecode: it dies of the same cause, or goes on to the same state.
-use Rattle.std.proofs.Common.{◌≡◌, ℕ, Bool, true, false, Option, Some, None, refl, ap}
+use Rattle.std.proofs.Common.{◌≡◌, ℕ, Bool, true, false, Option, Some, None, refl}
 use Rattle.std.specs.Prelude.{◌==◌, if◌then◌else◌, ℤ, pos, ◌+◌, ◌*◌}
 use Rattle.st_model.specs.declared.dead.Dead.{Dead}
 use Rattle.st_model.specs.declared.bytecode.Bytecode.{Bytecode}
 use Rattle.st_model.specs.declared.bytecode.Bytecode.TheVariants as code
-use Rattle.st_model.specs.declared.bytecode.Constant.{Constant}
 use Rattle.st_model.specs.declared.integers.IntAnswer.{IntAnswer}
 use Rattle.st_model.specs.declared.integers.IntAnswer.TheVariants.{Number, Truth, Point}
 use Rattle.st_model.specs.Values.{Value, Small, Ref, is_small}
@@ -17,10 +16,9 @@ use Rattle.st_model.specs.Steps.{same_value, jump, next_byte, get_free}
 use Rattle.st_model.specs.Sends.{Call, call_found, send_from, send}
 use Rattle.st_model.specs.Methods.{flag_of}
 use Rattle.st_model.specs.Contexts.{activate}
-use Rattle.st_model.specs.Returns.{calls, calls_nothing, cannot_return, return_into, return_to_context, return_to, return_to_sender, return_to_caller, jump_on}
+use Rattle.st_model.specs.Returns.{calls_nothing, return_into, return_to_context, return_to, return_to_sender, return_to_caller, jump_on}
 use Rattle.st_model.specs.Primitives.{succeed, primitive}
 use Rattle.st_model.specs.Arithmetic.{arithmetic, arithmetic_number, integer_answer, value_of_answer}
-use Rattle.st_model.specs.Blocks.{primitive_block_copy}
 use Rattle.st_model.specs.Executing.{goes_on, execute_by, execute, executed, execute_if_any, executed_if_any}
 use Rattle.st_model.specs.Bytecodes.{send_literal, or_send, arithmetic_by, arithmetic_send, primitive_send, return_receiver, return_constant, return_top_to_sender, return_top_to_caller, short_jump_on_false, long_jump_on_true, long_jump_on_false, bytecode, step}
 use Rattle.st_model.specs.Table.{Table}

@@ -1,26 +1,26 @@
 -- A send that is done at once over a bounded table is what it is over the table: the search for the method reads alike, and there
 -- is room for the context.
-use Rattle.std.proofs.Common.{◌≡◌, ◌≤◌, ◌+◌, ℕ, zero, suc, Bool, true, false, Option, Some, None, refl, sym, ap, arith, replicate}
+use Rattle.std.proofs.Common.{◌≡◌, ◌≤◌, ◌+◌, ℕ, zero, suc, Bool, true, false, Option, Some, None, refl, ap, arith}
 use mathlib.Core.Path.{fun_ext}
 use Rattle.std.proofs.Math.ListN.{length-replicate}
 use Rattle.std.proofs.lemmas.Bool.Decides.{nat_tests}
-use Rattle.std.specs.Prelude.{◌-◌, ◌&&◌, nat_le, length, if◌then◌else◌}
+use Rattle.std.specs.Prelude.{◌-◌, ◌&&◌, nat_le, if◌then◌else◌}
 use Rattle.st_model.specs.declared.kind.Kind.TheVariants as kind
 use Rattle.st_model.specs.Values.{Value, Small, Ref}
 use Rattle.st_model.specs.Objects.{Object, nil, one, words_of}
 use Rattle.st_model.specs.Formed.{fresh_with}
-use Rattle.st_model.specs.Machine.{ObjectMemory, State, Transition, Step, has_room, answer, after, ◌>>=◌, ◌>>◌}
-use Rattle.st_model.specs.Steps.{of_page, get_free, made, make_named, make, new_object, class_of, fetch_field, store_field, count_fields, transfer, under, top, look_at_words}
+use Rattle.st_model.specs.Machine.{ObjectMemory, State, Step, has_room, answer, after, ◌>>=◌, ◌>>◌}
+use Rattle.st_model.specs.Steps.{of_page, get_free, made, make_named, make, new_object, look_at_words}
 use Rattle.st_model.specs.Methods.{is_large, context_size, method_header}
 use Rattle.st_model.specs.Lookup.{half_word, checked_method, method_at, place_says, look_at_place, look_at_places, search_from, search_dictionary, or_above, method_in_class, look_in_class, end_at_nil, find_within, find}
-use Rattle.st_model.specs.Contexts.{fill_context, new_context, pass_words, switch}
+use Rattle.st_model.specs.Contexts.{fill_context, new_context, pass_words}
 use Rattle.st_model.specs.Executing.{answer_field}
 use Rattle.st_model.specs.Table.{Table, table, bounded_table, total_used}
 use Rattle.st_model.proofs.Tabular.{method_header-as}
 use Rattle.st_memory.specs.Tabular.{bounded_tabular}
 use Rattle.st_control.specs.AtOnce.{at_once, enter_context, context_space, activate_at_once}
 use Rattle.st_quick.specs.AtOnce.{execute_at_once_by, execute_at_once, found_at_once, send_from_at_once, send_at_once}
-use Rattle.st_quick.proofs.Alike.{page-is, class-is, field-is, count-is, store-is, transfer-is, top-is, under-is, under-as, pop-is, push-is, switch-is}
+use Rattle.st_quick.proofs.Alike.{page-is, class-is, field-is, count-is, store-is, transfer-is, top-is, under-is, pop-is, push-is, switch-is}
 
 -- the search for a method
 

@@ -3,4 +3,4 @@ pub mod Alike
 pub mod Entered
 pub mod AlikeRows
 pub mod Linked
-pub mod Quick
+pub mod OverMemory

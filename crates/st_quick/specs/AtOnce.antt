@@ -3,7 +3,6 @@
 -- to be foreseen.
 use Rattle.std.specs.Prelude.{◌≡◌, ℕ, ◌+◌, ◌*◌, ◌-◌, ◌==◌, Bool, true, false, Option, Some, None, Result, Ok, Err, if◌then◌else◌, pos}
 use Rattle.st_model.specs.declared.dead.Dead.{Dead}
-use Rattle.st_model.specs.declared.dead.Dead.TheVariants as dead
 use Rattle.st_model.specs.declared.bytecode.Constant.{Constant}
 use Rattle.st_model.specs.declared.bytecode.Bytecode.{Bytecode}
 use Rattle.st_model.specs.declared.bytecode.Bytecode.TheVariants as code
@@ -15,7 +14,7 @@ use Rattle.st_model.specs.declared.page.PageObject.TheVariants.{FalseObject, Tru
 use Rattle.st_model.specs.Decoded.{decoded}
 use Rattle.st_model.specs.Outcomes.{Outcome, Did}
 use Rattle.st_model.specs.Outcomes as outcome
-use Rattle.st_model.specs.Machine.{ObjectMemory, State, Died, Went, Step, used, is_over, answer, die, tried, ◌>>=◌}
+use Rattle.st_model.specs.Machine.{ObjectMemory, State, Died, Went, Step, used, is_over, answer, tried, ◌>>=◌}
 use Rattle.st_model.specs.Steps.{get_receiver, class_of, under, pop, next_byte}
 use Rattle.st_model.specs.Methods.{method_header, temporary_count, flag_of}
 use Rattle.st_model.specs.Lookup.{find}

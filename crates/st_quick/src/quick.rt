@@ -1,4 +1,4 @@
-ghost use Rattle.std.specs.Prelude.{◌≡◌, ◌×◌, true, IfOk};
+ghost use Rattle.std.specs.Prelude.{◌≡◌, true, IfOk};
 ghost use Rattle.st_model.specs.Values.{value, word};
 ghost use Rattle.st_model.specs.Table.{table};
 ghost use Rattle.st_model.specs.Steps.{are_there};

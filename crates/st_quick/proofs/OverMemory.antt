@@ -93,6 +93,11 @@ quick_there v f world t a r w ready e =
     (there t r.active closed.roots.0 r.active_narrow) (there t r.home closed.roots.1.0 r.home_narrow)
     (there t r.method closed.roots.1.1.0 r.method_narrow) (there t r.receiver closed.roots.1.1.1.0 r.receiver_narrow)
 
+-- the state that a row leaves, once its registers are held
+pub quick_held : (v u : View) (f : Frame) (w : World) (r : Words) → registers_of f ≡ registers_in r → r.world.now ≡ w → u.objects ≡ v.objects → u.head ≡ v.head → row_state v.objects v.head r ≡ shown u f w
+unfolding row_state
+quick_held v u f w r e q o h = λ i. record { memory = sym o i; registers = sym e i; world = q i; head = sym h i }
+
 -- the registers are held as before, or again, and so is what the world names
 pub quick_ready : (u v : View) (f g : Frame) (w : World) → IsReady u f w → StaysFrame u v g → IsReady v g w
 quick_ready u v f g w ready stays = record { frame = stays.frame; devices = stays.devices ∙ ready.devices }
