@@ -7,7 +7,7 @@ ghost use Rattle.st_world.specs.Naming.{IsNaming, naming};
 ghost use Rattle.st_model.specs.Foreseen.{foreseen_cycle};
 ghost use Rattle.st_model.specs.Calls.{transition_of};
 ghost use Rattle.st_frames.specs.Shown.{IsFrame, IsReady, shown};
-ghost use Rattle.st_machine.specs.Cycling.{Finishes, foreseen_step};
+ghost use Rattle.st_machine.specs.Cycling.{Finishes, GoesAtOnce, foreseen_step};
 ghost use Rattle.st_machine.specs.Runs.{ending_of};
 
 use st_frames::Frame;
@@ -92,19 +92,31 @@ fn foresee<M: Memory>(m: &mut M, f: &mut Frame, w: &mut World) -> Result<CycleEn
     Ok(CycleEnd::With(outcome))
 }
 
-/// The next bytecode is done at once, where it makes no object, or else foreseen; and then what comes after it.
+/// The next bytecode is done at once, and then what comes after it; or it is to be foreseen, and nothing is changed.
+fn do_at_once<M: Memory>(m: &mut M, f: &mut Frame, w: &mut World) -> Result<bool, Dead>
+    requires ready { IsReady (M.view m.old) f.old w.old }
+    ensures step { GoesAtOnce (shown (M.view m.old) f.old w.old) result
+        (shown (M.view m.new) f.new w.new) }
+    ensures ready { OnOk result (IsReady (M.view m.new) f.new w.new) }
+{
+    let done = step_at_once(m, f, w)?;
+    if done {
+        finish(m, f, w);
+    }
+    Ok(done)
+}
+
+/// The next bytecode is done at once, or else foreseen; and then what comes after it.
 fn do_next<M: Memory>(m: &mut M, f: &mut Frame, w: &mut World) -> Result<CycleEnd, Dead>
     requires ready { IsReady (M.view m.old) f.old w.old }
     ensures step { foreseen_step (shown (M.view m.old) f.old w.old)
         ≡ transition_of ending_of result (shown (M.view m.new) f.new w.new) }
     ensures ready { OnOk result (IsReady (M.view m.new) f.new w.new) }
 {
-    if step_at_once(m, f, w)? {
-        finish(m, f, w);
-        Ok(CycleEnd::With(Outcome::Went))
-    } else {
-        foresee(m, f, w)
+    if do_at_once(m, f, w)? {
+        return Ok(CycleEnd::With(Outcome::Went));
     }
+    foresee(m, f, w)
 }
 
 /// One cycle: pending signals are made and a process switch that waits is done; the next bytecode is done at once, or
