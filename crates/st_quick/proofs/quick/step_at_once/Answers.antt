@@ -47,8 +47,7 @@ returns-then-branch-clause-done g c =
     let done = c.in_ok-row_at_once.ensures in
     let held = c.hold_again.ensures in
     let q = ap (λ b. Ok b) c.if-branch.true in
-    let does = ap (λ (s : State Table). (step_at_once bounded_table).run s) (sym (loaded v f w c.load-r.result c.load-r.ensures.registers c.load-r.ensures.world)) ∙ done.does.does in
-    (
+    let does = ap (λ (s : State Table). (step_at_once bounded_table).run s) (sym (loaded v f w c.load-r.result c.load-r.ensures.registers c.load-r.ensures.world)) ∙ done.does.does in (
       quick_foreseen v f w (g.met.M.Memory.whole c.args.m.now) c.requires.ready (Ok c.in_ok-row_at_once.field-0) d does u q (g.met.M.Memory.whole c.row_at_once.new.m) (row-memory u.objects u.head r)
           (ap (λ (x : View). x.head) done.takes.fixed),
       quick_done (shown v f w) (Ok c.in_ok-row_at_once.field-0) d does q
