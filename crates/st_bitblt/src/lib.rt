@@ -5,6 +5,7 @@ mod bit_blt;
 mod direction;
 mod form;
 mod numbers;
+mod paint;
 mod part;
 mod row;
 mod rows;
