@@ -2,6 +2,7 @@
 #![tactic(auto)]
 
 mod bit_blt;
+mod copying;
 mod direction;
 mod form;
 mod numbers;
@@ -14,5 +15,6 @@ mod source;
 mod span;
 
 pub use bit_blt::{BitBlt, read_bit_blt};
+pub use copying::copy_bits;
 pub use direction::Direction;
 pub use form::Form;
