@@ -4,15 +4,14 @@ use Rattle.std.specs.Prelude.{nat_lt, nat_le, ◌&&◌, if◌then◌else◌, Res
 use Rattle.std.proofs.lemmas.Bool.Decides.{nat_tests}
 use Rattle.st_model.specs.declared.dead.Dead.{Dead}
 use Rattle.st_model.specs.declared.demand.Demand.{Demand}
-use Rattle.st_model.specs.declared.halt.Halt.TheVariants as halt
-use Rattle.st_model.specs.Outcomes.{Outcome, StepEnd, Did, NotBuilt, Ending, With, Space, Unbuilt}
+use Rattle.st_model.specs.Outcomes.{Outcome, Ending, With, Space}
 use Rattle.st_model.specs.Outcomes as outcome
 use Rattle.st_model.specs.Machine.{State, World, Transition, Died, Went, Step, answer, ◌>>=◌, ◌>>◌, used, is_over}
 use Rattle.st_model.specs.Table.{Table, table, apart, bounded_table}
 use Rattle.st_model.specs.Bytecodes.{step}
 use Rattle.st_model.specs.Settled.{reclaim}
 use Rattle.st_model.specs.Objects.{nil}
-use Rattle.st_model.specs.Cycles.{next_code, byte_answered, made_between, free_space, less, capacity_of, check_process_switch, warned, warned_if_low}
+use Rattle.st_model.specs.Cycles.{made_between, free_space, less, capacity_of, check_process_switch, warned, warned_if_low}
 use Rattle.st_model.specs.Foreseen.{foreseen, foreseen_from, foreseen_cycle, done, done_if_room}
 use Rattle.st_model.specs.View.{View, Held, fits}
 use Rattle.st_step.specs.Planned.{Plans, plus, IsForeseen}
@@ -34,21 +33,12 @@ fits_not : (a b c d : ℕ) → (nat_le a b && nat_le c d) ≡ false → (if nat_
 fits_not a b c d e = grind (arith, nat_tests, e)
 
 module _ (c : State Table) where
-  dies : (t : Transition (State Table) StepEnd) (cause : Dead) → Plans (used table c.memory) t (Err (halt.Dead cause)) → foreseen c t ≡ Died cause
+  dies : (t : Transition (State Table) Outcome) (cause : Dead) → Plans (used table c.memory) t (Err cause) → foreseen c t ≡ Died cause
   dies (Died a) cause h = ap (λ x. Died x) h
-  dies (Went NotBuilt d) cause h = absurd h
-  dies (Went (Did o) d) cause h = absurd h
+  dies (Went o d) cause h = absurd h
 
-  pub cycle_dies : (cause : Dead) → Plans (used table c.memory) ((step apart).run c) (Err (halt.Dead cause)) → foreseen c ((step apart).run c) ≡ Died cause
+  pub cycle_dies : (cause : Dead) → Plans (used table c.memory) ((step apart).run c) (Err cause) → foreseen c ((step apart).run c) ≡ Died cause
   cycle_dies cause h = dies ((step apart).run c) cause h
-
-  unbuilt : (t : Transition (State Table) StepEnd) → Plans (used table c.memory) t (Err halt.Unbuilt) → foreseen c t ≡ Went (Unbuilt (next_code table c)) c
-  unbuilt (Died a) h = absurd h
-  unbuilt (Went NotBuilt d) h = refl
-  unbuilt (Went (Did o) d) h = absurd h
-
-  pub cycle_unbuilt : Plans (used table c.memory) ((step apart).run c) (Err halt.Unbuilt) → foreseen c ((step apart).run c) ≡ Went (Unbuilt (next_code table c)) c
-  cycle_unbuilt h = unbuilt ((step apart).run c) h
 
   less_plus : (u d : Demand) → less (plus u d) u ≡ d
   less_plus u d =
@@ -56,20 +46,18 @@ module _ (c : State Table) where
       let w : (u.words + d.words) - u.words ≡ d.words = omega arith in
       λ i. record { entries = e i; words = w i }
 
-  no_room : (t : Transition (State Table) StepEnd) (d : Demand) → Plans (used table c.memory) t (Ok d) → is_over (plus (used table c.memory) d) c.head ≡ true
+  no_room : (t : Transition (State Table) Outcome) (d : Demand) → Plans (used table c.memory) t (Ok d) → is_over (plus (used table c.memory) d) c.head ≡ true
       → foreseen c t ≡ Went (Space d (free_space table c)) c
   no_room (Died a) d h e = absurd h
-  no_room (Went NotBuilt t) d h e = absurd h
-  no_room (Went (Did o) t) d h e =
+  no_room (Went o t) d h e =
       let over : is_over (used apart t.memory) c.head ≡ true = ap (λ x. is_over x c.head) h ∙ e in
       let made : made_between apart c t ≡ d = ap (λ x. less x (used table c.memory)) h ∙ less_plus (used table c.memory) d in
       ap (done_if_room c t) over ∙ ap (λ x. Went (Space x (free_space table c)) c) made
 
-  with_room : (t : Transition (State Table) StepEnd) (d : Demand) → (step apart).run c ≡ t → Plans (used table c.memory) t (Ok d) → is_over (plus (used table c.memory) d) c.head ≡ false
+  with_room : (t : Transition (State Table) Outcome) (d : Demand) → (step apart).run c ≡ t → Plans (used table c.memory) t (Ok d) → is_over (plus (used table c.memory) d) c.head ≡ false
       → IsForeseen c × (foreseen c t ≡ done c ((step bounded_table).run c))
   with_room (Died a) d s h e = absurd h
-  with_room (Went NotBuilt t) d s h e = absurd h
-  with_room (Went (Did o) t) d s h e =
+  with_room (Went o t) d s h e =
       let over : is_over (used apart t.memory) c.head ≡ false = ap (λ x. is_over x c.head) h ∙ e in
       (record { outcome = o; after = t; goes = s; fits = over }, ap (done_if_room c t) over)
 
@@ -81,7 +69,7 @@ module _ (c : State Table) where
   cycle_space d h e = no_room ((step apart).run c) d h e
 
   pub cycle_done : (d : Demand) (o : Outcome) (t u x : State Table) → Plans (used table c.memory) ((step apart).run c) (Ok d) → is_over (plus (used table c.memory) d) c.head ≡ false
-      → (step bounded_table).run c ≡ Went (Did o) t → reclaim table t ≡ u → warned table u ≡ x → foreseen c ((step apart).run c) ≡ Went (With o) x
+      → (step bounded_table).run c ≡ Went o t → reclaim table t ≡ u → warned table u ≡ x → foreseen c ((step apart).run c) ≡ Went (With o) x
   cycle_done d o t u x h e s r w = (with_room ((step apart).run c) d refl h e).1 ∙ (ap (done c) s ∙ ap (λ y. Went (With o) y) (ap (warned table) r ∙ w))
 
 -- what came before the bytecode
@@ -105,33 +93,6 @@ module _ (v : View) (d : Demand) where
 
   pub over : fits v d ≡ false → is_over (plus (used table v.objects) d) v.head ≡ true
   over e = fits_not ((used table v.objects).entries + d.entries) v.head.entries ((used table v.objects).words + d.words) v.head.words e
-
--- the code of the next bytecode
-
-abbrev pub answered : Result ℕ Dead → ℕ
-answered (Ok b) = b
-answered (Err cause) = 0
-
-byte-same : next_byte bounded_table ≡ next_byte table
-unfolding next_byte
-byte-same = λ i. do
-  v ← get_method
-  ip ← get_ip
-  b ← byte_at-as bounded_tabular v ip i
-  set_ip (ip +ℤ pos 1)
-  answer b
-
-byte_of : (x : Result ℕ Dead) (d : State Table) → byte_answered (transition_of itself x d) ≡ answered x
-byte_of (Ok b) d = refl
-byte_of (Err cause) d = refl
-
-pub code_is : (v : View) (f : Frame) (w : World) (r : Words) (x : Result ℕ Dead) (d : State Table) → registers_in r ≡ registers_of f → r.world.now ≡ w
-    → Does (next_byte bounded_table) itself (row_state v.objects v.head r) x d → next_code table (shown v f w) ≡ answered x
-unfolding next_code
-code_is v f w r x d same world h =
-    let e : (next_byte table).run (shown v f w) ≡ transition_of itself x d =
-    ap (λ (m : Step Table ℕ). m.run (shown v f w)) (sym byte-same) ∙ (ap (λ (s : State Table). (next_byte bounded_table).run s) (sym (loaded v f w r same world)) ∙ h) in
-    ap byte_answered e ∙ byte_of x d
 
 -- the registers are held as before
 pub frame_stays : (u v : View) (f : Frame) → IsFrame u f → v.held ≡ u.held → IsFrame v f

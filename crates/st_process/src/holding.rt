@@ -1,4 +1,5 @@
-ghost use Rattle.std.specs.Prelude.{◌≡◌};
+ghost use Rattle.st_model.specs.Deeds.{copies_pixels};
+ghost use Rattle.std.specs.Prelude.{◌≡◌, false, IfOk};
 ghost use Rattle.st_model.specs.Values.{word};
 ghost use Rattle.st_model.specs.Surroundings.{Hold};
 ghost use Rattle.st_model.specs.Steps.{change_world};
@@ -15,6 +16,7 @@ use st_model::{Dead, Deed, Device, Word};
 pub fn hold<O: Objects>(m: &O, r: &Registers, device: Device, object: Word) -> Result<Deed, Dead>
     ensures { RowLeaves O.Objects.own (change_world O.names (Hold device (word object)))
         no_word itself m.now r.now result m.now r.now }
+    ensures plain { IfOk result (λ d. copies_pixels d ≡ false) }
 {
     if m.is_there(object) {
         Ok(Deed::Hold { device, object })
