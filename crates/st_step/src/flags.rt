@@ -10,10 +10,11 @@ ghost use Rattle.st_step.specs.Responding.{by_flag};
 ghost use Rattle.st_frames.specs.Rows.{RowReads, RowDoes, RowLeaves, Takes, activation_changes, response_changes};
 
 use crate::respond::{activated, respond};
-use st_frames::{Registers, pop, push};
+use st_frames::Registers;
 use st_memory::Objects;
 use st_method::Header;
 use st_model::{Call, Dead, Deed, StepEnd, Word};
+use st_rows::answer_field;
 
 /// The primitive that a header extension names.
 #[tactic(auto, using(st_method::proofs::Bits::primitives), unfolding(st_model::specs::Methods::primitive_number))]
