@@ -13,8 +13,8 @@ returns-in_err-check_process_switch-clause-cycle g c =
     subst (λ y. foreseen_cycle s ≡ transition_of ending_of y (shown (g.M.Memory.view c.check_process_switch.new.m) c.check_process_switch.new.f c.check_process_switch.new.w)) (sym e)
     (switch_dies s c.in_err-check_process_switch.field-0.0 c.in_err-check_process_switch.ensures.does)
 
-pub returns-in_ok-check_process_switch-clause-cycle : goal.returns-in_ok-check_process_switch-clause-cycle
-returns-in_ok-check_process_switch-clause-cycle g c =
+pub returns-clause-cycle : goal.returns-clause-cycle
+returns-clause-cycle g c =
     let start = shown (g.M.Memory.view c.args.m.now) c.args.f.now c.args.w.now in
     let v = g.M.Memory.view c.check_process_switch.new.m in
     let s = shown v c.check_process_switch.new.f c.check_process_switch.new.w in
