@@ -1,0 +1,17 @@
+//! BitBlt: pixels of one Form are copied to another by whole words (chapter 18).
+#![tactic(auto)]
+
+mod bit_blt;
+mod direction;
+mod form;
+mod numbers;
+mod part;
+mod row;
+mod rows;
+mod rule;
+mod source;
+mod span;
+
+pub use bit_blt::{BitBlt, read_bit_blt};
+pub use direction::Direction;
+pub use form::Form;
