@@ -5,3 +5,4 @@ pub mod RowLaws
 pub mod Readings
 pub mod Clipping
 pub mod Painted
+pub mod Told

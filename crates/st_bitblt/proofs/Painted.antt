@@ -16,13 +16,15 @@ use Rattle.st_bitblt.specs.declared.form.Form.{Form}
 use Rattle.st_bitblt.specs.declared.rows.Layout.{Layout}
 use Rattle.st_bitblt.specs.declared.rows.Pen.{Pen}
 use Rattle.st_bitblt.specs.declared.span.Span.{Span}
-use Rattle.st_bitblt.specs.Words.{words, with_words}
+use Rattle.st_bitblt.specs.declared.direction.Direction.{Direction}
+use Rattle.st_bitblt.specs.Words.{words, HasWords, with_words}
 use Rattle.st_bitblt.specs.Copied.{pixel_from, shaded}
 use Rattle.st_bitblt.specs.Rows.{RowsCopied, tone_of, HasRoom}
 use Rattle.st_bitblt.specs.Reading.{IsBitBlt, copy_in, form_in, axis_of}
 use Rattle.st_bitblt.specs.Spans.{IsSpan}
 use Rattle.st_bitblt.specs.Painting.{bits_of, width_of, height_of, source_words, tone_at, IsLayoutOf}
 use Rattle.st_bitblt.proofs.Bits.{ones_bit}
+use Rattle.st_bitblt.proofs.Words.{words_same}
 use Rattle.st_bitblt.proofs.RowLaws.{row_before}
 
 -- what was read and clipped of a BitBlt
@@ -90,6 +92,28 @@ after_copied c x y d e = rw e refl
 after_left : (c : Copy) (x y d : ℕ) → is_copied c x y ≡ false → pixel_after c x y d ≡ d
 unfolding pixel_after
 after_left c x y d e = rw e refl
+
+-- a row of the source has room for the pixels that are copied
+pub narrow : (d : Direction) (lines : ℕ) (s : Option Form) (x : Span) → IsSpan (axis_of d) lines (width_of s) x → 0 < x.count → x.count ≤ 16 * source_words s
+narrow d lines None x span some = let e = span.from_end some in omega (arith, e)
+narrow d lines (Some f) x span some =
+    let e = (span.from f.width (x.count - 1) refl (omega arith)).1 in
+    let w : f.width ≤ 16 * row_words f.width = omega arith in
+    omega (arith, e, w)
+
+-- rows lie within the words of the destination
+pub has_room : (d e : Direction) (f : Form) (s : Option Form) (n : ℕ) (x y : Span) (a : Layout) → IsSpan (axis_of d) f.width (width_of s) x → IsSpan (axis_of e) f.height (height_of s) y → f.height * row_words f.width ≤ n
+    → 0 < x.count → IsLayoutOf x y (row_words f.width) (source_words s) a → HasRoom a n
+has_room d e f s n x y a sx sy enough some is j h =
+    let t = sy.to_end (omega (arith, is.height, h)) in
+    let u = sx.to_end some in
+    let w : f.width ≤ 16 * row_words f.width = omega arith in
+    let below : y.to + j < f.height = omega (arith, t, is.height, h) in
+    let b : (y.to + j) * (16 * row_words f.width) + 16 * row_words f.width ≤ f.height * (16 * row_words f.width) = row_before (16 * row_words f.width) (y.to + j) f.height (16 * row_words f.width) below (omega arith) in
+    let q : a.p ≡ y.to * a.along + x.to = is.p ∙ ap (λ s. y.to * s + x.to) (sym is.along) in
+    let r : a.p + j * a.along + 0 ≡ (y.to + j) * (16 * row_words f.width) + (x.to + 0) = row_place a.p x.to y.to 0 a.along j 0 q ∙ ap (λ s. (y.to + j) * s + (x.to + 0)) is.along in
+    let m : f.height * (16 * row_words f.width) ≡ 16 * (f.height * row_words f.width) = moved f.height (row_words f.width) in
+    omega (arith, enough, b, r, m, u, w, is.n)
 
 module _ (old new : View) (b : BitBlt) (x y : Span) (a : Layout) (pen : Pen) (plan : IsPlan old b x y a pen) (read : IsBitBlt old.objects b) where
   abbrev copy : Copy
@@ -197,3 +221,22 @@ module _ (old new : View) (b : BitBlt) (x y : Span) (a : Layout) (pen : Pen) (pl
     pub rows_painted : AllFit (words old dest) → new ≡ with_words old dest (painted copy)
     rows_painted fit =
         r.rest ∙ ap (with_words old dest) (painted-alone copy (words new dest) (r.size dest) (r.fits fit) (λ k h. each_pixel k))
+
+-- where no column is copied to, the painted words are the old ones
+pub nothing_painted : (old : View) (b : BitBlt) (x : Span) → IsSpan (axis_of b.across) b.destination.width (width_of b.source) x → x.count ≡ 0 → HasWords old (word b.destination.bits) → AllFit (words old (word b.destination.bits))
+    → old ≡ with_words old (word b.destination.bits) (painted (copy_in old.objects b))
+nothing_painted old b x span none has fit =
+    words_same old (word b.destination.bits) has.live
+    ∙ ap (with_words old (word b.destination.bits)) (painted-alone c (words old (word b.destination.bits)) refl fit (λ k h. sym (after_left c _ _ (pixel (words old (word b.destination.bits)) k) (not_copied (k % row_pixels c) (k / row_pixels c)))))
+  where
+    c : Copy
+    c = copy_in old.objects b
+
+    not_copied : (u v : ℕ) → is_copied c u v ≡ false
+    not_copied u v = elim (true_or_false (is_copied c u v)) [
+      | inl e ↦
+          let p = parts (copies_to c.across c.destination.width (option_map (λ (f : ModelForm). f.width) c.source) u) _ e in
+          let l = span.all u (rw (widths old b.source) at p.0) in
+          absurd (omega (arith, l, none))
+      | inr e ↦ e
+    ]

@@ -214,6 +214,12 @@ module _ {m : ObjectMemory Table} (h : IsTabular m) (r x : Value) (i : ℕ) (s :
       let e : same_value x (Ref (m.named s.memory NilObject)) ≡ false = ap (λ f. same_value x (Ref (f s.memory NilObject))) h.named ∙ ap (same_value x) (sym value_of-nil) ∙ b in
       rw a (form-read m x (Ref (m.named s.memory NilObject)) s e ∙ ap (λ y. after y (λ f t. Went (Some f) t)) d)
 
+  pub fetch_form_went : (f : Form) → same_value x (value_of 2) ≡ false → (read_form m x).run s ≡ Went f s → (fetch_form m r i).run s ≡ Went (Some f) s
+  unfolding fetch_form read_form_if_any of_page ◌>>=◌ after
+  fetch_form_went f b d =
+      let e : same_value x (Ref (m.named s.memory NilObject)) ≡ false = ap (λ f. same_value x (Ref (f s.memory NilObject))) h.named ∙ ap (same_value x) (sym value_of-nil) ∙ b in
+      rw a (form-read m x (Ref (m.named s.memory NilObject)) s e ∙ ap (λ y. after y (λ f t. Went (Some f) t)) d)
+
 -- words of an object that is there are too few
 checked_dies : {m : ObjectMemory Table} (h : IsTabular m) (v : Value) (t : Table) (n k : ℕ) (s : State Table) (c : Dead) → HasWordsIn t v k → s.memory ≡ t → (checked_words m v n).run s ≡ Died c → (length (units_in t v) < n) × (c ≡ dead.Field)
 checked_dies h v t n k s c has q e =

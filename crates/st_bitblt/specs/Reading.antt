@@ -1,14 +1,16 @@
 -- What structs mean that were read of a BitBlt and its Forms.
-use Rattle.std.specs.Prelude.{◌≡◌, ℕ, ◌*◌, ◌<◌, ◌≤◌, List, length, true, Option, Some, None, ⊤, ℤ, pos, ◌-ℤ◌, nat_le}
+use Rattle.std.specs.Prelude.{◌≡◌, ℕ, ◌*◌, ◌<◌, ◌≤◌, List, length, Bool, true, false, Ok, Option, Some, None, ⊤, ℤ, pos, ◌-ℤ◌, nat_le}
 use Rattle.std.specs.Option.{option_map}
+use Rattle.st_model.specs.declared.word.Word.{Word}
 use Rattle.st_model.specs.Values.{Value, word}
 use Rattle.st_model.specs.Objects.{is_words}
 use Rattle.st_model.specs.Table.{Table}
 use Rattle.st_model.specs.View.{is_live, object_of}
 use Rattle.st_model.specs.Pixels.{row_words}
 use Rattle.st_model.specs.declared.dead.Dead.TheVariants as dead
-use Rattle.st_model.specs.Machine.{ObjectMemory, Step, answer, ◌>>=◌, ◌>>◌}
-use Rattle.st_model.specs.Steps.{check}
+use Rattle.st_model.specs.Machine.{ObjectMemory, Transition, Died, Went, Step, answer, ◌>>=◌, ◌>>◌}
+use Rattle.st_model.specs.Steps.{check, fetch_field}
+use Rattle.st_model.specs.Calls.{Reads}
 use Rattle.st_model.specs.BitBlt.{Form, Axis, Copy, fetch_words}
 use Rattle.st_bitblt.specs.declared.form.Form.{Form as FormRead}
 use Rattle.st_bitblt.specs.declared.direction.Direction.{Direction}
@@ -81,3 +83,14 @@ pub record IsBitBlt (t : Table) (b : BitBlt) : Type 0 where
   pub rule : b.rule < 16
   pub across : IsDirection b.across
   pub down : IsDirection b.down
+
+-- the destination of a BitBlt has its pixels in this object
+pub record HasBits (m : ObjectMemory Table) (t : Table) (v : Value) (o : Word) : Type 0 where
+  pub form : Word
+  pub destination : Reads (fetch_field m v 0) word t (Ok form)
+  pub bits : Reads (fetch_field m (word form) 0) word t (Ok o)
+
+-- a step came to its end
+abbrev pub has_gone : {S A : Type 0} → Transition S A → Bool
+has_gone (Died cause) = false
+has_gone (Went a s) = true

@@ -2,7 +2,7 @@ ghost use Rattle.std.specs.Prelude.{◌≡◌, ◌<◌, IfOk};
 ghost use Rattle.st_model.specs.Values.{word};
 ghost use Rattle.st_model.specs.BitBlt.{fetch_rule, read_copy, fetch_destination};
 ghost use Rattle.st_model.specs.Calls.{Reads, itself};
-ghost use Rattle.st_bitblt.specs.Reading.{IsBitBlt, IsForm, copy_in, form_in};
+ghost use Rattle.st_bitblt.specs.Reading.{HasBits, IsBitBlt, IsForm, copy_in, form_in};
 
 use crate::direction::{Direction, fetch_direction};
 use crate::form::{Form, fetch_form, fetch_halftone, read_form};
@@ -27,6 +27,7 @@ fn fetch_destination<O: Objects>(m: &O, bit_blt: Word) -> Result<Form, Dead>
     ensures does { Reads (fetch_destination O.names (word bit_blt)) (form_in (O.table m.now))
         (O.table m.now) result }
     ensures form { IfOk result (IsForm (O.table m.now)) }
+    ensures bits { IfOk result (λ f. HasBits O.names (O.table m.now) (word bit_blt) f.bits) }
 {
     let o = m.fetch_field(bit_blt, 0)?;
     read_form(m, o)
@@ -52,6 +53,7 @@ fn fetch_rule<O: Objects>(m: &O, bit_blt: Word) -> Result<u32, Dead>
 pub fn read_bit_blt<O: Objects>(m: &O, bit_blt: Word) -> Result<BitBlt, Dead>
     ensures does { Reads (read_copy O.names (word bit_blt)) (copy_in (O.table m.now)) (O.table m.now) result }
     ensures is { IfOk result (IsBitBlt (O.table m.now)) }
+    ensures bits { IfOk result (λ b. HasBits O.names (O.table m.now) (word bit_blt) b.destination.bits) }
 {
     let destination = fetch_destination(m, bit_blt)?;
     let source = fetch_form(m, bit_blt, 1)?;

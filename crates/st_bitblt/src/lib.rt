@@ -2,9 +2,11 @@
 #![tactic(auto)]
 
 mod bit_blt;
+mod copying;
 mod direction;
 mod form;
 mod numbers;
+mod paint;
 mod part;
 mod row;
 mod rows;
@@ -13,5 +15,6 @@ mod source;
 mod span;
 
 pub use bit_blt::{BitBlt, read_bit_blt};
+pub use copying::copy_bits;
 pub use direction::Direction;
 pub use form::Form;
