@@ -14,6 +14,7 @@ use st_frames::{Registers, pop, push};
 use st_memory::Objects;
 use st_method::Header;
 use st_model::{Call, Dead, Deed, StepEnd, Word};
+use st_rows::answer_field;
 
 /// The primitive that a header extension names.
 #[tactic(auto, using(st_method::proofs::Bits::primitives), unfolding(st_model::specs::Methods::primitive_number))]
