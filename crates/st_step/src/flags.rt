@@ -10,7 +10,7 @@ ghost use Rattle.st_step.specs.Responding.{by_flag};
 ghost use Rattle.st_frames.specs.Rows.{RowReads, RowDoes, RowLeaves, Takes, activation_changes, response_changes};
 
 use crate::respond::{activated, respond};
-use st_frames::{Registers, pop, push};
+use st_frames::Registers;
 use st_memory::Objects;
 use st_method::Header;
 use st_model::{Call, Dead, Deed, StepEnd, Word};
