@@ -10,8 +10,8 @@ use std::collections::BTreeMap;
 /// Texts of names, each with the place of the first name that has it.
 pub type NamePlaces = BTreeMap<Text, usize>;
 
-/// Names that are declared together, with their places: the arguments or the temporaries of the method, or the arguments
-/// of a block. They are numbered from `first` on, and only temporaries are assignable.
+/// Names that are declared together, with their places: the arguments or the temporaries of the method, or the
+/// arguments of a block. They are numbered from `first` on, and only temporaries are assignable.
 #[derive(Clone, Copy)]
 pub struct Frame<'a> {
     pub names: &'a [Name],
