@@ -13,4 +13,4 @@ pub use lines::push_line;
 pub use objects::{push_object, push_objects};
 pub use output::Output;
 pub use said::push_said;
-pub use state::push_state;
+pub use state::{push_held, push_input, push_registers, push_state, push_used};

@@ -23,7 +23,7 @@ fn push_pointers<H: Host>(out: &mut Output, host: &mut H, ip: i32, sp: u32) -> R
 }
 
 /// Adds the line of the registers; the instruction and stack pointers as a context stores them.
-fn push_registers<H: Host, M: Memory>(
+pub fn push_registers<H: Host, M: Memory>(
     out: &mut Output,
     host: &mut H,
     m: &M,
@@ -39,7 +39,7 @@ fn push_registers<H: Host, M: Memory>(
 }
 
 /// Adds the line of the input state: how many words wait and how many signals are pending, the mouse, and the clocks.
-fn push_input<H: Host>(out: &mut Output, host: &mut H, w: &World) -> Result<(), SayFault>
+pub fn push_input<H: Host>(out: &mut Output, host: &mut H, w: &World) -> Result<(), SayFault>
     ensures { Pushes H.Host.own (input_text w.now) host.old host.new out.old out.new result }
 {
     let numbers = [
@@ -54,7 +54,7 @@ fn push_input<H: Host>(out: &mut Output, host: &mut H, w: &World) -> Result<(), 
 }
 
 /// Adds the line of what is held.
-fn push_held<H: Host, M: Memory>(out: &mut Output, host: &mut H, m: &M) -> Result<(), SayFault>
+pub fn push_held<H: Host, M: Memory>(out: &mut Output, host: &mut H, m: &M) -> Result<(), SayFault>
     ensures { let text = held_text (M.view m.now).held.devices in
         Pushes H.Host.own text host.old host.new out.old out.new result }
 {
@@ -72,7 +72,7 @@ fn push_held<H: Host, M: Memory>(out: &mut Output, host: &mut H, m: &M) -> Resul
 }
 
 /// Adds the line of what is used.
-fn push_used<H: Host, M: Memory>(out: &mut Output, host: &mut H, m: &M) -> Result<(), SayFault>
+pub fn push_used<H: Host, M: Memory>(out: &mut Output, host: &mut H, m: &M) -> Result<(), SayFault>
     ensures { let text = used_text (M.view m.now).objects in
         Pushes H.Host.own text host.old host.new out.old out.new result }
 {

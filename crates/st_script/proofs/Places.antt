@@ -1,6 +1,7 @@
 -- In a script that is read, headers and methods stay as `IsDefinition` asks, and only a definition is asked for as one.
 use Rattle.std.proofs.Common.{◌≡◌, ℕ, ◌≤◌, Bool, true, false, List, [], ◌∷◌, ◌++◌, length, refl, sym, ap, subst, arith}
-use Rattle.std.specs.Prelude.{◌==◌, ◌&&◌, not, nat_le, nat_lt, if◌then◌else◌, Option, Some, None, codes}
+use Rattle.std.proofs.lemmas.Bool.Decides.{nat_tests}
+use Rattle.std.specs.Prelude.{IfSome, ◌==◌, ◌&&◌, not, nat_le, nat_lt, if◌then◌else◌, Option, Some, None, codes}
 use Rattle.std.specs.Option.{option_map, option_and_then, unwrap_or}
 use Rattle.st_chunk.specs.declared.cutting.Phase.{Phase}
 use Rattle.st_chunk.specs.declared.cutting.Phase.TheVariants as phases
@@ -11,8 +12,8 @@ use Rattle.st_chunk.specs.Feeding.{State, fed, finished, carried_from, answer, l
 use Rattle.st_chunk.specs.Groups.{Header, header_of}
 use Rattle.st_chunk.specs.Definitions.{Definition, IsDefinition}
 use Rattle.st_script.specs.declared.request.Request.{Request}
-use Rattle.st_script.specs.declared.request.Request.TheVariants.{Run, Input, Clock, Tick, State as ShowState, Used, Snapshot, End, Define, Wrong}
-use Rattle.st_script.specs.Lines.{number, is_word, place_of, mouse_at, with_arguments, alone, by_words, first_word, arguments, line_request, without_return}
+use Rattle.st_script.specs.declared.request.Request.TheVariants.{Run, Input, Mouse, Clock, Tick, State as ShowState, Used, End, Define, Wrong}
+use Rattle.st_script.specs.Lines.{IsInRange, digits_after, at_most, number, is_word, place_of, mouse_at, with_arguments, alone, by_words, first_word, arguments, line_request, without_return}
 use Rattle.st_script.specs.Reading.{Place, InLine, Opened, InHeader, InMethods, Defined, CutOff, InBlanks, BehindBlanks, Over, Reading, Told, line_behind, line_from, over, wrong, is_last, line_ended, line_byte, begun, opened_byte, start_with, too_long, blanks_byte, behind_blanks_byte, header_ended, header_told, method_ended, method_told, byte_in, read, header_at_end, last_header, method_at_end, end_in, end_read}
 use Rattle.st_script.specs.Scripts.{IsDefined, HasDefinition, IsHeading, IsSound}
 use Rattle.st_script.proofs.Fed.{short_fed}
@@ -22,83 +23,113 @@ by_test : {P : Type 0} (t : Bool) → (t ≡ true → P) → (t ≡ false → P)
 by_test true passed failed = passed refl
 by_test false passed failed = failed refl
 
--- LINES ASK FOR NO DEFINITION
+-- LINES ASK FOR NO DEFINITION, AND THE MOUSE IS WHERE IT MAY BE
 
 abbrev pub is_define : Option Request → Bool
 is_define None = false
 is_define (Some Define) = true
 is_define (Some request) = false
 
-if_define : (t : Bool) (a b : Option Request) → is_define a ≡ false → is_define b ≡ false → is_define (if t then a else b) ≡ false
-if_define true a b p q = p
-if_define false a b p q = q
+abbrev is_line : Option Request → Bool
+is_line None = true
+is_line (Some Define) = false
+is_line (Some (Mouse x y)) = nat_le x 16383 && nat_le y 16383
+is_line (Some request) = true
 
-runs : (o : Option ℕ) → is_define (option_map Run o) ≡ false
+no_define : (o : Option Request) → is_line o ≡ true → is_define o ≡ true → ⊥
+no_define None e d = cc
+no_define (Some Define) e d = cc
+no_define (Some request) e d = cc
+
+in_range : (o : Option Request) → is_line o ≡ true → IfSome o IsInRange
+in_range None e = tt
+in_range (Some Define) e = tt
+in_range (Some (Mouse x y)) e = grind (arith, nat_tests)
+in_range (Some request) e = tt
+
+if_line : (t : Bool) (a b : Option Request) → is_line a ≡ true → is_line b ≡ true → is_line (if t then a else b) ≡ true
+if_line true a b p q = p
+if_line false a b p q = q
+
+runs : (o : Option ℕ) → is_line (option_map Run o) ≡ true
 runs None = refl
 runs (Some n) = refl
 
-inputs : (o : Option ℕ) → is_define (option_map Input o) ≡ false
+inputs : (o : Option ℕ) → is_line (option_map Input o) ≡ true
 inputs None = refl
 inputs (Some n) = refl
 
-clocks : (o : Option ℕ) → is_define (option_map Clock o) ≡ false
+clocks : (o : Option ℕ) → is_line (option_map Clock o) ≡ true
 clocks None = refl
 clocks (Some n) = refl
 
-ticks : (o : Option ℕ) → is_define (option_map Tick o) ≡ false
+ticks : (o : Option ℕ) → is_line (option_map Tick o) ≡ true
 ticks None = refl
 ticks (Some n) = refl
 
-mouses : (x y : Option ℕ) → is_define (place_of x y) ≡ false
-mouses None y = refl
-mouses (Some x) None = refl
-mouses (Some x) (Some y) = refl
+-- a number that is told is at most its limit
+within : (limit : ℕ) (o : Option ℕ) → IfSome (at_most limit o) (λ n. n ≤ limit)
+within limit None = tt
+within limit (Some n) = by_test (nat_le n limit) (λ e. rw e (grind (arith, nat_tests))) (λ e. rw e tt)
 
-numbers : (word text : List ℕ) → is_define (with_arguments word text) ≡ false
+number_within : (limit : ℕ) (text : List ℕ) → IfSome (number limit text) (λ n. n ≤ limit)
+unfolding number
+number_within limit text = by_test (nat_le 1 (length text) && nat_le (length text) 10) (λ e. rw e (within limit (digits_after 0 text))) (λ e. rw e tt)
+
+argument_within : (limit : ℕ) (o : Option (List ℕ)) → IfSome (option_and_then (number limit) o) (λ n. n ≤ limit)
+argument_within limit None = tt
+argument_within limit (Some text) = number_within limit text
+
+mouses : (x y : Option ℕ) → IfSome x (λ n. n ≤ 16383) → IfSome y (λ n. n ≤ 16383) → is_line (place_of x y) ≡ true
+mouses None y p q = refl
+mouses (Some x) None p q = refl
+mouses (Some x) (Some y) p q = grind (arith, nat_tests)
+
+numbers : (word text : List ℕ) → is_line (with_arguments word text) ≡ true
 unfolding with_arguments
 numbers word text =
-    if_define (is_word word (codes "run")) (option_map Run (number 1000000000 text)) _ (runs (number 1000000000 text))
-    (if_define (is_word word (codes "input")) (option_map Input (number 65535 text)) _ (inputs (number 65535 text))
-    (if_define (is_word word (codes "mouse")) (mouse_at text) _ (mouses (number 16383 (first_word text)) (option_and_then (number 16383) (arguments text)))
-    (if_define (is_word word (codes "clock")) (option_map Clock (number 4294967295 text)) _ (clocks (number 4294967295 text))
-    (if_define (is_word word (codes "tick")) (option_map Tick (number 4294967295 text)) None (ticks (number 4294967295 text)) refl))))
+    if_line (is_word word (codes "run")) (option_map Run (number 1000000000 text)) _ (runs (number 1000000000 text))
+    (if_line (is_word word (codes "input")) (option_map Input (number 65535 text)) _ (inputs (number 65535 text))
+    (if_line (is_word word (codes "mouse")) (mouse_at text) _ (mouses (number 16383 (first_word text)) (option_and_then (number 16383) (arguments text)) (number_within 16383 (first_word text)) (argument_within 16383 (arguments text)))
+    (if_line (is_word word (codes "clock")) (option_map Clock (number 4294967295 text)) _ (clocks (number 4294967295 text))
+    (if_line (is_word word (codes "tick")) (option_map Tick (number 4294967295 text)) None (ticks (number 4294967295 text)) refl))))
 
-words : (word : List ℕ) → is_define (alone word) ≡ false
+words : (word : List ℕ) → is_line (alone word) ≡ true
 unfolding alone
 words word =
-    if_define (is_word word (codes "state")) (Some ShowState) _ refl
-    (if_define (is_word word (codes "used")) (Some Used) _ refl
-    (if_define (is_word word (codes "snapshot")) (Some Snapshot) _ refl
-    (if_define (is_word word (codes "end")) (Some End) None refl refl)))
+    if_line (is_word word (codes "state")) (Some ShowState) _ refl
+    (if_line (is_word word (codes "used")) (Some Used) _ refl
+    (if_line (is_word word (codes "end")) (Some End) None refl refl))
 
-by_both : (word : List ℕ) (o : Option (List ℕ)) → is_define (by_words word o) ≡ false
+by_both : (word : List ℕ) (o : Option (List ℕ)) → is_line (by_words word o) ≡ true
 by_both word None = words word
 by_both word (Some text) = numbers word text
 
-or_wrong : (o : Option Request) (n : ℕ) → is_define o ≡ false → is_define (Some (unwrap_or o (Wrong n))) ≡ false
+or_wrong : (o : Option Request) (n : ℕ) → is_line o ≡ true → is_line (Some (unwrap_or o (Wrong n))) ≡ true
 or_wrong None n e = refl
 or_wrong (Some request) n e = e
 
-lines : (n : ℕ) (text : List ℕ) → is_define (line_request n text) ≡ false
+lines : (n : ℕ) (text : List ℕ) → is_line (line_request n text) ≡ true
 unfolding line_request
 lines n text =
-    if_define (nat_lt most (length text)) (Some (Wrong n)) _ refl
-    (if_define (is_empty text) None _ refl
+    if_line (nat_lt most (length text)) (Some (Wrong n)) _ refl
+    (if_line (is_empty text) None _ refl
     (or_wrong (by_words (first_word text) (arguments text)) n (by_both (first_word text) (arguments text))))
 
 -- EACH BYTE
 
--- the place is sound, and behind a definition that is asked for stands one
+-- the place is sound, behind a definition that is asked for stands one, and the mouse is where it may be
 pub record IsRight (t : Told) : Type 0 where
   pub sound : IsSound t.0.place
   pub defined : is_define t.1 ≡ true → IsDefined t.0.place
+  pub range : IfSome t.1 IsInRange
 
 if_right : (t : Bool) (a b : Told) → IsRight a → IsRight b → IsRight (if t then a else b)
 if_right true a b p q = p
 if_right false a b p q = q
 
-silent : (r : Reading) (request : Option Request) → IsSound r.place → is_define request ≡ false → IsRight (r, request)
-silent r request sound e = record { sound = sound; defined = λ d. absurd cc }
+silent : (r : Reading) (request : Option Request) → IsSound r.place → is_line request ≡ true → IsRight (r, request)
+silent r request sound e = record { sound = sound; defined = λ d. absurd (no_define request e d); range = in_range request e }
 
 stopped : (r : Reading) (n : ℕ) → IsRight (wrong r n)
 stopped r n = silent (over r) (Some (Wrong n)) tt refl
@@ -106,7 +137,7 @@ stopped r n = silent (over r) (Some (Wrong n)) tt refl
 moved : (place : Place) (n m : ℕ) → IsSound place → IsRight (record { place = place; line = n; start = m }, None)
 moved place n m sound = silent (record { place = place; line = n; start = m }) None sound refl
 
-ended : (r : Reading) (request : Option Request) → is_define request ≡ false → IsRight (line_ended r request)
+ended : (r : Reading) (request : Option Request) → is_line request ≡ true → IsRight (line_ended r request)
 ended r request e = if_right (is_last request) (over r, request) (line_from r.line, request) (silent (over r) request tt e) (silent (line_from r.line) request tt e)
 
 line_right : (r : Reading) (text : List ℕ) (b : ℕ) → IsRight (line_byte r text b)
@@ -146,7 +177,7 @@ header_right r here s b t answers.Long short = too_long_right r here t b
 method_ended_right : (r : Reading) (here : ℕ) (h : Header) (b : ℕ) (t : State) → IsHeading h → length t.bytes ≤ most → IsRight (method_ended r here h b t)
 method_ended_right r here h b t heading short = by_test (is_empty t.bytes)
     (λ e. rw e (line_right (record r { start = here }) [] b))
-    (λ e. rw e (record { sound = (heading, method_sound h t heading short e); defined = λ d. tt }))
+    (λ e. rw e (record { sound = (heading, method_sound h t heading short e); defined = λ d. tt; range = tt }))
 
 method_right : (r : Reading) (here : ℕ) (h : Header) (s : State) (b : ℕ) (t : State) (f : Fed) → IsHeading h → length t.bytes ≤ most → IsRight (method_told r here h s b t f)
 method_right r here h s b t answers.More heading short = moved (InMethods h t) r.line (start_with r here s t) (heading, short)
@@ -191,7 +222,7 @@ header_end_right r s answers.Long = stopped r r.start
 method_end_right : (r : Reading) (h : Header) (s : State) (f : Fed) → IsHeading h → length s.bytes ≤ most → IsRight (method_at_end r h s f)
 method_end_right r h s answers.Chunk heading short = by_test (is_empty s.bytes)
     (λ e. rw e (silent (over r) None tt refl))
-    (λ e. rw e (record { sound = (heading, method_sound h (finished s) heading short e); defined = λ d. tt }))
+    (λ e. rw e (record { sound = (heading, method_sound h (finished s) heading short e); defined = λ d. tt; range = tt }))
 method_end_right r h s answers.More heading short = stopped r r.start
 method_end_right r h s answers.Long heading short = stopped r r.start
 
@@ -217,6 +248,12 @@ sound_read r b s request sound e = subst (λ (t : Told). IsSound t.0.place) e (r
 
 pub defined_read : (r : Reading) (b : ℕ) (s : Reading) (request : Option Request) → IsSound r.place → read r b ≡ (s, request) → request ≡ Some Define → IsDefined s.place
 defined_read r b s request sound e d = subst (λ (t : Told). is_define t.1 ≡ true → IsDefined t.0.place) e (read_right r b sound).defined (ap is_define d)
+
+pub range_read : (r : Reading) (b : ℕ) (s : Reading) (request : Option Request) → IsSound r.place → read r b ≡ (s, request) → IfSome request IsInRange
+range_read r b s request sound e = subst (λ (t : Told). IfSome t.1 IsInRange) e (read_right r b sound).range
+
+pub range_end : (r : Reading) (s : Reading) (request : Option Request) → IsSound r.place → end_read r ≡ (s, request) → IfSome request IsInRange
+range_end r s request sound e = subst (λ (t : Told). IfSome t.1 IsInRange) e (end_right r sound).range
 
 pub sound_end : (r : Reading) (s : Reading) (request : Option Request) → IsSound r.place → end_read r ≡ (s, request) → IsSound s.place
 sound_end r s request sound e = subst (λ (t : Told). IsSound t.0.place) e (end_right r sound).sound

@@ -2,7 +2,7 @@
 use Rattle.std.proofs.Common.{◌≡◌, ℕ, false, List, [], ◌∷◌, refl}
 use Rattle.std.specs.Prelude.{codes, Option, Some, None}
 use Rattle.st_script.specs.declared.request.Request.{Request}
-use Rattle.st_script.specs.declared.request.Request.TheVariants.{Run, Input, Mouse, Clock, Tick, State, Used, Snapshot, End, Wrong}
+use Rattle.st_script.specs.declared.request.Request.TheVariants.{Run, Input, Mouse, Clock, Tick, State, Used, End, Wrong}
 use Rattle.st_script.specs.Lines.{number, with_arguments, alone, line_request}
 use Rattle.st_script.specs.Reading.{read, end_read}
 use Rattle.st_script.specs.Scripts.{Asked, Asks, Defines, asked}
@@ -85,8 +85,8 @@ of_a_later_grammar = refl
 
 -- SCRIPTS
 
-lines : asked (codes "state\r\nused\n\n \nsnapshot\ninput 7\nmouse 1 2\nclock 3\ntick 4\nrun 5\nend\nhop")
-    ≡ Asks State ∷ Asks Used ∷ Asks Snapshot ∷ Asks (Input 7) ∷ Asks (Mouse 1 2) ∷ Asks (Clock 3) ∷ Asks (Tick 4) ∷ Asks (Run 5) ∷ Asks End ∷ []
+lines : asked (codes "state\r\nused\n\n \ninput 7\nmouse 1 2\nclock 3\ntick 4\nrun 5\nend\nhop")
+    ≡ Asks State ∷ Asks Used ∷ Asks (Input 7) ∷ Asks (Mouse 1 2) ∷ Asks (Clock 3) ∷ Asks (Tick 4) ∷ Asks (Run 5) ∷ Asks End ∷ []
 unfolding read line_request with_arguments alone number end_read
 lines = refl
 

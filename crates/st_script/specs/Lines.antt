@@ -1,11 +1,11 @@
 -- The lines of a script. Words in a line are separated by single spaces.
-use Rattle.std.specs.Prelude.{ℕ, ◌+◌, ◌*◌, ◌-◌, ◌==◌, ◌&&◌, Bool, not, nat_eq, nat_lt, nat_le, List, [], ◌∷◌, length, take, drop, codes, Option, Some, None, if◌then◌else◌}
+use Rattle.std.specs.Prelude.{ℕ, ◌≤◌, ◌+◌, ◌*◌, ◌-◌, ◌==◌, ◌&&◌, Bool, not, nat_eq, nat_lt, nat_le, List, [], ◌∷◌, length, take, drop, codes, Option, Some, None, if◌then◌else◌}
 use Rattle.std.specs.List.{prefix_len, ends_with}
 use Rattle.std.specs.Option.{option_map, option_and_then, unwrap_or}
 use Rattle.std.specs.Cmp.Lexicographic.{pointwise}
 use Rattle.st_chunk.specs.Texts.{most, is_empty}
 use Rattle.st_script.specs.declared.request.Request.{Request}
-use Rattle.st_script.specs.declared.request.Request.TheVariants.{Run, Input, Mouse, Clock, Tick, State, Used, Snapshot, End, Wrong}
+use Rattle.st_script.specs.declared.request.Request.TheVariants.{Run, Input, Mouse, Clock, Tick, State, Used, End, Wrong}
 
 -- NUMBERS
 
@@ -63,7 +63,6 @@ unfoldable pub alone : List ℕ → Option Request
 alone word =
     if is_word word (codes "state") then Some State else
     if is_word word (codes "used") then Some Used else
-    if is_word word (codes "snapshot") then Some Snapshot else
     if is_word word (codes "end") then Some End else
     None
 
@@ -82,3 +81,8 @@ line_request n text =
 -- without the carriage return before a line's end
 abbrev pub without_return : List ℕ → List ℕ
 without_return text = if ends_with nat_eq text (13 ∷ []) then take (length text - 1) text else text
+
+-- the mouse is at a place that it may have
+abbrev pub IsInRange : Request → Type 0
+IsInRange (Mouse x y) = (x ≤ 16383) × (y ≤ 16383)
+IsInRange request = Unit {0}

@@ -51,6 +51,18 @@ asked_from r (b ∷ text) = asked_by (read r b) ++ asked_from (read r b).0 text
 abbrev pub asked : List ℕ → List Asked
 asked text = asked_from (line_from 1) text
 
+-- what these bytes alone tell to be asked for, however the script goes on, and how far it is read behind them
+abbrev pub told_from : Reading → List ℕ → List Asked
+told_from r [] = []
+told_from r (b ∷ text) = asked_by (read r b) ++ told_from (read r b).0 text
+
+abbrev pub read_through : Reading → List ℕ → Reading
+read_through r [] = r
+read_through r (b ∷ text) = read_through (read r b).0 text
+
+abbrev pub told : List ℕ → List Asked
+told text = told_from (line_from 1) text
+
 -- A LINE AS A WHOLE
 
 -- It has no line feed, doesn't begin with a mark, and has at most as many bytes as a line and a carriage return may have.

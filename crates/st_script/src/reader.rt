@@ -1,7 +1,8 @@
 // A script, byte by byte.
-ghost use Rattle.std.specs.Prelude.{◌≡◌, Some, IfOk};
+ghost use Rattle.std.specs.Prelude.{◌≡◌, Some, IfOk, IfSome};
 ghost use Rattle.st_chunk.specs.Definitions.{IsDefinition};
 ghost use Rattle.st_script.specs.declared.request.Request.TheVariants.{Define as Defines};
+ghost use Rattle.st_script.specs.Lines.{IsInRange};
 ghost use Rattle.st_script.specs.Reading.{line_from, read, end_read};
 ghost use Rattle.st_script.specs.Scripts.{IsDefined, HasDefinition};
 
@@ -70,6 +71,7 @@ impl Reader {
         ensures read { self.new ≡ (read self.old byte).0 }
         ensures told { result ≡ (read self.old byte).1 }
         ensures defined { result ≡ Some Defines → IsDefined self.new.place }
+        ensures range { IfSome result IsInRange }
     {
         self.progress.read(byte)
     }
@@ -79,6 +81,7 @@ impl Reader {
         ensures read { self.new ≡ (end_read self.old).0 }
         ensures told { result ≡ (end_read self.old).1 }
         ensures defined { result ≡ Some Defines → IsDefined self.new.place }
+        ensures range { IfSome result IsInRange }
     {
         self.progress.finish()
     }

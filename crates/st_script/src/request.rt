@@ -15,8 +15,6 @@ pub enum Request {
     State,
     /// `used`: how many entries and words are kept.
     Used,
-    /// `snapshot`: an image to be saved.
-    Snapshot,
     /// `end`: the end of the session.
     End,
     /// A method of a group, to be accepted.

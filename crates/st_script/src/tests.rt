@@ -63,8 +63,8 @@ fn asked(alloc: Global, script: &[u8]) -> Result<String, AllocError> {
 const SCRIPTS: [(&[u8], &str); 22] = [
     (b"", ""),
     (
-        b"state\r\nused\n\n \t\x0c\nsnapshot\nend\nhop\n",
-        "State; Used; Snapshot; End; ",
+        b"state\r\nused\n\n \t\x0c\nend\nhop\n",
+        "State; Used; End; ",
     ),
     (
         b"input 65535\nmouse 16383 0\nclock 4294967295\ntick 4\nrun 1000000000",

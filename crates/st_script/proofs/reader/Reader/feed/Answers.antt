@@ -1,5 +1,5 @@
 use Rattle.st_script.specs.Progress.{reading_of}
-use Rattle.st_script.proofs.Places.{sound_read, defined_read}
+use Rattle.st_script.proofs.Places.{sound_read, defined_read, range_read}
 use Rattle.st_script.proofs.reader.Reader.feed.Goals as goal
 
 pub invariant_of-self : goal.invariant_of-self
@@ -8,3 +8,6 @@ invariant_of-self c =
 
 pub returns-clause-defined : goal.returns-clause-defined
 returns-clause-defined c = defined_read (reading_of c.self.inside.progress) c.args.byte (reading_of c.read.new.self) c.read.result c.self.invariant.1 c.read.ensures.tells
+
+pub returns-clause-range : goal.returns-clause-range
+returns-clause-range c = range_read (reading_of c.self.inside.progress) c.args.byte (reading_of c.read.new.self) c.read.result c.self.invariant.1 c.read.ensures.tells

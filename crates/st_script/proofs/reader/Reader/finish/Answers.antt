@@ -1,5 +1,5 @@
 use Rattle.st_script.specs.Progress.{reading_of}
-use Rattle.st_script.proofs.Places.{sound_end, defined_end}
+use Rattle.st_script.proofs.Places.{sound_end, defined_end, range_end}
 use Rattle.st_script.proofs.reader.Reader.finish.Goals as goal
 
 pub invariant_of-self : goal.invariant_of-self
@@ -8,3 +8,6 @@ invariant_of-self c =
 
 pub returns-clause-defined : goal.returns-clause-defined
 returns-clause-defined c = defined_end (reading_of c.self.inside.progress) (reading_of c.finish.new.self) c.finish.result c.self.invariant.1 c.finish.ensures.tells
+
+pub returns-clause-range : goal.returns-clause-range
+returns-clause-range c = range_end (reading_of c.self.inside.progress) (reading_of c.finish.new.self) c.finish.result c.self.invariant.1 c.finish.ensures.tells

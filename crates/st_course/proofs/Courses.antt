@@ -1,0 +1,31 @@
+-- Deeds that follow each other.
+use Rattle.std.proofs.Common.{◌≡◌, ℕ, List, [], ◌∷◌, ◌++◌, refl, sym, ap, ◌∙◌, append_assoc, append-nil}
+use Rattle.st_course.specs.declared.status.Status.{Status}
+use Rattle.st_course.specs.Courses.{Deed, Reply, Keep, Course, Goes, Ends, deeds_of, said_of, preceded, and_then}
+
+module _ {C : Type 0} where
+  pub said_of_both : (a b : List (Deed C)) → said_of (a ++ b) ≡ said_of a ++ said_of b
+  said_of_both [] b = refl
+  said_of_both (Reply text ∷ a) b = ap (λ t. text ++ t) (said_of_both a b) ∙ sym (append_assoc text (said_of a) (said_of b))
+  said_of_both (Keep c ∷ a) b = said_of_both a b
+
+  pub preceded_none : {X : Type 0} (c : Course C X) → preceded [] c ≡ c
+  preceded_none (Goes ds x) = refl
+  preceded_none (Ends ds e) = refl
+
+  pub preceded_both : {X : Type 0} (a b : List (Deed C)) (c : Course C X) → preceded (a ++ b) c ≡ preceded a (preceded b c)
+  preceded_both a b (Goes ds x) = ap (λ l. Goes l x) (append_assoc a b ds)
+  preceded_both a b (Ends ds e) = ap (λ l. Ends l e) (append_assoc a b ds)
+
+  pub preceded_then : {X Y : Type 0} (ds : List (Deed C)) (c : Course C X) (f : X → Course C Y) → and_then (preceded ds c) f ≡ preceded ds (and_then c f)
+  preceded_then ds (Goes es x) f = preceded_both ds es (f x)
+  preceded_then ds (Ends es e) f = refl
+
+  -- what follows what follows
+  pub then_then : {X Y Z : Type 0} (c : Course C X) (f : X → Course C Y) (g : Y → Course C Z) → and_then (and_then c f) g ≡ and_then c (λ x. and_then (f x) g)
+  then_then (Goes ds x) f g = preceded_then ds (f x) g
+  then_then (Ends ds e) f g = refl
+
+  pub deeds_preceded : {X : Type 0} (ds : List (Deed C)) (c : Course C X) → deeds_of (preceded ds c) ≡ ds ++ deeds_of c
+  deeds_preceded ds (Goes es x) = refl
+  deeds_preceded ds (Ends es e) = refl

@@ -1,0 +1,4 @@
+pub mod Courses
+pub mod Done
+pub mod Obeying
+pub mod Statuses

@@ -1,0 +1,46 @@
+ghost use Rattle.std.specs.Prelude.{◌≡◌};
+ghost use Rattle.st_course.specs.Statuses.{number_of};
+
+use st_model::ImageFault;
+
+/// How a call of the program ended. Its number is the program's exit status.
+#[derive(Clone, Copy, Debug, PartialEq, Eq)]
+pub enum Status {
+    /// The command was done, or the script up to `end` or to its end.
+    Done,
+    /// The words aren't those of a command.
+    Usage,
+    /// The image has this fault. An absent file is read as an empty one.
+    Image(ImageFault),
+    /// What begins in this line of the script, counted from 1, isn't in the grammar, is too long or is cut off.
+    Script(u64),
+    /// The source failed.
+    ReadFault,
+    /// The host failed to say bytes.
+    SayFault,
+    /// The host failed at a file.
+    DiskFault,
+    /// The image has more than 2^23 bytes, or the script more than 2^32.
+    TooLarge,
+    /// There was no memory.
+    OutOfMemory,
+}
+
+impl Status {
+    /// The exit status.
+    pub fn number(self) -> u8
+        ensures { result ≡ number_of self }
+    {
+        match self {
+            Status::Done => 0,
+            Status::Usage => 1,
+            Status::Image(_fault) => 2,
+            Status::Script(_line) => 3,
+            Status::ReadFault => 4,
+            Status::SayFault => 5,
+            Status::DiskFault => 6,
+            Status::TooLarge => 9,
+            Status::OutOfMemory => 10,
+        }
+    }
+}
