@@ -1,12 +1,11 @@
 -- What a cycle of the code does, as the cycle over a table whose step is foreseen.
-use Rattle.std.proofs.Common.{◌≡◌, ℕ, ◌+◌, ◌-◌, Bool, true, false, refl, ◌∙◌, ap, sym, Ok, Err, arith}
-use Rattle.std.specs.Prelude.{nat_lt, nat_le, ◌&&◌, if◌then◌else◌, Result, pos, ◌+ℤ◌}
+use Rattle.std.proofs.Common.{◌≡◌, ℕ, ◌+◌, ◌-◌, true, false, refl, ◌∙◌, ap, sym, Ok, Err, arith}
+use Rattle.std.specs.Prelude.{nat_lt, nat_le, ◌&&◌, if◌then◌else◌}
 use Rattle.std.proofs.lemmas.Bool.Decides.{nat_tests}
 use Rattle.st_model.specs.declared.dead.Dead.{Dead}
 use Rattle.st_model.specs.declared.demand.Demand.{Demand}
 use Rattle.st_model.specs.Outcomes.{Outcome, Ending, With, Space}
-use Rattle.st_model.specs.Outcomes as outcome
-use Rattle.st_model.specs.Machine.{State, World, Transition, Died, Went, Step, answer, ◌>>=◌, ◌>>◌, used, is_over}
+use Rattle.st_model.specs.Machine.{State, World, Transition, Died, Went, used, is_over}
 use Rattle.st_model.specs.Table.{Table, table, apart, bounded_table}
 use Rattle.st_model.specs.Bytecodes.{step}
 use Rattle.st_model.specs.Settled.{reclaim}
@@ -15,15 +14,8 @@ use Rattle.st_model.specs.Cycles.{made_between, free_space, less, capacity_of, c
 use Rattle.st_model.specs.Foreseen.{foreseen, foreseen_from, foreseen_cycle, done, done_if_room}
 use Rattle.st_model.specs.View.{View, Held, fits}
 use Rattle.st_step.specs.Planned.{Plans, plus, IsForeseen}
-use Rattle.st_model.specs.Steps.{get_method, get_ip, set_ip, next_byte}
-use Rattle.st_model.specs.Calls.{Does, itself, transition_of}
-use Rattle.st_model.proofs.Tabular.{byte_at-as}
-use Rattle.st_memory.specs.Tabular.{bounded_tabular}
 use Rattle.st_frames.specs.declared.frame.Frame.{Frame}
 use Rattle.st_frames.specs.Shown.{shown, registers_of, IsFrame}
-use Rattle.st_frames.specs.Rows.{registers_in, row_state}
-use Rattle.st_frames.specs.declared.registers.Registers.{Registers as Words}
-use Rattle.st_frames.proofs.Stored.{loaded}
 
 -- what fits is not over the capacities
 fits_if : (a b c d : ℕ) → (nat_le a b && nat_le c d) ≡ true → (if nat_lt b a then true else nat_lt d c) ≡ false

@@ -32,7 +32,7 @@ fn store_time<O: Objects>(
     time: u32,
     receiver: Word,
 ) -> Result<Answer, Dead>
-    ensures { RowLeaves O.Objects.own (store_time O.names (word object) time (word receiver))
+    ensures does { RowLeaves O.Objects.own (store_time O.names (word object) time (word receiver))
         answer_word answer_deed m.now r.now result m.now r.now }
     ensures plain { IfOk result (λ a. copies_pixels a.deed ≡ false) }
 {

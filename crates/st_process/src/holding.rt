@@ -14,7 +14,7 @@ use st_model::{Dead, Deed, Device, Word};
 /// A device holds this from now on, which is left to be done. Whatever it is, it must be there.
 #[tactic(auto, using(crate::proofs::Changing::holds))]
 pub fn hold<O: Objects>(m: &O, r: &Registers, device: Device, object: Word) -> Result<Deed, Dead>
-    ensures { RowLeaves O.Objects.own (change_world O.names (Hold device (word object)))
+    ensures does { RowLeaves O.Objects.own (change_world O.names (Hold device (word object)))
         no_word itself m.now r.now result m.now r.now }
     ensures plain { IfOk result (λ d. copies_pixels d ≡ false) }
 {

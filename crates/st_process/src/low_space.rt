@@ -44,7 +44,7 @@ fn set_low_space<O: Objects>(
     low: Low,
     receiver: Word,
 ) -> Result<Answer, Dead>
-    ensures { RowLeaves O.Objects.own
+    ensures does { RowLeaves O.Objects.own
         (set_low_space O.names (word semaphore) (low_in low) (word receiver))
         answer_word answer_deed m.now r.now result m.now r.now }
     ensures plain { IfOk result (λ a. copies_pixels a.deed ≡ false) }

@@ -79,7 +79,7 @@ fn find_timing<O: Objects>(
 #[tactic(auto, using(crate::proofs::Timers::rings))]
 fn ring<O: Objects>(m: &O, r: &Registers, semaphore: Word) -> Result<Deed, Dead>
     requires room { length r.now.world.now.devices.pending < 4096 }
-    ensures { RowLeaves O.Objects.own (signal_once O.names Timer (word semaphore))
+    ensures does { RowLeaves O.Objects.own (signal_once O.names Timer (word semaphore))
         no_word itself m.now r.now result m.now r.now }
     ensures plain { IfOk result (λ d. copies_pixels d ≡ false) }
 {
@@ -95,7 +95,7 @@ fn ring<O: Objects>(m: &O, r: &Registers, semaphore: Word) -> Result<Deed, Dead>
 /// The semaphore is to be held for the timer, due at this millisecond, which is left to be done. It must be there.
 #[tactic(auto, using(crate::proofs::Timers::waits))]
 fn wait<O: Objects>(m: &O, r: &Registers, semaphore: Word, due: u32) -> Result<Deed, Dead>
-    ensures { RowLeaves O.Objects.own (wait_for O.names (word semaphore) due)
+    ensures does { RowLeaves O.Objects.own (wait_for O.names (word semaphore) due)
         no_word itself m.now r.now result m.now r.now }
     ensures plain { IfOk result (λ d. copies_pixels d ≡ false) }
 {
@@ -115,7 +115,7 @@ fn set_timer<O: Objects>(
     timing: Timing,
 ) -> Result<Deed, Dead>
     requires room { HasRoom r.now.world.now timing }
-    ensures { RowLeaves O.Objects.own (set_timer O.names (word semaphore) (timing_in timing))
+    ensures does { RowLeaves O.Objects.own (set_timer O.names (word semaphore) (timing_in timing))
         no_word itself m.now r.now result m.now r.now }
     ensures plain { IfOk result (λ d. copies_pixels d ≡ false) }
 {

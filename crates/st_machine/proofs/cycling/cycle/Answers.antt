@@ -1,14 +1,10 @@
 use Rattle.std.proofs.Common.{rules, ◌≡◌, Err, sym, subst, ap, ◌∙◌}
 use Rattle.st_model.specs.declared.demand.Demand.{Demand}
 use Rattle.st_model.specs.Outcomes.{Space, outcome_of}
-use Rattle.st_model.specs.Machine.{Transition, State, Went, used}
-use Rattle.st_model.specs.Table.{table, apart}
-use Rattle.st_model.specs.Bytecodes.{step}
+use Rattle.st_model.specs.Machine.{Went}
 use Rattle.st_model.specs.Foreseen.{foreseen_cycle}
 use Rattle.st_model.specs.Calls.{transition_of}
-use Rattle.st_model.specs.View.{Held}
 use Rattle.st_frames.specs.Shown.{shown}
-use Rattle.st_step.specs.Planned.{Plans}
 use Rattle.st_switch.proofs.Done.{ready_after}
 use Rattle.st_machine.specs.Runs.{ending_of}
 use Rattle.st_machine.proofs.Settled.{settled_same}

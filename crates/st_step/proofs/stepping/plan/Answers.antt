@@ -1,4 +1,4 @@
-use Rattle.std.proofs.Common.{rules, ◌≡◌, Ok, Err, ap, subst, sym, ◌∙◌}
+use Rattle.std.proofs.Common.{rules, ◌≡◌, Err, ap, subst, sym, ◌∙◌}
 use Rattle.st_model.specs.Machine.{used}
 use Rattle.st_model.specs.Table.{table, apart}
 use Rattle.st_model.specs.Bytecodes.{step}
