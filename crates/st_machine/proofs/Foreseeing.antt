@@ -1,10 +1,11 @@
 -- What a cycle of the code does, as the cycle over a table whose step is foreseen.
-use Rattle.std.proofs.Common.{◌≡◌, ℕ, ◌+◌, ◌-◌, true, false, refl, ◌∙◌, ap, sym, Ok, Err, arith}
-use Rattle.std.specs.Prelude.{nat_lt, nat_le, ◌&&◌, if◌then◌else◌}
+use Rattle.std.proofs.Common.{◌≡◌, ℕ, ◌+◌, ◌-◌, Bool, true, false, refl, ◌∙◌, ap, sym, subst, Ok, Err, arith}
+use Rattle.std.specs.Prelude.{Result, nat_lt, nat_le, ◌&&◌, if◌then◌else◌}
 use Rattle.std.proofs.lemmas.Bool.Decides.{nat_tests}
 use Rattle.st_model.specs.declared.dead.Dead.{Dead}
 use Rattle.st_model.specs.declared.demand.Demand.{Demand}
 use Rattle.st_model.specs.Outcomes.{Outcome, Ending, With, Space}
+use Rattle.st_model.specs.Outcomes as outcome
 use Rattle.st_model.specs.Machine.{State, World, Transition, Died, Went, used, is_over}
 use Rattle.st_model.specs.Table.{Table, table, apart, bounded_table}
 use Rattle.st_model.specs.Bytecodes.{step}
@@ -13,6 +14,8 @@ use Rattle.st_model.specs.Objects.{nil}
 use Rattle.st_model.specs.Cycles.{made_between, free_space, less, capacity_of, check_process_switch, warned, warned_if_low}
 use Rattle.st_model.specs.Foreseen.{foreseen, foreseen_from, foreseen_cycle, done, done_if_room}
 use Rattle.st_model.specs.View.{View, Held, fits}
+use Rattle.st_quick.specs.AtOnce.{WasForeseen, IsDoneAtOnce}
+use Rattle.st_machine.specs.Cycling.{GoesAtOnce}
 use Rattle.st_step.specs.Planned.{Plans, plus, IsForeseen}
 use Rattle.st_frames.specs.declared.frame.Frame.{Frame}
 use Rattle.st_frames.specs.Shown.{shown, registers_of, IsFrame}
@@ -63,6 +66,23 @@ module _ (c : State Table) where
   pub cycle_done : (d : Demand) (o : Outcome) (t u x : State Table) → Plans (used table c.memory) ((step apart).run c) (Ok d) → is_over (plus (used table c.memory) d) c.head ≡ false
       → (step bounded_table).run c ≡ Went o t → reclaim table t ≡ u → warned table u ≡ x → foreseen c ((step apart).run c) ≡ Went (With o) x
   cycle_done d o t u x h e s r w = (with_room ((step apart).run c) d refl h e).1 ∙ (ap (done c) s ∙ ap (λ y. Went (With o) y) (ap (warned table) r ∙ w))
+
+  -- a bytecode that was done at once
+  pub cycle_at_once : (d x : State Table) → WasForeseen c → (step bounded_table).run c ≡ Went outcome.Went d → warned table (reclaim table d) ≡ x → foreseen c ((step apart).run c) ≡ Went (With outcome.Went) x
+  cycle_at_once d x e s w = ap (foreseen c) e.goes ∙ (ap (done_if_room c e.after) e.fits ∙ (ap (done c) s ∙ ap (λ y. Went (With outcome.Went) y) w))
+
+  pub dies_at_once : (cause : Dead) → (step apart).run c ≡ Died cause → foreseen c ((step apart).run c) ≡ Died cause
+  dies_at_once cause e = ap (foreseen c) e
+
+-- how a bytecode goes that was tried at once
+pub went_at_once : (c d x : State Table) (r : Result Bool Dead) → IsDoneAtOnce c r d → r ≡ Ok true → warned table (reclaim table d) ≡ x → GoesAtOnce c (Ok true) x
+went_at_once c d x r h e w = let k : IsDoneAtOnce c (Ok true) d = subst (λ y. IsDoneAtOnce c y d) e h in cycle_at_once c d x k.0 k.1 w
+
+pub stayed_at_once : (c d : State Table) (r : Result Bool Dead) → IsDoneAtOnce c r d → r ≡ Ok false → GoesAtOnce c (Ok false) d
+stayed_at_once c d r h e = subst (λ y. IsDoneAtOnce c y d) e h
+
+pub died_at_once : (c d x : State Table) (cause : Dead) → IsDoneAtOnce c (Err cause) d → GoesAtOnce c (Err cause) x
+died_at_once c d x cause h = dies_at_once c cause h
 
 -- what came before the bytecode
 

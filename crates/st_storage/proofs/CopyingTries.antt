@@ -16,7 +16,6 @@ use Rattle.st_model.proofs.BitBltLeft.{bits-copied, bits-failed}
 use Rattle.st_memory.specs.declared.objects.Objects.{Ghosts}
 use Rattle.st_frames.specs.declared.registers.Registers.{Registers as Words}
 use Rattle.st_frames.specs.Rows.{row_state, state_of, RowLeaves}
-use Rattle.st_frames.proofs.Doing.{row-memory}
 
 pub bits-unseen : (m : ObjectMemory Table) (cause : Dead) (s : State Table) → (top m).run s ≡ Died cause → (primitive_copy_bits m).run s ≡ Died cause
 unfolding primitive_copy_bits ◌>>=◌ after

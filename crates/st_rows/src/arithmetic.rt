@@ -5,7 +5,7 @@ ghost use Rattle.st_model.specs.Values.{word, small_integer};
 ghost use Rattle.st_model.specs.Integers.{binary};
 ghost use Rattle.st_model.specs.Calls.{itself};
 ghost use Rattle.st_model.specs.Primitives.{succeed, answer_with};
-ghost use Rattle.st_model.specs.Arithmetic.{new_point, value_of_answer, integer_under, integer_answer};
+ghost use Rattle.st_model.specs.Arithmetic.{arithmetic_number, new_point, value_of_answer, integer_under, integer_answer};
 ghost use Rattle.st_ints.specs.Answers.{IsSmall, IsOfSmall};
 ghost use Rattle.st_frames.specs.Rows.{RowReads, RowDoes, Takes};
 
@@ -22,6 +22,22 @@ fn in_16_bits(n: i32) -> i16
     ensures { result ≡ n }
 {
     n as i16
+}
+
+/// The primitive that is tried first for a special selector of 0 to 15.
+pub fn arithmetic_number(k: u32) -> u32
+    requires few { k < 16 }
+    ensures number { result ≡ arithmetic_number k }
+    ensures first { 1 ≤ result }
+    ensures last { result ≤ 18 }
+{
+    match k {
+        11 => 18,
+        12 => 17,
+        13 => 12,
+        14 | 15 => k,
+        _ => k + 1,
+    }
 }
 
 /// The integer of the SmallInteger k words below the top.
@@ -77,7 +93,7 @@ pub fn integer_answer<O: Objects>(m: &O, r: &Registers, n: u32) -> Result<IntAns
 
 /// The word of an integer from -16384 to 16383.
 #[tactic(auto, using(std::proofs::lemmas::Int::ints))]
-fn word_of(n: i16) -> Word
+pub fn word_of(n: i16) -> Word
     requires small { IsSmall n }
     ensures { word result ≡ small_integer n }
 {

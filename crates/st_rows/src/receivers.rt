@@ -1,6 +1,7 @@
 ghost use Rattle.std.specs.Prelude.{◌≡◌, ◌<◌, ◌≤◌, ◌+◌};
 ghost use Rattle.st_model.specs.Values.{word};
 ghost use Rattle.st_model.specs.Calls.{itself};
+ghost use Rattle.st_model.specs.Executing.{answer_field};
 ghost use Rattle.st_model.specs.Arithmetic.{equivalence, receiver_class, flush_cache};
 ghost use Rattle.st_frames.specs.Rows.{RowMoves, RowDoes, Takes};
 
@@ -48,4 +49,16 @@ pub fn flush_cache<O: Objects>(m: &O, r: &mut Registers, n: u32) -> Result<(), D
 {
     look_at_words(m, r, n)?;
     drop_words(m, r, n)
+}
+
+/// A field of the word at the top takes its place.
+#[tactic(auto, using(st_frames::proofs::Doing::rows), unfolding(st_model::specs::Executing::answer_field))]
+pub fn answer_field<O: Objects>(m: &mut O, r: &mut Registers, i: u32) -> Result<(), Dead>
+    requires room { 1 ≤ O.room m.old }
+    ensures does { RowDoes O.Objects.own (answer_field O.names i) itself m.old r.old result m.new r.new }
+    ensures takes { Takes O.Objects.own 1 m.old m.new }
+{
+    let object = pop(m, r)?;
+    let answer = m.fetch_field(object, i)?;
+    push(m, r, answer)
 }
