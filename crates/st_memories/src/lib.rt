@@ -1,4 +1,5 @@
-//! Tests of the memory over a heap, alone and beside the plain one, and of events, copies of pixels and machines over both. No crate uses it.
+//! Tests of the memory over a heap, alone and beside the plain one, and of events, copies of pixels
+//! and machines over both. No crate uses it.
 #![tactic(auto)]
 
 #[cfg(test)]

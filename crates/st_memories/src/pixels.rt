@@ -143,7 +143,9 @@ fn word_after(words: &Words, told: &Told, at: u32) -> u16 {
             let whole = Form { width: 16, ..form };
             pixel(words, whole, bit, at)
         };
-        word = word.wrapping_mul(2).wrapping_add(if pixel == 1 { 1 } else { 0 });
+        word = word
+            .wrapping_mul(2)
+            .wrapping_add(if pixel == 1 { 1 } else { 0 });
     }
     word
 }
@@ -276,7 +278,11 @@ fn words_are<M: Memory>(rt: &impl Abort, m: &M, o: u16, words: &[u16; 48], copy:
         assert!(rt; m.kind(object).is_words());
         assert!(rt; at < m.size(object));
         let word = words.get(at as usize).copied().unwrap_or(0);
-        assert_eq!(rt; m.word(object, at), word, "word {at} of {o} after copy {copy}");
+        assert_eq!(rt;
+            m.word(object, at),
+            word,
+            "word {at} of {o} after copy {copy}"
+        );
     }
 }
 
