@@ -1,0 +1,3 @@
+mod Opened
+mod Image
+mod InstallRows

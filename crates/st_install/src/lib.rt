@@ -1,0 +1,7 @@
+//! Definitions installed into an image: a class and the names that its methods see, whether a compiled method can be added to it,
+//! and the addition itself.
+#![tactic(auto)]
+
+mod fault;
+
+pub use fault::InstallFault;
