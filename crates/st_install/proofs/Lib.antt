@@ -1,3 +1,4 @@
 mod Opened
 mod Image
 mod InstallRows
+mod LiteralRows

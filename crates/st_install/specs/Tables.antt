@@ -21,11 +21,15 @@ bytes_of m v = do
   check dead.Kind (is_bytes o.kind)
   answer o.units
 
+unfoldable pub member_key : {H : Type 0} → ObjectMemory H → Value → Step H Value
+member_key m v = do
+  check_fields m v 2
+  fetch_field m v 0
+
 -- the name of a member
 unfoldable pub member_name : {H : Type 0} → ObjectMemory H → Value → Step H (List ℕ)
 member_name m v = do
-  check_fields m v 2
-  key ← fetch_field m v 0
+  key ← member_key m v
   bytes_of m key
 
 abbrev pub is_text : List ℕ → Option (List ℕ) → Bool
