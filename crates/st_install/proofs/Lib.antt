@@ -1,4 +1,8 @@
 mod Opened
 mod Image
 mod InstallRows
+pub mod SameTexts
+pub mod TextsAt
+pub mod FirstFields
 mod LiteralRows
+pub mod ClassesOf

@@ -1,4 +1,5 @@
 pub mod Tables
+pub mod Texts
 pub mod Classes
 pub mod Mentions
 pub mod Variables
@@ -10,3 +11,4 @@ pub mod Shapes
 pub mod Planning
 pub mod Installing
 pub mod Calls
+pub mod Meanings

@@ -9,7 +9,7 @@ use Rattle.st_model.specs.Steps.{of_page, same_value, fetch_field, fetch_fields,
 use Rattle.st_model.specs.Primitives.{check_class}
 use Rattle.st_emit.specs.Literals.{LiteralView, LiteralsView}
 use Rattle.st_emit.specs.Literals as literals
-use Rattle.st_install.specs.Tables.{bytes_of, is_text, found_or}
+use Rattle.st_install.specs.Tables.{bytes_of, is_text, first_field}
 use Rattle.st_install.specs.Plans.{Part, There, Made, NewObject, bytes_object, pointers_object, Store}
 
 -- SYMBOLS THAT ARE THERE
@@ -25,18 +25,9 @@ is_symbol m v text = do
   found ← tried (symbol_text m v)
   answer (is_text text found)
 
-unfoldable pub symbol_from : {H : Type 0} → ObjectMemory H → Value → List ℕ → ℕ → ℕ → Step H (Option Value)
-symbol_from m table text i zero = answer None
-symbol_from m table text i (suc left) = do
-  v ← fetch_field m table i
-  same ← is_symbol m v text
-  found_or same v (symbol_from m table text (suc i) left)
-
 -- the first member of this text
 unfoldable pub symbol_named : {H : Type 0} → ObjectMemory H → Value → List ℕ → Step H (Option Value)
-symbol_named m table text = do
-  n ← count_fields m table
-  symbol_from m table text 0 n
+symbol_named m table text = first_field m table (λ v. is_symbol m v text)
 
 -- SYMBOLS THAT A METHOD NEEDS
 

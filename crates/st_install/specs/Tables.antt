@@ -47,16 +47,20 @@ unfoldable pub found_or : {H : Type 0} → Bool → Value → Step H (Option Val
 found_or true v otherwise = answer (Some v)
 found_or false v otherwise = otherwise
 
--- the first of so many fields from one on that is a member of this name
-unfoldable pub member_from : {H : Type 0} → ObjectMemory H → Value → List ℕ → ℕ → ℕ → Step H (Option Value)
-member_from m table text i zero = answer None
-member_from m table text i (suc left) = do
-  v ← fetch_field m table i
-  same ← has_name m v text
-  found_or same v (member_from m table text (suc i) left)
+-- the first of so many fields from one on for which a test holds
+unfoldable pub first_from : {H : Type 0} → ObjectMemory H → Value → (Value → Step H Bool) → ℕ → ℕ → Step H (Option Value)
+first_from m o test i zero = answer None
+first_from m o test i (suc left) = do
+  v ← fetch_field m o i
+  holds ← test v
+  found_or holds v (first_from m o test (suc i) left)
+
+-- of all fields of an object of kind Pointers
+unfoldable pub first_field : {H : Type 0} → ObjectMemory H → Value → (Value → Step H Bool) → Step H (Option Value)
+first_field m o test = do
+  n ← count_fields m o
+  first_from m o test 0 n
 
 -- the first member of this name
 unfoldable pub member_named : {H : Type 0} → ObjectMemory H → Value → List ℕ → Step H (Option Value)
-member_named m table text = do
-  n ← count_fields m table
-  member_from m table text 0 n
+member_named m table text = first_field m table (λ v. has_name m v text)

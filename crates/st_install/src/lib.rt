@@ -2,6 +2,10 @@
 //! and the addition itself.
 #![tactic(auto)]
 
+mod classes;
 mod fault;
+mod reading;
+mod tables;
 
+pub use classes::class_of_name;
 pub use fault::InstallFault;
