@@ -6,3 +6,5 @@ pub mod TextsAt
 pub mod FirstFields
 mod LiteralRows
 pub mod ClassesOf
+pub mod Tallies
+pub mod SymbolsAt

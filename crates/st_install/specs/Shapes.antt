@@ -22,13 +22,17 @@ check_dictionary m class = do
   methods ← fetch_field m dictionary 1
   check_fields m methods (n - 2)
 
--- the symbol table, if the image names one, is an association, and its value of kind Pointers
-unfoldable pub check_symbols : {H : Type 0} → ObjectMemory H → Option Value → Step H Unit
-check_symbols m None = answer tt
-check_symbols m (Some association) = do
+-- an association, whose value is of kind Pointers
+unfoldable pub check_symbol_table : {H : Type 0} → ObjectMemory H → Value → Step H Unit
+check_symbol_table m association = do
   check_fields m association 2
   table ← fetch_field m association 1
   check_fields m table 0
+
+-- the symbol table, if the image names one
+unfoldable pub check_symbols : {H : Type 0} → ObjectMemory H → Option Value → Step H Unit
+check_symbols m None = answer tt
+check_symbols m (Some association) = check_symbol_table m association
 
 -- the most fields that an object has
 abbrev pub most_body : ℕ

@@ -5,6 +5,8 @@
 mod classes;
 mod fault;
 mod reading;
+mod shapes;
+mod symbols;
 mod tables;
 
 pub use classes::class_of_name;
