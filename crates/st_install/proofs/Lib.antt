@@ -8,3 +8,5 @@ mod LiteralRows
 pub mod ClassesOf
 pub mod Tallies
 pub mod SymbolsAt
+pub mod LeftTables
+mod Lineages

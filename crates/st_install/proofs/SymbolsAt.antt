@@ -47,4 +47,4 @@ module _ (v : Oop) (ts : List ℕ) (t : Table) where
   unfolding is_symbol tried symbol_text answer
   symbol-none k e s f = simp (run-then, run-next, e s f, after-died, after-went) refl
 
-pub ruleset symbols = (symbol-there)
+pub ruleset symbols = (symbol-there, symbol-none)

@@ -49,11 +49,16 @@ until_nil m class otherwise = do
   nil ← of_page m NilObject
   none_if (same_value class nil) otherwise
 
--- a class with so many fields or more, and what its superclass gives
+-- the superclass of a class with so many fields or more
+unfoldable pub superclass : {H : Type 0} → ObjectMemory H → ℕ → Value → Step H Value
+superclass m least class = do
+  check_fields m class least
+  fetch_field m class 0
+
+-- a class, and what its superclass gives
 unfoldable pub class_and : {H : Type 0} → ObjectMemory H → ℕ → Value → (Value → Step H (List Value)) → Step H (List Value)
 class_and m least class otherwise = do
-  check_fields m class least
-  above ← fetch_field m class 0
+  above ← superclass m least class
   classes ← otherwise above
   answer (class ∷ classes)
 

@@ -88,16 +88,25 @@ pools m (class ∷ classes) = do
   above ← pools m classes
   answer (own ++ above)
 
-unfoldable pub or_later : {H : Type 0} → Option (Option Value) → Step H (Option Value) → Step H (Option Value)
-or_later None otherwise = otherwise
-or_later (Some None) otherwise = otherwise
-or_later (Some (Some v)) otherwise = answer (Some v)
+abbrev pub joined : Option (Option Value) → Option Value
+joined None = None
+joined (Some found) = found
 
--- the member of this name in the first of these tables that has one; what is no table is skipped
+-- the first member of this name; what is no table has none
+unfoldable pub member_if_any : {H : Type 0} → ObjectMemory H → Value → List ℕ → Step H (Option Value)
+member_if_any m table text = do
+  found ← tried (member_named m table text)
+  answer (joined found)
+
+unfoldable pub or_later : {H : Type 0} → Option Value → Step H (Option Value) → Step H (Option Value)
+or_later None otherwise = otherwise
+or_later (Some v) otherwise = answer (Some v)
+
+-- the member of this name in the first of these tables that has one
 unfoldable pub association_in : {H : Type 0} → ObjectMemory H → List Value → List ℕ → Step H (Option Value)
 association_in m [] text = answer None
 association_in m (table ∷ tables) text = do
-  found ← tried (member_named m table text)
+  found ← member_if_any m table text
   or_later found (association_in m tables text)
 
 -- a name that is shared, by the pointer of its association

@@ -2,10 +2,12 @@
 //! and the addition itself.
 #![tactic(auto)]
 
+mod chains;
 mod classes;
 mod fault;
 mod reading;
 mod shapes;
+mod sharing;
 mod symbols;
 mod tables;
 
