@@ -1,5 +1,6 @@
 -- The first of several tables that has a member of a name.
-use Rattle.std.proofs.Common.{◌≡◌, ℕ, ◌+◌, ◌<◌, ◌≤◌, List, [], ◌∷◌, length, drop, get_or, Option, Some, None, Ok, Err, refl, sym, ap, ◌∙◌, subst}
+use Rattle.std.proofs.Common.{◌≡◌, ℕ, ◌+◌, ◌<◌, ◌≤◌, List, [], ◌∷◌, length, drop, Option, Some, None, Ok, Err, refl, sym, ap, ◌∙◌, subst}
+use Rattle.std.specs.Prelude.{slice_index_or}
 use Rattle.std.proofs.lemmas.List.{at_drop_more, drop_all}
 use Rattle.st_model.specs.declared.dead.Dead.{Dead}
 use Rattle.st_model.specs.declared.oop.Oop.{Oop}
@@ -44,17 +45,17 @@ module _ (tables : List Oop) (text : List ℕ) (t : Table) where
   unfolding association_in answer
   no_table i l h s f = h.same s f ∙ ap (λ xs. (association_in table (values xs) text).run s) (drop_all i tables l)
 
-  module _ (i : ℕ) (names : Oop) (l : i < length tables) (e : names ≡ get_or tables i names) (h : LeftTables tables text i t) where
+  module _ (i : ℕ) (d : Oop) (l : i < length tables) (h : LeftTables tables text i t) where
     turn : (s : State Table) → s.memory ≡ t → (association_in table (values tables) text).run s
-        ≡ (member_if_any table (value names) text >>= (λ x. or_later x (association_in table (values (drop (i + 1) tables)) text))).run s
+        ≡ (member_if_any table (value (slice_index_or tables i d)) text >>= (λ x. or_later x (association_in table (values (drop (i + 1) tables)) text))).run s
     unfolding association_in
-    turn s f = h.same s f ∙ (at_drop_more (λ xs. (association_in table (values xs) text).run s) tables i names l
-        ∙ ap (λ (x : Oop). (association_in table (values (x ∷ drop (i + 1) tables)) text).run s) (sym e))
+    turn s f = h.same s f ∙ at_drop_more (λ xs. (association_in table (values xs) text).run s) tables i d l
 
-    pub table_has : (a : Oop) → Reads (member_if_any table (value names) text) found t (Ok (Some a)) → Reads (association_in table (values tables) text) found t (Ok (Some a))
-    unfolding or_later answer
-    table_has a r s f = turn s f ∙ simp (run-then, r s f, after-went) refl
+    module _ (x : Option Oop) (r : Reads (member_if_any table (value (slice_index_or tables i d)) text) found t (Ok x)) where
+      pub table_has : (a : Oop) → x ≡ Some a → Reads (association_in table (values tables) text) found t (Ok (Some a))
+      unfolding or_later answer
+      table_has a q s f = turn s f ∙ simp (run-then, r s f, after-went, q) refl
 
-    pub table_passed : Reads (member_if_any table (value names) text) found t (Ok None) → LeftTables tables text (i + 1) t
-    unfolding or_later
-    table_passed r = record { same = λ s f. turn s f ∙ simp (run-then, r s f, after-went) refl }
+      pub table_passed : x ≡ None → LeftTables tables text (i + 1) t
+      unfolding or_later
+      table_passed q = record { same = λ s f. turn s f ∙ simp (run-then, r s f, after-went, q) refl }
