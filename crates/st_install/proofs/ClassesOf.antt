@@ -83,7 +83,7 @@ module _ (globals : Oop) (name : List ℕ) (t : Table) (a : Oop) (e : Reads (mem
   pub no_class : (class : Oop) (k : Dead) → Reads (fetch_field table (value a) 1) value t (Ok class) → Reads (check_fields table (value class) 9) itself t (Err k)
       → Reads (class_association table (value globals) name) value t (Err k)
   unfolding class_association or_die answer ◌>>◌
-  no_class class k r h s f = simp (run-then, e s f, after-went, r s f, h s f, after-died) refl
+  no_class class k r h s f = simp (run-then, e s f, r s f, h s f, after-died) refl
 
   pub is_class : (class : Oop) (u : Unit {0}) → Reads (fetch_field table (value a) 1) value t (Ok class) → Reads (check_fields table (value class) 9) itself t (Ok u)
       → Reads (class_association table (value globals) name) value t (Ok a)

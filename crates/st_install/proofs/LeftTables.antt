@@ -29,7 +29,7 @@ module _ (names : Oop) (text : List ℕ) (t : Table) where
 
   pub member-died : (k : Dead) → Reads (member_named table (value names) text) found t (Err k) → Reads (member_if_any table (value names) text) found t (Ok None)
   unfolding member_if_any tried answer
-  member-died k e s f = simp (run-then, e s f, after-died, after-went) refl
+  member-died k e s f = simp (run-then, e s f, after-went) refl
 
 pub ruleset members = (member-any, member-died)
 

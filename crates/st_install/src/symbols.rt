@@ -19,7 +19,11 @@ fn check_symbol_class<M: Memory>(m: &M, v: Oop) -> Result<(), Dead>
     ensures { let t = (M.view m.now).objects in
         Reads (check_class table (value v) SymbolClass) itself t result }
 {
-    if class_of(m, v)? == Oop(56) { Ok(()) } else { Err(Dead::Kind) }
+    if class_of(m, v)? == Oop(56) {
+        Ok(())
+    } else {
+        Err(Dead::Kind)
+    }
 }
 
 /// Whether it is a member of the symbol table, of this text.
