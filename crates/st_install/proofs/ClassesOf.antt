@@ -5,13 +5,12 @@ use Rattle.st_model.specs.declared.dead.Dead.{Dead}
 use Rattle.st_model.specs.declared.oop.Oop.{Oop}
 use Rattle.st_model.specs.declared.page.PageObject.TheVariants.{SmallIntegerClass}
 use Rattle.st_model.specs.Values.{Value, Small, Ref, value_of, value, is_small}
-use Rattle.st_model.specs.Objects.{Object}
-use Rattle.st_model.specs.Machine.{Head, State, Step, Went, answer, die, after, or_left, tried, ◌>>=◌, ◌>>◌}
-use Rattle.st_model.specs.Steps.{object, object_named, of_page, class_of, or_die, fetch_field}
+use Rattle.st_model.specs.Machine.{Head, State, Went, answer, tried, ◌>>=◌, ◌>>◌}
+use Rattle.st_model.specs.Steps.{object, of_page, class_of, or_die, fetch_field}
 use Rattle.st_model.specs.Table.{Table, table}
 use Rattle.st_model.specs.Calls.{Reads, itself}
-use Rattle.st_model.specs.View.{View, IsWhole, table_of, is_live, object_of}
-use Rattle.st_model.proofs.Runs.{run-then, after-went, after-died, run-answer, run-live, run-gone}
+use Rattle.st_model.specs.View.{View, IsWhole, table_of, is_live}
+use Rattle.st_model.proofs.Runs.{run-then, after-went, after-died}
 use Rattle.st_install.specs.declared.fault.InstallFault.TheVariants.{NoClass, NoGlobals}
 use Rattle.st_install.specs.Classes.{class_named, class_association}
 use Rattle.st_install.specs.Tables.{member_named, check_fields}

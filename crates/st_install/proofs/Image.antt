@@ -1,7 +1,7 @@
 -- The image of the rows: the page, a scheduler with one process, and a class Point with the instance variables x and y. The table
 -- of globals has pointer 10, the association of Point 18, Point 30, its dictionary 36 with the Array 38, the symbol table 68
 -- with the value 70.
-use Rattle.std.proofs.Common.{◌≡◌, ℕ, List, [], ◌∷◌, Some, None, Option}
+use Rattle.std.proofs.Common.{ℕ, List, [], ◌∷◌, Some, None, Option}
 use Rattle.std.specs.Prelude.{pos, replicate}
 use Rattle.st_model.specs.declared.kind.Kind.TheVariants as kind
 use Rattle.st_model.specs.Values.{Value, Small, Ref}

@@ -1,14 +1,14 @@
 -- The first of several tables that has a member of a name.
-use Rattle.std.proofs.Common.{◌≡◌, ℕ, ◌+◌, ◌<◌, ◌≤◌, List, [], ◌∷◌, length, drop, Option, Some, None, Ok, Err, refl, sym, ap, ◌∙◌, subst}
+use Rattle.std.proofs.Common.{◌≡◌, ℕ, ◌+◌, ◌<◌, ◌≤◌, List, length, drop, Option, Some, None, Ok, Err, refl, ap, ◌∙◌}
 use Rattle.std.specs.Prelude.{slice_index_or}
 use Rattle.std.proofs.lemmas.List.{at_drop_more, drop_all}
 use Rattle.st_model.specs.declared.dead.Dead.{Dead}
 use Rattle.st_model.specs.declared.oop.Oop.{Oop}
-use Rattle.st_model.specs.Values.{Value, value}
-use Rattle.st_model.specs.Machine.{State, Transition, Went, Step, answer, tried, ◌>>=◌}
+use Rattle.st_model.specs.Values.{value}
+use Rattle.st_model.specs.Machine.{State, answer, tried, ◌>>=◌}
 use Rattle.st_model.specs.Table.{Table, table}
 use Rattle.st_model.specs.Calls.{Reads}
-use Rattle.st_model.proofs.Runs.{run-then, after-went, after-died, run-answer}
+use Rattle.st_model.proofs.Runs.{run-then, after-went}
 use Rattle.st_install.specs.Tables.{member_named}
 use Rattle.st_install.specs.Variables.{member_if_any, or_later, association_in}
 use Rattle.st_install.specs.Meanings.{values}

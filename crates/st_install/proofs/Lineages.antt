@@ -1,5 +1,5 @@
 -- Superclass chains, class after class.
-use Rattle.std.proofs.Common.{◌≡◌, ◌≢◌, ℕ, ◌+◌, ◌-◌, ◌<◌, zero, suc, List, [], ◌∷◌, ◌++◌, map, Bool, true, false, Ok, Err, refl, sym, ap, ◌∙◌, subst, arith}
+use Rattle.std.proofs.Common.{◌≡◌, ◌≢◌, ℕ, ◌-◌, zero, suc, List, [], ◌∷◌, ◌++◌, Bool, true, false, Ok, Err, refl, sym, ap, ◌∙◌, subst, arith}
 use Rattle.std.specs.Prelude.{◌==◌, ◌/◌, ◌%◌, if◌then◌else◌}
 use Rattle.std.proofs.lemmas.Bool.Decides.{nat_tests}
 use Rattle.std.proofs.lemmas.List.{append_assoc, append-nil, map-append}
@@ -11,7 +11,7 @@ use Rattle.st_model.specs.Machine.{State, Transition, Went, Died, Step, after, a
 use Rattle.st_model.specs.Steps.{of_page, same_value}
 use Rattle.st_model.specs.Table.{Table, table}
 use Rattle.st_model.specs.Calls.{Reads}
-use Rattle.st_model.proofs.Runs.{run-then, after-went, after-died, run-answer}
+use Rattle.st_model.proofs.Runs.{run-then, after-went, after-died}
 use Rattle.st_install.specs.Classes.{superclass, class_and, none_if, until_nil, chain_within, chain}
 use Rattle.st_install.specs.Meanings.{values}
 

@@ -1,8 +1,8 @@
 -- Worked rows of literals, of Symbols whose table grows, of the class side and of a dictionary in which a method is replaced,
 -- computed from the definitions.
-use Rattle.std.proofs.Common.{◌≡◌, ℕ, List, [], ◌∷◌, Some, None, Option, Ok, Err, true, false, refl}
+use Rattle.std.proofs.Common.{◌≡◌, ℕ, List, [], ◌∷◌, None, Option, Ok, Err, true, false, refl}
 use Rattle.std.specs.Prelude.{codes, replicate}
-use Rattle.st_model.specs.Values.{Value, Small, Ref}
+use Rattle.st_model.specs.Values.{Small, Ref}
 use Rattle.st_model.specs.Objects.{Object, nil}
 use Rattle.st_model.specs.Machine.{State, Transition, Went, Died}
 use Rattle.st_model.specs.Table.{Table, table, entry}

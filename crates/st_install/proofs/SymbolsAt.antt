@@ -1,21 +1,19 @@
 -- Instances of Symbol by their texts.
-use Rattle.std.proofs.Common.{◌≡◌, ◌≢◌, ℕ, List, Bool, true, false, Option, Some, None, Ok, Err, refl, sym, ap, ◌∙◌, arith}
+use Rattle.std.proofs.Common.{◌≡◌, ◌≢◌, ℕ, List, Bool, true, false, Ok, Err, refl, ap, arith}
 use Rattle.std.specs.Prelude.{◌==◌, ◌/◌, ◌%◌, if◌then◌else◌}
 use Rattle.std.proofs.lemmas.Bool.Decides.{nat_tests}
-use Rattle.std.proofs.lemmas.Grind.{common_steps}
 use Rattle.st_model.specs.declared.dead.Dead.{Dead}
-use Rattle.st_model.specs.declared.dead.Dead.TheVariants as dead
 use Rattle.st_model.specs.declared.oop.Oop.{Oop}
 use Rattle.st_model.specs.declared.page.PageObject.TheVariants.{SymbolClass}
-use Rattle.st_model.specs.Values.{Value, Small, Ref, value_of, value}
+use Rattle.st_model.specs.Values.{Small, Ref, value_of, value}
 use Rattle.st_model.specs.Objects.{place_of}
-use Rattle.st_model.specs.Machine.{State, Step, Went, Died, answer, or_left, tried, ◌>>=◌, ◌>>◌}
-use Rattle.st_model.specs.Steps.{class_of, same_value, of_page, check}
+use Rattle.st_model.specs.Machine.{answer, tried}
+use Rattle.st_model.specs.Steps.{same_value}
 use Rattle.st_model.specs.Primitives.{check_class}
 use Rattle.st_model.specs.Table.{Table, table}
 use Rattle.st_model.specs.Calls.{Reads, itself}
-use Rattle.st_model.proofs.Runs.{run-then, run-next, after-went, after-died, run-answer}
-use Rattle.st_install.specs.Tables.{bytes_of, is_text}
+use Rattle.st_model.proofs.Runs.{run-then, run-next, after-went, after-died}
+use Rattle.st_install.specs.Tables.{is_text}
 use Rattle.st_install.specs.Symbols.{symbol_text, is_symbol}
 use Rattle.st_install.specs.Texts.{text_at}
 use Rattle.st_install.proofs.TextsAt.{tried_bytes}

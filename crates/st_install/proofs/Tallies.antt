@@ -1,10 +1,10 @@
 -- Tallies, and the symbol table that a head names.
-use Rattle.std.proofs.Common.{◌≡◌, ℕ, Bool, true, false, Option, Some, None, Ok, Result, refl, sym, ◌∙◌}
+use Rattle.std.proofs.Common.{◌≡◌, ℕ, Bool, true, false, Option, Some, None, Ok, Result, refl, sym}
 use Rattle.std.specs.Prelude.{◌==◌, if◌then◌else◌}
 use Rattle.st_model.specs.declared.dead.Dead.{Dead}
 use Rattle.st_model.specs.declared.dead.Dead.TheVariants as dead
 use Rattle.st_model.specs.Values.{Value, Small, Ref, value_of, is_small}
-use Rattle.st_model.specs.Machine.{State, Transition, Went, Died, Step, answer, die, ◌>>=◌}
+use Rattle.st_model.specs.Machine.{State, Went, Died, Step, answer, die, ◌>>=◌}
 use Rattle.st_model.specs.Primitives.{bits_or_die}
 use Rattle.st_model.specs.Table.{Table, table}
 use Rattle.st_model.specs.Calls.{Reads, itself}

@@ -1,5 +1,5 @@
 -- What a text is compared with: the bytes of an object, or none.
-use Rattle.std.proofs.Common.{◌≡◌, ◌≢◌, ℕ, List, Bool, true, false, Option, Some, None, refl, sym, ap, ◌∙◌}
+use Rattle.std.proofs.Common.{◌≡◌, ◌≢◌, ℕ, List, Bool, true, false, Option, Some, None, refl, sym}
 use Rattle.std.specs.Prelude.{◌&&◌, if◌then◌else◌, is_some, unwrap_or, bytes_eq, Ok, Err}
 use Rattle.std.proofs.lemmas.Slice.Eq.{bytes_eq-Decides}
 use Rattle.std.proofs.lemmas.Bool.Decides.{same_from_decides}
@@ -8,12 +8,12 @@ use Rattle.st_model.specs.declared.dead.Dead.TheVariants as dead
 use Rattle.st_model.specs.declared.oop.Oop.{Oop}
 use Rattle.st_model.specs.Values.{Value, Small, Ref, value}
 use Rattle.st_model.specs.Objects.{Object, is_bytes}
-use Rattle.st_model.specs.Machine.{State, Step, Went, Died, answer, die, after, or_left, tried, ◌>>=◌, ◌>>◌}
+use Rattle.st_model.specs.Machine.{State, Went, answer, die, after, or_left, tried, ◌>>=◌, ◌>>◌}
 use Rattle.st_model.specs.Steps.{object, object_named, found, check}
 use Rattle.st_model.specs.Table.{Table, table, entry}
 use Rattle.st_model.specs.Calls.{Reads, itself}
 use Rattle.st_model.specs.View.{is_live, object_of, nothing}
-use Rattle.st_model.proofs.Runs.{run-then, after-went, after-died, run-answer}
+use Rattle.st_model.proofs.Runs.{run-then, after-went, after-died}
 use Rattle.st_install.specs.Tables.{bytes_of, is_text, member_key, member_name, has_name}
 use Rattle.st_install.specs.Texts.{text_at}
 

@@ -1,17 +1,17 @@
 -- The calls of this crate, each with its refusals in their order: what a definition's class is, what names its methods see, and
 -- whether there is room for a method.
-use Rattle.std.specs.Prelude.{ℕ, ◌+◌, ◌∷◌, [], ◌++◌, List, Option, Some, None, is_some, Result, Ok, Err, Bool, true, false, if◌then◌else◌}
+use Rattle.std.specs.Prelude.{ℕ, ◌+◌, ◌∷◌, [], ◌++◌, List, Option, Some, None, is_some, Result, Ok, Err, Bool, true, false}
 use Rattle.st_model.specs.declared.dead.Dead.TheVariants as dead
 use Rattle.st_model.specs.declared.demand.Demand.{Demand}
 use Rattle.st_model.specs.Values.{Value}
-use Rattle.st_model.specs.Machine.{ObjectMemory, Head, Step, Went, answer, die, tried, used, is_over, ◌>>=◌, ◌>>◌}
+use Rattle.st_model.specs.Machine.{ObjectMemory, Head, Step, Went, answer, tried, used, is_over, ◌>>=◌, ◌>>◌}
 use Rattle.st_model.specs.Steps.{or_die}
 use Rattle.st_tree.specs.Views.{MethodView}
 use Rattle.st_emit.specs.Names.{NamesView}
 use Rattle.st_code.specs.Methods.{PartsView}
 use Rattle.st_install.specs.declared.fault.InstallFault.{InstallFault}
 use Rattle.st_install.specs.declared.fault.InstallFault.TheVariants.{NoClass, NoGlobals, NoRoom, Shape}
-use Rattle.st_install.specs.Classes.{Lineage, class_named, class_association, lineage}
+use Rattle.st_install.specs.Classes.{class_named, class_association, lineage}
 use Rattle.st_install.specs.Mentions.{mentioned_in}
 use Rattle.st_install.specs.Variables.{field_names, pools, shared_names}
 use Rattle.st_install.specs.Shapes.{check_dictionary, check_symbols}

@@ -1,6 +1,6 @@
 -- Method dictionaries (chapter 27): where the search for a selector ends, and how a dictionary grows. Field 0 of a dictionary is
 -- its tally, field 1 its Array of methods, and from field 2 on stand the places for selectors.
-use Rattle.std.specs.Prelude.{ℕ, zero, suc, ◌+◌, ◌-◌, ◌*◌, ◌%◌, ◌==◌, List, [], ◌∷◌, replicate, Option, Some, None, Bool, true, false, nat_le, bit_and, if◌then◌else◌}
+use Rattle.std.specs.Prelude.{ℕ, zero, suc, ◌+◌, ◌-◌, ◌*◌, ◌%◌, ◌==◌, List, [], ◌∷◌, replicate, Bool, true, false, nat_le, bit_and, if◌then◌else◌}
 use Rattle.st_model.specs.declared.dead.Dead.TheVariants as dead
 use Rattle.st_model.specs.Values.{Value, Small, Ref}
 use Rattle.st_model.specs.declared.page.PageObject.TheVariants.{NilObject, ArrayClass}

@@ -1,5 +1,5 @@
 -- The literals of a method, and the objects that are made for them: each in its turn, an array before its elements.
-use Rattle.std.specs.Prelude.{ℕ, zero, suc, ◌+◌, ◌/◌, List, [], ◌∷◌, ◌++◌, length, Option, Some, None, Bool, true, false, nat_lt, negsuc, if◌then◌else◌}
+use Rattle.std.specs.Prelude.{ℕ, zero, suc, ◌+◌, ◌/◌, List, [], ◌∷◌, ◌++◌, length, Bool, true, false, nat_lt, negsuc}
 use Rattle.st_model.specs.declared.dead.Dead.TheVariants as dead
 use Rattle.st_model.specs.Values.{Value, Small, small_integer}
 use Rattle.st_model.specs.declared.page.PageObject.TheVariants.{NilObject, StringClass, ArrayClass, LargeClass, Characters}

@@ -1,6 +1,6 @@
 -- Symbols (chapter 10: no two of them have the same characters). The symbol table is an association. Its value is an object of
 -- kind Pointers, and the members are the fields of that which are of kind Bytes and of class Symbol.
-use Rattle.std.specs.Prelude.{ℕ, zero, suc, ◌+◌, ◌-◌, ◌*◌, List, [], ◌∷◌, ◌++◌, map, max, length, replicate, slice_set, find, option_map, Option, Some, None, Bool, false, nat_lt, bytes_eq, if◌then◌else◌}
+use Rattle.std.specs.Prelude.{ℕ, ◌+◌, ◌-◌, ◌*◌, List, [], ◌∷◌, ◌++◌, map, max, length, replicate, slice_set, find, option_map, Option, Some, None, Bool, false, nat_lt, bytes_eq, if◌then◌else◌}
 use Rattle.std.specs.List.{position_or_len}
 use Rattle.st_model.specs.Values.{Value}
 use Rattle.st_model.specs.declared.page.PageObject.TheVariants.{NilObject, ArrayClass, SymbolClass}

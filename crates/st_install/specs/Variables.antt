@@ -1,9 +1,9 @@
 -- The variables that a method of a class sees besides its own (chapters 3 and 4): instance variables, and those that pools
 -- and the table of globals share.
-use Rattle.std.specs.Prelude.{ℕ, zero, suc, ◌*◌, List, [], ◌∷◌, ◌++◌, Option, Some, None, Bool, true, false}
+use Rattle.std.specs.Prelude.{ℕ, ◌*◌, List, [], ◌∷◌, ◌++◌, Option, Some, None, Bool, true, false}
 use Rattle.st_model.specs.Values.{Value}
 use Rattle.st_model.specs.declared.page.PageObject.TheVariants.{NilObject}
-use Rattle.st_model.specs.Machine.{ObjectMemory, Step, answer, tried, ◌>>=◌, ◌>>◌}
+use Rattle.st_model.specs.Machine.{ObjectMemory, Step, answer, tried, ◌>>=◌}
 use Rattle.st_model.specs.Steps.{of_page, same_value, fetch_field, fetch_fields, count_fields}
 use Rattle.st_model.specs.Lookup.{half_word}
 use Rattle.st_emit.specs.Names.{SharedName}

@@ -1,4 +1,4 @@
-use Rattle.std.proofs.Common.{◌≡◌, ◌<◌, ◌≤◌, length, refl, arith}
+use Rattle.std.proofs.Common.{◌<◌, ◌≤◌, length, refl, arith}
 use Rattle.st_model.specs.Values.{value}
 use Rattle.st_install.proofs.SameTexts.{next_same, differs, all_same, other_size}
 use Rattle.st_install.proofs.reading.has_bytes.Goals as goal
