@@ -1,0 +1,12 @@
+mod Opened
+mod Image
+mod InstallRows
+pub mod SameTexts
+pub mod TextsAt
+pub mod FirstFields
+mod LiteralRows
+pub mod ClassesOf
+pub mod Tallies
+pub mod SymbolsAt
+pub mod LeftTables
+mod Lineages

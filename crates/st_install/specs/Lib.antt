@@ -1,0 +1,14 @@
+pub mod Tables
+pub mod Texts
+pub mod Classes
+pub mod Mentions
+pub mod Variables
+pub mod Plans
+pub mod Symbols
+pub mod Literals
+pub mod Dictionaries
+pub mod Shapes
+pub mod Planning
+pub mod Installing
+pub mod Calls
+pub mod Meanings
