@@ -1,6 +1,6 @@
--- Bytecodes that make no object are done at once, without being foreseen; and so are sends that activate a method, where there
--- is room for its context. Each answers whether it was such a one. Where it wasn't, what it leaves is of no use: the bytecode is
--- to be foreseen.
+-- Bytecodes that are done at once, without being foreseen: most of those that make no object; and sends by 208 to 255 that activate
+-- a method, where there is room for its context. Each answers whether it was such a one. Where it wasn't, what it leaves is of no
+-- use: the bytecode is to be foreseen.
 use Rattle.std.specs.Prelude.{◌≡◌, ℕ, ◌+◌, ◌*◌, ◌-◌, ◌==◌, Bool, true, false, Option, Some, None, Result, Ok, Err, if◌then◌else◌, pos}
 use Rattle.st_model.specs.declared.dead.Dead.{Dead}
 use Rattle.st_model.specs.declared.bytecode.Constant.{Constant}
@@ -148,7 +148,7 @@ bytecode_at_once m (code.SpecialSend k) = answer false
 bytecode_at_once m (code.PrimitiveSend k) = primitive_at_once m k
 bytecode_at_once m (code.LiteralSend i n) = literal_send_at_once m i n
 
--- the next bytecode, where it makes nothing
+-- the next bytecode, where it is done at once
 unfoldable pub step_at_once : {H : Type 0} → ObjectMemory H → Step H Bool
 step_at_once m = do
   b ← next_byte m

@@ -55,7 +55,7 @@ fn hold_again<M: Memory>(m: &mut M, f: &Frame, r: &Registers) -> Frame
     }
 }
 
-/// Does the next bytecode at once, where it makes no object, or answers that it is to be foreseen, and then nothing is changed.
+/// Does the next bytecode at once, or answers that it is to be foreseen, and then nothing is changed.
 /// What a machine that dies leaves isn't said.
 pub fn step_at_once<M: Memory>(m: &mut M, f: &mut Frame, w: &World) -> Result<bool, Dead>
     requires ready { IsReady (M.view m.old) f.old w.now }
