@@ -7,7 +7,7 @@ use Rattle.st_model.specs.Machine.{Went, used}
 use Rattle.st_model.specs.Settled.{reclaim}
 use Rattle.st_model.specs.Table.{Table, table}
 use Rattle.st_tree.specs.Views.{MethodView, variable, statement, no_statements}
-use Rattle.st_code.specs.Methods.{PartsView}
+use Rattle.st_code.specs.Methods.{PartsView, code}
 use Rattle.st_emit.specs.Names.{NamesView}
 use Rattle.st_install.specs.declared.fault.InstallFault.TheVariants.{NoClass, NoGlobals, NoRoom, Shape}
 use Rattle.st_install.specs.Plans.{Plan, There, Made, bytes_object, method_object, pointers_object}
@@ -74,8 +74,14 @@ no_tally = refl
 abbrev x_parts : PartsView
 x_parts = record { selector = codes "x"; header = 49153; literals = []; bytes = 0 ∷ 124 ∷ [] }
 
+x_coded : code (returning (codes "x") (codes "x")) names_of_point ≡ Ok x_parts
+x_coded = refl
+
 abbrev y_parts : PartsView
 y_parts = record { selector = codes "y"; header = 49409; literals = []; bytes = 1 ∷ 124 ∷ [] }
+
+y_coded : code (returning (codes "y") (codes "y")) names_of_point ≡ Ok y_parts
+y_coded = refl
 
 abbrev x_plan : Plan
 x_plan = record {

@@ -2,10 +2,10 @@
 
 use st_model::Demand;
 
-/// Why a definition isn't installed; nothing has changed then.
+/// Why a definition isn't installed; nothing has changed then. `class_of_name` answers `NoClass` and `NoGlobals` alone.
 #[derive(Clone, Copy, Debug, PartialEq, Eq)]
 pub enum InstallFault {
-    /// No global of the class's name has a class as its value.
+    /// There is no global of the class's name, or the value of the first one is no class.
     NoClass,
     /// The image names no table of globals.
     NoGlobals,

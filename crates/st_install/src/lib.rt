@@ -1,5 +1,6 @@
-//! Definitions installed into an image: a class and the names that its methods see, whether a compiled method can be added to it,
-//! and the addition itself.
+//! What the installation of a definition reads of an image. Its one call so far is `class_of_name`. The chains, shared variables,
+//! Symbols and shapes here are for the calls to come: the names that a method sees, whether it can be installed, and its
+//! installation. These three are defined, in `names` and `ready` of `specs/Calls.antt` and in `specs/Installing.antt`.
 #![tactic(auto)]
 
 mod chains;
