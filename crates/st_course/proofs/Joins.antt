@@ -76,6 +76,13 @@ module _ {D : Type 0} (host : Ghosts D) {C : Type 0} where
     pub obeys_as : (c d : Course C X) (result : Result Unit Status) (old new : D) → c ≡ d → Obeys host at c result old new → Obeys host at d result old new
     obeys_as c d result old new e h = subst (λ x. Obeys host at x result old new) e h
 
+    -- where more is known of where it leads
+    pub obeys_at : (from : X → Type 0) (c : Course C X) (result : Result Unit Status) (old new : D) → ((x : X) → from x → at x) → Obeys host from c result old new → Obeys host at c result old new
+    obeys_at from (Goes ds x) (Ok u) old new f h = (f x h.0, h.1)
+    obeys_at from (Goes ds x) (Err status) old new f h = h
+    obeys_at from (Ends ds end) (Ok u) old new f h = h
+    obeys_at from (Ends ds end) (Err status) old new f h = h
+
     -- these deeds, and then a course
     pub obeys_behind : (ds : List (Deed C)) (c : Course C X) (result : Result Unit Status) (old mid new : D) → Did host ds old mid → Obeys host at c result mid new → Obeys host at (preceded ds c) result old new
     obeys_behind ds (Goes es x) (Ok u) old mid new first h = (h.0, did_both ds es first h.1)
