@@ -9,13 +9,14 @@ ghost use Rattle.st_tree.specs.Chains.{link_view, links_view, IsStart};
 ghost use Rattle.st_code.specs.Faults.{read_fault, store_fault, declare_fault, content_fault, elements_fault};
 ghost use Rattle.st_code.specs.Faults.{expression_fault, expressions_fault, messages_fault, statements_fault};
 ghost use Rattle.st_emit.specs.NameViews.{scope_view};
-ghost use Rattle.st_code.specs.ChainFaults.{target_fault, targets_fault, among_fault, all_sent_fault};
+ghost use Rattle.st_code.specs.ChainFaults.{target_fault, targets_fault, all_sent_fault};
 ghost use Rattle.st_code.specs.Reported.{Reports};
-ghost use Rattle.st_code.specs.Arounds.{looked_up, walked, block_around, chained};
+ghost use Rattle.st_code.specs.Arounds.{looked_up, walked, once_fault, block_around, chained};
 
 use crate::fault::{Cause, CodeFault, Fault};
 use st_emit::{
-    Around, Frame, Variable, constant_named, inner_scope, is_among, is_declared, variable_named,
+    Around, Frame, Variable, constant_named, inner_scope, is_among, is_declared, places_of,
+    variable_named,
 };
 use st_tree::{Content, Element, Expression, Link, Message, Name, Signed, Statement};
 use std::alloc::Global;
@@ -73,9 +74,9 @@ fn stored(around: Around<'_>, n: &Name) -> Result<(), CodeFault>
     }
 }
 
-/// A name that is declared may not be in scope already, nor among those before it.
-fn once(scope: &[Frame<'_>], before: &[Name], n: &Name) -> Result<(), CodeFault>
-    ensures { Reports (among_fault (scope_view scope.now) (list_view before.now) (name_view n.now)) result }
+/// A name that is declared may not be in scope already, nor among the first ones of its frame.
+fn once(scope: &[Frame<'_>], frame: Frame<'_>, before: usize, n: &Name) -> Result<(), CodeFault>
+    ensures { Reports (once_fault scope.now frame.entry before n.now) result }
 {
     if is_declared(scope, &n.text) {
         return Err(Fault {
@@ -84,7 +85,7 @@ fn once(scope: &[Frame<'_>], before: &[Name], n: &Name) -> Result<(), CodeFault>
         }
         .into());
     }
-    if is_among(before, &n.text) {
+    if is_among(frame, before, &n.text) {
         return Err(Fault {
             place: n.place,
             cause: Cause::Twice,
@@ -95,11 +96,12 @@ fn once(scope: &[Frame<'_>], before: &[Name], n: &Name) -> Result<(), CodeFault>
 }
 
 /// Names that are declared one after the other: none may be in scope already.
-pub fn declare(scope: &[Frame<'_>], names: &[Name]) -> Result<(), CodeFault>
-    ensures { Reports (declare_fault 0 (list_view names.now) (scope_view scope.now)) result }
+pub fn declare(scope: &[Frame<'_>], frame: Frame<'_>) -> Result<(), CodeFault>
+    ensures { Reports (declare_fault 0 (list_view frame.entry.names.now) (scope_view scope.now)) result }
 {
+    let names = frame.names;
     for (i, n) in names.iter().enumerate() {
-        once(scope, &names[..i], n)?;
+        once(scope, frame, i, n)?;
     }
     Ok(())
 }
@@ -218,8 +220,15 @@ fn block(
 ) -> Result<(), CodeFault>
     ensures { Reports (block_around around.entry arguments.now body.now) result }
 {
-    declare(around.scope, arguments)?;
-    let scope = inner_scope(alloc, around.scope, arguments, 0)?;
+    let places = places_of(alloc, arguments)?;
+    let frame = Frame {
+        names: arguments,
+        places: &places,
+        first: 0,
+        assignable: false,
+    };
+    declare(around.scope, frame)?;
+    let scope = inner_scope(alloc, around.scope, frame)?;
     let inner = Around {
         names: around.names,
         scope: &scope,

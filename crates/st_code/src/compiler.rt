@@ -49,12 +49,12 @@ fn put_last(draft: &mut Draft, t: &MethodTree, flag: u16) -> Result<(), AllocErr
     ensures level { draft.new.level ≡ draft.old.level }
 {
     if flag == 7 {
-        draft.literals.push(extension(t))?;
-        draft.literals.push(Literal::Owner)?;
+        draft.literals.put(extension(t))?;
+        draft.literals.put(Literal::Owner)?;
         return Ok(());
     }
     if sends_super(&draft.steps) {
-        draft.literals.push(Literal::Owner)?;
+        draft.literals.put(Literal::Owner)?;
     }
     Ok(())
 }
@@ -109,7 +109,7 @@ pub fn compile(alloc: Global, t: &MethodTree, names: &Names) -> Result<MethodPar
     Ok(MethodParts {
         selector,
         header,
-        literals: made.draft.literals,
+        literals: made.draft.literals.into_list(),
         bytes,
     })
 }

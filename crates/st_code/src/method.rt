@@ -1,16 +1,15 @@
 //! Methods: their names, and their code as it is made.
 
-ghost use Rattle.std.specs.Prelude.{◌≡◌, IfOk};
-ghost use Rattle.st_tree.specs.Views.{method_view};
-ghost use Rattle.st_emit.specs.NameViews.{names_view, scope_view};
-ghost use Rattle.st_code.specs.Faults.{method_fault};
-ghost use Rattle.st_code.specs.Methods.{scope_from};
+ghost use Rattle.std.specs.Prelude.{◌≡◌, ◌++◌, IfOk};
+ghost use Rattle.st_tree.specs.Views.{method_view, names_view as list_view};
+ghost use Rattle.st_emit.specs.NameViews.{names_view, frame_view, scope_view};
+ghost use Rattle.st_code.specs.Faults.{declare_fault, method_fault};
 ghost use Rattle.st_code.specs.MethodDrafts.{IsBody};
 ghost use Rattle.st_code.specs.Reported.{Reports};
 
 use crate::checking::{declare, statements};
 use crate::fault::CodeFault;
-use st_emit::{Around, Draft, Frame, Names, inner_scope, method_body, sum};
+use st_emit::{Around, Draft, Frame, Names, inner_scope, method_body, places_of, sum};
 use st_tree::MethodTree;
 use std::alloc::{AllocError, Global};
 
@@ -21,32 +20,52 @@ pub struct MethodDraft {
     pub variables: usize,
 }
 
-/// What a method declares, its temporaries numbered from `first` on.
-fn scope_of<'t>(
+/// A scope of the arguments and the temporaries of a method.
+fn scope_of<'f>(
     alloc: Global,
-    t: &'t MethodTree,
-    first: usize,
-) -> Result<Vec<Frame<'t>>, AllocError>
-    ensures { IfOk result (λ s. scope_view s.items ≡ scope_from first (method_view t.now)) }
+    arguments: Frame<'f>,
+    temporaries: Frame<'f>,
+) -> Result<Vec<Frame<'f>>, AllocError>
+    ensures { IfOk result (λ s. scope_view s.items ≡ frame_view arguments.entry ++ frame_view temporaries.entry) }
 {
-    let mut scope = inner_scope(alloc, &[], &t.arguments, 0)?;
-    scope.push(Frame {
-        names: &t.temporaries,
-        first,
-        assignable: true,
-    })?;
-    Ok(scope)
+    let outer = inner_scope(alloc, &[], arguments)?;
+    inner_scope(alloc, &outer, temporaries)
+}
+
+/// The temporaries of a method, which are declared behind its arguments.
+fn declare_behind<'f>(
+    alloc: Global,
+    arguments: Frame<'f>,
+    temporaries: Frame<'f>,
+) -> Result<(), CodeFault>
+    ensures { Reports (declare_fault 0 (list_view temporaries.entry.names.now) (frame_view arguments.entry)) result }
+{
+    let outer = inner_scope(alloc, &[], arguments)?;
+    declare(&outer, temporaries)
 }
 
 /// The names and numbers of a method: its arguments, its temporaries, its statements.
 #[tactic(auto, using(crate::proofs::Reporting::reporting))]
-pub fn names_fault(alloc: Global, t: &MethodTree, names: &Names) -> Result<(), CodeFault>
+pub fn names_fault<'t>(alloc: Global, t: &'t MethodTree, names: &'t Names) -> Result<(), CodeFault>
     ensures { Reports (method_fault (names_view names.now) (method_view t.now)) result }
 {
-    declare(&[], &t.arguments)?;
-    let arguments = inner_scope(alloc, &[], &t.arguments, 0)?;
-    declare(&arguments, &t.temporaries)?;
-    let scope = scope_of(alloc, t, 0)?;
+    let argument_places = places_of(alloc, &t.arguments)?;
+    let arguments = Frame {
+        names: &t.arguments,
+        places: &argument_places,
+        first: 0,
+        assignable: false,
+    };
+    declare(&[], arguments)?;
+    let temporary_places = places_of(alloc, &t.temporaries)?;
+    let temporaries = Frame {
+        names: &t.temporaries,
+        places: &temporary_places,
+        first: 0,
+        assignable: true,
+    };
+    declare_behind(alloc, arguments, temporaries)?;
+    let scope = scope_of(alloc, arguments, temporaries)?;
     let around = Around {
         names,
         scope: &scope,
@@ -56,11 +75,29 @@ pub fn names_fault(alloc: Global, t: &MethodTree, names: &Names) -> Result<(), C
 }
 
 /// The code of a method's body.
-pub fn drafted(alloc: Global, t: &MethodTree, names: &Names) -> Result<MethodDraft, AllocError>
+pub fn drafted<'t>(
+    alloc: Global,
+    t: &'t MethodTree,
+    names: &'t Names,
+) -> Result<MethodDraft, AllocError>
     ensures { IfOk result (IsBody (method_view t.now) (names_view names.now)) }
 {
     let first = t.arguments.len();
-    let scope = scope_of(alloc, t, first)?;
+    let argument_places = places_of(alloc, &t.arguments)?;
+    let arguments = Frame {
+        names: &t.arguments,
+        places: &argument_places,
+        first: 0,
+        assignable: false,
+    };
+    let temporary_places = places_of(alloc, &t.temporaries)?;
+    let temporaries = Frame {
+        names: &t.temporaries,
+        places: &temporary_places,
+        first,
+        assignable: true,
+    };
+    let scope = scope_of(alloc, arguments, temporaries)?;
     let around = Around {
         names,
         scope: &scope,

@@ -6,7 +6,7 @@ use Rattle.st_model.specs.declared.dead.Dead.TheVariants as dead
 use Rattle.st_model.specs.declared.kind.Kind.TheVariants as kind
 use Rattle.st_model.specs.Values.{Value, Small, Ref}
 use Rattle.st_model.specs.Objects.{Object, nil}
-use Rattle.st_model.specs.Outcomes.{StepEnd, Did}
+use Rattle.st_model.specs.Outcomes.{Outcome}
 use Rattle.st_model.specs.Outcomes as outcome
 use Rattle.st_model.specs.Machine.{State, Transition, Died, Went, empty_world}
 use Rattle.st_model.specs.Table.{Table, table}
@@ -56,24 +56,24 @@ unfolding block pointers
 one_argument = block nil nil nil 1 (nil ∷ [])
 
 -- the code is done with this stack
-doing : ℕ → List Value → Transition (State Table) StepEnd
+doing : ℕ → List Value → Transition (State Table) Outcome
 unfolding state objects context pointers method no_arguments one_argument block
 doing code stack = (step table).run (state (Ref 29) (pos 2) (5 + length stack) (objects code None (context 0 0 stack) no_arguments one_argument))
 
 -- 200 makes a block of the context, which takes one argument: its first bytecode is 3 bytes behind the next one
 made : doing 200 (Ref 29 ∷ Small 1 ∷ [])
-    ≡ Went (Did outcome.Went) (state (Ref 29) (pos 3) 6 (objects 200 (pointers 12 (nil ∷ Small 6 ∷ Small 0 ∷ Small 1 ∷ Small 6 ∷ Ref 29 ∷ nil ∷ nil ∷ [])) (context 0 0 (Ref 5 ∷ Small 1 ∷ [])) no_arguments one_argument))
+    ≡ Went outcome.Went (state (Ref 29) (pos 3) 6 (objects 200 (pointers 12 (nil ∷ Small 6 ∷ Small 0 ∷ Small 1 ∷ Small 6 ∷ Ref 29 ∷ nil ∷ nil ∷ [])) (context 0 0 (Ref 5 ∷ Small 1 ∷ [])) no_arguments one_argument))
 unfolding opened doing state objects context pointers method no_arguments one_argument block
 made = refl
 
 -- 201 goes on in a block without arguments, and 202 in one with an argument; the context is left behind its bytecode
 valued : doing 201 (Ref 31 ∷ [])
-    ≡ Went (Did outcome.Went) (state (Ref 31) (pos 2) 5 (objects 201 None (context 4 0 (Ref 31 ∷ [])) (block (Ref 29) (Small 3) (Small 0) 0 []) one_argument))
+    ≡ Went outcome.Went (state (Ref 31) (pos 2) 5 (objects 201 None (context 4 0 (Ref 31 ∷ [])) (block (Ref 29) (Small 3) (Small 0) 0 []) one_argument))
 unfolding opened doing state objects context pointers method no_arguments one_argument block
 valued = refl
 
 valued_with_one : doing 202 (Ref 32 ∷ Small 7 ∷ [])
-    ≡ Went (Did outcome.Went) (state (Ref 32) (pos 2) 6 (objects 202 None (context 4 0 (Ref 32 ∷ Small 7 ∷ [])) no_arguments (block (Ref 29) (Small 3) (Small 1) 1 (Small 7 ∷ []))))
+    ≡ Went outcome.Went (state (Ref 32) (pos 2) 6 (objects 202 None (context 4 0 (Ref 32 ∷ Small 7 ∷ [])) no_arguments (block (Ref 29) (Small 3) (Small 1) 1 (Small 7 ∷ []))))
 unfolding opened doing state objects context pointers method no_arguments one_argument block
 valued_with_one = refl
 

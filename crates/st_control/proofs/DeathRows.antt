@@ -83,7 +83,7 @@ unfolding image
 sent header class = state 12 10 nil (pos 4) 6 (objects 26 header nil (Small 1 ∷ Ref 26 ∷ []) (208 ∷ []) (record { class = class; active = context nil (Small 5) 1 (Small 5 ∷ []); other = plain []; new = None }))
 
 -- 12 temporary variables have places in a context of 18 fields: 1536 is 12 * 128
-twelve_temporaries : (step table).run (sent 1536 contexts) ≡ Went (outcome.Did outcome.Went) (state 14 9 (Small 5) (pos 2) 17 (objects 26 1536 nil (Small 1 ∷ Ref 26 ∷ []) (208 ∷ []) (record { class = contexts; active = context nil (Small 6) 0 (Small 5 ∷ []); other = plain []; new = activation 12 (Small 5) (replicate 12 nil) })))
+twelve_temporaries : (step table).run (sent 1536 contexts) ≡ Went outcome.Went (state 14 9 (Small 5) (pos 2) 17 (objects 26 1536 nil (Small 1 ∷ Ref 26 ∷ []) (208 ∷ []) (record { class = contexts; active = context nil (Small 6) 0 (Small 5 ∷ []); other = plain []; new = activation 12 (Small 5) (replicate 12 nil) })))
 unfolding opened image sent
 twelve_temporaries = refl
 
@@ -109,12 +109,12 @@ refused : Value → State Table
 unfolding image
 refused sender = state 14 9 (Ref 12) (pos 2) 6 (objects 22 4224 nil (Small 0 ∷ []) (121 ∷ []) (record { class = contexts; active = context sender (Small 4) 0 (Ref 12 ∷ Ref 3 ∷ []); other = context nil nil 0 (nil ∷ []); new = activation 1 (Ref 12) (Ref 3 ∷ replicate 11 nil) }))
 
-to_nil : (step table).run (returned 22 nil nil nil (nil ∷ nil ∷ [])) ≡ Went (outcome.Did outcome.Went) (refused nil)
+to_nil : (step table).run (returned 22 nil nil nil (nil ∷ nil ∷ [])) ≡ Went outcome.Went (refused nil)
 unfolding opened image returned refused
 to_nil = refl
 
 -- a context was left for good where its instruction pointer is nil
-to_what_was_left : (step table).run (returned 22 nil (Ref 13) nil (nil ∷ nil ∷ [])) ≡ Went (outcome.Did outcome.Went) (refused (Ref 13))
+to_what_was_left : (step table).run (returned 22 nil (Ref 13) nil (nil ∷ nil ∷ [])) ≡ Went outcome.Went (refused (Ref 13))
 unfolding opened image returned refused
 to_what_was_left = refl
 
@@ -129,7 +129,7 @@ unfolding opened image returned
 to_nil_without_places = refl
 
 -- a context that wasn't left goes on, and the one that returns is left
-to_context : (step table).run (returned 22 nil (Ref 13) (Small 3) (nil ∷ nil ∷ [])) ≡ Went (outcome.Did outcome.Went) (state 13 10 nil (pos 2) 6 (objects 22 4224 nil (Small 0 ∷ []) (121 ∷ []) (record { class = contexts; active = context nil nil 0 (nil ∷ nil ∷ []); other = context nil (Small 3) 0 (Ref 3 ∷ []); new = None })))
+to_context : (step table).run (returned 22 nil (Ref 13) (Small 3) (nil ∷ nil ∷ [])) ≡ Went outcome.Went (state 13 10 nil (pos 2) 6 (objects 22 4224 nil (Small 0 ∷ []) (121 ∷ []) (record { class = contexts; active = context nil nil 0 (nil ∷ nil ∷ []); other = context nil (Small 3) 0 (Ref 3 ∷ []); new = None })))
 unfolding opened image returned
 to_context = refl
 
@@ -150,12 +150,12 @@ unfolding image
 tested selector bytes x = state 12 10 nil (pos 2) 6 (objects selector 0 nil (Small 0 ∷ []) bytes (record { class = contexts; active = context nil (Small 3) 1 (x ∷ []); other = plain []; new = None }))
 
 -- the bytecode 152 jumps by 1 on false, and goes on where the word is true
-on_booleans : ((step table).run (tested 26 (152 ∷ []) (Ref 2)) ≡ Went (outcome.Did outcome.Went) (state 12 10 nil (pos 4) 5 (tested 26 (152 ∷ []) (Ref 2)).memory)) × ((step table).run (tested 26 (152 ∷ []) (Ref 3)) ≡ Went (outcome.Did outcome.Went) (state 12 10 nil (pos 3) 5 (tested 26 (152 ∷ []) (Ref 3)).memory))
+on_booleans : ((step table).run (tested 26 (152 ∷ []) (Ref 2)) ≡ Went outcome.Went (state 12 10 nil (pos 4) 5 (tested 26 (152 ∷ []) (Ref 2)).memory)) × ((step table).run (tested 26 (152 ∷ []) (Ref 3)) ≡ Went outcome.Went (state 12 10 nil (pos 3) 5 (tested 26 (152 ∷ []) (Ref 3)).memory))
 unfolding opened image tested
 on_booleans = (refl, refl)
 
 -- mustBeBoolean, the selector 52, is sent to any other word
-on_five : (step table).run (tested 26 (152 ∷ []) (Small 5)) ≡ Went (outcome.Did outcome.Went) (state 14 9 (Small 5) (pos 2) 5 (objects 26 0 nil (Small 0 ∷ []) (152 ∷ []) (record { class = contexts; active = context nil (Small 4) 0 (Small 5 ∷ []); other = plain []; new = activation 0 (Small 5) (replicate 12 nil) })))
+on_five : (step table).run (tested 26 (152 ∷ []) (Small 5)) ≡ Went outcome.Went (state 14 9 (Small 5) (pos 2) 5 (objects 26 0 nil (Small 0 ∷ []) (152 ∷ []) (record { class = contexts; active = context nil (Small 4) 0 (Small 5 ∷ []); other = plain []; new = activation 0 (Small 5) (replicate 12 nil) })))
 unfolding opened image tested
 on_five = refl
 

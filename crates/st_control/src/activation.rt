@@ -1,7 +1,8 @@
-ghost use Rattle.std.specs.Prelude.{◌≡◌, ◌<◌, ◌≤◌, ◌+◌};
+ghost use Rattle.std.specs.Prelude.{◌≡◌, ◌<◌, ◌≤◌, ◌+◌, Ok};
 ghost use Rattle.st_model.specs.Values.{word};
 ghost use Rattle.st_model.specs.Contexts.{fill_context, new_context, pass_words, activate};
 ghost use Rattle.st_model.specs.Calls.{itself};
+ghost use Rattle.st_control.specs.AtOnce.{IsStill, enter_context, context_space, activate_at_once};
 ghost use Rattle.st_frames.specs.Rows.{RowReads, RowMoves, RowDoes, Takes, activation_changes, send_changes, jump_changes, return_changes};
 
 use st_frames::{Registers, drop_words, look_at_words, page, small, switch};
@@ -59,6 +60,67 @@ fn pass_words<O: Objects>(m: &mut O, r: &mut Registers, context: Word, n: u32) -
 {
     m.transfer(n + 1, r.active, r.sp.saturating_sub(n), context, 5)?;
     drop_words(m, r, n + 1)
+}
+
+/// A new context of the method becomes the active one.
+#[tactic(auto, using(st_frames::proofs::Doing::rows), unfolding(crate::specs::AtOnce::enter_context))]
+fn enter_context<O: Objects>(
+    m: &mut O,
+    r: &mut Registers,
+    method: Word,
+    header: Header,
+    n: u32,
+) -> Result<(), Dead>
+    requires few { n < 16384 }
+    requires room { activation_changes ≤ O.room m.old }
+    ensures does { RowDoes O.Objects.own (enter_context O.names (word method) (word header.0) n)
+        itself m.old r.old result m.new r.new }
+    ensures takes { Takes O.Objects.own activation_changes m.old m.new }
+{
+    let context = new_context(m, r, method, header)?;
+    pass_words(m, r, context, n)?;
+    switch(m, r, context)
+}
+
+/// Whether there is room for a context.
+#[tactic(auto, using(crate::proofs::Space::spaces), unfolding(crate::specs::AtOnce::context_space))]
+fn has_context_space<O: Objects>(m: &O, r: &Registers) -> bool
+    ensures { RowReads O.Objects.own (context_space O.names) itself m.now r.now (Ok result) }
+{
+    let free = m.free();
+    1 <= free.entries && 40 <= free.words
+}
+
+/// A new context of the method becomes the active one, where there is room for it. Answers whether there is. Dead where it has no
+/// places for the arguments or the temporary variables.
+#[tactic(auto, using(st_frames::proofs::Doing::checks), unfolding(crate::specs::AtOnce::activate_at_once, crate::specs::AtOnce::at_once))]
+pub fn activate_at_once<O: Objects>(
+    m: &mut O,
+    r: &mut Registers,
+    method: Word,
+    header: Header,
+    n: u32,
+) -> Result<bool, Dead>
+    requires few { n < 16384 }
+    requires room { activation_changes ≤ O.room m.old }
+    ensures does { RowDoes O.Objects.own (activate_at_once O.names (word method) (word header.0) n)
+        itself m.old r.old result m.new r.new }
+    ensures takes { Takes O.Objects.own activation_changes m.old m.new }
+    ensures still { IsStill m.old result m.new }
+{
+    look_at_words(m, r, n)?;
+    let size = header.context_size();
+    if size < 6 + n {
+        return Err(Dead::Sp);
+    }
+    if size < 6 + header.temporaries() {
+        return Err(Dead::Sp);
+    }
+    if !has_context_space(m, r) {
+        return Ok(false);
+    }
+    enter_context(m, r, method, header, n)?;
+    Ok(true)
 }
 
 /// A new context of the method becomes the active one. Dead where it has no places for the arguments or the temporary variables.

@@ -3,6 +3,7 @@
 #![tactic(auto)]
 
 mod activation;
+mod at_once;
 mod blocks;
 mod jumps;
 mod messages;
@@ -11,10 +12,11 @@ mod returns;
 mod sends;
 mod values;
 
-pub use activation::activate;
+pub use activation::{activate, activate_at_once};
+pub use at_once::{jump_at_once, return_to_caller_at_once, return_to_sender_at_once};
 pub use blocks::{primitive_block_copy, try_blocks};
 pub use jumps::jump_on;
 pub use passing::Passing;
 pub use returns::{return_to_caller, return_to_sender};
 pub use sends::{not_understood, send, send_to_super, special_send};
-pub use values::primitive_value;
+pub use values::{primitive_value, value_at_once};

@@ -3,6 +3,7 @@ ghost use Rattle.st_model.specs.Values.{word};
 ghost use Rattle.st_model.specs.Blocks.{start_of, enter_block, value_with_words, primitive_value, passing, value_with_fields, primitive_value_with};
 ghost use Rattle.st_model.specs.Calls.{itself};
 ghost use Rattle.st_model.specs.Deeds.{is_done, deed_of_trial};
+ghost use Rattle.st_control.specs.AtOnce.{IsStill};
 ghost use Rattle.st_control.specs.Passed.{passing_of};
 ghost use Rattle.st_frames.specs.Rows.{RowReads, RowDoes, RowLeaves, Takes, tried_changes, block_changes};
 
@@ -98,6 +99,25 @@ pub fn primitive_value<O: Objects>(m: &mut O, r: &mut Registers, n: u32) -> Resu
             Ok(Tried::Done(Deed::Nothing))
         }
         Err(_) => Ok(Tried::Failed),
+    }
+}
+
+/// Primitive 81: the value of the receiver, a block, with n arguments. Answers whether it succeeded.
+#[tactic(auto, using(crate::proofs::Valued::values), unfolding(st_model::specs::Blocks::primitive_value, st_model::specs::Blocks::value_if_any))]
+pub fn value_at_once<O: Objects>(m: &mut O, r: &mut Registers, n: u32) -> Result<bool, Dead>
+    requires few { n < 16384 }
+    requires room { 6 ≤ O.room m.old }
+    ensures does { RowDoes O.Objects.own (primitive_value O.names n) itself m.old r.old result m.new r.new }
+    ensures takes { Takes O.Objects.own 6 m.old m.new }
+    ensures still { IsStill m.old result m.new }
+{
+    let block = under(m, r, n)?;
+    match start_of(m, r, block, n) {
+        Ok(first) => {
+            value_with_words(m, r, block, n, first)?;
+            Ok(true)
+        }
+        Err(_) => Ok(false),
     }
 }
 

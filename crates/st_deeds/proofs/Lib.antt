@@ -1,3 +1,4 @@
+pub mod Copied
 pub mod Done
 pub mod Headers
 pub mod Replacing

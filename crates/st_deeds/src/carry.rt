@@ -4,6 +4,7 @@ ghost use Rattle.st_world.specs.Naming.{IsNaming, naming};
 
 use crate::bytes::replace_bytes;
 use crate::methods::{store_header, store_literal};
+use crate::pixels::copy_pixels;
 use crate::units::{store_byte, store_number, store_time, store_word};
 use crate::world::change_world;
 use st_memory::Memory;
@@ -43,6 +44,7 @@ fn change_objects<M: Memory>(m: &mut M, deed: Deed)
         } => store_literal(m, method, number, value),
         Deed::StoreTime { object, time } => store_time(m, object, time),
         Deed::TakeWord { object, number } => store_number(m, object, number),
+        Deed::CopyBits { bit_blt } => copy_pixels(m, bit_blt),
         Deed::Nothing
         | Deed::Hold { .. }
         | Deed::SetTimer { .. }

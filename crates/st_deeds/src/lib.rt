@@ -6,6 +6,7 @@ mod bytes;
 mod carry;
 mod methods;
 mod named;
+mod pixels;
 mod units;
 mod world;
 

@@ -110,6 +110,7 @@ pub fn change_world<M: Memory>(m: &mut M, w: &mut World, deed: Deed)
         | Deed::ReplaceBytes { .. }
         | Deed::StoreHeader { .. }
         | Deed::StoreLiteral { .. }
-        | Deed::StoreTime { .. } => {}
+        | Deed::StoreTime { .. }
+        | Deed::CopyBits { .. } => {}
     }
 }

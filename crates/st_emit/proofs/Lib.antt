@@ -1,4 +1,11 @@
 pub mod Scopes
+pub mod Noting
+pub mod Places
+pub mod NamePlaces
+pub mod Sharing
+pub mod Fields
+pub mod Keys
+pub mod LiteralPlaces
 pub mod Lists
 pub mod Shapes
 pub mod Counts

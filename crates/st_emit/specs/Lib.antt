@@ -1,6 +1,7 @@
 pub mod Bounds
 pub mod Literals
 pub mod Names
+pub mod NamePlaces
 pub mod Nodes
 pub mod Resolving
 pub mod Steps
@@ -8,6 +9,7 @@ pub mod Emitting
 pub mod Depths
 pub mod Tails
 pub mod Views
+pub mod LiteralPlaces
 pub mod NameViews
 pub mod Around
 pub mod Drafts

@@ -1,16 +1,14 @@
 -- What contracts see of names.
-use Rattle.std.specs.Prelude.{◌≡◌, ℕ, false, Option, option_map, List, [], ◌∷◌, ◌++◌, map}
+use Rattle.std.specs.Prelude.{◌≡◌, ℕ, Option, option_map, List, [], ◌∷◌, ◌++◌, map}
 use Rattle.std.specs.Global.{Vec}
 use Rattle.std.specs.Borrow.{Bor}
 use Rattle.st_model.specs.declared.oop.Oop.{Oop}
 use Rattle.st_emit.specs.declared.names.Names.{Names}
-use Rattle.st_emit.specs.declared.names.Frame.{Frame}
+use Rattle.st_emit.specs.declared.frame.Frame.{Frame}
 use Rattle.st_emit.specs.declared.names.Variable.{Variable as Kept}
 use Rattle.st_emit.specs.declared.names.Variable.TheVariants.{Temporary, Field, Shared}
-use Rattle.st_tree.specs.declared.tree.Name.{Name}
 use Rattle.st_tree.specs.Views.{name_view}
-use Rattle.st_tree.specs.Views as views
-use Rattle.st_emit.specs.Names.{NamesView, SharedName, Declared, Scope, declared, numbered, variable_named, Variable, temporary, field, shared}
+use Rattle.st_emit.specs.Names.{NamesView, SharedName, Declared, Scope, numbered, variable_named, Variable, temporary, field, shared}
 
 abbrev pub texts_view : List (Vec ℕ) → List (List ℕ)
 texts_view [] = []
@@ -23,7 +21,7 @@ shared_view (s ∷ ss) = record { text = s.0.items; association = s.1.0 } ∷ sh
 abbrev pub names_view : Names → NamesView
 names_view n = record {
   fields = texts_view n.fields.items;
-  shared = shared_view n.shared.items;
+  shared = shared_view n.shared.entries;
   symbols = n.symbols;
 }
 
@@ -34,10 +32,6 @@ frame_view f = numbered f.assignable f.first (map name_view f.names.now)
 abbrev pub scope_view : List Frame → Scope
 scope_view [] = []
 scope_view (f ∷ fs) = frame_view f ++ scope_view fs
-
--- a scope with a block's arguments, numbered from n on
-abbrev pub with_names : (n : ℕ) → List Name → List Frame → Scope
-with_names n ns fs = declared false n (views.names_view ns) (scope_view fs)
 
 -- what a name means
 abbrev pub variable_at : Names → List Frame → List ℕ → Option Variable

@@ -2,13 +2,14 @@
 
 ghost use Rattle.std.specs.Prelude.{◌≡◌, ◌≤◌, ◌+◌, [], length, drop, IfOk, OnOk};
 ghost use Rattle.st_emit.specs.Depths.{pushed, popped, ended};
-ghost use Rattle.st_emit.specs.Literals.{place_of, named_literal};
+ghost use Rattle.st_emit.specs.Literals.{named_literal};
 ghost use Rattle.st_emit.specs.Steps.{size};
 ghost use Rattle.st_emit.specs.Views.{literal_view, literals_view};
 ghost use Rattle.st_emit.specs.Drafts.{Adds, Resolves, step_part};
 
 use crate::level::Level;
-use crate::literal::{Literal, LiteralList, shares};
+use crate::literal::Literal;
+use crate::literal_table::LiteralTable;
 use crate::step::{Step, size_of};
 use std::alloc::{AllocError, Global};
 
@@ -16,7 +17,7 @@ use std::alloc::{AllocError, Global};
 #[derive(Drop)]
 pub struct Draft {
     pub steps: Vec<Step>,
-    pub literals: LiteralList,
+    pub literals: LiteralTable,
     pub level: Level,
 }
 
@@ -51,7 +52,7 @@ impl Draft {
         };
         Draft {
             steps: Vec::new(alloc),
-            literals: Vec::new(alloc),
+            literals: LiteralTable::new(alloc),
             level,
         }
     }
@@ -95,11 +96,11 @@ impl Draft {
     pub fn named(&mut self, literal: Literal) -> Result<usize, AllocError>
         ensures { IfOk result (Resolves (named_literal (literal_view literal)) self.old self.new) }
     {
-        let place = place_of(&self.literals, &literal);
-        if place < self.literals.len() {
+        if let Some(place) = self.literals.place_of(&literal)? {
             return Ok(place);
         }
-        self.literals.push(literal)?;
+        let place = self.literals.len();
+        self.literals.put(literal)?;
         Ok(place)
     }
 
@@ -114,16 +115,4 @@ impl Draft {
         }
         Ok(total)
     }
-}
-
-/// The place of the first literal that shares one with this, or how many there are.
-fn place_of(literals: &[Literal], literal: &Literal) -> usize
-    ensures { result ≡ place_of (literal_view literal.now) (literals_view literals.now) }
-{
-    for (i, other) in literals.iter().enumerate() {
-        if shares(literal, other) {
-            return i;
-        }
-    }
-    literals.len()
 }

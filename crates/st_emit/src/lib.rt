@@ -6,8 +6,10 @@ mod counting;
 mod draft;
 mod emit;
 mod form;
+mod frame;
 mod level;
 mod literal;
+mod literal_table;
 mod names;
 mod selector;
 mod shape;
@@ -17,10 +19,12 @@ mod value;
 pub use counting::sum;
 pub use draft::Draft;
 pub use form::{By, Form, Lookup, Loop, OneSided, TwoSided};
+pub use frame::{Frame, NamePlaces, places_of};
 pub use level::Level;
 pub use literal::{Literal, LiteralList};
+pub use literal_table::LiteralTable;
 pub use names::{
-    Around, Frame, NamedOops, Names, TextList, Variable, constant_named, inner_scope, is_among,
+    Around, NamedOops, Names, TextList, Variable, constant_named, inner_scope, is_among,
     is_declared, variable_named,
 };
 pub use shape::{Choice, Repetition, Shape, Side};

@@ -2,7 +2,7 @@
 
 ghost use Rattle.std.specs.Prelude.{◌≡◌, IfOk};
 ghost use Rattle.st_tree.specs.Views.{content_view, elements_view};
-ghost use Rattle.st_emit.specs.Literals.{shares, small_number, literal_of, members_of, array};
+ghost use Rattle.st_emit.specs.Literals.{small_number, literal_of, members_of, array};
 ghost use Rattle.st_emit.specs.Views.{literal_view, members_view};
 
 use st_model::Oop;
@@ -22,25 +22,6 @@ pub enum Literal {
     Array(LiteralList),
     Named(Oop),
     Owner,
-}
-
-/// Whether two literals share a place.
-pub fn shares(a: &Literal, b: &Literal) -> bool
-    ensures { result ≡ shares (literal_view a.now) (literal_view b.now) }
-{
-    match (a, b) {
-        (
-            Literal::Number { minus, size },
-            Literal::Number {
-                minus: sign,
-                size: other,
-            },
-        ) => *minus == *sign && *size == *other,
-        (Literal::Character(b), Literal::Character(c)) => *b == *c,
-        (Literal::Symbol(s), Literal::Symbol(t)) => s.as_slice() == t.as_slice(),
-        (Literal::Named(p), Literal::Named(q)) => p.0 == q.0,
-        _ => false,
-    }
 }
 
 /// A number from -1 to 2, by one more than it.

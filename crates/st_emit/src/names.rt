@@ -1,20 +1,26 @@
 //! What a name means.
 
-ghost use Rattle.std.specs.Prelude.{◌≡◌, IfOk, option_map, is_some, false};
+ghost use Rattle.std.specs.Prelude.{◌≡◌, ◌++◌, take, IfOk, option_map, is_some};
 ghost use Rattle.st_emit.specs.Names.{constant_named, field_named, shared_named, declared_as, own_variable, is_among};
 ghost use Rattle.st_tree.specs.Views.{names_view as list_view};
-ghost use Rattle.st_emit.specs.NameViews.{frame_view, names_view, scope_view, with_names, variable_at, pointer_of, IsVariable};
+ghost use Rattle.st_emit.specs.NameViews.{frame_view, names_view, scope_view, variable_at, pointer_of, IsVariable};
 
+use crate::counting::sum;
+use crate::frame::{Frame, name_place};
 use crate::step::Constant;
 use st_model::Oop;
-use st_tree::{Name, Text};
+use st_tree::Text;
 use std::alloc::{AllocError, Global};
+use std::collections::BTreeMap;
+
+/// How many instance variables have a number.
+const MOST_FIELDS: usize = 64;
 
 /// Names as their bytes.
 pub type TextList = Vec<Text>;
 
 /// Names that are shared, each with its association.
-pub type NamedOops = Vec<(Text, Oop)>;
+pub type NamedOops = BTreeMap<Text, Oop>;
 
 /// The names of a class: its instance variables in order, what its pools and the globals share, and whether the image
 /// has a symbol table.
@@ -23,15 +29,6 @@ pub struct Names {
     pub fields: TextList,
     pub shared: NamedOops,
     pub symbols: bool,
-}
-
-/// Names that are declared together: the arguments or the temporaries of the method, or the arguments of a block. They
-/// are numbered from `first` on, and only temporaries are assignable.
-#[derive(Clone, Copy)]
-pub struct Frame<'a> {
-    pub names: &'a [Name],
-    pub first: usize,
-    pub assignable: bool,
 }
 
 /// What stands around a part of a tree: the names of the class, those that are declared there, and the number of the
@@ -75,8 +72,11 @@ fn field_named(names: &Names, text: &[u8]) -> Option<usize>
     ensures { result ≡ field_named (names_view names.now) text.now }
 {
     for (i, name) in names.fields.iter().enumerate() {
+        if i == MOST_FIELDS {
+            return None;
+        }
         if name.as_slice() == text {
-            return if i < 64 { Some(i) } else { None };
+            return Some(i);
         }
     }
     None
@@ -86,29 +86,20 @@ fn field_named(names: &Names, text: &[u8]) -> Option<usize>
 fn shared_named(names: &Names, text: &[u8]) -> Option<Oop>
     ensures { option_map pointer_of result ≡ shared_named (names_view names.now) text.now }
 {
-    for (name, oop) in &names.shared {
-        if name.as_slice() == text {
-            return Some(*oop);
-        }
-    }
-    None
+    names.shared.get(text).copied()
 }
 
 /// The variable of a name among those that are declared together.
 fn declared_in(frame: Frame<'_>, text: &[u8]) -> Result<Option<Variable>, AllocError>
     ensures { IfOk result (IsVariable (own_variable (declared_as (frame_view frame.entry) text.now))) }
 {
-    let names = frame.names;
-    for (i, name) in names.iter().enumerate() {
-        if name.text.as_slice() == text {
-            let number = frame.first.checked_add(i).ok_or(AllocError)?;
-            return Ok(Some(Variable::Temporary {
-                number,
-                assignable: frame.assignable,
-            }));
-        }
-    }
-    Ok(None)
+    let Some(place) = name_place(frame, text) else {
+        return Ok(None);
+    };
+    Ok(Some(Variable::Temporary {
+        number: sum(frame.first, place)?,
+        assignable: frame.assignable,
+    }))
 }
 
 /// The variable of a name that is declared in a scope.
@@ -140,16 +131,14 @@ pub fn variable_named(
     Ok(shared_named(names, text).map(Variable::Shared))
 }
 
-/// Whether a name is among these.
-pub fn is_among(names: &[Name], text: &[u8]) -> bool
-    ensures { result ≡ is_among (list_view names.now) text.now }
+/// Whether a name is among the first names of a frame.
+pub fn is_among(frame: Frame<'_>, count: usize, text: &[u8]) -> bool
+    ensures { result ≡ is_among (list_view (take count frame.entry.names.now)) text.now }
 {
-    for name in names {
-        if name.text.as_slice() == text {
-            return true;
-        }
+    match name_place(frame, text) {
+        Some(place) => place < count,
+        None => false,
     }
-    false
 }
 
 /// Whether a name is declared in a scope.
@@ -157,30 +146,25 @@ pub fn is_declared(scope: &[Frame<'_>], text: &[u8]) -> bool
     ensures { result ≡ is_some (declared_as (scope_view scope.now) text.now) }
 {
     for frame in scope {
-        if is_among(frame.names, text) {
+        if name_place(*frame, text).is_some() {
             return true;
         }
     }
     false
 }
 
-/// A scope with more names, the arguments of a block.
+/// A scope with a frame more.
 pub fn inner_scope<'a>(
     alloc: Global,
     scope: &[Frame<'a>],
-    names: &'a [Name],
-    first: usize,
+    frame: Frame<'a>,
 ) -> Result<Vec<Frame<'a>>, AllocError>
-    ensures { IfOk result (λ inner. scope_view inner.items ≡ with_names first names.now scope.now) }
+    ensures { IfOk result (λ inner. scope_view inner.items ≡ scope_view scope.now ++ frame_view frame.entry) }
 {
     let mut inner = Vec::new(alloc);
-    for frame in scope {
-        inner.push(*frame)?;
+    for outer in scope {
+        inner.push(*outer)?;
     }
-    inner.push(Frame {
-        names,
-        first,
-        assignable: false,
-    })?;
+    inner.push(frame)?;
     Ok(inner)
 }

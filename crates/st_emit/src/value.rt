@@ -17,8 +17,9 @@ use crate::counting::{names_in_statements, sum};
 use crate::draft::Draft;
 use crate::emit::{literal, name, number, place_of_name, pop_arguments, send};
 use crate::form::{Lookup, TwoSided, leaves_on, other_side, passes_on};
+use crate::frame::{Frame, places_of};
 use crate::level::{around_block, beside, joined, within};
-use crate::names::{Around, Frame, inner_scope};
+use crate::names::{Around, inner_scope};
 use crate::selector::BLOCK_COPY;
 use crate::shape::{
     Choice, Repetition, Shape, Side, assigned, before_others, first_repetition, is_super, not_last,
@@ -386,7 +387,14 @@ fn block_body(
 {
     draft.level = within(names.len(), draft.level);
     pop_arguments(draft, around.next, names.len())?;
-    let scope = inner_scope(alloc, around.scope, names, around.next)?;
+    let places = places_of(alloc, names)?;
+    let frame = Frame {
+        names,
+        places: &places,
+        first: around.next,
+        assignable: false,
+    };
+    let scope = inner_scope(alloc, around.scope, frame)?;
     let inner = Around {
         names: around.names,
         scope: &scope,

@@ -1,8 +1,8 @@
-ghost use Rattle.std.specs.Prelude.{◌≡◌, ◌<◌, ◌≤◌, ◌+◌, ◌-◌, true, IfOk};
+ghost use Rattle.std.specs.Prelude.{◌≡◌, ◌<◌, ◌≤◌, ◌+◌, ◌-◌, true, false, IfOk};
 ghost use Rattle.st_model.specs.Values.{word};
 ghost use Rattle.st_model.specs.Primitives.{pop_words, answer_with};
 ghost use Rattle.st_model.specs.Calls.{itself};
-ghost use Rattle.st_model.specs.Deeds.{is_done, deed_of_trial};
+ghost use Rattle.st_model.specs.Deeds.{copies_pixels, is_done, deed_of_trial};
 ghost use Rattle.st_frames.specs.Answering.{RowFollows, succeed_with};
 ghost use Rattle.st_frames.specs.Rows.{RowMoves, RowDoes, RowLeaves, Takes};
 
@@ -61,7 +61,7 @@ pub fn succeed_with<O: Objects>(
     Ok(Tried::Done(Deed::Nothing))
 }
 
-/// The same where an effect leaves something to be done besides its answer.
+/// The same where an effect leaves something to be done besides its answer, which copies no pixels.
 #[tactic(auto, using(crate::proofs::Doing::rows, crate::proofs::Commuting::answered))]
 pub fn succeed_leaving<O: Objects>(
     m: &mut O,
@@ -71,6 +71,7 @@ pub fn succeed_leaving<O: Objects>(
 ) -> Result<Tried, Dead>
     requires few { n < 256 }
     requires room { 1 ≤ O.room m.old }
+    requires plain { copies_pixels answer.deed ≡ false }
     ensures does { RowFollows O.Objects.own answer.deed (succeed_with O.names n (word answer.word))
         is_done deed_of_trial m.old r.old result m.new r.new }
     ensures done { IfOk result (λ t. is_done t ≡ true) }

@@ -1,4 +1,5 @@
-ghost use Rattle.std.specs.Prelude.{◌≡◌, ◌≤◌, ◌+◌, length, IfOk};
+ghost use Rattle.st_model.specs.Deeds.{copies_pixels};
+ghost use Rattle.std.specs.Prelude.{◌≡◌, ◌≤◌, ◌+◌, length, IfOk, false};
 ghost use Rattle.st_model.specs.declared.deed.Deed.TheVariants.{StoreNumber};
 ghost use Rattle.st_model.specs.Primitives.{bytes_of_number, new_large, number};
 ghost use Rattle.st_frames.specs.Answering.{StoresBytes, answer_word, answer_deed};
@@ -54,6 +55,7 @@ fn new_large<O: Objects>(m: &mut O, r: &Registers, n: u32) -> Result<Answer, Dea
         answer_word answer_deed m.old r.now result m.new r.now }
     ensures deed { IfOk result (λ a. a.deed ≡ StoreNumber a.word n) }
     ensures takes { Takes O.Objects.own 1 m.old m.new }
+    ensures plain { IfOk result (λ a. copies_pixels a.deed ≡ false) }
 {
     let class = page(m, PageObject::LargeClass);
     let count = count_bytes(n);
@@ -74,6 +76,7 @@ pub fn number<O: Objects>(m: &mut O, r: &Registers, n: u32) -> Result<Answer, De
         answer_word answer_deed m.old r.now result m.new r.now }
     ensures deed { IfOk result (λ a. a.deed ≡ StoreNumber a.word n) }
     ensures takes { Takes O.Objects.own 1 m.old m.new }
+    ensures plain { IfOk result (λ a. copies_pixels a.deed ≡ false) }
 {
     if n < 16384 {
         let word = small(n);

@@ -5,6 +5,7 @@ use st_code::{Literal, MethodParts, Names, compile};
 use st_model::Oop;
 use st_parse::parse;
 use std::alloc::{AllocError, Global};
+use std::collections::BTreeMap;
 use std::process::Abort;
 use std::test::Fail;
 
@@ -13,8 +14,8 @@ pub fn names(alloc: Global) -> Result<Names, AllocError> {
     let mut fields = Vec::new(alloc);
     fields.push(b"x".to_vec(alloc)?)?;
     fields.push(b"y".to_vec(alloc)?)?;
-    let mut shared = Vec::new(alloc);
-    shared.push((b"Shared".to_vec(alloc)?, Oop(60)))?;
+    let mut shared = BTreeMap::new(alloc);
+    shared.insert(b"Shared".to_vec(alloc)?, Oop(60))?;
     Ok(Names {
         fields,
         shared,

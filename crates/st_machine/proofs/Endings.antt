@@ -3,7 +3,7 @@ use Rattle.std.proofs.Common.{◌≡◌, ℕ, zero, suc, ◌+◌, Bool, true, fa
 use Rattle.std.specs.Prelude.{Result}
 use Rattle.st_model.specs.declared.dead.Dead.{Dead}
 use Rattle.st_model.specs.declared.outcome.Outcome.TheVariants as code_outcome
-use Rattle.st_model.specs.Outcomes.{Ending, With, Space, Unbuilt, renamed_ending}
+use Rattle.st_model.specs.Outcomes.{Ending, With, Space, renamed_ending}
 use Rattle.st_model.specs.Outcomes as outcome
 use Rattle.st_model.specs.Machine.{State, Transition, Died, Went}
 use Rattle.st_model.specs.Table.{Table}
@@ -22,12 +22,10 @@ goes_on (With outcome.Quit) = false
 goes_on (With outcome.Debugger) = false
 goes_on (With (outcome.Say v)) = false
 goes_on (Space demand left) = false
-goes_on (Unbuilt b) = false
 
 abbrev pub cycles_in : Ending → ℕ
 cycles_in (With o) = 1
 cycles_in (Space demand left) = 0
-cycles_in (Unbuilt b) = 0
 
 pub renamed_goes : (f : ℕ → ℕ) (a : Ending) → goes_on (renamed_ending f a) ≡ goes_on a
 renamed_goes f (With outcome.Went) = refl
@@ -36,12 +34,10 @@ renamed_goes f (With outcome.Quit) = refl
 renamed_goes f (With outcome.Debugger) = refl
 renamed_goes f (With (outcome.Say v)) = refl
 renamed_goes f (Space demand left) = refl
-renamed_goes f (Unbuilt b) = refl
 
 pub renamed_cycles : (f : ℕ → ℕ) (a : Ending) → cycles_in (renamed_ending f a) ≡ cycles_in a
 renamed_cycles f (With o) = refl
 renamed_cycles f (Space demand left) = refl
-renamed_cycles f (Unbuilt b) = refl
 
 module _ {S : Type 0} where
   pub stays : (a : Ending) (u : S) (f : S → Transition S Ending) → goes_on a ≡ false → and_on (Went a u) f ≡ Went a u
@@ -51,7 +47,6 @@ module _ {S : Type 0} where
   stays (With outcome.Debugger) u f e = refl
   stays (With (outcome.Say v)) u f e = refl
   stays (Space demand left) u f e = refl
-  stays (Unbuilt b) u f e = refl
 
   pub counts : (a : Ending) (u : S) (f : S → ℕ) → goes_on a ≡ false → counted (Went a u) f ≡ cycles_in a
   counts (With outcome.Went) u f e = cc
@@ -60,7 +55,6 @@ module _ {S : Type 0} where
   counts (With outcome.Debugger) u f e = refl
   counts (With (outcome.Say v)) u f e = refl
   counts (Space demand left) u f e = refl
-  counts (Unbuilt b) u f e = refl
 
   -- a run is a run of its first cycles and then one of the others
   module _ (one : S → Transition S Ending) where
@@ -78,7 +72,6 @@ module _ {S : Type 0} where
         over (Went (With outcome.Debugger) t) f = refl
         over (Went (With (outcome.Say v)) t) f = refl
         over (Went (Space demand left) t) f = refl
-        over (Went (Unbuilt b) t) f = refl
 
     pub run_on : (k j : ℕ) (s t : S) → run_of one k s ≡ Went (With outcome.Went) t → run_of one (k + j) s ≡ run_of one j t
     run_on k j s t e = run_split k j s ∙ ap (λ o. and_on o (λ u. run_of one j u)) e
@@ -97,7 +90,6 @@ module _ {S : Type 0} where
         over (Went (With outcome.Debugger) u) h f = cc
         over (Went (With (outcome.Say v)) u) h f = cc
         over (Went (Space demand left) u) h f = cc
-        over (Went (Unbuilt b) u) h f = cc
 
     pub run_one : (s : S) → run_of one 1 s ≡ and_on (one s) (λ t. Went (With outcome.Went) t)
     unfolding run_of
@@ -150,9 +142,6 @@ module _ (k : ℕ) (d : State Table) where
   run_end_stops (Ok (cycle_end.Space demand left)) e h =
       let z : k ≡ k + 0 = omega arith in
       stops_at (Ok (cycle_end.Space demand left)) e (run_ends.Space k demand left.entries left.words) (cc) (record { ended = refl; same = refl; goes = refl; count = λ n. z })
-  run_end_stops (Ok (cycle_end.Unbuilt code)) e h =
-      let z : k ≡ k + 0 = omega arith in
-      stops_at (Ok (cycle_end.Unbuilt code)) e (run_ends.Unbuilt k code) (cc) (record { ended = refl; same = refl; goes = refl; count = λ n. z })
   run_end_stops (Err cause) e h = cc
 
   pub run_end_goes : (x : Result CycleEnd Dead) → run_end x k ≡ None → transition_of ending_of x d ≡ Went (With outcome.Went) d
@@ -162,5 +151,4 @@ module _ (k : ℕ) (d : State Table) where
   run_end_goes (Ok (cycle_end.With code_outcome.Quit)) h = cc
   run_end_goes (Ok (cycle_end.With code_outcome.Debugger)) h = cc
   run_end_goes (Ok (cycle_end.Space demand left)) h = cc
-  run_end_goes (Ok (cycle_end.Unbuilt code)) h = cc
   run_end_goes (Err cause) h = cc

@@ -1,30 +1,24 @@
 -- What a cycle of the code does, as the cycle over a table whose step is foreseen.
-use Rattle.std.proofs.Common.{◌≡◌, ℕ, ◌+◌, ◌-◌, Bool, true, false, refl, ◌∙◌, ap, sym, Ok, Err, arith}
-use Rattle.std.specs.Prelude.{nat_lt, nat_le, ◌&&◌, if◌then◌else◌, Result, pos, ◌+ℤ◌}
+use Rattle.std.proofs.Common.{◌≡◌, ℕ, ◌+◌, ◌-◌, Bool, true, false, refl, ◌∙◌, ap, sym, subst, Ok, Err, arith}
+use Rattle.std.specs.Prelude.{Result, nat_lt, nat_le, ◌&&◌, if◌then◌else◌}
 use Rattle.std.proofs.lemmas.Bool.Decides.{nat_tests}
 use Rattle.st_model.specs.declared.dead.Dead.{Dead}
 use Rattle.st_model.specs.declared.demand.Demand.{Demand}
-use Rattle.st_model.specs.declared.halt.Halt.TheVariants as halt
-use Rattle.st_model.specs.Outcomes.{Outcome, StepEnd, Did, NotBuilt, Ending, With, Space, Unbuilt}
+use Rattle.st_model.specs.Outcomes.{Outcome, Ending, With, Space}
 use Rattle.st_model.specs.Outcomes as outcome
-use Rattle.st_model.specs.Machine.{State, World, Transition, Died, Went, Step, answer, ◌>>=◌, ◌>>◌, used, is_over}
+use Rattle.st_model.specs.Machine.{State, World, Transition, Died, Went, used, is_over}
 use Rattle.st_model.specs.Table.{Table, table, apart, bounded_table}
 use Rattle.st_model.specs.Bytecodes.{step}
 use Rattle.st_model.specs.Settled.{reclaim}
 use Rattle.st_model.specs.Objects.{nil}
-use Rattle.st_model.specs.Cycles.{next_code, byte_answered, made_between, free_space, less, capacity_of, check_process_switch, warned, warned_if_low}
+use Rattle.st_model.specs.Cycles.{made_between, free_space, less, capacity_of, check_process_switch, warned, warned_if_low}
 use Rattle.st_model.specs.Foreseen.{foreseen, foreseen_from, foreseen_cycle, done, done_if_room}
 use Rattle.st_model.specs.View.{View, Held, fits}
+use Rattle.st_quick.specs.AtOnce.{WasForeseen, IsDoneAtOnce}
+use Rattle.st_machine.specs.Cycling.{GoesAtOnce}
 use Rattle.st_step.specs.Planned.{Plans, plus, IsForeseen}
-use Rattle.st_model.specs.Steps.{get_method, get_ip, set_ip, next_byte}
-use Rattle.st_model.specs.Calls.{Does, itself, transition_of}
-use Rattle.st_model.proofs.Tabular.{byte_at-as}
-use Rattle.st_memory.specs.Tabular.{bounded_tabular}
 use Rattle.st_frames.specs.declared.frame.Frame.{Frame}
 use Rattle.st_frames.specs.Shown.{shown, registers_of, IsFrame}
-use Rattle.st_frames.specs.Rows.{registers_in, row_state}
-use Rattle.st_frames.specs.declared.registers.Registers.{Registers as Words}
-use Rattle.st_frames.proofs.Stored.{loaded}
 
 -- what fits is not over the capacities
 fits_if : (a b c d : ℕ) → (nat_le a b && nat_le c d) ≡ true → (if nat_lt b a then true else nat_lt d c) ≡ false
@@ -34,21 +28,12 @@ fits_not : (a b c d : ℕ) → (nat_le a b && nat_le c d) ≡ false → (if nat_
 fits_not a b c d e = grind (arith, nat_tests, e)
 
 module _ (c : State Table) where
-  dies : (t : Transition (State Table) StepEnd) (cause : Dead) → Plans (used table c.memory) t (Err (halt.Dead cause)) → foreseen c t ≡ Died cause
+  dies : (t : Transition (State Table) Outcome) (cause : Dead) → Plans (used table c.memory) t (Err cause) → foreseen c t ≡ Died cause
   dies (Died a) cause h = ap (λ x. Died x) h
-  dies (Went NotBuilt d) cause h = absurd h
-  dies (Went (Did o) d) cause h = absurd h
+  dies (Went o d) cause h = absurd h
 
-  pub cycle_dies : (cause : Dead) → Plans (used table c.memory) ((step apart).run c) (Err (halt.Dead cause)) → foreseen c ((step apart).run c) ≡ Died cause
+  pub cycle_dies : (cause : Dead) → Plans (used table c.memory) ((step apart).run c) (Err cause) → foreseen c ((step apart).run c) ≡ Died cause
   cycle_dies cause h = dies ((step apart).run c) cause h
-
-  unbuilt : (t : Transition (State Table) StepEnd) → Plans (used table c.memory) t (Err halt.Unbuilt) → foreseen c t ≡ Went (Unbuilt (next_code table c)) c
-  unbuilt (Died a) h = absurd h
-  unbuilt (Went NotBuilt d) h = refl
-  unbuilt (Went (Did o) d) h = absurd h
-
-  pub cycle_unbuilt : Plans (used table c.memory) ((step apart).run c) (Err halt.Unbuilt) → foreseen c ((step apart).run c) ≡ Went (Unbuilt (next_code table c)) c
-  cycle_unbuilt h = unbuilt ((step apart).run c) h
 
   less_plus : (u d : Demand) → less (plus u d) u ≡ d
   less_plus u d =
@@ -56,20 +41,18 @@ module _ (c : State Table) where
       let w : (u.words + d.words) - u.words ≡ d.words = omega arith in
       λ i. record { entries = e i; words = w i }
 
-  no_room : (t : Transition (State Table) StepEnd) (d : Demand) → Plans (used table c.memory) t (Ok d) → is_over (plus (used table c.memory) d) c.head ≡ true
+  no_room : (t : Transition (State Table) Outcome) (d : Demand) → Plans (used table c.memory) t (Ok d) → is_over (plus (used table c.memory) d) c.head ≡ true
       → foreseen c t ≡ Went (Space d (free_space table c)) c
   no_room (Died a) d h e = absurd h
-  no_room (Went NotBuilt t) d h e = absurd h
-  no_room (Went (Did o) t) d h e =
+  no_room (Went o t) d h e =
       let over : is_over (used apart t.memory) c.head ≡ true = ap (λ x. is_over x c.head) h ∙ e in
       let made : made_between apart c t ≡ d = ap (λ x. less x (used table c.memory)) h ∙ less_plus (used table c.memory) d in
       ap (done_if_room c t) over ∙ ap (λ x. Went (Space x (free_space table c)) c) made
 
-  with_room : (t : Transition (State Table) StepEnd) (d : Demand) → (step apart).run c ≡ t → Plans (used table c.memory) t (Ok d) → is_over (plus (used table c.memory) d) c.head ≡ false
+  with_room : (t : Transition (State Table) Outcome) (d : Demand) → (step apart).run c ≡ t → Plans (used table c.memory) t (Ok d) → is_over (plus (used table c.memory) d) c.head ≡ false
       → IsForeseen c × (foreseen c t ≡ done c ((step bounded_table).run c))
   with_room (Died a) d s h e = absurd h
-  with_room (Went NotBuilt t) d s h e = absurd h
-  with_room (Went (Did o) t) d s h e =
+  with_room (Went o t) d s h e =
       let over : is_over (used apart t.memory) c.head ≡ false = ap (λ x. is_over x c.head) h ∙ e in
       (record { outcome = o; after = t; goes = s; fits = over }, ap (done_if_room c t) over)
 
@@ -81,8 +64,25 @@ module _ (c : State Table) where
   cycle_space d h e = no_room ((step apart).run c) d h e
 
   pub cycle_done : (d : Demand) (o : Outcome) (t u x : State Table) → Plans (used table c.memory) ((step apart).run c) (Ok d) → is_over (plus (used table c.memory) d) c.head ≡ false
-      → (step bounded_table).run c ≡ Went (Did o) t → reclaim table t ≡ u → warned table u ≡ x → foreseen c ((step apart).run c) ≡ Went (With o) x
+      → (step bounded_table).run c ≡ Went o t → reclaim table t ≡ u → warned table u ≡ x → foreseen c ((step apart).run c) ≡ Went (With o) x
   cycle_done d o t u x h e s r w = (with_room ((step apart).run c) d refl h e).1 ∙ (ap (done c) s ∙ ap (λ y. Went (With o) y) (ap (warned table) r ∙ w))
+
+  -- a bytecode that was done at once
+  pub cycle_at_once : (d x : State Table) → WasForeseen c → (step bounded_table).run c ≡ Went outcome.Went d → warned table (reclaim table d) ≡ x → foreseen c ((step apart).run c) ≡ Went (With outcome.Went) x
+  cycle_at_once d x e s w = ap (foreseen c) e.goes ∙ (ap (done_if_room c e.after) e.fits ∙ (ap (done c) s ∙ ap (λ y. Went (With outcome.Went) y) w))
+
+  pub dies_at_once : (cause : Dead) → (step apart).run c ≡ Died cause → foreseen c ((step apart).run c) ≡ Died cause
+  dies_at_once cause e = ap (foreseen c) e
+
+-- how a bytecode goes that was tried at once
+pub went_at_once : (c d x : State Table) (r : Result Bool Dead) → IsDoneAtOnce c r d → r ≡ Ok true → warned table (reclaim table d) ≡ x → GoesAtOnce c (Ok true) x
+went_at_once c d x r h e w = let k : IsDoneAtOnce c (Ok true) d = subst (λ y. IsDoneAtOnce c y d) e h in cycle_at_once c d x k.0 k.1 w
+
+pub stayed_at_once : (c d : State Table) (r : Result Bool Dead) → IsDoneAtOnce c r d → r ≡ Ok false → GoesAtOnce c (Ok false) d
+stayed_at_once c d r h e = subst (λ y. IsDoneAtOnce c y d) e h
+
+pub died_at_once : (c d x : State Table) (cause : Dead) → IsDoneAtOnce c (Err cause) d → GoesAtOnce c (Err cause) x
+died_at_once c d x cause h = dies_at_once c cause h
 
 -- what came before the bytecode
 
@@ -105,33 +105,6 @@ module _ (v : View) (d : Demand) where
 
   pub over : fits v d ≡ false → is_over (plus (used table v.objects) d) v.head ≡ true
   over e = fits_not ((used table v.objects).entries + d.entries) v.head.entries ((used table v.objects).words + d.words) v.head.words e
-
--- the code of the next bytecode
-
-abbrev pub answered : Result ℕ Dead → ℕ
-answered (Ok b) = b
-answered (Err cause) = 0
-
-byte-same : next_byte bounded_table ≡ next_byte table
-unfolding next_byte
-byte-same = λ i. do
-  v ← get_method
-  ip ← get_ip
-  b ← byte_at-as bounded_tabular v ip i
-  set_ip (ip +ℤ pos 1)
-  answer b
-
-byte_of : (x : Result ℕ Dead) (d : State Table) → byte_answered (transition_of itself x d) ≡ answered x
-byte_of (Ok b) d = refl
-byte_of (Err cause) d = refl
-
-pub code_is : (v : View) (f : Frame) (w : World) (r : Words) (x : Result ℕ Dead) (d : State Table) → registers_in r ≡ registers_of f → r.world.now ≡ w
-    → Does (next_byte bounded_table) itself (row_state v.objects v.head r) x d → next_code table (shown v f w) ≡ answered x
-unfolding next_code
-code_is v f w r x d same world h =
-    let e : (next_byte table).run (shown v f w) ≡ transition_of itself x d =
-    ap (λ (m : Step Table ℕ). m.run (shown v f w)) (sym byte-same) ∙ (ap (λ (s : State Table). (next_byte bounded_table).run s) (sym (loaded v f w r same world)) ∙ h) in
-    ap byte_answered e ∙ byte_of x d
 
 -- the registers are held as before
 pub frame_stays : (u v : View) (f : Frame) → IsFrame u f → v.held ≡ u.held → IsFrame v f

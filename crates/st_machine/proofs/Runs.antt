@@ -48,7 +48,6 @@ module _ (k : ℕ) (s : State Births) (c : State Table) (sound : IsSound c) (few
   only_goes f (With outcome.Debugger) e = cc
   only_goes f (With (outcome.Say v)) e = cc
   only_goes f (outcome.Space demand left) e = cc
-  only_goes f (outcome.Unbuilt code) e = cc
 
   one_cycle : (u : State Births) → cycle births far.state ≡ Went (With outcome.Went) u → run_of (cycle births) 1 far.state ≡ Went (With outcome.Went) u
   unfolding run_of
@@ -129,7 +128,6 @@ counts_if n k (Ok (cycle_end.With (code_outcome.Say o))) l = record { most = fin
 counts_if n k (Ok (cycle_end.With code_outcome.Quit)) l = record { most = finished_more n k l; least = λ asked. omega arith }
 counts_if n k (Ok (cycle_end.With code_outcome.Debugger)) l = record { most = finished_more n k l; least = λ asked. omega arith }
 counts_if n k (Ok (cycle_end.Space demand left)) l = record { most = omega arith; least = λ asked. absurd asked }
-counts_if n k (Ok (cycle_end.Unbuilt code)) l = record { most = omega arith; least = λ asked. absurd asked }
 counts_if n k (Err cause) l = record { most = omega arith; least = λ asked. absurd asked }
 
 pub run_counts : (n k : ℕ) (x : Result CycleEnd Dead) (e : RunEnd) → run_end x k ≡ Some e → k < n → CountsCycles n e

@@ -3,7 +3,7 @@ use Rattle.std.specs.Prelude.{◌≡◌, ℕ, ◌+◌, ◌≤◌, Result, Ok, Er
 use Rattle.st_model.specs.declared.dead.Dead.{Dead}
 use Rattle.st_model.specs.declared.outcome.Outcome.TheVariants as code_outcome
 use Rattle.st_model.specs.Values.{value}
-use Rattle.st_model.specs.Outcomes.{Ending, With, Space, Unbuilt, outcome_of}
+use Rattle.st_model.specs.Outcomes.{Ending, With, Space, outcome_of}
 use Rattle.st_model.specs.Outcomes as outcome
 use Rattle.st_model.specs.Machine.{State, Transition, Died, Went}
 use Rattle.st_model.specs.Births.{Births, births}
@@ -20,7 +20,6 @@ use Rattle.st_machine.specs.declared.ending.RunEnd.TheVariants as run_ends
 abbrev pub ending_of : CycleEnd → Ending
 ending_of (cycle_end.With o) = With (outcome_of o)
 ending_of (cycle_end.Space demand left) = Space demand left
-ending_of (cycle_end.Unbuilt code) = Unbuilt code
 
 -- The end of a run after a cycle that ended so, where the run doesn't go on. The cycles before it are counted, and a cycle
 -- that asks for something besides counts too.
@@ -31,7 +30,6 @@ run_end (Ok (cycle_end.With (code_outcome.Say o))) done = Some (run_ends.Say (do
 run_end (Ok (cycle_end.With code_outcome.Quit)) done = Some (run_ends.Quit (done + 1))
 run_end (Ok (cycle_end.With code_outcome.Debugger)) done = Some (run_ends.Debugger (done + 1))
 run_end (Ok (cycle_end.Space demand left)) done = Some (run_ends.Space done demand left.entries left.words)
-run_end (Ok (cycle_end.Unbuilt code)) done = Some (run_ends.Unbuilt done code)
 run_end (Err cause) done = Some (run_ends.Dead done cause)
 
 -- the transition that a run's end stands for, with the state that is shown then
@@ -43,7 +41,6 @@ transition_at (run_ends.Say done o) c = Went (With (outcome.Say (value o))) c
 transition_at (run_ends.Quit done) c = Went (With outcome.Quit) c
 transition_at (run_ends.Debugger done) c = Went (With outcome.Debugger) c
 transition_at (run_ends.Dead done cause) c = Died cause
-transition_at (run_ends.Unbuilt done code) c = Went (Unbuilt code) c
 
 -- of n cycles, those that the end says are finished
 abbrev pub cycles_of : ℕ → RunEnd → ℕ
@@ -54,7 +51,6 @@ cycles_of n (run_ends.Say done o) = done
 cycles_of n (run_ends.Quit done) = done
 cycles_of n (run_ends.Debugger done) = done
 cycles_of n (run_ends.Dead done cause) = done
-cycles_of n (run_ends.Unbuilt done code) = done
 
 -- the last of the finished cycles asked for something besides
 abbrev pub Asks : RunEnd → Type 0
@@ -65,7 +61,6 @@ Asks (run_ends.Say done o) = ⊤
 Asks (run_ends.Quit done) = ⊤
 Asks (run_ends.Debugger done) = ⊤
 Asks (run_ends.Dead done cause) = ⊥
-Asks (run_ends.Unbuilt done code) = ⊥
 
 -- a run of n cycles finishes no more of them, and at least the one that asks for something
 pub record CountsCycles (n : ℕ) (e : RunEnd) : Type 0 where
@@ -81,7 +76,6 @@ death_of (run_ends.Say done o) = None
 death_of (run_ends.Quit done) = None
 death_of (run_ends.Debugger done) = None
 death_of (run_ends.Dead done cause) = Some cause
-death_of (run_ends.Unbuilt done code) = None
 
 -- n cycles of the book's machine from s end so, with as many finished
 pub record EndsAs (n : ℕ) (s : State Births) (e : RunEnd) (c : State Table) : Type 0 where

@@ -2,17 +2,19 @@ ghost use Rattle.std.specs.Prelude.{◌≡◌, OnOk};
 ghost use Rattle.st_model.specs.Table.{table};
 ghost use Rattle.st_model.specs.Machine.{used};
 ghost use Rattle.st_model.specs.Objects.{nil};
-ghost use Rattle.st_model.specs.Cycles.{next_code, less, capacity_of, is_low, warned_if_low};
+ghost use Rattle.st_model.specs.Cycles.{less, capacity_of, is_low, warned_if_low};
 ghost use Rattle.st_world.specs.Naming.{IsNaming, naming};
 ghost use Rattle.st_model.specs.Foreseen.{foreseen_cycle};
 ghost use Rattle.st_model.specs.Calls.{transition_of};
 ghost use Rattle.st_frames.specs.Shown.{IsFrame, IsReady, shown};
+ghost use Rattle.st_machine.specs.Cycling.{Finishes, GoesAtOnce, foreseen_step};
 ghost use Rattle.st_machine.specs.Runs.{ending_of};
 
-use st_frames::{Frame, load, next_byte};
+use st_frames::Frame;
 use st_input::signal_once;
 use st_memory::Memory;
-use st_model::{Dead, Demand, Device, Halt, Outcome};
+use st_model::{Dead, Demand, Device, Outcome};
+use st_quick::step_at_once;
 use st_step::{plan, step};
 use st_switch::check_process_switch;
 use st_world::World;
@@ -24,8 +26,6 @@ pub enum CycleEnd {
     With(Outcome),
     /// Its bytecode would take `demand`, and no more than `left` is left.
     Space { demand: Demand, left: Demand },
-    /// Its bytecode, of this code, comes to a primitive that isn't built yet.
-    Unbuilt(u8),
 }
 
 /// The entries and words that are free.
@@ -37,18 +37,6 @@ fn free_space<M: Memory>(m: &M) -> Demand
     Demand {
         entries: capacity.entries - used.entries,
         words: capacity.words - used.words,
-    }
-}
-
-/// The code of the next bytecode, where there is one.
-fn next_code<M: Memory>(m: &M, f: &Frame, w: &World) -> u8
-    requires frame { IsFrame (M.view m.now) f.now }
-    ensures { result ≡ next_code table (shown (M.view m.now) f.now w.now) }
-{
-    let mut r = load(m, f, w);
-    match next_byte(m, &mut r) {
-        Ok(code) => code,
-        Err(_) => 0,
     }
 }
 
@@ -76,9 +64,64 @@ fn warn<M: Memory>(m: &mut M, w: &mut World)
     }
 }
 
-/// One cycle: pending signals are made and a process switch that waits is done; the next bytecode is foreseen, and done where
-/// there is room for what it makes; what nothing supports any more is dropped; and where space is low that is told. For want
-/// of room, and at a primitive that isn't built, what came before the bytecode stands.
+/// What comes after a bytecode that was done: what nothing supports any more is dropped, and where space is low that is told.
+fn finish<M: Memory>(m: &mut M, f: &Frame, w: &mut World)
+    requires ready { IsReady (M.view m.old) f.now w.old }
+    ensures state { Finishes (shown (M.view m.old) f.now w.old) (shown (M.view m.new) f.now w.new) }
+    ensures ready { IsReady (M.view m.new) f.now w.new }
+{
+    m.settle();
+    warn(m, w);
+}
+
+/// The next bytecode is foreseen, and done where there is room for what it makes; and then what comes after it. For want of
+/// room nothing is changed.
+fn foresee<M: Memory>(m: &mut M, f: &mut Frame, w: &mut World) -> Result<CycleEnd, Dead>
+    requires ready { IsReady (M.view m.old) f.old w.old }
+    ensures step { foreseen_step (shown (M.view m.old) f.old w.old)
+        ≡ transition_of ending_of result (shown (M.view m.new) f.new w.new) }
+    ensures ready { OnOk result (IsReady (M.view m.new) f.new w.new) }
+{
+    let demand = plan(m, f, w)?;
+    if !m.room(demand) {
+        let left = free_space(m);
+        return Ok(CycleEnd::Space { demand, left });
+    }
+    let outcome = step(m, f, w);
+    finish(m, f, w);
+    Ok(CycleEnd::With(outcome))
+}
+
+/// The next bytecode is done at once, and then what comes after it; or it is to be foreseen, and nothing is changed.
+fn do_at_once<M: Memory>(m: &mut M, f: &mut Frame, w: &mut World) -> Result<bool, Dead>
+    requires ready { IsReady (M.view m.old) f.old w.old }
+    ensures step { GoesAtOnce (shown (M.view m.old) f.old w.old) result
+        (shown (M.view m.new) f.new w.new) }
+    ensures ready { OnOk result (IsReady (M.view m.new) f.new w.new) }
+{
+    let done = step_at_once(m, f, w)?;
+    if done {
+        finish(m, f, w);
+    }
+    Ok(done)
+}
+
+/// The next bytecode is done at once, or else foreseen; and then what comes after it.
+fn do_next<M: Memory>(m: &mut M, f: &mut Frame, w: &mut World) -> Result<CycleEnd, Dead>
+    requires ready { IsReady (M.view m.old) f.old w.old }
+    ensures step { foreseen_step (shown (M.view m.old) f.old w.old)
+        ≡ transition_of ending_of result (shown (M.view m.new) f.new w.new) }
+    ensures ready { OnOk result (IsReady (M.view m.new) f.new w.new) }
+{
+    if do_at_once(m, f, w)? {
+        return Ok(CycleEnd::With(Outcome::Went));
+    }
+    foresee(m, f, w)
+}
+
+/// One cycle: pending signals are made and a process switch that waits is done; the next bytecode is done at once, or
+/// foreseen, and done where there is room for what it makes; what nothing supports any more is dropped; and where space is
+/// low that is told. For want of room what came before the bytecode stands.
 pub fn cycle<M: Memory>(m: &mut M, f: &mut Frame, w: &mut World) -> Result<CycleEnd, Dead>
     requires ready { IsReady (M.view m.old) f.old w.old }
     ensures cycle { foreseen_cycle (shown (M.view m.old) f.old w.old)
@@ -86,17 +129,5 @@ pub fn cycle<M: Memory>(m: &mut M, f: &mut Frame, w: &mut World) -> Result<Cycle
     ensures ready { OnOk result (IsReady (M.view m.new) f.new w.new) }
 {
     check_process_switch(m, f, w)?;
-    let demand = match plan(m, f, w) {
-        Ok(demand) => demand,
-        Err(Halt::Dead(cause)) => return Err(cause),
-        Err(Halt::Unbuilt) => return Ok(CycleEnd::Unbuilt(next_code(m, f, w))),
-    };
-    if !m.room(demand) {
-        let left = free_space(m);
-        return Ok(CycleEnd::Space { demand, left });
-    }
-    let outcome = step(m, f, w);
-    m.settle();
-    warn(m, w);
-    Ok(CycleEnd::With(outcome))
+    do_next(m, f, w)
 }

@@ -30,7 +30,6 @@ fn run_end(end: Result<CycleEnd, Dead>, done: u32) -> Option<RunEnd>
             entries_left: left.entries,
             words_left: left.words,
         }),
-        Ok(CycleEnd::Unbuilt(code)) => Some(RunEnd::Unbuilt { done, code }),
         Err(cause) => Some(RunEnd::Dead { done, cause }),
     }
 }

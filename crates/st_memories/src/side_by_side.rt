@@ -6,6 +6,9 @@ use st_plain::PlainLoader;
 use std::process::Abort;
 use std::test::Fail;
 
+/// How many thousands of calls are made: a million calls in all.
+const THOUSANDS: u32 = 1000;
+
 /// A fixed generator of numbers below 65536.
 #[derive(Drop)]
 struct Numbers {
@@ -98,7 +101,7 @@ fn both_do_the_same(rt: HostRuntime) -> Result<(), Fail> {
     let mut plain = image_b::<PlainLoader>(rt.alloc(), 20000)?;
     let mut one = Numbers { state: 1 };
     let mut two = Numbers { state: 1 };
-    for _ in 0..100 {
+    for _ in 0..THOUSANDS {
         for _ in 0..1000 {
             call(&mut counted, &mut one);
             call(&mut plain, &mut two);

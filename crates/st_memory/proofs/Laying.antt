@@ -111,7 +111,7 @@ some_changed (None ∷ t) (suc n) (suc k) o = some_changed t n k o
 some_changed (Some a ∷ t) (suc n) (suc k) o = some_changed t n k o
 
 module _ (t : Table) (v : Value) (us : List ℕ) where
-  live_in : (s : Value) → is_live (with_units_in t v us) s ≡ is_live t s
+  pub live_in : (s : Value) → is_live (with_units_in t v us) s ≡ is_live t s
   unfolding with_units_in is_live
   live_in s = by_value v s
     where
@@ -120,7 +120,7 @@ module _ (t : Table) (v : Value) (us : List ℕ) where
       by_value (Ref n) (Small k) = refl
       by_value (Ref n) (Ref k) = some_changed t n k (with_units (object_of t (Ref n)) us)
 
-  object_here : is_live t v ≡ true → object_of (with_units_in t v us) v ≡ with_units (object_of t v) us
+  pub object_here : is_live t v ≡ true → object_of (with_units_in t v us) v ≡ with_units (object_of t v) us
   unfolding with_units_in is_live object_of
   object_here e = by_value v e
     where
@@ -128,7 +128,7 @@ module _ (t : Table) (v : Value) (us : List ℕ) where
       by_value (Small n) e = cc
       by_value (Ref n) e = ap (λ x. unwrap_or x nothing) (entry_changed t n (with_units (object_of t (Ref n)) us) e)
 
-  object_other : (s : Value) → s ≢ v → object_of (with_units_in t v us) s ≡ object_of t s
+  pub object_other : (s : Value) → s ≢ v → object_of (with_units_in t v us) s ≡ object_of t s
   unfolding with_units_in object_of
   object_other s d = by_value v s d
     where
@@ -137,7 +137,7 @@ module _ (t : Table) (v : Value) (us : List ℕ) where
       by_value (Ref n) (Small k) d = refl
       by_value (Ref n) (Ref k) d = ap (λ x. unwrap_or x nothing) (changed-other t n k (with_units (object_of t (Ref n)) us) (λ q. d (ap Ref q)))
 
-  unit_again : (i x : ℕ) → is_live t v ≡ true → with_unit (with_units_in t v us) v i x ≡ with_units_in t v (slice_set us i x)
+  pub unit_again : (i x : ℕ) → is_live t v ≡ true → with_unit (with_units_in t v us) v i x ≡ with_units_in t v (slice_set us i x)
   unfolding with_units_in with_unit is_live object_of
   unit_again i x e = by_value v e
     where
@@ -148,7 +148,18 @@ module _ (t : Table) (v : Value) (us : List ℕ) where
           ap (λ y. changed (changed t n (with_units o us)) n (object_with_unit (unwrap_or y nothing) i x)) (entry_changed t n (with_units o us) e)
           ∙ changed_again t n (with_units o us) (with_units o (slice_set us i x))
 
-units_none : (t : Table) (v : Value) → is_live t v ≡ true → with_units_in t v (object_of t v).units ≡ t
+  pub units_again : (vs : List ℕ) → is_live t v ≡ true → with_units_in (with_units_in t v us) v vs ≡ with_units_in t v vs
+  unfolding with_units_in is_live object_of
+  units_again vs e = by_value v e
+    where
+      by_value : (v : Value) → is_live t v ≡ true → with_units_in (with_units_in t v us) v vs ≡ with_units_in t v vs
+      by_value (Small n) e = cc
+      by_value (Ref n) e =
+          let o = unwrap_or (entry t n) nothing in
+          ap (λ y. changed (changed t n (with_units o us)) n (with_units (unwrap_or y nothing) vs)) (entry_changed t n (with_units o us) e)
+          ∙ changed_again t n (with_units o us) (with_units o vs)
+
+pub units_none : (t : Table) (v : Value) → is_live t v ≡ true → with_units_in t v (object_of t v).units ≡ t
 unfolding with_units_in is_live object_of
 units_none t (Small n) e = cc
 units_none t (Ref n) e = changed_none t n e

@@ -2,7 +2,7 @@ mod Bearing
 pub mod Behind
 pub mod Bodies
 mod Copying
-mod Laying
+pub mod Laying
 pub mod Drafted
 pub mod Exchanged
 pub mod Freeing

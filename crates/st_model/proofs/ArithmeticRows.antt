@@ -5,7 +5,7 @@ use Rattle.std.specs.Prelude.{map, replicate, pos}
 use Rattle.st_model.specs.declared.dead.Dead.TheVariants as dead
 use Rattle.st_model.specs.Values.{Value, Small, Ref}
 use Rattle.st_model.specs.Objects.{Object, nil}
-use Rattle.st_model.specs.Outcomes.{Outcome, StepEnd, Did, NotBuilt, With, Space, Ending}
+use Rattle.st_model.specs.Outcomes.{Outcome, With, Space, Ending}
 use Rattle.st_model.specs.Outcomes as outcome
 use Rattle.st_model.specs.Machine.{State, Transition, Died, Went}
 use Rattle.st_model.specs.Table.{Table, table}
@@ -78,16 +78,16 @@ unfolding state in_sender objects active plain pointers method
 called x y = state 32767 (in_sender (pos 7) 7) (objects 33 None None None (active 5 0 x y) (Small 1 ∷ Small 16383 ∷ []) (32 ∷ 118 ∷ 176 ∷ []))
 
 -- a method of this primitive is called with so many arguments
-responds : ℕ → Value → Value → ℕ → Transition (State Table) StepEnd
+responds : ℕ → Value → Value → ℕ → Transition (State Table) Outcome
 responds n x y primitive = (respond table (record { method = Ref 36; arguments = n }) (Small 4224) primitive).run (called x y)
 
-answered : ℕ → Value → Value → Transition (State Table) StepEnd
+answered : ℕ → Value → Value → Transition (State Table) Outcome
 unfolding state in_sender objects active plain pointers method
-answered sp x y = Went (Did outcome.Went) (state 32767 (in_sender (pos 7) (5 + sp)) (objects 33 None None None (active 5 0 x y) (Small 1 ∷ Small 16383 ∷ []) (32 ∷ 118 ∷ 176 ∷ [])))
+answered sp x y = Went outcome.Went (state 32767 (in_sender (pos 7) (5 + sp)) (objects 33 None None None (active 5 0 x y) (Small 1 ∷ Small 16383 ∷ []) (32 ∷ 118 ∷ 176 ∷ [])))
 
 -- something is asked for, with nothing changed
-asked_at : Outcome → Transition (State Table) StepEnd
-asked_at o = Went (Did o) (called nil (Small 6))
+asked_at : Outcome → Transition (State Table) Outcome
+asked_at o = Went o (called nil (Small 6))
 
 -- by primitive 1 the sum takes the place of receiver and argument
 adds : responds 1 (Small 5) (Small 6) 1 ≡ answered 1 (Small 11) (Small 6)
@@ -120,11 +120,6 @@ failing : map (responds 1 (Small 5) (Small 6)) (19 ∷ 20 ∷ 21 ∷ 37 ∷ 38 �
     ≡ replicate 18 (responds 1 (Small 5) (Small 6) 0)
 unfolding opened responds called state in_sender objects active plain pointers method
 failing = refl
-
--- 96 isn't built, whatever it is given
-waiting : responds 0 (Small 5) (Small 6) 96 ∷ responds 1 (Small 5) (Small 6) 96 ∷ [] ≡ replicate 2 (Went NotBuilt (called (Small 5) (Small 6)))
-unfolding opened responds called state in_sender objects active plain pointers method
-waiting = refl
 
 -- 97, 113 and 114 ask for something, and the receiver stays; with an argument they fail
 asking : responds 0 nil (Small 6) 97 ∷ responds 0 nil (Small 6) 113 ∷ responds 0 nil (Small 6) 114 ∷ []
@@ -163,12 +158,12 @@ unfolding opened alone done_alone state in_sender objects active plain pointers 
 rounded_down = refl
 
 -- a method with these fields is executed, on 5 and 6
-executes : List Value → Transition (State Table) StepEnd
+executes : List Value → Transition (State Table) Outcome
 unfolding state in_sender objects active plain pointers method
 executes literals = (execute table (record { method = Ref 32; arguments = 1 })).run (state 32767 (in_sender (pos 4) 7) (objects 33 None None None (active 5 0 (Small 5) (Small 6)) literals (0 ∷ [])))
 
 -- flag 7 wants two literals, the first of them a SmallInteger; of that 8 bits are the number, here 1
 extensions : executes (Small 28672 ∷ []) ∷ executes (Small 28673 ∷ Small 1 ∷ []) ∷ executes (Small 28674 ∷ nil ∷ nil ∷ []) ∷ executes (Small 28674 ∷ Small 257 ∷ nil ∷ []) ∷ []
-    ≡ Died dead.Field ∷ Died dead.Field ∷ Died dead.NotSmall ∷ Went (Did outcome.Went) (state 32767 (in_sender (pos 4) 6) (objects 33 None None None (active 5 0 (Small 11) (Small 6)) (Small 28674 ∷ Small 257 ∷ nil ∷ []) (0 ∷ []))) ∷ []
+    ≡ Died dead.Field ∷ Died dead.Field ∷ Died dead.NotSmall ∷ Went outcome.Went (state 32767 (in_sender (pos 4) 6) (objects 33 None None None (active 5 0 (Small 11) (Small 6)) (Small 28674 ∷ Small 257 ∷ nil ∷ []) (0 ∷ []))) ∷ []
 unfolding opened executes state in_sender objects active plain pointers method
 extensions = refl

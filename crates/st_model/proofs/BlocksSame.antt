@@ -7,8 +7,8 @@ use Rattle.st_model.specs.Blocks.{check_context, home_of_block, fill_block, new_
 use Rattle.st_model.proofs.Same.{Simulation, ValueSame, SameValue, SameAnswer, steps_same}
 use Rattle.st_model.proofs.StepsSame.{parts_same}
 use Rattle.st_model.proofs.ContextsSame.{home_of-same, switch-same}
-use Rattle.st_model.proofs.PrimitivesSame.{primitive_value-same, taking-same}
-use Rattle.st_model.proofs.StorageSame.{check_class-same, positive_small-same}
+use Rattle.st_model.proofs.PrimitivesSame.{positive_small-same, primitive_value-same, taking-same}
+use Rattle.st_model.proofs.StorageSame.{check_class-same}
 
 -- conditions; nothing is made
 module _ {H K : Type 0} {M : ObjectMemory H} {N : ObjectMemory K} (sim : Simulation M N) where

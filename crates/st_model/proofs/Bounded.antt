@@ -5,13 +5,13 @@ use Rattle.std.proofs.lemmas.Bool.Decides.{nat_tests}
 use Rattle.st_model.specs.Values.{Value, Small, Ref, renamed, renamed_all}
 use Rattle.st_model.specs.Objects.{Object, renamed_object, one, words_of}
 use Rattle.std.specs.Option.{option_map}
-use Rattle.st_model.specs.Outcomes.{Outcome, StepEnd, Did, NotBuilt, renamed_outcome}
+use Rattle.st_model.specs.Outcomes.{Outcome, renamed_outcome, IsLiveOutcome}
 use Rattle.st_model.specs.Outcomes as outcome
 use Rattle.st_model.specs.Machine.{Registers, World, Head, State, Transition, Died, Went, used, is_over, has_room, roots_of}
 use Rattle.st_model.specs.Table.{Table, table, bounded_table, entry, changed, exchanged, placed, filled_first, total_used}
 use Rattle.st_model.specs.Show.{renamed_registers, renamed_world, renamed_option, renamed_head}
 use Rattle.st_model.specs.Bytecodes.{step}
-use Rattle.st_model.proofs.Same.{OptionSame, Simulation, StateSame, TransitionSame, IsLiveEnd, renamed_end}
+use Rattle.st_model.proofs.Same.{OptionSame, Simulation, StateSame, TransitionSame}
 use Rattle.st_model.proofs.BytecodesSame.{step-same}
 use Rattle.st_model.proofs.Names.{AnyName, any_values, any_object}
 use Rattle.st_model.proofs.Exchanging.{total_used-exchanged}
@@ -85,10 +85,6 @@ outcome-itself outcome.Snapshot = refl
 outcome-itself outcome.Quit = refl
 outcome-itself outcome.Debugger = refl
 outcome-itself (outcome.Say v) = ap (λ x. outcome.Say x) (value-itself v)
-
-end-itself : (o : StepEnd) → renamed_end same_name o ≡ o
-end-itself (Did o) = ap (λ x. Did x) (outcome-itself o)
-end-itself NotBuilt = refl
 
 pub read_same : (a : Option Object) → OptionSame AnyName same_name a a
 read_same None = refl
@@ -208,14 +204,14 @@ state_is a d e s =
     let h = s.head ∙ head-itself d.head in
     λ i. record { memory = s.memory i; registers = r i; world = w i; head = h i }
 
-same_within : (a : Head) (o : StepEnd) (d : State Table) (q : Transition (State Table) StepEnd)
-    → TransitionSame (bounded_simulation a) (IsLiveEnd AnyName) (renamed_end same_name) (Went o d) q → is_over (used table d.memory) a ≡ false → q ≡ Went o d
+same_within : (a : Head) (o : Outcome) (d : State Table) (q : Transition (State Table) Outcome)
+    → TransitionSame (bounded_simulation a) (IsLiveOutcome AnyName) (renamed_outcome same_name) (Went o d) q → is_over (used table d.memory) a ≡ false → q ≡ Went o d
 same_within a o d (Died cause) h f = let g = h.1 in cc
 same_within a o d (Went p e) (inl h) f = let g = h.1 in cc
-same_within a o d (Went p e) (inr h) f = let x = h.1 ∙ end-itself o in let y = state_is a d e h.2 in cc
+same_within a o d (Went p e) (inr h) f = let x = h.1 ∙ outcome-itself o in let y = state_is a d e h.2 in cc
 
 -- a step that stays within the capacities is done the same where the table is bounded
-pub bounded_same : (c d : State Table) (o : StepEnd) → (step table).run c ≡ Went o d → is_over (used table d.memory) c.head ≡ false → (step bounded_table).run c ≡ Went o d
+pub bounded_same : (c d : State Table) (o : Outcome) → (step table).run c ≡ Went o d → is_over (used table d.memory) c.head ≡ false → (step bounded_table).run c ≡ Went o d
 bounded_same c d o e f =
     let s = (step-same (bounded_simulation c.head) tt).go c c (bounded_start c) in
     same_within c.head o d ((step bounded_table).run c) (rw e at s) f

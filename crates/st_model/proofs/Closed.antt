@@ -3,7 +3,7 @@ use Rattle.std.proofs.Common.{◌≡◌, ◌≢◌, ℕ, ◌+◌, ◌<◌, ◌�
 use Rattle.std.specs.Prelude.{◌&&◌, nat_le}
 use Rattle.std.proofs.lemmas.Bool.Decides.{nat_tests}
 use Rattle.st_model.specs.Objects.{Object, PageObject, place_of, one, renamed_object, IsLiveObject}
-use Rattle.st_model.specs.Outcomes.{StepEnd}
+use Rattle.st_model.specs.Outcomes.{Outcome}
 use Rattle.st_model.specs.Machine.{ObjectMemory, Head, State, Transition, Died, Went, Step, has_room, used, roots_of}
 use Rattle.st_model.specs.Table.{Table, table, bounded_table, entry, changed, exchanged, placed, first_none, filled_first, first_free, total_used}
 use Rattle.st_model.specs.Bytecodes.{step}
@@ -157,10 +157,10 @@ module _ (bound : Bool) (a : Head) (P : Table → Type 0) (on_changed : (t : Tab
 
 module _ (a : Head) (P : Table → Type 0) (on_changed : (t : Table) (n : ℕ) (o : Object) → P t → P (changed t n o))
     (on_placed : (t : Table) (o : Object) → P t → has_room bounded_table a t o ≡ true → P (placed t o)) where
-  step_stays : (c d : State Table) (o : StepEnd) → IsClosed c → P c.memory → c.head ≡ a → (step bounded_table).run c ≡ Went o d → StaysClosed true a P on_changed on_placed d
+  step_stays : (c d : State Table) (o : Outcome) → IsClosed c → P c.memory → c.head ≡ a → (step bounded_table).run c ≡ Went o d → StaysClosed true a P on_changed on_placed d
   step_stays c d o k p f e = stays_closed true a P on_changed on_placed _ _ (step bounded_table) (step-same (closed_simulation true a P on_changed on_placed) tt) c d o k p f e
 
-pub step_closed : (c d : State Table) (o : StepEnd) → IsClosed c → (step bounded_table).run c ≡ Went o d → IsClosed d
+pub step_closed : (c d : State Table) (o : Outcome) → IsClosed c → (step bounded_table).run c ≡ Went o d → IsClosed d
 step_closed c d o k e = (step_stays c.head (λ t. Unit {0}) (λ t n o p. tt) (λ t o p g. tt) c d o k tt refl e).0
 
 -- so does the fetching of registers
@@ -215,5 +215,5 @@ module _ (a : Head) (few : a.entries ≤ 32767) where
       (record { places = s.1; closed = s.0 }, s.2)
 
   -- so does the next bytecode
-  pub step_sound : (c d : State Table) (o : StepEnd) → IsSound c → c.head ≡ a → (step bounded_table).run c ≡ Went o d → IsSound d × (d.head ≡ a)
+  pub step_sound : (c d : State Table) (o : Outcome) → IsSound c → c.head ≡ a → (step bounded_table).run c ≡ Went o d → IsSound d × (d.head ≡ a)
   step_sound c d o k f e = stays_sound _ _ (step bounded_table) (step-same sound_simulation tt) c d o k f e

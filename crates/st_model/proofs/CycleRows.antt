@@ -9,7 +9,7 @@ use Rattle.st_model.specs.declared.dead.Dead.TheVariants as dead
 use Rattle.st_model.specs.declared.event.Event.TheVariants.{Word}
 use Rattle.st_model.specs.Values.{Value, Small, Ref}
 use Rattle.st_model.specs.Objects.{Object, nil}
-use Rattle.st_model.specs.Outcomes.{Ending, With, Space, Unbuilt}
+use Rattle.st_model.specs.Outcomes.{Ending, With, Space}
 use Rattle.st_model.specs.Outcomes as outcome
 use Rattle.st_model.specs.Machine.{State, Registers, World, Transition, Died, Went, empty_world}
 use Rattle.st_model.specs.Table.{Table, table}
@@ -328,23 +328,6 @@ understanding = nil ∷ Ref 43 ∷ Small 0 ∷ []
 unfoldable pub with_primitive : ℕ → List (Option Object) → List (Option Object)
 unfolding method plain pointers
 with_primitive primitive others = plain (Small 1 ∷ Ref 44 ∷ Ref 26 ∷ []) ∷ pointers 8 (Ref 45 ∷ []) ∷ method (Small 28674 ∷ Small primitive ∷ nil ∷ []) (120 ∷ []) ∷ others
-
--- The bytecode of the process that is switched to sends to the primitive 96, which isn't built. The switch stands, and so does what nothing
--- names.
-not_built : Ends (state (pending (Ref 34 ∷ [])) (in_context 39 8 1) (objects understanding None (Ref 36)
-    (list_of (Ref 38) (Ref 38) ∷ empty ∷ empty ∷ semaphore (Ref 37) (Ref 37) 0 ∷ idle 0
-    ∷ process nil nil 4 nil ∷ process nil (Ref 40) 6 (Ref 34) ∷ process nil (Ref 41) 4 (Ref 31)
-    ∷ context 9 3 (Small 8) nil ∷ context 9 1 (Small 5) nil ∷ context 7 0 nil nil ∷ sending ∷ with_primitive 96 (plain [] ∷ []))))
-    (Went (Unbuilt 208) (state (pending []) (in_context 40 8 1) (objects understanding None (Ref 37)
-    (list_of (Ref 38) (Ref 36) ∷ empty ∷ empty ∷ idle 0 ∷ idle 0
-    ∷ process nil (Ref 39) 4 (Ref 31) ∷ process nil (Ref 40) 6 (Ref 34) ∷ process (Ref 36) (Ref 41) 4 (Ref 31)
-    ∷ context 9 1 (Small 8) nil ∷ context 9 1 (Small 5) nil ∷ context 7 0 nil nil ∷ sending ∷ with_primitive 96 (plain [] ∷ [])))))
-    × (finished table 1 (state (pending (Ref 34 ∷ [])) (in_context 39 8 1) (objects understanding None (Ref 36)
-    (list_of (Ref 38) (Ref 38) ∷ empty ∷ empty ∷ semaphore (Ref 37) (Ref 37) 0 ∷ idle 0
-    ∷ process nil nil 4 nil ∷ process nil (Ref 40) 6 (Ref 34) ∷ process nil (Ref 41) 4 (Ref 31)
-    ∷ context 9 3 (Small 8) nil ∷ context 9 1 (Small 5) nil ∷ context 7 0 nil nil ∷ sending ∷ with_primitive 96 (plain [] ∷ [])))) ≡ 0)
-unfolding opened state within around pending in_context objects code context process idle semaphore empty list_of method plain pointers sending understanding with_primitive
-not_built = ((refl, refl), refl)
 
 -- The bytecode sends to this primitive, for a receiver on top of the stack. An object is there that nothing names.
 unfoldable asking : ℕ → Value → List (Option Object) → World → State Table

@@ -1,20 +1,17 @@
 -- A running machine over a table does, cycle by cycle, what the births do that its table shows.
 use Rattle.std.proofs.Common.{◌≡◌, ℕ, zero, suc, ◌≤◌, Bool, true, false, refl, sym, ◌∙◌, ap, subst, length, inl, inr}
 use Rattle.st_model.specs.declared.demand.Demand.{Demand}
-use Rattle.st_model.specs.Outcomes.{Outcome, StepEnd, Did, NotBuilt, is_built, Ending, With, Space, Unbuilt, renamed_outcome, renamed_ending, IsLiveOutcome, IsLiveEnding}
+use Rattle.st_model.specs.Outcomes.{Outcome, Ending, With, Space, renamed_outcome, renamed_ending, IsLiveOutcome, IsLiveEnding}
 use Rattle.st_model.specs.Outcomes as outcome
 use Rattle.st_model.specs.Machine.{Head, State, Transition, Died, Went, used, is_over}
-use Rattle.st_model.specs.Steps.{next_byte}
 use Rattle.st_model.specs.Bytecodes.{step}
 use Rattle.st_model.specs.Births.{Births, births, pointer_of}
 use Rattle.st_model.specs.Table.{Table, table, apart, bounded_table}
 use Rattle.st_model.specs.Show.{Shows, IsUsed, IsKept}
 use Rattle.st_model.specs.Settled.{reclaim}
-use Rattle.st_model.specs.Calls.{itself}
-use Rattle.st_model.specs.Cycles.{less, capacity_of, free_space, made_between, byte_answered, next_code, check_process_switch, warned, ended, done_or_not, cycle_from, cycle, and_on, run_of, run, counted, finished_of, finished}
+use Rattle.st_model.specs.Cycles.{less, capacity_of, free_space, made_between, check_process_switch, warned, ended, done_or_not, cycle_from, cycle, and_on, run_of, run, counted, finished_of, finished}
 use Rattle.st_model.specs.Foreseen.{done, done_if_room, foreseen, foreseen_from, foreseen_cycle, IsSound, ShownAgain, EndsShown, Foretells, DoesAsBirths}
-use Rattle.st_model.proofs.Same.{TransitionSame, Anything, IsLiveEnd, renamed_end}
-use Rattle.st_model.proofs.StepsSame.{next_byte-same}
+use Rattle.st_model.proofs.Same.{TransitionSame}
 use Rattle.st_model.proofs.BytecodesSame.{step-same}
 use Rattle.st_model.proofs.HeapsSame.{cycle_simulation, same_used}
 use Rattle.st_model.proofs.Started.{naming, states_start, heaps_start}
@@ -31,23 +28,19 @@ use Rattle.st_model.proofs.OnTop.{outcome_stays}
 
 -- what a bytecode leaves that is done from here is sound once it is reclaimed, and what its outcome names is still there
 abbrev LeavesSound : State Table → Type 0
-LeavesSound c = (o : Outcome) (d : State Table) → (step bounded_table).run c ≡ Went (Did o) d → IsSound (reclaim table d) × IsLiveOutcome (IsUsed (reclaim table d).memory) o
+LeavesSound c = (o : Outcome) (d : State Table) → (step bounded_table).run c ≡ Went o d → IsSound (reclaim table d) × IsLiveOutcome (IsUsed (reclaim table d).memory) o
 
 module _ (c : State Table) (s : State Births) (w : Shows c s) (places : length c.memory ≡ 32768) where
   -- foreseeing
 
-  foretold : (o : Transition (State Births) StepEnd) (p : Transition (State Table) StepEnd)
-      → TransitionSame (apart_simulation c s w places) (IsLiveEnd (naming c s w).live) (renamed_end (apart_simulation c s w places).name) o p → Foretells p o
+  foretold : (o : Transition (State Births) Outcome) (p : Transition (State Table) Outcome)
+      → TransitionSame (apart_simulation c s w places) (IsLiveOutcome (naming c s w).live) (renamed_outcome (apart_simulation c s w places).name) o p → Foretells p o
   foretold (Died a) (Died b) (inl h) = h
   foretold (Died a) (Died b) (inr h) = absurd h
   foretold (Died a) (Went b t) h = absurd h
   foretold (Went a u) (Died b) h = absurd h.1
   foretold (Went a u) (Went b d) (inl h) = absurd h.1
-  foretold (Went a u) (Went b d) (inr h) = (built_renamed a b h.1, used_apart c s w places u.memory d.memory h.2.memory)
-    where
-      built_renamed : (a b : StepEnd) → b ≡ renamed_end (apart_simulation c s w places).name a → is_built b ≡ is_built a
-      built_renamed (Did o) b e = rw e refl
-      built_renamed NotBuilt b e = rw e refl
+  foretold (Went a u) (Went b d) (inr h) = used_apart c s w places u.memory d.memory h.2.memory
 
   pub foretells : Foretells ((step apart).run c) ((step births).run s)
   foretells = foretold ((step births).run s) ((step apart).run c) ((step-same (apart_simulation c s w places) tt).go s c (states_apart c s w places))
@@ -57,39 +50,26 @@ module _ (c : State Table) (s : State Births) (w : Shows c s) (places : length c
   heads_alike : (d : Demand) → is_over d c.head ≡ is_over d s.head
   heads_alike d = ap (λ (a : Head). is_over d a) w.head
 
-  done_within : (o : Outcome) (u : State Births) (p : Transition (State Table) StepEnd) → (step table).run c ≡ p
-      → TransitionSame (cycle_simulation (naming c s w)) (IsLiveEnd (naming c s w).live) (renamed_end (naming c s w).name) (Went (Did o) u) p
+  done_within : (o : Outcome) (u : State Births) (p : Transition (State Table) Outcome) → (step table).run c ≡ p
+      → TransitionSame (cycle_simulation (naming c s w)) (IsLiveOutcome (naming c s w).live) (renamed_outcome (naming c s w).name) (Went o u) p
       → is_over (used births u.memory) s.head ≡ false → DoesAsBirths c o u
   done_within o u (Died k) e h f = absurd h.1
   done_within o u (Went p d) e (inl h) f = absurd h.1
   done_within o u (Went p d) e (inr h) f =
       let q = same_used (naming c s w) u.memory d.memory h.2.memory in
       let r : is_over (used table d.memory) c.head ≡ false = ap (λ x. is_over x c.head) q ∙ (heads_alike (used births u.memory) ∙ f) in
-      let g : (step table).run c ≡ Went (Did (renamed_outcome (naming c s w).name o)) d = e ∙ ap (λ x. Went x d) h.1 in
+      let g : (step table).run c ≡ Went (renamed_outcome (naming c s w).name o) d = e ∙ ap (λ x. Went x d) h.1 in
       record {
         outcome = renamed_outcome (naming c s w).name o;
         state = d;
-        does = bounded_same c d (Did (renamed_outcome (naming c s w).name o)) g r;
+        does = bounded_same c d (renamed_outcome (naming c s w).name o) g r;
         shows = λ closed live. went_step (naming c s w) d u o h.2 h.0 closed live;
       }
 
-  pub does_as_births : (o : Outcome) (u : State Births) → (step births).run s ≡ Went (Did o) u → is_over (used births u.memory) s.head ≡ false → DoesAsBirths c o u
+  pub does_as_births : (o : Outcome) (u : State Births) → (step births).run s ≡ Went o u → is_over (used births u.memory) s.head ≡ false → DoesAsBirths c o u
   does_as_births o u e f =
       let h = (step-same (cycle_simulation (naming c s w)) tt).go s c (states_start c s w) in
       done_within o u ((step table).run c) refl (rw e at h) f
-
-  -- the code at which both stop
-
-  code_of : (o : Transition (State Births) ℕ) (p : Transition (State Table) ℕ) → TransitionSame (cycle_simulation (naming c s w)) Anything itself o p → byte_answered p ≡ byte_answered o
-  code_of (Died a) (Died b) h = refl
-  code_of (Died a) (Went b t) h = absurd h
-  code_of (Went a u) (Died b) h = absurd h.1
-  code_of (Went a u) (Went b d) (inl h) = absurd h.1
-  code_of (Went a u) (Went b d) (inr h) = h.1
-
-  pub same_code : next_code table c ≡ next_code births s
-  unfolding next_code
-  same_code = code_of ((next_byte births).run s) ((next_byte table).run c) ((next_byte-same (cycle_simulation (naming c s w))).go s c (states_start c s w))
 
   used_before : used table c.memory ≡ used births s.memory
   used_before = same_used (naming c s w) s.memory c.memory (heaps_start c s w)
@@ -107,7 +87,7 @@ module _ (c : State Table) (s : State Births) (w : Shows c s) (places : length c
       let m : made_between apart c d ≡ made_between births s u = ap (λ x. less x (used table c.memory)) e ∙ ap (λ x. less (used births u.memory) x) f in
       (ap (λ x. Space x (free_space table c)) m ∙ ap (λ x. Space (made_between births s u) x) g, w, tt)
 
-  within_space : (o : Outcome) (d : State Table) (u : State Births) → (step births).run s ≡ Went (Did o) u → is_over (used births u.memory) s.head ≡ false
+  within_space : (o : Outcome) (d : State Table) (u : State Births) → (step births).run s ≡ Went o u → is_over (used births u.memory) s.head ≡ false
       → LeavesSound c
       → EndsShown (done_if_room c d false) (done_or_not births s o u false)
   within_space o d u e f k =
@@ -117,26 +97,23 @@ module _ (c : State Table) (s : State Births) (w : Shows c s) (places : length c
       let shown = does.shows sound.0.closed sound.1 in
       rw q (ap (λ x. With x) shown.0, warned_shown (reclaim table does.state) (reclaim births u) shown.1, shown.2)
 
-  with_room : (o : Outcome) (d : State Table) (u : State Births) (b : Bool) → (step births).run s ≡ Went (Did o) u → used apart d.memory ≡ used births u.memory
+  with_room : (o : Outcome) (d : State Table) (u : State Births) (b : Bool) → (step births).run s ≡ Went o u → used apart d.memory ≡ used births u.memory
       → is_over (used births u.memory) s.head ≡ b
       → LeavesSound c
       → EndsShown (done_if_room c d b) (done_or_not births s o u b)
   with_room o d u true e q f k = no_space d u q
   with_room o d u false e q f k = within_space o d u e f k
 
-  cycle_ends : (o : Transition (State Births) StepEnd) (p : Transition (State Table) StepEnd) → (step births).run s ≡ o → Foretells p o
+  cycle_ends : (o : Transition (State Births) Outcome) (p : Transition (State Table) Outcome) → (step births).run s ≡ o → Foretells p o
       → LeavesSound c
       → EndsShown (foreseen c p) (ended births s o)
   cycle_ends (Died a) (Died b) e h k = h
   cycle_ends (Died a) (Went p d) e h k = absurd h
   cycle_ends (Went o u) (Died b) e h k = absurd h
-  cycle_ends (Went NotBuilt u) (Went NotBuilt d) e h k = (ap (λ x. Unbuilt x) same_code, w, tt)
-  cycle_ends (Went NotBuilt u) (Went (Did p) d) e h k = let q = h.0 in absurd (cc)
-  cycle_ends (Went (Did o) u) (Went NotBuilt d) e h k = let q = h.0 in absurd (cc)
-  cycle_ends (Went (Did o) u) (Went (Did p) d) e h k =
-      let t : is_over (used apart d.memory) c.head ≡ is_over (used births u.memory) s.head = ap (λ x. is_over x c.head) h.1 ∙ heads_alike (used births u.memory) in
+  cycle_ends (Went o u) (Went p d) e h k =
+      let t : is_over (used apart d.memory) c.head ≡ is_over (used births u.memory) s.head = ap (λ x. is_over x c.head) h ∙ heads_alike (used births u.memory) in
       subst (λ b. EndsShown (done_if_room c d b) (done_or_not births s o u (is_over (used births u.memory) s.head))) (sym t)
-      (with_room o d u (is_over (used births u.memory) s.head) e h.1 refl k)
+      (with_room o d u (is_over (used births u.memory) s.head) e h refl k)
 
   pub bytecode_shown : LeavesSound c → EndsShown (foreseen c ((step apart).run c)) (ended births s ((step births).run s))
   bytecode_shown k = cycle_ends ((step births).run s) ((step apart).run c) refl foretells k
@@ -160,25 +137,23 @@ run_step n (Went a c) (Went b s) h f = rw h.0 (on_step b h f)
     on_step (With outcome.Debugger) h f = (refl, h.1, tt)
     on_step (With (outcome.Say v)) h f = (refl, h.1, h.2)
     on_step (Space demand left) h f = (refl, h.1, tt)
-    on_step (Unbuilt code) h f = (refl, h.1, tt)
 
 -- what a cycle leaves that was done is sound, as what it began with was
 
-step_leaves : (c d : State Table) (o : Outcome) → IsSound c → c.head.entries ≤ 32767 → (step bounded_table).run c ≡ Went (Did o) d
+step_leaves : (c d : State Table) (o : Outcome) → IsSound c → c.head.entries ≤ 32767 → (step bounded_table).run c ≡ Went o d
     → IsSound (reclaim table d) × ((reclaim table d).head ≡ c.head) × IsLiveOutcome (IsUsed (reclaim table d).memory) o
 step_leaves c d o p l e =
-    let r = step_sound c.head l c d (Did o) p refl e in
-    let live = outcome_stays d r.0.closed o (λ v q. step_names_top c d v (e ∙ ap (λ (y : Outcome). Went (Did y) d) q)) in
+    let r = step_sound c.head l c d o p refl e in
+    let live = outcome_stays d r.0.closed o (λ v q. step_names_top c d v (e ∙ ap (λ (y : Outcome). Went y d) q)) in
     (reclaim_sound d r.0, reclaim_head d ∙ r.1, live)
 
 leaves_sound : (c : State Table) → IsSound c → c.head.entries ≤ 32767 → LeavesSound c
 leaves_sound c p l o d e = let r = step_leaves c d o p l e in (r.0, r.2)
 
-sound_done : (c x : State Table) (o : Outcome) (q : Transition (State Table) StepEnd) → IsSound c → c.head.entries ≤ 32767 → (step bounded_table).run c ≡ q → done c q ≡ Went (With o) x
+sound_done : (c x : State Table) (o : Outcome) (q : Transition (State Table) Outcome) → IsSound c → c.head.entries ≤ 32767 → (step bounded_table).run c ≡ q → done c q ≡ Went (With o) x
     → IsSound x × (x.head ≡ c.head)
 sound_done c x o (Died k) p l e f = cc
-sound_done c x o (Went NotBuilt d) p l e f = cc
-sound_done c x o (Went (Did a) d) p l e f =
+sound_done c x o (Went a d) p l e f =
     let r = step_leaves c d a p l e in
     let g : warned table (reclaim table d) ≡ x = cc in (
       subst IsSound g (warned_sound (reclaim table d) r.0),
@@ -189,10 +164,9 @@ sound_if_room : (c d x : State Table) (o : Outcome) (b : Bool) → IsSound c →
 sound_if_room c d x o true p l e = cc
 sound_if_room c d x o false p l e = sound_done c x o ((step bounded_table).run c) p l refl e
 
-sound_foreseen : (c x : State Table) (o : Outcome) (q : Transition (State Table) StepEnd) → IsSound c → c.head.entries ≤ 32767 → foreseen c q ≡ Went (With o) x → IsSound x × (x.head ≡ c.head)
+sound_foreseen : (c x : State Table) (o : Outcome) (q : Transition (State Table) Outcome) → IsSound c → c.head.entries ≤ 32767 → foreseen c q ≡ Went (With o) x → IsSound x × (x.head ≡ c.head)
 sound_foreseen c x o (Died k) p l e = cc
-sound_foreseen c x o (Went NotBuilt d) p l e = cc
-sound_foreseen c x o (Went (Did a) d) p l e = sound_if_room c d x o (is_over (used apart d.memory) c.head) p l e
+sound_foreseen c x o (Went a d) p l e = sound_if_room c d x o (is_over (used apart d.memory) c.head) p l e
 
 -- what comes before the bytecode leaves a sound table too
 switch_sound : (c d : State Table) (u : Unit {0}) → IsSound c → c.head.entries ≤ 32767 → (check_process_switch bounded_table).run c ≡ Went u d → IsSound d × (d.head ≡ c.head)
@@ -256,7 +230,6 @@ counted_step n (Went a c) (Went b s) h f = rw h.0 (on_step b h f)
     on_step (With outcome.Debugger) h f = refl
     on_step (With (outcome.Say v)) h f = refl
     on_step (Space demand left) h f = refl
-    on_step (Unbuilt code) h f = refl
 
 pub finished_shown : (n : ℕ) (c : State Table) (s : State Births) → Shows c s → IsSound c → c.head.entries ≤ 32767 → finished_of foreseen_cycle n c ≡ finished births n s
 unfolding finished_of finished

@@ -1,31 +1,40 @@
 -- A change of words or bytes, of a Method's header or literals, or of what lies round the machine commutes with what reads and stores fields of objects of kind
--- Pointers: with popping, pushing and storing fields. So a deed may be left until after these.
+-- Pointers: with popping, pushing and storing fields. So a deed that copies no pixels may be left until after these; one that does leaves these objects too.
 use Rattle.std.proofs.Common.{◌≡◌, ◌≢◌, ℕ, zero, suc, ◌+◌, List, [], ◌∷◌, length, Option, Some, None, Bool, true, false, refl, sym, ◌∙◌, ap, subst, arith, inl, inr, ◌⊎◌, is_some, length-set}
-use Rattle.std.specs.Prelude.{◌-◌, ◌&&◌, slice_get, nat_lt, nat_le, if◌then◌else◌}
+use Rattle.std.specs.Prelude.{◌-◌, ◌==◌, ◌&&◌, slice_get, nat_lt, nat_le, if◌then◌else◌, Result, Ok, Err}
+use Rattle.std.proofs.lemmas.Bool.Decides.{nat_tests}
 use Rattle.st_model.specs.declared.dead.Dead.{Dead}
 use Rattle.st_model.specs.declared.dead.Dead.TheVariants as dead
 use Rattle.st_model.specs.declared.kind.Kind.{Kind}
 use Rattle.st_model.specs.declared.kind.Kind.TheVariants as kind
+use Rattle.st_model.specs.declared.word.Word.{Word}
 use Rattle.st_model.specs.declared.deed.Deed.{Deed}
-use Rattle.st_model.specs.declared.deed.Deed.TheVariants.{Nothing, StoreWord, StoreByte, StoreNumber, ReplaceBytes, StoreHeader, StoreLiteral, StoreTime, Hold, SetTimer, RingTimer, SetLowSpace, MoveMouse, TakeWord}
+use Rattle.st_model.specs.declared.deed.Deed.TheVariants.{Nothing, StoreWord, StoreByte, StoreNumber, ReplaceBytes, StoreHeader, StoreLiteral, StoreTime, Hold, SetTimer, RingTimer, SetLowSpace, MoveMouse, CopyBits, TakeWord}
 use Rattle.st_model.specs.Values.{Value, Small, Ref, word}
-use Rattle.st_model.specs.Objects.{Object, nil, is_pointers, is_words, is_bytes, is_method, has_bytes, first_unit, with_field, object_with_unit, words_of, one}
+use Rattle.st_model.specs.Objects.{Object, nil, is_pointers, is_words, is_bytes, is_method, has_bytes, first_unit, with_field, with_units, object_with_unit, words_of, one}
 use Rattle.st_model.specs.Machine.{ObjectMemory, World, State, Transition, Died, Went, Step, is_there, used, answer, die, after, ◌>>=◌, ◌>>◌}
 use Rattle.st_model.specs.Table.{Table, table, entry, changed, total_used, IsTabular}
 use Rattle.st_model.specs.Steps.{get_active, get_sp, set_sp, found, object_named, object, stored_at, store_at, set_field, check, or_die, fetch_field, store_field, count_fields, put, push, top, pop}
 use Rattle.st_model.specs.Primitives.{bytes_of_number, pop_words, answer_with}
-use Rattle.st_model.specs.Deeds.{changed_object, changed_by, word_stored, byte_stored, bytes_stored, bytes_replaced, bytes_from, counts_literals, header_stored, literal_stored, deed_done, world_done, changed_twice, over_both}
+use Rattle.st_model.specs.Deeds.{changed_object, changed_by, word_stored, byte_stored, bytes_stored, bytes_replaced, bytes_from, counts_literals, header_stored, literal_stored, deed_done, world_done, changed_twice, over_both, copies_pixels, table_after}
+use Rattle.st_model.specs.BitBlt.{Copy, painted, read_copy, copy_bits}
+use Rattle.st_model.specs.Calls.{Reads, itself}
 use Rattle.st_model.specs.declared.device.Device.TheVariants as device
 use Rattle.st_model.specs.Surroundings.{changed_world}
 use Rattle.st_model.specs.Surroundings as surroundings
 use Rattle.st_model.specs.Input.{four_bytes}
 use Rattle.st_model.proofs.TableLemmas.{changed-some, changed-other}
 use Rattle.st_model.proofs.Bounded.{total-changed}
+use Rattle.st_model.proofs.CopyingBits.{Target, target, copy_read, table-painted, table-refused}
 
 -- none for none, and for an object one of the same kind; of kind Pointers the same
 abbrev pub Alike : Option Object → Option Object → Type 0
 Alike None b = b ≡ None
 Alike (Some o) b = (p : Object) × (b ≡ Some p) × (p.kind ≡ o.kind) × (is_pointers o.kind ≡ true → p ≡ o)
+
+there_alike : (a b : Option Object) → Alike a b → is_some b ≡ is_some a
+there_alike None b h = rw h refl
+there_alike (Some o) b h = rw h.1 refl
 
 -- a change of a table that leaves objects of kind Pointers, and what is stored in their fields; and one of a world that is the
 -- same before a field is stored and after it
@@ -120,10 +129,6 @@ module _ (g : Table → Table) (u : Table → World → World) where
     count_fields-commutes (Ref n) = record {
       go = λ s. rw tabular.read (looking-commutes (λ o. answer (length o.fields)) (entry s.memory n) (entry (g s.memory) n) s (leaves.alike s.memory n) (λ o e k. (answer-commutes _).go s));
     }
-
-    there_alike : (a b : Option Object) → Alike a b → is_some b ≡ is_some a
-    there_alike None b h = rw h refl
-    there_alike (Some o) b h = rw h.1 refl
 
     there-moved : (t : Table) (x : Value) → is_there m (g t) x ≡ is_there m t x
     there-moved t (Small n) = refl
@@ -400,7 +405,16 @@ world_stays (StoreHeader v y) t n o i x w e = refl
 world_stays (StoreLiteral v j y) t n o i x w e = refl
 world_stays (StoreTime v time) t n o i x w e = refl
 world_stays (MoveMouse a b) t n o i x w e = refl
+world_stays (CopyBits v) t n o i x w e = refl
 world_stays (TakeWord v k) t n o i x w e = refl
+
+-- a change of one object that is kept, and no change of the world
+pub kept_leaves : (f : Object → Object) → Keeps f → (v : Value) → LeavesPointers (λ t. changed_by f t v) (λ t w. w)
+kept_leaves f k v = record {
+  world = λ t n o i x w e. refl;
+  alike = λ t n. alike_by f k v t n;
+  stores = λ t n o i x e h. stores_by f k v t n o (with_field o i x) e refl h;
+}
 
 table_stays : (t : Table) (n : ℕ) → Alike (entry t n) (entry t n)
 table_stays t n = alike_itself (λ o. o) (record { kind = λ o. refl; words = λ o. refl; pointers = λ o e. refl }) (entry t n)
@@ -419,20 +433,51 @@ table_leaves d q = record {
   stores = λ t n o i x e h. subst (λ (g : Table → Table). g (changed t n (with_field o i x)) ≡ changed (g t) n (with_field o i x)) (sym q) refl;
 }
 
--- each deed leaves objects of kind Pointers
-pub deed_leaves : (d : Deed) → LeavesPointers (deed_done d) (world_done d)
-deed_leaves Nothing = table_leaves Nothing refl
-deed_leaves (StoreWord o i x) = by_leaves (StoreWord o i x) (word_stored i x) (word o) (word_keeps i x) refl
-deed_leaves (StoreByte o i x) = by_leaves (StoreByte o i x) (byte_stored i x) (word o) (byte_keeps i x) refl
-deed_leaves (StoreNumber o k) = by_leaves (StoreNumber o k) (bytes_stored 0 (bytes_of_number k)) (word o) (bytes_keeps 0 (bytes_of_number k)) refl
-deed_leaves (StoreTime o time) = by_leaves (StoreTime o time) (bytes_stored 0 (four_bytes time)) (word o) (bytes_keeps 0 (four_bytes time)) refl
-deed_leaves (TakeWord o k) = by_leaves (TakeWord o k) (bytes_stored 0 (bytes_of_number k)) (word o) (bytes_keeps 0 (bytes_of_number k)) refl
-deed_leaves (Hold d o) = table_leaves (Hold d o) refl
-deed_leaves (SetTimer o due) = table_leaves (SetTimer o due) refl
-deed_leaves (RingTimer o) = table_leaves (RingTimer o) refl
-deed_leaves (SetLowSpace o entries words) = table_leaves (SetLowSpace o entries words) refl
-deed_leaves (MoveMouse x y) = table_leaves (MoveMouse x y) refl
-deed_leaves (ReplaceBytes o c to from count) =
+-- the words of an object of kind Words become these, where they are as many
+pub words_replaced : List ℕ → Object → Object
+words_replaced us o = if is_words o.kind && (length us == length o.units) then with_units o us else o
+
+second : (a b : Bool) → (a && b) ≡ true → b ≡ true
+second true b e = e
+second false b e = cc
+
+words-with_units : (us : List ℕ) (o : Object) → (length us == length o.units) ≡ true → words_of (with_units o us) ≡ words_of o
+words-with_units us o e = let l : length us ≡ length o.units = grind (arith, nat_tests) in rw l refl
+
+pub words_keep : (us : List ℕ) → Keeps (words_replaced us)
+unfolding words_replaced
+words_keep us = keeps_if (λ o. is_words o.kind && (length us == length o.units)) (λ o. with_units o us) (λ o e. (refl, words-with_units us o (second _ _ e))) (λ o e. not_both _ _ (no_words o.kind e))
+
+-- where pixels are copied, the words of one object become others; where the copy can't be read, the table stays
+module _ (t : Table) (v : Value) (c : Copy) (reads : Reads (read_copy table v) itself t (Ok c)) where
+  pub painting : Target t v c
+  painting = target t v c reads
+
+  pub painted-by : table_after (copy_bits table v) t ≡ changed_by (words_replaced (painted c)) t (Ref painting.place)
+  unfolding words_replaced
+  painted-by =
+      let l : (length (painted c) == length painting.object.units) ≡ true = let e = painting.size in grind (arith, nat_tests) in
+      rw (painting.found, painting.kind, l) (table-painted t v c painting reads)
+
+copies_alike : (t : Table) (v : Value) (n : ℕ) (r : Result Copy Dead) → Reads (read_copy table v) itself t r → Alike (entry t n) (entry (table_after (copy_bits table v) t) n)
+copies_alike t v n (Ok c) h = rw (painted-by t v c h) (alike_by (words_replaced (painted c)) (words_keep (painted c)) (Ref (painting t v c h).place) t n)
+copies_alike t v n (Err cause) h = rw (table-refused t v cause h) (table_stays t n)
+
+-- each deed leaves objects of kind Pointers, and one that copies no pixels looks at none
+pub deed_leaves : (d : Deed) → copies_pixels d ≡ false → LeavesPointers (deed_done d) (world_done d)
+deed_leaves Nothing plain = table_leaves Nothing refl
+deed_leaves (StoreWord o i x) plain = by_leaves (StoreWord o i x) (word_stored i x) (word o) (word_keeps i x) refl
+deed_leaves (StoreByte o i x) plain = by_leaves (StoreByte o i x) (byte_stored i x) (word o) (byte_keeps i x) refl
+deed_leaves (StoreNumber o k) plain = by_leaves (StoreNumber o k) (bytes_stored 0 (bytes_of_number k)) (word o) (bytes_keeps 0 (bytes_of_number k)) refl
+deed_leaves (StoreTime o time) plain = by_leaves (StoreTime o time) (bytes_stored 0 (four_bytes time)) (word o) (bytes_keeps 0 (four_bytes time)) refl
+deed_leaves (TakeWord o k) plain = by_leaves (TakeWord o k) (bytes_stored 0 (bytes_of_number k)) (word o) (bytes_keeps 0 (bytes_of_number k)) refl
+deed_leaves (Hold d o) plain = table_leaves (Hold d o) refl
+deed_leaves (SetTimer o due) plain = table_leaves (SetTimer o due) refl
+deed_leaves (RingTimer o) plain = table_leaves (RingTimer o) refl
+deed_leaves (SetLowSpace o entries words) plain = table_leaves (SetLowSpace o entries words) refl
+deed_leaves (MoveMouse x y) plain = table_leaves (MoveMouse x y) refl
+deed_leaves (CopyBits o) plain = cc
+deed_leaves (ReplaceBytes o c to from count) plain =
     let f : List ℕ → Object → Object = λ vs. bytes_replaced to vs in
     record {
       world = world_stays (ReplaceBytes o c to from count);
@@ -441,8 +486,8 @@ deed_leaves (ReplaceBytes o c to from count) =
           ap (λ vs. changed_by (f vs) (changed t n (with_field q i x)) (word o)) (bytes_stay t n q i x (word c) from count e h)
           ∙ stores_by (f (bytes_from t (word c) from count)) (replaced_keeps to (bytes_from t (word c) from count)) (word o) t n q (with_field q i x) e refl h;
     }
-deed_leaves (StoreHeader o x) = by_leaves (StoreHeader o x) (header_stored (word x)) (word o) (header_keeps (word x)) refl
-deed_leaves (StoreLiteral o j y) =
+deed_leaves (StoreHeader o x) plain = by_leaves (StoreHeader o x) (header_stored (word x)) (word o) (header_keeps (word x)) refl
+deed_leaves (StoreLiteral o j y) plain =
     let f : Bool → Object → Object = λ b. literal_stored j (word y) b in
     record {
       world = world_stays (StoreLiteral o j y);
@@ -452,9 +497,28 @@ deed_leaves (StoreLiteral o j y) =
           ∙ stores_by (f (is_there table t (word y))) (literal_keeps j (word y) _) (word o) t n q (with_field q i x) e refl h;
     }
 
+the_copy : (d : Deed) → copies_pixels d ≡ true → (r : Word) × (d ≡ CopyBits r)
+the_copy (CopyBits r) e = (r, refl)
+the_copy d e = cc
+
+-- of each object its kind stays, and all of one of kind Pointers
+pub deed_alike : (d : Deed) (t : Table) (n : ℕ) → Alike (entry t n) (entry (deed_done d t) n)
+deed_alike d t n = by_copy (copies_pixels d) refl
+  where
+    by_copy : (b : Bool) → copies_pixels d ≡ b → Alike (entry t n) (entry (deed_done d t) n)
+    by_copy false e = (deed_leaves d e).alike t n
+    by_copy true e =
+        let r = the_copy d e in
+        let x = copy_read (word r.0) t in
+        subst (λ (f : Deed). Alike (entry t n) (entry (deed_done f t) n)) (sym r.1) (copies_alike t (word r.0) n x.0 x.1)
+
 module _ (weight : Object → ℕ) (w : (f : Object → Object) → Keeps f → (o : Object) → weight (f o) ≡ weight o) where
   by_keeps : (f : Object → Object) (v : Value) (t : Table) → Keeps f → total_used weight (changed_by f t v) ≡ total_used weight t
   by_keeps f v t k = total_by f k weight (w f k) v t
+
+  copies_total : (t : Table) (v : Value) (r : Result Copy Dead) → Reads (read_copy table v) itself t r → total_used weight (table_after (copy_bits table v) t) ≡ total_used weight t
+  copies_total t v (Ok c) h = ap (λ u. total_used weight u) (painted-by t v c h) ∙ by_keeps (words_replaced (painted c)) (Ref (painting t v c h).place) t (words_keep (painted c))
+  copies_total t v (Err cause) h = ap (λ u. total_used weight u) (table-refused t v cause h)
 
   deed_total : (d : Deed) (t : Table) → total_used weight (deed_done d t) ≡ total_used weight t
   deed_total Nothing t = refl
@@ -469,6 +533,7 @@ module _ (weight : Object → ℕ) (w : (f : Object → Object) → Keeps f → 
   deed_total (RingTimer o) t = refl
   deed_total (SetLowSpace o entries words) t = refl
   deed_total (MoveMouse x y) t = refl
+  deed_total (CopyBits r) t = let x = copy_read (word r) t in copies_total t (word r) x.0 x.1
   deed_total (StoreHeader o x) t = by_keeps _ _ t (header_keeps (word x))
   deed_total (StoreLiteral o i x) t = by_keeps _ _ t (literal_keeps i (word x) _)
 
@@ -481,4 +546,5 @@ deed_uses d t =
 
 -- and leaves there what is there
 pub deed_leaves_there : (d : Deed) (t : Table) (x : Value) → is_there table (deed_done d t) x ≡ is_there table t x
-deed_leaves_there d t x = there-moved (deed_done d) (world_done d) table (record { read = refl; replace = refl; exchange = refl; named = refl }) (deed_leaves d) t x
+deed_leaves_there d t (Small n) = refl
+deed_leaves_there d t (Ref n) = there_alike (entry t n) (entry (deed_done d t) n) (deed_alike d t n)

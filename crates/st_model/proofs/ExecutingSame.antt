@@ -2,7 +2,7 @@
 use Rattle.std.proofs.Common.{◌≡◌, ℕ, zero, suc, Bool, true, false, Option, Some, None, refl}
 use Rattle.st_model.specs.Values.{Value, renamed}
 use Rattle.st_model.specs.Machine.{ObjectMemory, Step, answer}
-use Rattle.st_model.specs.Outcomes.{Outcome, StepEnd, Did}
+use Rattle.st_model.specs.Outcomes.{Outcome}
 use Rattle.st_model.specs.Outcomes as outcome
 use Rattle.st_model.specs.Sends.{Call}
 use Rattle.st_model.specs.Executing.{goes_on, answer_field, or_activate, say_or_activate, asks, respond_last, respond, respond_by_extension, execute_by, execute_performed, takes, execute_found, drop_selector, spread_array, perform_if, perform, primitive_perform, spreading, perform_with, primitive_perform_with, perform_or_activate, respond_or_perform, execute, executed, execute_if_any, executed_if_any}
@@ -53,7 +53,7 @@ module _ {H K : Type 0} {M : ObjectMemory H} {N : ObjectMemory K} (sim : Simulat
   unfolding say_or_activate
   say_or_activate-same c v w h k = search (parts_same, goes_on-same, activate-same, say-same) depth 16 fits 4000
 
-  asks-same : (o : Outcome) → SameEnd sim (answer (Did o)) (answer (Did o)) → SameEnd sim (asks M o) (asks N o)
+  asks-same : (o : Outcome) → SameEnd sim (answer o) (answer o) → SameEnd sim (asks M o) (asks N o)
   unfolding asks
   asks-same o h = search (parts_same, answer_with-same, h) depth 16 fits 4000
 
@@ -79,7 +79,7 @@ module _ {H K : Type 0} {M : ObjectMemory H} {N : ObjectMemory K} (sim : Simulat
   respond-same c v w n h k = search (steps_same, goes_on-same, or_activate-same, respond_last-same, primitives_same) depth 24 fits 4000
 
   -- by what responds to a primitive
-  execute_by-same : (f : ℕ → Step H StepEnd) (g : ℕ → Step K StepEnd) (c : Call) (v w : Value) (flag other : ℕ) → ((k : ℕ) → SameEnd sim (f k) (g k))
+  execute_by-same : (f : ℕ → Step H Outcome) (g : ℕ → Step K Outcome) (c : Call) (v w : Value) (flag other : ℕ) → ((k : ℕ) → SameEnd sim (f k) (g k))
       → ValueSame sim c.method (renamed sim.name c.method) → ValueSame sim v w → other ≡ flag
       → SameEnd sim (execute_by M f c v flag) (execute_by N g (renamed_call sim.name c) w other)
   unfolding execute_by respond_by_extension answer_field

@@ -9,7 +9,7 @@ use Rattle.st_model.specs.declared.bytecode.Bytecode.{Bytecode}
 use Rattle.st_model.specs.declared.bytecode.Bytecode.TheVariants as code
 use Rattle.st_model.specs.Values.{Value, Small, Ref}
 use Rattle.st_model.specs.Objects.{Object, PageObject, place_of, IsLiveObject}
-use Rattle.st_model.specs.Outcomes.{Outcome, StepEnd}
+use Rattle.st_model.specs.Outcomes.{Outcome}
 use Rattle.st_model.specs.Machine.{State, Transition, Died, Went, Step, roots_of}
 use Rattle.st_model.specs.Births.{Births, births, births_with, object_born}
 use Rattle.st_model.specs.Table.{Table}
@@ -27,7 +27,8 @@ use Rattle.st_model.specs.Cycles.{check_process_switch}
 use Rattle.st_model.specs.Saving.{store_process}
 use Rattle.st_model.proofs.CyclesSure.{check_process_switch-sure, store_process-sure}
 use Rattle.st_model.proofs.Present.{bare, full, then_unit-sure, die-sure, later_value, later_option, later_call, answer_itself-sure, of_page-sure}
-use Rattle.st_model.proofs.PresentSteps.{There, ThereIfAny, CallThere, CallThereIfAny, Later, SureValue, SureCall, SureAnyCall, SureAnswer, sures, parts, headers, activate-sure, fetch_context_registers-sure, find-sure, not_understood-sure, send-sure, send_to_super-sure, special_send-sure, end-sure, goes_on-sure, answer_with-sure, arithmetic-sure, equivalence-sure, receiver_class-sure, flush_cache-sure, check_class-sure, primitive_say-sure, storage-sure}
+use Rattle.st_model.proofs.PresentSteps.{There, ThereIfAny, CallThere, CallThereIfAny, Later, SureValue, SureCall, SureAnyCall, SureAnswer, sures, parts, headers, activate-sure, fetch_context_registers-sure, find-sure, not_understood-sure, send-sure, send_to_super-sure, special_send-sure, end-sure, goes_on-sure, answer_with-sure, arithmetic-sure, equivalence-sure, receiver_class-sure, flush_cache-sure, check_class-sure, primitive_say-sure}
+use Rattle.st_model.proofs.StorageSure.{storage-sure}
 use Rattle.st_model.proofs.BlocksSure.{block_copy-sure, value-sure, blocks-sure}
 use Rattle.st_model.proofs.ProcessesSure.{processes-sure}
 use Rattle.st_model.proofs.InputSure.{input-sure}
@@ -56,13 +57,13 @@ module _ (o : Object) (lives : ℕ → Type 0) where
   respond-sure n c v i h0 = search (sures, goes_on-sure, or_activate-sure, respond_last-sure, primitives_sure) depth 24 fits 4000
 
   -- what responds to a primitive does so from here on, and later
-  record Responds (n : ℕ) (f f' : ℕ → Step Births StepEnd) : Type 0 where
+  record Responds (n : ℕ) (f f' : ℕ → Step Births Outcome) : Type 0 where
     at : (m : ℕ) → Later o lives n m → (k : ℕ) → SureAnswer o lives m (f k) (f' k)
 
-  responds-sure : (n m : ℕ) (f f' : ℕ → Step Births StepEnd) (k : ℕ) → Later o lives n m → Responds n f f' → SureAnswer o lives m (f k) (f' k)
+  responds-sure : (n m : ℕ) (f f' : ℕ → Step Births Outcome) (k : ℕ) → Later o lives n m → Responds n f f' → SureAnswer o lives m (f k) (f' k)
   responds-sure n m f f' k l h = h.at m l k
 
-  execute_by-sure : (n : ℕ) (f f' : ℕ → Step Births StepEnd) (c : Call) (v : Value) (flag : ℕ) → Responds n f f' → CallThere o lives n c
+  execute_by-sure : (n : ℕ) (f f' : ℕ → Step Births Outcome) (c : Call) (v : Value) (flag : ℕ) → Responds n f f' → CallThere o lives n c
       → SureAnswer o lives n (execute_by bare f c v flag) (execute_by (full o) f' c v flag)
   unfolding execute_by respond_by_extension answer_field
   execute_by-sure n f f' c v flag h0 h1 = search (headers, goes_on-sure, responds-sure, activate-sure) depth 32 fits 4000

@@ -5,7 +5,7 @@ use Rattle.st_model.specs.declared.dead.Dead.{Dead}
 use Rattle.st_model.specs.declared.bytecode.Bytecode.{Bytecode}
 use Rattle.st_model.specs.declared.bytecode.Bytecode.TheVariants as code
 use Rattle.st_model.specs.Values.{Value, Small, Ref}
-use Rattle.st_model.specs.Outcomes.{StepEnd, Did, NotBuilt}
+use Rattle.st_model.specs.Outcomes.{Outcome}
 use Rattle.st_model.specs.Outcomes as outcome
 use Rattle.st_model.specs.Machine.{State, Transition, Died, Went, Step, answer, die, after, ◌>>=◌, ◌>>◌}
 use Rattle.st_model.specs.Table.{Table, bounded_table}
@@ -18,14 +18,10 @@ use Rattle.st_model.specs.Foreseen.{NamesTop}
 use Rattle.st_model.proofs.OnTop.{said}
 
 -- a step whose outcome names nothing but the word at the top of the stack that it leaves
-pub record NamesOnlyTop (m : Step Table StepEnd) : Type 0 where
+pub record NamesOnlyTop (m : Step Table Outcome) : Type 0 where
   pub names : NamesTop bounded_table m
 
-not_built_names : NamesOnlyTop (answer NotBuilt)
-unfolding answer
-not_built_names = record { names = λ s t v e. cc }
-
-went_names : NamesOnlyTop (answer (Did outcome.Went))
+went_names : NamesOnlyTop (answer outcome.Went)
 unfolding answer
 went_names = record { names = λ s t v e. cc }
 
@@ -33,8 +29,8 @@ dead_names : (cause : Dead) → NamesOnlyTop (die cause)
 unfolding die
 dead_names cause = record { names = λ s t v e. cc }
 
-module _ {A : Type 0} (m : Step Table A) (f : A → Step Table StepEnd) (names : (a : A) → NamesOnlyTop (f a)) where
-  names_after : (x : Transition (State Table) A) (t : State Table) (v : Value) → after x (λ a u. (f a).run u) ≡ Went (Did (outcome.Say v)) t → (top bounded_table).run t ≡ Went v t
+module _ {A : Type 0} (m : Step Table A) (f : A → Step Table Outcome) (names : (a : A) → NamesOnlyTop (f a)) where
+  names_after : (x : Transition (State Table) A) (t : State Table) (v : Value) → after x (λ a u. (f a).run u) ≡ Went (outcome.Say v) t → (top bounded_table).run t ≡ Went v t
   unfolding after
   names_after (Died cause) t v e = cc
   names_after (Went a u) t v e = (names a).names u t v e
@@ -43,21 +39,21 @@ module _ {A : Type 0} (m : Step Table A) (f : A → Step Table StepEnd) (names :
   unfolding ◌>>=◌
   then_names = record { names = λ s t v e. names_after (m.run s) t v e }
 
-next_names : {A : Type 0} (m : Step Table A) (n : Step Table StepEnd) → NamesOnlyTop n → NamesOnlyTop (m >> n)
+next_names : {A : Type 0} (m : Step Table A) (n : Step Table Outcome) → NamesOnlyTop n → NamesOnlyTop (m >> n)
 unfolding ◌>>◌
 next_names m n h = then_names m (λ a. n) (λ a. h)
 
-if_names : (b : Bool) (m n : Step Table StepEnd) → NamesOnlyTop m → NamesOnlyTop n → NamesOnlyTop (if b then m else n)
+if_names : (b : Bool) (m n : Step Table Outcome) → NamesOnlyTop m → NamesOnlyTop n → NamesOnlyTop (if b then m else n)
 if_names true m n h k = h
 if_names false m n h k = k
 
 goes_on_names : (m : Step Table Unit) → NamesOnlyTop (goes_on m)
 unfolding goes_on
-goes_on_names m = next_names m (answer (Did outcome.Went)) went_names
+goes_on_names m = next_names m (answer outcome.Went) went_names
 
 -- where the primitive succeeded, its receiver is at the top
-said_names : (r : Value) (b : Bool) (n : Step Table StepEnd) (s t : State Table) (v : Value) → NamesOnlyTop n → (b ≡ true → (top bounded_table).run s ≡ Went r s)
-    → (if b then answer (Did (outcome.Say r)) else n).run s ≡ Went (Did (outcome.Say v)) t → (top bounded_table).run t ≡ Went v t
+said_names : (r : Value) (b : Bool) (n : Step Table Outcome) (s t : State Table) (v : Value) → NamesOnlyTop n → (b ≡ true → (top bounded_table).run s ≡ Went r s)
+    → (if b then answer (outcome.Say r) else n).run s ≡ Went (outcome.Say v) t → (top bounded_table).run t ≡ Went v t
 unfolding answer
 said_names r false n s t v h k e = h.names s t v e
 said_names r true n s t v h k e =
@@ -65,31 +61,31 @@ said_names r true n s t v h k e =
     let q : s ≡ t = cc in
     subst (λ (y : State Table). (top bounded_table).run y ≡ Went v y) q (k refl ∙ ap (λ y. Went y s) p)
 
-say_after : (r : Value) (n : Step Table StepEnd) (s t : State Table) (v : Value) (x : Transition (State Table) Bool) → NamesOnlyTop n → (primitive_say bounded_table r).run s ≡ x
-    → after x (λ b u. (if b then answer (Did (outcome.Say r)) else n).run u) ≡ Went (Did (outcome.Say v)) t → (top bounded_table).run t ≡ Went v t
+say_after : (r : Value) (n : Step Table Outcome) (s t : State Table) (v : Value) (x : Transition (State Table) Bool) → NamesOnlyTop n → (primitive_say bounded_table r).run s ≡ x
+    → after x (λ b u. (if b then answer (outcome.Say r) else n).run u) ≡ Went (outcome.Say v) t → (top bounded_table).run t ≡ Went v t
 unfolding after
 say_after r n s t v (Died cause) h p e = cc
 say_after r n s t v (Went b u) h p e = said_names r b n u t v h (said r b s u p) e
 
-say_names : (r : Value) (n : Step Table StepEnd) → NamesOnlyTop n → NamesOnlyTop (primitive_say bounded_table r >>= (λ b. if b then answer (Did (outcome.Say r)) else n))
+say_names : (r : Value) (n : Step Table Outcome) → NamesOnlyTop n → NamesOnlyTop (primitive_say bounded_table r >>= (λ b. if b then answer (outcome.Say r) else n))
 unfolding ◌>>=◌
 say_names r n h = record { names = λ s t v e. say_after r n s t v ((primitive_say bounded_table r).run s) h refl e }
 
-ruleset naming = (not_built_names, went_names, dead_names, say_names, then_names, next_names, if_names, goes_on_names)
+ruleset naming = (went_names, dead_names, say_names, then_names, next_names, if_names, goes_on_names)
 
 say_or_activate_names : (c : Call) (v : Value) → NamesOnlyTop (say_or_activate bounded_table c v)
 unfolding say_or_activate
 say_or_activate_names c v = then_names (top bounded_table) _ (λ r. say_names r _ (goes_on_names _))
 
-snapshot_names : NamesOnlyTop (answer (Did outcome.Snapshot))
+snapshot_names : NamesOnlyTop (answer outcome.Snapshot)
 unfolding answer
 snapshot_names = record { names = λ s t v e. cc }
 
-quit_names : NamesOnlyTop (answer (Did outcome.Quit))
+quit_names : NamesOnlyTop (answer outcome.Quit)
 unfolding answer
 quit_names = record { names = λ s t v e. cc }
 
-debugger_names : NamesOnlyTop (answer (Did outcome.Debugger))
+debugger_names : NamesOnlyTop (answer outcome.Debugger)
 unfolding answer
 debugger_names = record { names = λ s t v e. cc }
 
@@ -97,7 +93,7 @@ respond_names : (c : Call) (v : Value) (k : ℕ) → NamesOnlyTop (respond bound
 unfolding respond respond_last or_activate asks
 respond_names c v k = search (naming, say_or_activate_names, snapshot_names, quit_names, debugger_names) depth 24 fits 4000
 
-execute_by_names : (f : ℕ → Step Table StepEnd) (c : Call) (v : Value) (flag : ℕ) → ((k : ℕ) → NamesOnlyTop (f k)) → NamesOnlyTop (execute_by bounded_table f c v flag)
+execute_by_names : (f : ℕ → Step Table Outcome) (c : Call) (v : Value) (flag : ℕ) → ((k : ℕ) → NamesOnlyTop (f k)) → NamesOnlyTop (execute_by bounded_table f c v flag)
 unfolding execute_by respond_by_extension
 execute_by_names f c v flag h = search (naming, h) depth 16 fits 4000
 

@@ -7,8 +7,8 @@ use Rattle.st_model.specs.Machine.{ObjectMemory}
 use Rattle.st_model.specs.Input.{mouse_point, always, primitive_mouse_point, Place, place_in, move_mouse, primitive_move_mouse, check_truth, primitive_link_cursor, hold_and_answer, primitive_input_semaphore, primitive_sample_interval, word_that_waits, take_word, primitive_input_word, check_four_bytes, store_time, store_seconds, primitive_second_clock, store_milliseconds, primitive_millisecond_clock, Timing, Rings, Waits, LetsGo, can_be_signalled, ring, ring_or_wait, timing, signal_once, set_timer, set_timer_and_answer, primitive_timer, primitive_be_cursor, primitive_be_display, Low, low_space, set_low_space, primitive_low_space, input}
 use Rattle.st_model.proofs.Same.{Simulation, ValueSame, SameValue, SameAnswer, then_object-same, answer_itself-same, length-renamed, steps_same}
 use Rattle.st_model.proofs.StepsSame.{object-same, parts_same}
-use Rattle.st_model.proofs.PrimitivesSame.{primitive-same, taking-same, new_point-same}
-use Rattle.st_model.proofs.StorageSame.{number-same, check_bytes-same, bits_or_die-same, positive_small-same, positive_value-same}
+use Rattle.st_model.proofs.PrimitivesSame.{bits_or_die-same, positive_small-same, primitive-same, taking-same, new_point-same}
+use Rattle.st_model.proofs.StorageSame.{number-same, check_bytes-same, positive_value-same}
 use Rattle.st_model.proofs.ProcessesSame.{check_fields-same}
 
 -- conditions; nothing is made

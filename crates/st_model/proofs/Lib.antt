@@ -6,11 +6,17 @@ pub mod ContextsSame
 pub mod LookupSame
 pub mod SendsSame
 pub mod PrimitivesSame
+mod BitBltSame
 mod StorageSame
 pub mod ProcessesSame
 pub mod InputSame
 mod BlocksSame
+mod Looking
+pub mod CopyingBits
+pub mod Painting
 pub mod Deeds
+pub mod Resting
+pub mod BitBltLeft
 pub mod Leaving
 pub mod ExecutingSame
 pub mod ReturnsSame
@@ -54,6 +60,8 @@ pub mod Texts
 pub mod Again
 pub mod Present
 pub mod PresentSteps
+mod BitBltSure
+mod StorageSure
 pub mod ProcessesSure
 pub mod InputSure
 pub mod CyclesSure
@@ -72,6 +80,7 @@ mod SendRows
 mod ArithmeticRows
 mod StorageRows
 mod StorageBounds
+mod BitBltRows
 mod ProcessRows
 mod InputRows
 mod BlockRows

@@ -6,7 +6,7 @@ use Rattle.st_model.specs.declared.kind.Kind.TheVariants as kind
 use Rattle.st_model.specs.declared.dead.Dead.TheVariants as dead
 use Rattle.st_model.specs.Values.{Value, Small, Ref}
 use Rattle.st_model.specs.Objects.{Object, nil}
-use Rattle.st_model.specs.Outcomes.{StepEnd, Did, NotBuilt}
+use Rattle.st_model.specs.Outcomes.{Outcome}
 use Rattle.st_model.specs.Outcomes as outcome
 use Rattle.st_model.specs.Machine.{State, Transition, Died, Went, empty_world}
 use Rattle.st_model.specs.Table.{Table, table}
@@ -57,16 +57,16 @@ unfolding state
 in_sender depth t = state (Ref 30) (Ref 32) nil 9 depth t
 
 -- the method of the primitive is executed with n arguments, where these words are the stack
-unfoldable performing : ℕ → ℕ → List Value → Value → Option Object → List (Option Object) → Transition (State Table) StepEnd
+unfoldable performing : ℕ → ℕ → List Value → Value → Option Object → List (Option Object) → Transition (State Table) Outcome
 unfolding in_sender objects active
 performing primitive n stack selector found others =
     (execute table (record { method = Ref 31; arguments = n })).run (in_sender (length stack) (objects None None None (active 0 0 stack) primitive selector found others))
 
 -- It fails, and the performing method is activated with its arguments: 5 and two words, which are popped. It has two literals.
-unfoldable failed : ℕ → Value → Value → Value → Option Object → List (Option Object) → Transition (State Table) StepEnd
+unfoldable failed : ℕ → Value → Value → Value → Option Object → List (Option Object) → Transition (State Table) Outcome
 unfolding state objects active activation
 failed primitive a b selector found others =
-    Went (Did outcome.Went) (state (Ref 5) (Ref 31) (Small 5) 6 0
+    Went outcome.Went (state (Ref 5) (Ref 31) (Small 5) 6 0
     (objects (activation (Ref 31) 7 0 (Small 5 ∷ a ∷ b ∷ replicate 10 nil)) None None (active 10 0 (Small 5 ∷ a ∷ b ∷ [])) primitive selector found others))
 
 abbrev Fails : ℕ → Value → Value → Value → Option Object → List (Option Object) → Type 0
@@ -83,10 +83,10 @@ takes_none = method (Small 0 ∷ [])
 
 -- what a selector is performed by that takes one argument: its context has 5 and the argument, and the place of the selector has
 -- the argument
-unfoldable performed_by : Value → ℕ → ℕ → Value → Value → ℕ → Value → Option Object → List (Option Object) → Transition (State Table) StepEnd
+unfoldable performed_by : Value → ℕ → ℕ → Value → Value → ℕ → Value → Option Object → List (Option Object) → Transition (State Table) Outcome
 unfolding state objects active activation
 performed_by method ip temporaries argument last primitive selector found others =
-    Went (Did outcome.Went) (state (Ref 5) method (Small 5) (ip - 1) temporaries
+    Went outcome.Went (state (Ref 5) method (Small 5) (ip - 1) temporaries
     (objects (activation method ip temporaries (Small 5 ∷ argument ∷ replicate 11 nil)) None None (active 10 0 (Small 5 ∷ argument ∷ last ∷ [])) primitive selector found others))
 
 -- 83: the selector is found, and its method takes the one argument
@@ -94,20 +94,18 @@ performed : performing 83 2 (Small 5 ∷ Ref 36 ∷ Small 6 ∷ []) (Ref 36) tak
 unfolding opened performing performed_by state in_sender objects active activation with_primitive takes_one method pointers
 performed = refl
 
--- of a method that is found a primitive is tried: 111 answers the class, and 96 isn't built; but 83 and 84 are not, so that the method
--- that has one of them is activated. Its extension says that it takes one argument.
+-- of a method that is found a primitive is tried: 111 answers the class; but 83 and 84 are not, so that the method that has one of
+-- them is activated. Its extension says that it takes one argument.
 performed_primitive : (performing 83 1 (Small 5 ∷ Ref 36 ∷ []) (Ref 36) (with_primitive 0 111) (pointers 6 [] ∷ [])
-    ≡ Went (Did outcome.Went) (in_sender 1 (objects None None None (active 0 0 (Ref 6 ∷ Ref 36 ∷ [])) 83 (Ref 36) (with_primitive 0 111) (pointers 6 [] ∷ []))))
-    × (performing 83 1 (Small 5 ∷ Ref 36 ∷ []) (Ref 36) (with_primitive 0 96) (pointers 6 [] ∷ [])
-    ≡ Went NotBuilt (in_sender 1 (objects None None None (active 0 0 (Small 5 ∷ Ref 36 ∷ [])) 83 (Ref 36) (with_primitive 0 96) (pointers 6 [] ∷ []))))
+    ≡ Went outcome.Went (in_sender 1 (objects None None None (active 0 0 (Ref 6 ∷ Ref 36 ∷ [])) 83 (Ref 36) (with_primitive 0 111) (pointers 6 [] ∷ []))))
     × (performing 83 2 (Small 5 ∷ Ref 36 ∷ Small 6 ∷ []) (Ref 36) (with_primitive 1 83) (pointers 6 [] ∷ [])
     ≡ performed_by (Ref 35) 7 0 (Small 6) (Small 6) 83 (Ref 36) (with_primitive 1 83) (pointers 6 [] ∷ []))
 unfolding opened performing performed_by state in_sender objects active activation with_primitive method pointers
-performed_primitive = (refl, refl, refl)
+performed_primitive = (refl, refl)
 
 -- 84 performs 84, which fails as it takes two arguments: receiver, selector and Array
 performed_again : performing 84 2 (Small 5 ∷ Ref 36 ∷ Ref 37 ∷ []) (Ref 36) (with_primitive 2 84) (pointers 6 [] ∷ pointers 8 (Ref 36 ∷ Ref 37 ∷ []) ∷ [])
-    ≡ Went (Did outcome.Went) (state (Ref 5) (Ref 35) (Small 5) 6 0
+    ≡ Went outcome.Went (state (Ref 5) (Ref 35) (Small 5) 6 0
     (objects (activation (Ref 35) 7 0 (Small 5 ∷ Ref 36 ∷ Ref 37 ∷ replicate 10 nil)) None None (active 10 0 (Small 5 ∷ Ref 36 ∷ Ref 37 ∷ [])) 84 (Ref 36) (with_primitive 2 84)
     (pointers 6 [] ∷ pointers 8 (Ref 36 ∷ Ref 37 ∷ []) ∷ [])))
 unfolding opened performing state in_sender objects active activation with_primitive method pointers
@@ -115,7 +113,7 @@ performed_again = refl
 
 -- a method of flag 5 takes no argument, and answers the receiver
 performed_itself : performing 83 1 (Small 5 ∷ Ref 36 ∷ []) (Ref 36) (method (Small 20480 ∷ [])) (pointers 6 [] ∷ [])
-    ≡ Went (Did outcome.Went) (in_sender 1 (objects None None None (active 0 0 (Small 5 ∷ Ref 36 ∷ [])) 83 (Ref 36) (method (Small 20480 ∷ [])) (pointers 6 [] ∷ [])))
+    ≡ Went outcome.Went (in_sender 1 (objects None None None (active 0 0 (Small 5 ∷ Ref 36 ∷ [])) 83 (Ref 36) (method (Small 20480 ∷ [])) (pointers 6 [] ∷ [])))
 unfolding opened performing state in_sender objects active with_primitive method pointers
 performed_itself = refl
 
@@ -128,14 +126,14 @@ not_performed = (refl, refl, refl)
 
 -- and without a selector
 no_selector : performing 83 0 (Small 5 ∷ []) (Ref 36) takes_none (pointers 6 [] ∷ [])
-    ≡ Went (Did outcome.Went) (state (Ref 5) (Ref 31) (Small 5) 6 0 (objects (activation (Ref 31) 7 0 (Small 5 ∷ replicate 12 nil)) None None (active 10 0 (Small 5 ∷ [])) 83 (Ref 36) takes_none (pointers 6 [] ∷ [])))
+    ≡ Went outcome.Went (state (Ref 5) (Ref 31) (Small 5) 6 0 (objects (activation (Ref 31) 7 0 (Small 5 ∷ replicate 12 nil)) None None (active 10 0 (Small 5 ∷ [])) 83 (Ref 36) takes_none (pointers 6 [] ∷ [])))
 unfolding opened performing state in_sender objects active activation with_primitive takes_none method pointers
 no_selector = refl
 
 -- A selector that isn't found is not understood: doesNotUnderstand: has a Message of it and of the Array of the other arguments.
 -- Where there is no method for that either, the machine is dead.
 not_understood : (performing 83 2 (Small 5 ∷ Ref 36 ∷ Small 6 ∷ []) (Ref 21) takes_one (pointers 6 [] ∷ [])
-    ≡ Went (Did outcome.Went) (state (Ref 18) (Ref 35) (Small 5) 2 1
+    ≡ Went outcome.Went (state (Ref 18) (Ref 35) (Small 5) 2 1
     (objects (pointers 8 (Small 6 ∷ [])) (pointers 16 (Ref 36 ∷ Ref 5 ∷ [])) (activation (Ref 35) 3 1 (Small 5 ∷ Ref 15 ∷ replicate 11 nil)) (active 10 0 (Small 5 ∷ Ref 15 ∷ Small 6 ∷ [])) 83 (Ref 21) takes_one
     (pointers 6 [] ∷ []))))
     × (performing 83 2 (Small 5 ∷ Ref 36 ∷ Small 6 ∷ []) (Ref 37) takes_one (pointers 6 [] ∷ pointers 6 [] ∷ []) ≡ Died dead.Unanswered)
@@ -156,7 +154,7 @@ deaths = (refl, refl, refl, refl, refl)
 performed_with : (performing 84 2 (Small 5 ∷ Ref 36 ∷ Ref 37 ∷ []) (Ref 36) takes_one (pointers 6 [] ∷ pointers 8 (Small 6 ∷ []) ∷ [])
     ≡ performed_by (Ref 35) 3 1 (Small 6) (Ref 37) 84 (Ref 36) takes_one (pointers 6 [] ∷ pointers 8 (Small 6 ∷ []) ∷ []))
     × (performing 84 2 (Small 5 ∷ Ref 36 ∷ Ref 37 ∷ []) (Ref 36) (method (Small 20480 ∷ [])) (pointers 6 [] ∷ pointers 8 [] ∷ [])
-    ≡ Went (Did outcome.Went) (in_sender 1 (objects None None None (active 0 0 (Small 5 ∷ Ref 36 ∷ Ref 37 ∷ [])) 84 (Ref 36) (method (Small 20480 ∷ [])) (pointers 6 [] ∷ pointers 8 [] ∷ []))))
+    ≡ Went outcome.Went (in_sender 1 (objects None None None (active 0 0 (Small 5 ∷ Ref 36 ∷ Ref 37 ∷ [])) 84 (Ref 36) (method (Small 20480 ∷ [])) (pointers 6 [] ∷ pointers 8 [] ∷ []))))
 unfolding opened performing performed_by state in_sender objects active activation with_primitive takes_one method pointers
 performed_with = (refl, refl)
 
@@ -173,7 +171,7 @@ not_performed_with = (refl, refl, refl, refl, refl, refl)
 
 -- a selector that isn't found takes as many as there is room for
 not_understood_with : performing 84 2 (Small 5 ∷ Ref 36 ∷ Ref 37 ∷ []) (Ref 21) takes_one (pointers 6 [] ∷ pointers 8 (Small 6 ∷ Small 7 ∷ []) ∷ [])
-    ≡ Went (Did outcome.Went) (state (Ref 18) (Ref 35) (Small 5) 2 1
+    ≡ Went outcome.Went (state (Ref 18) (Ref 35) (Small 5) 2 1
     (objects (pointers 8 (Small 6 ∷ Small 7 ∷ [])) (pointers 16 (Ref 36 ∷ Ref 5 ∷ [])) (activation (Ref 35) 3 1 (Small 5 ∷ Ref 15 ∷ replicate 11 nil)) (active 10 0 (Small 5 ∷ Ref 15 ∷ Small 7 ∷ [])) 84 (Ref 21) takes_one
     (pointers 6 [] ∷ pointers 8 (Small 6 ∷ Small 7 ∷ []) ∷ [])))
 unfolding opened performing state in_sender objects active activation with_primitive takes_one method pointers
@@ -181,7 +179,7 @@ not_understood_with = refl
 
 -- with another number of arguments than two it fails, and dies where words are missing
 other_number : (performing 84 1 (Small 5 ∷ Ref 36 ∷ []) (Ref 36) takes_one (pointers 6 [] ∷ [])
-    ≡ Went (Did outcome.Went) (state (Ref 5) (Ref 31) (Small 5) 6 0 (objects (activation (Ref 31) 7 0 (Small 5 ∷ Ref 36 ∷ replicate 11 nil)) None None (active 10 0 (Small 5 ∷ Ref 36 ∷ [])) 84 (Ref 36) takes_one (pointers 6 [] ∷ []))))
+    ≡ Went outcome.Went (state (Ref 5) (Ref 31) (Small 5) 6 0 (objects (activation (Ref 31) 7 0 (Small 5 ∷ Ref 36 ∷ replicate 11 nil)) None None (active 10 0 (Small 5 ∷ Ref 36 ∷ [])) 84 (Ref 36) takes_one (pointers 6 [] ∷ []))))
     × (performing 84 2 (Small 5 ∷ Ref 36 ∷ []) (Ref 36) takes_one (pointers 6 [] ∷ []) ≡ Died dead.Sp)
 unfolding opened performing state in_sender objects active activation with_primitive takes_one method pointers
 other_number = (refl, refl)

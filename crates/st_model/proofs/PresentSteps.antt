@@ -5,7 +5,7 @@ use Rattle.std.specs.Prelude.{if◌then◌else◌, nat_lt, ℤ, pos, negsuc}
 use Rattle.st_model.specs.declared.dead.Dead.{Dead}
 use Rattle.st_model.specs.Values.{Value, Small, Ref}
 use Rattle.st_model.specs.Objects.{Object, PageObject, NilObject}
-use Rattle.st_model.specs.Outcomes.{StepEnd}
+use Rattle.st_model.specs.Outcomes.{Outcome}
 use Rattle.st_model.specs.Machine.{Registers, Step, answer}
 use Rattle.st_model.specs.Births.{Births}
 use Rattle.st_model.specs.Steps.{same_value, fetch_kind, fetch_size, fetch_bytes, store_bytes, new_object, class_of, or_die, check, fetch_field, store_field, integer_or_die, fetch_integer, count_fields, fetch_fields, store_fields, fetch_word, fetch_byte, store_word, store_byte, transfer, put, push, top, under, look_at_words, drop_words, pop, literal, fetch_method_field, store_method_field, byte_at, next_byte, jump}
@@ -16,7 +16,7 @@ use Rattle.st_model.specs.Sends.{Call, copy_arguments, argument_array, new_messa
 use Rattle.st_model.specs.declared.integers.IntAnswer.{IntAnswer}
 use Rattle.st_model.specs.declared.integers.IntAnswer.TheVariants.{Number, Truth, Point}
 use Rattle.st_model.specs.Primitives.{pop_words, answer_with, succeed, primitive, taking, truth, check_class, check_bytes, bits_or_die, positive_small, byte_or_die, large_value, positive_value, new_large, number, number_of, specification, fixed_of_class, fixed_by, fixed_fields}
-use Rattle.st_model.specs.Storage.{count_literals, first_by, first_place, place_of_element, place_at, place_behind_fixed, word_number, byte_number, element_by, fetch_element, word_of_value, unit_by, unit_of_element, store_by, store_element, Storing, storing_at, store_and_answer, primitive_at, storing_behind_fixed, primitive_at_put, count_elements, primitive_size, fetch_character, place_in_bytes, character_at, primitive_string_at, character_byte, character_storing_at, storing_character, primitive_string_at_put, characters_or_not, has_characters, place_of_object, place_of_character, stream_place, position_below, Standing, standing_at, stream_standing, stream_element, take_next, primitive_next, stream_unit, Putting, putting_at, stream_putting, put_next, primitive_next_put, is_at_end, primitive_at_end, method_place, place_in_method, header_or_literal, primitive_object_at, check_header, check_method_field, place_to_store, store_in_method, primitive_object_at_put, check_not_method_class, fixed_specification, primitive_new, checked_shape, indexed_shape, primitive_new_with, check_object, check_objects, exchange_and_answer, primitive_become, primitive_instance_variable_at, storing_by_index, primitive_instance_variable_at_put, half_pointer, primitive_as_oop, kept_object_at, primitive_as_object, first_kept_instance, primitive_some_instance, instance_after, primitive_next_instance, MethodShape, method_shape, new_method, primitive_new_method, Replacing, checked_replacing, replacing, replace_and_answer, primitive_replace, primitive_core_left, primitive_oops_left, primitive_say, storage}
+use Rattle.st_model.specs.Storage.{count_literals, first_by, first_place, place_of_element, place_at, place_behind_fixed, word_number, byte_number, element_by, fetch_element, word_of_value, unit_by, unit_of_element, store_by, store_element, Storing, storing_at, store_and_answer, primitive_at, storing_behind_fixed, primitive_at_put, count_elements, primitive_size, fetch_character, place_in_bytes, character_at, primitive_string_at, character_byte, character_storing_at, storing_character, primitive_string_at_put, characters_or_not, has_characters, place_of_object, place_of_character, stream_place, position_below, Standing, standing_at, stream_standing, stream_element, take_next, primitive_next, stream_unit, Putting, putting_at, stream_putting, put_next, primitive_next_put, is_at_end, primitive_at_end, method_place, place_in_method, header_or_literal, primitive_object_at, check_header, check_method_field, place_to_store, store_in_method, primitive_object_at_put, check_not_method_class, fixed_specification, primitive_new, checked_shape, indexed_shape, primitive_new_with, check_object, check_objects, exchange_and_answer, primitive_become, primitive_instance_variable_at, storing_by_index, primitive_instance_variable_at_put, half_pointer, primitive_as_oop, kept_object_at, primitive_as_object, first_kept_instance, primitive_some_instance, instance_after, primitive_next_instance, MethodShape, method_shape, new_method, primitive_new_method, Replacing, checked_replacing, replacing, replace_and_answer, primitive_replace, primitive_core_left, primitive_oops_left, primitive_say}
 use Rattle.st_model.specs.declared.kind.Kind.{Kind}
 use Rattle.st_model.specs.declared.kind.Kind.TheVariants as kind
 use Rattle.st_model.specs.Arithmetic.{new_point, value_of_answer, integer_under, integer_answer, arithmetic, equivalence, receiver_class, flush_cache}
@@ -434,7 +434,7 @@ module _ (o : Object) (lives : ℕ → Type 0) where
   unfolding special_send
   special_send-sure n k = search (parts, argument_count-sure, send-sure) depth 32 fits 4000
 
-  pub end-sure : (n : ℕ) (e : StepEnd) → SureAnswer n (answer e) (answer e)
+  pub end-sure : (n : ℕ) (e : Outcome) → SureAnswer n (answer e) (answer e)
   end-sure n e = answer_itself-sure o lives n e
 
   pub goes_on-sure : (n : ℕ) (m : Step Births Unit) (m' : Step Births Unit) → SureAnswer n m m' → SureAnswer n (goes_on m) (goes_on m')
@@ -898,7 +898,3 @@ module _ (o : Object) (lives : ℕ → Type 0) where
   pub primitive_say-sure : (n : ℕ) (r : Value) → There n r → SureAnswer n (primitive_say bare r) (primitive_say (full o) r)
   unfolding primitive_say
   primitive_say-sure n r h0 = search storing_sure depth 24 fits 4000
-
-  pub storage-sure : (n : ℕ) (k i : ℕ) → SureAnswer n (storage bare k i) (storage (full o) k i)
-  unfolding storage
-  storage-sure n k i = search (sures, taking-sure, primitive_at-sure, primitive_at_put-sure, primitive_size-sure, primitive_string_at-sure, primitive_string_at_put-sure, primitive_next-sure, primitive_next_put-sure, primitive_at_end-sure, primitive_object_at-sure, primitive_object_at_put-sure, primitive_new-sure, primitive_new_with-sure, primitive_become-sure, primitive_instance_variable_at-sure, primitive_instance_variable_at_put-sure, primitive_as_oop-sure, primitive_as_object-sure, primitive_some_instance-sure, primitive_next_instance-sure, primitive_new_method-sure, primitive_replace-sure, primitive_core_left-sure, primitive_oops_left-sure) depth 32 fits 4000

@@ -3,9 +3,9 @@ use Rattle.std.proofs.Common.{◌≡◌, ℕ, zero, suc, Option, Some, None, Boo
 use Rattle.std.specs.Prelude.{ℤ}
 use Rattle.st_model.specs.declared.integers.IntAnswer.{IntAnswer}
 use Rattle.st_model.specs.declared.integers.IntAnswer.TheVariants.{Number, Truth, Point}
-use Rattle.st_model.specs.Values.{Value, renamed}
+use Rattle.st_model.specs.Values.{Value, Small, Ref, renamed}
 use Rattle.st_model.specs.Machine.{ObjectMemory, Step}
-use Rattle.st_model.specs.Primitives.{pop_words, answer_with, succeed, primitive, taking, truth}
+use Rattle.st_model.specs.Primitives.{pop_words, answer_with, succeed, primitive, taking, truth, bits_or_die, positive_small}
 use Rattle.st_model.specs.Arithmetic.{new_point, value_of_answer, integer_under, integer_answer, arithmetic, equivalence, receiver_class, flush_cache}
 use Rattle.st_model.proofs.Same.{Simulation, ValueSame, OptionalSame, SameValue, SameAnswer, strict, steps_same}
 use Rattle.st_model.proofs.StepsSame.{parts_same}
@@ -18,6 +18,15 @@ module _ {H K : Type 0} {M : ObjectMemory H} {N : ObjectMemory K} (sim : Simulat
   integer_answer-same : (n : ℕ) → SameAnswer sim (integer_answer M n) (integer_answer N n)
   unfolding integer_answer
   integer_answer-same n = search (parts_same, integer_under-same) depth 16 fits 4000
+
+  pub bits_or_die-same : (v w : Value) → ValueSame sim v w → SameAnswer sim (bits_or_die v) (bits_or_die w)
+  unfolding bits_or_die
+  bits_or_die-same (Small n) w h = rw h.is (search steps_same)
+  bits_or_die-same (Ref n) w h = rw h.is (search steps_same)
+
+  pub positive_small-same : (v w : Value) → ValueSame sim v w → SameAnswer sim (positive_small v) (positive_small w)
+  unfolding positive_small
+  positive_small-same v w h = search (parts_same, bits_or_die-same) depth 24 fits 4000
 
 module _ {H K : Type 0} {M : ObjectMemory H} {N : ObjectMemory K} (sim : Simulation M N) (makes : sim.makes) where
   pop_words-same : (n : ℕ) → SameAnswer sim (pop_words M n) (pop_words N n)

@@ -9,7 +9,7 @@ use Rattle.std.specs.Option.{option_map}
 use Rattle.st_model.specs.declared.dead.Dead.{Dead}
 use Rattle.st_model.specs.Values.{Value, Small, Ref, small_integer, renamed, renamed_all, IsLive, AllLive}
 use Rattle.st_model.specs.Objects.{Object, PageObject, renamed_object, IsLiveObject, words_of, with_field}
-use Rattle.st_model.specs.Outcomes.{StepEnd, Did, NotBuilt, renamed_outcome, IsLiveOutcome}
+use Rattle.st_model.specs.Outcomes.{Outcome, renamed_outcome, IsLiveOutcome}
 use Rattle.st_model.specs.Sends.{Call}
 use Rattle.st_model.specs.Outcomes as outcome
 use Rattle.st_model.specs.Steps.{code_byte, same_value}
@@ -263,14 +263,6 @@ abbrev pub AnyCallSame : {H K : Type 0} {M : ObjectMemory H} {N : ObjectMemory K
 AnyCallSame sim c d = AnyCallNamed sim.live sim.name c d
 
 -- how a bytecode ends
-abbrev pub IsLiveEnd : (ℕ → Type 0) → StepEnd → Type 0
-IsLiveEnd live (Did o) = IsLiveOutcome live o
-IsLiveEnd live NotBuilt = Unit {0}
-
-abbrev pub renamed_end : (ℕ → ℕ) → StepEnd → StepEnd
-renamed_end f (Did o) = Did (renamed_outcome f o)
-renamed_end f NotBuilt = NotBuilt
-
 -- steps that do the same, by what they answer: a value, values, a value or none, registers, the world, an object; something
 -- that stays as it is; a call, or none; or how a bytecode ends
 
@@ -298,8 +290,8 @@ SameCall sim m n = Same sim (IsLiveCall sim.live) (renamed_call sim.name) m n
 abbrev pub SameAnyCall : {H K : Type 0} {M : ObjectMemory H} {N : ObjectMemory K} → Simulation M N → Step H (Option Call) → Step K (Option Call) → Type 0
 SameAnyCall sim m n = Same sim (IsLiveAnyCall sim.live) (renamed_any_call sim.name) m n
 
-abbrev pub SameEnd : {H K : Type 0} {M : ObjectMemory H} {N : ObjectMemory K} → Simulation M N → Step H StepEnd → Step K StepEnd → Type 0
-SameEnd sim m n = Same sim (IsLiveEnd sim.live) (renamed_end sim.name) m n
+abbrev pub SameEnd : {H K : Type 0} {M : ObjectMemory H} {N : ObjectMemory K} → Simulation M N → Step H Outcome → Step K Outcome → Type 0
+SameEnd sim m n = Same sim (IsLiveOutcome sim.live) (renamed_outcome sim.name) m n
 
 -- one rule for each sort of answer, so that a search need not guess it
 module _ {H K A B : Type 0} {M : ObjectMemory H} {N : ObjectMemory K} (sim : Simulation M N) (Q : A → Type 0) (q : A → B) where
@@ -503,14 +495,11 @@ module _ {H K : Type 0} {M : ObjectMemory H} {N : ObjectMemory K} (sim : Simulat
   pub answer_no_call-same : SameAnyCall sim (answer None) (answer None)
   answer_no_call-same = answer-same sim _ _ _ _ tt refl
 
-  pub went-same : SameEnd sim (answer (Did outcome.Went)) (answer (Did outcome.Went))
+  pub went-same : SameEnd sim (answer outcome.Went) (answer outcome.Went)
   went-same = answer-same sim _ _ _ _ tt refl
 
-  pub say_value-same : (v w : Value) → ValueSame sim v w → SameEnd sim (answer (Did (outcome.Say v))) (answer (Did (outcome.Say w)))
-  say_value-same v w h = answer-same sim _ _ _ _ h.live (ap (λ x. Did (outcome.Say x)) h.is)
-
-  pub not_built-same : SameEnd sim (answer NotBuilt) (answer NotBuilt)
-  not_built-same = answer-same sim _ _ _ _ tt refl
+  pub say_value-same : (v w : Value) → ValueSame sim v w → SameEnd sim (answer (outcome.Say v)) (answer (outcome.Say w))
+  say_value-same v w h = answer-same sim _ _ _ _ h.live (ap (λ x. outcome.Say x) h.is)
 
 -- A step that is only tried, and makes nothing. Of a value it answers a value or none, of anything else that or none.
 
@@ -549,4 +538,4 @@ module _ {H K : Type 0} {M : ObjectMemory H} {N : ObjectMemory K} (sim : Simulat
   tried_itself-same m n h k = tried-same _ _ _ _ (tt, refl) (λ a l. (tt, refl)) m n h k
 
 -- what a search of steps that do the same goes by
-pub ruleset steps_same = (then_value-same, then_values-same, then_object-same, then_answer-same, then_option-same, then_registers-same, then_call-same, then_any_call-same, then_unit-same, if-same, tried_value-same, tried_itself-same, die-same, answer_value-same, answer_values-same, answer_option-same, answer_registers-same, answer_object-same, answer_itself-same, answer_call-same, answer_some_call-same, answer_no_call-same, went-same, say_value-same, not_built-same, same_value-same, small-same, small_integer-same, class-same, no_values-same, values-same, none-same, some-same, field-same, registers-same, hold-same, add_signal-same, take_signal-same, set_due-same, set_low-same, move_mouse-same, add_word-same, take_word-same, second_clock-same, millisecond_clock-same, length-renamed, code_byte-renamed)
+pub ruleset steps_same = (then_value-same, then_values-same, then_object-same, then_answer-same, then_option-same, then_registers-same, then_call-same, then_any_call-same, then_unit-same, if-same, tried_value-same, tried_itself-same, die-same, answer_value-same, answer_values-same, answer_option-same, answer_registers-same, answer_object-same, answer_itself-same, answer_call-same, answer_some_call-same, answer_no_call-same, went-same, say_value-same, same_value-same, small-same, small_integer-same, class-same, no_values-same, values-same, none-same, some-same, field-same, registers-same, hold-same, add_signal-same, take_signal-same, set_due-same, set_low-same, move_mouse-same, add_word-same, take_word-same, second_clock-same, millisecond_clock-same, length-renamed, code_byte-renamed)

@@ -6,7 +6,7 @@ use Rattle.std.specs.Prelude.{ℤ, pos, replicate}
 use Rattle.st_model.specs.declared.kind.Kind.TheVariants as kind
 use Rattle.st_model.specs.Values.{Value, Small, Ref}
 use Rattle.st_model.specs.Objects.{Object, nil}
-use Rattle.st_model.specs.Outcomes.{With, Space, Unbuilt}
+use Rattle.st_model.specs.Outcomes.{With, Space}
 use Rattle.st_model.specs.Outcomes as outcome
 use Rattle.st_model.specs.Machine.{State, Registers, empty_world, Went, used}
 use Rattle.st_model.specs.Table.{Table, table}

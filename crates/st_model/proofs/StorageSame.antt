@@ -7,13 +7,14 @@ use Rattle.st_model.specs.declared.kind.Kind.TheVariants as kind
 use Rattle.st_model.specs.Values.{Value, Small, Ref}
 use Rattle.st_model.specs.Objects.{PageObject}
 use Rattle.st_model.specs.Machine.{ObjectMemory}
-use Rattle.st_model.specs.Primitives.{check_class, check_bytes, bits_or_die, positive_small, byte_or_die, large_value, positive_value, new_large, number, number_of, specification, fixed_of_class, fixed_by, fixed_fields}
+use Rattle.st_model.specs.Primitives.{check_class, check_bytes, byte_or_die, large_value, positive_value, new_large, number, number_of, specification, fixed_of_class, fixed_by, fixed_fields}
 use Rattle.st_model.specs.Storage.{count_literals, first_by, first_place, place_of_element, place_at, place_behind_fixed, word_number, byte_number, element_by, fetch_element, word_of_value, unit_by, unit_of_element, store_by, store_element, Storing, storing_at, store_and_answer, primitive_at, storing_behind_fixed, primitive_at_put, count_elements, primitive_size, fetch_character, place_in_bytes, character_at, primitive_string_at, character_byte, character_storing_at, storing_character, primitive_string_at_put, characters_or_not, has_characters, place_of_object, place_of_character, stream_place, position_below, Standing, standing_at, stream_standing, stream_element, take_next, primitive_next, stream_unit, Putting, putting_at, stream_putting, put_next, primitive_next_put, is_at_end, primitive_at_end, method_place, place_in_method, header_or_literal, primitive_object_at, check_header, check_method_field, place_to_store, store_in_method, primitive_object_at_put, check_not_method_class, fixed_specification, primitive_new, checked_shape, indexed_shape, primitive_new_with, check_object, check_objects, exchange_and_answer, primitive_become, primitive_instance_variable_at, storing_by_index, primitive_instance_variable_at_put, half_pointer, primitive_as_oop, kept_object_at, primitive_as_object, first_kept_instance, primitive_some_instance, instance_after, primitive_next_instance, MethodShape, method_shape, new_method, primitive_new_method, Replacing, checked_replacing, replacing, replace_and_answer, primitive_replace, primitive_core_left, primitive_oops_left, primitive_say, storage}
 use Rattle.st_model.proofs.Same.{Simulation, ValueSame, SameValue, SameAnswer, steps_same}
 use Rattle.st_model.proofs.StepsSame.{parts_same, get_free-same}
 use Rattle.st_model.proofs.ContextsSame.{headers_same}
 use Rattle.st_model.proofs.LookupSame.{half_word-same}
-use Rattle.st_model.proofs.PrimitivesSame.{primitive-same, primitive_value-same, taking-same, truth-same}
+use Rattle.st_model.proofs.PrimitivesSame.{bits_or_die-same, positive_small-same, primitive-same, primitive_value-same, taking-same, truth-same}
+use Rattle.st_model.proofs.BitBltSame.{copy_bits-same}
 
 -- what conditions are made of; nothing is made
 module _ {H K : Type 0} {M : ObjectMemory H} {N : ObjectMemory K} (sim : Simulation M N) where
@@ -28,15 +29,6 @@ module _ {H K : Type 0} {M : ObjectMemory H} {N : ObjectMemory K} (sim : Simulat
   unfolding check_bytes
   check_bytes-same v w h = search parts_same depth 24 fits 4000
 
-  pub bits_or_die-same : (v w : Value) → ValueSame sim v w → SameAnswer sim (bits_or_die v) (bits_or_die w)
-  unfolding bits_or_die
-  bits_or_die-same (Small n) w h = rw h.is (search steps_same)
-  bits_or_die-same (Ref n) w h = rw h.is (search steps_same)
-
-  pub positive_small-same : (v w : Value) → ValueSame sim v w → SameAnswer sim (positive_small v) (positive_small w)
-  unfolding positive_small
-  positive_small-same v w h = search (parts_same, bits_or_die-same) depth 24 fits 4000
-
   byte_or_die-same : (v w : Value) → ValueSame sim v w → SameAnswer sim (byte_or_die v) (byte_or_die w)
   unfolding byte_or_die
   byte_or_die-same v w h = search (parts_same, bits_or_die-same) depth 24 fits 4000
@@ -47,7 +39,7 @@ module _ {H K : Type 0} {M : ObjectMemory H} {N : ObjectMemory K} (sim : Simulat
 
   pub positive_value-same : (v w : Value) → ValueSame sim v w → SameAnswer sim (positive_value M v) (positive_value N w)
   unfolding positive_value
-  positive_value-same (Small n) w h = rw h.is (positive_small-same (Small n) (Small n) (record { live = tt; is = refl }))
+  positive_value-same (Small n) w h = rw h.is (positive_small-same sim (Small n) (Small n) (record { live = tt; is = refl }))
   positive_value-same (Ref n) w h = rw h.is (large_value-same (Ref n) (Ref (sim.name n)) (record { live = h.live; is = refl }))
 
   specification-same : (v w : Value) → ValueSame sim v w → SameAnswer sim (specification M v) (specification N w)
@@ -405,4 +397,4 @@ module _ {H K : Type 0} {M : ObjectMemory H} {N : ObjectMemory K} (sim : Simulat
 
   pub storage-same : (k n : ℕ) → SameAnswer sim (storage M k n) (storage N k n)
   unfolding storage
-  storage-same k n = search (steps_same, taking-same, at-same, at_put-same, size-same, string_at-same, string_at_put-same, next-same, next_put-same, at_end-same, object_at-same, object_at_put-same, new-same, new_with-same, become-same, instance_variable_at-same, instance_variable_at_put-same, as_oop-same, as_object-same, some_instance-same, next_instance-same, new_method_primitive-same, replace-same, core_left-same, oops_left-same) depth 32 fits 4000
+  storage-same k n = search (steps_same, taking-same, at-same, at_put-same, size-same, string_at-same, string_at_put-same, next-same, next_put-same, at_end-same, object_at-same, object_at_put-same, new-same, new_with-same, become-same, instance_variable_at-same, instance_variable_at_put-same, as_oop-same, as_object-same, some_instance-same, next_instance-same, new_method_primitive-same, copy_bits-same, replace-same, core_left-same, oops_left-same) depth 32 fits 4000

@@ -1,12 +1,15 @@
 -- What steps come to over a memory that reads, changes and names objects as the table does.
 use Rattle.std.proofs.Common.{◌≡◌, ℕ, List, [], ◌∷◌, zero, suc, refl}
 use mathlib.Core.Path.{fun_ext}
-use Rattle.std.specs.Prelude.{ℤ}
+use Rattle.std.specs.Prelude.{ℤ, ◌+◌, ◌-◌, ◌*◌, Bool, true, false, length, nat_lt, nat_le}
+use Rattle.st_model.specs.declared.dead.Dead.TheVariants as dead
 use Rattle.st_model.specs.Values.{Value, Small, Ref}
-use Rattle.st_model.specs.Objects.{PageObject, SmallIntegerClass}
-use Rattle.st_model.specs.Machine.{ObjectMemory}
-use Rattle.st_model.specs.Steps.{of_page, object_named, object, store_at, stored_at, set_field, exchanged_there, exchange_named, exchange, units_set, set_units_at, set_units, fetch_word, fetch_byte, store_word, store_byte, class_of, fetch_field, store_field, count_fields, fetch_fields, store_fields, transfer, literal, fetch_method_field, store_method_field, byte_at}
+use Rattle.st_model.specs.Objects.{PageObject, NilObject, SmallIntegerClass}
+use Rattle.st_model.specs.Machine.{ObjectMemory, answer, ◌>>=◌, ◌>>◌}
+use Rattle.st_model.specs.Steps.{of_page, object_named, object, store_at, stored_at, set_field, exchanged_there, exchange_named, exchange, units_set, set_units_at, set_units, fetch_word, fetch_byte, store_word, store_byte, class_of, fetch_field, store_field, count_fields, fetch_fields, store_fields, transfer, literal, fetch_method_field, store_method_field, byte_at, get_active, get_sp, set_sp, check, same_value, fetch_integer, put, push, top, pop}
 use Rattle.st_model.specs.Methods.{method_header, literal_from_last}
+use Rattle.st_model.specs.Pixels.{row_words}
+use Rattle.st_model.specs.BitBlt.{Copy, painted, fetch_words, fetch_positive, read_form, read_unless, read_form_if_any, fetch_form, fetch_destination, fetch_halftone, fetch_rule, fetch_axis, read_copy, store_painted}
 use Rattle.st_model.specs.Table.{Table, table, IsTabular}
 
 module _ {m : ObjectMemory Table} (h : IsTabular m) where
@@ -52,7 +55,7 @@ module _ {m : ObjectMemory Table} (h : IsTabular m) where
   exchange-as (Ref a) (Small b) = refl
   exchange-as (Ref a) (Ref b) = rw (h.read, h.exchange) refl
 
-  set_units-as : (v : Value) (us : List ℕ) → set_units m v us ≡ set_units table v us
+  pub set_units-as : (v : Value) (us : List ℕ) → set_units m v us ≡ set_units table v us
   unfolding set_units set_units_at units_set
   set_units-as (Small n) us = refl
   set_units-as (Ref n) us = rw (h.read, h.replace) refl
@@ -110,3 +113,77 @@ module _ {m : ObjectMemory Table} (h : IsTabular m) where
   pub literal_from_last-as : (v : Value) (k : ℕ) → literal_from_last m v k ≡ literal_from_last table v k
   unfolding literal_from_last
   literal_from_last-as v k = rw (object-as v) refl
+
+  fetch_integer-as : (v : Value) (i : ℕ) → fetch_integer m v i ≡ fetch_integer table v i
+  unfolding fetch_integer
+  fetch_integer-as v i = rw (fetch_field-as v i) refl
+
+  -- the stack
+
+  pub top-as : top m ≡ top table
+  unfolding top
+  top-as = λ j. get_sp >>= (λ sp. check dead.Sp (nat_lt 5 sp) >> (get_active >>= (λ c. fetch_field-as c sp j)))
+
+  pub pop-as : pop m ≡ pop table
+  unfolding pop
+  pop-as = λ j. top-as j >>= (λ v. get_sp >>= (λ sp. set_sp (sp - 1) >> answer v))
+
+  put-as : (c : Value) (at : ℕ) (x : Value) → put m c at x ≡ put table c at x
+  unfolding put
+  put-as c at x = λ j. count_fields-as c j >>= (λ n. check dead.Sp (nat_lt at n) >> (check dead.Sp (nat_le at 16388) >> store_field-as c at x j))
+
+  pub push-as : (x : Value) → push m x ≡ push table x
+  unfolding push
+  push-as x = λ j. get_active >>= (λ c. get_sp >>= (λ sp. put-as c (sp + 1) x j >> set_sp (sp + 1)))
+
+  -- what is read of a BitBlt, and what is stored
+
+  pub fetch_words-as : (v : Value) → fetch_words m v ≡ fetch_words table v
+  unfolding fetch_words
+  fetch_words-as v = rw (object-as v) refl
+
+  pub fetch_positive-as : (v : Value) (i : ℕ) → fetch_positive m v i ≡ fetch_positive table v i
+  unfolding fetch_positive
+  fetch_positive-as v i = rw (fetch_field-as v i) refl
+
+  pub read_form-as : (v : Value) → read_form m v ≡ read_form table v
+  unfolding read_form
+  read_form-as v = λ j. fetch_field-as v 0 j >>= (λ bits. fetch_positive-as v 1 j >>= (λ width. fetch_positive-as v 2 j >>= (λ height. fetch_words-as bits j >>= (λ words.
+      check dead.Field (nat_le (height * row_words width) (length words)) >> answer (record { words = words; width = width; height = height })))))
+
+  read_unless-as : (v : Value) (b : Bool) → read_unless m v b ≡ read_unless table v b
+  unfolding read_unless
+  read_unless-as v true = refl
+  read_unless-as v false = rw (read_form-as v) refl
+
+  pub read_form_if_any-as : (v : Value) → read_form_if_any m v ≡ read_form_if_any table v
+  unfolding read_form_if_any
+  read_form_if_any-as v = λ j. of_page-as NilObject j >>= (λ nil. read_unless-as v (same_value v nil) j)
+
+  pub fetch_form-as : (v : Value) (i : ℕ) → fetch_form m v i ≡ fetch_form table v i
+  unfolding fetch_form
+  fetch_form-as v i = λ j. fetch_field-as v i j >>= (λ f. read_form_if_any-as f j)
+
+  pub fetch_destination-as : (v : Value) → fetch_destination m v ≡ fetch_destination table v
+  unfolding fetch_destination
+  fetch_destination-as v = λ j. fetch_field-as v 0 j >>= (λ f. read_form-as f j)
+
+  pub fetch_halftone-as : (v : Value) → fetch_halftone m v ≡ fetch_halftone table v
+  unfolding fetch_halftone
+  fetch_halftone-as v = rw (fetch_form-as v 2) refl
+
+  pub fetch_rule-as : (v : Value) → fetch_rule m v ≡ fetch_rule table v
+  unfolding fetch_rule
+  fetch_rule-as v = rw (fetch_positive-as v 3) refl
+
+  pub fetch_axis-as : (v : Value) (i : ℕ) → fetch_axis m v i ≡ fetch_axis table v i
+  unfolding fetch_axis
+  fetch_axis-as v i = rw (fetch_integer-as v (4 + i), fetch_integer-as v (6 + i), fetch_integer-as v (8 + i), fetch_integer-as v (10 + i), fetch_integer-as v (12 + i)) refl
+
+  pub read_copy-as : (v : Value) → read_copy m v ≡ read_copy table v
+  unfolding read_copy
+  read_copy-as v = rw (fetch_destination-as v, fetch_form-as v 1, fetch_halftone-as v, fetch_rule-as v, fetch_axis-as v 0, fetch_axis-as v 1) refl
+
+  pub store_painted-as : (v : Value) (c : Copy) → store_painted m v c ≡ store_painted table v c
+  unfolding store_painted
+  store_painted-as v c = λ j. fetch_field-as v 0 j >>= (λ f. fetch_field-as f 0 j >>= (λ bits. set_units-as bits (painted c) j))

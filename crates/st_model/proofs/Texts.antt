@@ -1,12 +1,12 @@
 -- What is said of cycles one after the other is what is said where their run has come to.
 use Rattle.std.proofs.Common.{◌≡◌, ℕ, zero, suc, ◌+◌, ◌-◌, ◌++◌, ap, ◌∙◌, arith}
-use Rattle.st_model.specs.Outcomes.{Ending, With, Space, Unbuilt}
+use Rattle.st_model.specs.Outcomes.{Ending, With, Space}
 use Rattle.st_model.specs.Outcomes as outcome
 use Rattle.st_model.specs.Machine.{State, Transition, Died, Went}
 use Rattle.st_model.specs.Births.{Births, births}
 use Rattle.st_model.specs.Cycles.{cycle, run, run_of, finished, finished_of, and_on, counted}
 use Rattle.st_model.specs.Show.{show}
-use Rattle.st_model.specs.Text.{state_text, ran_text, dead_text, unbuilt_text, space_text, quit_text, debugger_text, said_value, cycles_text, text_after, text_at}
+use Rattle.st_model.specs.Text.{state_text, ran_text, dead_text, space_text, quit_text, debugger_text, said_value, cycles_text, text_after, text_at}
 
 pub text_is : (k n : ℕ) (s : State Births) → text_after n k s ≡ text_at (n + finished births k s) (k - finished births k s) (run births k s)
 unfolding text_after run run_of finished finished_of
@@ -28,4 +28,3 @@ text_is (suc k) n s = over (cycle births s) (λ t. text_is k (suc n) t)
     over (Went (With outcome.Debugger) t) h = let e : suc n ≡ n + 1 = omega arith in ap (λ i. debugger_text i ++ state_text (show t)) e
     over (Went (With (outcome.Say v)) t) h = let e : suc n ≡ n + 1 = omega arith in let f : k ≡ suc k - 1 = omega arith in λ i. said_value t.memory v ++ text_after (e i) (f i) t
     over (Went (Space demand left) t) h = let e : n ≡ n + 0 = omega arith in ap (λ i. space_text i demand left ++ state_text (show t)) e
-    over (Went (Unbuilt code) t) h = let e : n ≡ n + 0 = omega arith in ap (λ i. unbuilt_text i code ++ state_text (show t)) e

@@ -9,7 +9,7 @@ use Rattle.st_model.specs.declared.bytecode.Bytecode.{Bytecode}
 use Rattle.st_model.specs.declared.bytecode.Bytecode.TheVariants as code
 use Rattle.st_model.specs.Values.{Value, Small, Ref}
 use Rattle.st_model.specs.Objects.{NilObject, FalseObject, TrueObject}
-use Rattle.st_model.specs.Outcomes.{StepEnd, Did}
+use Rattle.st_model.specs.Outcomes.{Outcome}
 use Rattle.st_model.specs.Outcomes as outcome
 use Rattle.st_model.specs.Decoded.{decoded, operand_of, selector_of, arguments_of}
 use Rattle.st_model.specs.Machine.{ObjectMemory, Step, answer, die, ◌>>=◌}
@@ -233,23 +233,23 @@ long_jump_on_false m i = do
   jump_on m FalseObject TrueObject (pos (i * 256 + b))
 
 -- a primitive was tried: where it failed, the special selector of this number is sent
-unfoldable pub or_send : {H : Type 0} → ObjectMemory H → ℕ → Step H Bool → Step H StepEnd
+unfoldable pub or_send : {H : Type 0} → ObjectMemory H → ℕ → Step H Bool → Step H Outcome
 or_send m k primitive = do
   succeeded ← primitive
-  if succeeded then answer (Did outcome.Went) else executed m (special_send m k)
+  if succeeded then answer outcome.Went else executed m (special_send m k)
 
 -- 176 to 191: a primitive is tried first where the receiver of one argument is a SmallInteger
-unfoldable pub arithmetic_by : {H : Type 0} → ObjectMemory H → ℕ → Value → Step H StepEnd
+unfoldable pub arithmetic_by : {H : Type 0} → ObjectMemory H → ℕ → Value → Step H Outcome
 arithmetic_by m k (Small n) = or_send m k (arithmetic m (arithmetic_number k))
 arithmetic_by m k (Ref n) = executed m (special_send m k)
 
-unfoldable pub arithmetic_send : {H : Type 0} → ObjectMemory H → ℕ → Step H StepEnd
+unfoldable pub arithmetic_send : {H : Type 0} → ObjectMemory H → ℕ → Step H Outcome
 arithmetic_send m k = do
   receiver ← under m 1
   arithmetic_by m k receiver
 
 -- 198 and 199: the primitives 110 and 111 are done. 200 tries 80, and 201 and 202 try 81 with no argument and with one.
-unfoldable pub primitive_send : {H : Type 0} → ObjectMemory H → ℕ → Step H StepEnd
+unfoldable pub primitive_send : {H : Type 0} → ObjectMemory H → ℕ → Step H Outcome
 primitive_send m k =
     if k == 22 then goes_on (equivalence m) else
     if k == 23 then goes_on (receiver_class m) else
@@ -261,7 +261,7 @@ unfolding push_operand store_and_pop push_receiver push_constant extended_push e
 rows = tt
 
 -- the row of a bytecode
-unfoldable pub bytecode : {H : Type 0} → ObjectMemory H → Bytecode → Step H StepEnd
+unfoldable pub bytecode : {H : Type 0} → ObjectMemory H → Bytecode → Step H Outcome
 bytecode m (code.Push operand) = goes_on (push_operand m operand)
 bytecode m (code.StoreAndPop operand) = goes_on (store_and_pop m operand)
 bytecode m code.PushReceiver = goes_on (push_receiver m)
@@ -292,7 +292,7 @@ bytecode m (code.PrimitiveSend k) = primitive_send m k
 bytecode m (code.LiteralSend i n) = executed m (send_literal m i n)
 
 -- the next bytecode
-unfoldable pub step : {H : Type 0} → ObjectMemory H → Step H StepEnd
+unfoldable pub step : {H : Type 0} → ObjectMemory H → Step H Outcome
 step m = do
   b ← next_byte m
   bytecode m (decoded b)

@@ -2,7 +2,7 @@
 -- warning that space is low (chapters 28, 29 and 30).
 use Rattle.std.specs.Prelude.{ℕ, zero, suc, Option, Some, None, Bool, true, false, ◌&&◌, ◌||◌, length, nat_lt, if◌then◌else◌}
 use Rattle.st_model.specs.declared.demand.Demand.{Demand}
-use Rattle.st_model.specs.Outcomes.{Outcome, StepEnd, Did, NotBuilt, Ending, With, Space, Unbuilt}
+use Rattle.st_model.specs.Outcomes.{Outcome, Ending, With, Space}
 use Rattle.st_model.specs.Outcomes as outcome
 use Rattle.st_model.specs.declared.device.Device.TheVariants.{NewProcess, LowSpace}
 use Rattle.st_model.specs.Values.{Value, Ref}
@@ -10,7 +10,7 @@ use Rattle.st_model.specs.Objects.{NilObject}
 pub use Rattle.st_model.specs.Machine.{less, capacity_of, free_space}
 use Rattle.st_model.specs.Machine.{ObjectMemory, World, State, Transition, Died, Went, Step, used, is_over, answer, ◌>>=◌, ◌>>◌}
 use Rattle.st_model.specs.Surroundings.{TakeSignal}
-use Rattle.st_model.specs.Steps.{of_page, same_value, get_device, newest_signal, count_signals, change_world, next_byte}
+use Rattle.st_model.specs.Steps.{of_page, same_value, get_device, newest_signal, count_signals, change_world}
 use Rattle.st_model.specs.Processes.{signal, switch_to_process}
 use Rattle.st_model.specs.Events.{is_held, signalled_once}
 use Rattle.st_model.specs.Bytecodes.{step}
@@ -69,25 +69,15 @@ warned m s = record s { world = warned_if_low (Ref (m.named s.memory NilObject))
 abbrev pub made_between : {H : Type 0} → ObjectMemory H → State H → State H → Demand
 made_between m s t = less (used m t.memory) (used m s.memory)
 
-abbrev pub byte_answered : {S : Type 0} → Transition S ℕ → ℕ
-byte_answered (Died cause) = 0
-byte_answered (Went b s) = b
-
--- the code of the next bytecode
-unfoldable pub next_code : {H : Type 0} → ObjectMemory H → State H → ℕ
-next_code m s = byte_answered ((next_byte m).run s)
-
 -- where the capacities have no room for what the step makes, it isn't done
 abbrev pub done_or_not : {H : Type 0} → ObjectMemory H → State H → Outcome → State H → Bool → Transition (State H) Ending
 done_or_not m s o t true = Went (Space (made_between m s t) (free_space m s)) s
 done_or_not m s o t false = Went (With o) (warned m (reclaim m t))
 
--- What a cycle makes of a step from s. A death comes first, then the want of space. A step that comes to a primitive that
--- isn't built leaves s as it was.
-abbrev pub ended : {H : Type 0} → ObjectMemory H → State H → Transition (State H) StepEnd → Transition (State H) Ending
+-- What a cycle makes of a step from s. A death comes first, then the want of space.
+abbrev pub ended : {H : Type 0} → ObjectMemory H → State H → Transition (State H) Outcome → Transition (State H) Ending
 ended m s (Died cause) = Died cause
-ended m s (Went NotBuilt t) = Went (Unbuilt (next_code m s)) s
-ended m s (Went (Did o) t) = done_or_not m s o t (is_over (used m t.memory) s.head)
+ended m s (Went o t) = done_or_not m s o t (is_over (used m t.memory) s.head)
 
 -- what came before the bytecode stands, however the cycle ends that doesn't die
 abbrev pub cycle_from : {H : Type 0} → ObjectMemory H → Transition (State H) Unit → Transition (State H) Ending
@@ -106,7 +96,6 @@ and_on (Went (With outcome.Quit) s) f = Went (With outcome.Quit) s
 and_on (Went (With outcome.Debugger) s) f = Went (With outcome.Debugger) s
 and_on (Went (With (outcome.Say v)) s) f = Went (With (outcome.Say v)) s
 and_on (Went (Space demand left) s) f = Went (Space demand left) s
-and_on (Went (Unbuilt b) s) f = Went (Unbuilt b) s
 
 -- n of these cycles, or up to the first that doesn't go on
 unfoldable pub run_of : {S : Type 0} → (S → Transition S Ending) → ℕ → S → Transition S Ending
@@ -116,7 +105,7 @@ run_of one (suc n) s = and_on (one s) (λ t. run_of one n t)
 unfoldable pub run : {H : Type 0} → ObjectMemory H → ℕ → State H → Transition (State H) Ending
 run m n s = run_of (cycle m) n s
 
--- A cycle that ends in a death, for want of space or at a primitive that isn't built isn't finished; all others are.
+-- A cycle that ends in a death or for want of space isn't finished; all others are.
 abbrev pub counted : {S : Type 0} → Transition S Ending → (S → ℕ) → ℕ
 counted (Died cause) f = 0
 counted (Went (With outcome.Went) s) f = suc (f s)
@@ -125,7 +114,6 @@ counted (Went (With outcome.Quit) s) f = 1
 counted (Went (With outcome.Debugger) s) f = 1
 counted (Went (With (outcome.Say v)) s) f = 1
 counted (Went (Space demand left) s) f = 0
-counted (Went (Unbuilt b) s) f = 0
 
 -- of n of these cycles, those that are finished
 unfoldable pub finished_of : {S : Type 0} → (S → Transition S Ending) → ℕ → S → ℕ

@@ -1,9 +1,9 @@
 -- What a primitive leaves to be done: a change of an object's words or bytes, or of a Method's header or literals, in the table;
 -- or one of what lies round the machine.
-use Rattle.std.specs.Prelude.{ℕ, suc, ◌+◌, ◌-◌, ◌==◌, List, [], ◌∷◌, Option, Some, None, Bool, true, false, ◌&&◌, nat_lt, nat_le, if◌then◌else◌, slice_get, take, drop, length}
+use Rattle.std.specs.Prelude.{ℕ, suc, ◌+◌, ◌-◌, ◌==◌, List, [], ◌∷◌, Option, Some, None, Bool, true, false, ◌&&◌, nat_lt, nat_le, if◌then◌else◌, slice_get, take, drop, length, pos}
 use Rattle.st_model.specs.declared.deed.Deed.{Deed}
-use Rattle.st_model.specs.declared.deed.Deed.TheVariants.{Nothing, StoreWord, StoreByte, StoreNumber, ReplaceBytes, StoreHeader, StoreLiteral, StoreTime, Hold, SetTimer, RingTimer, SetLowSpace, MoveMouse, TakeWord}
-use Rattle.st_model.specs.declared.outcome.StepEnd.{StepEnd as CodeStepEnd}
+use Rattle.st_model.specs.declared.deed.Deed.TheVariants.{Nothing, StoreWord, StoreByte, StoreNumber, ReplaceBytes, StoreHeader, StoreLiteral, StoreTime, Hold, SetTimer, RingTimer, SetLowSpace, MoveMouse, CopyBits, TakeWord}
+use Rattle.st_model.specs.declared.outcome.StepEnd.{StepEnd}
 use Rattle.st_model.specs.declared.outcome.StepEnd.TheVariants as ends
 use Rattle.st_model.specs.declared.tried.Tried.{Tried as CodeTried}
 use Rattle.st_model.specs.declared.tried.Tried.TheVariants as trials
@@ -13,10 +13,11 @@ use Rattle.st_model.specs.declared.device.Device.TheVariants as device
 use Rattle.st_model.specs.Surroundings.{Change, changed_world}
 use Rattle.st_model.specs.Surroundings as surroundings
 use Rattle.st_model.specs.Input.{four_bytes}
-use Rattle.st_model.specs.Machine.{State, World, is_there}
+use Rattle.st_model.specs.Machine.{State, World, Transition, Died, Went, Step, is_there, empty_world}
 use Rattle.st_model.specs.Table.{Table, table, entry, changed}
 use Rattle.st_model.specs.Primitives.{bytes_of_number}
 use Rattle.st_model.specs.Methods.{literal_count}
+use Rattle.st_model.specs.BitBlt.{copy_bits}
 
 abbrev pub changed_object : (Object → Object) → Table → ℕ → Option Object → Table
 changed_object f t n None = t
@@ -64,6 +65,41 @@ header_stored x o = if is_method o.kind && counts_literals x (slice_get o.fields
 abbrev pub literal_stored : ℕ → Value → Bool → Object → Object
 literal_stored i x known o = if is_method o.kind && known then with_field o (i + 1) x else o
 
+-- a state of which a step looks at the table alone
+abbrev pub over_table : Table → State Table
+over_table t = record {
+  memory = t;
+  registers = record { active = nil; home = nil; method = nil; receiver = nil; ip = pos 0; sp = 0 };
+  world = empty_world nil;
+  head = record { entries = 0; words = 0; globals = None; symbols = None };
+}
+
+abbrev pub table_left : {A : Type 0} → Table → Transition (State Table) A → Table
+table_left t (Died cause) = t
+table_left t (Went a s) = s.memory
+
+-- the table that a step leaves which looks at nothing else; where it dies, the table as it was
+unfoldable pub table_after : {A : Type 0} → Step Table A → Table → Table
+table_after m t = table_left t (m.run (over_table t))
+
+-- the deed copies pixels, and so looks at fields of objects of kind Pointers; no other does
+abbrev pub copies_pixels : Deed → Bool
+copies_pixels Nothing = false
+copies_pixels (StoreWord o i x) = false
+copies_pixels (StoreByte o i x) = false
+copies_pixels (StoreNumber o k) = false
+copies_pixels (ReplaceBytes o c to from n) = false
+copies_pixels (StoreHeader o x) = false
+copies_pixels (StoreLiteral o i x) = false
+copies_pixels (StoreTime o time) = false
+copies_pixels (Hold d o) = false
+copies_pixels (SetTimer s due) = false
+copies_pixels (RingTimer s) = false
+copies_pixels (SetLowSpace s entries words) = false
+copies_pixels (MoveMouse x y) = false
+copies_pixels (CopyBits r) = true
+copies_pixels (TakeWord o k) = false
+
 -- the table once a deed is done
 abbrev pub deed_done : Deed → Table → Table
 deed_done Nothing t = t
@@ -79,6 +115,7 @@ deed_done (SetTimer s due) t = t
 deed_done (RingTimer s) t = t
 deed_done (SetLowSpace s entries words) t = t
 deed_done (MoveMouse x y) t = t
+deed_done (CopyBits r) t = table_after (copy_bits table (word r)) t
 deed_done (TakeWord o k) t = changed_by (bytes_stored 0 (bytes_of_number k)) t (word o)
 
 -- two changes of the world
@@ -103,6 +140,7 @@ world_done (RingTimer s) t w =
 world_done (SetLowSpace s entries words) t w =
     if is_there table t (word s) then changed_twice (surroundings.Hold device.LowSpace (word s)) (surroundings.SetLow entries words) w else w
 world_done (MoveMouse x y) t w = if nat_le x 16383 && nat_le y 16383 then changed_world (surroundings.MoveMouse x y) w else w
+world_done (CopyBits r) t w = w
 world_done (TakeWord o k) t w = changed_world surroundings.TakeWord w
 
 -- the state with a change of its table
@@ -118,13 +156,12 @@ abbrev pub with_deed : Deed → State Table → State Table
 with_deed d s = over_both (deed_done d) (world_done d) s
 
 -- what the end of a step of the code leaves to be done
-abbrev pub deed_of_end : CodeStepEnd → Deed
+abbrev pub deed_of_end : StepEnd → Deed
 deed_of_end (ends.Went deed) = deed
 deed_of_end (ends.Says w) = Nothing
 deed_of_end ends.Snapshot = Nothing
 deed_of_end ends.Quit = Nothing
 deed_of_end ends.Debugger = Nothing
-deed_of_end ends.NotBuilt = Nothing
 
 -- whether a primitive of the code succeeded that was tried
 abbrev pub is_done : CodeTried → Bool

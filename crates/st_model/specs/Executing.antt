@@ -4,7 +4,7 @@ use Rattle.st_model.specs.declared.dead.Dead.TheVariants as dead
 use Rattle.st_model.specs.Values.{Value}
 use Rattle.st_model.specs.Objects.{ArrayClass}
 use Rattle.st_model.specs.Machine.{ObjectMemory, Step, answer, tried, ◌>>=◌, ◌>>◌}
-use Rattle.st_model.specs.Outcomes.{Outcome, StepEnd, Did, NotBuilt}
+use Rattle.st_model.specs.Outcomes.{Outcome}
 use Rattle.st_model.specs.Outcomes as outcome
 use Rattle.st_model.specs.Steps.{class_of, check, count_fields, fetch_field, transfer, get_active, get_sp, set_sp, push, pop, top, under, drop_words}
 use Rattle.st_model.specs.Methods.{flag_of, temporary_count, method_header, method_primitive, method_arguments}
@@ -19,10 +19,10 @@ use Rattle.st_model.specs.Processes.{processes, is_process}
 use Rattle.st_model.specs.Input.{input, is_input}
 
 -- a step that goes on
-unfoldable pub goes_on : {H : Type 0} → Step H Unit → Step H StepEnd
+unfoldable pub goes_on : {H : Type 0} → Step H Unit → Step H Outcome
 goes_on m = do
   m
-  answer (Did outcome.Went)
+  answer outcome.Went
 
 -- a field of the word at the top takes its place
 unfoldable pub answer_field : {H : Type 0} → ObjectMemory H → ℕ → Step H Unit
@@ -32,46 +32,41 @@ answer_field m i = do
   push m v
 
 -- a primitive was tried: where it failed, the method is activated
-unfoldable pub or_activate : {H : Type 0} → ObjectMemory H → Call → Value → Step H Bool → Step H StepEnd
+unfoldable pub or_activate : {H : Type 0} → ObjectMemory H → Call → Value → Step H Bool → Step H Outcome
 or_activate m call header primitive = do
   succeeded ← primitive
-  if succeeded then answer (Did outcome.Went) else goes_on (activate m call.method header call.arguments)
+  if succeeded then answer outcome.Went else goes_on (activate m call.method header call.arguments)
 
 -- 128: the receiver's bytes are to be said, or where it failed the method is activated
-unfoldable pub say_or_activate : {H : Type 0} → ObjectMemory H → Call → Value → Step H StepEnd
+unfoldable pub say_or_activate : {H : Type 0} → ObjectMemory H → Call → Value → Step H Outcome
 say_or_activate m call header = do
   r ← top m
   succeeded ← primitive_say m r
-  if succeeded then answer (Did (outcome.Say r)) else goes_on (activate m call.method header call.arguments)
+  if succeeded then answer (outcome.Say r) else goes_on (activate m call.method header call.arguments)
 
 -- 97, 113 and 114: something is asked for, and the receiver stays as the answer
-unfoldable pub asks : {H : Type 0} → ObjectMemory H → Outcome → Step H StepEnd
+unfoldable pub asks : {H : Type 0} → ObjectMemory H → Outcome → Step H Outcome
 asks m o = do
   r ← top m
   answer_with m 0 r
-  answer (Did o)
+  answer o
 
 abbrev pub is_from : ℕ → ℕ → ℕ → Bool
 is_from first last n = nat_le first n && nat_le n last
 
--- 96, which copies bits, isn't built
-abbrev pub is_unbuilt : ℕ → Bool
-is_unbuilt n = n == 96
-
--- What the primitives do that ask for something, or aren't built. All numbers that no primitive has, always fail, and activate
+-- What the primitives do that ask for something. All numbers that no primitive has, always fail, and activate
 -- the method as 0 does: among them 21 to 37, 40 to 54, 103 and 104, which the book has for floating-point and large numbers,
 -- the scanning of characters and lines. So do 83 and 84 where they may perform no more.
-unfoldable pub respond_last : {H : Type 0} → ObjectMemory H → Call → Value → ℕ → Step H StepEnd
+unfoldable pub respond_last : {H : Type 0} → ObjectMemory H → Call → Value → ℕ → Step H Outcome
 respond_last m call header primitive =
     if primitive == 128 && call.arguments == 0 then say_or_activate m call header else
     if primitive == 97 && call.arguments == 0 then asks m outcome.Snapshot else
     if primitive == 113 && call.arguments == 0 then asks m outcome.Quit else
-    if primitive == 114 && call.arguments == 0 then asks m outcome.Debugger else
-    if is_unbuilt primitive then answer NotBuilt else goes_on (activate m call.method header call.arguments)
+    if primitive == 114 && call.arguments == 0 then asks m outcome.Debugger else goes_on (activate m call.method header call.arguments)
 
 -- A method of this primitive is executed; 0 is none. A primitive that is given another number of arguments than its own fails,
--- but 81 and 89 take any number. 96, which isn't built, is told whatever it is given.
-unfoldable pub respond : {H : Type 0} → ObjectMemory H → Call → Value → ℕ → Step H StepEnd
+-- but 81 and 89 take any number.
+unfoldable pub respond : {H : Type 0} → ObjectMemory H → Call → Value → ℕ → Step H Outcome
 respond m call header primitive =
     if is_from 1 18 primitive && call.arguments == 1 then or_activate m call header (arithmetic m primitive) else
     if primitive == 89 then goes_on (flush_cache m call.arguments) else
@@ -82,21 +77,21 @@ respond m call header primitive =
     if is_process primitive then or_activate m call header (processes m primitive call.arguments) else
     if is_input primitive then or_activate m call header (input m primitive call.arguments) else respond_last m call header primitive
 
-unfoldable pub respond_by_extension : {H : Type 0} → ObjectMemory H → (ℕ → Step H StepEnd) → Call → Step H StepEnd
+unfoldable pub respond_by_extension : {H : Type 0} → ObjectMemory H → (ℕ → Step H Outcome) → Call → Step H Outcome
 respond_by_extension m respond call = do
   primitive ← method_primitive m call.method
   respond primitive
 
 -- By the header's flag: 5 answers the receiver, which stays; 6 answers the field that the temporary count names; with 7
 -- there is a header extension, and the method responds by its primitive; with all others the method is activated.
-unfoldable pub execute_by : {H : Type 0} → ObjectMemory H → (ℕ → Step H StepEnd) → Call → Value → ℕ → Step H StepEnd
+unfoldable pub execute_by : {H : Type 0} → ObjectMemory H → (ℕ → Step H Outcome) → Call → Value → ℕ → Step H Outcome
 execute_by m respond call header flag =
-    if flag == 5 then answer (Did outcome.Went) else
+    if flag == 5 then answer outcome.Went else
     if flag == 6 then goes_on (answer_field m (temporary_count header)) else
     if flag == 7 then respond_by_extension m respond call else goes_on (activate m call.method header call.arguments)
 
 -- a method is executed that 83 or 84 performs: of its primitives these two fail
-unfoldable pub execute_performed : {H : Type 0} → ObjectMemory H → Call → Step H StepEnd
+unfoldable pub execute_performed : {H : Type 0} → ObjectMemory H → Call → Step H Outcome
 execute_performed m call = do
   header ← method_header m call.method
   execute_by m (respond m call header) call header (flag_of header)
@@ -111,7 +106,7 @@ takes m n (Some method) = do
   answer (taken == n)
 
 -- it is executed with the n arguments at the top, or the message isn't understood
-unfoldable pub execute_found : {H : Type 0} → ObjectMemory H → Value → Value → ℕ → Option Value → Step H StepEnd
+unfoldable pub execute_found : {H : Type 0} → ObjectMemory H → Value → Value → ℕ → Option Value → Step H Outcome
 execute_found m class selector n (Some method) = execute_performed m (record { method = method; arguments = n })
 execute_found m class selector n None = do
   call ← not_understood m class selector n
@@ -135,14 +130,14 @@ spread_array m array n = do
   set_sp (sp - 2 + n)
 
 -- where the method doesn't take n arguments, the performing method is activated
-unfoldable pub perform_if : {H : Type 0} → ObjectMemory H → Call → Value → Value → Value → ℕ → Step H Unit → Option Value → Bool → Step H StepEnd
+unfoldable pub perform_if : {H : Type 0} → ObjectMemory H → Call → Value → Value → Value → ℕ → Step H Unit → Option Value → Bool → Step H Outcome
 perform_if m call header class selector n arrange found true = do
   arrange
   execute_found m class selector n found
 perform_if m call header class selector n arrange found false = goes_on (activate m call.method header call.arguments)
 
 -- the selector is performed with n arguments, once these stand at the top
-unfoldable pub perform : {H : Type 0} → ObjectMemory H → Call → Value → Value → Value → ℕ → Step H Unit → Step H StepEnd
+unfoldable pub perform : {H : Type 0} → ObjectMemory H → Call → Value → Value → Value → ℕ → Step H Unit → Step H Outcome
 perform m call header receiver selector n arrange = do
   class ← class_of m receiver
   found ← find m class selector
@@ -150,7 +145,7 @@ perform m call header receiver selector n arrange = do
   perform_if m call header class selector n arrange found fits
 
 -- 83: the first argument is performed with the others
-unfoldable pub primitive_perform : {H : Type 0} → ObjectMemory H → Call → Value → ℕ → Step H StepEnd
+unfoldable pub primitive_perform : {H : Type 0} → ObjectMemory H → Call → Value → ℕ → Step H Outcome
 primitive_perform m call header n = do
   r ← under m (n + 1)
   a ← under m n
@@ -167,12 +162,12 @@ spreading m array = do
   check dead.Sp (nat_lt (sp - 2 + n) fields)
   answer n
 
-unfoldable pub perform_with : {H : Type 0} → ObjectMemory H → Call → Value → Value → Value → Value → Option ℕ → Step H StepEnd
+unfoldable pub perform_with : {H : Type 0} → ObjectMemory H → Call → Value → Value → Value → Value → Option ℕ → Step H Outcome
 perform_with m call header r a b None = goes_on (activate m call.method header call.arguments)
 perform_with m call header r a b (Some n) = perform m call header r a n (spread_array m b n)
 
 -- 84: the first argument is performed with the fields of the second
-unfoldable pub primitive_perform_with : {H : Type 0} → ObjectMemory H → Call → Value → Step H StepEnd
+unfoldable pub primitive_perform_with : {H : Type 0} → ObjectMemory H → Call → Value → Step H Outcome
 primitive_perform_with m call header = do
   r ← under m 2
   a ← under m 1
@@ -180,34 +175,34 @@ primitive_perform_with m call header = do
   n ← tried (spreading m b)
   perform_with m call header r a b n
 
-unfoldable pub perform_or_activate : {H : Type 0} → ObjectMemory H → Call → Value → ℕ → Step H StepEnd
+unfoldable pub perform_or_activate : {H : Type 0} → ObjectMemory H → Call → Value → ℕ → Step H Outcome
 perform_or_activate m call header (suc n) = primitive_perform m call header n
 perform_or_activate m call header zero = goes_on (activate m call.method header call.arguments)
 
 -- a method of this primitive is executed, which may be 83 or 84
-unfoldable pub respond_or_perform : {H : Type 0} → ObjectMemory H → Call → Value → ℕ → Step H StepEnd
+unfoldable pub respond_or_perform : {H : Type 0} → ObjectMemory H → Call → Value → ℕ → Step H Outcome
 respond_or_perform m call header primitive =
     if primitive == 83 then perform_or_activate m call header call.arguments else
     if primitive == 84 && call.arguments == 2 then primitive_perform_with m call header else respond m call header primitive
 
 -- the method is executed
-unfoldable pub execute : {H : Type 0} → ObjectMemory H → Call → Step H StepEnd
+unfoldable pub execute : {H : Type 0} → ObjectMemory H → Call → Step H Outcome
 execute m call = do
   header ← method_header m call.method
   execute_by m (respond_or_perform m call header) call header (flag_of header)
 
 -- what a step calls is executed
-unfoldable pub executed : {H : Type 0} → ObjectMemory H → Step H Call → Step H StepEnd
+unfoldable pub executed : {H : Type 0} → ObjectMemory H → Step H Call → Step H Outcome
 executed m step = do
   call ← step
   execute m call
 
-unfoldable pub execute_if_any : {H : Type 0} → ObjectMemory H → Option Call → Step H StepEnd
-execute_if_any m None = answer (Did outcome.Went)
+unfoldable pub execute_if_any : {H : Type 0} → ObjectMemory H → Option Call → Step H Outcome
+execute_if_any m None = answer outcome.Went
 execute_if_any m (Some call) = execute m call
 
 -- what a step calls is executed, if it calls anything
-unfoldable pub executed_if_any : {H : Type 0} → ObjectMemory H → Step H (Option Call) → Step H StepEnd
+unfoldable pub executed_if_any : {H : Type 0} → ObjectMemory H → Step H (Option Call) → Step H Outcome
 executed_if_any m step = do
   call ← step
   execute_if_any m call

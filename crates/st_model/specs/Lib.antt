@@ -14,6 +14,8 @@ pub mod Sends
 pub mod Integers
 pub mod Primitives
 pub mod Arithmetic
+pub mod Pixels
+pub mod BitBlt
 pub mod Storage
 pub mod Blocks
 pub mod Processes

@@ -10,6 +10,7 @@ use Rattle.st_model.specs.Machine.{ObjectMemory, Step, answer, die, ◌>>=◌, �
 use Rattle.st_model.specs.Steps.{of_page, class_of, same_value, check, or_die, fetch_kind, fetch_size, fetch_field, store_field, fetch_integer, fetch_word, store_word, fetch_byte, store_byte, fetch_bytes, store_bytes, fetch_method_field, store_method_field, exchange, make, object_at, next_instance, get_free, top, under}
 use Rattle.st_model.specs.Methods.{literal_count, method_header}
 use Rattle.st_model.specs.Lookup.{half_word}
+use Rattle.st_model.specs.BitBlt.{primitive_copy_bits}
 use Rattle.st_model.specs.Primitives.{primitive, taking, truth, check_class, check_bytes, bits_or_die, positive_small, byte_or_die, positive_value, number, number_of, has_pointers, has_words, is_indexable, fixed_count, specification, fixed_fields}
 
 -- Elements. An index counts from 1, behind the fixed fields, and a place from 0 over all of an object.
@@ -657,10 +658,11 @@ storage m k n =
     if k == 77 then taking 0 n (primitive_some_instance m) else
     if k == 78 then taking 0 n (primitive_next_instance m) else
     if k == 79 then taking 2 n (primitive_new_method m) else
+    if k == 96 then taking 0 n (primitive_copy_bits m) else
     if k == 105 then taking 4 n (primitive_replace m) else
     if k == 112 then taking 0 n (primitive_core_left m) else
     if k == 115 then taking 0 n (primitive_oops_left m) else answer false
 
 -- a number of these
 abbrev pub is_storage : ℕ → Bool
-is_storage k = (nat_le 60 k && nat_le k 79) || (k == 105) || (k == 112) || (k == 115)
+is_storage k = (nat_le 60 k && nat_le k 79) || (k == 96) || (k == 105) || (k == 112) || (k == 115)

@@ -8,7 +8,7 @@ use Rattle.st_model.specs.declared.dead.Dead.{Dead}
 use Rattle.st_model.specs.declared.kind.Kind.{Kind}
 use Rattle.st_model.specs.declared.kind.Kind.TheVariants.{Pointers, Words, Bytes, Method}
 use Rattle.st_model.specs.declared.demand.Demand.{Demand}
-use Rattle.st_model.specs.Outcomes.{Outcome, Ending, With, Space, Unbuilt}
+use Rattle.st_model.specs.Outcomes.{Outcome, Ending, With, Space}
 use Rattle.st_model.specs.Outcomes as outcome
 use Rattle.st_model.specs.Values.{Value, Small, Ref, integer}
 use Rattle.st_model.specs.Objects.{Object, is_bytes, one, words_of}
@@ -94,9 +94,6 @@ ran_text n = codes "ran" ++ (numbers_text (n ∷ []) ++ codes "\n")
 abbrev pub dead_text : ℕ → Dead → List ℕ
 dead_text n cause = codes "dead" ++ (numbers_text (n ∷ dead_number cause ∷ []) ++ codes "\n")
 
-abbrev pub unbuilt_text : ℕ → ℕ → List ℕ
-unbuilt_text n code = codes "unbuilt" ++ (numbers_text (n ∷ code ∷ []) ++ codes "\n")
-
 -- what the step would have made, and what was free
 abbrev pub space_text : ℕ → Demand → Demand → List ℕ
 space_text n demand left = codes "space" ++ (numbers_text (n ∷ demand.entries ∷ demand.words ∷ left.entries ∷ left.words ∷ []) ++ codes "\n")
@@ -140,7 +137,6 @@ cycles_text n (Went (With outcome.Quit) s) f = quit_text (suc n) ++ state_text (
 cycles_text n (Went (With outcome.Debugger) s) f = debugger_text (suc n) ++ state_text (show s)
 cycles_text n (Went (With (outcome.Say v)) s) f = said_value s.memory v ++ f s
 cycles_text n (Went (Space demand left) s) f = space_text n demand left ++ state_text (show s)
-cycles_text n (Went (Unbuilt code) s) f = unbuilt_text n code ++ state_text (show s)
 
 -- what is said of so many cycles of the book's machine, after others that were finished
 unfoldable pub text_after : ℕ → ℕ → State Births → List ℕ
@@ -160,4 +156,3 @@ text_at n k (Went (With outcome.Quit) s) = quit_text n ++ state_text (show s)
 text_at n k (Went (With outcome.Debugger) s) = debugger_text n ++ state_text (show s)
 text_at n k (Went (With (outcome.Say v)) s) = said_value s.memory v ++ text_after n k s
 text_at n k (Went (Space demand left) s) = space_text n demand left ++ state_text (show s)
-text_at n k (Went (Unbuilt code) s) = unbuilt_text n code ++ state_text (show s)

@@ -78,6 +78,10 @@ pub enum Deed {
         x: u16,
         y: u16,
     },
+    /// The pixels are copied that a BitBlt tells; where it or its Forms are not as they should be, nothing is done.
+    CopyBits {
+        bit_blt: Word,
+    },
     /// The oldest input word is taken away, and the bytes of its number are stored as `StoreNumber` stores them.
     TakeWord {
         object: Word,

@@ -20,7 +20,6 @@ mod demand;
 mod device;
 mod event;
 mod fault;
-mod halt;
 mod head;
 mod header;
 mod integers;
@@ -40,7 +39,6 @@ pub use demand::Demand;
 pub use device::Device;
 pub use event::{Event, InputFull};
 pub use fault::ImageFault;
-pub use halt::Halt;
 pub use head::ImageHead;
 pub use header::literals;
 pub use integers::IntAnswer;
@@ -53,8 +51,8 @@ pub use tried::Tried;
 pub use word::Word;
 
 /// The first law that joins the book's machine to the code's: a step that is foreseen over a table of 32768 places, where
-/// new objects stand apart, ends as the step over the births that the table shows: it dies of the same cause, or comes to a
-/// primitive that isn't built, or goes on with as many entries and words used.
+/// new objects stand apart, ends as the step over the births that the table shows: it dies of the same cause, or goes on with
+/// as many entries and words used.
 pub fn apart_foretells_births()
     ensures { ApartForetells }
 {}

@@ -15,8 +15,6 @@ pub enum StepEnd {
     Quit,
     /// It was done, and the run is to end for a debugger.
     Debugger,
-    /// It came to a primitive that isn't built.
-    NotBuilt,
 }
 
 /// How a bytecode ended that was done.

@@ -3,7 +3,7 @@ use Rattle.std.proofs.Common.{◌≡◌, ℕ, zero, suc, ◌+◌, ◌-◌, [], �
 use Rattle.st_model.specs.declared.demand.Demand.{Demand}
 use Rattle.st_model.specs.Values.{Value, Small, Ref, value, renamed, IsLive}
 use Rattle.st_model.specs.Objects.{Object}
-use Rattle.st_model.specs.Outcomes.{Ending, With, Space, Unbuilt, renamed_ending, IsLiveEnding}
+use Rattle.st_model.specs.Outcomes.{Ending, With, Space, renamed_ending, IsLiveEnding}
 use Rattle.st_model.specs.Outcomes as outcome
 use Rattle.st_model.specs.Machine.{State, Transition, Died, Went}
 use Rattle.st_model.specs.Births.{Births, births, borne, object_born}
@@ -11,7 +11,7 @@ use Rattle.st_model.specs.Table.{Table}
 use Rattle.st_model.specs.Cycles.{run, finished}
 use Rattle.st_model.specs.Foreseen.{EndsShown}
 use Rattle.st_model.specs.Show.{Shows, IsKept, pointer_of}
-use Rattle.st_model.specs.Text.{state_text, ran_text, dead_text, unbuilt_text, space_text, quit_text, debugger_text, said_text, said_value, text_after, text_at, run_text}
+use Rattle.st_model.specs.Text.{state_text, ran_text, dead_text, space_text, quit_text, debugger_text, said_text, said_value, text_after, text_at, run_text}
 use Rattle.st_model.proofs.Texts.{text_is}
 use Rattle.st_model.proofs.Showing.{show_is}
 use Rattle.st_outside.specs.declared.host.Host.{Ghosts}
@@ -34,7 +34,6 @@ named (With outcome.Quit) = Small 0
 named (With outcome.Debugger) = Small 0
 named (With (outcome.Say v)) = v
 named (Space demand left) = Small 0
-named (Unbuilt code) = Small 0
 
 -- what the births end as where the table ends so
 abbrev Back : (ℕ → ℕ) → Ending → Ending → Type 0
@@ -44,7 +43,6 @@ Back f (With outcome.Quit) x = x ≡ With outcome.Quit
 Back f (With outcome.Debugger) x = x ≡ With outcome.Debugger
 Back f (With (outcome.Say y)) x = (v : Value) × (x ≡ With (outcome.Say v)) × (y ≡ renamed f v)
 Back f (Space demand left) x = x ≡ Space demand left
-Back f (Unbuilt code) x = x ≡ Unbuilt code
 
 back_itself : (f : ℕ → ℕ) (x : Ending) → Back f (renamed_ending f x) x
 back_itself f (With outcome.Went) = refl
@@ -53,7 +51,6 @@ back_itself f (With outcome.Quit) = refl
 back_itself f (With outcome.Debugger) = refl
 back_itself f (With (outcome.Say v)) = (v, refl, refl)
 back_itself f (Space demand left) = refl
-back_itself f (Unbuilt code) = refl
 
 back : (f : ℕ → ℕ) (a x : Ending) → a ≡ renamed_ending f x → Back f a x
 back f a x e = rw e (back_itself f x)
@@ -109,10 +106,6 @@ module _ (d k : ℕ) (c : State Table) where
       ended_so (With outcome.Debugger) s x (back (pointer_of s.memory) (With outcome.Debugger) x h.0) ∙ (λ i. debugger_text d ++ state_text (same i))
   said places (end.Dead done cause) a (Died b) h = (λ i. dead_text d (sym h i)) ∙ sym (append-nil (dead_text d cause))
   said places (end.Dead done cause) a (Went x s) h = absurd h
-  said places (end.Unbuilt done code) a (Died cause) h = absurd h
-  said places (end.Unbuilt done code) a (Went x s) h =
-      let same = show_is c s h.1 places in
-      ended_so (Unbuilt code) s x (back (pointer_of s.memory) (Unbuilt code) x h.0) ∙ (λ i. unbuilt_text d code ++ state_text (same i))
 
   -- where the run goes on, the births have come to some that are shown
   goes_further : (e : RunEnd) → goes_on e ≡ true → (b : Transition (State Births) Ending) → EndsShown (transition_at e c) b → (u : State Births) × Shows c u × (text_at d k b ≡ asked_text e c.memory ++ text_after d k u)
@@ -128,7 +121,6 @@ module _ (d k : ℕ) (c : State Table) where
   goes_further (end.Quit done) a b h = cc
   goes_further (end.Debugger done) a b h = cc
   goes_further (end.Dead done cause) a b h = cc
-  goes_further (end.Unbuilt done code) a b h = cc
 
 -- what is said of cycles that are left is what is said where their run ends
 begun : (n d : ℕ) (s : State Births) → text_after d n s ≡ text_at (d + finished births n s) (n - finished births n s) (run births n s)

@@ -13,7 +13,7 @@ use Rattle.st_model.specs.Image.{image_head}
 use Rattle.st_model.specs.Faults.{IsImageFault, IsWellFormed}
 use Rattle.st_model.specs.Births.{Births}
 use Rattle.st_model.specs.Start.{begin}
-use Rattle.st_model.specs.Text.{numbers_text, ran_text, dead_text, unbuilt_text, space_text, quit_text, debugger_text, state_text, run_text}
+use Rattle.st_model.specs.Text.{numbers_text, ran_text, dead_text, space_text, quit_text, debugger_text, state_text, run_text}
 use Rattle.st_model.specs.Values.{value}
 use Rattle.st_report.specs.Saying.{said_in}
 use Rattle.st_machine.specs.declared.ending.RunEnd.{RunEnd}
@@ -99,7 +99,6 @@ goes_on (end.Say done o) = true
 goes_on (end.Quit done) = false
 goes_on (end.Debugger done) = false
 goes_on (end.Dead done cause) = false
-goes_on (end.Unbuilt done code) = false
 
 -- what is said where the run goes on
 abbrev pub asked_text : RunEnd → Table → List ℕ
@@ -110,7 +109,6 @@ asked_text (end.Say done o) t = said_in t (value o)
 asked_text (end.Quit done) t = []
 asked_text (end.Debugger done) t = []
 asked_text (end.Dead done cause) t = []
-asked_text (end.Unbuilt done code) t = []
 
 -- The line of a run's end, where so many cycles are finished in all. A snapshot, and bytes that are said, are
 -- no end.
@@ -123,7 +121,6 @@ end_text n (end.Say done o) = []
 end_text n (end.Quit done) = quit_text n
 end_text n (end.Debugger done) = debugger_text n
 end_text n (end.Dead done cause) = dead_text n cause
-end_text n (end.Unbuilt done code) = unbuilt_text n code
 
 -- what follows that line: what the machine shows, where it isn't dead
 abbrev pub rest_text : RunEnd → State Table → List ℕ
@@ -134,7 +131,6 @@ rest_text (end.Say done o) s = state_text s
 rest_text (end.Quit done) s = state_text s
 rest_text (end.Debugger done) s = state_text s
 rest_text (end.Dead done cause) s = []
-rest_text (end.Unbuilt done code) s = state_text s
 
 -- all that is said of a run's end
 abbrev pub ending_text : ℕ → RunEnd → State Table → List ℕ

@@ -1,8 +1,8 @@
-ghost use Rattle.std.specs.Prelude.{◌≡◌, ◌≤◌, ◌+◌};
+ghost use Rattle.std.specs.Prelude.{◌≡◌, ◌≤◌, ◌+◌, false, IfOk};
 ghost use Rattle.st_model.specs.Values.{word};
 ghost use Rattle.st_model.specs.Input.{check_four_bytes, store_time, store_seconds, primitive_second_clock, store_milliseconds, primitive_millisecond_clock};
 ghost use Rattle.st_model.specs.Calls.{itself};
-ghost use Rattle.st_model.specs.Deeds.{is_done, deed_of_trial};
+ghost use Rattle.st_model.specs.Deeds.{is_done, deed_of_trial, copies_pixels};
 ghost use Rattle.st_frames.specs.Answering.{succeed_by, answer_word, answer_deed};
 ghost use Rattle.st_frames.specs.Rows.{RowReads, RowLeaves, Takes};
 
@@ -32,8 +32,9 @@ fn store_time<O: Objects>(
     time: u32,
     receiver: Word,
 ) -> Result<Answer, Dead>
-    ensures { RowLeaves O.Objects.own (store_time O.names (word object) time (word receiver))
+    ensures does { RowLeaves O.Objects.own (store_time O.names (word object) time (word receiver))
         answer_word answer_deed m.now r.now result m.now r.now }
+    ensures plain { IfOk result (λ a. copies_pixels a.deed ≡ false) }
 {
     find_bytes(m, r, object, 0, 4)?;
     Ok(Answer {

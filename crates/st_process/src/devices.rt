@@ -1,8 +1,8 @@
-ghost use Rattle.std.specs.Prelude.{◌≡◌, ◌<◌, ◌≤◌, ◌+◌, IfOk};
+ghost use Rattle.std.specs.Prelude.{◌≡◌, ◌<◌, ◌≤◌, ◌+◌, IfOk, false};
 ghost use Rattle.st_model.specs.Values.{word};
 ghost use Rattle.st_model.specs.Input.{check_truth, primitive_link_cursor, hold_and_answer, primitive_input_semaphore, primitive_sample_interval, word_that_waits, take_word, primitive_input_word, primitive_be_cursor, primitive_be_display};
 ghost use Rattle.st_model.specs.Calls.{itself};
-ghost use Rattle.st_model.specs.Deeds.{is_done, deed_of_trial};
+ghost use Rattle.st_model.specs.Deeds.{is_done, deed_of_trial, copies_pixels};
 ghost use Rattle.st_frames.specs.Answering.{succeed_by, answer_word, answer_deed};
 ghost use Rattle.st_frames.specs.Rows.{RowReads, RowLeaves, Takes};
 
@@ -116,6 +116,7 @@ fn take_word<O: Objects>(m: &mut O, r: &Registers, oldest: u16) -> Result<Answer
     ensures does { RowLeaves O.Objects.own (take_word O.names oldest)
         answer_word answer_deed m.old r.now result m.new r.now }
     ensures takes { Takes O.Objects.own 1 m.old m.new }
+    ensures plain { IfOk result (λ a. copies_pixels a.deed ≡ false) }
 {
     let n = u32::from(oldest);
     let answer = number(m, r, n)?;

@@ -1,8 +1,8 @@
-ghost use Rattle.std.specs.Prelude.{◌≡◌, ◌≤◌, ◌+◌};
+ghost use Rattle.std.specs.Prelude.{◌≡◌, ◌≤◌, ◌+◌, false, IfOk};
 ghost use Rattle.st_model.specs.Values.{word};
 ghost use Rattle.st_model.specs.Input.{low_space, set_low_space, primitive_low_space};
 ghost use Rattle.st_model.specs.Calls.{itself};
-ghost use Rattle.st_model.specs.Deeds.{is_done, deed_of_trial};
+ghost use Rattle.st_model.specs.Deeds.{is_done, deed_of_trial, copies_pixels};
 ghost use Rattle.st_process.specs.Timing.{low_in};
 ghost use Rattle.st_frames.specs.Answering.{succeed_by, answer_word, answer_deed};
 ghost use Rattle.st_frames.specs.Rows.{RowReads, RowLeaves, Takes};
@@ -44,9 +44,10 @@ fn set_low_space<O: Objects>(
     low: Low,
     receiver: Word,
 ) -> Result<Answer, Dead>
-    ensures { RowLeaves O.Objects.own
+    ensures does { RowLeaves O.Objects.own
         (set_low_space O.names (word semaphore) (low_in low) (word receiver))
         answer_word answer_deed m.now r.now result m.now r.now }
+    ensures plain { IfOk result (λ a. copies_pixels a.deed ≡ false) }
 {
     if !m.is_there(semaphore) {
         return Err(Dead::Kind);

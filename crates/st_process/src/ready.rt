@@ -1,4 +1,5 @@
-ghost use Rattle.std.specs.Prelude.{◌≡◌, ◌≤◌, ◌+◌, ◌≤ℤ◌, pos, negsuc};
+ghost use Rattle.st_model.specs.Deeds.{copies_pixels};
+ghost use Rattle.std.specs.Prelude.{◌≡◌, ◌≤◌, ◌+◌, ◌≤ℤ◌, pos, negsuc, false, IfOk};
 ghost use Rattle.st_model.specs.Values.{word};
 ghost use Rattle.st_model.specs.Machine.{State};
 ghost use Rattle.st_model.specs.Table.{Table};
@@ -51,6 +52,7 @@ pub fn resume<O: Objects>(m: &mut O, r: &Registers, process: Word) -> Result<Dee
     ensures does { RowLeaves O.Objects.own (resume O.names (word process))
         no_word itself m.old r.now result m.new r.now }
     ensures takes { Takes O.Objects.own 3 m.old m.new }
+    ensures plain { IfOk result (λ d. copies_pixels d ≡ false) }
 {
     let priority = fetch_integer(m, process, 2)?;
     let active = active_process(m, r)?;
@@ -86,6 +88,7 @@ fn go_on_with<O: Objects>(m: &mut O, r: &Registers, list: Word) -> Result<Deed, 
     ensures does { RowLeaves O.Objects.own (go_on_with O.names (word list))
         no_word itself m.old r.now result m.new r.now }
     ensures takes { Takes O.Objects.own 3 m.old m.new }
+    ensures plain { IfOk result (λ d. copies_pixels d ≡ false) }
 {
     let process = take_first(m, r, list)?;
     hold(m, r, Device::NewProcess, process)
@@ -98,6 +101,7 @@ pub fn suspend<O: Objects>(m: &mut O, r: &Registers) -> Result<Deed, Dead>
     ensures does { RowLeaves O.Objects.own (suspend O.names)
         no_word itself m.old r.now result m.new r.now }
     ensures takes { Takes O.Objects.own 3 m.old m.new }
+    ensures plain { IfOk result (λ d. copies_pixels d ≡ false) }
 {
     let lists = ready_lists(m)?;
     let n = m.count_fields(lists)?;

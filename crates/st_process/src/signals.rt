@@ -1,4 +1,5 @@
-ghost use Rattle.std.specs.Prelude.{◌≡◌, ◌≤◌, ◌+◌, ◌≤ℤ◌, pos};
+ghost use Rattle.st_model.specs.Deeds.{copies_pixels};
+ghost use Rattle.std.specs.Prelude.{◌≡◌, ◌≤◌, ◌+◌, ◌≤ℤ◌, pos, false, IfOk};
 ghost use Rattle.st_model.specs.Values.{word};
 ghost use Rattle.st_model.specs.Processes.{add_excess, signal, wait_in, take_excess};
 ghost use Rattle.st_model.specs.Calls.{itself};
@@ -34,6 +35,7 @@ pub fn signal<O: Objects>(m: &mut O, r: &Registers, semaphore: Word) -> Result<D
     ensures does { RowLeaves O.Objects.own (signal O.names (word semaphore))
         no_word itself m.old r.now result m.new r.now }
     ensures takes { Takes O.Objects.own 6 m.old m.new }
+    ensures plain { IfOk result (λ d. copies_pixels d ≡ false) }
 {
     let first = m.fetch_field(semaphore, 0)?;
     if first.same(page(m, PageObject::NilObject)) {
@@ -52,6 +54,7 @@ fn wait_in<O: Objects>(m: &mut O, r: &Registers, semaphore: Word) -> Result<Deed
     ensures does { RowLeaves O.Objects.own (wait_in O.names (word semaphore))
         no_word itself m.old r.now result m.new r.now }
     ensures takes { Takes O.Objects.own 6 m.old m.new }
+    ensures plain { IfOk result (λ d. copies_pixels d ≡ false) }
 {
     let process = active_process(m, r)?;
     add_last(m, r, process, semaphore)?;
@@ -71,6 +74,7 @@ pub fn take_excess<O: Objects>(
     ensures does { RowLeaves O.Objects.own (take_excess O.names (word semaphore) excess)
         no_word itself m.old r.now result m.new r.now }
     ensures takes { Takes O.Objects.own 6 m.old m.new }
+    ensures plain { IfOk result (λ d. copies_pixels d ≡ false) }
 {
     if 0 < excess {
         m.store_field(semaphore, 2, small_integer(excess - 1))?;

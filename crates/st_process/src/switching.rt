@@ -1,4 +1,5 @@
-ghost use Rattle.std.specs.Prelude.{◌≡◌, ◌≤◌, ◌+◌};
+ghost use Rattle.st_model.specs.Deeds.{copies_pixels};
+ghost use Rattle.std.specs.Prelude.{◌≡◌, ◌≤◌, ◌+◌, false, IfOk};
 ghost use Rattle.st_model.specs.Values.{word};
 ghost use Rattle.st_model.specs.Processes.{leave_process, enter_process};
 ghost use Rattle.st_model.specs.Calls.{itself};
@@ -19,6 +20,7 @@ pub fn leave_process<O: Objects>(m: &mut O, r: &Registers, process: Word) -> Res
     ensures does { RowLeaves O.Objects.own (leave_process O.names (word process))
         no_word itself m.old r.now result m.new r.now }
     ensures takes { Takes O.Objects.own 2 m.old m.new }
+    ensures plain { IfOk result (λ d. copies_pixels d ≡ false) }
 {
     let old = scheduled_process(m)?;
     m.store_field(old, 1, r.active)?;

@@ -1,9 +1,9 @@
-ghost use Rattle.std.specs.Prelude.{◌≡◌, ◌<◌, ◌≤◌, ◌+◌, length, IfOk};
+ghost use Rattle.std.specs.Prelude.{◌≡◌, ◌<◌, ◌≤◌, ◌+◌, length, IfOk, false};
 ghost use Rattle.st_model.specs.Values.{word};
 ghost use Rattle.st_model.specs.Input.{can_be_signalled, ring_or_wait, timing, signal_once, set_timer, set_timer_and_answer, primitive_timer};
 ghost use Rattle.st_model.specs.declared.device.Device.TheVariants.{Timer};
 ghost use Rattle.st_model.specs.Calls.{Reads, itself};
-ghost use Rattle.st_model.specs.Deeds.{is_done, deed_of_trial};
+ghost use Rattle.st_model.specs.Deeds.{is_done, deed_of_trial, copies_pixels};
 ghost use Rattle.st_process.specs.Timing.{timing_in, timing_by, wait_for, HasRoom};
 ghost use Rattle.st_frames.specs.Answering.{succeed_by, no_word};
 ghost use Rattle.st_frames.specs.Rows.{RowReads, RowLeaves, Takes};
@@ -79,8 +79,9 @@ fn find_timing<O: Objects>(
 #[tactic(auto, using(crate::proofs::Timers::rings))]
 fn ring<O: Objects>(m: &O, r: &Registers, semaphore: Word) -> Result<Deed, Dead>
     requires room { length r.now.world.now.devices.pending < 4096 }
-    ensures { RowLeaves O.Objects.own (signal_once O.names Timer (word semaphore))
+    ensures does { RowLeaves O.Objects.own (signal_once O.names Timer (word semaphore))
         no_word itself m.now r.now result m.now r.now }
+    ensures plain { IfOk result (λ d. copies_pixels d ≡ false) }
 {
     if !m.is_there(semaphore) {
         return Err(Dead::Kind);
@@ -94,8 +95,9 @@ fn ring<O: Objects>(m: &O, r: &Registers, semaphore: Word) -> Result<Deed, Dead>
 /// The semaphore is to be held for the timer, due at this millisecond, which is left to be done. It must be there.
 #[tactic(auto, using(crate::proofs::Timers::waits))]
 fn wait<O: Objects>(m: &O, r: &Registers, semaphore: Word, due: u32) -> Result<Deed, Dead>
-    ensures { RowLeaves O.Objects.own (wait_for O.names (word semaphore) due)
+    ensures does { RowLeaves O.Objects.own (wait_for O.names (word semaphore) due)
         no_word itself m.now r.now result m.now r.now }
+    ensures plain { IfOk result (λ d. copies_pixels d ≡ false) }
 {
     if m.is_there(semaphore) {
         Ok(Deed::SetTimer { semaphore, due })
@@ -113,8 +115,9 @@ fn set_timer<O: Objects>(
     timing: Timing,
 ) -> Result<Deed, Dead>
     requires room { HasRoom r.now.world.now timing }
-    ensures { RowLeaves O.Objects.own (set_timer O.names (word semaphore) (timing_in timing))
+    ensures does { RowLeaves O.Objects.own (set_timer O.names (word semaphore) (timing_in timing))
         no_word itself m.now r.now result m.now r.now }
+    ensures plain { IfOk result (λ d. copies_pixels d ≡ false) }
 {
     match timing {
         Timing::Rings => ring(m, r, semaphore),

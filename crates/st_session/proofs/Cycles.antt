@@ -5,7 +5,7 @@ use Rattle.st_model.specs.declared.dead.Dead.{Dead}
 use Rattle.st_model.specs.declared.demand.Demand.{Demand}
 use Rattle.st_model.specs.Values.{Value, Small, Ref, value, renamed, IsLive}
 use Rattle.st_model.specs.Objects.{Object}
-use Rattle.st_model.specs.Outcomes.{Ending, With, Space, Unbuilt, renamed_ending, IsLiveEnding}
+use Rattle.st_model.specs.Outcomes.{Ending, With, Space, renamed_ending, IsLiveEnding}
 use Rattle.st_model.specs.Outcomes as outcome
 use Rattle.st_model.specs.Machine.{State, Transition, Died, Went}
 use Rattle.st_model.specs.Births.{Births, births, borne, object_born}
@@ -13,7 +13,7 @@ use Rattle.st_model.specs.Table.{Table}
 use Rattle.st_model.specs.Cycles.{cycle, run, run_of, finished, finished_of, and_on, counted}
 use Rattle.st_model.specs.Foreseen.{EndsShown}
 use Rattle.st_model.specs.Show.{Shows, IsKept, pointer_of}
-use Rattle.st_model.specs.Text.{ran_text, dead_text, unbuilt_text, space_text, quit_text, debugger_text, said_value}
+use Rattle.st_model.specs.Text.{ran_text, dead_text, space_text, quit_text, debugger_text, said_value}
 use Rattle.st_outside.specs.declared.host.Host.{Ghosts}
 use Rattle.st_outside.specs.declared.host.SayFault.{SayFault}
 use Rattle.st_outside.proofs.Telling.{OnlyNow}
@@ -50,7 +50,6 @@ course_at n k (Went (With outcome.Quit) s) = replies (quit_text n) (alive s tt)
 course_at n k (Went (With outcome.Debugger) s) = replies (debugger_text n) (alive s tt)
 course_at n k (Went (With (outcome.Say v)) s) = preceded (Reply (said_value s.memory v) ∷ []) (cycles n k s)
 course_at n k (Went (Space demand left) s) = replies (space_text n demand left) (alive s tt)
-course_at n k (Went (Unbuilt code) s) = replies (unbuilt_text n code) (alive s tt)
 
 course_is : (k n : ℕ) (s : State Births) → cycles n k s ≡ course_at (n + finished births k s) (k - finished births k s) (run births k s)
 unfolding run_course run run_of finished finished_of
@@ -78,7 +77,6 @@ course_is (suc k) n s = over (cycle births s) (λ t. course_is k (suc n) t)
         let f : k ≡ suc k - 1 = omega arith in
         λ i. preceded (Reply (said_value t.memory v) ∷ []) (cycles (e i) (f i) t)
     over (Went (Space demand left) t) h = let e : n ≡ n + 0 = omega arith in ap (λ i. replies (space_text i demand left) (alive t tt)) e
-    over (Went (Unbuilt code) t) h = let e : n ≡ n + 0 = omega arith in ap (λ i. replies (unbuilt_text i code) (alive t tt)) e
 
 -- an ending that names nothing is the same under other names
 
@@ -90,7 +88,6 @@ Back f (With outcome.Quit) x = x ≡ With outcome.Quit
 Back f (With outcome.Debugger) x = x ≡ With outcome.Debugger
 Back f (With (outcome.Say y)) x = (v : Value) × (x ≡ With (outcome.Say v)) × (y ≡ renamed f v)
 Back f (Space demand left) x = x ≡ Space demand left
-Back f (Unbuilt code) x = x ≡ Unbuilt code
 
 back_itself : (f : ℕ → ℕ) (x : Ending) → Back f (renamed_ending f x) x
 back_itself f (With outcome.Went) = refl
@@ -99,7 +96,6 @@ back_itself f (With outcome.Quit) = refl
 back_itself f (With outcome.Debugger) = refl
 back_itself f (With (outcome.Say v)) = (v, refl, refl)
 back_itself f (Space demand left) = refl
-back_itself f (Unbuilt code) = refl
 
 back : (f : ℕ → ℕ) (a x : Ending) → a ≡ renamed_ending f x → Back f a x
 back f a x e = rw e (back_itself f x)
@@ -157,8 +153,6 @@ module _ (d k : ℕ) (c : State Table) where
   is_over (end.Debugger done) a (Went x s) h = alive_end (With outcome.Debugger) (end.Debugger done) s x refl h.1 (back (pointer_of s.memory) (With outcome.Debugger) x h.0) refl
   is_over (end.Dead done cause) a (Died b) h = record { point = gone cause tt; stands = refl; course = λ i. replies (dead_text d (sym h i)) (gone (sym h i) tt) }
   is_over (end.Dead done cause) a (Went x s) h = absurd h
-  is_over (end.Unbuilt done code) a (Died cause) h = absurd h
-  is_over (end.Unbuilt done code) a (Went x s) h = alive_end (Unbuilt code) (end.Unbuilt done code) s x refl h.1 (back (pointer_of s.memory) (Unbuilt code) x h.0) refl
 
   -- where the run goes on, the births have come to some that are shown
   record GoesOn (e : RunEnd) (b : Transition (State Births) Ending) : Type 0 where
@@ -193,7 +187,6 @@ module _ (d k : ℕ) (c : State Table) where
   goes_further (end.Quit done) a b h = cc
   goes_further (end.Debugger done) a b h = cc
   goes_further (end.Dead done cause) a b h = cc
-  goes_further (end.Unbuilt done code) a b h = cc
 
 -- What is added where so many of n cycles are finished: with the course of the others from the births that are shown, it is the
 -- course of all from s.

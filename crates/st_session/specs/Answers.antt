@@ -2,14 +2,14 @@
 use Rattle.std.specs.Prelude.{ℕ, zero, suc, List, [], ◌∷◌, Option, Some, None}
 use Rattle.st_model.specs.declared.dead.Dead.{Dead}
 use Rattle.st_model.specs.declared.event.Event.TheVariants as event
-use Rattle.st_model.specs.Outcomes.{Ending, With, Space, Unbuilt}
+use Rattle.st_model.specs.Outcomes.{Ending, With, Space}
 use Rattle.st_model.specs.Outcomes as outcome
 use Rattle.st_model.specs.Machine.{State, Transition, Died, Went}
 use Rattle.st_model.specs.Births.{Births, births}
 use Rattle.st_model.specs.Cycles.{cycle}
 use Rattle.st_model.specs.Events as events
 use Rattle.st_model.specs.Show.{show}
-use Rattle.st_model.specs.Text.{ran_text, dead_text, unbuilt_text, space_text, quit_text, debugger_text, said_value, used_text}
+use Rattle.st_model.specs.Text.{ran_text, dead_text, space_text, quit_text, debugger_text, said_value, used_text}
 use Rattle.st_chunk.specs.Definitions.{Definition}
 use Rattle.st_script.specs.declared.request.Request.{Request}
 use Rattle.st_script.specs.declared.request.Request.TheVariants.{Run, Input, Mouse, Clock, Tick, State as ShowState, Used, End, Define, Wrong}
@@ -48,7 +48,6 @@ module _ {C : Type 0} where
     cycle_course n (Went (With outcome.Debugger) s) f c = replies (debugger_text (suc n)) (alive s c)
     cycle_course n (Went (With (outcome.Say v)) s) f c = preceded (Reply (said_value s.memory v) ∷ []) (f s c)
     cycle_course n (Went (Space demand left) s) f c = replies (space_text n demand left) (alive s c)
-    cycle_course n (Went (Unbuilt code) s) f c = replies (unbuilt_text n code) (alive s c)
 
     -- so many cycles of a line, after others that were finished
     unfoldable pub run_course : ℕ → ℕ → State Births → C → Course C (Point C)

@@ -2,7 +2,7 @@
 use Rattle.std.specs.Prelude.{ℕ, Bool, true, false, List, []}
 use Rattle.st_model.specs.Values.{value}
 use Rattle.st_model.specs.Table.{Table}
-use Rattle.st_model.specs.Text.{ran_text, dead_text, unbuilt_text, space_text, quit_text, debugger_text}
+use Rattle.st_model.specs.Text.{ran_text, dead_text, space_text, quit_text, debugger_text}
 use Rattle.st_report.specs.Saying.{said_in}
 use Rattle.st_machine.specs.declared.ending.RunEnd.{RunEnd}
 use Rattle.st_machine.specs.declared.ending.RunEnd.TheVariants as end
@@ -16,7 +16,6 @@ goes_on (end.Say done o) = true
 goes_on (end.Quit done) = false
 goes_on (end.Debugger done) = false
 goes_on (end.Dead done cause) = false
-goes_on (end.Unbuilt done code) = false
 
 -- what is said where the run goes on
 abbrev pub asked_text : RunEnd → Table → List ℕ
@@ -27,7 +26,6 @@ asked_text (end.Say done o) t = said_in t (value o)
 asked_text (end.Quit done) t = []
 asked_text (end.Debugger done) t = []
 asked_text (end.Dead done cause) t = []
-asked_text (end.Unbuilt done code) t = []
 
 -- The line of a run's end, where so many cycles are finished in all. A snapshot, and bytes that are said, are no end.
 abbrev pub end_text : ℕ → RunEnd → List ℕ
@@ -38,4 +36,3 @@ end_text n (end.Say done o) = []
 end_text n (end.Quit done) = quit_text n
 end_text n (end.Debugger done) = debugger_text n
 end_text n (end.Dead done cause) = dead_text n cause
-end_text n (end.Unbuilt done code) = unbuilt_text n code

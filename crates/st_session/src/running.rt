@@ -70,9 +70,6 @@ fn push_end<H: Host>(
         RunEnd::Dead { done: _, cause } => {
             push_line(out, host, b"dead", &[finished, u32::from(cause.number())])
         }
-        RunEnd::Unbuilt { done: _, code } => {
-            push_line(out, host, b"unbuilt", &[finished, u32::from(code)])
-        }
         RunEnd::Snapshot { .. } | RunEnd::Say { .. } => Ok(()),
     }
 }

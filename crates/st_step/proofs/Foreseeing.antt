@@ -2,7 +2,7 @@
 use Rattle.std.proofs.Common.{◌≡◌, false, refl, ◌∙◌, ap, sym}
 use Rattle.std.specs.Prelude.{length}
 use Rattle.st_model.specs.declared.dead.Dead.{Dead}
-use Rattle.st_model.specs.Outcomes.{Outcome, StepEnd, Did, NotBuilt}
+use Rattle.st_model.specs.Outcomes.{Outcome}
 use Rattle.st_model.specs.Machine.{State, World, Head, Transition, Died, Went, used, is_over}
 use Rattle.st_model.specs.Births.{Births, births}
 use Rattle.st_model.specs.Table.{Table, apart, bounded_table}
@@ -18,15 +18,14 @@ use Rattle.st_frames.proofs.Closed.{is_closed}
 use Rattle.st_step.specs.Planned.{IsForeseen}
 
 abbrev pub Goes : State Table → Type 0
-Goes c = (o : Outcome) × (d : State Table) × ((step bounded_table).run c ≡ Went (Did o) d)
+Goes c = (o : Outcome) × (d : State Table) × ((step bounded_table).run c ≡ Went o d)
 
 module _ (c : State Table) (s : State Births) (w : Shows c s) (places : length c.memory ≡ 32768) (o : Outcome) (d : State Table) where
-  goes_as : (p : Transition (State Births) StepEnd) → (step births).run s ≡ p → Foretells (Went (Did o) d) p → is_over (used apart d.memory) c.head ≡ false → Goes c
+  goes_as : (p : Transition (State Births) Outcome) → (step births).run s ≡ p → Foretells (Went o d) p → is_over (used apart d.memory) c.head ≡ false → Goes c
   goes_as (Died cause) e h f = absurd h
-  goes_as (Went NotBuilt u) e h f = let q = h.0 in absurd (cc)
-  goes_as (Went (Did q) u) e h f =
+  goes_as (Went q u) e h f =
       let head : is_over (used apart d.memory) c.head ≡ is_over (used apart d.memory) s.head = ap (λ (a : Head). is_over (used apart d.memory) a) w.head in
-      let fits : is_over (used births u.memory) s.head ≡ false = ap (λ x. is_over x s.head) (sym h.1) ∙ (sym head ∙ f) in
+      let fits : is_over (used births u.memory) s.head ≡ false = ap (λ x. is_over x s.head) (sym h) ∙ (sym head ∙ f) in
       let does = does_as_births c s w places q u e fits in (does.outcome, does.state, does.does)
 
 pub goes : (v : View) (f : Frame) (world : World) → IsWhole v → IsReady v f world → IsForeseen (shown v f world) → Goes (shown v f world)
@@ -35,9 +34,6 @@ goes v f world whole ready e =
     let w = raised_shown c (is_closed v f world whole ready) in
     let h = foretells c (raised c) w whole.places in
     goes_as c (raised c) w whole.places e.outcome e.after ((step births).run (raised c)) refl (rw e.goes at h) e.fits
-
-pub goes_none : (c : State Table) → Goes c → (d : State Table) → (step bounded_table).run c ≡ Went NotBuilt d → ⊥
-goes_none c h d e = let q = sym h.2 ∙ e in cc
 
 pub goes_dead : (c : State Table) → Goes c → (cause : Dead) → (step bounded_table).run c ≡ Died cause → ⊥
 goes_dead c h cause e = let q = sym h.2 ∙ e in cc

@@ -5,7 +5,7 @@ use Rattle.st_model.specs.declared.dead.Dead.{Dead}
 use Rattle.st_model.specs.declared.dead.Dead.TheVariants as dead
 use Rattle.st_model.specs.Values.{Value}
 use Rattle.st_model.specs.declared.page.PageObject.TheVariants.{ArrayClass}
-use Rattle.st_model.specs.Outcomes.{StepEnd}
+use Rattle.st_model.specs.Outcomes.{Outcome}
 use Rattle.st_model.specs.Machine.{ObjectMemory, State, Transition, Died, Went, answer, after, tried, ◌>>=◌, ◌>>◌}
 use Rattle.st_model.specs.Steps.{count_fields, get_active, get_sp, top, under}
 use Rattle.st_model.specs.Primitives.{check_class}
@@ -31,7 +31,7 @@ perform-more m c v (suc n) s d = let f : suc n - 1 ≡ n = omega arith in rw f r
 pub ruleset counts = (rows, perform-none, perform-more)
 
 -- 84, whose condition holds, or fails
-module _ (m : ObjectMemory Table) (c : Call) (h v w b : Value) (s : State Table) (y : Transition (State Table) StepEnd)
+module _ (m : ObjectMemory Table) (c : Call) (h v w b : Value) (s : State Table) (y : Transition (State Table) Outcome)
     (receiver : (under m 2).run s ≡ Went v s) (selector : (under m 1).run s ≡ Went w s) (array : (top m).run s ≡ Went b s) where
   pub performs-with : (n : ℕ) → (spreading m b).run s ≡ Went n s → (perform m c h v w n (spread_array m b n)).run s ≡ y → (primitive_perform_with m c h).run s ≡ y
   unfolding primitive_perform_with perform_with ◌>>=◌ after

@@ -4,15 +4,13 @@ use Rattle.std.proofs.lemmas.Bool.Decides.{nat_tests}
 use Rattle.std.specs.Prelude.{if◌then◌else◌, ◌/◌, ◌%◌, ◌==◌, ◌&&◌, is_some, Result, ◌+◌, length}
 use Rattle.st_model.specs.declared.dead.Dead.{Dead}
 use Rattle.st_model.specs.declared.demand.Demand.{Demand}
-use Rattle.st_model.specs.declared.halt.Halt.{Halt}
-use Rattle.st_model.specs.declared.halt.Halt.TheVariants as halt
 use Rattle.st_model.specs.declared.deed.Deed.{Deed}
-use Rattle.st_model.specs.declared.outcome.StepEnd.{StepEnd as CodeStepEnd}
+use Rattle.st_model.specs.declared.outcome.StepEnd.{StepEnd}
 use Rattle.st_model.specs.declared.outcome.StepEnd.TheVariants as ends
 use Rattle.st_model.specs.declared.word.Word.{Word}
 use Rattle.st_model.specs.Values.{Small, Ref, value_of, word, is_small, IsLive}
 use Rattle.st_model.specs.Objects.{one, words_of}
-use Rattle.st_model.specs.Outcomes.{StepEnd, Did, NotBuilt, is_built, end_of}
+use Rattle.st_model.specs.Outcomes.{Outcome, end_of}
 use Rattle.st_model.specs.Machine.{World, Head, State, Transition, Died, Went, is_there, used}
 use Rattle.st_model.specs.Births.{Births, births}
 use Rattle.st_model.specs.Steps.{are_there}
@@ -44,31 +42,22 @@ pub loaded_as : (v : View) (f : Frame) (w : World) (t : Table) (a : Head) (r : W
 unfolding row_state
 loaded_as v f w t a r x y e q = λ i. record { memory = x i; registers = e i; world = q i; head = y i }
 
-module _ (before : Demand) (c s : State Table) (t : Table) (a : Head) (r : Words) (x : Result CodeStepEnd Dead) (same : s ≡ c)
+module _ (before : Demand) (c s : State Table) (t : Table) (a : Head) (r : Words) (x : Result StepEnd Dead) (same : s ≡ c)
     (does : (step apart).run s ≡ transition_of end_of x (with_left deed_of_end x (row_state t a r))) where
-  planned : (y : Result CodeStepEnd Dead) → x ≡ y → (step apart).run c ≡ transition_of end_of y (with_left deed_of_end y (row_state t a r))
+  planned : (y : Result StepEnd Dead) → x ≡ y → (step apart).run c ≡ transition_of end_of y (with_left deed_of_end y (row_state t a r))
   planned y e = ap (λ z. (step apart).run z) (sym same) ∙ (does ∙ ap (λ z. transition_of end_of z (with_left deed_of_end z (row_state t a r))) e)
 
-  -- an end that was done uses what the row made
-  pub plan_done : (end : CodeStepEnd) (n : Demand) → x ≡ Ok end → is_built (end_of end) ≡ true → used apart t ≡ plus before n → Plans before ((step apart).run c) (Ok n)
+  -- a step that goes on uses what the row made
+  pub plan_done : (end : StepEnd) (n : Demand) → x ≡ Ok end → used apart t ≡ plus before n → Plans before ((step apart).run c) (Ok n)
   unfolding row_state
-  plan_done (ends.Went d) n e b u = subst (λ y. Plans before y (Ok n)) (sym (planned (Ok (ends.Went d)) e)) (deed_uses d t ∙ u)
-  plan_done (ends.Says w) n e b u = subst (λ y. Plans before y (Ok n)) (sym (planned (Ok (ends.Says w)) e)) u
-  plan_done ends.Snapshot n e b u = subst (λ y. Plans before y (Ok n)) (sym (planned (Ok ends.Snapshot) e)) u
-  plan_done ends.Quit n e b u = subst (λ y. Plans before y (Ok n)) (sym (planned (Ok ends.Quit) e)) u
-  plan_done ends.Debugger n e b u = subst (λ y. Plans before y (Ok n)) (sym (planned (Ok ends.Debugger) e)) u
-  plan_done ends.NotBuilt n e b u = cc
+  plan_done (ends.Went d) n e u = subst (λ y. Plans before y (Ok n)) (sym (planned (Ok (ends.Went d)) e)) (deed_uses d t ∙ u)
+  plan_done (ends.Says w) n e u = subst (λ y. Plans before y (Ok n)) (sym (planned (Ok (ends.Says w)) e)) u
+  plan_done ends.Snapshot n e u = subst (λ y. Plans before y (Ok n)) (sym (planned (Ok ends.Snapshot) e)) u
+  plan_done ends.Quit n e u = subst (λ y. Plans before y (Ok n)) (sym (planned (Ok ends.Quit) e)) u
+  plan_done ends.Debugger n e u = subst (λ y. Plans before y (Ok n)) (sym (planned (Ok ends.Debugger) e)) u
 
-  pub plan_unbuilt : (end : CodeStepEnd) → x ≡ Ok end → is_built (end_of end) ≡ false → Plans before ((step apart).run c) (Err halt.Unbuilt)
-  plan_unbuilt ends.NotBuilt e b = subst (λ y. Plans before y (Err halt.Unbuilt)) (sym (planned (Ok ends.NotBuilt) e)) tt
-  plan_unbuilt (ends.Went d) e b = cc
-  plan_unbuilt (ends.Says w) e b = cc
-  plan_unbuilt ends.Snapshot e b = cc
-  plan_unbuilt ends.Quit e b = cc
-  plan_unbuilt ends.Debugger e b = cc
-
-  pub plan_dies : (cause : Dead) → x ≡ Err cause → Plans before ((step apart).run c) (Err (halt.Dead cause))
-  plan_dies cause e = subst (λ y. Plans before y (Err (halt.Dead cause))) (sym (planned (Err cause) e)) refl
+  pub plan_dies : (cause : Dead) → x ≡ Err cause → Plans before ((step apart).run c) (Err cause)
+  plan_dies cause e = subst (λ y. Plans before y (Err cause)) (sym (planned (Err cause) e)) refl
 
 -- what is used after a row over a draft: what was used, and what the row made
 pub used_after : (t base start : Table) (n : Demand) → base ≡ start → (used apart t).entries ≡ total_used one base + n.entries → (used apart t).words ≡ total_used words_of base + n.words
@@ -80,22 +69,16 @@ used_after t base start n same e w =
 
 -- what the step over births does that was planned over a table
 
-births_as : (before since : Demand) → before ≡ since → (x : Transition (State Table) StepEnd) (y : Transition (State Births) StepEnd) (r : Result Demand Halt)
+births_as : (before since : Demand) → before ≡ since → (x : Transition (State Table) Outcome) (y : Transition (State Births) Outcome) (r : Result Demand Dead)
     → Foretells x y → PlansOver apart before x r → PlansOver births since y r
-births_as before since e (Died a) (Died b) (Err (halt.Dead k)) f p = sym f ∙ p
-births_as before since e (Died a) (Died b) (Err halt.Unbuilt) f p = p
+births_as before since e (Died a) (Died b) (Err k) f p = sym f ∙ p
 births_as before since e (Died a) (Died b) (Ok n) f p = p
 births_as before since e (Died a) (Went q u) r f p = absurd f
 births_as before since e (Went o d) (Died b) r f p = absurd f
-births_as before since e (Went NotBuilt d) (Went NotBuilt u) (Err halt.Unbuilt) f p = tt
-births_as before since e (Went NotBuilt d) (Went NotBuilt u) (Err (halt.Dead k)) f p = p
-births_as before since e (Went NotBuilt d) (Went NotBuilt u) (Ok n) f p = p
-births_as before since e (Went NotBuilt d) (Went (Did q) u) r f p = let h = f.0 in absurd (cc)
-births_as before since e (Went (Did o) d) (Went NotBuilt u) r f p = let h = f.0 in absurd (cc)
-births_as before since e (Went (Did o) d) (Went (Did q) u) (Ok n) f p = sym f.1 ∙ (p ∙ ap (λ x. plus x n) e)
-births_as before since e (Went (Did o) d) (Went (Did q) u) (Err h) f p = p
+births_as before since e (Went o d) (Went q u) (Ok n) f p = sym f ∙ (p ∙ ap (λ x. plus x n) e)
+births_as before since e (Went o d) (Went q u) (Err k) f p = p
 
-pub plan_births : (c : State Table) (r : Result Demand Halt) → length c.memory ≡ 32768 → Plans (used table c.memory) ((step apart).run c) r → PlansBirths c r
+pub plan_births : (c : State Table) (r : Result Demand Dead) → length c.memory ≡ 32768 → Plans (used table c.memory) ((step apart).run c) r → PlansBirths c r
 plan_births c r places p s w =
     births_as (used table c.memory) (used births s.memory) (same_used (naming c s w) s.memory c.memory (heaps_start c s w)) ((step apart).run c) ((step births).run s) r
     (foretells c s w places) p
@@ -108,7 +91,7 @@ unfolding row_state
 held_again v u f w r e q o h = λ i. record { memory = sym o i; registers = sym e i; world = q i; head = sym h i }
 
 -- what was left is done
-pub done_after : (u h z : View) (f : Frame) (w x : World) (r : Words) (end : CodeStepEnd) (d : Deed) → d ≡ deed_of_end end → registers_of f ≡ registers_in r → r.world.now ≡ w → h.objects ≡ u.objects
+pub done_after : (u h z : View) (f : Frame) (w x : World) (r : Words) (end : StepEnd) (d : Deed) → d ≡ deed_of_end end → registers_of f ≡ registers_in r → r.world.now ≡ w → h.objects ≡ u.objects
     → h.head ≡ u.head → z.objects ≡ deed_done d h.objects → z.head ≡ h.head → x ≡ world_done d h.objects w
     → with_left deed_of_end (Ok end) (row_state u.objects u.head r) ≡ shown z f x
 unfolding row_state
@@ -145,7 +128,7 @@ there t w h s = there_if t (w.0 % 2 == 1) (w.0 / 2) h (λ e. let l = s e in omeg
 all_there : (a b c d : Bool) → a ≡ true → b ≡ true → c ≡ true → d ≡ true → (a && (b && (c && d))) ≡ true
 all_there a b c d p q r s = rw (p, q, r, s) refl
 
-pub there_after : (v : View) (f : Frame) (world : World) (t : Table) (a : Head) (r : Words) (end : CodeStepEnd) → IsWhole v → IsReady v f world
+pub there_after : (v : View) (f : Frame) (world : World) (t : Table) (a : Head) (r : Words) (end : StepEnd) → IsWhole v → IsReady v f world
     → (step bounded_table).run (shown v f world) ≡ Went (end_of end) (with_left deed_of_end (Ok end) (row_state t a r)) → are_there table t (registers_in r) ≡ true
 unfolding row_state
 there_after v f world t a r end w ready e =

@@ -1,11 +1,10 @@
 -- What a plan of the next bytecode says, and how a step of it ends.
-use Rattle.std.specs.Prelude.{◌≡◌, ◌+◌, Result, Ok, Err, ⊤, false}
+use Rattle.std.specs.Prelude.{◌≡◌, ◌+◌, Result, Ok, Err, false}
+use Rattle.st_model.specs.declared.dead.Dead.{Dead}
 use Rattle.st_model.specs.declared.demand.Demand.{Demand}
-use Rattle.st_model.specs.declared.halt.Halt.{Halt}
-use Rattle.st_model.specs.declared.halt.Halt.TheVariants as halt
 use Rattle.st_model.specs.declared.outcome.Outcome.{Outcome as CodeOutcome}
 use Rattle.st_model.specs.Values.{Value}
-use Rattle.st_model.specs.Outcomes.{Outcome, StepEnd, Did, NotBuilt, outcome_of}
+use Rattle.st_model.specs.Outcomes.{Outcome, outcome_of}
 use Rattle.st_model.specs.Outcomes as outcome
 use Rattle.st_model.specs.Machine.{ObjectMemory, World, State, Transition, Died, Went, used, is_over}
 use Rattle.st_model.specs.Steps.{top}
@@ -20,30 +19,25 @@ use Rattle.st_model.specs.Bytecodes.{step}
 abbrev pub plus : Demand → Demand → Demand
 plus d e = record { entries = d.entries + e.entries; words = d.words + e.words }
 
--- The step dies of the cause that the plan says, or comes to a primitive that isn't built; or it goes on, and uses so much
--- more than what was used before.
-abbrev pub PlansOver : {H : Type 0} → ObjectMemory H → Demand → Transition (State H) StepEnd → Result Demand Halt → Type 0
-PlansOver m before (Died a) (Err (halt.Dead b)) = a ≡ b
-PlansOver m before (Died a) (Err halt.Unbuilt) = ⊥
+-- The step dies of the cause that the plan says; or it goes on, and uses so much more than what was used before.
+abbrev pub PlansOver : {H : Type 0} → ObjectMemory H → Demand → Transition (State H) Outcome → Result Demand Dead → Type 0
+PlansOver m before (Died a) (Err b) = a ≡ b
 PlansOver m before (Died a) (Ok d) = ⊥
-PlansOver m before (Went NotBuilt c) (Err halt.Unbuilt) = ⊤
-PlansOver m before (Went NotBuilt c) (Err (halt.Dead b)) = ⊥
-PlansOver m before (Went NotBuilt c) (Ok d) = ⊥
-PlansOver m before (Went (Did o) c) (Ok d) = used m c.memory ≡ plus before d
-PlansOver m before (Went (Did o) c) (Err h) = ⊥
+PlansOver m before (Went o c) (Err b) = ⊥
+PlansOver m before (Went o c) (Ok d) = used m c.memory ≡ plus before d
 
-abbrev pub Plans : Demand → Transition (State Table) StepEnd → Result Demand Halt → Type 0
+abbrev pub Plans : Demand → Transition (State Table) Outcome → Result Demand Dead → Type 0
 Plans before x result = PlansOver apart before x result
 
 -- so the plan says of the book's step, over all births that the state shows
-abbrev pub PlansBirths : State Table → Result Demand Halt → Type 0
+abbrev pub PlansBirths : State Table → Result Demand Dead → Type 0
 PlansBirths c result = (s : State Births) → Shows c s → PlansOver births (used births s.memory) ((step births).run s) result
 
 -- The next bytecode was foreseen from this state, and the capacities have room for what it makes.
 pub record IsForeseen (c : State Table) : Type 0 where
   pub outcome : Outcome
   pub after : State Table
-  pub goes : (step apart).run c ≡ Went (Did outcome) after
+  pub goes : (step apart).run c ≡ Went outcome after
   pub fits : is_over (used apart after.memory) c.head ≡ false
 
 -- the outcome names the word at the top of the stack, where there is one

@@ -3,7 +3,7 @@ use Rattle.std.specs.Prelude.{ℕ, ◌==◌, if◌then◌else◌}
 use Rattle.st_model.specs.Values.{Value}
 use Rattle.st_model.specs.Machine.{ObjectMemory, Step, answer, ◌>>=◌, ◌>>◌}
 use Rattle.st_model.specs.Steps.{top}
-use Rattle.st_model.specs.Outcomes.{StepEnd, Did}
+use Rattle.st_model.specs.Outcomes.{Outcome}
 use Rattle.st_model.specs.Outcomes as outcome
 use Rattle.st_model.specs.Contexts.{activate}
 use Rattle.st_model.specs.Methods.{temporary_count}
@@ -16,14 +16,14 @@ use Rattle.st_model.specs.Input.{input, is_input}
 use Rattle.st_model.specs.Executing.{goes_on, answer_field, or_activate, respond_last}
 
 -- the receiver stays as the answer, and the step ends so
-unfoldable pub asks_for : {H : Type 0} → ObjectMemory H → StepEnd → Step H StepEnd
+unfoldable pub asks_for : {H : Type 0} → ObjectMemory H → Outcome → Step H Outcome
 asks_for m end = do
   r ← top m
   answer_with m 0 r
   answer end
 
 -- what a method does whose primitive is none on SmallIntegers, and none that any receiver has
-unfoldable pub on_objects : {H : Type 0} → ObjectMemory H → Call → Value → ℕ → Step H StepEnd
+unfoldable pub on_objects : {H : Type 0} → ObjectMemory H → Call → Value → ℕ → Step H Outcome
 on_objects m call header primitive =
     if is_storage primitive then or_activate m call header (storage m primitive call.arguments) else
     if is_block primitive then or_activate m call header (blocks m primitive call.arguments) else
@@ -31,7 +31,7 @@ on_objects m call header primitive =
     if is_input primitive then or_activate m call header (input m primitive call.arguments) else respond_last m call header primitive
 
 -- what a method does that has no header extension
-unfoldable pub by_flag : {H : Type 0} → ObjectMemory H → Call → Value → ℕ → Step H StepEnd
+unfoldable pub by_flag : {H : Type 0} → ObjectMemory H → Call → Value → ℕ → Step H Outcome
 by_flag m call header flag =
-    if flag == 5 then answer (Did outcome.Went) else
+    if flag == 5 then answer outcome.Went else
     if flag == 6 then goes_on (answer_field m (temporary_count header)) else goes_on (activate m call.method header call.arguments)

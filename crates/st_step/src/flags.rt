@@ -3,29 +3,18 @@ ghost use Rattle.st_model.specs.Values.{word};
 ghost use Rattle.st_model.specs.Outcomes.{end_of};
 ghost use Rattle.st_model.specs.Deeds.{deed_of_end};
 ghost use Rattle.st_model.specs.Sends.{call_of};
-ghost use Rattle.st_model.specs.Executing.{answer_field, execute_performed};
+ghost use Rattle.st_model.specs.Executing.{execute_performed};
 ghost use Rattle.st_model.specs.Methods.{primitive_number, method_primitive};
 ghost use Rattle.st_model.specs.Calls.{itself};
 ghost use Rattle.st_step.specs.Responding.{by_flag};
 ghost use Rattle.st_frames.specs.Rows.{RowReads, RowDoes, RowLeaves, Takes, activation_changes, response_changes};
 
 use crate::respond::{activated, respond};
-use st_frames::{Registers, pop, push};
+use st_frames::Registers;
 use st_memory::Objects;
 use st_method::Header;
 use st_model::{Call, Dead, Deed, StepEnd, Word};
-
-/// A field of the word at the top takes its place.
-#[tactic(auto, using(st_frames::proofs::Doing::rows), unfolding(st_model::specs::Executing::answer_field))]
-fn answer_field<O: Objects>(m: &mut O, r: &mut Registers, i: u32) -> Result<(), Dead>
-    requires room { 1 ≤ O.room m.old }
-    ensures does { RowDoes O.Objects.own (answer_field O.names i) itself m.old r.old result m.new r.new }
-    ensures takes { Takes O.Objects.own 1 m.old m.new }
-{
-    let object = pop(m, r)?;
-    let answer = m.fetch_field(object, i)?;
-    push(m, r, answer)
-}
+use st_rows::answer_field;
 
 /// The primitive that a header extension names.
 #[tactic(auto, using(st_method::proofs::Bits::primitives), unfolding(st_model::specs::Methods::primitive_number))]

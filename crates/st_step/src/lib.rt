@@ -2,18 +2,14 @@
 //! what the next bytecode would take, and one does it.
 #![tactic(auto)]
 
-mod arithmetic;
 mod execute;
 mod flags;
 mod jump;
-mod operands;
 mod perform;
-mod receivers;
 mod respond;
 mod returns;
 mod rows;
 mod send;
-mod stack;
 mod stepping;
 
 pub use stepping::{plan, step};

@@ -4,7 +4,7 @@ ghost use Rattle.st_model.specs.declared.deed.Deed.TheVariants.{Nothing};
 ghost use Rattle.st_model.specs.Outcomes.{end_of};
 ghost use Rattle.st_model.specs.Deeds.{deed_of_end};
 ghost use Rattle.st_model.specs.Sends.{call_of};
-ghost use Rattle.st_model.specs.Executing.{goes_on, is_from, is_unbuilt, or_activate, say_or_activate, respond_last, respond};
+ghost use Rattle.st_model.specs.Executing.{goes_on, is_from, or_activate, say_or_activate, respond_last, respond};
 ghost use Rattle.st_model.specs.Arithmetic.{arithmetic};
 ghost use Rattle.st_model.specs.Storage.{is_storage, storage};
 ghost use Rattle.st_model.specs.Blocks.{is_block, blocks};
@@ -14,14 +14,13 @@ ghost use Rattle.st_model.specs.Contexts.{activate};
 ghost use Rattle.st_step.specs.Responding.{asks_for, on_objects};
 ghost use Rattle.st_frames.specs.Rows.{RowLeaves, RowDoes, Takes, activation_changes, response_changes};
 
-use crate::arithmetic::{answer_integers, integer_answer};
-use crate::receivers::{equivalence, flush_cache, receiver_class};
 use st_control::{activate, try_blocks};
 use st_frames::{Registers, answer_with, top};
 use st_memory::Objects;
 use st_method::Header;
 use st_model::{Call, Dead, Deed, StepEnd, Tried};
 use st_process::{try_input, try_process};
+use st_rows::{answer_integers, equivalence, flush_cache, integer_answer, receiver_class};
 use st_storage::{primitive_say, try_storage};
 
 /// Whether a primitive is one of 1 to 18, with the one argument of these.
@@ -31,18 +30,11 @@ fn is_arithmetic(primitive: u32, arguments: u32) -> bool
     1 <= primitive && primitive <= 18 && arguments == 1
 }
 
-/// Whether a primitive isn't built.
-fn is_unbuilt(primitive: u32) -> bool
-    ensures { result ≡ is_unbuilt primitive }
-{
-    primitive == 96
-}
-
 /// Whether a primitive is one of those on objects.
 fn is_storage(primitive: u32) -> bool
     ensures { result ≡ is_storage primitive }
 {
-    matches!(primitive, 60..=79 | 105 | 112 | 115)
+    matches!(primitive, 60..=79 | 96 | 105 | 112 | 115)
 }
 
 /// Whether a primitive is one of those on blocks.
@@ -236,7 +228,7 @@ fn asks<O: Objects>(m: &mut O, r: &mut Registers, end: StepEnd) -> Result<StepEn
     Ok(end)
 }
 
-/// Does a primitive that asks for something, or activates the method; one that isn't built is only told.
+/// Does a primitive that asks for something, or activates the method.
 #[tactic(auto, using(st_frames::proofs::Doing::rows), unfolding(st_model::specs::Executing::respond_last, st_model::specs::Executing::asks, crate::specs::Responding::asks_for))]
 fn respond_last<O: Objects>(
     m: &mut O,
@@ -263,11 +255,7 @@ fn respond_last<O: Objects>(
     if is_with(primitive, 114, call.arguments, 0) {
         return asks(m, r, StepEnd::Debugger);
     }
-    if is_unbuilt(primitive) {
-        Ok(StepEnd::NotBuilt)
-    } else {
-        activated(m, r, call, header)
-    }
+    activated(m, r, call, header)
 }
 
 /// Does a primitive on objects, blocks, processes, devices or clocks, or one that asks for something; else the method is activated.
@@ -299,8 +287,7 @@ fn respond_on_objects<O: Objects>(
     respond_last(m, r, call, header, primitive)
 }
 
-/// Does the method's primitive, or activates the method where it has none or it fails; one that isn't built is only told. 83 and
-/// 84 fail.
+/// Does the method's primitive, or activates the method where it has none or it fails. 83 and 84 fail.
 #[tactic(auto, using(st_frames::proofs::Doing::rows), unfolding(st_model::specs::Executing::respond, st_model::specs::Executing::goes_on, crate::specs::Responding::on_objects))]
 pub fn respond<O: Objects>(
     m: &mut O,

@@ -6,10 +6,7 @@ ghost use Rattle.st_model.specs.Decoded.{IsNumbered};
 ghost use Rattle.st_model.specs.Bytecodes.{bytecode, step};
 ghost use Rattle.st_frames.specs.Rows.{RowLeaves, Takes, bytecode_changes};
 
-use crate::jump::{
-    long_jump_on_false, long_jump_on_true, long_unconditional_jump, short_jump_on_false,
-    short_unconditional_jump,
-};
+use crate::jump::{long_jump_on_false, long_jump_on_true, short_jump_on_false};
 use crate::returns::{
     return_constant, return_receiver, return_top_to_caller, return_top_to_sender,
 };
@@ -17,13 +14,14 @@ use crate::send::{
     arithmetic_send, double_extended_send, double_extended_super_send, extended_send,
     extended_super_send, primitive_send, send_literal_selector, send_special_selector,
 };
-use crate::stack::{
-    duplicate_top, extended_push, extended_store, extended_store_and_pop, pop_stack,
-    push_active_context, push_constant, push_operand, push_receiver, store_and_pop,
-};
 use st_frames::{Registers, next_byte};
 use st_memory::Objects;
 use st_model::{Bytecode, Dead, Deed, StepEnd, decode};
+use st_rows::{
+    duplicate_top, extended_push, extended_store, extended_store_and_pop, long_unconditional_jump,
+    pop_stack, push_active_context, push_constant, push_operand, push_receiver,
+    short_unconditional_jump, store_and_pop,
+};
 
 /// Does the row of a bytecode.
 #[tactic(auto, using(st_frames::proofs::Doing::rows), unfolding(st_model::specs::Bytecodes::bytecode, st_model::specs::Executing::goes_on))]

@@ -5,18 +5,19 @@ ghost use Rattle.st_model.specs.Deeds.{deed_of_end};
 ghost use Rattle.st_model.specs.Sends.{call_of, special_send};
 ghost use Rattle.st_model.specs.Executing.{executed};
 ghost use Rattle.st_model.specs.Bytecodes.{send_literal, send_literal_to_super, extended_send, double_extended_send, extended_super_send, double_extended_super_send, or_send, arithmetic_by, arithmetic_send, primitive_send};
-ghost use Rattle.st_model.specs.Arithmetic.{arithmetic, arithmetic_number};
+ghost use Rattle.st_model.specs.Arithmetic.{arithmetic};
 ghost use Rattle.st_model.specs.Blocks.{primitive_block_copy, primitive_value};
 ghost use Rattle.st_frames.specs.Rows.{RowDoes, RowLeaves, Takes, send_changes, executed_send_changes};
 
-use crate::arithmetic::{answer_integers, integer_answer};
 use crate::execute::execute;
-use crate::operands::fetch_literal_constant;
-use crate::receivers::{equivalence, receiver_class};
 use st_control::{primitive_block_copy, primitive_value, send, send_to_super, special_send};
 use st_frames::{Registers, next_byte, under};
 use st_memory::Objects;
 use st_model::{Call, Dead, Deed, StepEnd, Tried, Word};
+use st_rows::{
+    answer_integers, arithmetic_number, equivalence, fetch_literal_constant, integer_answer,
+    receiver_class,
+};
 
 /// Sends literal i with n arguments.
 #[tactic(auto, using(st_frames::proofs::Doing::rows), unfolding(st_model::specs::Bytecodes::send_literal))]
@@ -135,22 +136,6 @@ pub fn send_special_selector<O: Objects>(
 {
     let call = special_send(m, r, k)?;
     execute(m, r, call)
-}
-
-/// The primitive that is tried first for a special selector of 0 to 15.
-fn arithmetic_number(k: u32) -> u32
-    requires few { k < 16 }
-    ensures number { result ≡ arithmetic_number k }
-    ensures first { 1 ≤ result }
-    ensures last { result ≤ 18 }
-{
-    match k {
-        11 => 18,
-        12 => 17,
-        13 => 12,
-        14 | 15 => k,
-        _ => k + 1,
-    }
 }
 
 /// Does a primitive on two SmallIntegers, or sends the special selector where it fails.

@@ -1,5 +1,5 @@
 ghost use Rattle.std.specs.Prelude.{◌≡◌, IfOk};
-ghost use Rattle.st_model.specs.Outcomes.{Did, is_built, end_of, outcome_of};
+ghost use Rattle.st_model.specs.Outcomes.{end_of, outcome_of};
 ghost use Rattle.st_model.specs.Deeds.{deed_of_end};
 ghost use Rattle.st_model.specs.Machine.{used, Went};
 ghost use Rattle.st_model.specs.Table.{table, apart, bounded_table};
@@ -12,19 +12,12 @@ use crate::rows::step_row;
 use st_deeds::carry_out;
 use st_frames::{Frame, hold, load};
 use st_memory::{Draft, Memory};
-use st_model::{Dead, Deed, Demand, Halt, Outcome, StepEnd};
+use st_model::{Dead, Deed, Demand, Outcome, StepEnd};
 use st_world::World;
 
-/// Whether a step was done, and came to no primitive that isn't built.
-fn is_built(end: StepEnd) -> bool
-    ensures { result ≡ is_built (end_of end) }
-{
-    !matches!(end, StepEnd::NotBuilt)
-}
-
-/// What the next bytecode would take of the capacities, or why it can't be done, also over births that memory, registers and
-/// world show. Nothing is changed.
-pub fn plan<M: Memory>(m: &M, f: &Frame, w: &World) -> Result<Demand, Halt>
+/// What the next bytecode would take of the capacities, or the cause of which the machine would die, also over births that
+/// memory, registers and world show. Nothing is changed.
+pub fn plan<M: Memory>(m: &M, f: &Frame, w: &World) -> Result<Demand, Dead>
     requires frame { IsFrame (M.view m.now) f.now }
     ensures plans { Plans (used table (M.view m.now).objects)
         ((step apart).run (shown (M.view m.now) f.now w.now)) result }
@@ -32,16 +25,8 @@ pub fn plan<M: Memory>(m: &M, f: &Frame, w: &World) -> Result<Demand, Halt>
 {
     let mut draft = Draft::new(m);
     let mut r = load(m, f, w);
-    match step_row(&mut draft, &mut r) {
-        Ok(end) => {
-            if is_built(end) {
-                Ok(draft.demand())
-            } else {
-                Err(Halt::Unbuilt)
-            }
-        }
-        Err(cause) => Err(Halt::Dead(cause)),
-    }
+    step_row(&mut draft, &mut r)?;
+    Ok(draft.demand())
 }
 
 /// What the end of a step leaves to be done.
@@ -50,11 +35,7 @@ fn deed_of(end: StepEnd) -> Deed
 {
     match end {
         StepEnd::Went(deed) => deed,
-        StepEnd::Says(_)
-        | StepEnd::Snapshot
-        | StepEnd::Quit
-        | StepEnd::Debugger
-        | StepEnd::NotBuilt => Deed::Nothing,
+        StepEnd::Says(_) | StepEnd::Snapshot | StepEnd::Quit | StepEnd::Debugger => Deed::Nothing,
     }
 }
 
@@ -88,7 +69,7 @@ pub fn step<M: Memory>(m: &mut M, f: &mut Frame, w: &mut World) -> Outcome
     requires ready { IsReady (M.view m.old) f.old w.old }
     requires foreseen { IsForeseen (shown (M.view m.old) f.old w.old) }
     ensures step { (step bounded_table).run (shown (M.view m.old) f.old w.old)
-        ≡ Went (Did (outcome_of result)) (shown (M.view m.new) f.new w.new) }
+        ≡ Went (outcome_of result) (shown (M.view m.new) f.new w.new) }
     ensures ready { IsReady (M.view m.new) f.new w.new }
 {
     match try_step(m, f, w) {
@@ -97,7 +78,6 @@ pub fn step<M: Memory>(m: &mut M, f: &mut Frame, w: &mut World) -> Outcome
         Ok(StepEnd::Snapshot) => Outcome::Snapshot,
         Ok(StepEnd::Quit) => Outcome::Quit,
         Ok(StepEnd::Debugger) => Outcome::Debugger,
-        Ok(StepEnd::NotBuilt) => Outcome::Went,
         Err(_) => Outcome::Went,
     }
 }

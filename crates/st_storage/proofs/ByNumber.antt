@@ -5,6 +5,7 @@ use Rattle.st_model.specs.declared.dead.Dead.{Dead}
 use Rattle.st_model.specs.Values.{Value}
 use Rattle.st_model.specs.Machine.{ObjectMemory, State, Died, Went, Step, answer, after, tried, ◌>>=◌, ◌>>◌}
 use Rattle.st_model.specs.Primitives.{taking, answer_with, succeed, primitive, check_bytes}
+use Rattle.st_model.specs.BitBlt.{primitive_copy_bits}
 use Rattle.st_model.specs.Storage.{storage, primitive_say}
 use Rattle.st_model.specs.Storage as step
 use Rattle.st_model.specs.Table.{Table}
@@ -50,11 +51,12 @@ module _ (m : ObjectMemory Table) where
       fails (k == 77) (n == 0) _ _ _ s (
       fails (k == 78) (n == 0) _ _ _ s (
       fails (k == 79) (n == 2) _ _ _ s (
+      fails (k == 96) (n == 0) _ _ _ s (
       fails (k == 105) (n == 4) _ _ _ s (
       fails (k == 112) (n == 0) _ _ _ s (
       fails (k == 115) (n == 0) _ _ _ s (
       λ e. none s
-      )))))))))))))))))))))))
+      ))))))))))))))))))))))))
 
   pub storage-60 : (k n : ℕ) (s : State Table) → k ≡ 60 → takes_arguments k n ≡ true → (storage m k n).run s ≡ (step.primitive_at m).run s
   unfolding storage taking
@@ -136,6 +138,10 @@ module _ (m : ObjectMemory Table) where
   unfolding storage taking
   storage-79 k n s f e = rw f (taken (n == 2) (step.primitive_new_method m) s (rw f at e))
 
+  pub storage-96 : (k n : ℕ) (s : State Table) → k ≡ 96 → takes_arguments k n ≡ true → (storage m k n).run s ≡ (primitive_copy_bits m).run s
+  unfolding storage taking
+  storage-96 k n s f e = rw f (taken (n == 0) (primitive_copy_bits m) s (rw f at e))
+
   pub storage-105 : (k n : ℕ) (s : State Table) → k ≡ 105 → takes_arguments k n ≡ true → (storage m k n).run s ≡ (step.primitive_replace m).run s
   unfolding storage taking
   storage-105 k n s f e = rw f (taken (n == 4) (step.primitive_replace m) s (rw f at e))
@@ -170,12 +176,13 @@ module _ (m : ObjectMemory Table) where
       → (k == 77) ≡ false
       → (k == 78) ≡ false
       → (k == 79) ≡ false
+      → (k == 96) ≡ false
       → (k == 105) ≡ false
       → (k == 112) ≡ false
       → (k == 115) ≡ false
       → (storage m k n).run s ≡ Went false s
   unfolding storage answer
-  storage-none k n s e60 e61 e62 e63 e64 e65 e66 e67 e68 e69 e70 e71 e72 e73 e74 e75 e76 e77 e78 e79 e105 e112 e115 = rw (e60, e61, e62, e63, e64, e65, e66, e67, e68, e69, e70, e71, e72, e73, e74, e75, e76, e77, e78, e79, e105, e112, e115) refl
+  storage-none k n s e60 e61 e62 e63 e64 e65 e66 e67 e68 e69 e70 e71 e72 e73 e74 e75 e76 e77 e78 e79 e96 e105 e112 e115 = rw (e60, e61, e62, e63, e64, e65, e66, e67, e68, e69, e70, e71, e72, e73, e74, e75, e76, e77, e78, e79, e96, e105, e112, e115) refl
 
 -- 128, by its condition
 
@@ -190,4 +197,4 @@ say-fails m v s k e = rw e refl
 
 pub ruleset says = (rows, say-held, say-fails)
 
-pub ruleset numbers = (storage-fails, storage-none, storage-60, storage-61, storage-62, storage-63, storage-64, storage-65, storage-66, storage-67, storage-68, storage-69, storage-70, storage-71, storage-72, storage-73, storage-74, storage-75, storage-76, storage-77, storage-78, storage-79, storage-105, storage-112, storage-115)
+pub ruleset numbers = (storage-fails, storage-none, storage-60, storage-61, storage-62, storage-63, storage-64, storage-65, storage-66, storage-67, storage-68, storage-69, storage-70, storage-71, storage-72, storage-73, storage-74, storage-75, storage-76, storage-77, storage-78, storage-79, storage-96, storage-105, storage-112, storage-115)

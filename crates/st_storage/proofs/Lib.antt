@@ -1,4 +1,5 @@
 pub mod Commuting
+mod CopyingTries
 pub mod ElementTries
 pub mod Left
 pub mod Makeable

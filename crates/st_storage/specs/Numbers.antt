@@ -24,6 +24,7 @@ takes_arguments k n =
     if k == 77 then n == 0 else
     if k == 78 then n == 0 else
     if k == 79 then n == 2 else
+    if k == 96 then n == 0 else
     if k == 105 then n == 4 else
     if k == 112 then n == 0 else
     if k == 115 then n == 0 else false

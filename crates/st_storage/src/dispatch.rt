@@ -4,6 +4,7 @@ ghost use Rattle.st_model.specs.Deeds.{is_done, deed_of_trial};
 ghost use Rattle.st_storage.specs.Numbers.{takes_arguments};
 ghost use Rattle.st_frames.specs.Rows.{RowLeaves, Takes, storage_changes};
 
+use crate::copying::primitive_copy_bits;
 use crate::fetching::{primitive_at, primitive_instance_variable_at, primitive_size};
 use crate::finding::{
     primitive_as_object, primitive_as_oop, primitive_become, primitive_next_instance,
@@ -47,6 +48,7 @@ fn takes_arguments(primitive: u32, arguments: u32) -> bool
         77 => arguments == 0,
         78 => arguments == 0,
         79 => arguments == 2,
+        96 => arguments == 0,
         105 => arguments == 4,
         112 => arguments == 0,
         115 => arguments == 0,
@@ -91,6 +93,7 @@ pub fn try_storage<O: Objects>(
         77 => primitive_some_instance(m, r),
         78 => primitive_next_instance(m, r),
         79 => primitive_new_method(m, r),
+        96 => primitive_copy_bits(m, r),
         105 => primitive_replace(m, r),
         112 => primitive_core_left(m, r),
         115 => primitive_oops_left(m, r),

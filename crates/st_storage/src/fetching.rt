@@ -1,7 +1,7 @@
-ghost use Rattle.std.specs.Prelude.{◌≡◌, ◌<◌, ◌≤◌, ◌+◌};
+ghost use Rattle.std.specs.Prelude.{◌≡◌, ◌<◌, ◌≤◌, ◌+◌, false, IfOk};
 ghost use Rattle.st_model.specs.Values.{word};
 ghost use Rattle.st_model.specs.Storage.{element_by, fetch_element, primitive_at, primitive_size, primitive_instance_variable_at};
-ghost use Rattle.st_model.specs.Deeds.{is_done, deed_of_trial};
+ghost use Rattle.st_model.specs.Deeds.{is_done, deed_of_trial, copies_pixels};
 ghost use Rattle.st_frames.specs.Answering.{succeed_by, answer_word, answer_deed};
 ghost use Rattle.st_frames.specs.Rows.{RowLeaves, Takes};
 
@@ -23,6 +23,7 @@ pub fn fetch_element<O: Objects>(
     ensures does { RowLeaves O.Objects.own (fetch_element O.names (word v) place)
         answer_word answer_deed m.old r.now result m.new r.now }
     ensures takes { Takes O.Objects.own 1 m.old m.new }
+    ensures plain { IfOk result (λ a. copies_pixels a.deed ≡ false) }
 {
     let deed = Deed::Nothing;
     match m.fetch_kind(v)? {

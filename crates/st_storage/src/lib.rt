@@ -2,6 +2,7 @@
 //! does is a definition of `st_model/specs/Storage.antt`, of the same name.
 #![tactic(auto)]
 
+mod copying;
 mod dispatch;
 mod elements;
 mod fetching;

@@ -1,4 +1,4 @@
-ghost use Rattle.std.specs.Prelude.{◌≡◌, ◌<◌, ◌≤◌, ◌+◌, ◌-◌, ◌^◌, Ok, IfOk};
+ghost use Rattle.std.specs.Prelude.{◌≡◌, ◌<◌, ◌≤◌, ◌+◌, ◌-◌, ◌^◌, Ok, IfOk, false};
 ghost use Rattle.st_model.specs.Values.{word};
 ghost use Rattle.st_model.specs.Calls.{itself};
 ghost use Rattle.st_model.specs.Storage.{method_place, place_in_method, header_or_literal, primitive_object_at, check_header, place_to_store, store_in_method, primitive_object_at_put, method_words, method_shape, new_method, primitive_new_method};
@@ -8,7 +8,7 @@ ghost use Rattle.st_model.specs.declared.page.PageObject.TheVariants.{MethodClas
 ghost use Rattle.st_model.specs.Steps.{store_method_field};
 ghost use Rattle.st_frames.specs.Answering.{succeed_by, answer_word, answer_deed, no_word};
 ghost use Rattle.st_storage.specs.Storing.{method_shape_in};
-ghost use Rattle.st_model.specs.Deeds.{is_done, deed_of_trial};
+ghost use Rattle.st_model.specs.Deeds.{is_done, deed_of_trial, copies_pixels};
 ghost use Rattle.st_frames.specs.Rows.{RowReads, RowLeaves, Takes};
 
 use crate::elements::count_literals;
@@ -134,6 +134,7 @@ fn store_method_field<O: Objects>(
     ensures does { RowLeaves O.Objects.own
         (store_method_field O.names (word method) i (word value))
         no_word itself m.now r.now result m.now r.now }
+    ensures plain { IfOk result (λ d. copies_pixels d ≡ false) }
 {
     m.fetch_method_field(method, i)?;
     if !m.is_there(value) {
@@ -167,6 +168,7 @@ fn store_in_method<O: Objects>(
     ensures does { RowLeaves O.Objects.own
         (store_in_method O.names (word method) (word value) i)
         answer_word answer_deed m.now r.now result m.now r.now }
+    ensures plain { IfOk result (λ a. copies_pixels a.deed ≡ false) }
 {
     let deed = store_method_field(m, r, method, i, value)?;
     Ok(Answer { word: value, deed })
@@ -259,6 +261,7 @@ fn new_method<O: Objects>(
     ensures does { RowLeaves O.Objects.own (new_method O.names (word class) (method_shape_in shape))
         answer_word answer_deed m.old r.now result m.new r.now }
     ensures takes { Takes O.Objects.own 1 m.old m.new }
+    ensures plain { IfOk result (λ a. copies_pixels a.deed ≡ false) }
 {
     let literals = shape.header % 64;
     let word = m.make(

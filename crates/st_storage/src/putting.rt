@@ -1,9 +1,9 @@
-ghost use Rattle.std.specs.Prelude.{◌≡◌, ◌<◌, ◌≤◌, ◌+◌};
+ghost use Rattle.std.specs.Prelude.{◌≡◌, ◌<◌, ◌≤◌, ◌+◌, false, IfOk};
 ghost use Rattle.st_model.specs.Values.{word};
 ghost use Rattle.st_model.specs.Storage.{store_element, store_and_answer, primitive_at_put, primitive_string_at_put, primitive_instance_variable_at_put};
 ghost use Rattle.st_model.specs.Steps.{store_word, store_byte};
 ghost use Rattle.st_model.specs.Calls.{itself};
-ghost use Rattle.st_model.specs.Deeds.{is_done, deed_of_trial};
+ghost use Rattle.st_model.specs.Deeds.{is_done, deed_of_trial, copies_pixels};
 ghost use Rattle.st_frames.specs.Answering.{IsOfKind, succeed_by, answer_word, answer_deed, no_word};
 ghost use Rattle.st_storage.specs.Storing.{storing_in};
 ghost use Rattle.st_frames.specs.Rows.{RowLeaves, Takes};
@@ -25,6 +25,7 @@ fn store_word<O: Objects>(
 ) -> Result<Deed, Dead>
     ensures does { RowLeaves O.Objects.own (store_word O.names (word v) place unit)
         no_word itself m.now r.now result m.now r.now }
+    ensures plain { IfOk result (λ d. copies_pixels d ≡ false) }
 {
     m.fetch_word(v, place)?;
     Ok(Deed::StoreWord {
@@ -38,6 +39,7 @@ fn store_word<O: Objects>(
 fn store_byte<O: Objects>(m: &O, r: &Registers, v: Word, place: u32, byte: u8) -> Result<Deed, Dead>
     ensures does { RowLeaves O.Objects.own (store_byte O.names (word v) place byte)
         no_word itself m.now r.now result m.now r.now }
+    ensures plain { IfOk result (λ d. copies_pixels d ≡ false) }
 {
     m.fetch_byte(v, place)?;
     Ok(Deed::StoreByte {
@@ -62,6 +64,7 @@ pub fn store_element<O: Objects>(
         (store_element O.names (word v) storing.place (word x) storing.unit)
         no_word itself m.old r.now result m.new r.now }
     ensures takes { Takes O.Objects.own 1 m.old m.new }
+    ensures plain { IfOk result (λ d. copies_pixels d ≡ false) }
 {
     let Storing { place, kind, unit } = storing;
     match kind {
@@ -89,6 +92,7 @@ fn store_and_answer<O: Objects>(
         (store_and_answer O.names (word v) (word x) (storing_in storing))
         answer_word answer_deed m.old r.now result m.new r.now }
     ensures takes { Takes O.Objects.own 1 m.old m.new }
+    ensures plain { IfOk result (λ a. copies_pixels a.deed ≡ false) }
 {
     let deed = store_element(m, r, v, x, storing)?;
     Ok(Answer { word: x, deed })

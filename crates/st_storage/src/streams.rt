@@ -1,11 +1,11 @@
-ghost use Rattle.std.specs.Prelude.{◌≡◌, ◌<◌, ◌≤◌, ◌+◌, ◌-◌, IfOk, Ok, true};
+ghost use Rattle.std.specs.Prelude.{◌≡◌, ◌<◌, ◌≤◌, ◌+◌, ◌-◌, IfOk, Ok, true, false};
 ghost use Rattle.st_model.specs.declared.kind.Kind.TheVariants.{Bytes};
 ghost use Rattle.st_model.specs.Values.{Small, word};
 ghost use Rattle.st_model.specs.Calls.{itself};
 ghost use Rattle.st_model.specs.Primitives.{truth};
 ghost use Rattle.st_model.specs.Storage.{has_characters, is_at_end, primitive_at_end, place_of_object, place_of_character, stream_place, position_below, standing_at, stream_standing, stream_element, take_next, primitive_next, stream_unit, putting_at, stream_putting, put_next, primitive_next_put};
 ghost use Rattle.st_model.specs.Steps.{store_field};
-ghost use Rattle.st_model.specs.Deeds.{is_done, deed_of_trial};
+ghost use Rattle.st_model.specs.Deeds.{is_done, deed_of_trial, copies_pixels};
 ghost use Rattle.st_frames.specs.Answering.{IsOfKind, succeed_by, answer_word, answer_deed};
 ghost use Rattle.st_storage.specs.Storing.{element_unit, are_characters, standing_in, StandsIn, putting_in};
 ghost use Rattle.st_frames.specs.Rows.{RowReads, RowDoes, RowLeaves, Takes};
@@ -182,6 +182,7 @@ fn stream_element<O: Objects>(
         (stream_element O.names (word v) place (are_characters elements))
         answer_word answer_deed m.old r.now result m.new r.now }
     ensures takes { Takes O.Objects.own 1 m.old m.new }
+    ensures plain { IfOk result (λ a. copies_pixels a.deed ≡ false) }
 {
     match elements {
         Elements::Objects => fetch_element(m, r, v, place),
@@ -227,6 +228,7 @@ fn take_next<O: Objects>(
         (take_next O.names (word stream) (standing_in standing))
         answer_word answer_deed m.old r.now result m.new r.now }
     ensures takes { Takes O.Objects.own 2 m.old m.new }
+    ensures plain { IfOk result (λ a. copies_pixels a.deed ≡ false) }
 {
     let answer = stream_element(m, r, standing.collection, standing.place, standing.elements)?;
     store_position(m, r, stream, standing.position)?;
@@ -328,6 +330,7 @@ fn put_next<O: Objects>(
         (put_next O.names (word stream) (word x) (putting_in putting))
         answer_word answer_deed m.old r.now result m.new r.now }
     ensures takes { Takes O.Objects.own 2 m.old m.new }
+    ensures plain { IfOk result (λ a. copies_pixels a.deed ≡ false) }
 {
     let Standing {
         collection,

@@ -16,7 +16,7 @@ pub loop-i-preserved : goal.loop-i-preserved
 loop-i-preserved c =
     let scope = scope_view c.args.scope.now in
     let i = c.loop-i.i in
-    let names = c.args.names.now in
+    let names = c.args.frame.names.now in
     let n = c.index-names-i.result in
     let rest = declare_fault (i + 1) (names_view (drop (i + 1) names)) (scope ++ numbered false 0 (names_view (take (i + 1) names))) in
     let turn = declare_turn names scope i n (is_some (declared_as scope n.text.items) || is_among (names_view (take i names)) n.text.items) c.loop-i-test.true c.index-names-i.is refl in
@@ -26,7 +26,7 @@ pub returns-in_err-once : goal.returns-in_err-once
 returns-in_err-once c =
     let scope = scope_view c.args.scope.now in
     let i = c.loop-i.i in
-    let names = c.args.names.now in
+    let names = c.args.frame.names.now in
     let n = c.index-names-i.result in
     let rest = declare_fault (i + 1) (names_view (drop (i + 1) names)) (scope ++ numbered false 0 (names_view (take (i + 1) names))) in
     let here = among_fault scope (names_view (take i names)) (name_view n) in

@@ -1,4 +1,4 @@
-use Rattle.std.proofs.Common.{◌≡◌, ℕ, List, [], refl}
+use Rattle.std.proofs.Common.{◌≡◌, ℕ, [], refl}
 use Rattle.st_model.specs.declared.oop.Oop.{Oop}
 use Rattle.st_model.specs.Table.{Table}
 use Rattle.st_report.proofs.Pushing.{push_none, push_as}
@@ -16,7 +16,6 @@ nothing_asked (end.Say done o) t h = absurd (h done o refl)
 nothing_asked (end.Quit done) t h = refl
 nothing_asked (end.Debugger done) t h = refl
 nothing_asked (end.Dead done cause) t h = refl
-nothing_asked (end.Unbuilt done code) t h = refl
 
 pub returns-in_default : goal.returns-in_default
 returns-in_default g c =

@@ -20,7 +20,6 @@ alive (end.Say done o) s h = refl
 alive (end.Quit done) s h = refl
 alive (end.Debugger done) s h = refl
 alive (end.Dead done cause) s h = absurd (h done cause refl)
-alive (end.Unbuilt done code) s h = refl
 
 no_death : (e : RunEnd) → ((done : ℕ) (cause : Dead) → e ≡ end.Dead done cause → ⊥) → death_of e ≡ None
 no_death end.Ran h = refl
@@ -30,7 +29,6 @@ no_death (end.Say done o) h = refl
 no_death (end.Quit done) h = refl
 no_death (end.Debugger done) h = refl
 no_death (end.Dead done cause) h = absurd (h done cause refl)
-no_death (end.Unbuilt done code) h = refl
 
 pub push_state-requires : goal.push_state-requires
 push_state-requires g c = record { ready = c.requires.ready (no_death c.args.end c.in_default.not-Dead) }

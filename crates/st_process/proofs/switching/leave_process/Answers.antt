@@ -10,6 +10,6 @@ returns-clause-does g c =
     let first = c.in_ok-store_field.ensures.stores _ (row-memory _ _ c.args.r.now) (row-head _ _ c.args.r.now) ∙ ap (λ s. Went tt s) (row-stored _ _ _ _ c.args.r.now c.in_ok-store_field.ensures.head) in
     let second = c.in_ok-store_field-2.ensures.stores _ (row-memory _ _ c.args.r.now) (row-head _ _ c.args.r.now) ∙ ap (λ s. Went tt s) (row-stored _ _ _ _ c.args.r.now c.in_ok-store_field-2.ensures.head) in
     record {
-      does = left-process m _ _ _ _ _ _ _ _ _ (row-active _ _ _) (c.in_ok-old.ensures _ (row-memory _ _ _)) first (c.in_ok-scheduler.ensures _ (row-memory _ _ _)) second (c.page.ensures.page _ (row-memory _ _ _)) c.hold.ensures.does;
-      world = c.hold.ensures.world;
+      does = left-process m _ _ _ _ _ _ _ _ _ (row-active _ _ _) (c.in_ok-old.ensures _ (row-memory _ _ _)) first (c.in_ok-scheduler.ensures _ (row-memory _ _ _)) second (c.page.ensures.page _ (row-memory _ _ _)) c.hold.ensures.does.does;
+      world = c.hold.ensures.does.world;
     }

@@ -5,23 +5,23 @@ use Rattle.st_frames.proofs.Doing.{row-memory}
 use Rattle.st_process.proofs.Timers.{ring-left, ring-gone, ring-without}
 use Rattle.st_process.proofs.timer.ring.Goals as goal
 
-pub returns-then-not-is_there : goal.returns-then-not-is_there
-returns-then-not-is_there g c = record {
+pub returns-then-not-is_there-clause-does : goal.returns-then-not-is_there-clause-does
+returns-then-not-is_there-clause-does g c = record {
   does = ring-gone g.O.Objects.names g.met.O.Objects.tabular _ _ (row-memory _ _ _) _ (sym c.is_there.ensures ∙ c.if-not-is_there.true);
   world = refl;
 }
 
-pub returns-then-not-is_there-2 : goal.returns-then-not-is_there-2
-returns-then-not-is_there-2 g c =
+pub returns-then-not-is_there-2-clause-does : goal.returns-then-not-is_there-2-clause-does
+returns-then-not-is_there-2-clause-does g c =
     let nil = ap (is_there g.O.Objects.names (g.O.Objects.table c.args.m.now)) (sym c.page.ensures.word) ∙ (sym c.is_there-2.ensures ∙ c.if-not-is_there-2.true) in
     record {
       does = ring-without g.O.Objects.names g.met.O.Objects.tabular _ _ (row-memory _ _ _) _ (sym c.is_there.ensures ∙ c.if-not-is_there.false) nil;
       world = refl;
     }
 
-pub returns : goal.returns
+pub returns-clause-does : goal.returns-clause-does
 unfolding row_state
-returns g c =
+returns-clause-does g c =
     let nil = ap (is_there g.O.Objects.names (g.O.Objects.table c.args.m.now)) (sym c.page.ensures.word) ∙ (sym c.is_there-2.ensures ∙ c.if-not-is_there-2.false) in
     record {
       does = ring-left g.O.Objects.names g.met.O.Objects.tabular _ _ (row-memory (g.O.Objects.table c.args.m.now) (g.O.Objects.head c.args.m.now) c.args.r.now) _ (sym c.is_there.ensures ∙ c.if-not-is_there.false) nil c.requires.room;

@@ -16,7 +16,6 @@ nothing_asked (end.Say done o) t h = absurd (h done o refl)
 nothing_asked (end.Quit done) t h = refl
 nothing_asked (end.Debugger done) t h = refl
 nothing_asked (end.Dead done cause) t h = refl
-nothing_asked (end.Unbuilt done code) t h = refl
 
 pub returns-in_default : goal.returns-in_default
 returns-in_default g c =

@@ -18,7 +18,6 @@ living (end.Say done o) h = refl
 living (end.Quit done) h = cc
 living (end.Debugger done) h = cc
 living (end.Dead done cause) h = cc
-living (end.Unbuilt done code) h = cc
 
 pub loop-out-init : goal.loop-out-init
 loop-out-init g c = record {

@@ -1,5 +1,5 @@
 use Rattle.st_step.proofs.Said.{says_top}
-use Rattle.st_step.proofs.Foreseeing.{goes, goes_none, goes_dead}
+use Rattle.st_step.proofs.Foreseeing.{goes, goes_dead}
 use Rattle.std.proofs.Common.{◌∙◌, ap}
 use Rattle.st_model.specs.Values.{word}
 use Rattle.st_model.specs.Outcomes.{end_of, outcome_of}
@@ -13,12 +13,6 @@ returns-in-Ok-Says-clause-step g c =
     let t = shown (g.M.Memory.view c.try_step.new.m) c.try_step.new.f c.try_step.new.w in
     says_top s t (word c.in-Ok-Says.field-0-0) (outcome_of c.say_top.result) (c.in-Ok-Says.ensures.step ∙ ap (λ x. Went (end_of x) t) c.in-Ok-Says.field-0-is)
     (λ x e. c.say_top.ensures c.try_step.new.w x e)
-
-pub returns-in-Ok-NotBuilt-clause-step : goal.returns-in-Ok-NotBuilt-clause-step
-returns-in-Ok-NotBuilt-clause-step g c =
-    let v = g.M.Memory.view c.args.m.now in
-    absurd (goes_none (shown v c.args.f.now c.args.w.now) (goes v c.args.f.now c.args.w.now (g.met.M.Memory.whole c.args.m.now) c.requires.ready c.requires.foreseen) (shown (g.M.Memory.view c.try_step.new.m) c.try_step.new.f c.try_step.new.w)
-    (c.in-Ok-NotBuilt.ensures.step ∙ ap (λ x. Went (end_of x) (shown (g.M.Memory.view c.try_step.new.m) c.try_step.new.f c.try_step.new.w)) c.in-Ok-NotBuilt.field-0-is))
 
 pub returns-in-Err-clause-step : goal.returns-in-Err-clause-step
 returns-in-Err-clause-step g c =

@@ -9,7 +9,7 @@ use Rattle.st_storage.proofs.methods.store_method_field.Goals as goal
 pub returns-in_err-fetch_method_field : goal.returns-in_err-fetch_method_field
 returns-in_err-fetch_method_field g c =
     let e : c.from_residual.result ≡ Err c.in_err-fetch_method_field.field-0.0 = search rules in
-    record { does = leaves-died _ _ _ _ _ _ _ _ _ _ e refl (field-unfetched g.O.Objects.names g.met.O.Objects.tabular _ _ _ _ _ (c.in_err-fetch_method_field.ensures _ (row-memory _ _ _))) }
+    record { does = leaves-died _ _ _ _ _ _ _ _ _ _ e refl (field-unfetched g.O.Objects.names g.met.O.Objects.tabular _ _ _ _ _ (c.in_err-fetch_method_field.ensures _ (row-memory _ _ _))); plain = search rules }
 
 pub returns-then-not-is_there : goal.returns-then-not-is_there
 returns-then-not-is_there g c =
@@ -19,4 +19,5 @@ returns-then-not-is_there g c =
         does = field-missing g.O.Objects.names g.met.O.Objects.tabular _ _ _ _ _ _ (row-memory _ _ _) (c.in_ok-fetch_method_field.ensures _ (row-memory _ _ _)) there;
         world = refl;
       };
+      plain = tt;
     }

@@ -7,7 +7,7 @@ use Rattle.st_storage.proofs.putting.store_byte.Goals as goal
 pub returns-in_err-fetch_byte : goal.returns-in_err-fetch_byte
 returns-in_err-fetch_byte g c =
     let e : c.from_residual.result ≡ Err c.in_err-fetch_byte.field-0.0 = search rules in
-    record { does = leaves-died _ _ _ _ _ _ _ _ _ _ e refl (byte-unleft g.O.Objects.names g.met.O.Objects.tabular _ _ _ _ _ (c.in_err-fetch_byte.ensures _ (row-memory _ _ _))) }
+    record { does = leaves-died _ _ _ _ _ _ _ _ _ _ e refl (byte-unleft g.O.Objects.names g.met.O.Objects.tabular _ _ _ _ _ (c.in_err-fetch_byte.ensures _ (row-memory _ _ _))); plain = search rules }
 
 pub returns : goal.returns
 returns g c = record {
@@ -15,4 +15,5 @@ returns g c = record {
     does = byte-left g.O.Objects.names g.met.O.Objects.tabular _ _ _ _ _ (c.in_ok-fetch_byte.ensures _ (row-memory _ _ _));
     world = refl;
   };
+  plain = refl;
 }

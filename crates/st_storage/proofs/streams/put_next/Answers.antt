@@ -7,10 +7,10 @@ use Rattle.st_storage.proofs.streams.put_next.Goals as goal
 pub returns-in_err-store_position-clause-does : goal.returns-in_err-store_position-clause-does
 returns-in_err-store_position-clause-does g c =
     let e : c.from_residual-in_err-store_position.result ≡ Err c.in_err-store_position.field-0.0 = search rules in
-    leaves-died _ _ _ _ _ _ _ _ _ _ e (search rules) (put-died g.O.Objects.names g.met.O.Objects.tabular _ _ _ _ _ _ _ _ (c.requires.stands.collection _ (row-memory _ _ _)) c.in_ok-deed.ensures.does.does c.in_err-store_position.ensures.does.does)
+    leaves-died _ _ _ _ _ _ _ _ _ _ e (search rules) (put-died g.O.Objects.names g.met.O.Objects.tabular _ c.in_ok-deed.ensures.plain _ _ _ _ _ _ _ (c.requires.stands.collection _ (row-memory _ _ _)) c.in_ok-deed.ensures.does.does c.in_err-store_position.ensures.does.does)
 
 pub returns-clause-does : goal.returns-clause-does
 returns-clause-does g c = record {
-  does = put-left g.O.Objects.names g.met.O.Objects.tabular _ _ _ _ _ _ _ _ (c.requires.stands.collection _ (row-memory _ _ _)) c.in_ok-deed.ensures.does.does c.in_ok-store_position.ensures.does.does;
+  does = put-left g.O.Objects.names g.met.O.Objects.tabular _ c.in_ok-deed.ensures.plain _ _ _ _ _ _ _ (c.requires.stands.collection _ (row-memory _ _ _)) c.in_ok-deed.ensures.does.does c.in_ok-store_position.ensures.does.does;
   world = search rules;
 }

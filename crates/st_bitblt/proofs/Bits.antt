@@ -1,0 +1,126 @@
+use Rattle.std.proofs.Common.{◌≡◌, ℕ, zero, suc, ◌+◌, ◌-◌, ◌*◌, ◌/◌, ◌%◌, ◌^◌, ◌<◌, ◌≤◌, min, max, bit_and, bit_or, arith, refl, sym, ◌∙◌, ap, List, get_or, inl, inr}
+use Rattle.std.specs.Int.{bit_at, w16}
+use Rattle.std.proofs.lemmas.Nat.{shr-shr, one_shl, pow_pos}
+use Rattle.std.proofs.lemmas.Grind.{or_after_shift}
+use Rattle.std.proofs.lemmas.Nat.Bits.{bit_at_and, bit_at_or, bit_at_not, bit_at-lt, bit_at_ones, bit_at_cat_low, bit_at_cat_high, bit_at_mask_inside, bit_at_mask_below, bit_at_mask_above}
+use Rattle.std.proofs.Math.Pow.{pow_mono}
+use Rattle.std.proofs.lemmas.Bool.{cases_order}
+use Rattle.st_model.specs.Pixels.{combine, pixel}
+use Rattle.st_bitblt.specs.Rules.{IsSpread, number_of_words}
+
+-- What the bits of words are that were combined, joined and masked.
+-- The four terms of a rule, at one bit of each word.
+weights : (f : ℕ → ℕ) (s d : ℕ) → s < 2 → d < 2 → ((k : ℕ) → f k < 2)
+    → max (max (max (min (min s d) (f 0)) (min (min s (1 - d)) (f 1))) (min (min (1 - s) d) (f 2))) (min (min (1 - s) (1 - d)) (f 3)) ≡ f (3 - (2 * s + d))
+weights f zero zero hs hd hf = let h : f 3 < 2 = hf 3 in omega arith
+weights f zero (suc zero) hs hd hf = let h : f 2 < 2 = hf 2 in omega arith
+weights f zero (suc (suc d)) hs hd hf = omega arith
+weights f (suc zero) zero hs hd hf = let h : f 1 < 2 = hf 1 in omega arith
+weights f (suc zero) (suc zero) hs hd hf = let h : f 0 < 2 = hf 0 in omega arith
+weights f (suc zero) (suc (suc d)) hs hd hf = omega arith
+weights f (suc (suc s)) d hs hd hf = omega arith
+
+pub ones_bit : (j : ℕ) → j < 16 → bit_at 65535 j ≡ 1
+ones_bit j h = bit_at_ones 16 j h
+
+pub rule_words : (rule s d a b c e j : ℕ) → j < 16 → s < 2 ^ 16 → d < 2 ^ 16
+    → bit_at a j ≡ bit_at rule 0 → bit_at b j ≡ bit_at rule 1 → bit_at c j ≡ bit_at rule 2 → bit_at e j ≡ bit_at rule 3
+    → bit_at (bit_or (bit_or (bit_or (bit_and (bit_and s d) a) (bit_and (bit_and s (65535 - d)) b)) (bit_and (bit_and (65535 - s) d) c)) (bit_and (bit_and (65535 - s) (65535 - d)) e)) j
+    ≡ combine rule (bit_at s j) (bit_at d j)
+rule_words rule s d a b c e j h hs hd ha hb hc he =
+    let ns : bit_at (65535 - s) j ≡ 1 - bit_at s j = bit_at_not w16 s j hs h in
+    let nd : bit_at (65535 - d) j ≡ 1 - bit_at d j = bit_at_not w16 d j hd h in
+    simp (bit_at_or, bit_at_and, ns, nd, ha, hb, hc, he) (weights (bit_at rule) (bit_at s j) (bit_at d j) (bit_at-lt s j) (bit_at-lt d j) (bit_at-lt rule))
+
+rule_bits : (x y z w : ℕ) → x < 2 → y < 2 → z < 2 → w < 2
+    → (bit_at (x + 2 * y + 4 * z + 8 * w) 0 ≡ x) × (bit_at (x + 2 * y + 4 * z + 8 * w) 1 ≡ y) × (bit_at (x + 2 * y + 4 * z + 8 * w) 2 ≡ z) × (bit_at (x + 2 * y + 4 * z + 8 * w) 3 ≡ w)
+rule_bits x y z w hx hy hz hw = (omega arith, omega arith, omega arith, omega arith)
+
+-- what a rule's four words make of two others
+pub combined_bit : (rule s d a b c e j : ℕ) → j < 16 → s < 2 ^ 16 → d < 2 ^ 16 → rule ≡ number_of_words a b c e → IsSpread a → IsSpread b → IsSpread c → IsSpread e
+    → bit_at (bit_or (bit_or (bit_or (bit_and (bit_and s d) a) (bit_and (bit_and s (65535 - d)) b)) (bit_and (bit_and (65535 - s) d) c)) (bit_and (bit_and (65535 - s) (65535 - d)) e)) j
+    ≡ combine rule (bit_at s j) (bit_at d j)
+combined_bit rule s d a b c e j h hs hd is sa sb sc se =
+    let r = rule_bits (bit_at a 0) (bit_at b 0) (bit_at c 0) (bit_at e 0) (bit_at-lt a 0) (bit_at-lt b 0) (bit_at-lt c 0) (bit_at-lt e 0) in
+    rule_words rule s d a b c e j h hs hd
+    (sa j h ∙ sym (ap (λ x. bit_at x 0) is ∙ r.0)) (sb j h ∙ sym (ap (λ x. bit_at x 1) is ∙ r.1))
+    (sc j h ∙ sym (ap (λ x. bit_at x 2) is ∙ r.2)) (se j h ∙ sym (ap (λ x. bit_at x 3) is ∙ r.3))
+
+shifted : (n k j : ℕ) → bit_at (n / 2 ^ k) j ≡ bit_at n (k + j)
+shifted n k j = ap (λ x. x % 2) (shr-shr n k j)
+
+-- Sixteen bits of two words side by side.
+pair_bit : (l r k j : ℕ) → l < 2 ^ 16 → r < 2 ^ 16 → j < 16 → bit_at (bit_and (bit_or (l * 65536 % 4294967296) r / 2 ^ k) 65535) j ≡ bit_at (l * 2 ^ 16 + r) (k + j)
+pair_bit l r k j hl hr hj =
+    let e : bit_or (l * 65536 % 4294967296) r ≡ l * 65536 + r = or_after_shift l 65536 4294967296 r refl (omega arith) (omega arith) in
+    let one : bit_at 65535 j ≡ 1 = ones_bit j hj in
+    let small : bit_at ((l * 65536 + r) / 2 ^ k) j < 2 = bit_at-lt ((l * 65536 + r) / 2 ^ k) j in
+    let s : bit_at ((l * 65536 + r) / 2 ^ k) j ≡ bit_at (l * 65536 + r) (k + j) = shifted (l * 65536 + r) k j in
+    rw (e, bit_at_and ((l * 65536 + r) / 2 ^ k) 65535 j, one) (omega arith)
+
+pub pair_left : (l r skip i : ℕ) → l < 2 ^ 16 → r < 2 ^ 16 → skip + i < 16
+    → bit_at (bit_and (bit_or (l * 65536 % 4294967296) r / 2 ^ (16 - skip)) 65535) (15 - i) ≡ bit_at l (15 - (skip + i))
+pair_left l r skip i hl hr h =
+    let e : 16 - skip + (15 - i) - 16 ≡ 15 - (skip + i) = omega arith in
+    let a = pair_bit l r (16 - skip) (15 - i) hl hr (omega arith) in
+    let b = bit_at_cat_high l 16 r (16 - skip + (15 - i)) hr (omega arith) in
+    a ∙ b ∙ ap (bit_at l) e
+
+pub pair_right : (l r skip i : ℕ) → l < 2 ^ 16 → r < 2 ^ 16 → i < 16 → skip < 16 → 16 ≤ skip + i
+    → bit_at (bit_and (bit_or (l * 65536 % 4294967296) r / 2 ^ (16 - skip)) 65535) (15 - i) ≡ bit_at r (31 - (skip + i))
+pair_right l r skip i hl hr hi hs h =
+    let e : 16 - skip + (15 - i) ≡ 31 - (skip + i) = omega arith in
+    let a = pair_bit l r (16 - skip) (15 - i) hl hr (omega arith) in
+    let b = bit_at_cat_low l 16 r (16 - skip + (15 - i)) (omega arith) in
+    a ∙ b ∙ ap (bit_at r) e
+
+pub one_bit : (k : ℕ) → k < 32 → 1 * 2 ^ k % 4294967296 ≡ 2 ^ k
+one_bit k h = one_shl k 32 h
+
+pub masks_order : (first n : ℕ) → first + n ≤ 16 → 1 * 2 ^ (16 - first - n) % 4294967296 ≤ 1 * 2 ^ (16 - first) % 4294967296
+masks_order first n h =
+    let le : 16 - first - n ≤ 16 - first = omega arith in
+    rw (one_bit (16 - first - n) (omega arith), one_bit (16 - first) (omega arith)) (pow_mono le)
+
+masks_are : (first n : ℕ) → 1 * 2 ^ (16 - first) % 4294967296 - 1 * 2 ^ (16 - first - n) % 4294967296 ≡ 2 ^ (16 - first) - 2 ^ (16 - first - n)
+masks_are first n = rw (one_bit (16 - first - n) (omega arith), one_bit (16 - first) (omega arith)) refl
+
+pub mask_fits : (first n : ℕ) → 1 * 2 ^ (16 - first) % 4294967296 - 1 * 2 ^ (16 - first - n) % 4294967296 < 2 ^ 16
+mask_fits first n =
+    let low : 0 < 2 ^ (16 - first - n) = pow_pos (16 - first - n) in
+    let le : 16 - first ≤ 16 = omega arith in
+    let high : 2 ^ (16 - first) ≤ 2 ^ 16 = pow_mono le in
+    rw (masks_are first n) (omega arith)
+
+pub mask_inside : (first n i : ℕ) → first + n ≤ 16 → first ≤ i → i < first + n
+    → bit_at (1 * 2 ^ (16 - first) % 4294967296 - 1 * 2 ^ (16 - first - n) % 4294967296) (15 - i) ≡ 1
+mask_inside first n i h a b = rw (masks_are first n) (bit_at_mask_inside (16 - first - n) (16 - first) (15 - i) (omega arith) (omega arith))
+
+pub mask_below : (first n i : ℕ) → first + n ≤ 16 → i < first
+    → bit_at (1 * 2 ^ (16 - first) % 4294967296 - 1 * 2 ^ (16 - first - n) % 4294967296) (15 - i) ≡ 0
+mask_below first n i h a = rw (masks_are first n) (bit_at_mask_above (16 - first - n) (16 - first) (15 - i) (omega arith))
+
+pub mask_above : (first n i : ℕ) → first + n ≤ i → i < 16
+    → bit_at (1 * 2 ^ (16 - first) % 4294967296 - 1 * 2 ^ (16 - first - n) % 4294967296) (15 - i) ≡ 0
+mask_above first n i a b = rw (masks_are first n) (bit_at_mask_below (16 - first - n) (16 - first) (15 - i) (omega arith))
+
+-- A word chosen by a mask, at a bit where the mask is 1, and where it is 0.
+pub chosen : (a d m j : ℕ) → m < 2 ^ 16 → j < 16 → bit_at m j ≡ 1 → bit_at (bit_or (bit_and a m) (bit_and d (65535 - m))) j ≡ bit_at a j
+chosen a d m j hm hj one =
+    let n : bit_at (65535 - m) j ≡ 1 - bit_at m j = bit_at_not w16 m j hm hj in
+    let small : bit_at a j < 2 = bit_at-lt a j in
+    simp (bit_at_or, bit_at_and, n, one) (omega arith)
+
+pub kept : (a d m j : ℕ) → m < 2 ^ 16 → j < 16 → bit_at m j ≡ 0 → bit_at (bit_or (bit_and a m) (bit_and d (65535 - m))) j ≡ bit_at d j
+kept a d m j hm hj none =
+    let n : bit_at (65535 - m) j ≡ 1 - bit_at m j = bit_at_not w16 m j hm hj in
+    let small : bit_at d j < 2 = bit_at-lt d j in
+    simp (bit_at_or, bit_at_and, n, none) (omega arith)
+
+-- The pixel j of the word `at`.
+pub pixel_in : (ws : List ℕ) (at j k : ℕ) → j < 16 → k ≡ 16 * at + j → pixel ws k ≡ bit_at (get_or ws at 0) (15 - j)
+unfolding pixel
+pixel_in ws at j k h e =
+    let a : k / 16 ≡ at = omega arith in
+    let b : k % 16 ≡ j = omega arith in
+    rw (a, b) refl

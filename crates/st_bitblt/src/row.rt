@@ -1,0 +1,101 @@
+ghost use Rattle.std.specs.Prelude.{◌≡◌, ◌+◌, ◌*◌, ◌^◌, ◌<◌, ◌≤◌, length, Some, IsTrue, ◌↔◌};
+ghost use Rattle.st_model.specs.Values.{value};
+ghost use Rattle.st_bitblt.specs.Copied.{Copied, HasSource, object_of_source};
+ghost use Rattle.st_bitblt.specs.Words.{words, HasWords};
+
+use crate::part::put_part;
+use crate::rule::{Rule, joined};
+use crate::source::{Source, source_word, word_before};
+use st_memory::Memory;
+use st_model::Oop;
+
+/// Where pixels come from, and the object of kind Words to which they go.
+#[derive(Clone, Copy)]
+pub struct Ends {
+    pub source: Source,
+    pub dest: Oop,
+}
+
+/// Copies n pixels from the left. Within one object the source must not lie behind.
+fn copy_up<M: Memory>(m: &mut M, rule: &Rule, tone: u16, ends: Ends, p: u32, q: u32, n: u32)
+    requires source { HasSource (M.view m.old) ends.source }
+    requires dest { HasWords (M.view m.old) (value ends.dest) }
+    requires order { object_of_source ends.source ≡ Some (value ends.dest) → p ≤ q }
+    requires room { p + n ≤ 16 * length (words (M.view m.old) (value ends.dest)) }
+    requires p_fits { p + n < 2 ^ 32 }
+    requires q_fits { q + n + 16 < 2 ^ 32 }
+    ensures { Copied rule.now tone (object_of_source ends.source) (value ends.dest)
+        (M.view m.old) (M.view m.new) p q n }
+{
+    let mut left = word_before(m, ends.source, (q + 16 - p % 16) / 16);
+    let mut done = 0;
+    while done < n {
+        let place = q + done + 16 - (p + done) % 16;
+        let right = source_word(m, ends.source, place / 16);
+        let piece = joined(left, right, place % 16) & tone;
+        let count = (16 - (p + done) % 16).min(n - done);
+        put_part(m, rule, piece, ends.dest, p + done, count);
+        left = right;
+        done += count;
+    }
+}
+
+/// Copies n pixels from the right. Within one object the source must not lie ahead.
+fn copy_down<M: Memory>(m: &mut M, rule: &Rule, tone: u16, ends: Ends, p: u32, q: u32, n: u32)
+    requires source { HasSource (M.view m.old) ends.source }
+    requires dest { HasWords (M.view m.old) (value ends.dest) }
+    requires order { object_of_source ends.source ≡ Some (value ends.dest) → q ≤ p }
+    requires room { p + n ≤ 16 * length (words (M.view m.old) (value ends.dest)) }
+    requires p_fits { p + n < 2 ^ 32 }
+    requires q_fits { q + n + 16 < 2 ^ 32 }
+    ensures { Copied rule.now tone (object_of_source ends.source) (value ends.dest)
+        (M.view m.old) (M.view m.new) p q n }
+{
+    if n == 0 {
+        return;
+    }
+    let last = q + n + 15 - (p + n - 1) % 16;
+    let mut right = source_word(m, ends.source, last / 16);
+    let mut left = n;
+    while left > 0 {
+        let count = ((p + left - 1) % 16 + 1).min(left);
+        left -= count;
+        let place = q + left + 16 - (p + left) % 16;
+        let before = word_before(m, ends.source, place / 16);
+        let piece = joined(before, right, place % 16) & tone;
+        put_part(m, rule, piece, ends.dest, p + left, count);
+        right = before;
+    }
+}
+
+/// Whether the source lies behind, in the same object.
+fn is_behind(ends: Ends, p: u32, q: u32) -> bool
+    ensures { IsTrue result ↔ ((object_of_source ends.source ≡ Some (value ends.dest)) × (q < p)) }
+{
+    match ends.source {
+        Source::Words { object, .. } => {
+            if object.0 != ends.dest.0 {
+                return false;
+            }
+            q < p
+        }
+        Source::Ones => false,
+    }
+}
+
+/// Copies n pixels, in the direction in which no pixel of the source is read once it was changed.
+pub fn copy_row<M: Memory>(m: &mut M, rule: &Rule, tone: u16, ends: Ends, p: u32, q: u32, n: u32)
+    requires source { HasSource (M.view m.old) ends.source }
+    requires dest { HasWords (M.view m.old) (value ends.dest) }
+    requires room { p + n ≤ 16 * length (words (M.view m.old) (value ends.dest)) }
+    requires p_fits { p + n < 2 ^ 32 }
+    requires q_fits { q + n + 16 < 2 ^ 32 }
+    ensures { Copied rule.now tone (object_of_source ends.source) (value ends.dest)
+        (M.view m.old) (M.view m.new) p q n }
+{
+    if is_behind(ends, p, q) {
+        copy_down(m, rule, tone, ends, p, q, n);
+    } else {
+        copy_up(m, rule, tone, ends, p, q, n);
+    }
+}

@@ -1,0 +1,77 @@
+ghost use Rattle.std.specs.Prelude.{◌≡◌, ◌+◌, ◌*◌, ◌^◌, ◌<◌, ◌≤◌, length};
+ghost use Rattle.st_model.specs.Values.{value};
+ghost use Rattle.st_bitblt.specs.Copied.{HasSource, object_of_source};
+ghost use Rattle.st_bitblt.specs.Rows.{HasRoom, FitsPlaces, RowsCopied, tone_of};
+ghost use Rattle.st_bitblt.specs.Words.{words, HasWords};
+
+use crate::row::{Ends, copy_row};
+use crate::rule::Rule;
+use st_memory::Memory;
+
+/// How the rows of a copy are put down: by a rule, through a halftone of which word `first` modulo 16 is for the first row.
+#[derive(Drop)]
+pub struct Pen {
+    pub rule: Rule,
+    pub tones: [u16; 16],
+    pub first: u32,
+}
+
+/// Where the rows of a copy stand: `height` rows of n pixels, of the destination from place p on, each `along` pixels behind
+/// the one before, and of the source from q on, each `across` behind.
+#[derive(Clone, Copy)]
+pub struct Layout {
+    pub p: u32,
+    pub along: u32,
+    pub q: u32,
+    pub across: u32,
+    pub n: u32,
+    pub height: u32,
+}
+
+impl Pen {
+    /// The halftone's word for a row of the copy.
+    fn tone(&self, row: u32) -> u16
+        requires { self.now.first + row < 2 ^ 32 }
+        ensures { result ≡ tone_of self.now row }
+    {
+        self.tones[((self.first + row) % 16) as usize]
+    }
+}
+
+/// The place where a row begins.
+fn place(start: u32, step: u32, row: u32, height: u32) -> u32
+    requires row { row ≤ height }
+    requires fits { start + height * step < 2 ^ 32 }
+    ensures { result ≡ start + row * step }
+{
+    start + row * step
+}
+
+/// Copies rows: first, from the top, those whose source does not lie behind their destination, and then the others, from the
+/// bottom. So within one object none is read once it was changed.
+pub fn copy_rows<M: Memory>(m: &mut M, pen: &Pen, ends: Ends, a: Layout)
+    requires source { HasSource (M.view m.old) ends.source }
+    requires dest { HasWords (M.view m.old) (value ends.dest) }
+    requires wide { a.n ≤ a.along }
+    requires narrow { a.n ≤ a.across }
+    requires room { HasRoom a (length (words (M.view m.old) (value ends.dest))) }
+    requires fits { FitsPlaces a }
+    requires first { pen.now.first + a.height < 2 ^ 32 }
+    ensures { RowsCopied pen.now (object_of_source ends.source) (value ends.dest)
+        (M.view m.old) (M.view m.new) a (λ j. j < a.height) }
+{
+    'up: for j in 0..a.height {
+        let p = place(a.p, a.along, j, a.height);
+        let q = place(a.q, a.across, j, a.height);
+        if p <= q {
+            copy_row(m, &pen.rule, pen.tone(j), ends, p, q, a.n);
+        }
+    }
+    'down: for j in (0..a.height).rev() {
+        let p = place(a.p, a.along, j, a.height);
+        let q = place(a.q, a.across, j, a.height);
+        if q < p {
+            copy_row(m, &pen.rule, pen.tone(j), ends, p, q, a.n);
+        }
+    }
+}

@@ -1,0 +1,121 @@
+ghost use Rattle.std.specs.Prelude.{◌≡◌, ◌≤◌, ◌+◌, pos};
+ghost use Rattle.st_model.specs.Values.{word};
+ghost use Rattle.st_model.specs.Steps.{jump};
+ghost use Rattle.st_model.specs.Calls.{itself};
+ghost use Rattle.st_control.specs.AtOnce.{IsStill, at_once, jump_at_once, return_to_context_at_once, return_at_once, return_to_sender_at_once, return_to_caller_at_once};
+ghost use Rattle.st_frames.specs.Rows.{RowMoves, RowDoes, Takes};
+
+use crate::returns::return_into;
+use st_frames::{Registers, jump, page, pop};
+use st_memory::Objects;
+use st_model::{Dead, PageObject, Word};
+
+/// Jumps forward at once.
+#[tactic(auto, using(st_frames::proofs::Doing::rows), unfolding(crate::specs::AtOnce::at_once))]
+fn jump_forward_at_once<O: Objects>(m: &O, r: &mut Registers, d: u32) -> Result<bool, Dead>
+    requires short { d ≤ 1023 }
+    ensures does { RowMoves O.Objects.own (at_once (jump (pos d))) itself m.now r.old result r.new }
+{
+    jump(m, r, d as i32)?;
+    Ok(true)
+}
+
+/// Pops, and jumps forward where the word is the wanted boolean. Answers whether it is a boolean.
+#[tactic(auto, using(st_frames::proofs::Doing::rows), unfolding(crate::specs::AtOnce::jump_at_once))]
+pub fn jump_at_once<O: Objects>(
+    m: &O,
+    r: &mut Registers,
+    wanted: PageObject,
+    other: PageObject,
+    d: u32,
+) -> Result<bool, Dead>
+    requires short { d ≤ 1023 }
+    ensures does { RowMoves O.Objects.own (jump_at_once O.names wanted other (pos d))
+        itself m.now r.old result r.new }
+{
+    let x = pop(m, r)?;
+    let a = page(m, wanted);
+    let b = page(m, other);
+    if x.same(a) {
+        return jump_forward_at_once(m, r, d);
+    }
+    Ok(x.same(b))
+}
+
+/// Returns the answer to a context, which isn't nil, unless that was left for good. Answers whether it did.
+#[tactic(auto, using(st_frames::proofs::Doing::rows), unfolding(crate::specs::AtOnce::return_to_context_at_once, crate::specs::AtOnce::at_once))]
+fn return_to_context_at_once<O: Objects>(
+    m: &mut O,
+    r: &mut Registers,
+    context: Word,
+    answer: Word,
+    nil: Word,
+) -> Result<bool, Dead>
+    requires room { 3 ≤ O.room m.old }
+    ensures does { RowDoes O.Objects.own (return_to_context_at_once O.names (word context) (word answer) (word nil))
+        itself m.old r.old result m.new r.new }
+    ensures takes { Takes O.Objects.own 3 m.old m.new }
+    ensures still { IsStill m.old result m.new }
+{
+    let ip = m.fetch_field(context, 1)?;
+    if ip.same(nil) {
+        return Ok(false);
+    }
+    return_into(m, r, context, answer)?;
+    Ok(true)
+}
+
+/// Returns the answer to a context, unless that is nil or was left for good. Answers whether it did.
+#[tactic(auto, using(st_frames::proofs::Doing::rows), unfolding(crate::specs::AtOnce::return_at_once))]
+fn return_at_once<O: Objects>(
+    m: &mut O,
+    r: &mut Registers,
+    context: Word,
+    answer: Word,
+) -> Result<bool, Dead>
+    requires room { 3 ≤ O.room m.old }
+    ensures does { RowDoes O.Objects.own (return_at_once O.names (word context) (word answer))
+        itself m.old r.old result m.new r.new }
+    ensures takes { Takes O.Objects.own 3 m.old m.new }
+    ensures still { IsStill m.old result m.new }
+{
+    let nil = page(m, PageObject::NilObject);
+    if context.same(nil) {
+        return Ok(false);
+    }
+    return_to_context_at_once(m, r, context, answer, nil)
+}
+
+/// Returns the answer to the sender, unless that is nil or was left for good. Answers whether it did.
+#[tactic(auto, using(st_frames::proofs::Doing::rows), unfolding(crate::specs::AtOnce::return_to_sender_at_once))]
+pub fn return_to_sender_at_once<O: Objects>(
+    m: &mut O,
+    r: &mut Registers,
+    answer: Word,
+) -> Result<bool, Dead>
+    requires room { 3 ≤ O.room m.old }
+    ensures does { RowDoes O.Objects.own (return_to_sender_at_once O.names (word answer))
+        itself m.old r.old result m.new r.new }
+    ensures takes { Takes O.Objects.own 3 m.old m.new }
+    ensures still { IsStill m.old result m.new }
+{
+    let sender = m.fetch_field(r.home, 0)?;
+    return_at_once(m, r, sender, answer)
+}
+
+/// Returns the answer to the caller, unless that is nil or was left for good. Answers whether it did.
+#[tactic(auto, using(st_frames::proofs::Doing::rows), unfolding(crate::specs::AtOnce::return_to_caller_at_once))]
+pub fn return_to_caller_at_once<O: Objects>(
+    m: &mut O,
+    r: &mut Registers,
+    answer: Word,
+) -> Result<bool, Dead>
+    requires room { 3 ≤ O.room m.old }
+    ensures does { RowDoes O.Objects.own (return_to_caller_at_once O.names (word answer))
+        itself m.old r.old result m.new r.new }
+    ensures takes { Takes O.Objects.own 3 m.old m.new }
+    ensures still { IsStill m.old result m.new }
+{
+    let caller = m.fetch_field(r.active, 0)?;
+    return_at_once(m, r, caller, answer)
+}
