@@ -21,12 +21,12 @@ use Rattle.st_session.specs.Answers.{dead_line, event_course, defined_course}
 use Rattle.st_course.specs.Courses.{replies}
 use Rattle.st_model.specs.Text.{dead_text}
 use Rattle.st_model.specs.declared.dead.Dead.{Dead}
-use Rattle.std.specs.Prelude.{Vec}
 use Rattle.st_course.specs.declared.status.Status.{Status}
 use Rattle.st_course.specs.Obeying.{Obeys}
 use Rattle.st_session.specs.Asking.{IsSaying}
 use Rattle.st_session.specs.Installing.{Installed, Refused, Accepted}
 use Rattle.st_session.specs.Installations.{InstallsAs}
+use Rattle.st_session.specs.declared.installer.Installation.{Installation}
 use Rattle.st_session.specs.declared.installer.Installation.TheVariants as installation
 use Rattle.st_session.specs.Keeping.{keeps_nothing}
 use Rattle.st_session.specs.Telling.{Tells}
@@ -80,10 +80,18 @@ dead_is cause request.End e w = absurd (e refl)
 dead_is cause (request.Wrong line) e w = absurd (w line refl)
 dead_is cause r e w = refl
 
+-- the selector of a method that was installed
+abbrev pub HasSelector : Installation → List ℕ → Type 0
+HasSelector (installation.Accepted selector) name = selector.items ≡ name
+HasSelector (installation.Refused why) name = ⊥
+HasSelector installation.OutOfMemory name = ⊥
+
 -- a definition that was installed is acknowledged
-pub acknowledged : {D : Type 0} (host : Ghosts D) (at : Point (Unit {0}) → Type 0) (s : State Births) (c : State Table) (d : Definition) (o : Installed) (selector : Vec ℕ) (text : List ℕ) (result : Result Unit Status) (old new : D)
-    → InstallsAs o (installation.Accepted selector) c → text ≡ accepted_line d.class d.meta selector.items → Tells host text old new result → ((t : State Births) → Shows c t → at (alive t tt))
+pub acknowledged : {D : Type 0} (host : Ghosts D) (at : Point (Unit {0}) → Type 0) (s : State Births) (c : State Table) (d : Definition) (o : Installed) (i : Installation) (selector text : List ℕ) (result : Result Unit Status) (old new : D)
+    → InstallsAs o i c → HasSelector i selector → text ≡ accepted_line d.class d.meta selector → Tells host text old new result → ((t : State Births) → Shows c t → at (alive t tt))
     → Obeys host at (defined_course keeps_nothing s tt d o) result old new
-acknowledged host at s c d (Refused why) selector text result old new installs is tells stands = absurd installs
-acknowledged host at s c d (Accepted name t) selector text result old new installs is tells stands =
-    obeys_tells host at (accepted_text d name) (alive t tt) result old new (subst (λ x. Tells host x old new result) (is ∙ ap (accepted_line d.class d.meta) installs.0) tells) (when_ok result (stands t installs.1))
+acknowledged host at s c d o installation.OutOfMemory selector text result old new installs has is tells stands = absurd has
+acknowledged host at s c d o (installation.Refused why) selector text result old new installs has is tells stands = absurd has
+acknowledged host at s c d (Refused why) (installation.Accepted v) selector text result old new installs has is tells stands = absurd installs
+acknowledged host at s c d (Accepted name t) (installation.Accepted v) selector text result old new installs has is tells stands =
+    obeys_tells host at (accepted_text d name) (alive t tt) result old new (subst (λ x. Tells host x old new result) (is ∙ ap (accepted_line d.class d.meta) (sym has ∙ installs.0)) tells) (when_ok result (stands t installs.1))

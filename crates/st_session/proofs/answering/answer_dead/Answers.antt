@@ -10,10 +10,10 @@ use Rattle.st_session.proofs.Lines.{dead_is}
 use Rattle.st_session.proofs.answering.answer_dead.Goals as goal
 
 pub returns-in-End-clause-obeys : goal.returns-in-End-clause-obeys
-returns-in-End-clause-obeys g c = rw c.in-End.is (obeys_end g.H.Host (λ p. p ≡ gone c.args.cause tt) status.Done (g.met.H.Host.only_now c.args.host.now))
+returns-in-End-clause-obeys g c = rw c.in-End.is (obeys_end g.H.Host (λ (p : Point (Unit {0})). p ≡ gone c.args.cause tt) status.Done (g.met.H.Host.only_now c.args.host.now))
 
 pub returns-in-Wrong-clause-obeys : goal.returns-in-Wrong-clause-obeys
-returns-in-Wrong-clause-obeys g c = rw c.in-Wrong.is (obeys_end g.H.Host (λ p. p ≡ gone c.args.cause tt) (status.Script c.in-Wrong.line) (g.met.H.Host.only_now c.args.host.now))
+returns-in-Wrong-clause-obeys g c = rw c.in-Wrong.is (obeys_end g.H.Host (λ (p : Point (Unit {0})). p ≡ gone c.args.cause tt) (status.Script c.in-Wrong.line) (g.met.H.Host.only_now c.args.host.now))
 
 pub returns-in_default-clause-obeys : goal.returns-in_default-clause-obeys
 returns-in_default-clause-obeys g c =

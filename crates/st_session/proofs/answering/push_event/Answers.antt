@@ -12,4 +12,4 @@ returns-in-Ok-clause-pushes g c = λ s h.
 pub returns-in-Err-clause-pushes : goal.returns-in-Err-clause-pushes
 returns-in-Err-clause-pushes g c = λ s h.
     let m = c.event.new.self in
-    full g.H.Host (StandsAt g.M.Memory.view m) s (shown_by g.M.Memory.view m) (event births c.args.e s) _ (c.in-Err.ensures.comes s h) (c.in-Err.ensures.alive, rw c.in-Err.ensures.full h) c.push.ensures
+    full g.H.Host (StandsAt g.M.Memory.view m) s (shown_by g.M.Memory.view m) (event births c.args.e s) _ (c.in-Err.ensures.comes s h) (c.in-Err.ensures.alive, rw c.in-Err.ensures.full h) c.push-in-Err.ensures

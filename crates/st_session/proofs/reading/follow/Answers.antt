@@ -101,7 +101,32 @@ returns-then-count-eq0 g c =
 -- MORE BYTES CAME THAN MAY
 
 pub returns-then-count-left : goal.returns-then-count-left
-returns-then-count-left g c = ?
+returns-then-count-left g c =
+    let install = g.I.Installer.install in
+    let far = c.pieces.invariant.far in
+    let at = StandsAt g.M.Memory.view c.pieces.machine in
+    let on = StandsAt g.M.Memory.view c.feed_last.new.machine in
+    let r = read_through (line_from 1) far.0 in
+    let bytes = take c.in-Ok.count c.take.new.into in
+    let rest = g.S.Source.remaining c.take.new.self in
+    let last = take c.pieces.left bytes in
+    let end = λ (q : Point (Unit {0})). ended (follows install q (told_from r last)) status.TooLarge in
+    let m = c.args.machine.now in
+    let some = some_point g.M.Memory.view m (g.met.M.Memory.whole m.memory) c.requires.may_run in
+    let within : c.in-Ok.count ≤ length c.take.new.into = omega (arith, c.in-Ok.ensures.within, c.pieces.invariant.size, c.if-count-eq0.array_long) in
+    let size : length bytes ≡ c.in-Ok.count = length-take-le c.in-Ok.count c.take.new.into within in
+    let more : c.pieces.left < length bytes = omega (arith, size, c.if-count-left.true) in
+    let ends = λ (q : Point (Unit {0})) (there : at q). obeys_as g.H.Host on (ended (follows install q (told_from c.pieces.reader last)) status.TooLarge) (end q) c.feed_last.result c.pieces.host c.feed_last.new.host (ap (λ x. ended (follows install q (told_from x last)) status.TooLarge) far.3) (c.feed_last.ensures.obeys q there) in
+    record {
+      obeys = λ told p stands.
+          obeys_as g.H.Host on (rest_of install (line_from 1) longest p (far.0 ++ (bytes ++ rest))) (rest_of install (line_from 1) longest p (g.S.Source.remaining c.args.script.now)) c.feed_last.result c.args.host.now c.feed_last.new.host
+          (ap (rest_of install (line_from 1) longest p) (sym (far.1 told ∙ ap (λ (x : List ℕ). far.0 ++ x) (c.in-Ok.ensures.takes told))))
+          (rest_then install g.H.Host at on (line_from 1) longest c.pieces.left p far.0 (bytes ++ rest) c.feed_last.result c.args.host.now c.pieces.host c.feed_last.new.host far.2 (far.4 p stands)
+          (λ q there. obeys_as g.H.Host on (end q) (rest_of install r c.pieces.left q (bytes ++ rest)) c.feed_last.result c.pieces.host c.feed_last.new.host (sym (rest_over install r c.pieces.left q bytes rest more)) (ends q there)));
+      told = λ fault told p stands. absurd (no_read g.H.Host c.pieces.host c.feed_last.new.host c.feed_last.result c.feed_last.ensures.counts fault);
+      says = says_behind install g.H.Host at on (follows install some.0 (told_from (line_from 1) far.0)) end c.feed_last.result c.args.host.now c.pieces.host c.feed_last.new.host (far.4 some.0 some.1) ends;
+      counts = never_read g.H.Host _ c.args.host.now c.feed_last.new.host c.feed_last.result (counts_behind g.H.Host ⊥ c.args.host.now c.pieces.host c.feed_last.new.host c.feed_last.result c.pieces.invariant.disk c.pieces.invariant.say c.feed_last.ensures.counts);
+    }
 
 -- THESE BYTES ARE FOLLOWED
 
@@ -118,8 +143,9 @@ returns-in-Err-feed_all g c =
     let some = some_point g.M.Memory.view m (g.met.M.Memory.whole m.memory) c.requires.may_run in
     let e = c.in-Err-feed_all.status in
     let fed = λ (q : Point (Unit {0})) (there : at q). obeys_as g.H.Host on (follows install q (told_from c.pieces.reader bytes)) (follows install q (told_from r bytes)) (Err e) c.pieces.host c.feed_all.new.host (ap (λ x. follows install q (told_from x bytes)) far.3) (c.in-Err-feed_all.ensures.obeys q there) in
-    let size : length bytes ≡ c.in-Ok.count = ? in
-    let few : length bytes ≤ c.pieces.left = ? in
+    let within : c.in-Ok.count ≤ length c.take.new.into = omega (arith, c.in-Ok.ensures.within, c.pieces.invariant.size, c.if-count-eq0.array_long) in
+    let size : length bytes ≡ c.in-Ok.count = length-take-le c.in-Ok.count c.take.new.into within in
+    let few : length bytes ≤ c.pieces.left = omega (arith, size, c.if-count-left.false) in
     record {
       obeys = λ told p stands.
           obeys_as g.H.Host on (rest_of install (line_from 1) longest p (far.0 ++ (bytes ++ rest))) (rest_of install (line_from 1) longest p (g.S.Source.remaining c.args.script.now)) (Err e) c.args.host.now c.feed_all.new.host
@@ -140,7 +166,9 @@ pieces-preserved g c =
     let r = read_through (line_from 1) far.0 in
     let bytes = take c.in-Ok.count c.take.new.into in
     let rest = g.S.Source.remaining c.take.new.self in
-    let size : length bytes ≡ c.in-Ok.count = ? in
+    let within : c.in-Ok.count ≤ length c.take.new.into = omega (arith, c.in-Ok.ensures.within, c.pieces.invariant.size, c.if-count-eq0.array_long) in
+    let size : length bytes ≡ c.in-Ok.count = length-take-le c.in-Ok.count c.take.new.into within in
+    let few : c.in-Ok.count ≤ c.pieces.left = c.if-count-left.false in
     record {
       size = c.take.auto.into ∙ c.pieces.invariant.size;
       may_run = c.feed_all.ensures.may_run;
@@ -150,7 +178,7 @@ pieces-preserved g c =
       far = (
         far.0 ++ bytes,
         (λ told. far.1 told ∙ (ap (λ (x : List ℕ). far.0 ++ x) (c.in-Ok.ensures.takes told) ∙ sym (append_assoc far.0 bytes rest))),
-        (let both = length-append far.0 bytes in let sum = far.2 in omega (arith, both, sum, size)),
+        (let both = length-append far.0 bytes in let sum = far.2 in omega (arith, both, sum, size, few)),
         c.in-Ok-feed_all.ensures.reader ∙ (ap (λ x. read_through x bytes) far.3 ∙ sym (read_both (line_from 1) far.0 bytes)),
         λ p stands. told_more install g.H.Host at on (line_from 1) p far.0 bytes (Ok tt) c.args.host.now c.pieces.host c.feed_all.new.host (far.4 p stands)
             (λ q there. obeys_as g.H.Host on (follows install q (told_from c.pieces.reader bytes)) (follows install q (told_from r bytes)) (Ok tt) c.pieces.host c.feed_all.new.host (ap (λ x. follows install q (told_from x bytes)) far.3) (c.in-Ok-feed_all.ensures.obeys q there)),

@@ -1,4 +1,4 @@
-use Rattle.std.proofs.Common.{◌≡◌, ap, sym, subst}
+use Rattle.std.proofs.Common.{◌≡◌, refl, ap, sym, subst}
 use Rattle.st_model.specs.Show.{Shows}
 use Rattle.st_frames.specs.Shown.{IsReady, shown}
 use Rattle.st_script.specs.Definitions.{definition_of}
@@ -14,5 +14,5 @@ returns-in-Accepted-clause-obeys g c = λ s h.
     let same = sym c.memory_mut.ensures.value in
     let ready = subst (λ x. IsReady (g.M.Memory.view x) m.frame m.world) same c.requires.ready in
     let shows = subst (λ x. Shows (shown (g.M.Memory.view x) m.frame m.world) s) same h in
-    acknowledged g.H.Host (StandsAt g.M.Memory.view (record m { memory = c.install.new.m })) s (shown (g.M.Memory.view c.install.new.m) m.frame m.world) d (g.I.Installer.install d s) c.in-Accepted.selector _ c.say_reply.result c.args.host.now c.say_reply.new.host
-    (c.in-Accepted.ensures.installs m.frame m.world s ready shows) (ap (accepted_line d.class d.meta) c.deref.ensures.value) c.say_reply.ensures (λ t w. (c.requires.alive, w))
+    acknowledged g.H.Host (StandsAt g.M.Memory.view (record m { memory = c.install.new.m })) s (shown (g.M.Memory.view c.install.new.m) m.frame m.world) d (g.I.Installer.install d s) c.install.result c.in-Accepted.selector.items _ c.say_reply.result c.args.host.now c.say_reply.new.host
+    (c.install.ensures.installs m.frame m.world s ready shows) (rw c.in-Accepted.is refl) (ap (accepted_line d.class d.meta) c.deref.ensures.value) c.say_reply.ensures (λ t w. (c.requires.alive, w))
