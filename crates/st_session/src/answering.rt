@@ -139,11 +139,7 @@ fn answer_living<H: Host, M: Memory>(
 }
 
 /// Answers a line where the machine is dead.
-fn answer_dead<H: Host>(
-    host: &mut H,
-    cause: Dead,
-    request: Request,
-) -> Result<(), Status>
+fn answer_dead<H: Host>(host: &mut H, cause: Dead, request: Request) -> Result<(), Status>
     ensures obeys { Obeys H.Host.own (λ p. p ≡ gone cause (tt {0})) (dead_line cause (tt {0}) request)
         result host.old host.new }
     ensures counts { Counts H.Host.own ⊥ host.old host.new result }

@@ -82,11 +82,7 @@ fn push_refused<H: Host>(out: &mut Output, host: &mut H, why: Refusal) -> Result
 }
 
 /// Adds a line.
-fn push_reply<H: Host>(
-    out: &mut Output,
-    host: &mut H,
-    reply: Reply<'_>,
-) -> Result<(), SayFault>
+fn push_reply<H: Host>(out: &mut Output, host: &mut H, reply: Reply<'_>) -> Result<(), SayFault>
     ensures { Pushes H.Host.own (reply_text reply.entry) host.old host.new out.old out.new result }
 {
     match reply {
