@@ -1,10 +1,9 @@
 -- How a session ends.
-use Rattle.std.proofs.Common.{◌≡◌, ◌⊎◌, inl, inr, ⊎_elim, ℕ, List, [], ◌∷◌, ◌++◌, ◌∙◌, Bool, true, false, refl, sym, ap, subst, append-nil, IsTrue}
-use Rattle.std.specs.Prelude.{Result, Ok, Err, OnOk, IsErrOf}
-use Rattle.st_outside.specs.Runs.{SaysAll, ReadsAndSays}
+use Rattle.std.proofs.Common.{◌≡◌, ◌⊎◌, inl, inr, ⊎_elim, ℕ, List, [], ◌∷◌, ◌++◌, ◌∙◌, Bool, true, false, refl, sym, ap, subst, append-nil}
+use Rattle.std.specs.Prelude.{Result, Ok, Err, IsErrOf, nat_le, length, take}
+use Rattle.st_outside.specs.Runs.{SaysAll}
 use Rattle.st_outside.specs.Telling.{Says}
 use Rattle.st_outside.specs.declared.host.Host.{Ghosts}
-use Rattle.st_outside.proofs.Telling.{OnlyNow, says_begun, says_none}
 use Rattle.st_course.specs.declared.status.Status.{Status}
 use Rattle.st_course.specs.declared.status.Status.TheVariants as status
 use Rattle.st_course.specs.Courses.{Deed, Reply, Course, Goes, Ends, deeds_of, said_of, preceded, ended, IsEnd}
@@ -13,12 +12,14 @@ use Rattle.st_course.specs.Obeying.{Obeys}
 use Rattle.st_course.specs.Statuses.{IsFault, StatusHasCause, EndHasCause}
 use Rattle.st_course.proofs.Joins.{obeys_says, did_both}
 use Rattle.st_course.proofs.Courses.{deeds_preceded}
-use Rattle.st_script.specs.Reading.{Reading}
+use Rattle.st_script.specs.Reading.{Reading, line_from}
+use Rattle.st_script.specs.Scripts.{asked_from, told_from}
 use Rattle.st_session.specs.Installing.{Install}
 use Rattle.st_session.specs.Points.{Point}
 use Rattle.st_session.specs.Keeping.{keeps_nothing}
-use Rattle.st_session.specs.Sessions.{follow_rest, session}
-use Rattle.st_session.specs.Telling.{IsSayFault, Tells}
+use Rattle.st_session.specs.Replies.{opened_text}
+use Rattle.st_session.specs.Sessions.{follow, follow_rest, follow_script, longest, session}
+use Rattle.st_session.specs.Telling.{Tells}
 use Rattle.st_session.specs.Ends.{status_in, IsCalm, DidTold, SessionEnds}
 
 abbrev IsEnded : {C X : Type 0} → Course C X → Type 0
@@ -34,12 +35,12 @@ preceded_ends ds (Goes es x) h = h
 preceded_ends ds (Ends es e) h = tt
 
 rest_ends : (install : Install) (r : Reading) (left : ℕ) (p : Point (Unit {0})) (rest : List ℕ) (b : Bool) → IsEnded (follow_rest keeps_nothing install r left p rest b)
-rest_ends install r left p rest true = ended_ends _ status.Done
-rest_ends install r left p rest false = ended_ends _ status.TooLarge
+rest_ends install r left p rest true = ended_ends (follow keeps_nothing install p (asked_from r rest)) status.Done
+rest_ends install r left p rest false = ended_ends (follow keeps_nothing install p (told_from r (take left rest))) status.TooLarge
 
 session_ends : (install : Install) (replayed lost : ℕ) (p : Point (Unit {0})) (script : List ℕ) → IsEnded (session keeps_nothing install replayed lost p script)
 unfolding session
-session_ends install replayed lost p script = preceded_ends _ _ (rest_ends install _ _ p script _)
+session_ends install replayed lost p script = preceded_ends (Reply (opened_text replayed lost) ∷ []) (follow_script keeps_nothing install p script) (rest_ends install (line_from 1) longest p script (nat_le (length script) longest))
 
 -- a course ends in one status
 end_is : {C X : Type 0} (c : Course C X) (a b : Status) → IsEnd c a → IsEnd c b → a ≡ b
@@ -60,11 +61,8 @@ module _ {D : Type 0} (host : Ghosts D) where
   pub told_behind : {X : Type 0} (ds : List (Deed (Unit {0}))) (course : List ℕ → Course (Unit {0}) X) (script : List ℕ) (old mid new : D) → Did host ds old mid → DidTold host course script mid new → DidTold host (λ front. preceded ds (course front)) script old new
   told_behind ds course script old mid new first h = record {
     count = h.count;
-    did = subst (λ l. Did host l old new) (sym (deeds_preceded ds _)) (did_both ds _ first h.did);
+    did = subst (λ l. Did host l old new) (sym (deeds_preceded ds (course (take h.count script)))) (did_both ds (deeds_of (course (take h.count script))) first h.did);
   }
-
-  pub nothing_said : (text : List ℕ) (old : D) → OnlyNow host old → Says host text old old
-  nothing_said text old only_now = says_begun text (says_none only_now) refl
 
   module _ {X Y : Type 0} (at : X → Type 0) (course : Course (Unit {0}) X) (so_far : List ℕ → Course (Unit {0}) Y) (script : List ℕ) where
     whole_of : (result : Result Unit Status) (old new : D) → IsEnded course → Obeys host at course result old new → (IsFault (status_in result) → ⊥) → IsEnd course (status_in result) × SaysAll host (said_of (deeds_of course)) old new
@@ -84,14 +82,6 @@ module _ {D : Type 0} (host : Ghosts D) where
       whole = whole_of result old new ends h;
       part = obeys_says host at course result old new h;
       told = λ e. told (is_unread result e);
-    }
-
-    -- where there was no memory to begin with
-    pub ends_unbegun : (old : D) → OnlyNow host old → SessionEnds host course so_far script old old status.OutOfMemory
-    ends_unbegun old only_now = record {
-      whole = λ calm. absurd (calm tt);
-      part = nothing_said (said_of (deeds_of course)) old only_now;
-      told = λ e. cc;
     }
 
     pub complete_of : (reads : Type 0) (e : Status) (old new : D) → SessionEnds host course so_far script old new e → StatusHasCause host reads old new e → IsEnd course status.Done → IsCalm host reads old new → (e ≡ status.Done) ⊎ (e ≡ status.OutOfMemory)

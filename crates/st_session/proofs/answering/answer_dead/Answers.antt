@@ -18,6 +18,6 @@ returns-in-Wrong-clause-obeys g c = rw c.in-Wrong.is (obeys_end g.H.Host (λ (p 
 pub returns-in_default-clause-obeys : goal.returns-in_default-clause-obeys
 returns-in_default-clause-obeys g c =
     let x : Point (Unit {0}) = gone c.args.cause tt in
-    obeys_as g.H.Host (λ p. p ≡ x) (replies (dead_text 0 c.args.cause) x) (dead_line c.args.cause tt c.args.request) c.say_reply.result c.args.host.now c.say_reply.new.host
+    obeys_as g.H.Host (λ (p : Point (Unit {0})). p ≡ x) (replies (dead_text 0 c.args.cause) x) (dead_line c.args.cause tt c.args.request) c.say_reply.result c.args.host.now c.say_reply.new.host
     (sym (dead_is c.args.cause c.args.request c.in_default.not-End c.in_default.not-Wrong))
-    (obeys_tells g.H.Host (λ p. p ≡ x) (dead_text 0 c.args.cause) x c.say_reply.result c.args.host.now c.say_reply.new.host c.say_reply.ensures (when_ok c.say_reply.result refl))
+    (obeys_tells g.H.Host (λ (p : Point (Unit {0})). p ≡ x) (dead_text 0 c.args.cause) x c.say_reply.result c.args.host.now c.say_reply.new.host c.say_reply.ensures (when_ok c.say_reply.result refl))
