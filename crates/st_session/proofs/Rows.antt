@@ -10,6 +10,8 @@ use Rattle.st_course.specs.Courses.{Course, Reply, Ends}
 use Rattle.st_session.specs.Installing.{Install, Refused}
 use Rattle.st_session.specs.Points.{Point, gone}
 use Rattle.st_session.specs.Keeping.{keeps_nothing}
+use Rattle.st_model.specs.Text.{dead_text}
+use Rattle.st_session.specs.Replies.{opened_text}
 use Rattle.st_session.specs.Sessions.{session}
 
 -- without any class
@@ -20,21 +22,21 @@ no_class d s = Refused NoClass
 abbrev over_the_dead : List ℕ → Course (Unit {0}) (Point (Unit {0}))
 over_the_dead script = session keeps_nothing no_class 0 0 (gone Sp tt) script
 
-no_line : over_the_dead [] ≡ Ends (Reply (codes "opened 0 0\n") ∷ []) Done
+no_line : over_the_dead [] ≡ Ends (Reply (opened_text 0 0) ∷ []) Done
 unfolding session end_read line_request
 no_line = refl
 
-out_of_the_grammar : over_the_dead (codes "hop") ≡ Ends (Reply (codes "opened 0 0\n") ∷ []) (Script 1)
-unfolding session end_read line_request alone
+out_of_the_grammar : over_the_dead (codes "hop") ≡ Ends (Reply (opened_text 0 0) ∷ []) (Script 1)
+unfolding session read end_read line_request alone
 out_of_the_grammar = refl
 
 the_dead_answer : over_the_dead (codes "used\n!Point methodsFor: 'a'!\nx ^x! !\nrun 5\nend\nhop")
-    ≡ Ends (Reply (codes "opened 0 0\n") ∷ Reply (codes "dead 0 6\n") ∷ Reply (codes "dead 0 6\n") ∷ Reply (codes "dead 0 6\n") ∷ []) Done
+    ≡ Ends (Reply (opened_text 0 0) ∷ Reply (dead_text 0 Sp) ∷ Reply (dead_text 0 Sp) ∷ Reply (dead_text 0 Sp) ∷ []) Done
 unfolding session read end_read line_request alone with_arguments number
 the_dead_answer = refl
 
 -- a group that is cut off begins in the second line; the method before it is answered
 cut_off : over_the_dead (codes "used\n!Point methodsFor: 'a'!\nx ^x!")
-    ≡ Ends (Reply (codes "opened 0 0\n") ∷ Reply (codes "dead 0 6\n") ∷ Reply (codes "dead 0 6\n") ∷ []) (Script 3)
+    ≡ Ends (Reply (opened_text 0 0) ∷ Reply (dead_text 0 Sp) ∷ Reply (dead_text 0 Sp) ∷ []) (Script 3)
 unfolding session read end_read line_request alone with_arguments number
 cut_off = refl

@@ -27,7 +27,7 @@ returns-clause-ends g c = λ told s shows.
     let ensures = c.boot-machine.ensures in
     let world = ensures.world ∙ c.in-Ok.ensures in
     let same : shown_by g.M.Memory.view machine ≡ shown (g.M.Memory.view c.args.loaded.memory) c.args.loaded.frame (empty_world nil) = λ i. shown (ensures.memory i) (ensures.frame i) (world i) in
-    let stands = (ensures.alive, subst (λ (x : State Table). Shows x s) (sym same) shows) in
+    let stands : StandsAt g.M.Memory.view machine p = (ensures.alive, subst (λ (x : State Table). Shows x s) (sym same) shows) in
     subst (λ (x : Status). SessionEnds g.H.Host (session keeps_nothing install 0 0 p script) (session_so_far keeps_nothing install 0 0 p) script c.args.host.now c.open.new.host x) (sym c.status_of.ensures)
     (session_ended g.H.Host install (StandsAt g.M.Memory.view c.open.new.machine) p (session_so_far keeps_nothing install 0 0 p) script c.open.result c.args.host.now c.open.new.host
     (c.open.ensures.obeys told p stands) (λ fault. c.open.ensures.told fault told p stands))
@@ -41,7 +41,7 @@ returns-clause-complete g c = λ told s shows end calm.
     let ensures = c.boot-machine.ensures in
     let world = ensures.world ∙ c.in-Ok.ensures in
     let same : shown_by g.M.Memory.view machine ≡ shown (g.M.Memory.view c.args.loaded.memory) c.args.loaded.frame (empty_world nil) = λ i. shown (ensures.memory i) (ensures.frame i) (world i) in
-    let stands = (ensures.alive, subst (λ (x : State Table). Shows x s) (sym same) shows) in
+    let stands : StandsAt g.M.Memory.view machine p = (ensures.alive, subst (λ (x : State Table). Shows x s) (sym same) shows) in
     rw c.status_of.ensures (complete_of g.H.Host (StandsAt g.M.Memory.view c.open.new.machine) (session keeps_nothing install 0 0 p script) (session_so_far keeps_nothing install 0 0 p) script _ (status_in c.open.result) c.args.host.now c.open.new.host
     (session_ended g.H.Host install (StandsAt g.M.Memory.view c.open.new.machine) p (session_so_far keeps_nothing install 0 0 p) script c.open.result c.args.host.now c.open.new.host
     (c.open.ensures.obeys told p stands) (λ fault. c.open.ensures.told fault told p stands))
