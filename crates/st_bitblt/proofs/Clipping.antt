@@ -1,13 +1,13 @@
 -- Clipping by integers is clipping by the numbers that are 16384 more.
-use Rattle.std.proofs.Common.{◌≡◌, ℕ, suc, ◌+◌, ◌-◌, ◌<◌, ◌≤◌, Bool, true, false, Option, Some, None, refl, sym, ap, ◌∙◌, arith}
-use Rattle.std.specs.Prelude.{ℤ, pos, negsuc, ◌+ℤ◌, ◌-ℤ◌, ◌<ℤ◌, ◌≤ℤ◌, int_le, int_lt, nat_lt, ◌&&◌}
+use Rattle.std.proofs.Common.{◌≡◌, ℕ, ◌+◌, ◌-◌, ◌<◌, Bool, true, false, Option, Some, None, refl, arith}
+use Rattle.std.specs.Prelude.{ℤ, pos, negsuc, ◌+ℤ◌, ◌<ℤ◌, ◌≤ℤ◌, int_le, int_lt, nat_lt, ◌&&◌}
 use Rattle.std.proofs.lemmas.Int.{ints}
 use Rattle.std.proofs.lemmas.Bool.Decides.{nat_tests}
 use Rattle.st_model.specs.BitBlt.{Axis, copies_to, has_line, is_among, line_from}
 use Rattle.st_bitblt.specs.declared.direction.Direction.{Direction}
 use Rattle.st_bitblt.specs.declared.span.Lines.{Lines}
 use Rattle.st_bitblt.specs.declared.span.Span.{Span}
-use Rattle.st_bitblt.specs.Reading.{axis_of, lowered, IsDirection}
+use Rattle.st_bitblt.specs.Reading.{axis_of}
 use Rattle.st_bitblt.specs.Spans.{Takes, IsClipped, IsSpan}
 
 le_true : (a b : ℤ) → a ≤ℤ b → int_le a b ≡ true
@@ -101,28 +101,32 @@ module _ (d : Direction) (lines : ℕ) where
   from_source n k c =
       let p = parts (int_le (pos 0) (line_from (axis_of d) k)) _ c.source in
       let low = true_le (pos 0) (line_from (axis_of d) k) p.0 in
-      let high = true_lt (line_from (axis_of d) k) (pos 0 +ℤ pos n) p.1 in
-      (d.from + k - d.to, record {
-        low = omega (arith, ints, c.low);
-        high = omega (arith, ints, c.high);
-        clip_low = omega (arith, ints, c.clip_low);
-        clip_high = omega (arith, ints, c.clip_high);
-        within = c.within;
-        from = omega (arith, ints, low);
-        source = omega (arith, ints, low, high);
-      })
+      let high = true_lt (line_from (axis_of d) k) (pos 0 +ℤ pos n) p.1 in (
+        d.from + k - d.to,
+        record {
+          low = omega (arith, ints, c.low);
+          high = omega (arith, ints, c.high);
+          clip_low = omega (arith, ints, c.clip_low);
+          clip_high = omega (arith, ints, c.clip_high);
+          within = c.within;
+          from = omega (arith, ints, low);
+          source = omega (arith, ints, low, high);
+        },
+      )
 
   from_ones : (k : ℕ) → lines < 16384 → d.to < 32768 → Copies (axis_of d) lines None k → (s : ℕ) × Takes (lines_from 16384 32768) k s
-  from_ones k small to c =
-      (16384 + k - d.to, record {
-        low = omega (arith, ints, c.low);
-        high = omega (arith, ints, c.high);
-        clip_low = omega (arith, ints, c.clip_low);
-        clip_high = omega (arith, ints, c.clip_high);
-        within = c.within;
-        from = omega (arith, ints, c.low);
-        source = omega (arith, ints, c.low, c.within);
-      })
+  from_ones k small to c = (
+    16384 + k - d.to,
+    record {
+      low = omega (arith, ints, c.low);
+      high = omega (arith, ints, c.high);
+      clip_low = omega (arith, ints, c.clip_low);
+      clip_high = omega (arith, ints, c.clip_high);
+      within = c.within;
+      from = omega (arith, ints, c.low);
+      source = omega (arith, ints, c.low, c.within);
+    },
+  )
 
   module _ (r : Span) where
     pub span_of : (n : ℕ) → n < 16384 → IsClipped (lines_from d.from n) r → IsSpan (axis_of d) lines (Some n) r

@@ -1,6 +1,6 @@
 -- The words that are put down row by row are those that are painted.
-use Rattle.std.proofs.Common.{◌≡◌, ◌≢◌, ℕ, ◌+◌, ◌-◌, ◌*◌, ◌/◌, ◌%◌, ◌<◌, ◌≤◌, min, Bool, true, false, arith, refl, sym, ◌∙◌, ap, List, length, get_or, inl, inr, ◌⊎◌, Option, Some, None}
-use Rattle.std.specs.Prelude.{ℤ, pos, ◌&&◌, nat_abs, if◌then◌else◌}
+use Rattle.std.proofs.Common.{◌≡◌, ◌≢◌, ℕ, ◌+◌, ◌-◌, ◌*◌, ◌/◌, ◌%◌, ◌<◌, ◌≤◌, min, Bool, true, false, arith, refl, sym, ◌∙◌, ap, get_or, inl, inr, ◌⊎◌, Option, Some, None}
+use Rattle.std.specs.Prelude.{ℤ, pos, ◌&&◌, nat_abs}
 use Rattle.std.specs.Int.{bit_at}
 use Rattle.std.specs.Option.{option_map}
 use Rattle.std.proofs.Math.Nat.{add-mul, mul_assoc, mul_comm, mul-add-mod_self_right, mul-add-div_right, mod-eq_of_lt, div-eq_of_lt}
@@ -8,7 +8,7 @@ use Rattle.std.proofs.lemmas.Nat.{div-add-mod'}
 use Rattle.std.proofs.lemmas.Bool.{cases_order}
 use Rattle.st_model.specs.Values.{Value, word}
 use Rattle.st_model.specs.View.{View}
-use Rattle.st_model.specs.Pixels.{AllFit, pixel, combine, row_words, pixel_place}
+use Rattle.st_model.specs.Pixels.{AllFit, pixel, combine, row_words}
 use Rattle.st_model.specs.BitBlt.{Form as ModelForm, Copy, copies_to, is_copied, line_from, source_pixel, halftone_pixel, formula, pixel_after, row_pixels, painted_pixel, painted}
 use Rattle.st_model.proofs.Painting.{painted-alone}
 use Rattle.st_bitblt.specs.declared.bit_blt.BitBlt.{BitBlt}
@@ -156,7 +156,7 @@ module _ (old new : View) (b : BitBlt) (x y : Span) (a : Layout) (pen : Pen) (pl
       ≡ min (source_pixel copy.source (line_from copy.across (x.to + i)) (line_from copy.down (y.to + j))) (halftone_pixel copy.halftone (x.to + i) (y.to + j))
   shaded_is i j hi hj =
       let s = source_is old b.source (line_from copy.across (x.to + i)) (line_from copy.down (y.to + j)) (x.from + i) (y.from + j) (a.q + j * a.across + i)
-          (λ n e. (plan.across.from n i e hi).0) (λ n e. (plan.down.from n j e hj).0) (source_place i j) in
+      (λ n e. (plan.across.from n i e hi).0) (λ n e. (plan.down.from n j e hj).0) (source_place i j) in
       let m : (y.to + j) * (16 * row) ≡ 16 * ((y.to + j) * row) = moved (y.to + j) row in
       let p = place_in i j in
       let e : (a.p + j * a.along + i) % 16 ≡ (x.to + i) % 16 = omega (arith, m, p) in

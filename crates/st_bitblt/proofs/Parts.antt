@@ -12,7 +12,7 @@ use Rattle.std.proofs.lemmas.Bool.Decides.{nat_tests}
 use Rattle.st_model.specs.declared.oop.Oop.{Oop}
 use Rattle.st_model.specs.Values.{Value, Small, Ref, value, value_of, is_small}
 use Rattle.st_model.proofs.Words.{is_small-value_of}
-use Rattle.st_model.specs.View.{View, is_live}
+use Rattle.st_model.specs.View.{View}
 use Rattle.st_model.specs.Pixels.{AllFit, pixel, combine}
 use Rattle.st_model.proofs.Transfers.{same_or_not}
 use Rattle.st_bitblt.specs.declared.source.Source.{Source}

@@ -5,10 +5,9 @@ use Rattle.std.proofs.lemmas.Bool.Decides.{nat_tests}
 use Rattle.st_model.specs.declared.dead.Dead.{Dead}
 use Rattle.st_model.specs.declared.dead.Dead.TheVariants as dead
 use Rattle.st_model.specs.declared.kind.Kind.{Kind}
-use Rattle.st_model.specs.declared.kind.Kind.TheVariants as kind
 use Rattle.st_model.specs.declared.page.PageObject.TheVariants.{NilObject}
 use Rattle.st_model.specs.Values.{Value, Small, Ref, value_of, is_small}
-use Rattle.st_model.specs.Objects.{Object, is_words, is_pointers, size_of, first_unit, place_of}
+use Rattle.st_model.specs.Objects.{Object, is_words}
 use Rattle.st_model.specs.Machine.{ObjectMemory, State, Transition, Died, Went, Step, answer, die, after, ◌>>=◌, ◌>>◌}
 use Rattle.st_model.specs.Table.{Table, table, entry, IsTabular}
 use Rattle.st_model.specs.Steps.{found, object_named, object, check, or_die, fetch_kind, fetch_word, fetch_field, of_page, same_value}

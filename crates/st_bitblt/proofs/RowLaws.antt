@@ -1,5 +1,5 @@
 -- Rows that were copied one after the other.
-use Rattle.std.proofs.Common.{◌≡◌, ◌≢◌, ℕ, suc, ◌+◌, ◌-◌, ◌*◌, ◌<◌, ◌≤◌, arith, refl, sym, ◌∙◌, ap, List, ◌⊎◌, inl, inr, Option, Some, None}
+use Rattle.std.proofs.Common.{◌≡◌, ◌≢◌, ℕ, suc, ◌+◌, ◌-◌, ◌*◌, ◌<◌, ◌≤◌, arith, refl, sym, ◌∙◌, ap, ◌⊎◌, inl, inr, Option, Some, None}
 use Rattle.std.proofs.lemmas.Bool.{cases_order}
 use Rattle.std.specs.Prelude.{◌%◌, min}
 use Rattle.std.specs.Int.{bit_at}
@@ -10,7 +10,7 @@ use Rattle.st_model.specs.Pixels.{pixel, combine}
 use Rattle.st_model.proofs.Transfers.{same_or_not}
 use Rattle.st_bitblt.specs.declared.rows.Layout.{Layout}
 use Rattle.st_bitblt.specs.declared.rows.Pen.{Pen}
-use Rattle.st_bitblt.specs.Words.{words, HasWords, with_words}
+use Rattle.st_bitblt.specs.Words.{words, HasWords}
 use Rattle.st_bitblt.specs.Copied.{Copied, shaded, pixel_from}
 use Rattle.st_bitblt.specs.Rows.{RowsCopied, tone_of}
 use Rattle.st_bitblt.proofs.Words.{words_same}

@@ -1,16 +1,16 @@
 -- What the copy of a BitBlt does to a table.
-use Rattle.std.proofs.Common.{◌≡◌, ℕ, List, length, Option, Some, None, true, false, Result, Ok, Err, refl, sym, ap, ◌∙◌, is_some, arith}
+use Rattle.std.proofs.Common.{◌≡◌, ℕ, List, length, Option, Some, None, true, false, Ok, Err, refl, sym, is_some}
 use Rattle.std.specs.Prelude.{unwrap_or}
 use Rattle.st_model.specs.declared.dead.Dead.{Dead}
 use Rattle.st_model.specs.Values.{Value, Small, Ref, word}
 use Rattle.st_model.specs.Objects.{Object}
-use Rattle.st_model.specs.Machine.{State, Died, Went, after, ◌>>=◌}
-use Rattle.st_model.specs.Table.{Table, table, bounded_table, entry, changed}
+use Rattle.st_model.specs.Machine.{State, after, ◌>>=◌}
+use Rattle.st_model.specs.Table.{Table, table, bounded_table, entry}
 use Rattle.st_model.specs.Steps.{set_units, fetch_field}
 use Rattle.st_model.specs.View.{is_live, object_of, nothing}
 use Rattle.st_model.specs.Calls.{Reads, itself}
 use Rattle.st_model.specs.Deeds.{over_table, table_left, table_after}
-use Rattle.st_model.specs.BitBlt.{Copy, painted, read_copy, store_painted, copy_bits}
+use Rattle.st_model.specs.BitBlt.{painted, read_copy, store_painted, copy_bits}
 use Rattle.st_model.proofs.CopyingBits.{set_units-does, table-refused}
 use Rattle.st_model.proofs.Painting.{length-painted}
 use Rattle.st_model.proofs.Tabular.{read_copy-as, fetch_field-as}

@@ -1,12 +1,12 @@
 -- What the words of an object are once one of them was changed.
-use Rattle.std.proofs.Common.{◌≡◌, ◌≢◌, ℕ, zero, suc, ◌+◌, ◌*◌, ◌^◌, ◌<◌, ◌≤◌, List, [], ◌∷◌, length, get_or, subst, Option, Some, None, is_some, true, false, refl, sym, ap, ◌∙◌, arith, ◌⊎◌, inl, inr, set, length-set, get_or-set_same, get_or-set_other}
+use Rattle.std.proofs.Common.{◌≡◌, ◌≢◌, ℕ, zero, suc, ◌+◌, ◌^◌, ◌<◌, List, [], ◌∷◌, length, get_or, subst, Option, Some, None, is_some, true, false, refl, sym, ap, ◌∙◌, arith, inl, inr, set, get_or-set_same, get_or-set_other}
 use Rattle.std.proofs.lemmas.Bool.{cases_order}
 use Rattle.std.proofs.lemmas.Option.{get_or_from_slice_get}
 use Rattle.std.specs.Prelude.{slice_set, slice_get, unwrap_or}
 use Rattle.st_model.specs.declared.kind.Kind.{Kind}
 use Rattle.st_model.specs.declared.kind.Kind.TheVariants as kind
 use Rattle.st_model.specs.Values.{Value, Small, Ref}
-use Rattle.st_model.specs.Objects.{Object, holds_fields, is_words, is_pointers, size_of, first_unit}
+use Rattle.st_model.specs.Objects.{Object, holds_fields, is_words, size_of, first_unit}
 use Rattle.st_model.specs.View.{View, IsWhole, nothing, is_live, object_of, with_unit}
 use Rattle.st_model.specs.Formed.{IsFormed, unit_limit}
 use Rattle.st_model.specs.Machine.{is_there}
@@ -59,7 +59,7 @@ words_same v o live = ap (λ t. record { objects = t; held = v.held; head = v.he
 pub word_stored : (v w : View) (o : Value) (i x : ℕ) → is_live v.objects o ≡ true → w.objects ≡ with_unit v.objects o i x → w.held ≡ v.held → w.head ≡ v.head → w ≡ with_words v o (slice_set (words v o) i x)
 word_stored v w o i x live objects held head =
     let e : with_unit v.objects o i x ≡ with_units_in v.objects o (slice_set (words v o) i x) =
-        ap (λ t. with_unit t o i x) (sym (units_none v.objects o live)) ∙ unit_again v.objects o (words v o) i x live
+    ap (λ t. with_unit t o i x) (sym (units_none v.objects o live)) ∙ unit_again v.objects o (words v o) i x live
     in
     view_is w (objects ∙ e) held head
   where

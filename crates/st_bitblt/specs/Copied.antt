@@ -1,5 +1,5 @@
 -- What a memory is once pixels of an object were put down, whatever the order in which they were.
-use Rattle.std.specs.Prelude.{◌≡◌, ◌≢◌, ℕ, ◌+◌, ◌-◌, ◌%◌, ◌<◌, ◌≤◌, ⊤, min, length, List, Option, Some, None}
+use Rattle.std.specs.Prelude.{◌≡◌, ◌≢◌, ℕ, ◌+◌, ◌-◌, ◌%◌, ◌<◌, ◌≤◌, ⊤, min, length, Option, Some, None}
 use Rattle.std.specs.Int.{bit_at}
 use Rattle.st_model.specs.Values.{Value, value}
 use Rattle.st_model.specs.View.{View}

@@ -1,6 +1,5 @@
 -- How rows of pixels lie for what a BitBlt tells.
-use Rattle.std.specs.Prelude.{◌≡◌, ℕ, ◌+◌, ◌*◌, ◌<◌, Option, Some, None, slice_index}
-use Rattle.std.specs.Option.{option_map}
+use Rattle.std.specs.Prelude.{◌≡◌, ℕ, ◌+◌, ◌*◌, Option, Some, None, slice_index}
 use Rattle.st_model.specs.Values.{Value, word}
 use Rattle.st_model.specs.View.{View}
 use Rattle.st_model.specs.Pixels.{row_words}

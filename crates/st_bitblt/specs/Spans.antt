@@ -1,5 +1,5 @@
 -- The lines of a copy in one direction.
-use Rattle.std.specs.Prelude.{◌≡◌, ℕ, ◌+◌, ◌<◌, ◌≤◌, true, Option, Some, ℤ, pos}
+use Rattle.std.specs.Prelude.{◌≡◌, ℕ, ◌+◌, ◌<◌, ◌≤◌, true, Option, Some, pos}
 use Rattle.st_model.specs.BitBlt.{Axis, copies_to, line_from}
 use Rattle.st_bitblt.specs.declared.span.Lines.{Lines}
 use Rattle.st_bitblt.specs.declared.span.Span.{Span}

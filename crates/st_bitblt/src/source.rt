@@ -10,10 +10,7 @@ pub enum Source {
     /// Ones, wherever.
     Ones,
     /// An object of kind Words, with so many of them.
-    Words {
-        object: Oop,
-        length: u32,
-    },
+    Words { object: Oop, length: u32 },
 }
 
 /// Word `at` of a source, which is 0 behind the end.
@@ -24,13 +21,7 @@ pub fn source_word<M: Memory>(m: &M, source: Source, at: u32) -> u16
 {
     match source {
         Source::Ones => 0xFFFF,
-        Source::Words { object, length } => {
-            if at < length {
-                m.word(object, at)
-            } else {
-                0
-            }
-        }
+        Source::Words { object, length } => { if at < length { m.word(object, at) } else { 0 } }
     }
 }
 

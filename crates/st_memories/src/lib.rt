@@ -1,4 +1,5 @@
-//! Tests of the memory over a heap, alone and beside the plain one, and of events and machines over both. No crate uses it.
+//! Tests of the memory over a heap, alone and beside the plain one, and of events, copies of pixels
+//! and machines over both. No crate uses it.
 #![tactic(auto)]
 
 #[cfg(test)]
@@ -7,6 +8,8 @@ mod events;
 mod image;
 #[cfg(test)]
 mod machines;
+#[cfg(test)]
+mod pixels;
 #[cfg(test)]
 mod rows;
 #[cfg(test)]

@@ -6,8 +6,8 @@ use st_plain::PlainLoader;
 use std::process::Abort;
 use std::test::Fail;
 
-/// How many thousands of calls are made: a million calls in all.
-const THOUSANDS: u32 = 1000;
+/// How many thousands of calls are made.
+const THOUSANDS: u32 = 100;
 
 /// A fixed generator of numbers below 65536.
 #[derive(Drop)]

@@ -1,10 +1,7 @@
-use Rattle.std.proofs.Common.{◌≡◌, ◌<◌, ◌∙◌, arith, refl}
-use Rattle.st_model.specs.Values.{word, value}
-use Rattle.st_bitblt.specs.Copied.{object_of_source}
-use Rattle.st_bitblt.specs.Painting.{bits_of}
-use Rattle.st_bitblt.specs.Rows.{RowsCopied}
+use Rattle.std.proofs.Common.{arith, refl}
+use Rattle.st_model.specs.Values.{word}
 use Rattle.st_bitblt.proofs.Words.{has_words, words_fit}
-use Rattle.st_bitblt.proofs.Painted.{IsPlan, narrow, has_room, rows_painted, nothing_painted}
+use Rattle.st_bitblt.proofs.Painted.{narrow, has_room, rows_painted, nothing_painted}
 use Rattle.st_bitblt.proofs.paint.paint.Goals as goal
 
 pub returns-then-x-eq0 : goal.returns-then-x-eq0

@@ -1,4 +1,4 @@
-use Rattle.std.proofs.Common.{◌≡◌, ◌∙◌, ap, length}
+use Rattle.std.proofs.Common.{◌∙◌}
 use Rattle.st_model.specs.Values.{value, word}
 use Rattle.st_bitblt.specs.Reading.{IsForm}
 use Rattle.st_bitblt.specs.Words.{HasWords}

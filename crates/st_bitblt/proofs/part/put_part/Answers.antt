@@ -1,10 +1,9 @@
 use Rattle.std.proofs.Common.{◌≡◌, ◌/◌, get_or, arith}
-use Rattle.std.specs.Prelude.{slice_set}
 use Rattle.std.proofs.lemmas.Option.{get_or_from_slice_get}
 use Rattle.st_model.specs.Values.{value}
-use Rattle.st_bitblt.specs.Words.{words, with_words}
+use Rattle.st_bitblt.specs.Words.{words}
 use Rattle.st_bitblt.proofs.Words.{word_stored}
-use Rattle.st_bitblt.proofs.Parts.{part_put, Merged}
+use Rattle.st_bitblt.proofs.Parts.{part_put}
 use Rattle.st_bitblt.proofs.part.put_part.Goals as goal
 
 pub returns : goal.returns

@@ -1,4 +1,4 @@
-use Rattle.std.proofs.Common.{◌+◌, ◌-◌, arith}
+use Rattle.std.proofs.Common.{arith}
 use Rattle.st_bitblt.proofs.Parts.{copied_none, down_more, down_carried}
 use Rattle.st_bitblt.proofs.row.copy_down.Goals as goal
 

@@ -1,4 +1,4 @@
-use Rattle.std.proofs.Common.{◌+◌, arith, refl}
+use Rattle.std.proofs.Common.{arith, refl}
 use Rattle.st_bitblt.proofs.Parts.{copied_none, piece_at, up_more, up_carried}
 use Rattle.st_bitblt.proofs.row.copy_up.Goals as goal
 

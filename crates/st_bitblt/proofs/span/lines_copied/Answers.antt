@@ -1,4 +1,4 @@
-use Rattle.std.proofs.Common.{◌≡◌, ◌-◌, ◌<◌}
+use Rattle.std.proofs.Common.{◌<◌}
 use Rattle.std.specs.Prelude.{IfSome, Some}
 use Rattle.st_bitblt.proofs.Clipping.{span_of, span_alone}
 use Rattle.st_bitblt.proofs.span.lines_copied.Goals as goal
