@@ -62,11 +62,13 @@ module _ {D : Type 0} (host : Ghosts D) {C : Type 0} where
 
     -- a text that is said
     pub obeys_reply : (text : List ℕ) (x : X) {old new : D} → SaysAll host text old new → Says host text old new → at x → Obeys host {C = C} at (replies text x) (Ok tt) old new
-    obeys_reply text x {old = old} {new = new} all says stands =
-        (stands, record {
-          all = subst (λ t. SaysAll host t old new) (sym (append-nil text)) all;
-          says = subst (λ t. Says host t old new) (sym (append-nil text)) says;
-        })
+    obeys_reply text x {old = old} {new = new} all says stands = (
+      stands,
+      record {
+        all = subst (λ t. SaysAll host t old new) (sym (append-nil text)) all;
+        says = subst (λ t. Says host t old new) (sym (append-nil text)) says;
+      },
+    )
 
     -- or not whole
     pub obeys_unsaid : (text : List ℕ) (x : X) (status : Status) {old new : D} → IsFault status → Says host text old new → Obeys host {C = C} at (replies text x) (Err status) old new
