@@ -35,7 +35,7 @@ the_dead_answer : over_the_dead (codes "used\n!Point methodsFor: 'a'!\nx ^x! !\n
 unfolding session read end_read line_request alone with_arguments number
 the_dead_answer = refl
 
--- a group that is cut off begins in the second line; the method before it is answered
+-- a method that ends with the script is answered, and the chunk that is cut off behind it starts in the third line
 cut_off : over_the_dead (codes "used\n!Point methodsFor: 'a'!\nx ^x!")
     ≡ Ends (Reply (opened_text 0 0) ∷ Reply (dead_text 0 Sp) ∷ Reply (dead_text 0 Sp) ∷ []) (Script 3)
 unfolding session read end_read line_request alone with_arguments number
