@@ -1,7 +1,6 @@
 -- What a run of the code says and leaves is the course of the book's machine.
-use Rattle.std.proofs.Common.{◌≡◌, ℕ, zero, suc, ◌+◌, ◌-◌, List, [], ◌∷◌, ◌++◌, Bool, true, false, Some, None, length, refl, sym, ap, subst, ◌∙◌, append-nil, arith}
-use Rattle.std.specs.Prelude.{Option, Result, Ok, Err, OnOk, IsErr, if◌then◌else◌}
-use Rattle.st_model.specs.declared.dead.Dead.{Dead}
+use Rattle.std.proofs.Common.{◌≡◌, ℕ, zero, suc, ◌+◌, ◌-◌, List, [], ◌∷◌, ◌++◌, Bool, true, false, Some, None, refl, sym, ap, subst, ◌∙◌, append-nil, arith}
+use Rattle.std.specs.Prelude.{Result, Ok, Err, OnOk, IsErr, if◌then◌else◌}
 use Rattle.st_model.specs.declared.demand.Demand.{Demand}
 use Rattle.st_model.specs.Values.{Value, Small, Ref, value, renamed, IsLive}
 use Rattle.st_model.specs.Objects.{Object}
@@ -24,7 +23,7 @@ use Rattle.st_machine.specs.declared.ending.RunEnd.TheVariants as end
 use Rattle.st_machine.specs.Runs.{EndsAs, cycles_of, transition_at, death_of}
 use Rattle.st_course.specs.Courses.{Deed, Reply, Course, Goes, Ends, deeds_of, said_of, preceded, replies}
 use Rattle.st_course.proofs.Courses.{said_of_both, preceded_none, preceded_both, deeds_preceded}
-use Rattle.st_session.specs.Points.{Being, Alive, Gone, Point, alive, gone}
+use Rattle.st_session.specs.Points.{Point, alive, gone}
 use Rattle.st_session.specs.Keeping.{keeps_nothing}
 use Rattle.st_session.specs.Answers.{cycle_course, run_course}
 use Rattle.st_session.specs.Runs.{goes_on, asked_text, end_text}

@@ -1,26 +1,26 @@
 -- A script that is followed in pieces.
-use Rattle.std.proofs.Common.{◌≡◌, ◌⊎◌, inl, inr, ℕ, ◌+◌, ◌-◌, ◌≤◌, ◌<◌, List, [], ◌∷◌, ◌++◌, length, take, true, false, Bool, refl, sym, ap, subst, ◌∙◌, append-nil, append_assoc, arith, length-append}
+use Rattle.std.proofs.Common.{◌≡◌, ℕ, ◌+◌, ◌-◌, ◌≤◌, ◌<◌, List, [], ◌∷◌, ◌++◌, length, take, true, false, Bool, refl, sym, ap, subst, ◌∙◌, append-nil, append_assoc, arith, length-append}
 use Rattle.std.specs.Prelude.{nat_le, Result, Ok, Err, IsErrOf}
 use Rattle.std.proofs.lemmas.Bool.Decides.{nat_tests}
 use Rattle.std.proofs.Math.Seq.{take-append-add}
 use Rattle.std.proofs.lemmas.List.{take-append-le}
 use Rattle.st_outside.specs.declared.host.Host.{Ghosts}
 use Rattle.st_outside.proofs.Telling.{OnlyNow}
-use Rattle.st_script.specs.Reading.{Reading, line_from, read, end_read}
+use Rattle.st_script.specs.Reading.{Reading, read, end_read}
 use Rattle.st_script.specs.Scripts.{Asked, asked_by, asked_from, asked_at_end, told_from, read_through}
 use Rattle.st_course.specs.declared.status.Status.{Status}
 use Rattle.st_course.specs.declared.status.Status.TheVariants as status
-use Rattle.st_course.specs.Courses.{Course, Goes, Ends, deeds_of, said_of, preceded, and_then}
+use Rattle.st_course.specs.Courses.{Course, Goes, Ends, deeds_of, said_of, and_then}
 use Rattle.st_course.specs.Done.{Did}
 use Rattle.st_outside.specs.Telling.{Says}
 use Rattle.st_course.specs.Obeying.{Obeys}
-use Rattle.st_course.specs.Statuses.{IsFault, StatusHasCause, EndHasCause, Counts}
+use Rattle.st_course.specs.Statuses.{StatusHasCause, EndHasCause, Counts}
 use Rattle.st_outside.proofs.Rising.{rose_second}
-use Rattle.st_course.proofs.Courses.{preceded_none, preceded_then, then_then}
+use Rattle.st_course.proofs.Courses.{preceded_none, then_then}
 use Rattle.st_course.proofs.Joins.{obeys_as, obeys_then, obeys_err, obeys_end, obeys_says}
 use Rattle.st_session.specs.Installing.{Install}
 use Rattle.st_session.specs.Points.{Point}
-use Rattle.st_session.specs.Keeping.{Keeping, keeps_nothing}
+use Rattle.st_session.specs.Keeping.{keeps_nothing}
 use Rattle.st_session.specs.Answers.{answer}
 use Rattle.st_session.specs.Sessions.{follow, follow_rest}
 

@@ -13,7 +13,7 @@ use Rattle.st_machine.specs.Asked.{TakenAs}
 use Rattle.st_script.specs.declared.request.Request.{Request}
 use Rattle.st_script.specs.declared.request.Request.TheVariants as request
 use Rattle.st_script.specs.Reading.{Place, Defined, CutOff}
-use Rattle.st_script.specs.Scripts.{Asked, Asks, Defines, IsDefined, HasDefinition, asked_at}
+use Rattle.st_script.specs.Scripts.{Asks, Defines, IsDefined, HasDefinition, asked_at}
 use Rattle.st_chunk.specs.Definitions.{Definition}
 use Rattle.st_session.specs.Points.{Point, alive, gone}
 use Rattle.st_session.specs.Replies.{ok_text, full_text, accepted_line, accepted_text}

@@ -10,7 +10,7 @@ use Rattle.st_model.specs.Show.{Shows, raised}
 use Rattle.st_model.specs.View.{View, IsWhole, no_devices}
 use Rattle.st_model.proofs.Raised.{raised_shown}
 use Rattle.st_frames.specs.declared.frame.Frame.{Frame}
-use Rattle.st_frames.specs.Shown.{IsFrame, IsReady, filled, shown}
+use Rattle.st_frames.specs.Shown.{IsFrame, IsReady, filled}
 use Rattle.st_frames.proofs.Closed.{is_closed}
 use Rattle.st_machine.specs.declared.machine.Machine.{Machine}
 use Rattle.st_outside.specs.declared.host.Host.{Ghosts}

@@ -1,5 +1,5 @@
 -- Texts that are added and then said.
-use Rattle.std.proofs.Common.{◌≡◌, ◌≤◌, inl, ℕ, List, [], ◌++◌, refl, sym, ap, subst, ◌∙◌, arith}
+use Rattle.std.proofs.Common.{◌≡◌, ◌≤◌, inl, ℕ, List, [], refl, sym, subst, arith}
 use Rattle.std.specs.Prelude.{Result, Ok, Err, OnOk}
 use Rattle.st_outside.specs.declared.host.Host.{Ghosts}
 use Rattle.st_outside.specs.declared.host.SayFault.{SayFault}
@@ -12,7 +12,7 @@ use Rattle.st_report.proofs.Pushing.{pushed_all, pushed_says, pushed_part}
 use Rattle.st_course.specs.declared.status.Status.{Status}
 use Rattle.st_course.specs.declared.status.Status.TheVariants as status
 use Rattle.st_course.specs.Courses.{Course, Goes, Ends, deeds_of, said_of, replies}
-use Rattle.st_course.specs.Statuses.{IsFault, StatusHasCause, EndHasCause, Counts}
+use Rattle.st_course.specs.Statuses.{IsFault, StatusHasCause, EndHasCause}
 use Rattle.st_course.specs.Obeying.{Obeys}
 use Rattle.st_course.proofs.Joins.{obeys_reply, obeys_unsaid}
 use Rattle.st_session.specs.Telling.{IsSayFault, Tells}

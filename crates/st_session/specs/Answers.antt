@@ -1,5 +1,5 @@
 -- What a session answers to a line, and to a method of a group.
-use Rattle.std.specs.Prelude.{ℕ, zero, suc, List, [], ◌∷◌, Option, Some, None}
+use Rattle.std.specs.Prelude.{ℕ, zero, suc, [], ◌∷◌, Option, Some, None}
 use Rattle.st_model.specs.declared.dead.Dead.{Dead}
 use Rattle.st_model.specs.declared.event.Event.TheVariants as event
 use Rattle.st_model.specs.Outcomes.{Ending, With, Space}

@@ -1,6 +1,6 @@
 -- What a line asks for.
 use Rattle.st_script.specs.declared.request.Request.{Request}
-use Rattle.st_script.specs.declared.request.Request.TheVariants.{Run, Input, Mouse, Clock, Tick, State, Used, End, Define, Wrong}
+use Rattle.st_script.specs.declared.request.Request.TheVariants.{End, Define, Wrong}
 
 -- lines are said, and nothing else is done but with the machine
 abbrev pub IsSaying : Request → Type 0

@@ -1,4 +1,3 @@
-use Rattle.std.proofs.Common.{ap}
 use Rattle.st_script.specs.Reading.{end_read}
 use Rattle.st_script.specs.Scripts.{asked_by}
 use Rattle.st_course.proofs.Joins.{obeys_as}

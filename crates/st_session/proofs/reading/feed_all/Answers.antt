@@ -1,11 +1,8 @@
-use Rattle.std.proofs.Common.{◌≡◌, refl, ◌∷◌, [], ◌++◌, ◌+◌, ◌∙◌, ◌<◌, ℕ, List, take, drop, get_or, length, sym, ap, subst, arith, Ok, Err}
-use Rattle.std.proofs.lemmas.List.{take_more, take_all, take-append-drop}
+use Rattle.std.proofs.Common.{◌≡◌, refl, ◌∷◌, [], ◌++◌, ◌+◌, ◌∙◌, ◌<◌, ℕ, List, take, drop, get_or, length, sym, ap, arith, Ok, Err}
+use Rattle.std.proofs.lemmas.List.{take_more, take-append-drop}
 use Rattle.st_script.specs.Reading.{read}
 use Rattle.st_script.specs.Scripts.{told_from, read_through, asked_by}
-use Rattle.st_course.specs.Statuses.{EndHasCause}
 use Rattle.st_course.proofs.Joins.{obeys_as, obeys_none}
-use Rattle.st_session.specs.Keeping.{keeps_nothing}
-use Rattle.st_session.specs.Sessions.{follow}
 use Rattle.st_session.specs.Standing.{StandsAt}
 use Rattle.st_session.proofs.Following.{follows, byte_more, told_err, read_both, counts_behind}
 use Rattle.st_session.proofs.reading.feed_all.Goals as goal

@@ -1,4 +1,3 @@
-use Rattle.std.proofs.Common.{◌≡◌}
 use Rattle.st_script.specs.Scripts.{told_from}
 use Rattle.st_course.specs.declared.status.Status.TheVariants as status
 use Rattle.st_session.specs.Standing.{StandsAt}

@@ -1,4 +1,4 @@
-use Rattle.std.proofs.Common.{◌≡◌, ap, Ok, Err}
+use Rattle.std.proofs.Common.{ap, Ok, Err}
 use Rattle.st_script.specs.Reading.{end_read}
 use Rattle.st_script.specs.Scripts.{asked_by}
 use Rattle.st_course.specs.declared.status.Status.TheVariants as status

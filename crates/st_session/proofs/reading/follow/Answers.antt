@@ -1,20 +1,18 @@
-use Rattle.std.proofs.Common.{◌≡◌, ◌≤◌, ◌<◌, ◌+◌, ◌-◌, ⊎_elim, ℕ, List, [], ◌++◌, ◌∙◌, take, length, refl, sym, ap, subst, arith, append_assoc, append-nil, length-append, Ok, Err, IsTrue}
-use Rattle.std.specs.Prelude.{Result, IsErrOf}
+use Rattle.std.proofs.Common.{◌≡◌, ◌≤◌, ◌<◌, ⊎_elim, ℕ, List, [], ◌++◌, ◌∙◌, take, length, refl, sym, ap, subst, arith, append_assoc, length-append, Ok, Err}
 use Rattle.std.proofs.lemmas.List.{length-take-le}
 use Rattle.std.proofs.Math.Seq.{take-append_seam}
 use Rattle.st_outside.proofs.Rising.{rose_second}
-use Rattle.st_script.specs.Reading.{Reading, line_from}
+use Rattle.st_script.specs.Reading.{line_from}
 use Rattle.st_script.specs.Scripts.{told_from, read_through, asked_at_end}
-use Rattle.st_course.specs.declared.status.Status.{Status}
 use Rattle.st_course.specs.declared.status.Status.TheVariants as status
-use Rattle.st_course.specs.Courses.{ended, said_of, deeds_of}
+use Rattle.st_course.specs.Courses.{ended, deeds_of}
 use Rattle.st_course.specs.Done.{Did}
 use Rattle.st_course.proofs.Joins.{obeys_as, obeys_none, obeys_fault, obeys_says}
 use Rattle.st_session.specs.Points.{Point}
 use Rattle.st_session.specs.Sessions.{longest}
 use Rattle.st_session.specs.Standing.{StandsAt}
 use Rattle.st_session.proofs.Points.{some_point}
-use Rattle.st_session.proofs.Following.{follows, rest_of, told_more, told_err, read_both, rest_then, rest_err, rest_none, rest_over, says_behind, did_all, counts_behind, never_read, no_read}
+use Rattle.st_session.proofs.Following.{follows, rest_of, told_more, read_both, rest_then, rest_err, rest_none, rest_over, says_behind, did_all, counts_behind, never_read, no_read}
 use Rattle.st_session.proofs.reading.follow.Goals as goal
 
 pub pieces-init : goal.pieces-init

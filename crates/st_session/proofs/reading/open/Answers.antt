@@ -1,4 +1,4 @@
-use Rattle.std.proofs.Common.{◌≡◌, ◌∷◌, [], refl, take, Ok, Err}
+use Rattle.std.proofs.Common.{◌∷◌, [], refl, Err}
 use Rattle.st_outside.proofs.Telling.{says_then}
 use Rattle.st_course.specs.Courses.{Reply}
 use Rattle.st_course.proofs.Joins.{obeys_behind, obeys_begun}

@@ -1,7 +1,6 @@
 use Rattle.std.proofs.Common.{◌≡◌, sym, subst, ◌∙◌}
 use Rattle.st_model.specs.Show.{Shows}
 use Rattle.st_model.specs.Machine.{State, empty_world}
-use Rattle.st_model.specs.Births.{Births}
 use Rattle.st_model.specs.Table.{Table}
 use Rattle.st_model.specs.Objects.{nil}
 use Rattle.st_frames.specs.Shown.{shown}

@@ -1,8 +1,7 @@
-use Rattle.std.proofs.Common.{◌≡◌, ◌+◌, ◌-◌, None, true, false, refl, sym, ap, subst, ◌∙◌, arith, Ok, Err}
-use Rattle.st_model.specs.Machine.{State}
+use Rattle.std.proofs.Common.{◌≡◌, ◌+◌, None, true, false, refl, sym, ap, subst, ◌∙◌, arith}
 use Rattle.st_machine.specs.declared.ending.RunEnd.{RunEnd}
 use Rattle.st_machine.specs.declared.ending.RunEnd.TheVariants as end
-use Rattle.st_machine.specs.Runs.{cycles_of, death_of}
+use Rattle.st_machine.specs.Runs.{death_of}
 use Rattle.st_report.proofs.Pushing.{push_as}
 use Rattle.st_session.specs.Runs.{goes_on, asked_text, end_text}
 use Rattle.st_session.specs.Standing.{IsBeing, shown_by, StandsAt}

@@ -1,4 +1,4 @@
-use Rattle.std.proofs.Common.{◌≡◌, refl, ap, sym, subst}
+use Rattle.std.proofs.Common.{refl, ap, sym, subst}
 use Rattle.st_model.specs.Show.{Shows}
 use Rattle.st_frames.specs.Shown.{IsReady, shown}
 use Rattle.st_script.specs.Definitions.{definition_of}
