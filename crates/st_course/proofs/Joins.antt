@@ -62,11 +62,13 @@ module _ {D : Type 0} (host : Ghosts D) {C : Type 0} where
 
     -- a text that is said
     pub obeys_reply : (text : List ℕ) (x : X) {old new : D} → SaysAll host text old new → Says host text old new → at x → Obeys host {C = C} at (replies text x) (Ok tt) old new
-    obeys_reply text x {old = old} {new = new} all says stands =
-        (stands, record {
-          all = subst (λ t. SaysAll host t old new) (sym (append-nil text)) all;
-          says = subst (λ t. Says host t old new) (sym (append-nil text)) says;
-        })
+    obeys_reply text x {old = old} {new = new} all says stands = (
+      stands,
+      record {
+        all = subst (λ t. SaysAll host t old new) (sym (append-nil text)) all;
+        says = subst (λ t. Says host t old new) (sym (append-nil text)) says;
+      },
+    )
 
     -- or not whole
     pub obeys_unsaid : (text : List ℕ) (x : X) (status : Status) {old new : D} → IsFault status → Says host text old new → Obeys host {C = C} at (replies text x) (Err status) old new
@@ -75,6 +77,13 @@ module _ {D : Type 0} (host : Ghosts D) {C : Type 0} where
     -- the same course in other words
     pub obeys_as : (c d : Course C X) (result : Result Unit Status) (old new : D) → c ≡ d → Obeys host at c result old new → Obeys host at d result old new
     obeys_as c d result old new e h = subst (λ x. Obeys host at x result old new) e h
+
+    -- where more is known of where it leads
+    pub obeys_at : (from : X → Type 0) (c : Course C X) (result : Result Unit Status) (old new : D) → ((x : X) → from x → at x) → Obeys host from c result old new → Obeys host at c result old new
+    obeys_at from (Goes ds x) (Ok u) old new f h = (f x h.0, h.1)
+    obeys_at from (Goes ds x) (Err status) old new f h = h
+    obeys_at from (Ends ds end) (Ok u) old new f h = h
+    obeys_at from (Ends ds end) (Err status) old new f h = h
 
     -- these deeds, and then a course
     pub obeys_behind : (ds : List (Deed C)) (c : Course C X) (result : Result Unit Status) (old mid new : D) → Did host ds old mid → Obeys host at c result mid new → Obeys host at (preceded ds c) result old new

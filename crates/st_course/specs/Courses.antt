@@ -38,6 +38,10 @@ abbrev pub and_then : {C X Y : Type 0} → Course C X → (X → Course C Y) →
 and_then (Goes ds x) f = preceded ds (f x)
 and_then (Ends ds status) f = Ends ds status
 
+-- and then the session ends in this status
+abbrev pub ended : {C X : Type 0} → Course C X → Status → Course C X
+ended c status = and_then c (λ x. Ends [] status)
+
 -- this is said
 abbrev pub replies : {C X : Type 0} → List ℕ → X → Course C X
 replies text x = Goes (Reply text ∷ []) x

@@ -4,23 +4,15 @@ use st_model::Demand;
 #[derive(Clone, Copy, Debug, PartialEq, Eq)]
 pub enum Refusal {
     /// The text is no method.
-    Syntax {
-        place: u32,
-        cause: u8,
-    },
+    Syntax { place: u32, cause: u8 },
     /// The method has no code.
-    Code {
-        place: u32,
-        cause: u8,
-    },
+    Code { place: u32, cause: u8 },
     /// The image has no class of this name.
     NoClass,
     /// The image names no table of globals.
     NoGlobals,
     /// The objects that would be made have no room.
-    NoRoom {
-        demand: Demand,
-    },
+    NoRoom { demand: Demand },
     /// The class, or what the definition takes besides, has another shape.
     Shape,
 }

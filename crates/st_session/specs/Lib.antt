@@ -1,0 +1,14 @@
+pub mod Installing
+pub mod Installations
+pub mod Pushing
+pub mod Runs
+pub mod Points
+pub mod Keeping
+pub mod Replies
+pub mod Lines
+pub mod Telling
+pub mod Asking
+pub mod Answers
+pub mod Sessions
+pub mod Standing
+pub mod Ends

@@ -1,0 +1,47 @@
+-- The lines of a session besides those of a run and of a state.
+use Rattle.std.specs.Prelude.{ℕ, Bool, true, false, List, [], ◌∷◌, ◌++◌, codes}
+use Rattle.st_model.specs.Machine.{State}
+use Rattle.st_model.specs.Table.{Table}
+use Rattle.st_model.specs.Text.{numbers_text, registers_text, input_text, held_text}
+use Rattle.st_chunk.specs.Definitions.{Definition}
+use Rattle.st_course.specs.declared.refusal.Refusal.{Refusal}
+use Rattle.st_course.specs.declared.refusal.Refusal.TheVariants as refusal
+
+-- how many definitions were replayed, and how many lost
+abbrev pub opened_text : ℕ → ℕ → List ℕ
+opened_text replayed lost = codes "opened" ++ (numbers_text (replayed ∷ lost ∷ []) ++ codes "\n")
+
+-- an event came
+abbrev pub ok_text : List ℕ
+ok_text = codes "ok\n"
+
+-- or the input was full
+abbrev pub full_text : List ℕ
+full_text = codes "input full\n"
+
+-- the registers, the input state, and what is held
+abbrev pub machine_text : State Table → List ℕ
+machine_text s = registers_text s.registers ++ (input_text s.world ++ held_text s.world.devices)
+
+abbrev pub side_text : Bool → List ℕ
+side_text false = []
+side_text true = codes " class"
+
+-- the class, its side, and the selector
+abbrev pub accepted_line : List ℕ → Bool → List ℕ → List ℕ
+accepted_line class meta selector = codes "accepted " ++ (class ++ (side_text meta ++ (codes " " ++ (selector ++ codes "\n"))))
+
+abbrev pub accepted_text : Definition → List ℕ → List ℕ
+accepted_text d selector = accepted_line d.class d.meta selector
+
+-- why a definition is refused, without the line's first word
+abbrev pub why_text : Refusal → List ℕ
+why_text (refusal.Syntax place cause) = codes "syntax" ++ (numbers_text (place ∷ cause ∷ []) ++ codes "\n")
+why_text (refusal.Code place cause) = codes "code" ++ (numbers_text (place ∷ cause ∷ []) ++ codes "\n")
+why_text refusal.NoClass = codes "install" ++ (numbers_text (1 ∷ []) ++ codes "\n")
+why_text refusal.NoGlobals = codes "install" ++ (numbers_text (2 ∷ []) ++ codes "\n")
+why_text (refusal.NoRoom demand) = codes "install" ++ (numbers_text (3 ∷ demand.entries ∷ demand.words ∷ []) ++ codes "\n")
+why_text refusal.Shape = codes "install" ++ (numbers_text (4 ∷ []) ++ codes "\n")
+
+abbrev pub refused_text : Refusal → List ℕ
+refused_text why = codes "refused " ++ why_text why

@@ -1,0 +1,43 @@
+-- A session: a script is followed request by request, from the point where it begins.
+use Rattle.std.specs.Prelude.{ℕ, Bool, true, false, nat_le, List, [], ◌∷◌, length, take}
+use Rattle.st_script.specs.Reading.{Reading, line_from}
+use Rattle.st_script.specs.Scripts.{Asked, asked_from, told_from, told}
+use Rattle.st_course.specs.declared.status.Status.TheVariants.{Done, TooLarge}
+use Rattle.st_course.specs.Courses.{Course, Reply, Goes, preceded, and_then, ended}
+use Rattle.st_session.specs.Installing.{Install}
+use Rattle.st_session.specs.Points.{Point}
+use Rattle.st_session.specs.Keeping.{Keeping}
+use Rattle.st_session.specs.Replies.{opened_text}
+use Rattle.st_session.specs.Answers.{answer}
+
+-- the most bytes of a script
+abbrev pub longest : ℕ
+longest = 4294967296
+
+module _ {C : Type 0} (keeping : Keeping C) (install : Install) where
+  -- these requests, one after the other
+  abbrev pub follow : Point C → List Asked → Course C (Point C)
+  follow p [] = Goes [] p
+  follow p (a ∷ rest) = and_then (answer keeping install p a) (λ q. follow q rest)
+
+  -- what these bytes tell to be asked for, however the script goes on
+  abbrev pub follow_told : Point C → List ℕ → Course C (Point C)
+  follow_told p front = follow p (told front)
+
+  -- what is left of a script, where so many bytes may come
+  abbrev pub follow_rest : Reading → ℕ → Point C → List ℕ → Bool → Course C (Point C)
+  follow_rest r left p rest true = ended (follow p (asked_from r rest)) Done
+  follow_rest r left p rest false = ended (follow p (told_from r (take left rest))) TooLarge
+
+  -- A script of at most 2^32 bytes is followed to its end, or up to `end` or what is wrong. Of a longer one the first 2^32
+  -- bytes are followed.
+  abbrev pub follow_script : Point C → List ℕ → Course C (Point C)
+  follow_script p script = follow_rest (line_from 1) longest p script (nat_le (length script) longest)
+
+  -- First it is said how many definitions were replayed, and how many lost.
+  unfoldable pub session : ℕ → ℕ → Point C → List ℕ → Course C (Point C)
+  session replayed lost p script = preceded (Reply (opened_text replayed lost) ∷ []) (follow_script p script)
+
+  -- after the first bytes of a script
+  abbrev pub session_so_far : ℕ → ℕ → Point C → List ℕ → Course C (Point C)
+  session_so_far replayed lost p front = preceded (Reply (opened_text replayed lost) ∷ []) (follow_told p front)

@@ -1,0 +1,172 @@
+ghost use Rattle.std.specs.Prelude.{◌≡◌, None};
+ghost use Rattle.st_model.specs.Machine.{State};
+ghost use Rattle.st_model.specs.Births.{Births, births};
+ghost use Rattle.st_model.specs.Events.{event};
+ghost use Rattle.st_model.specs.Show.{Shows};
+ghost use Rattle.st_model.specs.Text.{used_text};
+ghost use Rattle.st_frames.specs.Shown.{IsReady};
+ghost use Rattle.st_input.specs.Coming.{HasPlace};
+ghost use Rattle.st_report.specs.Saying.{Pushes};
+ghost use Rattle.st_script.specs.Lines.{IsInRange};
+ghost use Rattle.st_course.specs.Statuses.{Counts};
+ghost use Rattle.st_course.specs.Obeying.{Obeys};
+ghost use Rattle.st_session.specs.Answers.{dead_line, event_course, line_course, living_line};
+ghost use Rattle.st_session.specs.Asking.{IsSaying};
+ghost use Rattle.st_session.specs.Keeping.{keeps_nothing};
+ghost use Rattle.st_session.specs.Points.{Point, gone};
+ghost use Rattle.st_session.specs.Pushing.{PushesCourse};
+ghost use Rattle.st_session.specs.Replies.{machine_text};
+ghost use Rattle.st_session.specs.Standing.{MayRun, StandsAt, shown_by};
+
+use crate::replies::{Reply, finish, say_reply};
+use crate::running::push_run;
+use st_course::Status;
+use st_machine::Machine;
+use st_memory::Memory;
+use st_model::{Dead, Event, InputFull};
+use st_outside::{Host, SayFault};
+use st_report::{Output, push_held, push_input, push_registers, push_used};
+use st_script::Request;
+
+/// Has an event come, and adds whether it did.
+fn push_event<H: Host, M: Memory>(
+    out: &mut Output,
+    host: &mut H,
+    machine: &mut Machine<M>,
+    e: Event,
+) -> Result<(), SayFault>
+    requires ready { IsReady (M.view machine.old.memory) machine.old.frame machine.old.world }
+    requires alive { machine.old.death ≡ None }
+    requires place { HasPlace e }
+    ensures may_run { MayRun M.view machine.new }
+    ensures pushes { (s : State Births) → Shows (shown_by M.view machine.old) s
+        → PushesCourse H.Host.own (StandsAt M.view machine.new) (event_course s (tt {0}) (event births e s))
+        host.old host.new out.old out.new result }
+{
+    match machine.event(e) {
+        Ok(()) => out.push(host, b"ok\n"),
+        Err(InputFull) => out.push(host, b"input full\n"),
+    }
+}
+
+/// Adds the registers, the input state and what is held.
+fn push_machine<H: Host, M: Memory>(
+    out: &mut Output,
+    host: &mut H,
+    machine: &Machine<M>,
+) -> Result<(), SayFault>
+    requires ready { IsReady (M.view machine.now.memory) machine.now.frame machine.now.world }
+    ensures { let text = machine_text (shown_by M.view machine.now) in
+        Pushes H.Host.own text host.old host.new out.old out.new result }
+{
+    push_registers(out, host, machine.memory(), &machine.frame())?;
+    push_input(out, host, machine.world())?;
+    push_held(out, host, machine.memory())
+}
+
+/// Adds what a machine that isn't dead answers to a line that asks for lines alone.
+fn push_answer<H: Host, M: Memory>(
+    out: &mut Output,
+    host: &mut H,
+    machine: &mut Machine<M>,
+    request: Request,
+) -> Result<(), SayFault>
+    requires ready { IsReady (M.view machine.old.memory) machine.old.frame machine.old.world }
+    requires alive { machine.old.death ≡ None }
+    requires range { IsInRange request }
+    requires saying { IsSaying request }
+    ensures may_run { MayRun M.view machine.new }
+    ensures pushes { (s : State Births) → Shows (shown_by M.view machine.old) s
+        → PushesCourse H.Host.own (StandsAt M.view machine.new) (living_line keeps_nothing s (tt {0}) request)
+        host.old host.new out.old out.new result }
+{
+    match request {
+        Request::Run(cycles) => push_run(out, host, machine, cycles),
+        Request::Input(word) => push_event(out, host, machine, Event::Word(word)),
+        Request::Mouse(x, y) => push_event(out, host, machine, Event::Mouse(x, y)),
+        Request::Clock(time) => push_event(out, host, machine, Event::Clock(time)),
+        Request::Tick(time) => push_event(out, host, machine, Event::Tick(time)),
+        Request::State => push_machine(out, host, machine),
+        Request::Used => push_used(out, host, machine.memory()),
+        Request::End | Request::Define | Request::Wrong(_) => Ok(()),
+    }
+}
+
+/// Says what a machine that isn't dead answers to a line that asks for lines alone.
+fn say_answer<H: Host, M: Memory>(
+    host: &mut H,
+    machine: &mut Machine<M>,
+    request: Request,
+) -> Result<(), Status>
+    requires ready { IsReady (M.view machine.old.memory) machine.old.frame machine.old.world }
+    requires alive { machine.old.death ≡ None }
+    requires range { IsInRange request }
+    requires saying { IsSaying request }
+    ensures may_run { MayRun M.view machine.new }
+    ensures obeys { (s : State Births) → Shows (shown_by M.view machine.old) s
+        → Obeys H.Host.own (StandsAt M.view machine.new) (living_line keeps_nothing s (tt {0}) request)
+        result host.old host.new }
+    ensures counts { Counts H.Host.own ⊥ host.old host.new result }
+{
+    let mut out = Output::new();
+    match push_answer(&mut out, host, machine, request) {
+        Ok(()) => finish(out, host),
+        Err(SayFault) => Err(Status::SayFault),
+    }
+}
+
+/// Answers a line where the machine isn't dead.
+fn answer_living<H: Host, M: Memory>(
+    host: &mut H,
+    machine: &mut Machine<M>,
+    request: Request,
+) -> Result<(), Status>
+    requires ready { IsReady (M.view machine.old.memory) machine.old.frame machine.old.world }
+    requires alive { machine.old.death ≡ None }
+    requires range { IsInRange request }
+    ensures may_run { MayRun M.view machine.new }
+    ensures obeys { (s : State Births) → Shows (shown_by M.view machine.old) s
+        → Obeys H.Host.own (StandsAt M.view machine.new) (living_line keeps_nothing s (tt {0}) request)
+        result host.old host.new }
+    ensures counts { Counts H.Host.own ⊥ host.old host.new result }
+{
+    match request {
+        Request::End => Err(Status::Done),
+        Request::Wrong(line) => Err(Status::Script(line)),
+        Request::Define => Ok(()),
+        _ => say_answer(host, machine, request),
+    }
+}
+
+/// Answers a line where the machine is dead.
+fn answer_dead<H: Host>(host: &mut H, cause: Dead, request: Request) -> Result<(), Status>
+    ensures obeys { Obeys H.Host.own (λ p. p ≡ gone cause (tt {0})) (dead_line cause (tt {0}) request)
+        result host.old host.new }
+    ensures counts { Counts H.Host.own ⊥ host.old host.new result }
+{
+    match request {
+        Request::End => Err(Status::Done),
+        Request::Wrong(line) => Err(Status::Script(line)),
+        _ => say_reply(host, Reply::Died(cause)),
+    }
+}
+
+/// Answers a line.
+pub(crate) fn answer_line<H: Host, M: Memory>(
+    host: &mut H,
+    machine: &mut Machine<M>,
+    request: Request,
+) -> Result<(), Status>
+    requires may_run { MayRun M.view machine.old }
+    requires range { IsInRange request }
+    ensures may_run { MayRun M.view machine.new }
+    ensures obeys { (p : Point (Unit {0})) → StandsAt M.view machine.old p
+        → Obeys H.Host.own (StandsAt M.view machine.new) (line_course keeps_nothing p.being p.kept request)
+        result host.old host.new }
+    ensures counts { Counts H.Host.own ⊥ host.old host.new result }
+{
+    match machine.death() {
+        Some(cause) => answer_dead(host, cause, request),
+        None => answer_living(host, machine, request),
+    }
+}

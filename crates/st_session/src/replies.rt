@@ -1,0 +1,119 @@
+ghost use Rattle.std.specs.Prelude.{◌≡◌};
+ghost use Rattle.st_report.specs.Saying.{Pushes};
+ghost use Rattle.st_session.specs.Lines.{reply_text};
+ghost use Rattle.st_session.specs.Replies.{accepted_line, refused_text, side_text, why_text};
+ghost use Rattle.st_session.specs.Telling.{Tells};
+
+use st_course::{Refusal, Status};
+use st_model::Dead;
+use st_outside::{Host, SayFault};
+use st_report::{Output, push_line};
+
+/// A line that a session says, which shows nothing of the machine's objects.
+#[derive(Clone, Copy)]
+pub(crate) enum Reply<'a> {
+    /// How many definitions were replayed, and how many lost.
+    Opened(u32, u32),
+    /// The machine is dead of this cause.
+    Died(Dead),
+    /// A definition of a class, on its class side or not, was accepted, with its selector.
+    Accepted {
+        class: &'a [u8],
+        meta: bool,
+        selector: &'a [u8],
+    },
+    /// A definition was refused.
+    Refused(Refusal),
+}
+
+/// Adds why a definition is refused.
+fn push_why<H: Host>(out: &mut Output, host: &mut H, why: Refusal) -> Result<(), SayFault>
+    ensures { Pushes H.Host.own (why_text why) host.old host.new out.old out.new result }
+{
+    match why {
+        Refusal::Syntax { place, cause } => {
+            push_line(out, host, b"syntax", &[place, u32::from(cause)])
+        }
+        Refusal::Code { place, cause } => push_line(out, host, b"code", &[place, u32::from(cause)]),
+        Refusal::NoClass => push_line(out, host, b"install", &[1]),
+        Refusal::NoGlobals => push_line(out, host, b"install", &[2]),
+        Refusal::NoRoom { demand } => {
+            push_line(out, host, b"install", &[3, demand.entries, demand.words])
+        }
+        Refusal::Shape => push_line(out, host, b"install", &[4]),
+    }
+}
+
+/// Adds the class side, where it is meant.
+fn push_side<H: Host>(out: &mut Output, host: &mut H, meta: bool) -> Result<(), SayFault>
+    ensures { Pushes H.Host.own (side_text meta) host.old host.new out.old out.new result }
+{
+    if meta {
+        out.push(host, b" class")
+    } else {
+        Ok(())
+    }
+}
+
+/// Adds the line of a definition that is accepted.
+fn push_accepted<H: Host>(
+    out: &mut Output,
+    host: &mut H,
+    class: &[u8],
+    meta: bool,
+    selector: &[u8],
+) -> Result<(), SayFault>
+    ensures { Pushes H.Host.own (accepted_line class.now meta selector.now) host.old host.new out.old out.new result }
+{
+    out.push(host, b"accepted ")?;
+    out.push(host, class)?;
+    push_side(out, host, meta)?;
+    out.push(host, b" ")?;
+    out.push(host, selector)?;
+    out.push(host, b"\n")
+}
+
+/// Adds the line of a definition that is refused.
+fn push_refused<H: Host>(out: &mut Output, host: &mut H, why: Refusal) -> Result<(), SayFault>
+    ensures { Pushes H.Host.own (refused_text why) host.old host.new out.old out.new result }
+{
+    out.push(host, b"refused ")?;
+    push_why(out, host, why)
+}
+
+/// Adds a line.
+fn push_reply<H: Host>(out: &mut Output, host: &mut H, reply: Reply<'_>) -> Result<(), SayFault>
+    ensures { Pushes H.Host.own (reply_text reply.entry) host.old host.new out.old out.new result }
+{
+    match reply {
+        Reply::Opened(replayed, lost) => push_line(out, host, b"opened", &[replayed, lost]),
+        Reply::Died(cause) => push_line(out, host, b"dead", &[0, u32::from(cause.number())]),
+        Reply::Accepted {
+            class,
+            meta,
+            selector,
+        } => push_accepted(out, host, class, meta, selector),
+        Reply::Refused(why) => push_refused(out, host, why),
+    }
+}
+
+/// Says a line.
+pub(crate) fn say_reply<H: Host>(host: &mut H, reply: Reply<'_>) -> Result<(), Status>
+    ensures { Tells H.Host.own (reply_text reply.entry) host.old host.new result }
+{
+    let mut out = Output::new();
+    match push_reply(&mut out, host, reply) {
+        Ok(()) => finish(out, host),
+        Err(SayFault) => Err(Status::SayFault),
+    }
+}
+
+/// Says what is still to be said.
+pub(crate) fn finish<H: Host>(out: Output, host: &mut H) -> Result<(), Status>
+    ensures { Tells H.Host.own out host.old host.new result }
+{
+    match out.finish(host) {
+        Ok(()) => Ok(()),
+        Err(SayFault) => Err(Status::SayFault),
+    }
+}
