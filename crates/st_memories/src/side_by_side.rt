@@ -7,7 +7,7 @@ use std::process::Abort;
 use std::test::Fail;
 
 /// How many thousands of calls are made.
-const THOUSANDS: u32 = 100;
+const THOUSANDS: u32 = 1000;
 
 /// A fixed generator of numbers below 65536.
 #[derive(Drop)]
