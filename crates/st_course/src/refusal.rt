@@ -1,6 +1,6 @@
 use st_model::Demand;
 
-/// Why a definition isn't installed. Places are counted in bytes of the method's text, from 0.
+/// Why a definition isn't installed. A place counts the bytes of the method's text from 1, and 0 is the method as a whole.
 #[derive(Clone, Copy, Debug, PartialEq, Eq)]
 pub enum Refusal {
     /// The text is no method.

@@ -3,7 +3,7 @@ ghost use Rattle.st_course.specs.Statuses.{number_of};
 
 use st_model::ImageFault;
 
-/// How a call of the program ended. Its number is the program's exit status.
+/// How a session ends, or a call of the program that was to begin one. Its number is the exit status.
 #[derive(Clone, Copy, Debug, PartialEq, Eq)]
 pub enum Status {
     /// The command was done, or the script up to `end` or to its end.
@@ -13,7 +13,7 @@ pub enum Status {
     /// The image has this fault. An absent file is read as an empty one.
     Image(ImageFault),
     /// What begins in this line of the script, counted from 1, isn't in the grammar, is too long or is cut off.
-    Script(u64),
+    Script { line: u64 },
     /// The source failed.
     ReadFault,
     /// The host failed to say bytes.
@@ -35,7 +35,7 @@ impl Status {
             Status::Done => 0,
             Status::Usage => 1,
             Status::Image(_fault) => 2,
-            Status::Script(_line) => 3,
+            Status::Script { line: _line } => 3,
             Status::ReadFault => 4,
             Status::SayFault => 5,
             Status::DiskFault => 6,

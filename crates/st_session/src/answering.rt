@@ -132,7 +132,7 @@ fn answer_living<H: Host, M: Memory>(
 {
     match request {
         Request::End => Err(Status::Done),
-        Request::Wrong(line) => Err(Status::Script(line)),
+        Request::Wrong(line) => Err(Status::Script { line }),
         Request::Define => Ok(()),
         _ => say_answer(host, machine, request),
     }
@@ -146,7 +146,7 @@ fn answer_dead<H: Host>(host: &mut H, cause: Dead, request: Request) -> Result<(
 {
     match request {
         Request::End => Err(Status::Done),
-        Request::Wrong(line) => Err(Status::Script(line)),
+        Request::Wrong(line) => Err(Status::Script { line }),
         _ => say_reply(host, Reply::Died(cause)),
     }
 }
