@@ -150,7 +150,7 @@ source_kept rule f (Some o) dest old new p n k r out =
 pub rest_twice : (dest : Value) (old mid new : View) → HasWords old dest → mid ≡ with_words old dest (words mid dest) → new ≡ with_words mid dest (words new dest) → new ≡ with_words old dest (words new dest)
 rest_twice dest old mid new has a b = b ∙ ap (λ v. with_words v dest (words new dest)) a ∙ words_twice old dest (words mid dest) has.live (words new dest)
 
--- To the right: the first n pixels, and then the next m. Where the source is the destination, it must not lie behind.
+-- To the right: the first n pixels, and then the next m. Where the source is the destination, it must not begin before it.
 pub copied_up : (rule tone : ℕ) (source : Option Value) (dest : Value) (old mid new : View) (p q n m : ℕ) → HasWords old dest → (source ≡ Some dest → p ≤ q)
     → Copied rule tone source dest old mid p q n → Copied rule tone source dest mid new (p + n) (q + n) m → Copied rule tone source dest old new p q (n + m)
 copied_up rule tone source dest old mid new p q n m has dir a b = record {
@@ -242,8 +242,8 @@ piece_of v o at w e = λ i h k. ap (λ x. bit_at x (15 - i)) (sym e) ∙ sym (pi
 pub piece_word : (v : View) (s : Source) (o : Oop) (n at w : ℕ) → s ≡ source.Words o n → slice_get (words v (value o)) at ≡ Some w → IsPiece v (object_of_source s) (16 * at + 16) w
 piece_word v s o n at w e read = rw e (piece_of v (value o) at w (get_or_from_slice_get (words v (value o)) at w 0 read))
 
-pub piece_behind : (v : View) (s : Source) (o : Oop) (n at : ℕ) → s ≡ source.Words o n → n ≤ at → HasSource v s → IsPiece v (object_of_source s) (16 * at + 16) 0
-piece_behind v s o n at e l has =
+pub piece_after : (v : View) (s : Source) (o : Oop) (n at : ℕ) → s ≡ source.Words o n → n ≤ at → HasSource v s → IsPiece v (object_of_source s) (16 * at + 16) 0
+piece_after v s o n at e l has =
     let there : HasSource v (source.Words o n) = rw e at has in
     let m : n ≡ length (words v (value o)) = there.1 in
     rw e (piece_of v (value o) at 0 (get_or_past (words v (value o)) at 0 (omega (arith, m, l))))

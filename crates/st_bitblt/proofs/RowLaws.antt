@@ -12,7 +12,7 @@ use Rattle.st_bitblt.specs.declared.rows.Layout.{Layout}
 use Rattle.st_bitblt.specs.declared.rows.Pen.{Pen}
 use Rattle.st_bitblt.specs.Words.{words, HasWords}
 use Rattle.st_bitblt.specs.Copied.{Copied, shaded, pixel_from}
-use Rattle.st_bitblt.specs.Rows.{RowsCopied, tone_of}
+use Rattle.st_bitblt.specs.Rows.{IsForward, FromTop, RowsCopied, tone_of}
 use Rattle.st_bitblt.proofs.Words.{words_same}
 use Rattle.st_bitblt.proofs.Parts.{rest_twice}
 
@@ -105,15 +105,11 @@ rows_told pen source dest old new a done told f g x = record {
   rest = x.rest;
 }
 
--- The rows whose source does not lie behind their destination are taken first, from the top.
-abbrev pub Up : Layout → ℕ → Type 0
-Up a j = a.p + j * a.along ≤ a.q + j * a.across
-
-pub clear_up : (a : Layout) (j r : ℕ) → a.n ≤ a.along → j < r → Up a r → a.p + j * a.along + a.n ≤ a.q + r * a.across
+pub clear_up : (a : Layout) (j r : ℕ) → a.n ≤ a.along → j < r → IsForward a r → a.p + j * a.along + a.n ≤ a.q + r * a.across
 clear_up a j r wide lt up =
     let b : j * a.along + a.n ≤ r * a.along = row_before a.along j r a.n lt wide in omega arith
 
-pub clear_down : (a : Layout) (j r : ℕ) → a.n ≤ a.along → a.n ≤ a.across → a.q + r * a.across < a.p + r * a.along → j ≢ r → (Up a j ⊎ (r < j))
+pub clear_down : (a : Layout) (j r : ℕ) → a.n ≤ a.along → a.n ≤ a.across → a.q + r * a.across < a.p + r * a.along → j ≢ r → (IsForward a j ⊎ (r < j))
     → (a.q + r * a.across + a.n ≤ a.p + j * a.along) ⊎ (a.p + j * a.along + a.n ≤ a.q + r * a.across)
 clear_down a j r wide narrow down ne which =
     elim (cases_order j r) [
@@ -127,18 +123,14 @@ clear_down a j r wide narrow down ne which =
       ]
     ]
 
--- the rows above row k that go up
-abbrev pub UpTo : Layout → ℕ → ℕ → Type 0
-UpTo a k = λ r. (r < k) × Up a r
-
--- all rows that go up, and the others from row k on
+-- all rows that are copied from the top, and the others from row k on
 abbrev pub DownTo : Layout → ℕ → ℕ → Type 0
-DownTo a k = λ r. (r < a.height) × (Up a r ⊎ (k ≤ r))
+DownTo a k = λ r. (r < a.height) × (IsForward a r ⊎ (k ≤ r))
 
 pub split : (j r : ℕ) → r < j + 1 → (r < j) ⊎ (r ≡ j)
 split j r h = elim (cases_order r j) [ inl e ↦ inr e | inr s ↦ elim s [ inl lt ↦ inl lt | inr gt ↦ absurd (omega arith) ] ]
 
-same_row : (a : Layout) (r k : ℕ) → r ≡ k → Up a k → Up a r
+same_row : (a : Layout) (r k : ℕ) → r ≡ k → IsForward a k → IsForward a r
 same_row a r k e up = rw e up
 
 -- `row_more`, with the row's places and pen by equations.
@@ -154,25 +146,25 @@ row_more_at pen source dest old mid new a done r i p q has ei ep eq wide other c
 
 pub up_step : (pen : Pen) (source : Option Value) (dest : Value) (old mid new : View) (a : Layout) (k : ℕ) (i : ℕ) (p q : ℕ)
     → HasWords old dest → i ≡ tone_of pen k → p ≡ a.p + k * a.along → q ≡ a.q + k * a.across → a.n ≤ a.along → p ≤ q
-    → RowsCopied pen source dest old mid a (UpTo a k) → Copied pen.rule i source dest mid new p q a.n → RowsCopied pen source dest old new a (UpTo a (k + 1))
+    → RowsCopied pen source dest old mid a (FromTop a k) → Copied pen.rule i source dest mid new p q a.n → RowsCopied pen source dest old new a (FromTop a (k + 1))
 up_step pen source dest old mid new a k i p q has ei ep eq wide le x y =
-    let up : Up a k = omega arith in
-    rows_told pen source dest old new a (λ r. UpTo a k r ⊎ (r ≡ k)) (UpTo a (k + 1))
+    let up : IsForward a k = omega arith in
+    rows_told pen source dest old new a (λ r. FromTop a k r ⊎ (r ≡ k)) (FromTop a (k + 1))
     (λ r h. elim (split k r h.0) [ inl lt ↦ inl (lt, h.1) | inr e ↦ inr e ])
     (λ r d. elim d [ inl h ↦ (let l : r < k = h.0 in omega arith, h.1) | inr e ↦ (omega arith, same_row a r k e up) ])
-    (row_more_at pen source dest old mid new a (UpTo a k) k i p q has ei ep eq wide (λ r h e. let l : r < k = h.0 in omega arith) (λ s r h. inr (clear_up a r k wide h.0 up)) x y)
+    (row_more_at pen source dest old mid new a (FromTop a k) k i p q has ei ep eq wide (λ r h e. let l : r < k = h.0 in omega arith) (λ s r h. inr (clear_up a r k wide h.0 up)) x y)
 
 pub up_skip : (pen : Pen) (source : Option Value) (dest : Value) (old new : View) (a : Layout) (k p q : ℕ) → p ≡ a.p + k * a.along → q ≡ a.q + k * a.across → q < p
-    → RowsCopied pen source dest old new a (UpTo a k) → RowsCopied pen source dest old new a (UpTo a (k + 1))
+    → RowsCopied pen source dest old new a (FromTop a k) → RowsCopied pen source dest old new a (FromTop a (k + 1))
 up_skip pen source dest old new a k p q ep eq lt x =
-    rows_told pen source dest old new a (UpTo a k) (UpTo a (k + 1))
-    (λ r h. elim (split k r h.0) [ inl l ↦ (l, h.1) | inr e ↦ absurd (let up : Up a k = same_row a k r (sym e) h.1 in omega arith) ])
+    rows_told pen source dest old new a (FromTop a k) (FromTop a (k + 1))
+    (λ r h. elim (split k r h.0) [ inl l ↦ (l, h.1) | inr e ↦ absurd (let up : IsForward a k = same_row a k r (sym e) h.1 in omega arith) ])
     (λ r h. (let l : r < k = h.0 in omega arith, h.1)) x
 
 pub down_start : (pen : Pen) (source : Option Value) (dest : Value) (old new : View) (a : Layout) (k : ℕ) → k ≡ a.height
-    → RowsCopied pen source dest old new a (UpTo a k) → RowsCopied pen source dest old new a (DownTo a a.height)
+    → RowsCopied pen source dest old new a (FromTop a k) → RowsCopied pen source dest old new a (DownTo a a.height)
 down_start pen source dest old new a k e x =
-    rows_told pen source dest old new a (UpTo a k) (DownTo a a.height)
+    rows_told pen source dest old new a (FromTop a k) (DownTo a a.height)
     (λ r h. let l : r < a.height = h.0 in (omega arith, elim h.1 [ inl up ↦ up | inr ge ↦ absurd (omega arith) ]))
     (λ r h. (let l : r < k = h.0 in omega arith, inl h.1)) x
 
@@ -181,7 +173,7 @@ down_told a k r pos h =
     elim h.1 [ inl up ↦ inl (h.0, inl up) | inr ge ↦ elim (cases_order r (k - 1)) [ inl e ↦ inr e | inr s ↦ elim s [ inl lt ↦ absurd (omega arith) | inr gt ↦ inl (h.0, inr (omega arith)) ] ] ]
 
 down_other : (a : Layout) (k r : ℕ) → 0 < k → a.q + (k - 1) * a.across < a.p + (k - 1) * a.along → DownTo a k r → r ≢ k - 1
-down_other a k r pos lt h e = elim h.1 [ inl up ↦ let u : Up a (k - 1) = same_row a (k - 1) r (sym e) up in omega arith | inr ge ↦ omega arith ]
+down_other a k r pos lt h e = elim h.1 [ inl up ↦ let u : IsForward a (k - 1) = same_row a (k - 1) r (sym e) up in omega arith | inr ge ↦ omega arith ]
 
 pub down_step : (pen : Pen) (source : Option Value) (dest : Value) (old mid new : View) (a : Layout) (k : ℕ) (i : ℕ) (p q : ℕ)
     → HasWords old dest → i ≡ tone_of pen (k - 1) → p ≡ a.p + (k - 1) * a.along → q ≡ a.q + (k - 1) * a.across → a.n ≤ a.along → a.n ≤ a.across → q < p → 0 < k → k ≤ a.height
@@ -197,7 +189,7 @@ down_step pen source dest old mid new a k i p q has ei ep eq wide narrow lt pos 
 pub down_skip : (pen : Pen) (source : Option Value) (dest : Value) (old new : View) (a : Layout) (k p q : ℕ) → p ≡ a.p + (k - 1) * a.along → q ≡ a.q + (k - 1) * a.across → p ≤ q → 0 < k → k ≤ a.height
     → RowsCopied pen source dest old new a (DownTo a k) → RowsCopied pen source dest old new a (DownTo a (k - 1))
 down_skip pen source dest old new a k p q ep eq le pos within x =
-    let up : Up a (k - 1) = omega arith in
+    let up : IsForward a (k - 1) = omega arith in
     rows_told pen source dest old new a (DownTo a k) (DownTo a (k - 1))
     (λ r h. elim (down_told a k r pos h) [ inl d ↦ d | inr e ↦ (h.0, inl (same_row a r (k - 1) e up)) ])
     (λ r h. (h.0, elim h.1 [ inl u ↦ inl u | inr ge ↦ inr (omega arith) ])) x

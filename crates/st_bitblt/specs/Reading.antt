@@ -84,11 +84,15 @@ pub record IsBitBlt (t : Table) (b : BitBlt) : Type 0 where
   pub across : IsDirection b.across
   pub down : IsDirection b.down
 
+-- a Form has its pixels in this object
+abbrev pub HasPixels : ObjectMemory Table → Table → Value → Word → Type 0
+HasPixels m t form o = Reads (fetch_field m form 0) word t (Ok o)
+
 -- the destination of a BitBlt has its pixels in this object
 pub record HasBits (m : ObjectMemory Table) (t : Table) (v : Value) (o : Word) : Type 0 where
   pub form : Word
   pub destination : Reads (fetch_field m v 0) word t (Ok form)
-  pub bits : Reads (fetch_field m (word form) 0) word t (Ok o)
+  pub bits : HasPixels m t (word form) o
 
 -- a step came to its end
 abbrev pub has_gone : {S A : Type 0} → Transition S A → Bool

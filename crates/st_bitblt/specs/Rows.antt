@@ -21,6 +21,14 @@ pub record FitsPlaces (a : Layout) : Type 0 where
   pub p_fits : a.p + a.height * a.along + a.n < 2 ^ 32
   pub q_fits : a.q + a.height * a.across + a.n + 16 < 2 ^ 32
 
+-- the source of a row does not begin before its destination
+abbrev pub IsForward : Layout → ℕ → Type 0
+IsForward a j = a.p + j * a.along ≤ a.q + j * a.across
+
+-- the rows above row k that are copied from the top
+abbrev pub FromTop : Layout → ℕ → ℕ → Type 0
+FromTop a k = λ j. (j < k) × IsForward a j
+
 -- The rows that were done are what the rule makes of the old pixels. All else stays.
 pub record RowsCopied (pen : Pen) (source : Option Value) (dest : Value) (old new : View) (a : Layout) (done : ℕ → Type 0) : Type 0 where
   pub inside : (i j : ℕ) → i < a.n → done j

@@ -31,7 +31,7 @@ pub record IsClipped (a : Lines) (r : Span) : Type 0 where
   pub from_fits : r.from < 65536
   pub count_fits : r.count < 32768
 
--- Lines are copied exactly to those of a span, from those of the source that stand as far behind its first line there.
+-- Lines are copied exactly to those of a span, from those of the source that stand as far after its first line there.
 pub record IsSpan (a : Axis) (lines : ℕ) (source_lines : Option ℕ) (r : Span) : Type 0 where
   pub takes : (k : ℕ) → k < r.count → copies_to a lines source_lines (r.to + k) ≡ true
   pub from : (n k : ℕ) → source_lines ≡ Some n → k < r.count → (line_from a (r.to + k) ≡ pos (r.from + k)) × (r.from + k < n)

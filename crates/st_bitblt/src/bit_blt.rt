@@ -47,8 +47,8 @@ fn fetch_rule<O: Objects>(m: &O, bit_blt: Word) -> Result<u32, Dead>
     }
 }
 
-/// Reads a BitBlt and its Forms. The error is of no meaning but that something isn't as it should be: a field is missing or
-/// has another kind of value, a number is out of its range, or a Form has too few words.
+/// Reads a BitBlt and its Forms. The error is the cause by which reading dies: a field is missing or has another kind of
+/// value, a number is out of its range, or a Form has too few words.
 #[tactic(auto, using(st_model::proofs::Runs::runs), unfolding(st_model::specs::BitBlt::read_copy))]
 pub fn read_bit_blt<O: Objects>(m: &O, bit_blt: Word) -> Result<BitBlt, Dead>
     ensures does { Reads (read_copy O.names (word bit_blt)) (copy_in (O.table m.now)) (O.table m.now) result }

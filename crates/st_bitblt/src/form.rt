@@ -1,11 +1,10 @@
-ghost use Rattle.std.specs.Prelude.{◌≡◌, ◌+◌, ◌*◌, ◌<◌, ◌≤◌, IfOk, Ok};
+ghost use Rattle.std.specs.Prelude.{◌≡◌, ◌+◌, ◌*◌, ◌<◌, ◌≤◌, IfOk};
 ghost use Rattle.std.specs.Option.{option_map};
 ghost use Rattle.st_model.specs.Values.{word};
 ghost use Rattle.st_model.specs.Pixels.{row_words};
-ghost use Rattle.st_model.specs.Steps.{fetch_field};
 ghost use Rattle.st_model.specs.BitBlt.{read_form, fetch_form, fetch_halftone};
 ghost use Rattle.st_model.specs.Calls.{Reads};
-ghost use Rattle.st_bitblt.specs.Reading.{IsForm, IsFormIfAny, HasSixteen, form_in};
+ghost use Rattle.st_bitblt.specs.Reading.{IsForm, IsFormIfAny, HasPixels, HasSixteen, form_in};
 
 use crate::numbers::{check_words, fetch_positive};
 use st_memory::Objects;
@@ -32,7 +31,7 @@ pub fn row_words(width: u32) -> u32
 pub fn read_form<O: Objects>(m: &O, o: Word) -> Result<Form, Dead>
     ensures does { Reads (read_form O.names (word o)) (form_in (O.table m.now)) (O.table m.now) result }
     ensures form { IfOk result (IsForm (O.table m.now)) }
-    ensures bits { IfOk result (λ f. Reads (fetch_field O.names (word o) 0) word (O.table m.now) (Ok f.bits)) }
+    ensures bits { IfOk result (λ f. HasPixels O.names (O.table m.now) (word o) f.bits) }
 {
     let bits = m.fetch_field(o, 0)?;
     let width = fetch_positive(m, o, 1)?;

@@ -120,7 +120,8 @@ fn source_words(source: Option<Form>) -> u32
 pub fn paint<M: Memory>(m: &mut M, bit_blt: BitBlt)
     requires { IsBitBlt (M.view m.old).objects bit_blt }
     ensures { let old = M.view m.old in
-        M.view m.new ≡ with_words old (word bit_blt.destination.bits) (painted (copy_in old.objects bit_blt)) }
+        M.view m.new ≡ with_words old (word bit_blt.destination.bits)
+        (painted (copy_in old.objects bit_blt)) }
 {
     let form = bit_blt.destination;
     let source = bit_blt.source;

@@ -16,7 +16,7 @@ pub struct Ends {
     pub dest: Oop,
 }
 
-/// Copies n pixels from the left. Within one object the source must not lie behind.
+/// Copies n pixels from the left. Within one object the source must not begin before the destination.
 fn copy_up<M: Memory>(m: &mut M, rule: &Rule, tone: u16, ends: Ends, p: u32, q: u32, n: u32)
     requires source { HasSource (M.view m.old) ends.source }
     requires dest { HasWords (M.view m.old) (value ends.dest) }
@@ -40,7 +40,7 @@ fn copy_up<M: Memory>(m: &mut M, rule: &Rule, tone: u16, ends: Ends, p: u32, q: 
     }
 }
 
-/// Copies n pixels from the right. Within one object the source must not lie ahead.
+/// Copies n pixels from the right. Within one object the source must not begin after the destination.
 fn copy_down<M: Memory>(m: &mut M, rule: &Rule, tone: u16, ends: Ends, p: u32, q: u32, n: u32)
     requires source { HasSource (M.view m.old) ends.source }
     requires dest { HasWords (M.view m.old) (value ends.dest) }
@@ -68,8 +68,8 @@ fn copy_down<M: Memory>(m: &mut M, rule: &Rule, tone: u16, ends: Ends, p: u32, q
     }
 }
 
-/// Whether the source lies behind, in the same object.
-fn is_behind(ends: Ends, p: u32, q: u32) -> bool
+/// Whether the source begins before the destination, in the same object.
+fn begins_before(ends: Ends, p: u32, q: u32) -> bool
     ensures { IsTrue result ↔ ((object_of_source ends.source ≡ Some (value ends.dest)) × (q < p)) }
 {
     match ends.source {
@@ -93,7 +93,7 @@ pub fn copy_row<M: Memory>(m: &mut M, rule: &Rule, tone: u16, ends: Ends, p: u32
     ensures { Copied rule.now tone (object_of_source ends.source) (value ends.dest)
         (M.view m.old) (M.view m.new) p q n }
 {
-    if is_behind(ends, p, q) {
+    if begins_before(ends, p, q) {
         copy_down(m, rule, tone, ends, p, q, n);
     } else {
         copy_up(m, rule, tone, ends, p, q, n);

@@ -1,7 +1,7 @@
 ghost use Rattle.std.specs.Prelude.{◌≡◌, ◌+◌, ◌*◌, ◌^◌, ◌<◌, ◌≤◌, length};
 ghost use Rattle.st_model.specs.Values.{value};
 ghost use Rattle.st_bitblt.specs.Copied.{HasSource, object_of_source};
-ghost use Rattle.st_bitblt.specs.Rows.{HasRoom, FitsPlaces, RowsCopied, tone_of};
+ghost use Rattle.st_bitblt.specs.Rows.{HasRoom, FitsPlaces, FromTop, RowsCopied, tone_of};
 ghost use Rattle.st_bitblt.specs.Words.{words, HasWords};
 
 use crate::row::{Ends, copy_row};
@@ -16,8 +16,8 @@ pub struct Pen {
     pub first: u32,
 }
 
-/// Where the rows of a copy stand: `height` rows of n pixels, of the destination from place p on, each `along` pixels behind
-/// the one before, and of the source from q on, each `across` behind.
+/// Where the rows of a copy stand: `height` rows of n pixels, of the destination from place p on, each `along` pixels after
+/// the one before, and of the source from q on, each `across` after.
 #[derive(Clone, Copy)]
 pub struct Layout {
     pub p: u32,
@@ -47,7 +47,27 @@ fn place(start: u32, step: u32, row: u32, height: u32) -> u32
     start + row * step
 }
 
-/// Copies rows: first, from the top, those whose source does not lie behind their destination, and then the others, from the
+/// Copies, from the top, the rows whose source does not begin before their destination.
+fn copy_from_top<M: Memory>(m: &mut M, pen: &Pen, ends: Ends, a: Layout)
+    requires source { HasSource (M.view m.old) ends.source }
+    requires dest { HasWords (M.view m.old) (value ends.dest) }
+    requires wide { a.n ≤ a.along }
+    requires room { HasRoom a (length (words (M.view m.old) (value ends.dest))) }
+    requires fits { FitsPlaces a }
+    requires first { pen.now.first + a.height < 2 ^ 32 }
+    ensures { RowsCopied pen.now (object_of_source ends.source) (value ends.dest)
+        (M.view m.old) (M.view m.new) a (FromTop a a.height) }
+{
+    for j in 0..a.height {
+        let p = place(a.p, a.along, j, a.height);
+        let q = place(a.q, a.across, j, a.height);
+        if p <= q {
+            copy_row(m, &pen.rule, pen.tone(j), ends, p, q, a.n);
+        }
+    }
+}
+
+/// Copies rows: first, from the top, those whose source does not begin before their destination, and then the others, from the
 /// bottom. So within one object none is read once it was changed.
 pub fn copy_rows<M: Memory>(m: &mut M, pen: &Pen, ends: Ends, a: Layout)
     requires source { HasSource (M.view m.old) ends.source }
@@ -60,14 +80,8 @@ pub fn copy_rows<M: Memory>(m: &mut M, pen: &Pen, ends: Ends, a: Layout)
     ensures { RowsCopied pen.now (object_of_source ends.source) (value ends.dest)
         (M.view m.old) (M.view m.new) a (λ j. j < a.height) }
 {
-    'up: for j in 0..a.height {
-        let p = place(a.p, a.along, j, a.height);
-        let q = place(a.q, a.across, j, a.height);
-        if p <= q {
-            copy_row(m, &pen.rule, pen.tone(j), ends, p, q, a.n);
-        }
-    }
-    'down: for j in (0..a.height).rev() {
+    copy_from_top(m, pen, ends, a);
+    for j in (0..a.height).rev() {
         let p = place(a.p, a.along, j, a.height);
         let q = place(a.q, a.across, j, a.height);
         if q < p {

@@ -16,13 +16,13 @@ pub struct Rule {
 
 impl Model for Rule {
     ghost use Rattle.std.specs.Prelude.{ℕ};
-    ghost use Rattle.st_bitblt.specs.Rules.{IsSpread, number_of_words};
+    ghost use Rattle.st_bitblt.specs.Rules.{AreSpread, number_of_words};
 
     ghost Value = { ℕ };
 
     ghost view = { λ r. number_of_words r.both r.source_alone r.dest_alone r.neither };
 
-    ghost invariant = { λ r. IsSpread r.both × IsSpread r.source_alone × IsSpread r.dest_alone × IsSpread r.neither };
+    ghost invariant = { λ r. AreSpread r.both r.source_alone r.dest_alone r.neither };
 }
 
 /// A word of ones where a number contains 2 ^ place, else of zeros.
@@ -64,7 +64,8 @@ impl Rule {
         ensures inside { (i : ℕ) → first ≤ i → i < first + n
             → bit_at result (15 - i) ≡ combine self.now (bit_at source (15 - i)) (bit_at dest (15 - i)) }
         ensures below { (i : ℕ) → i < first → bit_at result (15 - i) ≡ bit_at dest (15 - i) }
-        ensures above { (i : ℕ) → first + n ≤ i → i < 16 → bit_at result (15 - i) ≡ bit_at dest (15 - i) }
+        ensures above { (i : ℕ) → first + n ≤ i → i < 16
+            → bit_at result (15 - i) ≡ bit_at dest (15 - i) }
     {
         let combined = self.combined(source, dest);
         if n == 16 {

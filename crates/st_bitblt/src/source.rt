@@ -13,7 +13,7 @@ pub enum Source {
     Words { object: Oop, length: u32 },
 }
 
-/// Word `at` of a source, which is 0 behind the end.
+/// Word `at` of a source, which is 0 after the end.
 #[tactic(auto, using(crate::proofs::Words::words_there))]
 pub fn source_word<M: Memory>(m: &M, source: Source, at: u32) -> u16
     requires { HasSource (M.view m.now) source }

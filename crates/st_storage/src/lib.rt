@@ -1,5 +1,5 @@
 //! The primitives that read and store objects, and that make, exchange and find them (chapter 29). What each succeeds by and
-//! does is a definition of `st_model/specs/Storage.antt`, of the same name.
+//! does is a definition of `st_model/specs/Storage.antt`, of the same name; that of 96 is in `BitBlt.antt`.
 #![tactic(auto)]
 
 mod copying;
