@@ -26,7 +26,8 @@ fn scope_of<'f>(
     arguments: Frame<'f>,
     temporaries: Frame<'f>,
 ) -> Result<Vec<Frame<'f>>, AllocError>
-    ensures { IfOk result (λ s. scope_view s.items ≡ frame_view arguments.entry ++ frame_view temporaries.entry) }
+    ensures { IfOk result (λ s.
+        scope_view s.items ≡ frame_view arguments.entry ++ frame_view temporaries.entry) }
 {
     let outer = inner_scope(alloc, &[], arguments)?;
     inner_scope(alloc, &outer, temporaries)
@@ -38,7 +39,8 @@ fn declare_behind<'f>(
     arguments: Frame<'f>,
     temporaries: Frame<'f>,
 ) -> Result<(), CodeFault>
-    ensures { Reports (declare_fault 0 (list_view temporaries.entry.names.now) (frame_view arguments.entry)) result }
+    ensures { Reports
+        (declare_fault 0 (list_view temporaries.entry.names.now) (frame_view arguments.entry)) result }
 {
     let outer = inner_scope(alloc, &[], arguments)?;
     declare(&outer, temporaries)

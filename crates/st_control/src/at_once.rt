@@ -52,7 +52,8 @@ fn return_to_context_at_once<O: Objects>(
     nil: Word,
 ) -> Result<bool, Dead>
     requires room { 3 ≤ O.room m.old }
-    ensures does { RowDoes O.Objects.own (return_to_context_at_once O.names (word context) (word answer) (word nil))
+    ensures does { RowDoes O.Objects.own
+        (return_to_context_at_once O.names (word context) (word answer) (word nil))
         itself m.old r.old result m.new r.new }
     ensures takes { Takes O.Objects.own 3 m.old m.new }
     ensures still { IsStill m.old result m.new }

@@ -53,7 +53,8 @@ fn put_noted(
     literal: Literal,
 ) -> Result<(), AllocError>
     ensures literals { OnOk result (literals.new.items ≡ literals.old.items ++ literal ∷ []) }
-    ensures places { OnOk result (IsNoted key (length literals.old.items) places.old.entries places.new.entries) }
+    ensures places { OnOk result
+        (IsNoted key (length literals.old.items) places.old.entries places.new.entries) }
     ensures same { OnErr result (literals.new.items ≡ literals.old.items) }
     ensures same_places { OnErr result (places.new.entries ≡ places.old.entries) }
 {
@@ -115,7 +116,8 @@ impl LiteralTable {
 
     /// The place of the first literal that shares one with this.
     pub fn place_of(&self, literal: &Literal) -> Result<Option<usize>, AllocError>
-        ensures { IfOk result (λ p. p ≡ literal_place (literals_view self.now.items) (literal_view literal.now)) }
+        ensures { IfOk result (λ p.
+            p ≡ literal_place (literals_view self.now.items) (literal_view literal.now)) }
     {
         let Some(key) = key_of(self.alloc, literal)? else {
             return Ok(None);

@@ -80,7 +80,8 @@ fn arithmetic_at_once_by<O: Objects>(
 fn arithmetic_at_once<O: Objects>(m: &mut O, r: &mut Registers, k: u32) -> Result<bool, Dead>
     requires number { k < 16 }
     requires room { 1 ≤ O.room m.old }
-    ensures does { RowDoes O.Objects.own (arithmetic_at_once O.names k) itself m.old r.old result m.new r.new }
+    ensures does { RowDoes O.Objects.own (arithmetic_at_once O.names k)
+        itself m.old r.old result m.new r.new }
     ensures takes { Takes O.Objects.own 1 m.old m.new }
     ensures still { IsStill m.old result m.new }
 {
@@ -163,7 +164,8 @@ fn jump_on_true_at_once<O: Objects>(m: &O, r: &mut Registers, i: u8) -> Result<b
 #[tactic(auto, using(st_frames::proofs::Doing::rows), unfolding(crate::specs::AtOnce::return_receiver_at_once))]
 fn return_receiver_at_once<O: Objects>(m: &mut O, r: &mut Registers) -> Result<bool, Dead>
     requires room { 3 ≤ O.room m.old }
-    ensures does { RowDoes O.Objects.own (return_receiver_at_once O.names) itself m.old r.old result m.new r.new }
+    ensures does { RowDoes O.Objects.own (return_receiver_at_once O.names)
+        itself m.old r.old result m.new r.new }
     ensures takes { Takes O.Objects.own 3 m.old m.new }
     ensures still { IsStill m.old result m.new }
 {
@@ -331,7 +333,8 @@ fn literal_send_at_once<O: Objects>(
 ) -> Result<bool, Dead>
     requires few { n < 16384 }
     requires room { activation_changes ≤ O.room m.old }
-    ensures does { RowDoes O.Objects.own (literal_send_at_once O.names i n) itself m.old r.old result m.new r.new }
+    ensures does { RowDoes O.Objects.own (literal_send_at_once O.names i n)
+        itself m.old r.old result m.new r.new }
     ensures takes { Takes O.Objects.own activation_changes m.old m.new }
     ensures still { IsStill m.old result m.new }
 {
