@@ -48,12 +48,11 @@ impl Loader for CountedLoader {
     }
 
     fn set_word(&mut self, o: Oop, at: u32, v: u16) {
-        self.contents.objects.set_unit(o, at, v);
+        self.contents.objects.set_word(o, at, v);
     }
 
     fn set_byte(&mut self, o: Oop, at: u32, v: u8) {
-        let first = 2 * self.contents.objects.count_fields(o);
-        self.contents.objects.set_unit(o, at - first, u16::from(v));
+        self.contents.objects.set_byte(o, at, v);
     }
 
     fn finish(self) -> CountedMemory {

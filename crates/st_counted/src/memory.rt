@@ -44,12 +44,7 @@ impl Memory for CountedMemory {
     }
 
     fn size(&self, o: Oop) -> u32 {
-        let fields = self.contents.objects.count_fields(o);
-        if self.contents.objects.kind(o).is_pointers() {
-            fields
-        } else {
-            2 * fields + self.contents.objects.count_units(o)
-        }
+        self.contents.objects.size(o)
     }
 
     fn pointer(&self, o: Oop, at: u32) -> Oop {
@@ -57,12 +52,11 @@ impl Memory for CountedMemory {
     }
 
     fn word(&self, o: Oop, at: u32) -> u16 {
-        self.contents.objects.unit(o, at)
+        self.contents.objects.word(o, at)
     }
 
     fn byte(&self, o: Oop, at: u32) -> u8 {
-        let first = 2 * self.contents.objects.count_fields(o);
-        self.contents.objects.unit(o, at - first) as u8
+        self.contents.objects.byte(o, at) as u8
     }
 
     fn set_pointer(&mut self, o: Oop, at: u32, v: Oop) {
@@ -70,12 +64,11 @@ impl Memory for CountedMemory {
     }
 
     fn set_word(&mut self, o: Oop, at: u32, v: u16) {
-        self.contents.objects.set_unit(o, at, v);
+        self.contents.objects.set_word(o, at, v);
     }
 
     fn set_byte(&mut self, o: Oop, at: u32, v: u8) {
-        let first = 2 * self.contents.objects.count_fields(o);
-        self.contents.objects.set_unit(o, at - first, u16::from(v));
+        self.contents.objects.set_byte(o, at, v);
     }
 
     fn room(&self, d: Demand) -> bool {

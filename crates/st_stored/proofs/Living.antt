@@ -1,5 +1,5 @@
 -- Objects of the table and what is stored.
-use Rattle.std.proofs.Common.{◌≡◌, ℕ, zero, suc, ◌+◌, ◌-◌, ◌*◌, ◌/◌, ◌%◌, ◌<◌, Bool, true, false, List, [], ◌∷◌, Option, Some, None, length, is_some, refl, sym, ap, ◌∙◌, arith}
+use Rattle.std.proofs.Common.{◌≡◌, ℕ, zero, suc, ◌+◌, ◌-◌, ◌*◌, ◌/◌, ◌%◌, ◌<◌, ◌≤◌, Bool, true, false, List, [], ◌∷◌, Option, Some, None, length, is_some, refl, sym, ap, ◌∙◌, subst, arith}
 use Rattle.std.specs.Prelude.{◌==◌, ◌↔◌, IsTrue, unwrap_or, slice_get, if◌then◌else◌}
 use Rattle.std.specs.Option.{option_map}
 use Rattle.std.proofs.lemmas.List.{length-map, get_or-map}
@@ -11,9 +11,11 @@ use Rattle.st_model.specs.Table.{Table, entry}
 use Rattle.st_model.specs.View.{nothing, is_live, object_of}
 use Rattle.st_model.proofs.Pointers.{value_of-even, even_word}
 use Rattle.st_stored.specs.Stored.{Stored, run, slot, stored, nothing_stored, HasStored}
-use Rattle.st_stored.specs.Forms.{cell, field_count, unit_count, unit_at, object_from, objects_in, IsSound, AllSound}
-use Rattle.st_model.specs.Objects.{is_words}
-use Rattle.st_stored.proofs.Forming.{length-units}
+use Rattle.st_stored.specs.Forms.{cell, fields_in, field_count, units_in, unit_count, byte_of, unit_at, object_from, objects_in, IsSound, AllSound}
+use Rattle.st_model.specs.declared.kind.Kind.{Kind}
+use Rattle.st_model.specs.declared.kind.Kind.TheVariants.{Pointers, Words, Bytes, Method}
+use Rattle.st_model.specs.Objects.{is_words, is_pointers, first_unit, size_of}
+use Rattle.st_stored.proofs.Forming.{length-fields, length-units, unit_bytes}
 use Rattle.st_stored.proofs.Runs.{length-run, get_or-run}
 
 module _ (all : List (Option Stored)) where
@@ -126,3 +128,69 @@ pub known : (all : List (Option Stored)) (o : Oop) → AllSound all → is_live 
 known all o sound live =
     let has = live_stored all o live in
     record { has = has; slot = slot_stored all o has; sound = sound_stored all o sound has; is = object_stored all o has }
+
+-- how many fields, words or bytes there are in n words, the size word and the class word among them
+abbrev pub size_in : Kind → Bool → ℕ → ℕ
+size_in Pointers odd n = n - 2
+size_in Words odd n = n - 2
+size_in Bytes odd n = 2 * (n - 2) - (if odd then 1 else 0)
+size_in Method odd n = 2 * (n - 2) - (if odd then 1 else 0)
+
+pub size_stored : (s : Stored) → IsSound s → size_of (object_from s) ≡ size_in s.kind s.odd (length s.cells)
+size_stored s sound =
+    (λ i. if is_pointers s.kind then length-fields s i else 2 * length-fields s i + length-units s i)
+    ∙ by_kind s.kind (length s.cells) (cell s 2) s.odd (let f = sound.fields in f) sound.odd
+  where
+    by_kind : (k : Kind) (n third : ℕ) (odd : Bool) → 2 + fields_in k n third ≤ n → (odd ≡ true → 2 + fields_in k n third < n)
+        → (if is_pointers k then fields_in k n third else 2 * fields_in k n third + units_in k odd (n - (2 + fields_in k n third))) ≡ size_in k odd n
+    by_kind Pointers n third odd within some = refl
+    by_kind Words n third odd within some = omega (arith, within)
+    by_kind Bytes n third odd within some = omega (arith, within)
+    by_kind Method n third true within some = let h = some refl in omega (arith, within, h)
+    by_kind Method n third false within some = omega (arith, within)
+
+-- an object of kind Words has no fields
+pub no_fields : (k : Kind) (n third : ℕ) → is_words k ≡ true → fields_in k n third ≡ 0
+no_fields Pointers n third h = cc
+no_fields Words n third h = refl
+no_fields Bytes n third h = cc
+no_fields Method n third h = cc
+
+pub word_below : (s : Stored) (at : ℕ) → is_words s.kind ≡ true → at < size_of (object_from s) → at < unit_count s
+word_below s at words range =
+    by_kind s.kind (length (object_from s).fields) (unit_count s) words (length-fields s ∙ no_fields s.kind (length s.cells) (cell s 2) words)
+    (subst (λ n. at < (if is_pointers s.kind then length (object_from s).fields else 2 * length (object_from s).fields + n)) (length-units s) range)
+  where
+    by_kind : (k : Kind) (fields units : ℕ) → is_words k ≡ true → fields ≡ 0 → at < (if is_pointers k then fields else 2 * fields + units) → at < units
+    by_kind Pointers fields units b none h = cc
+    by_kind Words fields units b none h = omega (arith, none, h)
+    by_kind Bytes fields units b none h = cc
+    by_kind Method fields units b none h = cc
+
+-- a byte, whose place counts the fields as two each: the word and the half that it is in
+module _ (s : Stored) (at : ℕ) (sound : IsSound s) (bytes : is_words s.kind ≡ false) (above : first_unit (object_from s) ≤ at) (range : at < first_unit (object_from s) + length (object_from s).units) where
+  abbrev pub among : ℕ
+  among = at - first_unit (object_from s)
+
+  counted : first_unit (object_from s) ≡ 2 * field_count s
+  counted = ap (λ n. 2 * n) (length-fields s)
+
+  pub halved : 2 + field_count s + among / 2 ≡ 2 + at / 2
+  halved = let c = counted in omega (arith, c, above)
+
+  pub even_before : among % 2 ≡ at % 2
+  even_before = let c = counted in omega (arith, c, above)
+
+  pub same_half : (w : ℕ) → byte_of w among ≡ byte_of w at
+  same_half w = ap (λ m. if m == 0 then w / 256 else w % 256) even_before
+
+  pub byte_below : among < unit_count s
+  byte_below = let l = length-units s in omega (arith, above, range, l)
+
+  pub byte_stored_within : 2 + at / 2 < length s.cells
+  byte_stored_within =
+      let low : among < length (object_from s).units = omega (arith, above, range) in
+      subst (λ n. n < length s.cells) halved (byte_within s among sound bytes low)
+
+  pub byte_stored : slice_get (object_from s).units among ≡ Some (byte_of (cell s (2 + at / 2)) at)
+  byte_stored = unit_is s among byte_below ∙ ap Some (unit_bytes s among bytes ∙ ap (λ n. byte_of (cell s n) among) halved ∙ same_half (cell s (2 + at / 2)))

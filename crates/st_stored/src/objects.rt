@@ -1,9 +1,9 @@
-ghost use Rattle.std.specs.Prelude.{◌≡◌, ◌≢◌, ◌<◌, ◌≤◌, ◌+◌, ◌/◌, ◌%◌, ℕ, length, true, false, Some, None, IfSome, IfNone, IfOk, slice_get, slice_set};
+ghost use Rattle.std.specs.Prelude.{◌≡◌, ◌≢◌, ◌<◌, ◌≤◌, ◌+◌, ◌-◌, ◌/◌, ◌%◌, ℕ, length, true, false, Some, None, IfSome, IfNone, IfOk, slice_get, slice_set};
 ghost use Rattle.st_model.specs.declared.oop.Oop.{Oop as Pointer};
 ghost use Rattle.st_model.specs.Values.{value, Ref, is_small};
-ghost use Rattle.st_model.specs.Objects.{one, words_of};
+ghost use Rattle.st_model.specs.Objects.{first_unit, is_words, one, size_of, words_of};
 ghost use Rattle.st_model.specs.Table.{entry, total_used, first_free, placed};
-ghost use Rattle.st_model.specs.Formed.{IsHeader, IsMakeable, fresh, unit_limit};
+ghost use Rattle.st_model.specs.Formed.{IsHeader, IsMakeable, fresh};
 ghost use Rattle.st_model.specs.View.{is_live, object_of, with_exchanged, with_stored, with_unit, with_object};
 ghost use Rattle.st_table.specs.Entries.{place};
 ghost use Rattle.st_stored.specs.Stored.{stored, HasStored};
@@ -81,18 +81,21 @@ impl Objects {
         self.stored_fields(o)
     }
 
-    /// How many words or bytes an object has besides its fields.
-    pub fn count_units(&self, o: Oop) -> u32
+    /// How many fields, words or bytes an object has; a Method's header and literals count as bytes.
+    pub fn size(&self, o: Oop) -> u32
         requires { is_live (objects_of self.now) (value o) ≡ true }
-        ensures { result ≡ length (object_of (objects_of self.now) (value o)).units }
+        ensures { result ≡ size_of (object_of (objects_of self.now) (value o)) }
     {
-        let rest = u32::from(self.store.word(o, 0)) - 2 - self.stored_fields(o);
-        if self.store.kind(o).is_words() {
-            rest
-        } else if self.store.odd(o) {
-            2 * rest - 1
-        } else {
-            2 * rest
+        let words = u32::from(self.store.word(o, 0)) - 2;
+        match self.store.kind(o) {
+            Kind::Pointers | Kind::Words => words,
+            Kind::Bytes | Kind::Method => {
+                if self.store.odd(o) {
+                    2 * words - 1
+                } else {
+                    2 * words
+                }
+            }
         }
     }
 
@@ -105,17 +108,27 @@ impl Objects {
         Oop(self.store.word(o, 2 + at))
     }
 
-    /// Unit `at` of an object.
-    pub fn unit(&self, o: Oop, at: u32) -> u16
+    /// Word `at` of an object of kind Words.
+    pub fn word(&self, o: Oop, at: u32) -> u16
         requires live { is_live (objects_of self.now) (value o) ≡ true }
-        requires range { at < length (object_of (objects_of self.now) (value o)).units }
+        requires kind { is_words (object_of (objects_of self.now) (value o)).kind ≡ true }
+        requires range { at < size_of (object_of (objects_of self.now) (value o)) }
         ensures { slice_get (object_of (objects_of self.now) (value o)).units at ≡ Some result }
     {
-        let first = 2 + self.stored_fields(o);
-        if self.store.kind(o).is_words() {
-            return self.store.word(o, first + at);
-        }
-        let word = self.store.word(o, first + at / 2);
+        self.store.word(o, 2 + at)
+    }
+
+    /// Byte `at` of an object of kind Bytes or Method; of a Method, whose header and literals count, from the first bytecode on.
+    pub fn byte(&self, o: Oop, at: u32) -> u16
+        requires live { is_live (objects_of self.now) (value o) ≡ true }
+        requires kind { is_words (object_of (objects_of self.now) (value o)).kind ≡ false }
+        requires above { first_unit (object_of (objects_of self.now) (value o)) ≤ at }
+        requires range { let object = object_of (objects_of self.now) (value o) in
+            at < first_unit object + length object.units }
+        ensures { let object = object_of (objects_of self.now) (value o) in
+            slice_get object.units (at - first_unit object) ≡ Some result }
+    {
+        let word = self.store.word(o, 2 + at / 2);
         if at % 2 == 0 { word / 256 } else { word % 256 }
     }
 
@@ -130,22 +143,32 @@ impl Objects {
         self.store.set_word(o, 2 + at, v.0);
     }
 
-    /// Stores v in unit `at`.
-    pub fn set_unit(&mut self, o: Oop, at: u32, v: u16)
+    /// Stores v in word `at` of an object of kind Words.
+    pub fn set_word(&mut self, o: Oop, at: u32, v: u16)
         requires live { is_live (objects_of self.old) (value o) ≡ true }
-        requires range { at < length (object_of (objects_of self.old) (value o)).units }
-        requires small { v < unit_limit (object_of (objects_of self.old) (value o)).kind }
+        requires kind { is_words (object_of (objects_of self.old) (value o)).kind ≡ true }
+        requires range { at < size_of (object_of (objects_of self.old) (value o)) }
         ensures objects { objects_of self.new ≡ with_unit (objects_of self.old) (value o) at v }
         ensures room { room_of self.new ≡ room_of self.old }
     {
-        let first = 2 + self.stored_fields(o);
-        if self.store.kind(o).is_words() {
-            self.store.set_word(o, first + at, v);
-        } else {
-            let half = first + at / 2;
-            let word = with_byte(self.store.word(o, half), at, v);
-            self.store.set_word(o, half, word);
-        }
+        self.store.set_word(o, 2 + at, v);
+    }
+
+    /// Stores v in byte `at` of an object of kind Bytes or Method; of a Method, whose header and literals count, from the first
+    /// bytecode on.
+    pub fn set_byte(&mut self, o: Oop, at: u32, v: u8)
+        requires live { is_live (objects_of self.old) (value o) ≡ true }
+        requires kind { is_words (object_of (objects_of self.old) (value o)).kind ≡ false }
+        requires above { first_unit (object_of (objects_of self.old) (value o)) ≤ at }
+        requires range { let object = object_of (objects_of self.old) (value o) in
+            at < first_unit object + length object.units }
+        ensures objects { let first = first_unit (object_of (objects_of self.old) (value o)) in
+            objects_of self.new ≡ with_unit (objects_of self.old) (value o) (at - first) v }
+        ensures room { room_of self.new ≡ room_of self.old }
+    {
+        let half = 2 + at / 2;
+        let word = with_byte(self.store.word(o, half), at, u16::from(v));
+        self.store.set_word(o, half, word);
     }
 
     /// Exchanges the objects of two pointers.

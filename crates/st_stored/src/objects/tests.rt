@@ -48,15 +48,16 @@ fn write(rt: &impl Abort, o: &mut Objects, at: u16, i: u32, v: u16)
     let at = Oop(at);
     assert!(rt; o.live(at));
     assert!(rt; o.kind(at).is_words());
-    assert!(rt; i < o.count_units(at));
-    o.set_unit(at, i, v);
+    assert!(rt; i < o.size(at));
+    o.set_word(at, i, v);
 }
 
-fn unit(rt: &impl Abort, o: &Objects, at: u16, i: u32) -> u16 {
+fn word(rt: &impl Abort, o: &Objects, at: u16, i: u32) -> u16 {
     let at = Oop(at);
     assert!(rt; o.live(at));
-    assert!(rt; i < o.count_units(at));
-    o.unit(at, i)
+    assert!(rt; o.kind(at).is_words());
+    assert!(rt; i < o.size(at));
+    o.word(at, i)
 }
 
 fn remove(rt: &impl Abort, o: &mut Objects, at: u16)
@@ -80,9 +81,9 @@ fn objects_move_where_no_hole_fits(rt: HostRuntime) -> Result<(), Fail> {
         remove(&rt, &mut o, at);
     }
     assert_eq!(&rt; make(&rt, &mut o, Kind::Words, 66), Oop(2));
-    assert_eq!(&rt; unit(&rt, &o, 4, 17), 40000);
-    assert_eq!(&rt; unit(&rt, &o, 8, 0), 7);
-    assert_eq!(&rt; unit(&rt, &o, 2, 65), 0);
+    assert_eq!(&rt; word(&rt, &o, 4, 17), 40000);
+    assert_eq!(&rt; word(&rt, &o, 8, 0), 7);
+    assert_eq!(&rt; word(&rt, &o, 2, 65), 0);
     assert_eq!(&rt;
         o.used(),
         Demand {

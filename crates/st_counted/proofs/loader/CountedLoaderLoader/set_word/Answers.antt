@@ -4,15 +4,19 @@ use Rattle.st_model.specs.View.{object_of}
 use Rattle.st_model.proofs.FormedLemmas.{unit_limit-word}
 use Rattle.st_model.proofs.LoadingLemmas.{loading_unit}
 use Rattle.st_counted.specs.Counted.{counted_view}
+use Rattle.st_counted.proofs.Sizes.{units_within}
 use Rattle.st_counted.proofs.loader.CountedLoaderLoader.set_word.Goals as goal
+
+pub set_word-requires-clause-range : goal.set_word-requires-clause-range
+set_word-requires-clause-range c = units_within (object_of (counted_view c.args.self.now.contents).objects (value c.args.o)) c.args.at c.requires.kind c.requires.range
 
 pub invariant_of-self : goal.invariant_of-self
 invariant_of-self c =
     let l = c.args.self.now in
-    let now = c.set_unit.new.self in
+    let now = c.set_word.new.self in
     let v = counted_view l.contents in
     let w = counted_view (record l.contents { objects = now }) in
-    let e = c.set_unit.ensures in
+    let e = c.set_word.ensures in
     let x = value c.args.o in
     let small : c.args.v < 65536 = omega arith in
     record {

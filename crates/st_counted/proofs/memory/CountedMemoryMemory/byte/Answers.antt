@@ -10,6 +10,6 @@ pub overflow_cast-result : goal.overflow_cast-result
 overflow_cast-result c =
     let v = counted_view c.args.self.now.contents in
     let o = object_of v.objects (value c.args.o) in
-    let below = (formed_live v c.args.self.now.whole (value c.args.o) c.requires.live).units _ c.unit.result c.unit.ensures in
-    let small : c.unit.result < 256 = subst (λ n. c.unit.result < n) (unit_limit-byte o.kind c.requires.kind) below in
+    let below = (formed_live v c.args.self.now.whole (value c.args.o) c.requires.live).units _ c.byte.result c.byte.ensures in
+    let small : c.byte.result < 256 = subst (λ n. c.byte.result < n) (unit_limit-byte o.kind c.requires.kind) below in
     omega arith

@@ -1,5 +1,4 @@
 use Rattle.std.proofs.Common.{◌∙◌, ◌<◌, [], refl, sym, subst, arith}
-use Rattle.std.proofs.lemmas.Grind.{common_steps}
 use Rattle.st_model.specs.Values.{value}
 use Rattle.st_model.specs.View.{object_of}
 use Rattle.st_model.proofs.FormedLemmas.{unit_limit-byte}
@@ -13,15 +12,15 @@ use Rattle.st_counted.proofs.memory.CountedMemoryMemory.set_byte.Goals as goal
 pub invariant_of-self : goal.invariant_of-self
 invariant_of-self c =
     let m = c.args.self.now in
-    let now = c.set_unit.new.self in
+    let now = c.set_byte.new.self in
     let v = counted_view m.contents in
     let x = value c.args.o in
-    let e = c.set_unit.ensures in
-    let b = c.from.result in
-    let small : b < 256 = grind (arith, common_steps) in
+    let e = c.set_byte.ensures in
+    let b = c.args.v in
+    let small : b < 256 = omega arith in
     record {
       whole = whole_unit v (counted_view (record m.contents { objects = now })) x _ b m.whole c.requires.live
           (subst (λ n. b < n) (sym (unit_limit-byte (object_of v.objects x).kind c.requires.kind)) small) e.objects refl refl;
-      room = c.set_unit.ensures.room ∙ m.room;
+      room = c.set_byte.ensures.room ∙ m.room;
       counted = subst (λ (t : Table). IsCounted t (all_roots v) [] (numbers_of m.contents)) (sym e.objects) (counted_unit v.objects (all_roots v) [] (numbers_of m.contents) x _ _ m.counted c.requires.live);
     }
