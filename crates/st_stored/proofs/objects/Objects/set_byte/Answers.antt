@@ -1,4 +1,4 @@
-use Rattle.std.proofs.Common.{◌≡◌, ℕ, ◌+◌, ◌-◌, ◌/◌, ◌%◌, ◌<◌, ◌≤◌, false, List, Option, Some, length, set, sym, ap, ◌∙◌, subst, arith}
+use Rattle.std.proofs.Common.{◌≡◌, ◌+◌, ◌-◌, ◌/◌, ◌<◌, ◌≤◌, false, List, Option, Some, length, set, sym, ap, ◌∙◌, subst, arith}
 use Rattle.st_model.specs.Values.{value}
 use Rattle.st_model.specs.View.{with_unit}
 use Rattle.st_model.specs.Objects.{Object, is_words, first_unit}

@@ -1,7 +1,7 @@
-use Rattle.std.proofs.Common.{◌≡◌, ℕ, ◌+◌, ◌/◌, ◌<◌, true, List, Option, Some, length, set, sym, ap, ◌∙◌, subst, arith}
+use Rattle.std.proofs.Common.{◌≡◌, ◌+◌, ◌/◌, ◌<◌, true, List, Option, Some, length, set, sym, ap, ◌∙◌, subst, arith}
 use Rattle.st_model.specs.Objects.{Object, is_words, size_of}
 use Rattle.st_stored.specs.Stored.{Stored, stored, with_cell}
-use Rattle.st_stored.specs.Forms.{cell, field_count, object_from, objects_in, AllSound}
+use Rattle.st_stored.specs.Forms.{cell, field_count, objects_in, AllSound}
 use Rattle.st_stored.specs.Stores.{stored_of}
 use Rattle.st_stored.proofs.Forming.{object-word, sound_cell}
 use Rattle.st_stored.proofs.Living.{live_stored, known, no_fields, word_below}

@@ -1,4 +1,4 @@
-use Rattle.std.proofs.Common.{◌≡◌, ℕ, ◌-◌, ◌*◌, ◌/◌, ◌≤◌, true, false, length, inl, inr, sym, ap, ◌∙◌, arith}
+use Rattle.std.proofs.Common.{◌≡◌, ◌-◌, ◌*◌, ◌/◌, true, false, length, inl, inr, sym, ap, ◌∙◌, arith}
 use Rattle.st_model.specs.Objects.{size_of}
 use Rattle.st_stored.specs.Stored.{stored}
 use Rattle.st_stored.proofs.Living.{live_stored, known, size_in, size_stored}

@@ -1,8 +1,8 @@
-use Rattle.std.proofs.Common.{◌≡◌, ℕ, ◌+◌, ◌/◌, ◌<◌, true, length, Some, sym, ap, ◌∙◌, subst, arith}
+use Rattle.std.proofs.Common.{◌≡◌, ◌+◌, ◌/◌, ◌<◌, true, length, Some, sym, ap, ◌∙◌, subst, arith}
 use Rattle.std.specs.Prelude.{slice_get}
 use Rattle.st_model.specs.Objects.{Object, is_words, size_of}
 use Rattle.st_stored.specs.Stored.{stored}
-use Rattle.st_stored.specs.Forms.{cell, field_count, object_from}
+use Rattle.st_stored.specs.Forms.{cell}
 use Rattle.st_stored.specs.Stores.{stored_of}
 use Rattle.st_stored.proofs.Forming.{length-units, unit_words}
 use Rattle.st_stored.proofs.Living.{live_stored, known, unit_is, no_fields, word_below, word_within}
