@@ -3,6 +3,7 @@ ghost use Rattle.st_frames.specs.Shown.{IsFrame};
 
 use crate::tool::tool;
 use st_counted::CountedLoader;
+use st_course::Status;
 use st_frames::{Frame, fetch};
 use st_host::{MemHost, MemSource};
 use st_image::{HeadValues, ReadImage, read, write};
@@ -10,7 +11,6 @@ use st_lookup::find;
 use st_memory::Memory;
 use st_method::primitive;
 use st_model::{Dead, ImageFault, Oop};
-use st_once::Status;
 use st_outside::{Host, file_length, read_from};
 use std::alloc::{AllocError, Global};
 use std::process::Abort;

@@ -3,13 +3,15 @@ ghost use Rattle.std.specs.String.{string_bytes};
 ghost use Rattle.st_outside.specs.Files.{bytes_of};
 ghost use Rattle.st_outside.specs.Runs.{ReadsAndSays};
 ghost use Rattle.std.specs.Process.{exit_status};
-ghost use Rattle.st_once.specs.Ends.{OnceEnds, SaysLastLine, StatusHasCause, CallEnds, number_of};
-ghost use Rattle.st_once.specs.Words.{once_of, word_at};
-ghost use Rattle.st_once.specs.declared.status.Status.TheVariants.{Usage};
+ghost use Rattle.st_course.specs.Statuses.{StatusHasCause, number_of};
+ghost use Rattle.st_session.specs.Commands.{OnceEnds, SaysLastLine, CallEnds};
+ghost use Rattle.st_session.specs.Words.{once_of, word_at};
+ghost use Rattle.st_course.specs.declared.status.Status.TheVariants.{Usage};
 
 use st_counted::CountedLoader;
-use st_once::{Status, image_name, once, read_once, refuse};
+use st_course::Status;
 use st_outside::{Host, Source};
+use st_session::{image_name, once, read_once, refuse};
 use std::alloc::Global;
 use std::process::ExitCode;
 
@@ -28,7 +30,7 @@ pub fn tool<H: Host, S: Source>(
     ensures once { let texts = map string_bytes words.now in
         (n : ℕ) → once_of texts ≡ Some n →
         OnceEnds H.Host.own (bytes_of (H.files host.old (word_at texts 1))) n host.old host.new result }
-    ensures cause { StatusHasCause H.Host.own host.old host.new result }
+    ensures cause { StatusHasCause H.Host.own ⊥ host.old host.new result }
     ensures reads { (text : List ℕ) × ReadsAndSays H.Host.own text host.old host.new }
     ensures script { _script.new ≡ _script.old }
 {

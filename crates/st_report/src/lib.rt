@@ -9,7 +9,7 @@ mod said;
 mod state;
 mod words;
 
-pub use lines::push_line;
+pub use lines::{push_line, push_long_line};
 pub use objects::{push_object, push_objects};
 pub use output::Output;
 pub use said::push_said;

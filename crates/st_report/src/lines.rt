@@ -1,10 +1,10 @@
-ghost use Rattle.std.specs.Prelude.{◌≡◌, ◌++◌, codes, map};
+ghost use Rattle.std.specs.Prelude.{◌≡◌, ◌++◌, codes, decimal, map};
 ghost use Rattle.st_model.specs.Values.{value};
 ghost use Rattle.st_model.specs.Text.{values_text, numbers_text};
 ghost use Rattle.st_report.specs.Saying.{Pushes};
 
 use crate::Output;
-use crate::words::{push_number, push_value};
+use crate::words::{push_long_number, push_number, push_value};
 use st_model::Oop;
 use st_outside::{Host, SayFault};
 
@@ -56,5 +56,20 @@ pub fn push_line<H: Host>(
 {
     out.push(host, word)?;
     push_numbers(out, host, numbers)?;
+    out.push(host, b"\n")
+}
+
+/// Adds a line of a word and a number of up to 64 bits.
+pub fn push_long_line<H: Host>(
+    out: &mut Output,
+    host: &mut H,
+    word: &[u8],
+    number: u64,
+) -> Result<(), SayFault>
+    ensures { let text = word.now ++ ((codes " " ++ decimal number) ++ codes "\n") in
+        Pushes H.Host.own text host.old host.new out.old out.new result }
+{
+    out.push(host, word)?;
+    push_long_number(out, host, number)?;
     out.push(host, b"\n")
 }

@@ -18,6 +18,15 @@ pub fn push_number<H: Host>(out: &mut Output, host: &mut H, n: u32) -> Result<()
     out.push(host, buffer.format(n).as_bytes())
 }
 
+/// Adds a number of up to 64 bits after a space.
+pub fn push_long_number<H: Host>(out: &mut Output, host: &mut H, n: u64) -> Result<(), SayFault>
+    ensures { Pushes H.Host.own (codes " " ++ decimal n) host.old host.new out.old out.new result }
+{
+    let mut buffer = Buffer::new();
+    out.push(host, b" ")?;
+    out.push(host, buffer.format(n).as_bytes())
+}
+
 /// Adds an integer after a space.
 pub fn push_integer<H: Host>(out: &mut Output, host: &mut H, n: i32) -> Result<(), SayFault>
     ensures { Pushes H.Host.own (codes " " ++ signed_decimal n) host.old host.new out.old out.new result }

@@ -30,10 +30,10 @@ use Rattle.st_session.specs.Runs.{goes_on, asked_text, end_text}
 use Rattle.st_session.specs.Pushing.{LeadsTo, PushesCourse}
 use Rattle.st_session.specs.Standing.{IsBeing}
 
-abbrev Line : Type 0
+abbrev pub Line : Type 0
 Line = Course (Unit {0}) (Point (Unit {0}))
 
-abbrev Deeds : Type 0
+abbrev pub Deeds : Type 0
 Deeds = List (Deed (Unit {0}))
 
 -- the course of n cycles more, after others that were finished

@@ -1,7 +1,10 @@
 pub mod Cycles
+pub mod Digits
 pub mod Ending
 pub mod Following
 pub mod Lines
 pub mod Points
+pub mod Reported
 pub mod Rows
 pub mod Saying
+pub mod Started

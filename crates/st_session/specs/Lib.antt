@@ -12,3 +12,6 @@ pub mod Answers
 pub mod Sessions
 pub mod Standing
 pub mod Ends
+pub mod Words
+pub mod Commands
+pub mod Reports

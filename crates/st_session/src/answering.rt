@@ -77,7 +77,8 @@ fn push_answer<H: Host, M: Memory>(
     requires saying { IsSaying request }
     ensures may_run { MayRun M.view machine.new }
     ensures pushes { (s : State Births) → Shows (shown_by M.view machine.old) s
-        → PushesCourse H.Host.own (StandsAt M.view machine.new) (living_line keeps_nothing s (tt {0}) request)
+        → PushesCourse H.Host.own (StandsAt M.view machine.new)
+        (living_line keeps_nothing s (tt {0}) request)
         host.old host.new out.old out.new result }
 {
     match request {

@@ -40,5 +40,6 @@ pub trait Installer {
             → Shows (shown (M.view m.old) f w) s
             → InstallsAs (install (definition_of definition.now) s) result (shown (M.view m.new) f w) }
         ensures refused { Unchanged result (M.view m.old) (M.view m.new) }
-        ensures ready { (f : Frame) (w : World) → IsReady (M.view m.old) f w → IsReady (M.view m.new) f w };
+        ensures ready { (f : Frame) (w : World) → IsReady (M.view m.old) f w
+            → IsReady (M.view m.new) f w };
 }

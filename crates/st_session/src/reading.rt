@@ -159,8 +159,10 @@ fn follow<I: Installer, H: Host, M: Memory, S: Source>(
     ensures obeys { IsTrue S.is_told → (p : Point (Unit {0})) → StandsAt M.view machine.old p
         → Obeys H.Host.own (StandsAt M.view machine.new)
         (follow_script keeps_nothing I.install p (S.remaining script.old)) result host.old host.new }
-    ensures told { IsErrOf result Unread → IsTrue S.is_told → (p : Point (Unit {0})) → StandsAt M.view machine.old p
-        → DidTold H.Host.own (follow_told keeps_nothing I.install p) (S.remaining script.old) host.old host.new }
+    ensures told { IsErrOf result Unread → IsTrue S.is_told
+        → (p : Point (Unit {0})) → StandsAt M.view machine.old p
+        → DidTold H.Host.own (follow_told keeps_nothing I.install p)
+        (S.remaining script.old) host.old host.new }
     ensures says { (text : List ℕ) × Says H.Host.own text host.old host.new }
     ensures counts { Counts H.Host.own (Rose (S.read_faults script.old) (S.read_faults script.new))
         host.old host.new result }
@@ -199,8 +201,10 @@ fn open<I: Installer, H: Host, M: Memory, S: Source>(
     ensures obeys { IsTrue S.is_told → (p : Point (Unit {0})) → StandsAt M.view machine.old p
         → Obeys H.Host.own (StandsAt M.view machine.new)
         (session keeps_nothing I.install 0 0 p (S.remaining script.old)) result host.old host.new }
-    ensures told { IsErrOf result Unread → IsTrue S.is_told → (p : Point (Unit {0})) → StandsAt M.view machine.old p
-        → DidTold H.Host.own (session_so_far keeps_nothing I.install 0 0 p) (S.remaining script.old) host.old host.new }
+    ensures told { IsErrOf result Unread → IsTrue S.is_told
+        → (p : Point (Unit {0})) → StandsAt M.view machine.old p
+        → DidTold H.Host.own (session_so_far keeps_nothing I.install 0 0 p)
+        (S.remaining script.old) host.old host.new }
     ensures says { (text : List ℕ) × Says H.Host.own text host.old host.new }
     ensures counts { Counts H.Host.own (Rose (S.read_faults script.old) (S.read_faults script.new))
         host.old host.new result }
@@ -234,7 +238,8 @@ pub fn serve<I: Installer, H: Host, M: Memory, S: Source>(
     ensures ends { IsTrue S.is_told → (s : State Births)
         → Shows (shown (M.view loaded.memory) loaded.frame (empty_world nil)) s
         → SessionEnds H.Host.own (session keeps_nothing I.install 0 0 (alive s (tt {0})) (S.remaining script.old))
-        (session_so_far keeps_nothing I.install 0 0 (alive s (tt {0}))) (S.remaining script.old) host.old host.new result }
+        (session_so_far keeps_nothing I.install 0 0 (alive s (tt {0}))) (S.remaining script.old)
+        host.old host.new result }
     ensures complete { IsTrue S.is_told → (s : State Births)
         → Shows (shown (M.view loaded.memory) loaded.frame (empty_world nil)) s
         → IsEnd (session keeps_nothing I.install 0 0 (alive s (tt {0})) (S.remaining script.old)) Done

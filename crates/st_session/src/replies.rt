@@ -63,7 +63,8 @@ fn push_accepted<H: Host>(
     meta: bool,
     selector: &[u8],
 ) -> Result<(), SayFault>
-    ensures { Pushes H.Host.own (accepted_line class.now meta selector.now) host.old host.new out.old out.new result }
+    ensures { let text = accepted_line class.now meta selector.now in
+        Pushes H.Host.own text host.old host.new out.old out.new result }
 {
     out.push(host, b"accepted ")?;
     out.push(host, class)?;

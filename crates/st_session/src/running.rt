@@ -85,7 +85,8 @@ pub(crate) fn push_run<H: Host, M: Memory>(
     requires alive { machine.old.death ≡ None }
     ensures may_run { MayRun M.view machine.new }
     ensures pushes { (s : State Births) → Shows (shown_by M.view machine.old) s
-        → PushesCourse H.Host.own (StandsAt M.view machine.new) (run_course keeps_nothing 0 cycles s (tt {0}))
+        → PushesCourse H.Host.own (StandsAt M.view machine.new)
+        (run_course keeps_nothing 0 cycles s (tt {0}))
         host.old host.new out.old out.new result }
 {
     let mut finished = 0;

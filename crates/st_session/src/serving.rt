@@ -39,7 +39,8 @@ fn define<I: Installer, H: Host, M: Memory>(
     ensures may_run { MayRun M.view machine.new }
     ensures obeys { (s : State Births) → Shows (shown_by M.view machine.old) s
         → Obeys H.Host.own (StandsAt M.view machine.new)
-        (defined_course keeps_nothing s (tt {0}) (definition_of definition.now) (I.install (definition_of definition.now) s))
+        (defined_course keeps_nothing s (tt {0}) (definition_of definition.now)
+        (I.install (definition_of definition.now) s))
         result host.old host.new }
     ensures counts { Counts H.Host.own ⊥ host.old host.new result }
 {

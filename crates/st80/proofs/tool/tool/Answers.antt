@@ -2,8 +2,8 @@ use Rattle.std.proofs.Common.{◌≡◌, ℕ, List, Some, sym, subst, ◌∙◌,
 use Rattle.std.specs.Prelude.{Option}
 use Rattle.std.specs.String.{string_bytes}
 use Rattle.st_outside.specs.Files.{bytes_of}
-use Rattle.st_once.specs.Words.{once_of, word_at}
-use Rattle.st_once.specs.Ends.{OnceEnds}
+use Rattle.st_session.specs.Words.{once_of, word_at}
+use Rattle.st_session.specs.Commands.{OnceEnds}
 use Rattle.st80.proofs.tool.tool.Goals as goal
 
 one_number : (x : Option ℕ) (a b : ℕ) → x ≡ Some a → x ≡ Some b → a ≡ b

@@ -1,3 +1,0 @@
-pub mod Digits
-pub mod Reported
-pub mod Started

@@ -1,0 +1,126 @@
+-- How a call of the program ends: its status, and what it says and does.
+use Rattle.std.specs.Prelude.{◌≡◌, ℕ, ◌<◌, ◌≤◌, ◌^◌, List, [], ◌∷◌, length, ◌++◌, codes, decimal, IsTrue, ⊤, Some, None}
+use Rattle.st_outside.specs.Counts.{Rose}
+use Rattle.st_outside.specs.Files.{bytes_of}
+use Rattle.st_outside.specs.Runs.{ReadsAndSays}
+use Rattle.st_outside.specs.Stops.{SaidPart}
+use Rattle.st_outside.specs.declared.host.Host.{Ghosts}
+use Rattle.st_model.specs.declared.fault.ImageFault.{ImageFault}
+use Rattle.st_model.specs.declared.fault.ImageFault.TheVariants as fault
+use Rattle.st_model.specs.Machine.{State, Went}
+use Rattle.st_model.specs.Image.{image_head}
+use Rattle.st_model.specs.Faults.{IsImageFault, IsWellFormed}
+use Rattle.st_model.specs.Births.{Births}
+use Rattle.st_model.specs.Start.{begin}
+use Rattle.st_model.specs.Text.{numbers_text, run_text}
+use Rattle.st_session.specs.Words.{once_of, word_at}
+use Rattle.st_session.specs.declared.image_refusal.ImageRefusal.{ImageRefusal}
+use Rattle.st_session.specs.declared.image_refusal.ImageRefusal.TheVariants as refusal
+use Rattle.st_course.specs.declared.status.Status.{Status}
+use Rattle.st_course.specs.declared.status.Status.TheVariants.{Done, Usage, Image, Script, ReadFault, SayFault, DiskFault, TooLarge, OutOfMemory}
+use Rattle.st_course.specs.Statuses.{StatusHasCause}
+
+-- a fault's row, then its pointer, and its second pointer or its index
+abbrev pub fault_numbers : ImageFault → List ℕ
+fault_numbers fault.Short = 1 ∷ []
+fault_numbers fault.Lengths = 2 ∷ []
+fault_numbers fault.Capacity = 3 ∷ []
+fault_numbers (fault.Size p) = 4 ∷ p ∷ []
+fault_numbers (fault.Overlap p q) = 5 ∷ p ∷ q ∷ []
+fault_numbers (fault.Class p) = 6 ∷ p ∷ []
+fault_numbers (fault.Field p i) = 7 ∷ p ∷ i ∷ []
+fault_numbers (fault.Method p) = 8 ∷ p ∷ []
+fault_numbers (fault.Root p) = 9 ∷ p ∷ []
+fault_numbers fault.Scheduler = 10 ∷ []
+
+abbrev pub fault_line : ImageFault → List ℕ
+fault_line f = codes "image" ++ (numbers_text (fault_numbers f) ++ codes "\n")
+
+-- the line of the script that isn't followed
+abbrev pub script_line : ℕ → List ℕ
+script_line line = codes "script" ++ ((codes " " ++ decimal line) ++ codes "\n")
+
+abbrev pub last_line : Status → List ℕ
+last_line Done = []
+last_line Usage = codes "usage\n"
+last_line (Image f) = fault_line f
+last_line (Script line) = script_line line
+last_line ReadFault = codes "read fault\n"
+last_line SayFault = []
+last_line DiskFault = codes "disk fault\n"
+last_line TooLarge = codes "too large\n"
+last_line OutOfMemory = codes "out of memory\n"
+
+-- the status after a machine wasn't started
+abbrev pub status_of : ImageRefusal → Status
+status_of (refusal.Image f) = Image f
+status_of refusal.TooLarge = TooLarge
+status_of refusal.DiskFault = DiskFault
+status_of refusal.OutOfMemory = OutOfMemory
+
+-- the bytes of an image that is read: they are at most 2^23, and well-formed
+pub record IsReadable (bytes : List ℕ) : Type 0 where
+  pub short : length bytes ≤ 2 ^ 23
+  pub formed : IsWellFormed (image_head bytes) bytes
+
+-- those of one that is refused for its fault
+pub record IsFaulty (bytes : List ℕ) (f : ImageFault) : Type 0 where
+  pub short : length bytes ≤ 2 ^ 23
+  pub fault : IsImageFault (image_head bytes) bytes f
+
+-- what a refusal says of the image's bytes
+abbrev pub IsImageRefusal : List ℕ → ImageRefusal → Type 0
+IsImageRefusal bytes (refusal.Image f) = IsFaulty bytes f
+IsImageRefusal bytes refusal.TooLarge = 2 ^ 23 < length bytes
+IsImageRefusal bytes refusal.DiskFault = ⊤
+IsImageRefusal bytes refusal.OutOfMemory = ⊤
+
+-- What is said of n cycles of an image: how the book's machine ends that begins with the image's objects as
+-- births and the registers fetched over them, and what it shows then.
+pub record IsReport (bytes : List ℕ) (n : ℕ) (text : List ℕ) : Type 0 where
+  pub births : State Births
+  pub begins : begin (image_head bytes) bytes ≡ Went tt births
+  pub is : text ≡ run_text n births
+
+module _ {D : Type 0} (host : Ghosts D) where
+  -- Nothing but the last line was said. It may be cut or missing only where the count of say faults rose,
+  -- or stands at the last value that it has. Of a host that doesn't tell what was said nothing is claimed.
+  pub record SaysLastLine (status : Status) (old new : D) : Type 0 where
+    pub part : IsTrue host.is_told → SaidPart (host.said old) (last_line status) (host.said new)
+    pub whole : (Rose (host.say_faults old) (host.say_faults new) → ⊥) → IsTrue host.is_told
+        → host.said new ≡ host.said old ++ last_line status
+
+  -- How the command once ends, over the bytes of its image, in each status that it can have. An absent file
+  -- is read as an empty one. These bytes are readable, or have one fault, or are too many, and never two of
+  -- this.
+  abbrev pub OnceEnds : List ℕ → ℕ → D → D → Status → Type 0
+  OnceEnds bytes n old new Done = IsTrue host.is_told
+      → (text : List ℕ) × IsReadable bytes × IsReport bytes n text × (host.said new ≡ host.said old ++ text)
+  OnceEnds bytes n old new Usage = ⊥
+  OnceEnds bytes n old new (Image f) =
+      (IsTrue host.is_told → IsFaulty bytes f) × SaysLastLine (Image f) old new
+  OnceEnds bytes n old new (Script line) = ⊥
+  OnceEnds bytes n old new ReadFault = ⊥
+  OnceEnds bytes n old new SayFault = IsTrue host.is_told
+      → (text : List ℕ) × IsReadable bytes × IsReport bytes n text
+      × SaidPart (host.said old) text (host.said new)
+  OnceEnds bytes n old new DiskFault = SaysLastLine DiskFault old new
+  OnceEnds bytes n old new TooLarge =
+      (IsTrue host.is_told → 2 ^ 23 < length bytes) × SaysLastLine TooLarge old new
+  OnceEnds bytes n old new OutOfMemory = SaysLastLine OutOfMemory old new
+
+  -- a refusal for a fault comes only where its count rose in the call, or stands at the last value that it has
+  abbrev pub RefusalHasCause : D → D → ImageRefusal → Type 0
+  RefusalHasCause old new (refusal.Image f) = Unit {0}
+  RefusalHasCause old new refusal.TooLarge = Unit {0}
+  RefusalHasCause old new refusal.DiskFault = Rose (host.disk_faults old) (host.disk_faults new)
+  RefusalHasCause old new refusal.OutOfMemory = Unit {0}
+
+  -- How a call of the program with these words ends, over the bytes of the image that they name. It changes
+  -- no file.
+  pub record CallEnds (words : List (List ℕ)) (old new : D) (status : Status) : Type 0 where
+    pub usage : once_of words ≡ None → (status ≡ Usage) × SaysLastLine Usage old new
+    pub once : (n : ℕ) → once_of words ≡ Some n
+        → OnceEnds (bytes_of (host.files old (word_at words 1))) n old new status
+    pub cause : StatusHasCause host ⊥ old new status
+    pub reads : (text : List ℕ) × ReadsAndSays host text old new

@@ -1,0 +1,93 @@
+ghost use Rattle.std.specs.Prelude.{◌≡◌, ◌≤◌, ◌^◌, length, IsTrue, IfOk, IfErr, None};
+ghost use Rattle.st_outside.specs.Files.{bytes_of};
+ghost use Rattle.st_outside.specs.Runs.{OnlyReads};
+ghost use Rattle.st_model.specs.Objects.{nil};
+ghost use Rattle.st_model.specs.Machine.{empty_world};
+ghost use Rattle.st_model.specs.Image.{image_head};
+ghost use Rattle.st_model.specs.View.{no_devices};
+ghost use Rattle.st_frames.specs.Shown.{IsFrame, IsReady};
+ghost use Rattle.st_image.specs.Reading.{IsStart};
+ghost use Rattle.st_session.specs.Commands.{IsReadable, IsImageRefusal, RefusalHasCause};
+
+use crate::image_refusal::ImageRefusal;
+use st_frames::Loaded;
+use st_image::{HeadValues, ReadImage, read};
+use st_machine::Machine;
+use st_memory::Loader;
+use st_outside::{Host, file_length, read_from};
+use st_world::World;
+use std::alloc::Global;
+
+/// The most bytes that an image file may have, 2^23.
+const LONGEST_IMAGE: u64 = 8_388_608;
+
+/// The bytes of a file of at most 2^23. An absent one is read as an empty one.
+fn read_file<H: Host>(alloc: Global, host: &mut H, name: &str) -> Result<Vec<u8>, ImageRefusal>
+    ensures bytes { IfOk result (λ v. IsTrue H.is_told →
+        v.items ≡ bytes_of (H.files host.old name.now)) }
+    ensures short { IfOk result (λ v. length v.items ≤ 2 ^ 23) }
+    ensures refused { IfErr result (λ e. IsTrue H.is_told →
+        IsImageRefusal (bytes_of (H.files host.old name.now)) e) }
+    ensures cause { IfErr result (RefusalHasCause H.Host.own host.old host.new) }
+    ensures reads { OnlyReads H.Host.own host.old host.new }
+{
+    let length = file_length(host, name)?.unwrap_or(0);
+    if length > LONGEST_IMAGE {
+        return Err(ImageRefusal::TooLarge);
+    }
+    let mut bytes = vec![in alloc; 0; length as usize]?;
+    let count = read_from(host, name, 0, &mut bytes)?;
+    bytes.truncate(count);
+    Ok(bytes)
+}
+
+/// The memory and registers of the image in a file, where that has at most 2^23 bytes and is well-formed. Nothing is held but by
+/// the registers. No file is changed.
+pub fn read_image<H: Host, L: Loader>(
+    alloc: Global,
+    host: &mut H,
+    name: &str,
+) -> Result<Loaded<L::Done>, ImageRefusal>
+    ensures readable { IfOk result (λ _. IsTrue H.is_told →
+        IsReadable (bytes_of (H.files host.old name.now))) }
+    ensures start { let bytes = bytes_of (H.files host.old name.now) in
+        IfOk result (λ l. IsTrue H.is_told →
+        IsStart (image_head bytes) bytes (L.Done.view l.memory) l.frame) }
+    ensures frame { IfOk result (λ l. IsFrame (L.Done.view l.memory) l.frame) }
+    ensures quiet { IfOk result (λ l. (L.Done.view l.memory).held.devices ≡ no_devices) }
+    ensures refused { IfErr result (λ e. IsTrue H.is_told →
+        IsImageRefusal (bytes_of (H.files host.old name.now)) e) }
+    ensures cause { IfErr result (RefusalHasCause H.Host.own host.old host.new) }
+    ensures reads { OnlyReads H.Host.own host.old host.new }
+{
+    let bytes = read_file(alloc, host, name)?;
+    match read::<L>(alloc, &bytes, &HeadValues::NONE) {
+        Ok(loaded) => Ok(loaded),
+        Err(ReadImage::Fault(fault)) => Err(ImageRefusal::Image(fault)),
+        Err(ReadImage::OutOfMemory) => Err(ImageRefusal::OutOfMemory),
+    }
+}
+
+/// A machine at the start of the image in a file, where that has at most 2^23 bytes and is well-formed.
+pub fn start<H: Host, L: Loader>(
+    alloc: Global,
+    host: &mut H,
+    name: &str,
+) -> Result<Machine<L::Done>, ImageRefusal>
+    ensures readable { IfOk result (λ _. IsTrue H.is_told →
+        IsReadable (bytes_of (H.files host.old name.now))) }
+    ensures start { let bytes = bytes_of (H.files host.old name.now) in
+        IfOk result (λ m. IsTrue H.is_told →
+        IsStart (image_head bytes) bytes (L.Done.view m.memory) m.frame) }
+    ensures ready { IfOk result (λ m. IsReady (L.Done.view m.memory) m.frame m.world) }
+    ensures world { IfOk result (λ m. m.world ≡ empty_world nil) }
+    ensures alive { IfOk result (λ m. m.death ≡ None) }
+    ensures refused { IfErr result (λ e. IsTrue H.is_told →
+        IsImageRefusal (bytes_of (H.files host.old name.now)) e) }
+    ensures cause { IfErr result (RefusalHasCause H.Host.own host.old host.new) }
+    ensures reads { OnlyReads H.Host.own host.old host.new }
+{
+    let loaded = read_image::<H, L>(alloc, host, name)?;
+    let world = World::new(alloc)?;
+    Ok(Machine::boot(loaded, world))
+}

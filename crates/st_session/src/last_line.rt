@@ -1,0 +1,67 @@
+ghost use Rattle.std.specs.Prelude.{◌≡◌, OnOk};
+ghost use Rattle.st_outside.specs.Counts.{HasCause};
+ghost use Rattle.st_outside.specs.Runs.{ReadsAndSays, SaysAll};
+ghost use Rattle.st_outside.specs.Telling.{Says};
+ghost use Rattle.st_report.specs.Saying.{Pushes};
+ghost use Rattle.st_session.specs.Commands.{fault_line, last_line, SaysLastLine};
+
+use st_course::Status;
+use st_model::ImageFault;
+use st_outside::{Host, SayFault};
+use st_report::{Output, push_line, push_long_line};
+
+/// Adds the line of an image's fault: its row, then its pointer, and its second pointer or its index.
+fn push_fault<H: Host>(out: &mut Output, host: &mut H, fault: ImageFault) -> Result<(), SayFault>
+    ensures { Pushes H.Host.own (fault_line fault) host.old host.new out.old out.new result }
+{
+    match fault {
+        ImageFault::Short => push_line(out, host, b"image", &[1]),
+        ImageFault::Lengths => push_line(out, host, b"image", &[2]),
+        ImageFault::Capacity => push_line(out, host, b"image", &[3]),
+        ImageFault::Size(pointer) => push_line(out, host, b"image", &[4, pointer]),
+        ImageFault::Overlap(first, second) => push_line(out, host, b"image", &[5, first, second]),
+        ImageFault::Class(pointer) => push_line(out, host, b"image", &[6, pointer]),
+        ImageFault::Field(pointer, index) => push_line(out, host, b"image", &[7, pointer, index]),
+        ImageFault::Method(pointer) => push_line(out, host, b"image", &[8, pointer]),
+        ImageFault::Root(pointer) => push_line(out, host, b"image", &[9, pointer]),
+        ImageFault::Scheduler => push_line(out, host, b"image", &[10]),
+    }
+}
+
+/// Adds the last line of a status, where it has one.
+fn push_last_line<H: Host>(out: &mut Output, host: &mut H, status: Status) -> Result<(), SayFault>
+    ensures { Pushes H.Host.own (last_line status) host.old host.new out.old out.new result }
+{
+    match status {
+        Status::Done | Status::SayFault => Ok(()),
+        Status::Usage => push_line(out, host, b"usage", &[]),
+        Status::Image(fault) => push_fault(out, host, fault),
+        Status::Script { line } => push_long_line(out, host, b"script", line),
+        Status::ReadFault => push_line(out, host, b"read fault", &[]),
+        Status::DiskFault => push_line(out, host, b"disk fault", &[]),
+        Status::TooLarge => push_line(out, host, b"too large", &[]),
+        Status::OutOfMemory => push_line(out, host, b"out of memory", &[]),
+    }
+}
+
+/// Says the last line of a status, where it has one.
+fn say_last_line<H: Host>(host: &mut H, status: Status) -> Result<(), SayFault>
+    ensures all { OnOk result (SaysAll H.Host.own (last_line status) host.old host.new) }
+    ensures says { Says H.Host.own (last_line status) host.old host.new }
+    ensures cause { HasCause (H.say_faults host.old) (H.say_faults host.new) result }
+{
+    let mut out = Output::new();
+    push_last_line(&mut out, host, status)?;
+    out.finish(host)
+}
+
+/// Says the last line of a status, which stays where that fails.
+pub fn refuse<H: Host>(host: &mut H, status: Status)
+    ensures line { SaysLastLine H.Host.own status host.old host.new }
+    ensures reads { ReadsAndSays H.Host.own (last_line status) host.old host.new }
+    ensures disk { H.disk_faults host.new ≡ H.disk_faults host.old }
+{
+    match say_last_line(host, status) {
+        Ok(()) | Err(SayFault) => {}
+    }
+}

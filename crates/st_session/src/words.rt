@@ -1,0 +1,57 @@
+ghost use Rattle.std.specs.Prelude.{◌≡◌, map, length, IfSome};
+ghost use Rattle.std.specs.String.{string_bytes};
+ghost use Rattle.st_session.specs.Words.{is_operand, cycles_said, once_of, word_at};
+
+/// The most cycles that one run may have.
+const MOST_CYCLES: u64 = 1_000_000_000;
+
+/// Whether a word is an operand: not empty, and not beginning with `-` unless it is `-`.
+fn is_operand(word: &[u8]) -> bool
+    ensures { result ≡ is_operand word.now }
+{
+    match word.first() {
+        Some(first) => *first != b'-' || word.len() == 1,
+        None => false,
+    }
+}
+
+/// The number of cycles that a word says: 1 to 10 decimal digits, at most 1,000,000,000.
+#[tactic(auto, using(crate::proofs::Digits::digits), unfolding(crate::specs::Words::cycles_said))]
+fn read_cycles(word: &[u8]) -> Option<u32>
+    ensures { result ≡ cycles_said word.now }
+{
+    if word.is_empty() || word.len() > 10 {
+        return None;
+    }
+    let mut n: u64 = 0;
+    for digit in word {
+        if !digit.is_ascii_digit() {
+            return None;
+        }
+        n = 10 * n + u64::from(*digit - b'0');
+        if n > MOST_CYCLES {
+            return None;
+        }
+    }
+    Some(n as u32)
+}
+
+/// The number of cycles of the words `once IMAGE N`; none of all other words.
+#[tactic(auto, unfolding(crate::specs::Words::once_of))]
+pub fn read_once(words: &[String]) -> Option<u32>
+    ensures once { result ≡ once_of (map string_bytes words.now) }
+    ensures three { IfSome result (λ _. length words.now ≡ 3) }
+{
+    if words.len() != 3 || words[0].as_str() != "once" || !is_operand(words[1].as_bytes()) {
+        return None;
+    }
+    read_cycles(words[2].as_bytes())
+}
+
+/// The second word.
+pub fn image_name(words: &[String]) -> &str
+    requires { length words.now ≡ 3 }
+    ensures { result.now ≡ word_at (map string_bytes words.now) 1 }
+{
+    words[1].as_str()
+}
