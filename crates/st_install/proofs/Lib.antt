@@ -10,3 +10,4 @@ pub mod Tallies
 pub mod SymbolsAt
 pub mod LeftTables
 mod Lineages
+pub mod Seeking

@@ -6,6 +6,7 @@
 mod chains;
 mod classes;
 mod fault;
+mod places;
 mod reading;
 mod shapes;
 mod sharing;
