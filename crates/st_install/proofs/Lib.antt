@@ -11,3 +11,5 @@ pub mod SymbolsAt
 pub mod LeftTables
 mod Lineages
 pub mod Seeking
+pub mod Going
+pub mod Filled

@@ -1,5 +1,5 @@
 -- What a search through a dictionary's places comes to, at one place or at some.
-use Rattle.std.specs.Prelude.{◌≡◌, ℕ, Option, Some, None, Result, Ok, Err}
+use Rattle.std.specs.Prelude.{◌≡◌, ◌<◌, ⊤, ℕ, Option, Some, None, Result, Ok, Err}
 use Rattle.st_model.specs.declared.dead.Dead.{Dead}
 use Rattle.st_model.specs.Values.{Value}
 use Rattle.st_model.specs.Machine.{State, Transition, Died, Went, Step}
@@ -29,3 +29,9 @@ SeeksAt dictionary sought k t result =
 abbrev pub SeeksFrom : Value → Value → ℕ → ℕ → Table → Result (Option Place) Dead → Type 0
 SeeksFrom dictionary sought k left t result =
     (rest : Step Table Ending) (s : State Table) → s.memory ≡ t → (seek_among table dictionary sought k left rest).run s ≡ seek_of result rest s
+
+-- no dictionary has more places
+abbrev pub IsSmallPlace : Option Place → Type 0
+IsSmallPlace None = ⊤
+IsSmallPlace (Some (place.Holds k)) = k < 262144
+IsSmallPlace (Some (place.Vacant k)) = k < 262144

@@ -13,3 +13,5 @@ pub mod Installing
 pub mod Calls
 pub mod Meanings
 pub mod Endings
+pub mod Carried
+pub mod Readies

@@ -6,7 +6,7 @@ ghost use Rattle.st_model.specs.Table.{table};
 ghost use Rattle.st_model.specs.Lookup.{half_word};
 ghost use Rattle.st_model.specs.Calls.{Reads, itself};
 ghost use Rattle.st_install.specs.Dictionaries.{count_places, seek_from, seek};
-ghost use Rattle.st_install.specs.Endings.{SeeksAt, SeeksFrom, ending_of};
+ghost use Rattle.st_install.specs.Endings.{SeeksAt, SeeksFrom, ending_of, IsSmallPlace};
 
 use crate::reading::{count_fields, fetch_field};
 use st_memory::Memory;
@@ -30,7 +30,8 @@ fn look_at_place<M: Memory>(
     k: u32,
 ) -> Result<Option<Place>, Dead>
     requires small { k < 262144 }
-    ensures { SeeksAt (value dictionary) (value sought) k (M.view m.now).objects result }
+    ensures ends { SeeksAt (value dictionary) (value sought) k (M.view m.now).objects result }
+    ensures small { IfOk result IsSmallPlace }
 {
     let held = fetch_field(m, dictionary, 2 + k)?;
     if held.0 == sought.0 {
@@ -52,8 +53,9 @@ fn look_at_places<M: Memory>(
 ) -> Result<Option<Place>, Dead>
     requires order { from ≤ to }
     requires small { to < 262144 }
-    ensures { let t = (M.view m.now).objects in
+    ensures ends { let t = (M.view m.now).objects in
         SeeksFrom (value dictionary) (value sought) from (to - from) t result }
+    ensures small { IfOk result IsSmallPlace }
 {
     for k in from..to {
         if let Some(place) = look_at_place(m, dictionary, sought, k)? {
@@ -73,8 +75,9 @@ fn seek_from<M: Memory>(
 ) -> Result<Option<Place>, Dead>
     requires order { start ≤ places }
     requires small { places < 262144 }
-    ensures { let t = (M.view m.now).objects in
+    ensures ends { let t = (M.view m.now).objects in
         Reads (seek_from table (value dictionary) (value sought) places start) ending_of t result }
+    ensures small { IfOk result IsSmallPlace }
 {
     if let Some(place) = look_at_places(m, dictionary, sought, start, places)? {
         return Ok(Some(place));
@@ -113,8 +116,9 @@ pub fn seek<M: Memory>(
     sought: Oop,
     selector: Oop,
 ) -> Result<Option<Place>, Dead>
-    ensures { let t = (M.view m.now).objects in
+    ensures ends { let t = (M.view m.now).objects in
         Reads (seek table (value dictionary) (value sought) (value selector)) ending_of t result }
+    ensures small { IfOk result IsSmallPlace }
 {
     let places = count_places(m, dictionary)?;
     let half = half_word(m, selector);
