@@ -10,3 +10,6 @@ pub mod Tallies
 pub mod SymbolsAt
 pub mod LeftTables
 mod Lineages
+pub mod Seeking
+pub mod Going
+pub mod Filled

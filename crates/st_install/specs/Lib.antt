@@ -12,3 +12,6 @@ pub mod Planning
 pub mod Installing
 pub mod Calls
 pub mod Meanings
+pub mod Endings
+pub mod Carried
+pub mod Readies

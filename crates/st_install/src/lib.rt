@@ -6,9 +6,13 @@
 mod chains;
 mod classes;
 mod fault;
+mod filling;
+mod places;
+mod plan;
 mod reading;
 mod shapes;
 mod sharing;
+mod sure;
 mod symbols;
 mod tables;
 

@@ -1,0 +1,53 @@
+-- What a function of the code that is sure to succeed stands on, and what it does with a memory.
+use Rattle.std.specs.Prelude.{◌≡◌, ◌≤◌, ◌==◌, ℕ, ⊤, List, [], ◌∷◌, length, true, false}
+use Rattle.st_model.specs.declared.page.PageObject.TheVariants.{MethodClass}
+use Rattle.st_model.specs.Values.{Value, Ref, is_small}
+use Rattle.st_model.specs.Objects.{is_words, is_method, place_of}
+use Rattle.st_model.specs.Formed.{literals_of}
+use Rattle.st_model.specs.Machine.{State, Transition, Died, Went, Step}
+use Rattle.st_model.specs.Table.{Table}
+use Rattle.st_model.specs.View.{View, object_of}
+use Rattle.st_install.specs.Plans.{Part, There, Made, NewObject, words_of_new}
+
+-- it didn't die
+abbrev pub HasGone : {S A : Type 0} → Transition S A → Type 0
+HasGone (Died cause) = ⊥
+HasGone (Went a s) = ⊤
+
+-- from each state over the objects of a memory, under its head, the step goes
+pub record Goes {A : Type 0} (m : Step Table A) (v : View) : Type 0 where
+  pub gone : (s : State Table) → s.memory ≡ v.objects → s.head ≡ v.head → HasGone (m.run s)
+
+-- by the step the memory that contained v comes to contain w; it answers a, and nothing but objects is changed
+pub record Becomes {A : Type 0} (m : Step Table A) (v : View) (a : A) (w : View) : Type 0 where
+  pub run : (s : State Table) → s.memory ≡ v.objects → s.head ≡ v.head → m.run s ≡ Went a (record s { memory = w.objects })
+  pub held : w.held ≡ v.held
+  pub head : w.head ≡ v.head
+
+-- each object has as many fields as before
+abbrev pub KeepsFields : Table → Table → Type 0
+KeepsFields t u = (x : Value) → length (object_of u x).fields ≡ length (object_of t x).fields
+
+-- a header that is there, and counts the literals behind it
+abbrev pub IsHeaded : List Part → Type 0
+IsHeaded [] = ⊥
+IsHeaded (Made k ∷ literals) = ⊥
+IsHeaded (There header ∷ literals) = (is_small header ≡ true) × (literals_of header ≡ length literals)
+
+-- An object that can be made as it is planned: it isn't of kind Words, its body isn't too long, of the class CompiledMethod
+-- are the Methods alone, and a Method has a header that counts its literals.
+pub record IsPlannable (o : NewObject) : Type 0 where
+  pub kind : is_words o.kind ≡ false
+  pub body : words_of_new o ≤ 65535
+  pub method : (class : ℕ) → o.class ≡ Ref class → is_method o.kind ≡ (class == place_of MethodClass)
+  pub header : is_method o.kind ≡ true → IsHeaded o.fields
+
+-- a Method that was made has as many fields as were planned for it
+abbrev pub IsShaped : Table → Value → NewObject → Type 0
+IsShaped t v o = is_method o.kind ≡ true → length (object_of t v).fields ≡ length o.fields
+
+-- each of them
+abbrev pub AreShaped : Table → List Value → List NewObject → Type 0
+AreShaped t [] os = ⊤
+AreShaped t (v ∷ vs) [] = ⊤
+AreShaped t (v ∷ vs) (o ∷ os) = IsShaped t v o × AreShaped t vs os
