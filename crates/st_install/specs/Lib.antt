@@ -12,3 +12,7 @@ pub mod Planning
 pub mod Installing
 pub mod Calls
 pub mod Meanings
+pub mod Findings
+pub mod Lineages
+pub mod Walks
+pub mod Alike

@@ -3,14 +3,20 @@
 //! installation. These three are defined, in `names` and `ready` of `specs/Calls.antt` and in `specs/Installing.antt`.
 #![tactic(auto)]
 
+mod arrays;
 mod chains;
 mod classes;
 mod fault;
+mod fields;
+mod lineage;
+mod mentions;
+mod pools;
 mod reading;
 mod shapes;
 mod sharing;
 mod symbols;
 mod tables;
+mod unread;
 
 pub use classes::class_of_name;
 pub use fault::InstallFault;
