@@ -9,7 +9,15 @@ pub mod ClassesOf
 pub mod Tallies
 pub mod SymbolsAt
 pub mod LeftTables
-mod Lineages
+pub mod Lineages
 pub mod Seeking
 pub mod Going
 pub mod Filled
+pub mod Passing
+pub mod Alike
+pub mod Finding
+pub mod FieldsOf
+pub mod TextsOf
+pub mod PoolsOf
+pub mod Walking
+pub mod LineageOf

@@ -23,13 +23,15 @@ other_if : (w : ℕ) (b : Bool) → (w % 2 == 1) ≡ b → w ≢ 2 → same_valu
 other_if w true e q = refl
 other_if w false e q = let z : w % 2 ≢ 1 = grind (arith, nat_tests) in let n : w / 2 ≢ 1 = λ h. q (omega (arith, z, h)) in grind (arith, nat_tests)
 
-is_nil : (o : Oop) → o.0 ≡ 2 → same_value (value o) (Ref 1) ≡ true
+pub is_nil : (o : Oop) → o.0 ≡ 2 → same_value (value o) (Ref 1) ≡ true
 unfolding value_of
 is_nil o q = nil_if o.0 (o.0 % 2 == 1) refl q
 
-is_other : (o : Oop) → o.0 ≢ 2 → same_value (value o) (Ref 1) ≡ false
+pub is_other : (o : Oop) → o.0 ≢ 2 → same_value (value o) (Ref 1) ≡ false
 unfolding value_of
 is_other o q = other_if o.0 (o.0 % 2 == 1) refl q
+
+pub ruleset nils = (is_nil, is_other)
 
 -- classes that were passed, and what comes behind them
 abbrev pub behind : List Value → Transition (State Table) (List Value) → Transition (State Table) (List Value)

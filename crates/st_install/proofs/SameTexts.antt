@@ -1,5 +1,5 @@
 -- Bytes of an object compared with a text, one after the other.
-use Rattle.std.proofs.Common.{◌≡◌, ◌≢◌, ℕ, zero, suc, ◌+◌, ◌-◌, ◌≤◌, ◌<◌, List, [], ◌∷◌, length, take, true, false, Some, refl, ap, ◌∙◌, sym, subst, arith}
+use Rattle.std.proofs.Common.{◌≡◌, ◌≢◌, ℕ, zero, suc, ◌+◌, ◌-◌, ◌≤◌, ◌<◌, List, [], ◌∷◌, ◌++◌, length, take, true, false, Some, refl, ap, ◌∙◌, sym, subst, arith}
 use Rattle.std.specs.Prelude.{slice_get, slice_index_or}
 use Rattle.std.proofs.lemmas.List.{take_all}
 use Rattle.std.proofs.lemmas.Option.{slice_get-get_or}
@@ -47,6 +47,18 @@ module _ {v : View} (whole : IsWhole v) (x : Value) (live : is_live v.objects x 
       let n : suc i ≡ i + 1 = omega arith in
       subst (λ k. take k (object_of v.objects x).units ≡ take k ts) n
       (one_more (object_of v.objects x).units ts i b (byte_is i b e) (slice_get-get_or ts i 0 l ∙ ap Some (sym q)) same)
+
+  taken_more : (us : List ℕ) (i b : ℕ) → slice_get us i ≡ Some b → take i us ++ b ∷ [] ≡ take (suc i) us
+  taken_more [] i b e = cc
+  taken_more (u ∷ us) zero b e = let q : u ≡ b = cc in ap (λ x. x ∷ []) (sym q)
+  taken_more (u ∷ us) (suc i) b e = ap (λ xs. u ∷ xs) (taken_more us i b e)
+
+  -- one byte more is copied
+  pub next_copied : (text : List ℕ) (i b : ℕ) → slice_get (object_of v.objects x).units (i - first_unit (object_of v.objects x)) ≡ Some b → text ≡ take i (object_of v.objects x).units
+      → text ++ b ∷ [] ≡ take (i + 1) (object_of v.objects x).units
+  next_copied text i b e same =
+      let n : suc i ≡ i + 1 = omega arith in
+      ap (λ us. us ++ b ∷ []) same ∙ (taken_more (object_of v.objects x).units i b (byte_is i b e) ∙ ap (λ k. take k (object_of v.objects x).units) n)
 
   pub differs : (ts : List ℕ) (i b : ℕ) → slice_get (object_of v.objects x).units (i - first_unit (object_of v.objects x)) ≡ Some b → i < length ts → b ≢ slice_index_or ts i 0
       → (object_of v.objects x).units ≢ ts

@@ -15,3 +15,7 @@ pub mod Meanings
 pub mod Endings
 pub mod Carried
 pub mod Readies
+pub mod Findings
+pub mod Lineages
+pub mod Walks
+pub mod Alike

@@ -1,16 +1,18 @@
 //! Superclass chains.
 
-ghost use Rattle.std.specs.Prelude.{◌≡◌, IfOk};
+ghost use Rattle.std.specs.Prelude.{◌≡◌};
 ghost use Rattle.st_model.specs.Values.{value};
 ghost use Rattle.st_model.specs.Table.{table};
 ghost use Rattle.st_model.specs.Calls.{Reads};
 ghost use Rattle.st_install.specs.Classes.{superclass, chain};
 ghost use Rattle.st_install.specs.Meanings.{values_of};
+ghost use Rattle.st_install.specs.Findings.{Finds};
 
 use crate::reading::{check_fields, fetch_field};
+use crate::unread::Unread;
 use st_memory::Memory;
 use st_model::{Dead, Oop};
-use std::alloc::{AllocError, Global};
+use std::alloc::Global;
 
 /// The superclass of a class with so many fields or more.
 #[tactic(auto, using(st_model::proofs::Runs::runs), unfolding(crate::specs::Classes::superclass))]
@@ -22,32 +24,23 @@ fn superclass<M: Memory>(m: &M, class: Oop, least: u32) -> Result<Oop, Dead>
     fetch_field(m, class, 0)
 }
 
-/// A class and its superclasses, upward, each with so many fields or more. The inner error says that the chain doesn't end in nil
-/// within 32767 such classes.
-pub fn chain<M: Memory>(
-    alloc: Global,
-    m: &M,
-    class: Oop,
-    least: u32,
-) -> Result<Result<Vec<Oop>, Dead>, AllocError>
+/// A class and its superclasses, upward, each with so many fields or more. It dies of `Chain` where they don't end in nil within
+/// 32767 such classes.
+pub fn chain<M: Memory>(alloc: Global, m: &M, class: Oop, least: u32) -> Result<Vec<Oop>, Unread>
     ensures { let t = (M.view m.now).objects in
-        IfOk result (λ r. Reads (chain table least (value class)) values_of t r) }
+        Finds (chain table least (value class)) values_of t result }
 {
     let mut classes = Vec::new(alloc);
     let mut next = class;
     let mut left = 32767_u32;
     while next.0 != 2 {
         if left == 0 {
-            return Ok(Err(Dead::Chain));
+            return Err(Unread::Dies(Dead::Chain));
         }
-        match superclass(m, next, least) {
-            Ok(above) => {
-                classes.push(next)?;
-                next = above;
-                left -= 1;
-            }
-            Err(dead) => return Ok(Err(dead)),
-        }
+        let above = superclass(m, next, least)?;
+        classes.push(next)?;
+        next = above;
+        left -= 1;
     }
-    Ok(Ok(classes))
+    Ok(classes)
 }

@@ -3,18 +3,24 @@
 //! installation. These three are defined, in `names` and `ready` of `specs/Calls.antt` and in `specs/Installing.antt`.
 #![tactic(auto)]
 
+mod arrays;
 mod chains;
 mod classes;
 mod fault;
 mod filling;
 mod places;
 mod plan;
+mod fields;
+mod lineage;
+mod mentions;
+mod pools;
 mod reading;
 mod shapes;
 mod sharing;
 mod sure;
 mod symbols;
 mod tables;
+mod unread;
 
 pub use classes::class_of_name;
 pub use fault::InstallFault;

@@ -15,7 +15,7 @@ use st_model::{Dead, Kind, Oop};
 
 /// The object that a pointer names is there.
 #[tactic(auto, using(st_model::proofs::Runs::runs))]
-fn check_live<M: Memory>(m: &M, o: Oop) -> Result<(), Dead>
+pub fn check_live<M: Memory>(m: &M, o: Oop) -> Result<(), Dead>
     ensures object { let t = (M.view m.now).objects in
         Reads (object table (value o)) (λ (u : Unit). object_of t (value o)) t result }
     ensures live { IfOk result (λ u. is_live (M.view m.now).objects (value o) ≡ true) }
@@ -34,6 +34,7 @@ fn check_live<M: Memory>(m: &M, o: Oop) -> Result<(), Dead>
 pub fn fetch_field<M: Memory>(m: &M, o: Oop, i: u32) -> Result<Oop, Dead>
     ensures fetches { Reads (fetch_field table (value o) i) value (M.view m.now).objects result }
     ensures known { IfOk result (λ x. IsKnown (M.view m.now).objects (value x)) }
+    ensures live { IfOk result (λ x. is_live (M.view m.now).objects (value o) ≡ true) }
 {
     check_live(m, o)?;
     if !m.kind(o).is_pointers() {
@@ -83,7 +84,7 @@ pub fn check_fields<M: Memory>(m: &M, o: Oop, least: u32) -> Result<(), Dead>
 }
 
 /// Whether an object of this kind has bytes alone.
-fn is_bytes(kind: Kind) -> bool
+pub fn is_bytes(kind: Kind) -> bool
     ensures { result ≡ is_bytes kind }
 {
     match kind {

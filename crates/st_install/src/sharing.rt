@@ -1,9 +1,10 @@
 //! Variables that tables share.
 
-ghost use Rattle.std.specs.Prelude.{◌≡◌, Ok};
+ghost use Rattle.std.specs.Prelude.{◌≡◌, Ok, true, IfSome};
 ghost use Rattle.st_model.specs.Values.{value};
 ghost use Rattle.st_model.specs.Table.{table};
 ghost use Rattle.st_model.specs.Calls.{Reads};
+ghost use Rattle.st_model.specs.View.{is_live};
 ghost use Rattle.st_install.specs.Variables.{member_if_any, association_in};
 ghost use Rattle.st_install.specs.Meanings.{values};
 ghost use Rattle.st_install.specs.Texts.{found};
@@ -15,8 +16,9 @@ use st_model::Oop;
 /// The first member of this name in a table; what is no table has none.
 #[tactic(auto, using(crate::proofs::LeftTables::members))]
 fn member_if_any<M: Memory>(m: &M, names: Oop, text: &[u8]) -> Option<Oop>
-    ensures { let t = (M.view m.now).objects in
+    ensures member { let t = (M.view m.now).objects in
         Reads (member_if_any table (value names) text.now) found t (Ok result) }
+    ensures live { IfSome result (λ v. is_live (M.view m.now).objects (value v) ≡ true) }
 {
     match member_named(m, names, text) {
         Ok(association) => association,
@@ -26,8 +28,9 @@ fn member_if_any<M: Memory>(m: &M, names: Oop, text: &[u8]) -> Option<Oop>
 
 /// The member of this name in the first of these tables that has one.
 pub fn association_in<M: Memory>(m: &M, tables: &[Oop], text: &[u8]) -> Option<Oop>
-    ensures { let t = (M.view m.now).objects in
+    ensures association { let t = (M.view m.now).objects in
         Reads (association_in table (values tables.now) text.now) found t (Ok result) }
+    ensures live { IfSome result (λ v. is_live (M.view m.now).objects (value v) ≡ true) }
 {
     for names in tables {
         if let Some(association) = member_if_any(m, *names, text) {
