@@ -10,3 +10,17 @@ pub mod Tallies
 pub mod SymbolsAt
 pub mod LeftTables
 mod Lineages
+pub mod Goes
+pub mod GoesMaking
+pub mod GoesFilling
+pub mod GoesSeeking
+pub mod GoesRefilling
+pub mod GoesStoring
+pub mod GoesInstalling
+pub mod GoesReading
+pub mod GoesPlans
+pub mod GoesSymbols
+pub mod GoesLiterals
+pub mod GoesPlanning
+pub mod GoesNames
+pub mod GoesLaw

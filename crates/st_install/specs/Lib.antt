@@ -12,3 +12,4 @@ pub mod Planning
 pub mod Installing
 pub mod Calls
 pub mod Meanings
+pub mod Goes
