@@ -2,17 +2,23 @@
 use Rattle.std.proofs.Common.{◌≡◌, ℕ, ◌<◌, zero, suc, List, [], ◌∷◌, Option, Some, None, Bool, true, false, Ok, refl, ap, ◌∙◌, subst, arith, is_some}
 use Rattle.std.specs.Prelude.{pos, ◌/◌, ◌%◌, ◌==◌, slice_get, unwrap_or, if◌then◌else◌}
 use Rattle.std.proofs.lemmas.Bool.Decides.{nat_tests}
+use Rattle.std.specs.List.{AllByRecursion}
+use Rattle.st_model.specs.declared.kind.Kind.{Kind}
+use Rattle.st_model.specs.declared.kind.Kind.TheVariants as kind
 use Rattle.st_model.specs.Values.{Value, Small, Ref, value_of, is_small, IsLive, AllLive}
-use Rattle.st_model.specs.Objects.{Object, size_of}
+use Rattle.st_model.specs.declared.page.PageObject.TheVariants.{MethodClass}
+use Rattle.st_model.specs.Objects.{Object, size_of, place_of, is_method, is_words}
 use Rattle.st_model.specs.Formed.{IsWord}
 use Rattle.st_model.specs.Machine.{State, is_there, empty_world}
 use Rattle.st_model.specs.Table.{Table, entry, bounded_table}
 use Rattle.st_model.specs.Show.{IsUsed}
 use Rattle.st_model.specs.View.{View, IsWhole, is_live, object_of, nothing}
 use Rattle.st_model.specs.Calls.{Changes, itself}
-use Rattle.st_install.specs.Plans.{Plan}
+use Rattle.st_code.specs.Methods.{PartsView}
+use Rattle.st_install.specs.Plans.{NewObject, Plan}
+use Rattle.st_install.proofs.GoesMaking.{IsShaped, CanMake}
 use Rattle.st_install.specs.Installing.{install}
-use Rattle.st_install.specs.Goes.{IsHeaderWord, IsReadyFor, Stays, Installs, ReadyInstalls}
+use Rattle.st_install.specs.Goes.{IsHeaded, HasHeader, IsOfKind, IsReadyFor, Stays, Installs, ReadyInstalls, ReadyObjects}
 use Rattle.st_install.proofs.Goes.{object_at, IsLike, IsKept, Goes, over}
 use Rattle.st_install.proofs.GoesInstalling.{install_goes}
 use Rattle.st_install.proofs.GoesReading.{IsSoundTable}
@@ -38,13 +44,17 @@ module _ (v : View) (whole : IsWhole v) where
   class_there (Small n) o e = cc
   class_there (Ref n) o e = used_some (entry v.objects o.class) (whole.complete.objects n o e).class
 
+  methods_alone : (x : Value) (o : Object) → object_at v.objects x ≡ Some o → is_method o.kind ≡ (o.class == place_of MethodClass)
+  methods_alone (Small n) o e = cc
+  methods_alone (Ref n) o e = (whole.formed n o e).method
+
   values_there : (x : Value) (o : Object) → object_at v.objects x ≡ Some o → (i : ℕ) (y : Value) → slice_get o.fields i ≡ Some y → is_there bounded_table v.objects y ≡ true
   values_there (Small n) o e i y f = cc
   values_there (Ref n) o e i y f = value_there v.objects y (live_at v.objects o.fields i y (whole.complete.objects n o e).fields f) ((whole.formed n o e).values i y f)
 
   pub sound_table : IsSoundTable v.objects
   unfolding is_live
-  sound_table = record { page = whole.complete.page; class = class_there; values = values_there }
+  sound_table = record { page = whole.complete.page; class = class_there; methods = methods_alone; values = values_there }
 
 -- HEADERS
 
@@ -52,9 +62,9 @@ small_word : (w : ℕ) (b : Bool) (t : Table) → is_small (if b then Small (w /
 small_word w true t e l = let k : w / 2 < 32768 = omega (arith, l) in grind (arith, nat_tests)
 small_word w false t e l = cc
 
-header_there : (t : Table) (w : ℕ) → IsHeaderWord w → is_there bounded_table t (value_of w) ≡ true
+header_there : (t : Table) (parts : PartsView) → IsHeaded parts → is_there bounded_table t (value_of parts.header) ≡ true
 unfolding value_of
-header_there t w h = small_word w (w % 2 == 1) t h.small h.word
+header_there t parts h = small_word parts.header (parts.header % 2 == 1) t h.small h.word
 
 -- WHAT STAYS
 
@@ -96,8 +106,8 @@ module _ (v : View) (p : Plan) (whole : IsWhole v) (h : IsReadyFor v p) where
   dictionary : HasDictionary v.objects h.class
   dictionary = ((names_give (idle v) (sound_table v whole) v.head h.class h.meta h.tree).gives (Ok h.seen) (idle v) (h.named (idle v) refl)).1
 
-  plan : IsReadyPlan (idle v) (sound_table v whole) h.class dictionary h.parts (header_there v.objects h.parts.header h.header) v.head p
-  plan = ((ready_gives (idle v) (sound_table v whole) h.class dictionary h.parts (header_there v.objects h.parts.header h.header) v.head h.name h.meta).gives (Ok p) (idle v) (h.ready (idle v) refl)).1
+  plan : IsReadyPlan (idle v) (sound_table v whole) h.class dictionary h.parts h.headed (header_there v.objects h.parts h.headed) v.head p
+  plan = ((ready_gives (idle v) (sound_table v whole) h.class dictionary h.parts h.headed (header_there v.objects h.parts h.headed) v.head h.name h.meta).gives (Ok p) (idle v) (h.ready (idle v) refl)).1
 
   goes : Goes v.head (install bounded_table p) v.objects (λ a u. IsKept v.objects u)
   goes = install_goes v.head v.objects p plan.plan plan.room
@@ -113,3 +123,22 @@ module _ (v : View) (p : Plan) (whole : IsWhole v) (h : IsReadyFor v p) where
 
 pub ready_installs : ReadyInstalls
 ready_installs v p whole h = installs v p whole h
+
+no_words : (k : Kind) (o : NewObject) → IsShaped k o → is_words k ≡ false
+no_words kind.Pointers o h = refl
+no_words kind.Words o h = absurd h
+no_words kind.Bytes o h = refl
+no_words kind.Method o h = refl
+
+with_header : (k : Kind) (o : NewObject) → IsShaped k o → is_method k ≡ true → HasHeader o.fields
+with_header kind.Pointers o h e = cc
+with_header kind.Words o h e = absurd h
+with_header kind.Bytes o h e = cc
+with_header kind.Method o h e = h
+
+all_of_kind : (t : Table) (os : List NewObject) → CanMake t os → AllByRecursion IsOfKind os
+all_of_kind t [] h = tt
+all_of_kind t (o ∷ os) h = (record { kind = no_words o.kind o h.1; method = h.0.kind; header = with_header o.kind o h.1 }, all_of_kind t os h.2)
+
+pub ready_objects : ReadyObjects
+ready_objects v p whole h = let r = plan v p whole h in all_of_kind v.objects p.objects r.plan.made

@@ -1,8 +1,9 @@
 -- What is planned for literals is sound.
-use Rattle.std.proofs.Common.{◌≡◌, ℕ, ◌+◌, ◌≤◌, zero, suc, List, [], ◌∷◌, ◌++◌, length, Bool, true, false, refl, sym, subst, arith, is_some, length-append}
+use Rattle.std.proofs.Common.{ap, ◌≡◌, ℕ, ◌+◌, ◌≤◌, zero, suc, List, [], ◌∷◌, ◌++◌, length, Bool, true, false, refl, sym, subst, arith, length-append}
 use Rattle.std.specs.Prelude.{◌/◌, nat_lt}
 use Rattle.std.proofs.lemmas.Bool.Decides.{nat_tests}
 use Rattle.st_model.specs.declared.dead.Dead.TheVariants as dead
+use Rattle.st_model.specs.declared.kind.Kind.TheVariants as kind
 use Rattle.st_model.specs.declared.page.PageObject.TheVariants.{NilObject, StringClass, ArrayClass, LargeClass, Characters}
 use Rattle.st_model.specs.Values.{Value, Small}
 use Rattle.st_model.specs.Machine.{State, Step, is_there}
@@ -13,10 +14,10 @@ use Rattle.st_emit.specs.Literals as literals
 use Rattle.st_install.specs.Plans.{Part, There, Made, pointers_object, bytes_object}
 use Rattle.st_install.specs.Symbols.{NamedSymbol, symbol_part}
 use Rattle.st_install.specs.Literals.{Placed, PlacedAll, as_it_is, made_as, negated, large_bytes, place_size, place_signed, place_number, place_character, place_string, place_symbol, place_pointer, place_array, place_owner, then_placed, none_placed, place_literal, place_members, place_literals}
-use Rattle.st_install.proofs.Goes.{object_at}
-use Rattle.st_install.proofs.GoesMaking.{CanMake}
+use Rattle.st_install.proofs.GoesMaking.{IsClassFor, CanMake}
+use Rattle.st_install.proofs.GoesStoring.{HasFields, there_at}
 use Rattle.st_install.proofs.GoesInstalling.{IsSoundPart, AreSoundParts, AreSoundObjects}
-use Rattle.st_install.proofs.GoesReading.{Gives, gives_answer, gives_then, gives_or_die, gives_page, gives_field, IsSoundTable, field_there, gives_class, gives_bearing}
+use Rattle.st_install.proofs.GoesReading.{Gives, gives_both, gives_answer, gives_then, gives_or_die, gives_page, gives_field, IsSoundTable, field_there, page_class, gives_class_of, gives_bearing}
 use Rattle.st_install.proofs.GoesPlans.{part_more, parts_more, objects_more, objects_append, can_make_append}
 use Rattle.st_install.proofs.GoesSymbols.{AreNamed, named_part}
 
@@ -35,7 +36,7 @@ module _ (t : Table) where
   pub as_it_is_sound : (next : ℕ) (p : Part) → IsSoundPart t next p → IsSoundPlaced next (as_it_is p)
   as_it_is_sound next p h = record { made = tt; objects = tt; part = part_more t next (next + 0) p (omega arith) h }
 
-  bytes_sound : (next : ℕ) (class : Value) (text : List ℕ) → is_some (object_at t class) ≡ true → IsSoundPlaced next (made_as next (bytes_object class text))
+  bytes_sound : (next : ℕ) (class : Value) (text : List ℕ) → IsClassFor t kind.Bytes class → IsSoundPlaced next (made_as next (bytes_object class text))
   bytes_sound next class text h = record { made = (h, refl, tt); objects = (tt, tt); part = omega arith }
 
   none_sound : (next : ℕ) → AreSoundPlaced next none_placed
@@ -52,7 +53,7 @@ module _ (t : Table) where
         parts = (part_more t _ _ p.part more h.part, parts_more t _ _ ps.parts same k.parts);
       }
 
-  array_sound : (next : ℕ) (class : Value) (ps : PlacedAll) → is_some (object_at t class) ≡ true → AreSoundPlaced (next + 1) ps
+  array_sound : (next : ℕ) (class : Value) (ps : PlacedAll) → IsClassFor t kind.Pointers class → AreSoundPlaced (next + 1) ps
       → IsSoundPlaced next (record { part = Made next; objects = pointers_object class ps.parts ∷ ps.objects })
   array_sound next class ps h k =
       let same : next + 1 + length ps.objects ≤ next + suc (length ps.objects) = omega arith in
@@ -78,7 +79,7 @@ module _ (s : State Table) (sound : IsSoundTable s.memory) where
   size_gives next n true e = gives_answer s _ _ (as_it_is_sound s.memory next (There (Small n)) (grind (arith, nat_tests)))
   size_gives next n false e =
       gives_then s _ _ _ _ (gives_page s LargeClass)
-      (λ class f. gives_answer s _ _ (bytes_sound s.memory next class (large_bytes n) (subst (λ v. is_some (object_at s.memory v) ≡ true) (sym f) (sound.page LargeClass))))
+      (λ class f. gives_answer s _ _ (bytes_sound s.memory next class (large_bytes n) (page_class s sound LargeClass kind.Bytes refl class f)))
 
   signed_gives : (next n : ℕ) (b : Bool) → GivesPlaced next (place_signed table next n b)
   unfolding place_signed
@@ -100,7 +101,7 @@ module _ (s : State Table) (sound : IsSoundTable s.memory) where
   unfolding place_string
   string_gives next text =
       gives_then s _ _ _ _ (gives_page s StringClass)
-      (λ class f. gives_answer s _ _ (bytes_sound s.memory next class text (subst (λ v. is_some (object_at s.memory v) ≡ true) (sym f) (sound.page StringClass))))
+      (λ class f. gives_answer s _ _ (bytes_sound s.memory next class text (page_class s sound StringClass kind.Bytes refl class f)))
 
   pointer_gives : (next pointer : ℕ) → GivesPlaced next (place_pointer table pointer)
   unfolding place_pointer
@@ -113,14 +114,14 @@ module _ (s : State Table) (sound : IsSoundTable s.memory) where
   unfolding place_array
   array_gives next ps h =
       gives_then s _ _ _ _ (gives_page s ArrayClass)
-      (λ class f. gives_answer s _ _ (array_sound s.memory next class ps (subst (λ v. is_some (object_at s.memory v) ≡ true) (sym f) (sound.page ArrayClass)) h))
+      (λ class f. gives_answer s _ _ (array_sound s.memory next class ps (page_class s sound ArrayClass kind.Pointers refl class f) h))
 
-  pub owner_gives : (association class : Value) (meta : Bool) (next : ℕ) → is_there bounded_table s.memory association ≡ true → is_there bounded_table s.memory class ≡ true
+  pub owner_gives : (association class : Value) (meta : Bool) (next : ℕ) → HasFields s.memory association 2 → is_there bounded_table s.memory class ≡ true
       → GivesPlaced next (place_owner table association class meta next)
   unfolding place_owner
-  owner_gives association class false next a c = gives_answer s _ _ (as_it_is_sound s.memory next (There association) a)
+  owner_gives association class false next a c = gives_answer s _ _ (as_it_is_sound s.memory next (There association) (there_at s.memory association a.object a.is))
   owner_gives association class true next a c =
-      gives_then s _ _ _ _ (gives_class s sound association)
+      gives_then s _ _ _ _ (gives_class_of s sound association a.object a.is a.pointers)
       (λ k h. gives_then s _ _ _ _ (gives_page s NilObject)
       (λ nil e. gives_answer s _ _ (record {
         made = (h, refl, tt);
@@ -155,10 +156,23 @@ module _ (s : State Table) (sound : IsSoundTable s.memory) where
           (λ p h. gives_then s _ _ _ _ (members_give (next + length p.objects) ls (omega (arith, b)))
           (λ ps k. gives_answer s _ _ (then_sound s.memory next p ps h k)))
 
-    pub literals_give : (next : ℕ) (ls : List LiteralView) → base ≤ next → GivesAllPlaced next (place_literals table symbols owner next ls)
+    literals_give : (next : ℕ) (ls : List LiteralView) → base ≤ next → GivesAllPlaced next (place_literals table symbols owner next ls)
     unfolding place_literals
     literals_give next [] b = gives_answer s _ _ (none_sound s.memory next)
     literals_give next (l ∷ ls) b =
         gives_then s _ _ _ _ (literal_gives next l b)
         (λ p h. gives_then s _ _ _ _ (literals_give (next + length p.objects) ls (omega (arith, b)))
         (λ ps k. gives_answer s _ _ (then_sound s.memory next p ps h k)))
+
+    -- each in its place
+    count_gives : (next : ℕ) (ls : List LiteralView) → base ≤ next → Gives s (place_literals table symbols owner next ls) (λ ps. length ps.parts ≡ length ls)
+    unfolding place_literals
+    count_gives next [] b = gives_answer s _ _ refl
+    count_gives next (l ∷ ls) b =
+        gives_then s _ _ _ _ (literal_gives next l b)
+        (λ p h. gives_then s _ _ _ _ (count_gives (next + length p.objects) ls (omega (arith, b)))
+        (λ ps e. gives_answer s _ _ (ap (λ n. suc n) e)))
+
+    pub all_literals_give : (next : ℕ) (ls : List LiteralView) → base ≤ next
+        → Gives s (place_literals table symbols owner next ls) (λ ps. AreSoundPlaced s.memory next ps × (length ps.parts ≡ length ls))
+    all_literals_give next ls b = gives_both s _ _ _ (literals_give next ls b) (count_gives next ls b)

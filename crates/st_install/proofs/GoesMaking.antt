@@ -1,19 +1,21 @@
 -- The objects of a plan are made, where there is room for all of them.
 use Rattle.std.proofs.Common.{◌≡◌, ℕ, ◌+◌, ◌*◌, ◌/◌, ◌<◌, ◌≤◌, zero, suc, List, [], ◌∷◌, length, Option, Some, None, Bool, true, false, refl, sym, ap, ◌∙◌, subst, arith, is_some}
 use Rattle.std.proofs.lemmas.List.{length-replicate}
-use Rattle.std.specs.Prelude.{◌-◌, slice_get, nat_le}
+use Rattle.std.specs.Prelude.{◌==◌, ◌-◌, slice_get, nat_le}
 use Rattle.std.proofs.lemmas.Bool.Decides.{nat_tests}
 use Rattle.st_model.specs.declared.kind.Kind.{Kind}
 use Rattle.st_model.specs.declared.kind.Kind.TheVariants as kind
 use Rattle.st_model.specs.Values.{Value, Small, Ref}
-use Rattle.st_model.specs.Objects.{Object, nil, one, words_of}
+use Rattle.st_model.specs.declared.page.PageObject.TheVariants.{MethodClass}
+use Rattle.st_model.specs.Objects.{Object, nil, one, words_of, place_of, is_method}
 use Rattle.st_model.specs.Formed.{fresh_with}
 use Rattle.st_model.specs.Machine.{Head, State, Went, has_room, answer, ◌>>=◌}
 use Rattle.st_model.specs.Steps.{made, make_named, make}
 use Rattle.st_model.specs.Table.{Table, entry, placed, first_free, bounded_table, total_used}
 use Rattle.st_model.proofs.TableLemmas.{placed-first, placed-other, first_free-none}
 use Rattle.st_model.proofs.Bounded.{total-placed}
-use Rattle.st_install.specs.Plans.{NewObject, words_of_new, words_of_all}
+use Rattle.st_install.specs.Goes.{HasHeader}
+use Rattle.st_install.specs.Plans.{Part, NewObject, words_of_new, words_of_all}
 use Rattle.st_install.specs.Installing.{size_by, literals_by, make_new, make_all}
 use Rattle.st_install.proofs.Goes.{object_at, Goes, over, then_goes, answer_goes}
 
@@ -35,7 +37,7 @@ abbrev pub IsShaped : Kind → NewObject → Type 0
 IsShaped kind.Pointers o = o.bytes ≡ []
 IsShaped kind.Words o = ⊥
 IsShaped kind.Bytes o = o.fields ≡ []
-IsShaped kind.Method o = 0 < length o.fields
+IsShaped kind.Method o = HasHeader o.fields
 
 pub blank_kind : (k : Kind) (o : NewObject) → (blank_by k o).kind ≡ k
 blank_kind kind.Pointers o = refl
@@ -43,11 +45,15 @@ blank_kind kind.Words o = refl
 blank_kind kind.Bytes o = refl
 blank_kind kind.Method o = refl
 
+has_one : (ps : List Part) → HasHeader ps → 0 < length ps
+has_one [] h = absurd h
+has_one (p ∷ ps) h = omega arith
+
 pub blank_fields : (k : Kind) (o : NewObject) → IsShaped k o → length (blank_by k o).fields ≡ length o.fields
 blank_fields kind.Pointers o h = length-replicate (length o.fields) nil
 blank_fields kind.Words o h = absurd h
 blank_fields kind.Bytes o h = rw h refl
-blank_fields kind.Method o h = let e = length-replicate (length o.fields - 1) nil in omega (arith, e, h)
+blank_fields kind.Method o h = let e = length-replicate (length o.fields - 1) nil in let l = has_one o.fields h in omega (arith, e, l)
 
 pub blank_units : (k : Kind) (o : NewObject) → IsShaped k o → length (blank_by k o).units ≡ length o.bytes
 blank_units kind.Pointers o h = rw h refl
@@ -55,7 +61,7 @@ blank_units kind.Words o h = absurd h
 blank_units kind.Bytes o h = length-replicate (length o.bytes) 0
 blank_units kind.Method o h =
     let e = length-replicate {A = ℕ} (2 * length o.fields + length o.bytes - 2 * (length o.fields - 1 + 1)) 0 in
-    omega (arith, e, h)
+    let l = has_one o.fields h in omega (arith, e, l)
 
 words_by : (a b c d : ℕ) → a ≡ b → c ≡ d → 2 + a + (c + 1) / 2 ≡ 2 + b + (d + 1) / 2
 words_by a b c d e f = rw (e, f) refl
@@ -123,10 +129,15 @@ pub record Makes (t : Table) (os : List NewObject) (vs : List Value) (u : Table)
   pub apart : (i j : ℕ) (v : Value) → slice_get vs i ≡ Some v → slice_get vs j ≡ Some v → i ≡ j
   pub objects : (i : ℕ) (v : Value) (o : NewObject) → slice_get vs i ≡ Some v → slice_get os i ≡ Some o → object_at u v ≡ Some (blank o)
 
+-- a class that is there; of CompiledMethod the Methods alone are instances
+pub record IsClassFor (t : Table) (k : Kind) (class : Value) : Type 0 where
+  pub there : is_some (object_at t class) ≡ true
+  pub kind : (n : ℕ) → class ≡ Ref n → is_method k ≡ (n == place_of MethodClass)
+
 -- what all of them ask of the table
 abbrev pub CanMake : Table → List NewObject → Type 0
 CanMake t [] = Unit {0}
-CanMake t (o ∷ os) = (is_some (object_at t o.class) ≡ true) × IsShaped o.kind o × CanMake t os
+CanMake t (o ∷ os) = IsClassFor t o.kind o.class × IsShaped o.kind o × CanMake t os
 
 placed_stands : (t : Table) (o : Object) (v : Value) (a : Object) → object_at t v ≡ Some a → object_at (placed t o) v ≡ Some a
 placed_stands t o (Small n) a e = cc
@@ -142,7 +153,7 @@ none_before (Some o) b h e = let f = h o refl in cc
 
 still : (t : Table) (o : Object) (os : List NewObject) → CanMake t os → CanMake (placed t o) os
 still t o [] h = tt
-still t o (p ∷ os) h = (some_stands (object_at t p.class) (object_at (placed t o) p.class) (λ a. placed_stands t o p.class a) h.0, h.1, still t o os h.2)
+still t o (p ∷ os) h = (record { there = some_stands (object_at t p.class) (object_at (placed t o) p.class) (λ a. placed_stands t o p.class a) h.0.there; kind = h.0.kind }, h.1, still t o os h.2)
 
 none_made : (t : Table) → Makes t [] [] t
 none_made t = record { length = refl; stands = λ v o e. e; fresh = λ i v e. cc; apart = λ i j v e. cc; objects = λ i v o e. cc }
@@ -200,6 +211,6 @@ pub make_all_goes : (head : Head) (t : Table) (os : List NewObject) → CanMake 
 unfolding make_all
 make_all_goes head t [] h room = answer_goes head t _ [] (none_made t)
 make_all_goes head t (o ∷ os) h room =
-    then_goes head t (λ v u. MadeOne t o v u) _ (make_new bounded_table o) _ (make_one head t o (length os) (words_of_all os) h.0 h.1 room)
+    then_goes head t (λ v u. MadeOne t o v u) _ (make_new bounded_table o) _ (make_one head t o (length os) (words_of_all os) h.0.there h.1 room)
     (λ v u m. after_one head t o os v u m
     (make_all_goes head (placed t (blank o)) os (still t (blank o) os h.2) (room_more head t o (length os) (words_of_all os) h.1 room)))

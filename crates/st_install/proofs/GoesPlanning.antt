@@ -1,11 +1,12 @@
 -- A plan that is answered is sound, and there is room for its objects where that was asked.
-use Rattle.std.proofs.Common.{◌≡◌, ℕ, ◌+◌, ◌*◌, ◌<◌, ◌≤◌, List, [], ◌∷◌, ◌++◌, length, Option, Some, None, Bool, true, false, Result, Ok, Err, refl, sym, ap, ◌∙◌, subst, arith, is_some, length-append}
+use Rattle.std.proofs.Common.{◌≡◌, ℕ, ◌+◌, ◌*◌, ◌<◌, ◌≤◌, List, [], ◌∷◌, ◌++◌, length, Option, Some, None, Bool, true, false, Result, Ok, Err, refl, sym, ap, ◌∙◌, subst, arith, length-append}
 use Rattle.std.specs.Prelude.{◌-◌, slice_get, replicate, nat_lt, nat_le, if◌then◌else◌}
 use Rattle.std.proofs.lemmas.Bool.Decides.{nat_tests}
 use Rattle.std.proofs.lemmas.List.{length-replicate}
 use Rattle.std.proofs.lemmas.Option.{slice_get_within}
 use Rattle.st_model.specs.declared.dead.Dead.TheVariants as dead
 use Rattle.st_model.specs.declared.demand.Demand.{Demand}
+use Rattle.st_model.specs.declared.kind.Kind.TheVariants as kind
 use Rattle.st_model.specs.declared.page.PageObject.TheVariants.{NilObject, ArrayClass, MethodClass}
 use Rattle.st_model.specs.Values.{Value, Ref, value_of}
 use Rattle.st_model.specs.Objects.{Object, place_of}
@@ -16,6 +17,7 @@ use Rattle.st_code.specs.Methods.{PartsView}
 use Rattle.st_install.specs.declared.fault.InstallFault.{InstallFault}
 use Rattle.st_install.specs.declared.fault.InstallFault.TheVariants.{Shape}
 use Rattle.st_install.specs.Plans.{Part, There, Made, NewObject, Plan, method_object, pointers_object, words_of_all, demand_of_all}
+use Rattle.st_install.specs.Goes.{IsHeaded}
 use Rattle.st_install.specs.Classes.{class_fields, class_association}
 use Rattle.st_install.specs.Symbols.{Symbols, symbols_in, symbol_part}
 use Rattle.st_install.specs.Literals.{PlacedAll, place_owner}
@@ -24,14 +26,14 @@ use Rattle.st_install.specs.Shapes.{is_power_of_two, check_dictionary, check_siz
 use Rattle.st_install.specs.Planning.{method_number, objects_with_method, grown_number, grown_if, plan_objects, plan}
 use Rattle.st_install.specs.Calls.{both, is_crowded, room_or, with_room, planned, ready}
 use Rattle.st_install.proofs.Goes.{object_at, Tells}
-use Rattle.st_install.proofs.GoesMaking.{CanMake, HasRoom}
+use Rattle.st_install.proofs.GoesMaking.{IsClassFor, CanMake, HasRoom}
 use Rattle.st_install.proofs.GoesStoring.{HasFields, there_at}
 use Rattle.st_install.proofs.GoesSeeking.{ending_for, table_reads, tells_places, tells_seek, nowhere_full, none_counted, vacant_among, tells_vacant}
 use Rattle.st_install.proofs.GoesInstalling.{IsSoundPart, AreSoundObjects, AreSoundStores, IsDictionary, HasPlace, IsGrown, IsSoundTarget, IsSoundPlan}
-use Rattle.st_install.proofs.GoesReading.{Gives, gives_told, gives_answer, gives_then, gives_next, gives_less, Any, IfAny, gives_tried, gives_check, gives_or_die, gives_page, IsField, gives_field, IsCount, gives_count, gives_bits, IsSoundTable, field_there, gives_class}
+use Rattle.st_install.proofs.GoesReading.{Gives, gives_told, gives_answer, gives_then, gives_next, gives_less, Any, IfAny, gives_tried, gives_check, gives_or_die, gives_page, IsField, gives_field, IsCount, gives_count, gives_bits, IsSoundTable, field_there, page_class, gives_class_of}
 use Rattle.st_install.proofs.GoesPlans.{get_seam, part_more, parts_more, objects_more, objects_append, can_make_append, parts_replicate, stores_more}
-use Rattle.st_install.proofs.GoesSymbols.{gives_checked, gives_member, named_part, AreSoundSymbols, symbols_give}
-use Rattle.st_install.proofs.GoesLiterals.{AreSoundPlaced, owner_gives, literals_give}
+use Rattle.st_install.proofs.GoesSymbols.{has_two, gives_checked, gives_member, named_part, AreSoundSymbols, symbols_give}
+use Rattle.st_install.proofs.GoesLiterals.{AreSoundPlaced, owner_gives, all_literals_give}
 
 -- THE CLASS'S DICTIONARY
 
@@ -134,14 +136,14 @@ module _ (s : State Table) (sound : IsSoundTable s.memory) where
       pub array_class : Value
       pub tally : Value
       pub is : os ≡ dictionary_objects class tally array_class nil_value (2 * (length h.object.fields - 2)) (next + 1)
-      pub class_there : is_some (object_at s.memory class) ≡ true
-      pub array_there : is_some (object_at s.memory array_class) ≡ true
+      pub class_there : IsClassFor s.memory kind.Pointers class
+      pub array_there : IsClassFor s.memory kind.Pointers array_class
       pub tally_there : is_there bounded_table s.memory tally ≡ true
 
     growth_gives : (next : ℕ) → Gives s (grown_objects table d next) (λ os. IsGrowth next os)
     unfolding grown_objects
     growth_gives next =
-        gives_then s _ _ _ _ (gives_class s sound d)
+        gives_then s _ _ _ _ (gives_class_of s sound d h.object h.is h.pointers)
         (λ class c. gives_then s _ _ _ _ (gives_field s d 0)
         (λ tally f. gives_then s _ _ _ _ (told (count_places table d) (length h.object.fields - 2) (tells_places table table_reads s.memory d h.object h.is h.pointers))
         (λ places e. gives_then s _ _ _ _ (gives_page s ArrayClass)
@@ -152,7 +154,7 @@ module _ (s : State Table) (sound : IsSoundTable s.memory) where
           tally = tally;
           is = ap (λ n. dictionary_objects class tally array_class n (2 * places) (next + 1)) b ∙ ap (λ n. dictionary_objects class tally array_class nil_value (2 * n) (next + 1)) e;
           class_there = c;
-          array_there = subst (λ v. is_some (object_at s.memory v) ≡ true) (sym a) (sound.page ArrayClass);
+          array_there = page_class s sound ArrayClass kind.Pointers refl array_class a;
           tally_there = field_there s sound d 0 tally f;
         }))))))
 
@@ -167,16 +169,16 @@ module _ (s : State Table) (sound : IsSoundTable s.memory) where
 
 -- THE PLAN
 
-module _ (s : State Table) (sound : IsSoundTable s.memory) (class : Value) (has : HasDictionary s.memory class) (parts : PartsView) (header : is_there bounded_table s.memory (value_of parts.header) ≡ true) where
-  module _ (symbols : Symbols) (hs : AreSoundSymbols s.memory symbols) (ls : PlacedAll) (hl : AreSoundPlaced s.memory (length symbols.objects) ls) where
+module _ (s : State Table) (sound : IsSoundTable s.memory) (class : Value) (has : HasDictionary s.memory class) (parts : PartsView) (headed : IsHeaded parts) (header : is_there bounded_table s.memory (value_of parts.header) ≡ true) where
+  module _ (symbols : Symbols) (hs : AreSoundSymbols s.memory symbols) (ls : PlacedAll) (hl : AreSoundPlaced s.memory (length symbols.objects) ls) (count : length ls.parts ≡ length parts.literals) where
     counted : (c : Value) → length (objects_with_method c parts symbols ls) ≡ length symbols.objects + length ls.objects + 1
     counted c =
         let a = length-append (symbols.objects ++ ls.objects) (method_object c (There (value_of parts.header) ∷ ls.parts) parts.bytes ∷ []) in
         let b = length-append symbols.objects ls.objects in
         omega (arith, a, b)
 
-    method_made : (c : Value) → is_some (object_at s.memory c) ≡ true → CanMake s.memory (objects_with_method c parts symbols ls)
-    method_made c h = can_make_append s.memory (symbols.objects ++ ls.objects) _ (can_make_append s.memory symbols.objects ls.objects hs.made hl.made) (h, omega arith, tt)
+    method_made : (c : Value) → IsClassFor s.memory kind.Method c → CanMake s.memory (objects_with_method c parts symbols ls)
+    method_made c h = can_make_append s.memory (symbols.objects ++ ls.objects) _ (can_make_append s.memory symbols.objects ls.objects hs.made hl.made) (h, (headed.small, headed.count ∙ sym count), tt)
 
     method_objects : (c : Value) (n : ℕ) → length symbols.objects + length ls.objects + 1 ≤ n → AreSoundObjects s.memory n (objects_with_method c parts symbols ls)
     method_objects c n l =
@@ -190,7 +192,7 @@ module _ (s : State Table) (sound : IsSoundTable s.memory) (class : Value) (has 
         (stores_more s.memory (symbols.objects ++ ls.objects) _ symbols.stores (stores_more s.memory symbols.objects ls.objects symbols.stores hs.stores))
 
     -- all but what grows
-    module _ (c : Value) (p : Part) (grown : List NewObject) (b : Bool) (method_class : is_some (object_at s.memory c) ≡ true) (selector : IsSoundPart s.memory (length symbols.objects) p)
+    module _ (c : Value) (p : Part) (grown : List NewObject) (b : Bool) (method_class : IsClassFor s.memory kind.Method c) (selector : IsSoundPart s.memory (length symbols.objects) p)
         (made : CanMake s.memory grown) (objects : AreSoundObjects s.memory (length (objects_with_method c parts symbols ls ++ grown)) grown)
         (target : IsSoundTarget s.memory (objects_with_method c parts symbols ls ++ grown) has.is.object.fields p (grown_number b symbols ls)) where
       all_of_it : length (objects_with_method c parts symbols ls ++ grown) ≡ length symbols.objects + length ls.objects + 1 + length grown
@@ -219,7 +221,7 @@ module _ (s : State Table) (sound : IsSoundTable s.memory) (class : Value) (has 
           }
 
     -- where it doesn't grow
-    stays : (c : Value) (p : Part) (grown : List NewObject) → is_some (object_at s.memory c) ≡ true → IsSoundPart s.memory (length symbols.objects) p → grown ≡ [] → HasPlace s.memory has.is.object.fields p
+    stays : (c : Value) (p : Part) (grown : List NewObject) → IsClassFor s.memory kind.Method c → IsSoundPart s.memory (length symbols.objects) p → grown ≡ [] → HasPlace s.memory has.is.object.fields p
         → IsSoundPlan s.memory (record {
           objects = objects_with_method c parts symbols ls ++ grown;
           symbol_stores = symbols.stores;
@@ -265,7 +267,7 @@ module _ (s : State Table) (sound : IsSoundTable s.memory) (class : Value) (has 
             tally_there = g.tally_there;
           }
 
-      grows : is_some (object_at s.memory c) ≡ true → IsSoundPart s.memory (length symbols.objects) p
+      grows : IsClassFor s.memory kind.Method c → IsSoundPart s.memory (length symbols.objects) p
           → IsSoundPlan s.memory (record {
             objects = objects_with_method c parts symbols ls ++ grown;
             symbol_stores = symbols.stores;
@@ -277,7 +279,7 @@ module _ (s : State Table) (sound : IsSoundTable s.memory) (class : Value) (has 
           })
       grows m l = plan_sound c p grown true m l growth_made (growth_objects _ all_with_growth) grown_target
 
-    either_sound : (c : Value) (p : Part) (b : Bool) (grown : List NewObject) → is_some (object_at s.memory c) ≡ true → IsSoundPart s.memory (length symbols.objects) p
+    either_sound : (c : Value) (p : Part) (b : Bool) (grown : List NewObject) → IsClassFor s.memory kind.Method c → IsSoundPart s.memory (length symbols.objects) p
         → (b ≡ false → HasPlace s.memory has.is.object.fields p) → GrowsIf s sound has.dictionary has.is (method_number symbols ls + 1) b grown
         → IsSoundPlan s.memory (record {
           objects = objects_with_method c parts symbols ls ++ grown;
@@ -291,8 +293,8 @@ module _ (s : State Table) (sound : IsSoundTable s.memory) (class : Value) (has 
     either_sound c p true grown m l h g = grows c p grown g m l
     either_sound c p false grown m l h g = stays c p grown m l g (h refl)
 
-    page_there : (c : Value) → c ≡ Ref (place_of MethodClass) → is_some (object_at s.memory c) ≡ true
-    page_there c e = subst (λ v. is_some (object_at s.memory v) ≡ true) (sym e) (sound.page MethodClass)
+    page_there : (c : Value) → c ≡ Ref (place_of MethodClass) → IsClassFor s.memory kind.Method c
+    page_there c e = page_class s sound MethodClass kind.Method refl c e
 
     size_gives : (os : List NewObject) → Gives s (check_size os) Any
     unfolding check_size
@@ -333,29 +335,25 @@ module _ (s : State Table) (sound : IsSoundTable s.memory) (class : Value) (has 
         (λ c q. gives_answer s _ _
         (subst (λ v. IsSoundPlan s.memory (plan_for v c p b grown)) (sym e) (either_sound c p b grown (page_there c q) l h g))))))))
 
-  pub plan_gives : (symbol_table association : Value) (meta : Bool) → is_there bounded_table s.memory association ≡ true
+  pub plan_gives : (symbol_table association : Value) (meta : Bool) → HasFields s.memory association 2
       → Gives s (plan table symbol_table association class meta parts) (λ x. IsSoundPlan s.memory x)
   unfolding plan
   plan_gives symbol_table association meta a =
       gives_then s _ _ _ _ (symbols_give s sound symbol_table (parts.selector ∷ symbols_in parts.literals))
-      (λ symbols hs. gives_then s (λ ls. AreSoundPlaced s.memory (length symbols.objects) ls) _ _ _
-      (literals_give s sound symbols.named (place_owner table association class meta) (length symbols.objects) hs.named
+      (λ symbols hs. gives_then s (λ ls. AreSoundPlaced s.memory (length symbols.objects) ls × (length ls.parts ≡ length parts.literals)) _ _ _
+      (all_literals_give s sound symbols.named (place_owner table association class meta) (length symbols.objects) hs.named
       (λ next. owner_gives s sound association class meta next a (there_at s.memory class has.field.object has.field.is)) (length symbols.objects) parts.literals (omega arith))
       (λ ls hl. gives_then s _ _ _ _ (gives_or_die s dead.Field (symbol_part symbols.named parts.selector))
-      (λ p e. objects_give symbols hs ls hl p (named_part s.memory (length symbols.objects) symbols.named parts.selector p hs.named e))))
+      (λ p e. objects_give symbols hs ls hl.0 hl.1 p (named_part s.memory (length symbols.objects) symbols.named parts.selector p hs.named e))))
 
-  association_gives : (globals : Value) (name : List ℕ) → Gives s (class_association table globals name) (λ v. is_there bounded_table s.memory v ≡ true)
+  association_gives : (globals : Value) (name : List ℕ) → Gives s (class_association table globals name) (λ v. HasFields s.memory v 2)
   unfolding class_association
   association_gives globals name =
       gives_then s _ _ _ _ (gives_member s sound globals name)
       (λ found h. gives_then s _ _ _ _ (gives_or_die s dead.Field found)
       (λ v e. gives_then s _ _ _ _ (gives_field s v 1)
       (λ c f. gives_next s _ _ _ _ (gives_checked s sound c class_fields)
-      (λ a k. gives_answer s _ v (found_there found v e h)))))
-    where
-      found_there : (x : Option Value) (v : Value) → x ≡ Some v → IfAny (λ v. is_there bounded_table s.memory v ≡ true) x → is_there bounded_table s.memory v ≡ true
-      found_there None v e h = cc
-      found_there (Some w) v e h = let q : w ≡ v = cc in subst (λ y. is_there bounded_table s.memory y ≡ true) q h
+      (λ a k. gives_answer s _ v (has_two s sound v c f)))))
 
   pub planned_gives : (head : Head) (name : List ℕ) (meta : Bool) → Gives s (planned table head class name meta parts) (λ x. IsSoundPlan s.memory x)
   unfolding planned

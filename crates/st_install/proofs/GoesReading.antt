@@ -1,18 +1,21 @@
 -- Steps that only read a table, and what is so of their answers where they go.
 use Rattle.std.proofs.Common.{◌≡◌, ℕ, length, Option, Some, None, Bool, true, false, refl, sym, ap, ◌∙◌, subst, is_some}
-use Rattle.std.specs.Prelude.{slice_get, if◌then◌else◌}
+use Rattle.std.specs.Prelude.{◌==◌, slice_get, if◌then◌else◌}
 use Rattle.st_model.specs.declared.dead.Dead.{Dead}
 use Rattle.st_model.specs.declared.dead.Dead.TheVariants as dead
 use Rattle.st_model.specs.declared.page.PageObject.{PageObject}
-use Rattle.st_model.specs.declared.page.PageObject.TheVariants.{SmallIntegerClass}
+use Rattle.st_model.specs.declared.page.PageObject.TheVariants.{SmallIntegerClass, MethodClass}
 use Rattle.st_model.specs.Values.{Value, Small, Ref}
-use Rattle.st_model.specs.Objects.{Object, place_of, is_pointers}
+use Rattle.st_model.specs.declared.kind.Kind.{Kind}
+use Rattle.st_model.specs.declared.kind.Kind.TheVariants as kind
+use Rattle.st_model.specs.Objects.{Object, place_of, is_pointers, is_method}
 use Rattle.st_model.specs.Machine.{State, Transition, Died, Went, Step, is_there, after, answer, die, or_left, tried, ◌>>=◌, ◌>>◌}
 use Rattle.st_model.specs.Steps.{of_page, found, object_named, object, check, or_die, class_of, fetch_field, count_fields, named_or_not}
 use Rattle.st_model.specs.Steps.{object_at as object_bearing}
 use Rattle.st_model.specs.Primitives.{bits_or_die}
 use Rattle.st_model.specs.Table.{Table, entry, table, bounded_table}
 use Rattle.st_install.proofs.Goes.{object_at}
+use Rattle.st_install.proofs.GoesMaking.{IsClassFor}
 
 -- where it goes it leaves the state as it was, and this is so of its answer
 pub record Gives {A : Type 0} (s : State Table) (m : Step Table A) (Q : A → Type 0) : Type 0 where
@@ -60,6 +63,9 @@ module _ {A B : Type 0} (s : State Table) (P : A → Type 0) (Q : B → Type 0) 
 
 pub gives_less : {A : Type 0} (s : State Table) (m : Step Table A) (P Q : A → Type 0) → Gives s m P → ((a : A) → P a → Q a) → Gives s m Q
 gives_less s m P Q g h = record { gives = λ a u e. ((g.gives a u e).0, h a (g.gives a u e).1) }
+
+pub gives_both : {A : Type 0} (s : State Table) (m : Step Table A) (P Q : A → Type 0) → Gives s m P → Gives s m Q → Gives s m (λ a. P a × Q a)
+gives_both s m P Q g h = record { gives = λ a u e. ((g.gives a u e).0, ((g.gives a u e).1, (h.gives a u e).1)) }
 
 -- anything may be so
 abbrev pub Any : {A : Type 0} → A → Type 0
@@ -161,9 +167,41 @@ module _ (s : State Table) where
 pub record IsSoundTable (t : Table) : Type 0 where
   pub page : (q : PageObject) → is_some (object_at t (Ref (place_of q))) ≡ true
   pub class : (v : Value) (o : Object) → object_at t v ≡ Some o → is_some (object_at t (Ref o.class)) ≡ true
+  pub methods : (v : Value) (o : Object) → object_at t v ≡ Some o → is_method o.kind ≡ (o.class == place_of MethodClass)
   pub values : (v : Value) (o : Object) → object_at t v ≡ Some o → (i : ℕ) (x : Value) → slice_get o.fields i ≡ Some x → is_there bounded_table t x ≡ true
 
+ref_class : (t : Table) (k : Kind) (m : ℕ) → is_some (object_at t (Ref m)) ≡ true → is_method k ≡ (m == place_of MethodClass) → IsClassFor t k (Ref m)
+ref_class t k m h e = record { there = h; kind = λ n q. e ∙ ap (λ i. i == place_of MethodClass) (same_name m n q) }
+  where
+    same_name : (m n : ℕ) → Ref m ≡ Ref n → m ≡ n
+    same_name m n q = cc
+
+no_method : (k : Kind) → is_pointers k ≡ true → is_method k ≡ false
+no_method kind.Pointers e = refl
+no_method kind.Words e = refl
+no_method kind.Bytes e = refl
+no_method kind.Method e = sym e
+
 module _ (s : State Table) (sound : IsSoundTable s.memory) where
+  -- a class of the page
+  pub page_class : (q : PageObject) (k : Kind) → is_method k ≡ (place_of q == place_of MethodClass) → (c : Value) → c ≡ Ref (place_of q) → IsClassFor s.memory k c
+  page_class q k e c f = subst (λ x. IsClassFor s.memory k x) (sym f) (ref_class s.memory k (place_of q) (sound.page q) e)
+
+  -- the class of an object of kind Pointers
+  pub gives_class_of : (v : Value) (o : Object) → object_at s.memory v ≡ Some o → is_pointers o.kind ≡ true → Gives s (class_of table v) (λ c. IsClassFor s.memory kind.Pointers c)
+  unfolding class_of
+  gives_class_of (Small n) o e p = cc
+  gives_class_of (Ref n) o e p =
+      gives_then s (λ a. entry s.memory n ≡ Some a) _ (object_named table n) _ (named_gives s n)
+      (λ a f. gives_answer s _ (Ref a.class)
+      (ref_class s.memory kind.Pointers a.class (sound.class (Ref n) a f) (sym (no_method a.kind (pointers_too a f)) ∙ sound.methods (Ref n) a f)))
+    where
+      pointers_too : (a : Object) → entry s.memory n ≡ Some a → is_pointers a.kind ≡ true
+      pointers_too a f = let q : o ≡ a = some_same (sym e ∙ f) in subst (λ (x : Object). is_pointers x.kind ≡ true) q p
+        where
+          some_same : {a b : Object} → Some a ≡ Some b → a ≡ b
+          some_same q = cc
+
   pub field_there : (v : Value) (i : ℕ) (x : Value) → IsField s.memory v i x → is_there bounded_table s.memory x ≡ true
   field_there v i x h = sound.values v h.object h.is i x h.field
 

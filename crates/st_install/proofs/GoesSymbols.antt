@@ -1,8 +1,9 @@
 -- What is planned for Symbols is sound.
-use Rattle.std.proofs.Common.{◌≡◌, ℕ, ◌+◌, ◌<◌, ◌≤◌, zero, suc, List, [], ◌∷◌, ◌++◌, length, Option, Some, None, Bool, true, false, refl, sym, ap, subst, arith, is_some, length-append, length-set}
+use Rattle.std.proofs.Common.{◌≡◌, ℕ, ◌+◌, ◌<◌, ◌≤◌, zero, suc, List, [], ◌∷◌, ◌++◌, length, Option, Some, None, Bool, true, false, refl, sym, ap, subst, arith, length-append, length-set}
 use Rattle.std.specs.Prelude.{map, cond, nat_lt, bytes_eq, option_map, if◌then◌else◌}
 use Rattle.std.proofs.lemmas.Bool.Decides.{nat_tests}
 use Rattle.std.proofs.lemmas.Option.{slice_get_within}
+use Rattle.st_model.specs.declared.kind.Kind.TheVariants as kind
 use Rattle.st_model.specs.declared.page.PageObject.TheVariants.{NilObject, ArrayClass, SymbolClass}
 use Rattle.st_model.specs.Values.{Value}
 use Rattle.st_model.specs.Machine.{State, Step, is_there}
@@ -14,11 +15,10 @@ use Rattle.st_model.specs.Table.{Table, table, bounded_table}
 use Rattle.st_install.specs.Plans.{Part, There, Made, bytes_object, pointers_object}
 use Rattle.st_install.specs.Tables.{check_fields, bytes_of, member_key, member_name, has_name, found_or, first_from, first_field, member_named}
 use Rattle.st_install.specs.Symbols.{symbol_text, is_symbol, symbol_named, NamedSymbol, symbol_part, Symbols, vacant_field, grown_fields, symbol_in_field, symbol_in_array, with_new_symbol, make_symbol, found_or_made, seek_unless, with_symbol, with_symbols, symbols_there, symbols_for}
-use Rattle.st_install.proofs.Goes.{object_at}
-use Rattle.st_install.proofs.GoesMaking.{CanMake}
+use Rattle.st_install.proofs.GoesMaking.{IsClassFor, CanMake}
 use Rattle.st_install.proofs.GoesStoring.{HasFields}
 use Rattle.st_install.proofs.GoesInstalling.{IsSoundPart, AreSoundParts, AreSoundObjects, PartHas, AreSoundStores}
-use Rattle.st_install.proofs.GoesReading.{Gives, gives_answer, gives_then, gives_next, gives_less, Any, IfAny, gives_tried, gives_check, gives_page, gives_object, IsField, gives_field, IsCount, gives_count, IsSoundTable, field_there, gives_class}
+use Rattle.st_install.proofs.GoesReading.{Gives, gives_answer, gives_then, gives_next, gives_less, Any, IfAny, gives_tried, gives_check, gives_page, gives_object, IsField, gives_field, IsCount, gives_count, IsSoundTable, field_there, page_class, gives_class}
 use Rattle.st_install.proofs.GoesPlans.{get_seam, part_more, parts_more, objects_more, parts_append, objects_append, can_make_append, parts_set, parts_replicate, part_has_more, part_has_fewer, stores_more, stores_append}
 
 -- MEMBERS
@@ -120,7 +120,7 @@ module _ (t : Table) where
     pub named : AreNamed t (length x.objects) x.named
 
   module _ (nil array_class symbol_class association : Value) (text : List ℕ) (x : Symbols) (h : AreSoundSymbols x)
-      (nil_there : is_there bounded_table t nil ≡ true) (array : is_some (object_at t array_class) ≡ true) (symbol : is_some (object_at t symbol_class) ≡ true)
+      (nil_there : is_there bounded_table t nil ≡ true) (array : IsClassFor t kind.Pointers array_class) (symbol : IsClassFor t kind.Bytes symbol_class)
       (fields : HasFields t association 2) where
     one_longer : length (x.objects ++ bytes_object symbol_class text ∷ []) ≡ length x.objects + 1
     one_longer = length-append x.objects _
@@ -179,8 +179,8 @@ module _ (s : State Table) (sound : IsSoundTable s.memory) (association : Value)
       (λ array f. gives_then s _ _ _ _ (gives_page s SymbolClass)
       (λ symbol g. gives_answer s _ _ (new_sound s.memory nil array symbol association text x h
       (subst (λ v. is_there bounded_table s.memory v ≡ true) (sym e) (sound.page NilObject))
-      (subst (λ v. is_some (object_at s.memory v) ≡ true) (sym f) (sound.page ArrayClass))
-      (subst (λ v. is_some (object_at s.memory v) ≡ true) (sym g) (sound.page SymbolClass)) fields))))
+      (page_class s sound ArrayClass kind.Pointers refl array f)
+      (page_class s sound SymbolClass kind.Bytes refl symbol g) fields))))
 
   found_or_gives : (text : List ℕ) (x : Symbols) (found : Option Value) → AreSoundSymbols s.memory x → IsFound s sound found
       → Gives s (found_or_made table association text x found) (λ y. AreSoundSymbols s.memory y)
@@ -229,7 +229,7 @@ module _ (s : State Table) (sound : IsSoundTable s.memory) where
     named = tt;
   }
 
-  has_two : (v x : Value) → IsField s.memory v 1 x → HasFields s.memory v 2
+  pub has_two : (v x : Value) → IsField s.memory v 1 x → HasFields s.memory v 2
   has_two v x f = record { object = f.object; is = f.is; pointers = f.pointers; enough = let l = slice_get_within f.object.fields 1 x f.field in omega (arith, l) }
 
   pub symbols_give : (association : Value) (texts : List (List ℕ)) → Gives s (symbols_for table association texts) (λ y. AreSoundSymbols s.memory y)

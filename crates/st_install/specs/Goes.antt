@@ -1,7 +1,10 @@
 -- An installation that is ready never fails.
-use Rattle.std.specs.Prelude.{◌≡◌, ℕ, ◌<◌, List, Bool, true, Ok}
-use Rattle.st_model.specs.Values.{Value, value_of, is_small}
-use Rattle.st_model.specs.Objects.{size_of}
+use Rattle.std.specs.Prelude.{◌≡◌, ℕ, ◌<◌, ◌==◌, length, List, [], ◌∷◌, Bool, true, false, Ok}
+use Rattle.std.specs.List.{AllByRecursion}
+use Rattle.st_model.specs.declared.page.PageObject.TheVariants.{MethodClass}
+use Rattle.st_model.specs.Values.{Value, Ref, value_of, is_small}
+use Rattle.st_model.specs.Objects.{size_of, is_words, is_method, place_of}
+use Rattle.st_model.specs.Formed.{literals_of}
 use Rattle.st_model.specs.Machine.{State, Went}
 use Rattle.st_model.specs.Table.{Table, table, bounded_table}
 use Rattle.st_model.specs.View.{View, IsWhole, is_live, object_of}
@@ -9,14 +12,15 @@ use Rattle.st_model.specs.Calls.{Changes, itself}
 use Rattle.st_tree.specs.Views.{MethodView}
 use Rattle.st_emit.specs.Names.{NamesView}
 use Rattle.st_code.specs.Methods.{PartsView}
-use Rattle.st_install.specs.Plans.{Plan}
+use Rattle.st_install.specs.Plans.{Part, There, Made, NewObject, Plan}
 use Rattle.st_install.specs.Calls.{names, ready}
 use Rattle.st_install.specs.Installing.{install}
 
--- the header is a SmallInteger, as that of each compiled method is
-pub record IsHeaderWord (header : ℕ) : Type 0 where
-  pub small : is_small (value_of header) ≡ true
-  pub word : header < 65536
+-- the header of parts is a SmallInteger that counts their literals, as that of each compiled method is
+pub record IsHeaded (parts : PartsView) : Type 0 where
+  pub small : is_small (value_of parts.header) ≡ true
+  pub word : parts.header < 65536
+  pub count : literals_of (value_of parts.header) ≡ length parts.literals
 
 -- A plan that is ready over what a memory contains: `names` has answered for the class, and `ready` this plan for parts.
 pub record IsReadyFor (v : View) (p : Plan) : Type 0 where
@@ -26,7 +30,7 @@ pub record IsReadyFor (v : View) (p : Plan) : Type 0 where
   pub tree : MethodView
   pub seen : NamesView
   pub parts : PartsView
-  pub header : IsHeaderWord parts.header
+  pub headed : IsHeaded parts
   pub named : (s : State Table) → s.memory ≡ v.objects → (names table v.head class meta tree).run s ≡ Went (Ok seen) s
   pub ready : (s : State Table) → s.memory ≡ v.objects → (ready table v.head class name meta parts).run s ≡ Went (Ok p) s
 
@@ -45,3 +49,21 @@ pub record Installs (v : View) (p : Plan) : Type 0 where
 -- what is ready is installed, in a memory that makes an object only where there is room
 abbrev pub ReadyInstalls : Type 0
 ReadyInstalls = (v : View) (p : Plan) → IsWhole v → IsReadyFor v p → Installs v p
+
+-- OBJECTS
+
+-- a header that is there, and counts the literals behind it
+abbrev pub HasHeader : List Part → Type 0
+HasHeader [] = ⊥
+HasHeader (Made k ∷ literals) = ⊥
+HasHeader (There header ∷ literals) = (is_small header ≡ true) × (literals_of header ≡ length literals)
+
+-- an object that is made has the class that its kind asks for, a Method a header that counts its literals, and none is of kind Words
+pub record IsOfKind (o : NewObject) : Type 0 where
+  pub kind : is_words o.kind ≡ false
+  pub method : (class : ℕ) → o.class ≡ Ref class → is_method o.kind ≡ (class == place_of MethodClass)
+  pub header : is_method o.kind ≡ true → HasHeader o.fields
+
+-- so are all objects of a plan that is ready
+abbrev pub ReadyObjects : Type 0
+ReadyObjects = (v : View) (p : Plan) → IsWhole v → IsReadyFor v p → AllByRecursion IsOfKind p.objects
