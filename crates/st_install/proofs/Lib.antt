@@ -21,3 +21,17 @@ pub mod TextsOf
 pub mod PoolsOf
 pub mod Walking
 pub mod LineageOf
+pub mod Goes
+pub mod GoesMaking
+pub mod GoesFilling
+pub mod GoesSeeking
+pub mod GoesRefilling
+pub mod GoesStoring
+pub mod GoesInstalling
+pub mod GoesReading
+pub mod GoesPlans
+pub mod GoesSymbols
+pub mod GoesLiterals
+pub mod GoesPlanning
+pub mod GoesNames
+pub mod GoesLaw

@@ -19,3 +19,4 @@ pub mod Findings
 pub mod Lineages
 pub mod Walks
 pub mod Alike
+pub mod Goes
