@@ -10,3 +10,7 @@ pub mod Tallies
 pub mod SymbolsAt
 pub mod LeftTables
 mod Lineages
+pub mod SameReads
+pub mod SameSteps
+pub mod SameTables
+pub mod SameNames

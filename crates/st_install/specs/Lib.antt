@@ -12,3 +12,5 @@ pub mod Planning
 pub mod Installing
 pub mod Calls
 pub mod Meanings
+pub mod SamePlans
+pub mod Same
