@@ -14,3 +14,9 @@ pub mod SameReads
 pub mod SameSteps
 pub mod SameTables
 pub mod SameNames
+pub mod SameParts
+pub mod SameSymbols
+pub mod SameLiterals
+pub mod SamePlaces
+pub mod SamePlanning
+pub mod SameCalls

@@ -1,7 +1,7 @@
 -- What joins the calls over a table to those over births: where the table shows the births, they answer the same, and what is
 -- installed in both is shown again.
-use Rattle.std.specs.Prelude.{◌≡◌, ℕ, List, Bool, Ok}
-use Rattle.st_model.specs.Values.{Value, renamed, IsLive}
+use Rattle.std.specs.Prelude.{◌≡◌, ℕ, List, Bool, true, Ok}
+use Rattle.st_model.specs.Values.{Value, value_of, is_small, renamed, IsLive}
 use Rattle.st_model.specs.Machine.{State, Transition, Died, Went, Step}
 use Rattle.st_model.specs.Births.{Births, births}
 use Rattle.st_model.specs.Table.{Table, table, bounded_table}
@@ -41,9 +41,14 @@ abbrev pub NamesShow : Type 0
 NamesShow = (class : Value) (meta : Bool) (tree : MethodView) (c : State Table) (s : State Births) → Shows c s → IsLive (IsKept s.memory) class
     → AnswersAlike IsNameless as_it_was (names table c.head (renamed (pointer_of s.memory) class) meta tree) (names births s.head class meta tree) c s
 
+-- a header is a SmallInteger, as that of each compiled method is; any other word would name something
+abbrev pub HasHeader : PartsView → Type 0
+HasHeader parts = is_small (value_of parts.header) ≡ true
+
 -- the plan of a kept class's method, or why there is none
 abbrev pub ReadyShows : Type 0
 ReadyShows = (class : Value) (name : List ℕ) (meta : Bool) (parts : PartsView) (c : State Table) (s : State Births) → Shows c s → IsLive (IsKept s.memory) class
+    → HasHeader parts
     → AnswersAlike IsLiveReady renamed_ready (ready table c.head (renamed (pointer_of s.memory) class) name meta parts) (ready births s.head class name meta parts) c s
 
 -- a plan, which is ready over these births for a method of a kept class
@@ -53,6 +58,7 @@ pub record IsReady (p : Plan) (s : State Births) : Type 0 where
   pub meta : Bool
   pub parts : PartsView
   pub kept : IsLive (IsKept s.memory) class
+  pub header : HasHeader parts
   pub ready : (ready births s.head class name meta parts).run s ≡ Went (Ok p) s
 
 -- what is installed in a running machine's table, which makes an object only where there is room, is what is installed in the births
