@@ -20,3 +20,6 @@ pub mod SameLiterals
 pub mod SamePlaces
 pub mod SamePlanning
 pub mod SameCalls
+pub mod SameFilling
+pub mod SameRooms
+pub mod SameInstalls
