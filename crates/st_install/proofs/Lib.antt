@@ -23,3 +23,5 @@ pub mod SameCalls
 pub mod SameFilling
 pub mod SameRooms
 pub mod SameInstalls
+pub mod SameAnswers
+pub mod SameHeaders

@@ -1,32 +1,27 @@
 -- The calls that read, over births and over a table that shows them: they answer the same, and change nothing.
-use Rattle.std.proofs.Common.{◌≡◌, ℕ, List, [], ◌∷◌, ◌++◌, Option, Some, None, Bool, true, false, Result, Ok, Err, refl, sym, ap, ◌∙◌, length, is_some}
-use Rattle.std.specs.Prelude.{◌+◌}
-use Rattle.st_model.specs.declared.dead.Dead.{Dead}
+use Rattle.std.proofs.Common.{◌≡◌, ℕ, List, [], ◌∷◌, Option, Some, None, Bool, true, false, Result, Ok, Err, refl, ap, ◌∙◌, is_some}
 use Rattle.st_model.specs.declared.demand.Demand.{Demand}
-use Rattle.st_model.specs.Values.{Value, renamed, IsLive, AllLive}
+use Rattle.st_model.specs.Values.{Value, renamed, AllLive}
 use Rattle.st_model.specs.Machine.{Head, State, Transition, Died, Went, Step, answer, after, ◌>>=◌, or_left, tried, used, is_over, table_root, head_roots}
 use Rattle.st_model.specs.Births.{Births, births}
 use Rattle.st_model.specs.Table.{Table, table}
-use Rattle.st_model.specs.Show.{pointer_of, IsKept, Shows, renamed_option, renamed_head}
 use Rattle.st_model.proofs.Names.{all_append}
 use Rattle.st_model.proofs.Same.{IsLiveOption}
 use Rattle.st_model.proofs.HeapsSame.{same_used}
 use Rattle.st_model.proofs.Started.{naming, heaps_start}
 use Rattle.st_tree.specs.Views.{MethodView}
-use Rattle.st_emit.specs.Names.{NamesView}
 use Rattle.st_code.specs.Methods.{PartsView}
 use Rattle.st_install.specs.declared.fault.InstallFault.{InstallFault}
-use Rattle.st_install.specs.declared.fault.InstallFault.TheVariants.{NoClass, NoGlobals, NoRoom, Shape}
+use Rattle.st_install.specs.declared.fault.InstallFault.TheVariants.{NoClass, NoRoom}
 use Rattle.st_install.specs.Plans.{NewObject, Plan, words_of_all, demand_of_all}
-use Rattle.st_install.specs.Mentions.{mentioned_in}
 use Rattle.st_install.specs.Calls.{or_fault, class_among, class_of_name, as_table, names_seen, names, both, is_crowded, room_or, with_room, planned, ready}
-use Rattle.st_install.specs.SamePlans.{renamed_objects, renamed_plan, IsLivePlan, renamed_class, IsLiveClass, renamed_ready, IsLiveReady, as_it_was, IsNameless}
+use Rattle.st_install.specs.SamePlans.{renamed_objects, renamed_plan, renamed_class, IsLiveClass, renamed_ready, IsLiveReady, as_it_was, IsNameless}
 use Rattle.st_install.specs.Same.{AnswersAlike, HasHeader, ClassShows, NamesShow, ReadyShows}
-use Rattle.st_install.proofs.SameReads.{Shown, lives, name, TransitionAlike, Alike, ValueAlike, ValuesAlike, OptionalAlike, AlikeValue, AlikeOption, AlikeAnswer, IsLiveAny, any_renamed, then-alike, then_value-alike, then_option-alike, then_answer-alike, answer-alike, tried-alike, tried_value-alike, tried_itself-alike, no_values-alike, joins_alike}
+use Rattle.st_install.proofs.SameReads.{Shown, lives, name, TransitionAlike, Alike, ValueAlike, ValuesAlike, OptionalAlike, AlikeAnswer, IsLiveAny, any_renamed, then-alike, then_value-alike, then_option-alike, then_answer-alike, answer-alike, tried-alike, tried_value-alike, no_values-alike, joins_alike}
 use Rattle.st_install.proofs.SameSteps.{reads_alike, value_or_die-alike}
 use Rattle.st_install.proofs.SameTables.{class_association-alike, class_named-alike, lineage-alike, then_lineage-alike}
 use Rattle.st_install.proofs.SameNames.{append-alike, field_names-alike, pools-alike, shared_names-alike, check_dictionary-alike, check_symbols-alike}
-use Rattle.st_install.proofs.SameParts.{AllFormed, length-parts, length-objects}
+use Rattle.st_install.proofs.SameParts.{length-parts, length-objects}
 use Rattle.st_install.proofs.SamePlanning.{PlanLive, AlikePlan, plan-alike}
 
 -- A STEP THAT GOES ON from each state

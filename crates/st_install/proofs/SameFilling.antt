@@ -1,20 +1,18 @@
 -- What is made and stored for a plan: over births the same as over pointers.
-use Rattle.std.proofs.Common.{◌≡◌, ℕ, List, [], ◌∷◌, zero, suc, Option, Some, None, Bool, true, false, refl, sym, ap, length}
-use Rattle.std.specs.Prelude.{◌+◌, ◌*◌, get_or, if◌then◌else◌}
-use Rattle.st_model.specs.declared.dead.Dead.TheVariants as dead
+use Rattle.std.proofs.Common.{◌≡◌, ℕ, List, [], ◌∷◌, zero, suc, Option, Some, None, Bool, true, false, refl, sym, length}
+use Rattle.std.specs.Prelude.{get_or, if◌then◌else◌}
 use Rattle.st_model.specs.declared.kind.Kind.{Kind}
 use Rattle.st_model.specs.declared.kind.Kind.TheVariants as kind
-use Rattle.st_model.specs.declared.page.PageObject.TheVariants.{NilObject}
 use Rattle.st_model.specs.Values.{Value, Small, Ref, renamed, renamed_all, IsLive, AllLive}
-use Rattle.st_model.specs.Machine.{ObjectMemory, Step, answer, ◌>>=◌}
+use Rattle.st_model.specs.Machine.{ObjectMemory, Step, answer}
 use Rattle.st_model.specs.Steps.{store_fields}
-use Rattle.st_model.proofs.Same.{Simulation, ValueSame, ValuesSame, Same, SameValue, SameValues, SameAnswer, length-renamed, then-same, then_value-same, then_values-same, then_answer-same, then_unit-same, answer-same, answer_values-same, answer_itself-same, values-same, steps_same}
+use Rattle.st_model.proofs.Same.{Simulation, ValueSame, ValuesSame, Same, SameValue, SameValues, SameAnswer, length-renamed, then-same, then_value-same, then_values-same, then_unit-same, answer-same, answer_values-same, values-same, steps_same}
 use Rattle.st_model.proofs.StepsSame.{make-same, parts_same}
 use Rattle.st_model.proofs.LookupSame.{half_word-same}
 use Rattle.st_install.specs.Plans.{Part, There, Made, NewObject, Store, Plan}
 use Rattle.st_install.specs.Dictionaries.{Ending, Holds, Vacant, Nowhere, ends_at, seek_at, seek_among, seek_from, count_places, seek, place_of_selector, put_method, put_at, refill_unless, refill_from, refill_among, refill, raised_tally}
 use Rattle.st_install.specs.Installing.{size_by, literals_by, make_new, make_all, part_value, part_values, store_method_fields, fill_method, fill_by, fill_all, store_all, Placing, target, find_place, adopt, add_at, store_planned, fill_and_store, install}
-use Rattle.st_install.specs.SamePlans.{renamed_part, renamed_parts, renamed_new, renamed_objects, renamed_store, renamed_stores, renamed_plan, IsLivePart, AllLiveParts, IsLiveNew, AllLiveObjects, IsLiveStore, AllLiveStores, IsLivePlan}
+use Rattle.st_install.specs.SamePlans.{renamed_part, renamed_parts, renamed_new, renamed_objects, renamed_stores, renamed_plan, IsLivePart, AllLiveParts, IsLiveNew, AllLiveObjects, AllLiveStores, IsLivePlan}
 use Rattle.st_install.proofs.SameParts.{length-parts}
 
 size-renamed : (f : ℕ → ℕ) (k : Kind) (o : NewObject) → size_by k (renamed_new f o) ≡ size_by k o

@@ -1,18 +1,15 @@
 -- What is installed in a running machine's table is what is installed in the births that it shows.
-use Rattle.std.proofs.Common.{◌≡◌, ℕ, ◌+◌, ◌≤◌, List, [], ◌∷◌, Option, Some, None, Bool, true, false, Result, Ok, Err, refl, sym, ap, subst, ◌∙◌, arith, length, inl, inr}
+use Rattle.std.proofs.Common.{◌≡◌, ℕ, ◌≤◌, List, [], ◌∷◌, Option, Some, None, Bool, true, false, Ok, refl, sym, ap, subst, ◌∙◌, arith, inl, inr}
 use Rattle.std.specs.Prelude.{nat_lt, if◌then◌else◌}
 use Rattle.std.proofs.lemmas.Bool.Decides.{nat_tests}
-use Rattle.st_model.specs.declared.demand.Demand.{Demand}
-use Rattle.st_model.specs.Values.{Value, renamed, IsLive}
-use Rattle.st_model.specs.Objects.{one, words_of}
+use Rattle.st_model.specs.Values.{Value}
 use Rattle.st_model.specs.Outcomes as outcome
-use Rattle.st_model.specs.Machine.{ObjectMemory, Head, State, Transition, Died, Went, Step, answer, after, ◌>>=◌, or_left, tried, used, is_over}
+use Rattle.st_model.specs.Machine.{Head, State, Transition, Died, Went, answer, after, ◌>>=◌, tried, used, is_over}
 use Rattle.st_model.specs.Births.{Births, births}
-use Rattle.st_model.specs.Table.{Table, table, bounded_table, total_used}
+use Rattle.st_model.specs.Table.{Table, table, bounded_table}
 use Rattle.st_model.specs.Calls.{itself}
-use Rattle.st_model.specs.Settled.{reclaim}
 use Rattle.st_model.specs.Saving.{settled_after}
-use Rattle.st_model.specs.Show.{pointer_of, IsKept, Shows}
+use Rattle.st_model.specs.Show.{pointer_of, IsKept}
 use Rattle.st_model.specs.Foreseen.{IsSound}
 use Rattle.st_model.specs.Laws.{Runs}
 use Rattle.st_model.proofs.BirthLemmas.{pointer_of-borne}
@@ -25,12 +22,11 @@ use Rattle.st_model.proofs.Reclaimed.{went_step}
 use Rattle.st_model.proofs.Reclaiming.{reclaim_sound, reclaim_head}
 use Rattle.st_model.proofs.Closed.{sound_simulation, stays_sound}
 use Rattle.st_code.specs.Methods.{PartsView}
-use Rattle.st_install.specs.declared.fault.InstallFault.{InstallFault}
 use Rattle.st_install.specs.Plans.{Part, There, Made, NewObject, Store, Plan, words_of_all, demand_of_all}
 use Rattle.st_install.specs.Calls.{both, is_crowded, room_or, with_room, planned, ready}
 use Rattle.st_install.specs.Installing.{install}
 use Rattle.st_install.specs.SamePlans.{renamed_part, renamed_parts, renamed_objects, renamed_stores, renamed_plan, renamed_ready, IsLivePart, AllLiveParts, AllLiveObjects, AllLiveStores, IsLivePlan}
-use Rattle.st_install.specs.Same.{RunsOn, HasHeader, IsReady, InstallShows, InstallSettles}
+use Rattle.st_install.specs.Same.{RunsOn, IsReady, InstallShows, InstallSettles}
 use Rattle.st_install.proofs.SameReads.{Shown, TransitionAlike}
 use Rattle.st_install.proofs.SameParts.{AllFormed, length-parts, length-objects}
 use Rattle.st_install.proofs.SamePlanning.{PlanLive}

@@ -1,8 +1,8 @@
 -- The literals of a method, and what is made for them: over births the same as over a table that shows them.
-use Rattle.std.proofs.Common.{◌≡◌, ℕ, List, [], ◌∷◌, ◌++◌, zero, suc, Option, Some, None, Bool, true, false, refl, ap, length}
-use Rattle.std.specs.Prelude.{◌+◌, ◌/◌, nat_lt}
+use Rattle.std.proofs.Common.{◌≡◌, ℕ, List, [], ◌∷◌, zero, suc, Option, Some, None, Bool, true, false, refl, length}
+use Rattle.std.specs.Prelude.{◌+◌, nat_lt}
 use Rattle.st_model.specs.declared.dead.Dead.{Dead}
-use Rattle.st_model.specs.Values.{Value, Small, IsLive, renamed}
+use Rattle.st_model.specs.Values.{Value}
 use Rattle.st_model.specs.Machine.{Step, answer, ◌>>=◌}
 use Rattle.st_model.specs.Births.{Births, births}
 use Rattle.st_model.specs.Table.{Table, table}
@@ -10,14 +10,13 @@ use Rattle.st_model.specs.Steps.{or_die}
 use Rattle.st_tree.specs.declared.token.Signed.{Signed}
 use Rattle.st_emit.specs.Literals.{LiteralView, LiteralsView}
 use Rattle.st_emit.specs.Literals as literals
-use Rattle.st_install.specs.Plans.{Part, There, Made, NewObject, pointers_object, bytes_object}
-use Rattle.st_install.specs.Symbols.{NamedSymbol, symbol_part}
-use Rattle.st_install.specs.Literals.{Placed, PlacedAll, as_it_is, made_as, negated, large_bytes, place_size, place_signed, place_number, place_character, place_string, place_symbol, place_pointer, place_array, place_owner, then_placed, none_placed, place_literal, place_members, place_literals}
+use Rattle.st_install.specs.Plans.{Part, NewObject}
+use Rattle.st_install.specs.Symbols.{NamedSymbol}
+use Rattle.st_install.specs.Literals.{Placed, PlacedAll, as_it_is, made_as, negated, place_size, place_signed, place_number, place_character, place_string, place_symbol, place_pointer, place_array, place_owner, then_placed, none_placed, place_literal, place_members, place_literals}
 use Rattle.st_install.specs.SamePlans.{renamed_part, renamed_parts, renamed_objects, IsLivePart, AllLiveParts, AllLiveObjects}
-use Rattle.st_model.proofs.Same.{ValueNamed, small_integer-same}
-use Rattle.st_install.proofs.SameReads.{Shown, lives, name, Alike, ValueAlike, OptionalAlike, AlikeValue, AlikeAnswer, IsLiveAny, any_renamed, then-alike, then_value-alike, answer-alike, die-alike, joins_alike}
+use Rattle.st_install.proofs.SameReads.{Shown, lives, name, Alike, ValueAlike, IsLiveAny, any_renamed, then-alike, then_value-alike, answer-alike, die-alike}
 use Rattle.st_install.proofs.SameSteps.{reads_alike}
-use Rattle.st_install.proofs.SameParts.{AllFormed, PartNamed, PartsNamed, NewNamed, ObjectsNamed, length-objects, there-named, parts_named}
+use Rattle.st_install.proofs.SameParts.{AllFormed, PartNamed, PartsNamed, NewNamed, ObjectsNamed, length-objects, parts_named}
 use Rattle.st_install.proofs.SameSymbols.{renamed_known, AllKnown, symbol_part-renamed, symbol_part-live}
 
 pub record IsLivePlaced (live : ℕ → Type 0) (p : Placed) : Type 0 where

@@ -1,10 +1,9 @@
 -- Parts, objects and stores of a plan that stand for one another: those of the births live, and those of the table are they with
 -- their names changed.
-use Rattle.std.proofs.Common.{◌≡◌, ℕ, ◌<◌, List, [], ◌∷◌, ◌++◌, zero, suc, length, refl, ap, Option, Some, None, Bool, true, false, arith}
-use Rattle.std.specs.Prelude.{map, replicate, slice_set, slice_get, get_or}
-use Rattle.st_model.specs.declared.kind.Kind.{Kind}
+use Rattle.std.proofs.Common.{◌≡◌, ℕ, ◌<◌, List, [], ◌∷◌, ◌++◌, zero, suc, length, refl, ap, true, false, arith}
+use Rattle.std.specs.Prelude.{map, replicate, slice_set}
 use Rattle.st_model.specs.declared.kind.Kind.TheVariants.{Pointers, Bytes, Method}
-use Rattle.st_model.specs.Values.{Value, renamed, renamed_all, IsLive, AllLive}
+use Rattle.st_model.specs.Values.{Value, renamed, renamed_all, AllLive}
 use Rattle.st_model.specs.Objects.{is_words, is_method}
 use Rattle.st_model.proofs.Same.{ValueNamed, ValuesNamed}
 use Rattle.st_install.specs.Plans.{Part, There, Made, NewObject, Store, pointers_object, bytes_object, method_object}

@@ -1,6 +1,5 @@
 -- Places in dictionaries, and how a dictionary grows: over births the same as over a table that shows them.
-use Rattle.std.proofs.Common.{◌≡◌, ℕ, List, [], ◌∷◌, zero, suc, Bool, true, false, refl}
-use Rattle.std.specs.Prelude.{◌+◌, ◌*◌, replicate}
+use Rattle.std.proofs.Common.{◌≡◌, ℕ, List, zero, suc, Bool, true, false, refl}
 use Rattle.st_model.specs.Values.{Value, renamed}
 use Rattle.st_model.specs.Machine.{Step, answer}
 use Rattle.st_model.specs.Births.{Births, births}
@@ -10,7 +9,7 @@ use Rattle.st_install.specs.Dictionaries.{Ending, Holds, Vacant, Nowhere, ends_a
 use Rattle.st_install.specs.SamePlans.{renamed_part, renamed_objects, IsLivePart, AllLiveObjects}
 use Rattle.st_install.proofs.SameReads.{Shown, lives, name, Alike, ValueAlike, AlikeAnswer, answer-alike, joins_alike}
 use Rattle.st_install.proofs.SameSteps.{reads_alike}
-use Rattle.st_install.proofs.SameParts.{AllFormed, PartNamed, ObjectsNamed, parts_named}
+use Rattle.st_install.proofs.SameParts.{AllFormed, ObjectsNamed, parts_named}
 
 -- objects of a plan, each of which has its form
 abbrev pub ObjectsLive : (ℕ → Type 0) → List NewObject → Type 0

@@ -1,6 +1,6 @@
 -- What an installation makes and stores: over births the same as over a table that shows them.
-use Rattle.std.proofs.Common.{◌≡◌, ℕ, List, [], ◌∷◌, ◌++◌, Option, Some, None, Bool, true, false, refl, ap, length}
-use Rattle.std.specs.Prelude.{◌+◌, ◌&&◌, nat_le}
+use Rattle.std.proofs.Common.{◌≡◌, ℕ, List, [], ◌∷◌, ◌++◌, Some, Bool, true, false, refl, ap, length}
+use Rattle.std.specs.Prelude.{◌+◌}
 use Rattle.st_model.specs.declared.dead.Dead.TheVariants as dead
 use Rattle.st_model.specs.Values.{Value, Small, Ref, is_small, value_of}
 use Rattle.st_model.specs.Machine.{Step, answer, ◌>>=◌}
@@ -9,19 +9,19 @@ use Rattle.st_model.specs.Births.{Births, births}
 use Rattle.st_model.specs.Table.{Table, table}
 use Rattle.st_model.proofs.Same.{ValueNamed}
 use Rattle.st_code.specs.Methods.{PartsView}
-use Rattle.st_install.specs.Plans.{Part, There, Made, NewObject, Plan, method_object}
-use Rattle.st_install.specs.Symbols.{Symbols, symbols_in, symbol_part, symbols_for}
+use Rattle.st_install.specs.Plans.{Part, Made, NewObject, Plan}
+use Rattle.st_install.specs.Symbols.{Symbols, symbols_in, symbol_part}
 use Rattle.st_install.specs.Literals.{PlacedAll, place_owner, place_literals}
-use Rattle.st_install.specs.Shapes.{most_body, all_fit, check_size}
+use Rattle.st_install.specs.Shapes.{all_fit, check_size}
 use Rattle.st_install.specs.Planning.{method_number, objects_with_method, grown_number, grown_if, plan_objects, plan}
 use Rattle.st_install.specs.SamePlans.{renamed_part, renamed_objects, renamed_plan, IsLivePart, IsLivePlan}
 use Rattle.st_install.specs.Same.{HasHeader}
-use Rattle.st_install.proofs.SameReads.{Shown, lives, name, Alike, ValueAlike, AlikeAnswer, then-alike, then_value-alike, then_answer-alike, then_unit-alike, answer-alike, joins_alike}
-use Rattle.st_install.proofs.SameSteps.{reads_alike, fetch_field-alike, of_page-alike, check-alike}
-use Rattle.st_install.proofs.SameParts.{AllFormed, PartNamed, PartsNamed, ObjectsNamed, StoresNamed, length-parts, length-objects, made-named, there-named, parts-named, method_object-named, no_objects-named, objects-named, append_objects-named, parts_named}
+use Rattle.st_install.proofs.SameReads.{Shown, lives, name, Alike, ValueAlike, AlikeAnswer, then-alike, then_value-alike, then_answer-alike, then_unit-alike, answer-alike}
+use Rattle.st_install.proofs.SameSteps.{reads_alike, fetch_field-alike, check-alike}
+use Rattle.st_install.proofs.SameParts.{AllFormed, PartNamed, ObjectsNamed, StoresNamed, length-parts, length-objects, no_objects-named, append_objects-named, parts_named}
 use Rattle.st_install.proofs.SameSymbols.{IsLiveSymbols, renamed_symbols, symbols-itself, symbols_for-alike, symbol_part-renamed, symbol_part-live}
 use Rattle.st_install.proofs.SameLiterals.{IsLivePlacedAll, renamed_placed_all, all-itself, part_or_die-alike, place_owner-alike, place_literals-alike}
-use Rattle.st_install.proofs.SamePlaces.{ObjectsLive, AlikeObjects, answer_objects-alike, grows_for-alike, grown_objects-alike}
+use Rattle.st_install.proofs.SamePlaces.{AlikeObjects, answer_objects-alike, grows_for-alike, grown_objects-alike}
 
 -- a plan of what lives, whose objects have their forms
 pub record PlanLive (live : ℕ → Type 0) (p : Plan) : Type 0 where

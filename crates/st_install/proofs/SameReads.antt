@@ -4,15 +4,14 @@ use Rattle.std.specs.Prelude.{slice_get, ◌==◌}
 use Rattle.std.proofs.lemmas.Bool.Decides.{nat_tests}
 use Rattle.st_model.specs.declared.dead.Dead.{Dead}
 use Rattle.st_model.specs.Values.{Value, Small, Ref, renamed, renamed_all, IsLive, AllLive}
-use Rattle.st_model.specs.declared.page.PageObject.{PageObject}
-use Rattle.st_model.specs.Objects.{Object, place_of, renamed_object, IsLiveObject}
+use Rattle.st_model.specs.Objects.{Object, renamed_object, IsLiveObject}
 use Rattle.st_model.specs.Machine.{State, Transition, Died, Went, Step, answer, die, after, ◌>>=◌, ◌>>◌, or_left, tried}
-use Rattle.st_model.specs.Births.{Births, births, object_born, borne, is_borne, bearer}
-use Rattle.st_model.specs.Table.{Table, table, entry}
+use Rattle.st_model.specs.Births.{Births, borne}
+use Rattle.st_model.specs.Table.{Table}
 use Rattle.st_model.specs.Calls.{itself}
 use Rattle.st_model.specs.Steps.{same_value}
 use Rattle.st_model.specs.Show.{pointer_of, IsKept, Shows, renamed_option}
-use Rattle.st_model.proofs.BirthLemmas.{borne_before, pointer_of-borne, object_there, borne-bearer, is_borne-of}
+use Rattle.st_model.proofs.BirthLemmas.{pointer_of-borne}
 use Rattle.st_model.proofs.Same.{Anything, IsLiveOption, ValueNamed, ValuesNamed, OptionNamed, length-renamed}
 
 -- births, and a table that shows them

@@ -1,15 +1,15 @@
 -- A bounded table makes what a table makes, where there is room for all of it; and what makes nothing is the same in both.
-use Rattle.std.proofs.Common.{◌≡◌, ℕ, ◌+◌, ◌<◌, ◌≤◌, List, [], ◌∷◌, zero, suc, Option, Some, None, Bool, true, false, refl, sym, ap, subst, ◌∙◌, arith, length, inl, inr}
+use Rattle.std.proofs.Common.{◌≡◌, ℕ, ◌+◌, ◌<◌, ◌≤◌, List, [], ◌∷◌, Bool, true, false, refl, sym, ap, subst, arith, length, inl, inr}
 use Rattle.std.specs.Prelude.{◌-◌, ◌*◌, ◌&&◌, nat_le}
 use Rattle.std.proofs.lemmas.Bool.Decides.{nat_tests}
 use Rattle.std.proofs.lemmas.List.{length-replicate}
 use Rattle.st_model.specs.declared.kind.Kind.{Kind}
 use Rattle.st_model.specs.declared.kind.Kind.TheVariants as kind
 use Rattle.st_model.specs.declared.page.PageObject.TheVariants.{NilObject}
-use Rattle.st_model.specs.Values.{Value, Small, Ref, renamed, renamed_all, AllLive}
+use Rattle.st_model.specs.Values.{Value, Small, Ref}
 use Rattle.st_model.specs.Objects.{Object, is_words, is_method, one, words_of}
 use Rattle.st_model.specs.Formed.{fresh_with}
-use Rattle.st_model.specs.Machine.{Head, State, Transition, Died, Went, Step, is_there, has_room, answer, die, after, ◌>>=◌}
+use Rattle.st_model.specs.Machine.{Head, State, Transition, Died, Went, Step, is_there, has_room, die, after, ◌>>=◌}
 use Rattle.st_model.specs.Steps.{of_page, new_of, made, make_named, make}
 use Rattle.st_model.specs.Table.{Table, table, bounded_table, placed, total_used}
 use Rattle.st_model.specs.Calls.{itself}
@@ -18,7 +18,7 @@ use Rattle.st_model.proofs.Same.{TransitionSame, Anything, strict, strict_states
 use Rattle.st_model.proofs.Bounded.{same_name, value-itself, values-itself, total-placed, bounded_simulation, bounded_start, state_is}
 use Rattle.st_install.specs.Plans.{Part, There, Made, NewObject, Store, Plan, words_of_new, words_of_all}
 use Rattle.st_install.specs.Installing.{size_by, literals_by, make_new, make_all, fill_and_store, install}
-use Rattle.st_install.specs.SamePlans.{renamed_part, renamed_parts, renamed_new, renamed_objects, renamed_store, renamed_stores, renamed_plan, IsLivePart, AllLiveParts, AllLiveObjects, AllLiveStores, IsLivePlan}
+use Rattle.st_install.specs.SamePlans.{renamed_part, renamed_parts, renamed_objects, renamed_stores, renamed_plan, IsLivePart, AllLiveParts, AllLiveObjects, AllLiveStores, IsLivePlan}
 use Rattle.st_install.proofs.SameParts.{IsFormedNew, AllFormed}
 use Rattle.st_install.proofs.SameFilling.{fill_and_store-same}
 

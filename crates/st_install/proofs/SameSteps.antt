@@ -1,16 +1,16 @@
 -- Each step that reads fields, classes and pointers over births does the same over a table that shows them.
-use Rattle.std.proofs.Common.{◌≡◌, ℕ, List, [], ◌∷◌, zero, suc, Option, Some, None, Bool, true, false, refl, sym, ap, subst, ◌∙◌, is_some}
-use Rattle.std.specs.Prelude.{◌+◌, if◌then◌else◌}
+use Rattle.std.proofs.Common.{◌≡◌, ℕ, zero, suc, Option, Some, None, Bool, true, false, refl, sym, ap, subst, is_some}
+use Rattle.std.specs.Prelude.{if◌then◌else◌}
 use Rattle.st_model.specs.declared.dead.Dead.{Dead}
 use Rattle.st_model.specs.Values.{Value, Small, Ref, renamed}
 use Rattle.st_model.specs.declared.page.PageObject.{PageObject}
 use Rattle.st_model.specs.Objects.{Object, place_of, renamed_object, IsLiveObject}
 use Rattle.st_model.specs.Machine.{answer}
-use Rattle.st_model.specs.Births.{Births, births, object_born, borne, is_borne, bearer}
-use Rattle.st_model.specs.Table.{Table, table, entry}
-use Rattle.st_model.specs.Show.{IsKept, renamed_option}
+use Rattle.st_model.specs.Births.{births, object_born, is_borne, bearer}
+use Rattle.st_model.specs.Table.{table, entry}
+use Rattle.st_model.specs.Show.{renamed_option}
 use Rattle.st_model.specs.Steps.{found, object_named, object, named_or_not, object_at, of_page, class_of, or_die, check, fetch_field, count_fields, fetch_fields}
-use Rattle.st_model.specs.Lookup.{pointer_if, half_word}
+use Rattle.st_model.specs.Lookup.{half_word}
 use Rattle.st_model.specs.Primitives.{check_class, bits_or_die}
 use Rattle.st_model.proofs.BirthLemmas.{borne_before, pointer_of-borne, object_there, borne-bearer, is_borne-of}
 use Rattle.st_model.proofs.Same.{IsLiveOption}

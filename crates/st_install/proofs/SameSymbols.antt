@@ -1,18 +1,16 @@
 -- The Symbols that a method needs: over births the same as over a table that shows them.
-use Rattle.std.proofs.Common.{◌≡◌, ℕ, List, [], ◌∷◌, ◌++◌, zero, suc, Option, Some, None, Bool, true, false, refl, ap, length}
-use Rattle.std.specs.Prelude.{◌-◌, ◌+◌, nat_lt, not, map, find, option_map, bytes_eq, slice_set, replicate, if◌then◌else◌}
+use Rattle.std.proofs.Common.{◌≡◌, ℕ, List, [], ◌∷◌, ◌++◌, Option, Some, None, Bool, true, false, refl, ap, length}
+use Rattle.std.specs.Prelude.{◌-◌, ◌+◌, find, option_map, bytes_eq, replicate, if◌then◌else◌}
 use Rattle.std.specs.List.{position_or_len}
-use Rattle.st_model.specs.Values.{Value, IsLive, renamed}
+use Rattle.st_model.specs.Values.{Value, renamed}
 use Rattle.st_model.specs.Machine.{Step, answer}
 use Rattle.st_model.specs.Births.{Births, births}
 use Rattle.st_model.specs.Table.{Table, table}
-use Rattle.st_model.specs.Show.{renamed_option}
-use Rattle.st_model.proofs.Same.{IsLiveOption, ValueNamed}
-use Rattle.st_install.specs.Plans.{Part, There, Made, bytes_object, pointers_object}
-use Rattle.st_install.specs.Symbols.{symbol_text, is_symbol, symbol_named, NamedSymbol, symbol_part, Symbols, is_vacant, grown_size, new_number, vacant_field, grown_fields, symbol_in_field, symbol_in_array, with_new_symbol, make_symbol, found_or_made, seek_unless, with_symbol, with_symbols, symbols_there, symbols_for}
+use Rattle.st_install.specs.Plans.{Part, There, Made}
+use Rattle.st_install.specs.Symbols.{symbol_text, is_symbol, symbol_named, NamedSymbol, symbol_part, Symbols, is_vacant, grown_size, vacant_field, symbol_in_field, symbol_in_array, with_new_symbol, make_symbol, found_or_made, seek_unless, with_symbol, with_symbols, symbols_there, symbols_for}
 use Rattle.st_install.specs.SamePlans.{renamed_part, renamed_parts, renamed_objects, renamed_stores, IsLivePart, AllLiveParts, AllLiveObjects, AllLiveStores}
-use Rattle.st_install.proofs.SameReads.{Shown, lives, name, Alike, ValueAlike, ValuesAlike, OptionalAlike, AlikeValue, AlikeOption, AlikeAnswer, IsLiveAny, any_renamed, then-alike, then_value-alike, then_values-alike, then_option-alike, then_answer-alike, answer-alike, same_value-alike, joins_alike}
-use Rattle.st_install.proofs.SameSteps.{reads_alike, of_page-alike}
+use Rattle.st_install.proofs.SameReads.{Shown, lives, name, Alike, ValueAlike, ValuesAlike, OptionalAlike, AlikeOption, AlikeAnswer, IsLiveAny, any_renamed, then-alike, then_option-alike, answer-alike, same_value-alike}
+use Rattle.st_install.proofs.SameSteps.{reads_alike}
 use Rattle.st_install.proofs.SameTables.{bytes_of-alike, first_field-alike}
 use Rattle.st_install.proofs.SameParts.{AllFormed, PartNamed, PartsNamed, ObjectsNamed, StoresNamed, length-parts, length-objects, there-named, parts_named}
 
