@@ -20,3 +20,5 @@ pub mod Lineages
 pub mod Walks
 pub mod Alike
 pub mod Goes
+pub mod SamePlans
+pub mod Same

@@ -1,0 +1,14 @@
+//! What joins the calls over a memory's table to those over births, in which nothing is reclaimed or moved.
+
+ghost use Rattle.st_install.specs.Same.{ClassShows, NamesShow, ReadyShows, InstallShows, InstallSettles};
+
+/// Where a table shows births, `class_of_name`, `names` and `ready` answer over it what they answer over the births, each
+/// object by its pointer, and change nothing. What is then installed in the table of a running machine is what is installed in
+/// the births: the table shows them again, also once what nothing supports is dropped.
+pub fn install_shows_births()
+    ensures class { ClassShows }
+    ensures names { NamesShow }
+    ensures ready { ReadyShows }
+    ensures install { InstallShows }
+    ensures settles { InstallSettles }
+{}
