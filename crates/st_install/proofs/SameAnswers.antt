@@ -1,19 +1,25 @@
 -- What a call answered over a table, it answers over the births that the table shows: with this a caller goes from one to the other.
-use Rattle.std.proofs.Common.{◌≡◌, ℕ, List, Bool, Result, Ok, Err, refl, sym, ◌∙◌, subst}
+use Rattle.std.proofs.Common.{◌≡◌, ℕ, List, Bool, Result, Ok, Err, refl, sym, ap, ◌∙◌, subst}
+use Rattle.st_model.specs.declared.dead.Dead.{Dead}
 use Rattle.st_model.specs.Values.{Value, renamed, IsLive}
-use Rattle.st_model.specs.Machine.{State, Went, Step}
+use Rattle.st_model.specs.Machine.{State, Transition, Died, Went, Step}
 use Rattle.st_model.specs.Births.{Births, births}
-use Rattle.st_model.specs.Table.{Table, table}
+use Rattle.st_model.specs.Table.{Table, table, bounded_table}
+use Rattle.st_model.specs.Settled.{reclaim}
+use Rattle.st_model.specs.Saving.{settled_after}
 use Rattle.st_model.specs.Show.{pointer_of, IsKept, Shows}
+use Rattle.st_model.specs.Laws.{Runs}
 use Rattle.st_tree.specs.Views.{MethodView}
 use Rattle.st_emit.specs.Names.{NamesView}
 use Rattle.st_code.specs.Methods.{PartsView}
 use Rattle.st_install.specs.declared.fault.InstallFault.{InstallFault}
 use Rattle.st_install.specs.Plans.{Plan}
 use Rattle.st_install.specs.Calls.{class_of_name, names, ready}
-use Rattle.st_install.specs.SamePlans.{renamed_class, IsLiveClass, renamed_ready, IsLiveReady, renamed_plan}
-use Rattle.st_install.specs.Same.{AnswersAlike, HasHeader, IsReady}
+use Rattle.st_install.specs.Installing.{install}
+use Rattle.st_install.specs.SamePlans.{renamed_class, IsLiveClass, renamed_ready, IsLiveReady, renamed_plan, IsLivePlan}
+use Rattle.st_install.specs.Same.{AnswersAlike, RunsOn, HasHeader, IsReady}
 use Rattle.st_install.proofs.SameCalls.{class_shows, names_show, ready_shows}
+use Rattle.st_install.proofs.SameInstalls.{install_shows, install_settles}
 
 -- it is the births' answer, with names written as pointers
 written_is : {A : Type 0} (lives : (ℕ → Type 0) → A → Type 0) (written : (ℕ → ℕ) → A → A) (n : Step Table A) (m : Step Births A) (c : State Table) (s : State Births) (a : A)
@@ -95,3 +101,38 @@ module _ (c : State Table) (s : State Births) (shows : Shows c s) where
         let h = ready_shows class name meta parts c s shows kept header in
         let r = ready_fault_back (pointer_of s.memory) fault h.answer (written_is IsLiveReady renamed_ready _ _ c s (Err fault) h e) in
         subst (λ a. (ready births s.head class name meta parts).run s ≡ Went a s) r h.born
+
+-- what was installed in the table was installed in the births
+
+pub record InstallBorn (p : Plan) (d : State Table) (s : State Births) : Type 0 where
+  pub state : State Births
+  pub born : (install births p).run s ≡ Went tt state
+  pub runs : Runs d state
+  pub settled : Runs (reclaim table d) (reclaim births state)
+
+abbrev state_or : {S A : Type 0} → S → Transition S A → S
+state_or s (Died k) = s
+state_or s (Went a t) = t
+
+born_so : (p : Plan) (c d : State Table) (s : State Births) (x : Unit {0}) (o : Transition (State Births) (Unit {0})) → Went x c ≡ Went tt d → (install births p).run s ≡ o
+    → RunsOn (Went x c) o → RunsOn (settled_after table (Went x c)) (settled_after births o) → InstallBorn p d s
+born_so p c d s x (Died k) e f h l = absurd h
+born_so p c d s x (Went y u) e f h l =
+    let a = ap (state_or d) e in
+    record {
+      state = u;
+      born = f;
+      runs = subst (λ z. Runs z u) a h;
+      settled = subst (λ z. Runs (reclaim table z) (reclaim births u)) a l;
+    }
+
+never_both : (k : Dead) (x : Unit {0}) (d : State Table) → Died k ≡ Went x d → ⊥
+never_both k x d e = cc
+
+born_at : (p : Plan) (d : State Table) (s : State Births) (q : Transition (State Table) (Unit {0})) (o : Transition (State Births) (Unit {0})) → q ≡ Went tt d → (install births p).run s ≡ o
+    → RunsOn q o → RunsOn (settled_after table q) (settled_after births o) → InstallBorn p d s
+born_at p d s (Died k) o e f h l = absurd (never_both k tt d e)
+born_at p d s (Went x t) o e f h l = born_so p t d s x o e f h l
+
+pub install_answered : (p : Plan) (c d : State Table) (s : State Births) → Runs c s → IsReady p s → (install bounded_table (renamed_plan (pointer_of s.memory) p)).run c ≡ Went tt d → InstallBorn p d s
+install_answered p c d s r k e = born_at p d s _ _ e refl (install_shows p c s r k) (install_settles p c s r k)
