@@ -50,3 +50,4 @@ pub mod SameRooms
 pub mod SameInstalls
 pub mod SameAnswers
 pub mod SameHeaders
+pub mod Rooms

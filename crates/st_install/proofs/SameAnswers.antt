@@ -16,7 +16,7 @@ use Rattle.st_install.specs.declared.fault.InstallFault.{InstallFault}
 use Rattle.st_install.specs.Plans.{Plan}
 use Rattle.st_install.specs.Calls.{class_of_name, names, ready}
 use Rattle.st_install.specs.Installing.{install}
-use Rattle.st_install.specs.SamePlans.{renamed_class, IsLiveClass, renamed_ready, IsLiveReady, renamed_plan, IsLivePlan}
+use Rattle.st_install.specs.SamePlans.{renamed_class, IsLiveClass, renamed_ready, IsLiveReady, renamed_plan}
 use Rattle.st_install.specs.Same.{AnswersAlike, RunsOn, HasHeader, IsReady}
 use Rattle.st_install.proofs.SameCalls.{class_shows, names_show, ready_shows}
 use Rattle.st_install.proofs.SameInstalls.{install_shows, install_settles}

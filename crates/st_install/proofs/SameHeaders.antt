@@ -1,5 +1,5 @@
 -- The header of a compiled method is a SmallInteger.
-use Rattle.std.proofs.Common.{◌≡◌, ℕ, Option, Some, None, Bool, true, false, Ok, Err, refl, subst, ◌∙◌, arith, length}
+use Rattle.std.proofs.Common.{◌≡◌, ℕ, Option, Some, None, Bool, true, false, Ok, refl, subst, ◌∙◌, arith, length}
 use Rattle.std.specs.Prelude.{◌+◌, ◌*◌, ◌%◌, ◌==◌, if◌then◌else◌}
 use Rattle.std.proofs.lemmas.Bool.Decides.{nat_tests}
 use Rattle.st_model.proofs.Words.{is_small-value_of}

@@ -22,3 +22,4 @@ pub mod Alike
 pub mod Goes
 pub mod SamePlans
 pub mod Same
+pub mod Rooms
