@@ -50,3 +50,5 @@ pub mod SameRooms
 pub mod SameInstalls
 pub mod SameAnswers
 pub mod SameHeaders
+pub mod SoughtIn
+pub mod SeenIn

@@ -22,3 +22,5 @@ pub mod Alike
 pub mod Goes
 pub mod SamePlans
 pub mod Same
+pub mod Sought
+pub mod Seen
