@@ -51,3 +51,5 @@ pub mod SameInstalls
 pub mod SameAnswers
 pub mod SameHeaders
 pub mod Rooms
+pub mod SoughtIn
+pub mod SeenIn

@@ -23,3 +23,5 @@ pub mod Goes
 pub mod SamePlans
 pub mod Same
 pub mod Rooms
+pub mod Sought
+pub mod Seen

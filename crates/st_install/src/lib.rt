@@ -1,26 +1,28 @@
-//! What the installation of a definition reads of an image. Its one call so far is `class_of_name`. The chains, shared variables,
-//! Symbols and shapes here are for the calls to come: the names that a method sees, whether it can be installed, and its
-//! installation. These three are defined, in `names` and `ready` of `specs/Calls.antt` and in `specs/Installing.antt`, and
-//! `install_shows_births` is the law that joins them over a table to the same over births.
+//! What the installation of a definition reads of an image: `class_of_name` finds its class, and `names` the names that its method
+//! sees. The Symbols, shapes, places and fillings here are for the calls to come: whether a method can be installed, and its
+//! installation. These are defined, in `ready` of `specs/Calls.antt` and in `specs/Installing.antt`, and `install_shows_births`
+//! is the law that joins all of them over a table to the same over births.
 #![tactic(auto)]
 
 mod arrays;
 mod chains;
 mod classes;
 mod fault;
-mod filling;
-mod places;
-mod plan;
 mod fields;
+mod filling;
+mod laws;
 mod lineage;
 mod mentions;
+mod naming;
+mod places;
+mod plan;
 mod pools;
-mod laws;
 mod reading;
 mod room;
 mod shapes;
 mod sharing;
 mod sizes;
+mod sought;
 mod sure;
 mod symbols;
 mod tables;
@@ -29,3 +31,4 @@ mod unread;
 pub use classes::class_of_name;
 pub use fault::InstallFault;
 pub use laws::install_shows_births;
+pub use naming::names;
