@@ -1,18 +1,17 @@
 -- A text has one tree or one first fault, which is what `syntax` says.
-use Rattle.std.proofs.Common.{◌≡◌, ℕ, ◌-◌, List, length, drop, Option, Some, None, Result, Ok, Err, Bool, true, false, refl, sym, ap, ◌∙◌, subst}
+use Rattle.std.proofs.Common.{◌≡◌, ℕ, List, Option, Some, None, Result, Ok, Err, Bool, true, false, refl, ap}
 use Rattle.std.specs.Prelude.{if◌then◌else◌}
 use Rattle.st_tree.specs.declared.fault.Fault.{Fault}
 use Rattle.st_tree.specs.declared.token.Token.{Token}
 use Rattle.st_tree.specs.Faults.{cause_number}
 use Rattle.st_tree.specs.Views.{MethodView}
 use Rattle.st_scan.specs.Scans.{ScansTo, tokens_from}
-use Rattle.st_grammar.specs.declared.leaf.Leaf.{Leaf}
-use Rattle.st_grammar.specs.Faults.{highest, most, IsMethodOf}
+use Rattle.st_grammar.specs.Faults.{most}
 use Rattle.st_grammar.specs.Reading.{Stop, whole_at}
-use Rattle.st_grammar.specs.Texts.{Means, HasFirst, HasFault, words, GrammarFinds, first_fault, is_before}
+use Rattle.st_grammar.specs.Texts.{HasFirst, HasFault, words, first_fault, is_before}
 use Rattle.st_grammar.proofs.Theorems.{whole_method, whole_fault}
 use Rattle.st_grammar.proofs.Faulty.{tree_determined, first_determined, tree_or_fault}
-use Rattle.st_definition.specs.Syntax.{IsSyntax, Scan, scan_of, words_of, stopped, tree_or_first, syntax_by, syntax}
+use Rattle.st_definition.specs.Syntax.{IsSyntax, scan_of, words_of, stopped, tree_or_first, syntax}
 use Rattle.st_definition.proofs.Scanned.{scans}
 
 either : (b : Bool) (f g : Fault) → (if b then Some g else Some f) ≡ Some (if b then g else f)

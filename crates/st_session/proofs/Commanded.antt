@@ -7,8 +7,7 @@ use Rattle.st_outside.specs.declared.host.Host.{Ghosts}
 use Rattle.st_outside.proofs.Rising.{rose_first, rose_second}
 use Rattle.st_course.specs.declared.status.Status.{Status}
 use Rattle.st_course.specs.declared.status.Status.TheVariants as status
-use Rattle.st_course.specs.Courses.{IsEnd}
-use Rattle.st_course.specs.Statuses.{IsFault, StatusHasCause}
+use Rattle.st_course.specs.Statuses.{StatusHasCause}
 use Rattle.st_definition.specs.Installing.{Install}
 use Rattle.st_session.specs.declared.image_refusal.ImageRefusal.{ImageRefusal}
 use Rattle.st_session.specs.declared.image_refusal.ImageRefusal.TheVariants as refusal
@@ -16,7 +15,7 @@ use Rattle.st_session.specs.Points.{alive}
 use Rattle.st_session.specs.Keeping.{keeps_nothing}
 use Rattle.st_session.specs.Sessions.{session, session_so_far}
 use Rattle.st_session.specs.Ends.{IsCalm}
-use Rattle.st_session.specs.Commands.{IsReadable, status_of, IsImageRefusal, RefusalHasCause, IsRefusedImage, IsFollowed, IsOver, IsWholeSession}
+use Rattle.st_session.specs.Commands.{IsReadable, status_of, IsImageRefusal, RefusalHasCause, IsOver, IsWholeSession}
 use Rattle.st_session.proofs.Ending.{complete_at}
 
 module _ {D : Type 0} (host : Ghosts D) (reads : Type 0) where

@@ -1,4 +1,4 @@
-use Rattle.std.proofs.Common.{◌≡◌, [], inl, inr, sym, subst}
+use Rattle.std.proofs.Common.{[], inl, inr, sym, subst}
 use Rattle.st_outside.specs.Counts.{Rose}
 use Rattle.st_outside.proofs.Joining.{reads_begin, reads_first}
 use Rattle.st_course.specs.Statuses.{StatusHasCause}
