@@ -1,5 +1,5 @@
-mod Opened
-mod Image
+pub mod Opened
+pub mod Image
 mod InstallRows
 pub mod SameTexts
 pub mod TextsAt

@@ -14,7 +14,7 @@ use Rattle.st_course.proofs.Joins.{obeys_says, did_both}
 use Rattle.st_course.proofs.Courses.{deeds_preceded}
 use Rattle.st_script.specs.Reading.{Reading, line_from}
 use Rattle.st_script.specs.Scripts.{asked_from, told_from}
-use Rattle.st_session.specs.Installing.{Install}
+use Rattle.st_definition.specs.Installing.{Install}
 use Rattle.st_session.specs.Points.{Point}
 use Rattle.st_session.specs.Keeping.{keeps_nothing}
 use Rattle.st_session.specs.Replies.{opened_text}
@@ -84,16 +84,20 @@ module _ {D : Type 0} (host : Ghosts D) where
       told = λ e. told (is_unread result e);
     }
 
+    -- a course that ends in Done is done, or there was no memory, where no count of a fault rose
+    pub complete_at : (reads : Type 0) (e : Status) (old new : D) → ((IsFault e → ⊥) → IsEnd course e) → StatusHasCause host reads old new e → IsEnd course status.Done → IsCalm host reads old new → (e ≡ status.Done) ⊎ (e ≡ status.OutOfMemory)
+    complete_at reads status.Done old new ends cause end calm = inl refl
+    complete_at reads status.Usage old new ends cause end calm = inl (end_is course status.Usage status.Done (ends (λ f. f)) end)
+    complete_at reads (status.Image f) old new ends cause end calm = inl (end_is course (status.Image f) status.Done (ends (λ x. x)) end)
+    complete_at reads (status.Script line) old new ends cause end calm = inl (end_is course (status.Script line) status.Done (ends (λ x. x)) end)
+    complete_at reads status.ReadFault old new ends cause end calm = absurd (calm.source cause)
+    complete_at reads status.SayFault old new ends cause end calm = absurd (calm.say cause)
+    complete_at reads status.DiskFault old new ends cause end calm = absurd (calm.disk cause)
+    complete_at reads status.TooLarge old new ends cause end calm = inl (end_is course status.TooLarge status.Done (ends (λ x. x)) end)
+    complete_at reads status.OutOfMemory old new ends cause end calm = inr refl
+
     pub complete_of : (reads : Type 0) (e : Status) (old new : D) → SessionEnds host course so_far script old new e → StatusHasCause host reads old new e → IsEnd course status.Done → IsCalm host reads old new → (e ≡ status.Done) ⊎ (e ≡ status.OutOfMemory)
-    complete_of reads status.Done old new ends cause end calm = inl refl
-    complete_of reads status.Usage old new ends cause end calm = inl (end_is course status.Usage status.Done (ends.whole (λ f. f)).0 end)
-    complete_of reads (status.Image f) old new ends cause end calm = inl (end_is course (status.Image f) status.Done (ends.whole (λ x. x)).0 end)
-    complete_of reads (status.Script line) old new ends cause end calm = inl (end_is course (status.Script line) status.Done (ends.whole (λ x. x)).0 end)
-    complete_of reads status.ReadFault old new ends cause end calm = absurd (calm.source cause)
-    complete_of reads status.SayFault old new ends cause end calm = absurd (calm.say cause)
-    complete_of reads status.DiskFault old new ends cause end calm = absurd (calm.disk cause)
-    complete_of reads status.TooLarge old new ends cause end calm = inl (end_is course status.TooLarge status.Done (ends.whole (λ x. x)).0 end)
-    complete_of reads status.OutOfMemory old new ends cause end calm = inr refl
+    complete_of reads e old new ends cause end calm = complete_at reads e old new (λ f. (ends.whole f).0) cause end calm
 
   pub cause_of : (reads : Type 0) (old new : D) (result : Result Unit Status) → EndHasCause host reads old new result → StatusHasCause host reads old new (status_in result)
   cause_of reads old new (Ok u) h = tt

@@ -18,7 +18,7 @@ use Rattle.st_course.specs.Statuses.{StatusHasCause, EndHasCause, Counts}
 use Rattle.st_outside.proofs.Rising.{rose_second}
 use Rattle.st_course.proofs.Courses.{preceded_none, then_then}
 use Rattle.st_course.proofs.Joins.{obeys_as, obeys_then, obeys_err, obeys_end, obeys_says}
-use Rattle.st_session.specs.Installing.{Install}
+use Rattle.st_definition.specs.Installing.{Install}
 use Rattle.st_session.specs.Points.{Point}
 use Rattle.st_session.specs.Keeping.{keeps_nothing}
 use Rattle.st_session.specs.Answers.{answer}

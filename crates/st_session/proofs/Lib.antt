@@ -1,3 +1,4 @@
+pub mod Commanded
 pub mod Cycles
 pub mod Digits
 pub mod Ending

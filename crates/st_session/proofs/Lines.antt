@@ -24,10 +24,10 @@ use Rattle.st_model.specs.declared.dead.Dead.{Dead}
 use Rattle.st_course.specs.declared.status.Status.{Status}
 use Rattle.st_course.specs.Obeying.{Obeys}
 use Rattle.st_session.specs.Asking.{IsSaying}
-use Rattle.st_session.specs.Installing.{Installed, Refused, Accepted}
-use Rattle.st_session.specs.Installations.{InstallsAs}
-use Rattle.st_session.specs.declared.installer.Installation.{Installation}
-use Rattle.st_session.specs.declared.installer.Installation.TheVariants as installation
+use Rattle.st_definition.specs.Installing.{Installed, Refused, Accepted}
+use Rattle.st_definition.specs.Installations.{InstallsAs}
+use Rattle.st_definition.specs.declared.installation.Installation.{Installation}
+use Rattle.st_definition.specs.declared.installation.Installation.TheVariants as installation
 use Rattle.st_session.specs.Keeping.{keeps_nothing}
 use Rattle.st_session.specs.Telling.{Tells}
 use Rattle.st_session.proofs.Saying.{obeys_tells, when_ok}

@@ -7,7 +7,7 @@ use Rattle.st_script.specs.Reading.{read, end_read}
 use Rattle.st_course.specs.declared.refusal.Refusal.TheVariants.{NoClass}
 use Rattle.st_course.specs.declared.status.Status.TheVariants.{Done, Script}
 use Rattle.st_course.specs.Courses.{Course, Reply, Ends}
-use Rattle.st_session.specs.Installing.{Install, Refused}
+use Rattle.st_definition.specs.Installing.{Install, Refused}
 use Rattle.st_session.specs.Points.{Point, gone}
 use Rattle.st_session.specs.Keeping.{keeps_nothing}
 use Rattle.st_model.specs.Text.{dead_text}

@@ -16,7 +16,7 @@ use Rattle.st_script.specs.declared.request.Request.TheVariants.{Run, Input, Mou
 use Rattle.st_script.specs.Scripts.{Asked, Asks, Defines}
 use Rattle.st_course.specs.declared.status.Status.TheVariants as status
 use Rattle.st_course.specs.Courses.{Course, Reply, Goes, Ends, preceded, and_then, replies}
-use Rattle.st_session.specs.Installing.{Installed, Refused, Accepted, Install}
+use Rattle.st_definition.specs.Installing.{Installed, Refused, Accepted, Install}
 use Rattle.st_session.specs.Points.{Being, Alive, Gone, Point, alive, gone}
 use Rattle.st_session.specs.Keeping.{Keeping}
 use Rattle.st_session.specs.Replies.{ok_text, full_text, machine_text, accepted_text, refused_text}

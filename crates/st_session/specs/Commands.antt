@@ -1,8 +1,8 @@
 -- How a call of the program ends: its status, and what it says and does.
-use Rattle.std.specs.Prelude.{◌≡◌, ℕ, ◌<◌, ◌≤◌, ◌^◌, List, [], ◌∷◌, length, ◌++◌, codes, decimal, IsTrue, ⊤, Some, None}
+use Rattle.std.specs.Prelude.{◌≡◌, ◌⊎◌, ℕ, ◌<◌, ◌≤◌, ◌^◌, List, [], ◌∷◌, length, ◌++◌, codes, decimal, IsTrue, ⊤, Some, None}
 use Rattle.st_outside.specs.Counts.{Rose}
 use Rattle.st_outside.specs.Files.{bytes_of}
-use Rattle.st_outside.specs.Runs.{ReadsAndSays}
+use Rattle.st_outside.specs.Runs.{OnlyReads, ReadsAndSays}
 use Rattle.st_outside.specs.Stops.{SaidPart}
 use Rattle.st_outside.specs.declared.host.Host.{Ghosts}
 use Rattle.st_model.specs.declared.fault.ImageFault.{ImageFault}
@@ -13,6 +13,12 @@ use Rattle.st_model.specs.Faults.{IsImageFault, IsWellFormed}
 use Rattle.st_model.specs.Births.{Births}
 use Rattle.st_model.specs.Start.{begin}
 use Rattle.st_model.specs.Text.{numbers_text, run_text}
+use Rattle.st_course.specs.Courses.{IsEnd}
+use Rattle.st_definition.specs.Installing.{Install}
+use Rattle.st_session.specs.Points.{alive}
+use Rattle.st_session.specs.Keeping.{keeps_nothing}
+use Rattle.st_session.specs.Sessions.{session, session_so_far}
+use Rattle.st_session.specs.Ends.{SessionEnds}
 use Rattle.st_session.specs.Words.{once_of, word_at}
 use Rattle.st_session.specs.declared.image_refusal.ImageRefusal.{ImageRefusal}
 use Rattle.st_session.specs.declared.image_refusal.ImageRefusal.TheVariants as refusal
@@ -82,6 +88,11 @@ pub record IsReport (bytes : List ℕ) (n : ℕ) (text : List ℕ) : Type 0 wher
   pub begins : begin (image_head bytes) bytes ≡ Went tt births
   pub is : text ≡ run_text n births
 
+-- a session over these bytes follows the script to its end
+abbrev pub IsWholeSession : Install → List ℕ → List ℕ → Type 0
+IsWholeSession install bytes script = IsReadable bytes
+    × ((births : State Births) → begin (image_head bytes) bytes ≡ Went tt births → IsEnd (session keeps_nothing install 0 0 (alive births tt) script) Done)
+
 module _ {D : Type 0} (host : Ghosts D) where
   -- Nothing but the last line was said. It may be cut or missing only where the count of say faults rose,
   -- or stands at the last value that it has. Of a host that doesn't tell what was said nothing is claimed.
@@ -115,6 +126,41 @@ module _ {D : Type 0} (host : Ghosts D) where
   RefusalHasCause old new refusal.TooLarge = Unit {0}
   RefusalHasCause old new refusal.DiskFault = Rose (host.disk_faults old) (host.disk_faults new)
   RefusalHasCause old new refusal.OutOfMemory = Unit {0}
+
+  -- One run of calls, and then another: each changes no file, and says no more than its text.
+  pub record SaysInTurn (old new : D) : Type 0 where
+    pub middle : D
+    pub text : List ℕ
+    pub line : List ℕ
+    pub first : ReadsAndSays host text old middle
+    pub second : ReadsAndSays host line middle new
+
+  -- The image is refused.
+  pub record IsRefusedImage (bytes : List ℕ) (old new : D) (status : Status) : Type 0 where
+    pub refusal : ImageRefusal
+    pub is : status ≡ status_of refusal
+    pub why : IsImageRefusal bytes refusal
+    pub reads : OnlyReads host old new
+
+  -- The image is read, and then the session goes on over the births with which the book's machine begins.
+  pub record IsFollowed (install : Install) (bytes script : List ℕ) (old new : D) (status : Status) : Type 0 where
+    pub readable : IsReadable bytes
+    pub births : State Births
+    pub begins : begin (image_head bytes) bytes ≡ Went tt births
+    pub opened : D
+    pub reads : OnlyReads host old opened
+    pub ends : SessionEnds host (session keeps_nothing install 0 0 (alive births tt) script)
+        (session_so_far keeps_nothing install 0 0 (alive births tt)) script opened new status
+
+  -- a session over the bytes of an image and of a script, up to the last line
+  abbrev pub IsOver : Install → List ℕ → List ℕ → D → D → Status → Type 0
+  IsOver install bytes script old new status = IsRefusedImage bytes old new status ⊎ IsFollowed install bytes script old new status
+
+  -- How the command session ends: with the last line of its status.
+  pub record SessionCommandEnds (install : Install) (bytes script : List ℕ) (old new : D) (status : Status) : Type 0 where
+    pub closed : D
+    pub over : IsOver install bytes script old closed status
+    pub line : SaysLastLine status closed new
 
   -- How a call of the program with these words ends, over the bytes of the image that they name. It changes
   -- no file.

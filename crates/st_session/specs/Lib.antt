@@ -1,5 +1,3 @@
-pub mod Installing
-pub mod Installations
 pub mod Pushing
 pub mod Runs
 pub mod Points

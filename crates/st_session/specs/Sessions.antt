@@ -4,7 +4,7 @@ use Rattle.st_script.specs.Reading.{Reading, line_from}
 use Rattle.st_script.specs.Scripts.{Asked, asked_from, told_from, told}
 use Rattle.st_course.specs.declared.status.Status.TheVariants.{Done, TooLarge}
 use Rattle.st_course.specs.Courses.{Course, Reply, Goes, preceded, and_then, ended}
-use Rattle.st_session.specs.Installing.{Install}
+use Rattle.st_definition.specs.Installing.{Install}
 use Rattle.st_session.specs.Points.{Point}
 use Rattle.st_session.specs.Keeping.{Keeping}
 use Rattle.st_session.specs.Replies.{opened_text}

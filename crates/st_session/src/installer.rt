@@ -8,24 +8,13 @@ ghost use Rattle.st_model.specs.Show.{Shows};
 ghost use Rattle.st_frames.specs.declared.frame.Frame.{Frame};
 ghost use Rattle.st_model.specs.Machine.{World};
 ghost use Rattle.st_frames.specs.Shown.{IsReady, shown};
-ghost use Rattle.st_session.specs.Installing.{Install};
-ghost use Rattle.st_session.specs.Installations.{InstallsAs, Unchanged};
+ghost use Rattle.st_definition.specs.Installing.{Install};
+ghost use Rattle.st_definition.specs.Installations.{InstallsAs, Unchanged};
 
-use st_course::Refusal;
+use st_definition::Installation;
 use st_memory::Memory;
 use st_script::Definition;
 use std::alloc::Global;
-
-/// What comes of installing a definition.
-#[derive(Drop)]
-pub enum Installation {
-    /// It is installed; the method has this selector.
-    Accepted(Vec<u8>),
-    /// It is refused, and nothing has changed.
-    Refused(Refusal),
-    /// There was no memory, and nothing has changed.
-    OutOfMemory,
-}
 
 /// Installs definitions.
 pub trait Installer {

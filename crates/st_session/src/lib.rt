@@ -16,10 +16,10 @@ mod running;
 mod serving;
 mod words;
 
-pub use command::once;
+pub use command::{once, session};
 pub use image::read_image;
 pub use image_refusal::ImageRefusal;
-pub use installer::{Installation, Installer};
+pub use installer::Installer;
 pub use last_line::refuse;
 pub use reading::serve;
 pub use words::{image_name, read_once};

@@ -17,9 +17,10 @@ ghost use Rattle.st_session.specs.Sessions.{follow};
 ghost use Rattle.st_session.specs.Standing.{MayRun, StandsAt, shown_by};
 
 use crate::answering::answer_line;
-use crate::installer::{Installation, Installer};
+use crate::installer::Installer;
 use crate::replies::{Reply, say_reply};
 use st_course::Status;
+use st_definition::Installation;
 use st_machine::Machine;
 use st_memory::Memory;
 use st_outside::Host;

@@ -1,0 +1,4 @@
+mod Opened
+mod Rows
+pub mod Scanned
+pub mod Syntaxes

@@ -1,0 +1,4 @@
+pub mod Installing
+pub mod Installations
+pub mod Syntax
+pub mod Defining

@@ -1,0 +1,12 @@
+//! Laws of the definition.
+
+ghost use Rattle.std.specs.Prelude.{◌≡◌, ℕ, List, Result};
+ghost use Rattle.st_tree.specs.declared.fault.Fault.{Fault};
+ghost use Rattle.st_tree.specs.Views.{MethodView};
+ghost use Rattle.st_definition.specs.Syntax.{IsSyntax, syntax};
+
+/// `syntax` is the tree that a text means, or its first fault, and nothing else is.
+pub fn one_syntax()
+    ensures is { (text : List ℕ) → IsSyntax text (syntax text) }
+    ensures only { (text : List ℕ) (r : Result MethodView Fault) → IsSyntax text r → r ≡ syntax text }
+{}

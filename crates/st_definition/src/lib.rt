@@ -1,0 +1,8 @@
+//! What comes of a definition of a method: it is installed in an image, or refused with its cause.
+#![tactic(auto)]
+
+mod installation;
+mod laws;
+
+pub use installation::Installation;
+pub use laws::one_syntax;
