@@ -1,2 +1,3 @@
 pub mod AtOnce
+pub mod Foreseen
 pub mod Passed

@@ -14,9 +14,10 @@ use Rattle.st_model.specs.Objects.{nil}
 use Rattle.st_model.specs.Cycles.{made_between, free_space, less, capacity_of, check_process_switch, warned, warned_if_low}
 use Rattle.st_model.specs.Foreseen.{foreseen, foreseen_from, foreseen_cycle, done, done_if_room}
 use Rattle.st_model.specs.View.{View, Held, fits}
-use Rattle.st_quick.specs.AtOnce.{WasForeseen, IsDoneAtOnce}
+use Rattle.st_control.specs.Foreseen.{IsForeseen}
+use Rattle.st_quick.specs.AtOnce.{IsDoneAtOnce}
 use Rattle.st_machine.specs.Cycling.{GoesAtOnce}
-use Rattle.st_step.specs.Planned.{Plans, plus, IsForeseen}
+use Rattle.st_step.specs.Planned.{Plans, plus}
 use Rattle.st_frames.specs.declared.frame.Frame.{Frame}
 use Rattle.st_frames.specs.Shown.{shown, registers_of, IsFrame}
 
@@ -68,7 +69,7 @@ module _ (c : State Table) where
   cycle_done d o t u x h e s r w = (with_room ((step apart).run c) d refl h e).1 ∙ (ap (done c) s ∙ ap (λ y. Went (With o) y) (ap (warned table) r ∙ w))
 
   -- a bytecode that was done at once
-  pub cycle_at_once : (d x : State Table) → WasForeseen c → (step bounded_table).run c ≡ Went outcome.Went d → warned table (reclaim table d) ≡ x → foreseen c ((step apart).run c) ≡ Went (With outcome.Went) x
+  pub cycle_at_once : (d x : State Table) → IsForeseen c → (step bounded_table).run c ≡ Went outcome.Went d → warned table (reclaim table d) ≡ x → foreseen c ((step apart).run c) ≡ Went (With outcome.Went) x
   cycle_at_once d x e s w = ap (foreseen c) e.goes ∙ (ap (done_if_room c e.after) e.fits ∙ (ap (done c) s ∙ ap (λ y. Went (With outcome.Went) y) w))
 
   pub dies_at_once : (cause : Dead) → (step apart).run c ≡ Died cause → foreseen c ((step apart).run c) ≡ Died cause

@@ -21,7 +21,8 @@ use Rattle.st_frames.specs.declared.frame.Frame.{Frame}
 use Rattle.st_frames.specs.declared.registers.Registers.{Registers as Words}
 use Rattle.st_frames.specs.Rows.{row_state, registers_in}
 use Rattle.st_frames.specs.Shown.{shown, registers_of, IsReady, StaysFrame}
-use Rattle.st_quick.specs.AtOnce.{WasForeseen, step_at_once}
+use Rattle.st_control.specs.Foreseen.{IsForeseen}
+use Rattle.st_quick.specs.AtOnce.{step_at_once}
 use Rattle.st_quick.proofs.AtOnce.{As, step-as}
 use Rattle.st_quick.proofs.AlikeRows.{same_at_once}
 use Rattle.st_quick.proofs.Linked.{Linked, linked}
@@ -61,7 +62,7 @@ module _ (v : View) (f : Frame) (w : World) (whole : IsWhole v) (ready : IsReady
   pub quick_dies : (cause : Dead) → x ≡ Err cause → (step apart).run (shown v f w) ≡ Died cause
   quick_dies cause q = link (Died cause) (table_dies (shown v f w) x d does cause q)
 
-  pub quick_foreseen : (u : View) → x ≡ Ok true → IsWhole u → d.memory ≡ u.objects → u.head ≡ v.head → WasForeseen (shown v f w)
+  pub quick_foreseen : (u : View) → x ≡ Ok true → IsWhole u → d.memory ≡ u.objects → u.head ≡ v.head → IsForeseen (shown v f w)
   quick_foreseen u q there objects head =
       let l = link (Went outcome.Went d) (table_done (shown v f w) x d does q) in
       record {

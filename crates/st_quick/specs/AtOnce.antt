@@ -24,6 +24,7 @@ use Rattle.st_model.specs.Arithmetic.{integer_answer, value_of_answer, arithmeti
 use Rattle.st_model.specs.Blocks.{primitive_value}
 use Rattle.st_model.specs.Bytecodes.{fetch_literal_constant, push_operand, store_and_pop, push_receiver, push_constant, constant_value, extended_push, extended_store, extended_store_and_pop, pop_stack, duplicate_top, push_active_context, short_unconditional_jump, long_unconditional_jump, step}
 use Rattle.st_model.specs.Table.{Table, apart, bounded_table}
+use Rattle.st_control.specs.Foreseen.{IsForeseen}
 use Rattle.st_control.specs.AtOnce.{at_once, activate_at_once, jump_at_once, return_to_sender_at_once, return_to_caller_at_once}
 
 -- what a primitive on SmallIntegers answered, unless it failed, or answers a Point, which would have to be made
@@ -154,16 +155,9 @@ step_at_once m = do
   b ← next_byte m
   bytecode_at_once m (decoded b)
 
--- the next bytecode would be foreseen from this state, and the capacities have room for what it makes
-pub record WasForeseen (c : State Table) : Type 0 where
-  pub outcome : Outcome
-  pub after : State Table
-  pub goes : (step apart).run c ≡ Went outcome after
-  pub fits : is_over (used apart after.memory) c.head ≡ false
-
 -- What the next bytecode comes to that was tried at once: the machine dies of this cause, as it would be foreseen; or it is to
 -- be foreseen, and nothing was changed; or it was done, and would have been foreseen, with room for what it makes.
 abbrev pub IsDoneAtOnce : State Table → Result Bool Dead → State Table → Type 0
 IsDoneAtOnce c (Err cause) d = (step apart).run c ≡ Died cause
 IsDoneAtOnce c (Ok false) d = d ≡ c
-IsDoneAtOnce c (Ok true) d = WasForeseen c × ((step bounded_table).run c ≡ Went outcome.Went d)
+IsDoneAtOnce c (Ok true) d = IsForeseen c × ((step bounded_table).run c ≡ Went outcome.Went d)

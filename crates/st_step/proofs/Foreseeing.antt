@@ -15,7 +15,7 @@ use Rattle.st_model.proofs.CyclesShown.{foretells, does_as_births}
 use Rattle.st_frames.specs.declared.frame.Frame.{Frame}
 use Rattle.st_frames.specs.Shown.{shown, IsReady}
 use Rattle.st_frames.proofs.Closed.{is_closed}
-use Rattle.st_step.specs.Planned.{IsForeseen}
+use Rattle.st_control.specs.Foreseen.{IsForeseen}
 
 abbrev pub Goes : State Table → Type 0
 Goes c = (o : Outcome) × (d : State Table) × ((step bounded_table).run c ≡ Went o d)

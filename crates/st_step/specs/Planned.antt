@@ -33,13 +33,6 @@ Plans before x result = PlansOver apart before x result
 abbrev pub PlansBirths : State Table → Result Demand Dead → Type 0
 PlansBirths c result = (s : State Births) → Shows c s → PlansOver births (used births s.memory) ((step births).run s) result
 
--- The next bytecode was foreseen from this state, and the capacities have room for what it makes.
-pub record IsForeseen (c : State Table) : Type 0 where
-  pub outcome : Outcome
-  pub after : State Table
-  pub goes : (step apart).run c ≡ Went outcome after
-  pub fits : is_over (used apart after.memory) c.head ≡ false
-
 -- the outcome names the word at the top of the stack, where there is one
 abbrev pub TopSaid : View → Frame → CodeOutcome → Type 0
 TopSaid v f o = (w : World) (x : Value) → (top bounded_table).run (shown v f w) ≡ Went x (shown v f w)

@@ -6,7 +6,8 @@ ghost use Rattle.st_model.specs.Table.{table, apart, bounded_table};
 ghost use Rattle.st_model.specs.Bytecodes.{step};
 ghost use Rattle.st_model.specs.Calls.{Does};
 ghost use Rattle.st_frames.specs.Shown.{IsFrame, IsReady, shown};
-ghost use Rattle.st_step.specs.Planned.{Plans, PlansBirths, IsForeseen, TopSaid};
+ghost use Rattle.st_control.specs.Foreseen.{IsForeseen};
+ghost use Rattle.st_step.specs.Planned.{Plans, PlansBirths, TopSaid};
 
 use crate::rows::step_row;
 use st_deeds::carry_out;
