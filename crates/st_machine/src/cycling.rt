@@ -56,15 +56,13 @@ fn warn<M: Memory>(m: &mut M, w: &mut World)
     ensures objects { (M.view m.new).objects ≡ (M.view m.old).objects }
     ensures head { (M.view m.new).head ≡ (M.view m.old).head }
 {
-    if w.is_quiet() {
-        return;
-    }
     if w.holds(Device::LowSpace) && is_low(free_space(m), w) && w.has_signal_room() {
         signal_once(m, w, Device::LowSpace);
     }
 }
 
 /// What comes after a bytecode that was done: what nothing supports any more is dropped, and where space is low that is told.
+#[inline(always)]
 fn finish<M: Memory>(m: &mut M, f: &Frame, w: &mut World)
     requires ready { IsReady (M.view m.old) f.now w.old }
     ensures state { Finishes (shown (M.view m.old) f.now w.old) (shown (M.view m.new) f.now w.new) }

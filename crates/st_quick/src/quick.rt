@@ -32,26 +32,21 @@ fn names_same(r: &Registers, f: &Frame) -> bool
         && is_pointer(r.receiver, f.receiver)
 }
 
-/// The registers that a row leaves, all of which are there. Where they name what they named, that is held already; else they
-/// are held at their places.
-fn hold_again<M: Memory>(m: &mut M, f: &Frame, r: &Registers) -> Frame
+/// Keeps the registers that a row leaves, all of which are there. Where they name what they named, that is held already; else
+/// they are held at their places.
+fn hold_again<M: Memory>(m: &mut M, f: &mut Frame, r: &Registers)
     requires there { are_there table (M.view m.old).objects (registers_in r.now) ≡ true }
-    requires frame { IsFrame (M.view m.old) f.now }
-    ensures same { registers_of result ≡ registers_in r.now }
+    requires frame { IsFrame (M.view m.old) f.old }
+    ensures same { registers_of f.new ≡ registers_in r.now }
     ensures objects { (M.view m.new).objects ≡ (M.view m.old).objects }
     ensures head { (M.view m.new).head ≡ (M.view m.old).head }
-    ensures frame { StaysFrame (M.view m.old) (M.view m.new) result }
+    ensures frame { StaysFrame (M.view m.old) (M.view m.new) f.new }
 {
-    if !names_same(r, f) {
-        return hold(m, r);
-    }
-    Frame {
-        active: f.active,
-        home: f.home,
-        method: f.method,
-        receiver: f.receiver,
-        ip: r.ip,
-        sp: r.sp,
+    if names_same(r, f) {
+        f.ip = r.ip;
+        f.sp = r.sp;
+    } else {
+        *f = hold(m, r);
     }
 }
 
@@ -65,7 +60,7 @@ pub fn step_at_once<M: Memory>(m: &mut M, f: &mut Frame, w: &World) -> Result<bo
 {
     let mut r = load(m, f, w);
     if row_at_once(m, &mut r)? {
-        *f = hold_again(m, f, &r);
+        hold_again(m, f, &r);
         Ok(true)
     } else {
         Ok(false)

@@ -51,5 +51,5 @@ returns-then-branch-clause-done g c =
       quick_foreseen v f w (g.met.M.Memory.whole c.args.m.now) c.requires.ready (Ok c.in_ok-row_at_once.field-0) d does u q (g.met.M.Memory.whole c.row_at_once.new.m) (row-memory u.objects u.head r)
           (ap (λ (x : View). x.head) done.takes.fixed),
       quick_done (shown v f w) (Ok c.in_ok-row_at_once.field-0) d does q
-          ∙ ap (λ s. Went outcome.Went s) (quick_held u h c.hold_again.result w r held.same (done.does.world ∙ c.load-r.ensures.world) held.objects held.head),
+          ∙ ap (λ s. Went outcome.Went s) (quick_held u h c.hold_again.new.f w r held.same (done.does.world ∙ c.load-r.ensures.world) held.objects held.head),
     )
