@@ -53,3 +53,9 @@ pub mod SameHeaders
 pub mod Rooms
 pub mod SoughtIn
 pub mod SeenIn
+pub mod Numbers
+pub mod Singles
+pub mod Placing
+pub mod Vacancies
+pub mod Growth
+pub mod SymbolsOf

@@ -25,3 +25,6 @@ pub mod Same
 pub mod Rooms
 pub mod Sought
 pub mod Seen
+pub mod Told
+pub mod Naming
+pub mod Growing
