@@ -1,4 +1,4 @@
-//! The literals of a method, and the objects that are made for them: each in its turn, an array before its elements.
+//! The literals of a method, and the objects that are made for them: an array stands before its elements.
 
 ghost use Rattle.std.specs.Prelude.{◌≡◌, ◌++◌, [], ◌∷◌, length, IfOk, OnOk};
 ghost use Rattle.st_install.specs.Plans.{Made};

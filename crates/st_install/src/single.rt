@@ -147,7 +147,8 @@ pub(crate) fn named_symbol(named: &NamedSymbols, text: &[u8]) -> Option<Part>
 /// The Symbol of a text.
 #[tactic(auto, using(st_model::proofs::Runs::runs), unfolding(crate::specs::Literals::place_symbol))]
 pub(crate) fn place_symbol(named: &NamedSymbols, text: &[u8]) -> Result<Part, Dead>
-    ensures { (t : Table) → Reads (place_symbol (named_of named.now.entries) text.now) part_placed t result }
+    ensures { let step = place_symbol (named_of named.now.entries) text.now in
+        (t : Table) → Reads step part_placed t result }
 {
     match named_symbol(named, text) {
         Some(part) => Ok(part),
