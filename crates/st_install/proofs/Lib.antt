@@ -53,3 +53,4 @@ pub mod SameHeaders
 pub mod Rooms
 pub mod SoughtIn
 pub mod SeenIn
+pub mod Refills

@@ -19,6 +19,7 @@ mod plan;
 mod pools;
 mod reading;
 mod room;
+mod refilling;
 mod shapes;
 mod sharing;
 mod sizes;
