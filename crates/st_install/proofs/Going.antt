@@ -19,13 +19,13 @@ use Rattle.st_install.specs.Carried.{HasGone, Goes, Becomes, KeepsFields}
 
 -- ONE STEP AND THE NEXT
 
-gone_first : {S A B : Type 0} (x : Transition S A) (f : A → S → Transition S B) → HasGone (after x f) → HasGone x
+pub gone_first : {S A B : Type 0} (x : Transition S A) (f : A → S → Transition S B) → HasGone (after x f) → HasGone x
 unfolding after
 gone_first (Died k) f h = h
 gone_first (Went a s) f h = tt
 
 -- a state whose memory is what it is
-same_state : (s : State Table) (t : Table) → s.memory ≡ t → record s { memory = t } ≡ s
+pub same_state : (s : State Table) (t : Table) → s.memory ≡ t → record s { memory = t } ≡ s
 same_state s t e = ap (λ (u : Table). record s { memory = u }) (sym e)
 
 module _ {A B : Type 0} (m : Step Table A) (f : A → Step Table B) (v : View) (h : Goes (m >>= f) v) where

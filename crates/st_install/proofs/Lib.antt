@@ -54,3 +54,5 @@ pub mod Rooms
 pub mod SoughtIn
 pub mod SeenIn
 pub mod Refills
+pub mod Stores
+pub mod Makings

@@ -6,8 +6,8 @@ use Rattle.st_model.specs.Objects.{is_words, is_method, place_of}
 use Rattle.st_model.specs.Formed.{literals_of}
 use Rattle.st_model.specs.Machine.{State, Transition, Died, Went, Step}
 use Rattle.st_model.specs.Table.{Table}
-use Rattle.st_model.specs.View.{View, object_of}
-use Rattle.st_install.specs.Plans.{Part, There, Made, NewObject, words_of_new}
+use Rattle.st_model.specs.View.{View, is_live, object_of, fits}
+use Rattle.st_install.specs.Plans.{Part, There, Made, NewObject, words_of_new, demand_of_all}
 
 -- it didn't die
 abbrev pub HasGone : {S A : Type 0} → Transition S A → Type 0
@@ -51,3 +51,11 @@ abbrev pub AreShaped : Table → List Value → List NewObject → Type 0
 AreShaped t [] os = ⊤
 AreShaped t (v ∷ vs) [] = ⊤
 AreShaped t (v ∷ vs) (o ∷ os) = IsShaped t v o × AreShaped t vs os
+
+-- An object that was made: it is there, a Method with as many fields as were planned, all that was there stays as it was, and
+-- what has room beside it has room now.
+pub record Makes (v : View) (o : NewObject) (x : Value) (w : View) : Type 0 where
+  pub live : is_live w.objects x ≡ true
+  pub shaped : IsShaped w.objects x o
+  pub stays : (y : Value) → is_live v.objects y ≡ true → (is_live w.objects y ≡ true) × (object_of w.objects y ≡ object_of v.objects y)
+  pub room : (os : List NewObject) → fits v (demand_of_all (o ∷ os)) ≡ true → fits w (demand_of_all os) ≡ true
