@@ -56,3 +56,5 @@ pub mod SeenIn
 pub mod Refills
 pub mod Stores
 pub mod Makings
+mod Unbounded
+pub mod Carryings

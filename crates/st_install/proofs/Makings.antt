@@ -22,7 +22,8 @@ use Rattle.st_model.proofs.Pointers.{value_of-even}
 use Rattle.st_memory.proofs.Bodies.{live_small}
 use Rattle.st_install.specs.declared.plan.NewObject.{NewObject as CodeObject}
 use Rattle.st_install.specs.Plans.{Part, There, Made, NewObject, words_of_new, words_of_all, demand_of_all}
-use Rattle.st_install.specs.Carried.{HasGone, Goes, Becomes, Makes, IsHeaded, IsPlannable, IsShaped, AreShaped}
+use Rattle.st_install.specs.Carried.{HasGone, Goes, Becomes, Makes, IsPlannable, IsShaped, AreShaped}
+use Rattle.st_install.specs.Goes.{HasHeader}
 use Rattle.st_install.specs.Installing.{size_by, literals_by, make_new, make_all}
 use Rattle.st_install.specs.Meanings.{values}
 use Rattle.st_install.specs.Readies.{objects_of}
@@ -51,12 +52,12 @@ few_literals : (v : Value) → literals_of v ≤ 63
 few_literals (Small n) = grind arith
 few_literals (Ref n) = grind arith
 
-headed_most : (ps : List Part) → IsHeaded ps → (1 ≤ length ps) × (length ps ≤ 64)
+headed_most : (ps : List Part) → HasHeader ps → (1 ≤ length ps) × (length ps ≤ 64)
 headed_most [] h = absurd h
 headed_most (Made k ∷ ps) h = absurd h
 headed_most (There x ∷ ps) h = let f = few_literals x in let e = h.1 in (omega arith, omega (arith, f, e))
 
-makeable_by : (c : ℕ) (k : Kind) (o : NewObject) → is_words k ≡ false → is_method k ≡ (c == place_of MethodClass) → (is_method k ≡ true → IsHeaded o.fields) → words_of_new o ≤ 65535
+makeable_by : (c : ℕ) (k : Kind) (o : NewObject) → is_words k ≡ false → is_method k ≡ (c == place_of MethodClass) → (is_method k ≡ true → HasHeader o.fields) → words_of_new o ≤ 65535
     → IsMakeable c k (size_by k o) (literals_by k o)
 makeable_by c kind.Pointers o w m h b = record {
   kind = m;
@@ -87,9 +88,9 @@ makeable_by c kind.Method o w m h b =
     }
 
 pub makeable : (c : ℕ) (o : NewObject) → o.class ≡ Ref c → IsPlannable o → IsMakeable c o.kind (size_by o.kind o) (literals_by o.kind o)
-makeable c o e p = makeable_by c o.kind o p.kind (p.method c e) p.header p.body
+makeable c o e p = makeable_by c o.kind o p.of_kind.kind (p.of_kind.method c e) p.of_kind.header p.body
 
-words_by : (c : ℕ) (k : Kind) (o : NewObject) → is_words k ≡ false → (is_method k ≡ true → IsHeaded o.fields) → words_of (fresh c k (size_by k o) (literals_by k o)) ≤ words_of_new o
+words_by : (c : ℕ) (k : Kind) (o : NewObject) → is_words k ≡ false → (is_method k ≡ true → HasHeader o.fields) → words_of (fresh c k (size_by k o) (literals_by k o)) ≤ words_of_new o
 words_by c kind.Pointers o w h = rw (words_pointers c (length o.fields) 0) (omega arith)
 words_by c kind.Words o w h = cc
 words_by c kind.Bytes o w h = rw (words_bytes c (length o.bytes) 0) (omega arith)
@@ -124,7 +125,7 @@ module _ (o : NewObject) (p : IsPlannable o) (v : View) (c : ℕ) where
       let f = fits_entries v (length (o ∷ [])) (words_of_all (o ∷ [])) h in
       let a = f.0 in
       let b = f.1 in
-      let w = words_by c o.kind o p.kind p.header in
+      let w = words_by c o.kind o p.of_kind.kind p.of_kind.header in
       fits_if v 1 (words_of new_object) (omega (arith, a)) (omega (arith, b, w))
 
   module _ (x : Value) (w : View) (pointer : x ≡ Ref (first_free v.objects)) (objects : w.objects ≡ placed v.objects (fresh c o.kind (size_by o.kind o) (literals_by o.kind o))) (head : w.head ≡ v.head) where
@@ -133,7 +134,7 @@ module _ (o : NewObject) (p : IsPlannable o) (v : View) (c : ℕ) where
         let f = fits_entries v (length (o ∷ os)) (words_of_all (o ∷ os)) h in
         let a = f.0 in
         let b = f.1 in
-        let n = words_by c o.kind o p.kind p.header in
+        let n = words_by c o.kind o p.of_kind.kind p.of_kind.header in
         let e = ap (λ (t : Table). total_used one t) objects ∙ total_used-placed one v.objects new_object in
         let g = ap (λ (t : Table). total_used words_of t) objects ∙ total_used-placed words_of v.objects new_object in
         let he = ap (λ a. a.entries) head in
@@ -144,7 +145,7 @@ module _ (o : NewObject) (p : IsPlannable o) (v : View) (c : ℕ) where
     unfolding object_of
     found_new = ap (λ e. unwrap_or e nothing) (placed-first v.objects new_object)
 
-    length_method : (k : Kind) → is_method k ≡ true → IsHeaded o.fields → length (fresh c k (size_by k o) (literals_by k o)).fields ≡ length o.fields
+    length_method : (k : Kind) → is_method k ≡ true → HasHeader o.fields → length (fresh c k (size_by k o) (literals_by k o)).fields ≡ length o.fields
     length_method kind.Pointers e h = cc
     length_method kind.Words e h = cc
     length_method kind.Bytes e h = cc
@@ -154,7 +155,7 @@ module _ (o : NewObject) (p : IsPlannable o) (v : View) (c : ℕ) where
     shaped_new m =
         ap (λ (t : Table). length (object_of t x).fields) objects
         ∙ (ap (λ (y : Value). length (object_of (placed v.objects new_object) y).fields) pointer
-        ∙ (ap (λ (a : Object). length a.fields) found_new ∙ length_method o.kind m (p.header m)))
+        ∙ (ap (λ (a : Object). length a.fields) found_new ∙ length_method o.kind m (p.of_kind.header m)))
 
     live_there : is_live w.objects x ≡ true
     live_there = subst (λ (t : Table). is_live t x ≡ true) (sym objects) (subst (λ (y : Value). is_live (placed v.objects new_object) y ≡ true) (sym pointer) (live_new v.objects new_object))

@@ -9,6 +9,7 @@ mod chains;
 mod classes;
 mod fault;
 mod filling;
+mod installing;
 mod making;
 mod places;
 mod plan;
@@ -36,5 +37,7 @@ mod unread;
 
 pub use classes::class_of_name;
 pub use fault::InstallFault;
+pub use installing::install;
 pub use laws::install_shows_births;
 pub use naming::names;
+pub use plan::Ready;
