@@ -1,17 +1,14 @@
 -- An installation that is ready is carried out.
-use Rattle.std.proofs.Common.{◌≡◌, ℕ, ◌≤◌, List, [], ◌∷◌, length, Bool, true, Ok, refl, sym, ap, ◌∙◌, subst, arith}
+use Rattle.std.proofs.Common.{◌≡◌, ◌≤◌, List, [], ◌∷◌, length, true, Ok, refl, sym, subst}
 use Rattle.std.specs.List.{AllByRecursion}
-use Rattle.st_model.specs.declared.oop.Oop.{Oop}
 use Rattle.st_model.specs.declared.page.PageObject.TheVariants.{NilObject}
-use Rattle.st_model.specs.Values.{Value, Ref, value}
+use Rattle.st_model.specs.Values.{Value}
 use Rattle.st_model.specs.Objects.{nil}
-use Rattle.st_model.specs.Machine.{State, Step, ◌>>=◌, ◌>>◌}
+use Rattle.st_model.specs.Machine.{Step, ◌>>=◌}
 use Rattle.st_model.specs.Steps.{of_page}
 use Rattle.st_model.specs.Table.{Table, table, bounded_table}
 use Rattle.st_model.specs.Calls.{Reads, itself}
 use Rattle.st_model.specs.View.{View, IsWhole, fits}
-use Rattle.st_model.proofs.Runs.{run-of_page}
-use Rattle.st_model.proofs.Words.{value_of-nil}
 use Rattle.st_install.specs.declared.storing.Placing.{Placing as CodePlacing}
 use Rattle.st_install.specs.Plans.{NewObject, Plan, words_of_new, words_of_all, demand_of_all}
 use Rattle.st_install.specs.Goes.{IsReadyFor, IsOfKind}

@@ -1,6 +1,6 @@
 -- The objects of an installation are made, one after the other.
-use Rattle.std.proofs.Common.{◌≡◌, ◌≢◌, ℕ, suc, zero, ◌<◌, ◌≤◌, ◌+◌, ◌-◌, ◌*◌, ◌/◌, List, [], ◌∷◌, ◌++◌, length, take, drop, Bool, true, false, Option, Some, None, refl, sym, ap, ◌∙◌, subst, arith, is_some, length-set}
-use Rattle.std.specs.Prelude.{◌==◌, slice_get, slice_index_or, slice_set, nat_le, ◌&&◌, unwrap_or, replicate}
+use Rattle.std.proofs.Common.{◌≡◌, ℕ, suc, zero, ◌<◌, ◌≤◌, ◌+◌, ◌-◌, ◌*◌, ◌/◌, List, [], ◌∷◌, ◌++◌, length, take, drop, Bool, true, false, Option, Some, None, refl, sym, ap, ◌∙◌, subst, arith, is_some, length-set}
+use Rattle.std.specs.Prelude.{◌==◌, slice_get, slice_index_or, slice_set, nat_le, ◌&&◌, unwrap_or}
 use Rattle.std.specs.List.{AllByRecursion}
 use Rattle.std.proofs.lemmas.Bool.Decides.{nat_tests}
 use Rattle.std.proofs.lemmas.List.{append_assoc, append-nil, map-append, length-replicate}
@@ -8,10 +8,10 @@ use Rattle.st_model.specs.declared.kind.Kind.{Kind}
 use Rattle.st_model.specs.declared.kind.Kind.TheVariants as kind
 use Rattle.st_model.specs.declared.oop.Oop.{Oop}
 use Rattle.st_model.specs.declared.page.PageObject.TheVariants.{MethodClass}
-use Rattle.st_model.specs.Values.{Value, Small, Ref, value, value_of, is_small}
+use Rattle.st_model.specs.Values.{Value, Small, Ref, value, value_of}
 use Rattle.st_model.specs.Objects.{Object, nil, is_words, is_method, place_of, words_of, one}
 use Rattle.st_model.specs.Formed.{fresh, IsMakeable, literals_of}
-use Rattle.st_model.specs.Machine.{has_room, State, Transition, Died, Went, Step, after, answer, die, ◌>>=◌, ◌>>◌}
+use Rattle.st_model.specs.Machine.{has_room, State, Transition, Died, Went, Step, after, answer, die, ◌>>=◌}
 use Rattle.st_model.specs.Steps.{make, make_named, made}
 use Rattle.st_model.specs.Table.{Table, bounded_table, entry, placed, first_free, total_used}
 use Rattle.st_model.specs.View.{View, is_live, object_of, nothing, fits, demand_of}
@@ -297,8 +297,9 @@ module _ (os : List CodeObject) (i : ℕ) (ms : List Oop) (v w : View) (h : Left
         let q = b ∙ h.head in
         let r = behind_gone _ _ (subst (λ (x : Transition (State Table) (List Value)). HasGone x) (h.run z refl q) (g.gone z refl q)) in
         let t = subst (λ (m : Step Table (List Value)). HasGone (m.run (record s { memory = w.objects }))) turn r in
-        subst (λ (y : State Table). HasGone ((make_new bounded_table (planned_of o)).run y)) (same_state s w.objects e) (first_gone (record s { memory = w.objects }) t)
+        subst (λ (y : State Table). HasGone ((make_new bounded_table (planned_of o)).run y)) (same_state s w.objects e) (first_gone (record s { memory = w.objects }) t);
   }
+
   module _ (x : Oop) (u : View) (b : Becomes (make_new bounded_table (planned_of o)) w (value x) u) (m : Makes w (planned_of o) (value x) u) where
     within : i < length ms
     within = let e = h.each in omega (arith, l, e)

@@ -1,13 +1,12 @@
 -- A grown dictionary takes over what stood in the one before it, selector by selector.
-use Rattle.std.proofs.Common.{◌≡◌, ◌≢◌, ℕ, suc, zero, ◌<◌, ◌≤◌, ◌+◌, ◌-◌, Bool, true, false, Option, Some, None, Result, Ok, Err, refl, sym, ap, ◌∙◌, subst, arith}
+use Rattle.std.proofs.Common.{◌≡◌, ◌≢◌, ℕ, suc, ◌<◌, ◌≤◌, ◌+◌, ◌-◌, Bool, true, false, Option, Some, None, Result, Ok, Err, refl, sym, ap, ◌∙◌, subst, arith}
 use Rattle.std.specs.Prelude.{◌==◌, IsOk, IsSome}
 use Rattle.std.proofs.lemmas.Bool.Decides.{nat_tests}
 use Rattle.st_model.specs.declared.dead.Dead.{Dead}
 use Rattle.st_model.specs.declared.oop.Oop.{Oop}
 use Rattle.st_model.specs.declared.page.PageObject.TheVariants.{NilObject}
-use Rattle.st_model.specs.Values.{Value, Ref, value, value_of}
-use Rattle.st_model.specs.Objects.{nil, place_of}
-use Rattle.st_model.specs.Machine.{State, Transition, Died, Went, Step, answer, die, ◌>>=◌, ◌>>◌}
+use Rattle.st_model.specs.Values.{Value, value}
+use Rattle.st_model.specs.Machine.{Went, Step, answer, die, ◌>>=◌, ◌>>◌}
 use Rattle.st_model.specs.Steps.{of_page, same_value, fetch_field, store_field}
 use Rattle.st_model.specs.Table.{Table, table}
 use Rattle.st_model.specs.Calls.{Reads, itself}
@@ -15,11 +14,10 @@ use Rattle.st_model.specs.View.{View}
 use Rattle.st_model.proofs.Runs.{run-of_page}
 use Rattle.st_model.proofs.Words.{same_words, value_of-nil}
 use Rattle.st_install.specs.declared.places.Place.{Place}
-use Rattle.st_install.specs.declared.places.Place.TheVariants as place
 use Rattle.st_install.specs.Carried.{HasGone, Goes, Becomes}
 use Rattle.st_install.specs.Dictionaries.{Ending, Holds, Vacant, Nowhere, count_places, seek, put_method, put_at, refill_unless, refill_from, refill_among, refill}
 use Rattle.st_install.specs.Endings.{ending_of}
-use Rattle.st_install.proofs.Going.{goes-first, goes-after, goes-read, goes-then, becomes-after, becomes-read, becomes-then, becomes-answer, Remains, all_remains, rest_goes, remains_same, remains_next, all_done, state_of}
+use Rattle.st_install.proofs.Going.{goes-first, goes-after, goes-read, goes-then, becomes-after, becomes-read, becomes-then, becomes-answer, state_of}
 
 -- a step that goes answers, and doesn't die
 pub read_ok : {A R : Type 0} (m : Step Table A) (f : R → A) (v : View) (r : Result R Dead) → Goes m v → Reads m f v.objects r → IsOk r

@@ -1,5 +1,5 @@
 -- The stores of an installation, one after the other.
-use Rattle.std.proofs.Common.{◌≡◌, ◌≢◌, ℕ, suc, zero, ◌<◌, ◌≤◌, ◌+◌, List, [], ◌∷◌, length, drop, Bool, true, false, Option, Some, None, Result, Ok, Err, refl, sym, ap, ◌∙◌, subst, arith, ◌⊎◌, inl, inr}
+use Rattle.std.proofs.Common.{◌≡◌, ◌≢◌, ℕ, ◌<◌, ◌≤◌, ◌+◌, List, ◌∷◌, length, drop, Bool, true, false, Option, Some, None, Result, Ok, refl, sym, ap, ◌∙◌, arith, ◌⊎◌, inl, inr}
 use Rattle.std.specs.Prelude.{◌==◌, ◌/◌, ◌%◌, if◌then◌else◌, slice_index_or, get_or, IsOk, IsSome}
 use Rattle.std.proofs.lemmas.Bool.Decides.{nat_tests}
 use Rattle.std.proofs.lemmas.Grind.{common_steps}
@@ -7,7 +7,7 @@ use Rattle.st_model.specs.declared.dead.Dead.{Dead}
 use Rattle.st_model.specs.declared.oop.Oop.{Oop}
 use Rattle.st_model.specs.Values.{Value, Small, Ref, value, value_of, is_small}
 use Rattle.st_model.specs.Objects.{nil}
-use Rattle.st_model.specs.Machine.{State, Transition, Died, Went, Step, answer, die, ◌>>=◌, ◌>>◌}
+use Rattle.st_model.specs.Machine.{Step, answer, die, ◌>>=◌, ◌>>◌}
 use Rattle.st_model.specs.Steps.{fetch_field, store_field}
 use Rattle.st_model.specs.Table.{Table, table}
 use Rattle.st_model.specs.Calls.{Reads}
@@ -15,17 +15,15 @@ use Rattle.st_model.specs.View.{View}
 use Rattle.st_model.proofs.Runs.{run-then, after-went}
 use Rattle.st_model.proofs.Words.{is_small-value_of}
 use Rattle.st_install.specs.declared.places.Place.{Place}
-use Rattle.st_install.specs.declared.places.Place.TheVariants as place
 use Rattle.st_install.specs.declared.plan.SymbolStore.{SymbolStore}
-use Rattle.st_install.specs.declared.storing.Placing.{Placing as CodePlacing}
-use Rattle.st_install.specs.Plans.{Plan, Store}
-use Rattle.st_install.specs.Carried.{HasGone, Goes, Becomes}
+use Rattle.st_install.specs.Plans.{Plan}
+use Rattle.st_install.specs.Carried.{Goes, Becomes}
 use Rattle.st_install.specs.Dictionaries.{Ending, Holds, Vacant, Nowhere, seek, place_of_selector, put_method, refill, raised_tally}
 use Rattle.st_install.specs.Endings.{ending_of}
 use Rattle.st_install.specs.Installing.{part_value, store_all, target, Placing, find_place, adopt, add_at, store_planned}
 use Rattle.st_install.specs.Placings.{placing_of}
-use Rattle.st_install.specs.Readies.{part_of, store_of, stores_of}
-use Rattle.st_install.proofs.Going.{goes-first, goes-after, goes-read, goes-then, becomes-after, becomes-read, becomes-then, becomes-answer, state_of}
+use Rattle.st_install.specs.Readies.{part_of, stores_of}
+use Rattle.st_install.proofs.Going.{goes-first, goes-after, goes-read, goes-then, becomes-after, becomes-then, becomes-answer, state_of}
 use Rattle.st_install.proofs.Filled.{drop_next, drop_past}
 use Rattle.st_install.proofs.Refills.{read_ok}
 

@@ -1,15 +1,13 @@
 -- What a function of the code that is sure to succeed stands on, and what it does with a memory.
-use Rattle.std.specs.Prelude.{◌≡◌, ◌≤◌, ◌==◌, ℕ, ⊤, List, [], ◌∷◌, length, true, false}
+use Rattle.std.specs.Prelude.{◌≡◌, ◌≤◌, ⊤, List, [], ◌∷◌, length, true}
 use Rattle.std.specs.List.{AllByRecursion}
-use Rattle.st_model.specs.declared.page.PageObject.TheVariants.{MethodClass}
-use Rattle.st_model.specs.Values.{Value, Ref, is_small}
-use Rattle.st_model.specs.Objects.{is_words, is_method, place_of}
-use Rattle.st_model.specs.Formed.{literals_of}
+use Rattle.st_model.specs.Values.{Value}
+use Rattle.st_model.specs.Objects.{is_method}
 use Rattle.st_model.specs.Machine.{State, Transition, Died, Went, Step}
 use Rattle.st_model.specs.Table.{Table}
 use Rattle.st_model.specs.View.{View, is_live, object_of, fits}
 use Rattle.st_install.specs.Goes.{IsOfKind}
-use Rattle.st_install.specs.Plans.{Part, There, Made, NewObject, Plan, words_of_new, demand_of_all}
+use Rattle.st_install.specs.Plans.{NewObject, Plan, words_of_new, demand_of_all}
 
 -- it didn't die
 abbrev pub HasGone : {S A : Type 0} → Transition S A → Type 0

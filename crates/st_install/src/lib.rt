@@ -1,16 +1,20 @@
-//! What the installation of a definition reads of an image: `class_of_name` finds its class, and `names` the names that its method
-//! sees. The Symbols, shapes, places and fillings here are for the calls to come: whether a method can be installed, and its
-//! installation. These are defined, in `ready` of `specs/Calls.antt` and in `specs/Installing.antt`, and `install_shows_births`
-//! is the law that joins all of them over a table to the same over births.
+//! The installation of a definition in an image: `class_of_name` finds its class, `names` the names that its method sees, and
+//! `install` carries out a plan that is ready. The Symbols and shapes here are for the call to come between them: whether a method
+//! can be installed. It is defined in `ready` of `specs/Calls.antt`, and `install_shows_births` is the law that joins all of them
+//! over a table to the same over births.
 #![tactic(auto)]
 
 mod arrays;
 mod chains;
 mod classes;
 mod fault;
+mod fields;
 mod filling;
 mod installing;
+mod laws;
+mod lineage;
 mod making;
+mod mentions;
 mod places;
 mod plan;
 mod fields;

@@ -33,13 +33,7 @@ pub fn put_method<M: Memory>(
 }
 
 /// A selector and its method go to the place of nil at which the search ended.
-fn put_at<M: Memory>(
-    m: &mut M,
-    dictionary: Oop,
-    selector: Oop,
-    method: Oop,
-    place: Place,
-)
+fn put_at<M: Memory>(m: &mut M, dictionary: Oop, selector: Oop, method: Oop, place: Place)
     requires goes { let end = ending_of (Some place) in
         Goes (put_at table (value dictionary) (value selector) (value method) end) (M.view m.old) }
     requires small { IsSmallPlace (Some place) }

@@ -37,7 +37,7 @@ fill_and_store-requires-clause-goes g c =
     let w = g.M.Memory.view c.make_all.new.m in
     let made = subst (λ (os : List NewObject). Becomes (make_all bounded_table (objects_of os)) v (values c.make_all.new.made) w) c.deref.ensures.value c.make_all.ensures.becomes in
     let len : length c.make_all.new.made ≡ c.args.ready.made.len =
-        c.make_all.ensures.each ∙ (ap length c.deref.ensures.value ∙ (sym c.requires.room ∙ sym c.args.ready.made.ok.0)) in
+    c.make_all.ensures.each ∙ (ap length c.deref.ensures.value ∙ (sym c.requires.room ∙ sym c.args.ready.made.ok.0)) in
     let pointers = c.deref-2.ensures.value ∙ with_items_is c.args.ready.made c.make_all.new.made len in
     subst (λ (os : List Oop). Goes (fill_and_store table nil (values os) p) w) (sym pointers) (rest_goes p v (ready_goes p v (g.met.M.Memory.whole c.args.m.now) c.requires.ready) (values c.make_all.new.made) w made)
 
@@ -53,7 +53,7 @@ returns g c =
     let u = g.M.Memory.view c.fill_and_store.new.m in
     let made = subst (λ (os : List NewObject). Becomes (make_all bounded_table (objects_of os)) v (values c.make_all.new.made) w) c.deref.ensures.value c.make_all.ensures.becomes in
     let len : length c.make_all.new.made ≡ c.args.ready.made.len =
-        c.make_all.ensures.each ∙ (ap length c.deref.ensures.value ∙ (sym c.requires.room ∙ sym c.args.ready.made.ok.0)) in
+    c.make_all.ensures.each ∙ (ap length c.deref.ensures.value ∙ (sym c.requires.room ∙ sym c.args.ready.made.ok.0)) in
     let pointers = c.deref-2.ensures.value ∙ with_items_is c.args.ready.made c.make_all.new.made len in
     installed p v (ready_goes p v (g.met.M.Memory.whole c.args.m.now) c.requires.ready) (values c.make_all.new.made) w made u
     (subst (λ (os : List Oop). Becomes (fill_and_store table nil (values os) p) w tt u) pointers c.fill_and_store.ensures)

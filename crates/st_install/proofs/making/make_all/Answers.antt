@@ -1,4 +1,4 @@
-use Rattle.std.proofs.Common.{◌≡◌, ◌≤◌, ◌+◌, length, sym, subst, arith}
+use Rattle.std.proofs.Common.{◌≤◌, length, sym, subst, arith}
 use Rattle.st_install.specs.declared.plan.NewObject.{NewObject}
 use Rattle.st_install.specs.Carried.{IsPlannable}
 use Rattle.st_install.specs.Readies.{object_of as planned_of}

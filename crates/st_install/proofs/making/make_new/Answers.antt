@@ -1,10 +1,9 @@
-use Rattle.std.proofs.Common.{◌≡◌, ◌∙◌, ◌/◌, sym, subst}
+use Rattle.std.proofs.Common.{◌∙◌, ◌/◌, sym, subst}
 use Rattle.st_model.specs.Values.{value}
 use Rattle.st_model.specs.Table.{placed}
 use Rattle.st_model.specs.Formed.{IsMakeable, fresh}
-use Rattle.st_install.specs.Installing.{size_by, literals_by}
+use Rattle.st_install.specs.Installing.{size_by}
 use Rattle.st_install.specs.Readies.{object_of as planned_of}
-
 use Rattle.st_install.proofs.Makings.{named_word, class_there, makeable, room_for, makes, new_becomes}
 use Rattle.st_install.proofs.making.make_new.Goals as goal
 

@@ -1,4 +1,4 @@
-use Rattle.std.proofs.Common.{◌≡◌, ◌∙◌, ap, Option, Some, Result, Ok, subst}
+use Rattle.std.proofs.Common.{◌∙◌, ap, Option, Some, Result, Ok, subst}
 use Rattle.st_model.specs.declared.dead.Dead.{Dead}
 use Rattle.st_model.specs.Values.{value}
 use Rattle.st_model.specs.Table.{table}

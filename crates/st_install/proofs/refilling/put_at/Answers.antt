@@ -1,4 +1,4 @@
-use Rattle.std.proofs.Common.{◌≡◌, Some, sym, subst}
+use Rattle.std.proofs.Common.{Some, sym, subst}
 use Rattle.st_model.specs.Values.{value}
 use Rattle.st_model.specs.Table.{table}
 use Rattle.st_install.specs.declared.places.Place.{Place}

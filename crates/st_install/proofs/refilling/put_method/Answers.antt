@@ -1,4 +1,3 @@
-use Rattle.std.proofs.Common.{◌+◌}
 use Rattle.st_model.specs.Values.{value}
 use Rattle.st_install.proofs.Refills.{put_first, put_second, put_both}
 use Rattle.st_install.proofs.refilling.put_method.Goals as goal

@@ -1,7 +1,6 @@
-use Rattle.std.proofs.Common.{◌≡◌, ◌∙◌, ap, Option, Some, sym, subst}
+use Rattle.std.proofs.Common.{◌∙◌, ap, Option, Some, sym, subst}
 use Rattle.st_model.specs.Values.{Value, value}
-use Rattle.st_model.specs.Machine.{Step}
-use Rattle.st_model.specs.Table.{Table, table}
+use Rattle.st_model.specs.Table.{table}
 use Rattle.st_model.specs.Steps.{store_field}
 use Rattle.st_install.specs.declared.places.Place.{Place}
 use Rattle.st_install.specs.Carried.{Goes, Becomes}

@@ -1,4 +1,4 @@
-use Rattle.std.proofs.Common.{◌≡◌, ℕ, Option, Some, None, sym, subst}
+use Rattle.std.proofs.Common.{ℕ, Option, sym, subst}
 use Rattle.st_model.specs.Values.{value}
 use Rattle.st_model.specs.Table.{table}
 use Rattle.st_install.specs.Carried.{Goes, Becomes}

@@ -1,4 +1,4 @@
-use Rattle.std.proofs.Common.{◌≡◌, ◌∙◌, sym}
+use Rattle.std.proofs.Common.{◌∙◌, sym}
 use Rattle.st_install.proofs.Stores.{raised, stays_most}
 use Rattle.st_install.proofs.storing.raised_tally.Goals as goal
 

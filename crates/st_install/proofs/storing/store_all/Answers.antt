@@ -1,5 +1,4 @@
-use Rattle.std.proofs.Common.{◌≡◌, ◌+◌, ◌≤◌, sym, subst, length, slice_index_or, arith}
-use Rattle.st_model.specs.Values.{Value, value}
+use Rattle.std.proofs.Common.{◌+◌, ◌≤◌, sym, subst, length, slice_index_or, arith}
 use Rattle.st_model.specs.Machine.{Step}
 use Rattle.st_model.specs.Table.{Table, table}
 use Rattle.st_model.specs.Steps.{store_field}

@@ -1,5 +1,4 @@
-use Rattle.std.proofs.Common.{◌≡◌, List, ap, sym, subst}
-use Rattle.st_model.specs.Values.{value}
+use Rattle.std.proofs.Common.{List, sym, subst}
 use Rattle.st_model.specs.Objects.{nil}
 use Rattle.st_model.specs.Machine.{Step}
 use Rattle.st_model.specs.Table.{Table, table}

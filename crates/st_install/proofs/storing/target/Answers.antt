@@ -1,4 +1,4 @@
-use Rattle.std.proofs.Common.{◌≡◌, ℕ, Option, Some, None, sym, subst}
+use Rattle.std.proofs.Common.{ℕ, Option, Some, sym, subst}
 use Rattle.st_model.specs.Values.{Value, value}
 use Rattle.st_model.specs.Objects.{nil}
 use Rattle.st_model.specs.Table.{table}
