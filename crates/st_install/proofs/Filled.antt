@@ -18,7 +18,8 @@ use Rattle.st_install.specs.declared.plan.NewObject.{NewObject as CodeObject}
 use Rattle.st_install.specs.Meanings.{values}
 use Rattle.st_install.specs.Readies.{part_of, parts_of, objects_of}
 use Rattle.st_install.specs.Readies.{object_of as planned_of}
-use Rattle.st_install.specs.Carried.{Goes, Becomes, KeepsFields, IsHeaded, IsPlannable, IsShaped, AreShaped}
+use Rattle.st_install.specs.Carried.{Goes, Becomes, KeepsFields, IsPlannable, IsShaped, AreShaped}
+use Rattle.st_install.specs.Goes.{HasHeader}
 use Rattle.st_install.specs.Installing.{part_value, part_values, store_method_fields, fill_method, fill_by, fill_all}
 use Rattle.st_install.proofs.Going.{goes-first, goes-after, goes-then, becomes-after, becomes-then}
 
@@ -92,12 +93,12 @@ length_parts : (ps : List CodePart) → length (parts_of ps) ≡ length ps
 length_parts [] = refl
 length_parts (p ∷ ps) = ap suc (length_parts ps)
 
-header_counts : (vs : List Value) (p : CodePart) (ps : List CodePart) → IsHeaded (parts_of (p ∷ ps)) → (is_small (part_value nil vs (part_of p)) ≡ true) × (literals_of (part_value nil vs (part_of p)) + 1 ≡ length (p ∷ ps))
+header_counts : (vs : List Value) (p : CodePart) (ps : List CodePart) → HasHeader (parts_of (p ∷ ps)) → (is_small (part_value nil vs (part_of p)) ≡ true) × (literals_of (part_value nil vs (part_of p)) + 1 ≡ length (p ∷ ps))
 header_counts vs (part.There o) ps h = let e = h.1 in let l = length_parts ps in (h.0, omega (arith, e, l))
 header_counts vs (part.Made k) ps h = absurd h
 
 -- what goes into field 0 counts the literals
-pub headed : (vs : List Value) (ps : List CodePart) (i : ℕ) (d : CodePart) (y : Value) (n : ℕ) → IsHeaded (parts_of ps) → i ≡ 0 → i < length ps → y ≡ part_value nil vs (part_of (slice_index_or ps i d)) → n ≡ length ps
+pub headed : (vs : List Value) (ps : List CodePart) (i : ℕ) (d : CodePart) (y : Value) (n : ℕ) → HasHeader (parts_of ps) → i ≡ 0 → i < length ps → y ≡ part_value nil vs (part_of (slice_index_or ps i d)) → n ≡ length ps
     → (is_small y ≡ true) × (literals_of y + 1 ≡ n)
 headed vs [] i d y n h z l e q = absurd (omega (arith, l))
 headed vs (p ∷ ps) zero d y n h z l e q = rw (e, q) (header_counts vs p ps h)

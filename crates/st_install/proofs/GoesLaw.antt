@@ -1,5 +1,5 @@
 -- What is ready is installed.
-use Rattle.std.proofs.Common.{◌≡◌, ℕ, ◌<◌, zero, suc, List, [], ◌∷◌, Option, Some, None, Bool, true, false, Ok, refl, ap, ◌∙◌, subst, arith, is_some}
+use Rattle.std.proofs.Common.{◌≡◌, ℕ, ◌<◌, zero, suc, List, [], ◌∷◌, length, Option, Some, None, Bool, true, false, Ok, refl, ap, ◌∙◌, subst, arith, is_some}
 use Rattle.std.specs.Prelude.{pos, ◌/◌, ◌%◌, ◌==◌, slice_get, unwrap_or, if◌then◌else◌}
 use Rattle.std.proofs.lemmas.Bool.Decides.{nat_tests}
 use Rattle.std.specs.List.{AllByRecursion}
@@ -15,8 +15,8 @@ use Rattle.st_model.specs.Show.{IsUsed}
 use Rattle.st_model.specs.View.{View, IsWhole, is_live, object_of, nothing}
 use Rattle.st_model.specs.Calls.{Changes, itself}
 use Rattle.st_code.specs.Methods.{PartsView}
-use Rattle.st_install.specs.Plans.{NewObject, Plan}
-use Rattle.st_install.proofs.GoesMaking.{IsShaped, CanMake}
+use Rattle.st_install.specs.Plans.{NewObject, Plan, words_of_all}
+use Rattle.st_install.proofs.GoesMaking.{IsShaped, CanMake, HasRoom}
 use Rattle.st_install.specs.Installing.{install}
 use Rattle.st_install.specs.Goes.{IsHeaded, HasHeader, IsOfKind, IsReadyFor, Stays, Installs, ReadyInstalls, ReadyObjects}
 use Rattle.st_install.proofs.Goes.{object_at, IsLike, IsKept, Goes, over}
@@ -142,3 +142,7 @@ all_of_kind t (o ∷ os) h = (record { kind = no_words o.kind o h.1; method = h.
 
 pub ready_objects : ReadyObjects
 ready_objects v p whole h = let r = plan v p whole h in all_of_kind v.objects p.objects r.plan.made
+
+-- its objects have room
+pub plan_room : (v : View) (p : Plan) → IsWhole v → IsReadyFor v p → HasRoom v.head v.objects (length p.objects) (words_of_all p.objects)
+plan_room v p whole h = (plan v p whole h).room

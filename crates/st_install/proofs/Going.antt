@@ -19,13 +19,13 @@ use Rattle.st_install.specs.Carried.{HasGone, Goes, Becomes, KeepsFields}
 
 -- ONE STEP AND THE NEXT
 
-gone_first : {S A B : Type 0} (x : Transition S A) (f : A → S → Transition S B) → HasGone (after x f) → HasGone x
+pub gone_first : {S A B : Type 0} (x : Transition S A) (f : A → S → Transition S B) → HasGone (after x f) → HasGone x
 unfolding after
 gone_first (Died k) f h = h
 gone_first (Went a s) f h = tt
 
 -- a state whose memory is what it is
-same_state : (s : State Table) (t : Table) → s.memory ≡ t → record s { memory = t } ≡ s
+pub same_state : (s : State Table) (t : Table) → s.memory ≡ t → record s { memory = t } ≡ s
 same_state s t e = ap (λ (u : Table). record s { memory = u }) (sym e)
 
 module _ {A B : Type 0} (m : Step Table A) (f : A → Step Table B) (v : View) (h : Goes (m >>= f) v) where
@@ -99,6 +99,9 @@ module _ (whole rest : Step Table Unit) (v w : View) (h : Remains whole rest v w
         subst (λ (u : State Table). HasGone (rest.run u)) (same_state s w.objects e) (subst (λ (x : Transition (State Table) Unit). HasGone x) (h.run z refl q) (g.gone z refl q));
   }
 
+  pub part_goes : (m n : Step Table Unit) → rest ≡ (m >> n) → Goes whole v → Goes m w
+  part_goes m n e g = goes-first m (λ a. n) w (goes-then m n w (subst (λ (x : Step Table Unit). Goes x w) e (rest_goes g)))
+
   pub remains_same : (other : Step Table Unit) → rest ≡ other → Remains whole other v w
   remains_same other e = subst (λ (m : Step Table Unit). Remains whole m v w) e h
 
@@ -128,7 +131,7 @@ all_left m v = record { go = all_remains m v; fields = λ x. refl }
 
 module _ (whole rest : Step Table Unit) (v w : View) (h : Left whole rest v w) where
   pub left_goes : (m n : Step Table Unit) → rest ≡ (m >> n) → Goes whole v → Goes m w
-  left_goes m n e g = goes-first m (λ a. n) w (goes-then m n w (subst (λ (x : Step Table Unit). Goes x w) e (rest_goes whole rest v w h.go g)))
+  left_goes m n e g = part_goes whole rest v w h.go m n e g
 
   pub left_next : (m n : Step Table Unit) (u : View) → rest ≡ (m >> n) → Becomes m w tt u → KeepsFields w.objects u.objects → Left whole n v u
   left_next m n u e c k = record { go = remains_next whole rest v w h.go m n u e c; fields = λ x. k x ∙ h.fields x }
@@ -142,7 +145,7 @@ module _ (whole rest : Step Table Unit) (v w : View) (h : Left whole rest v w) w
 -- OBJECTS
 
 -- some state over what a memory contains
-abbrev state_of : View → State Table
+abbrev pub state_of : View → State Table
 state_of v = record {
   memory = v.objects;
   registers = record { active = nil; home = nil; method = nil; receiver = nil; ip = pos 0; sp = 0 };

@@ -59,3 +59,8 @@ pub mod Placing
 pub mod Vacancies
 pub mod Growth
 pub mod SymbolsOf
+pub mod Refills
+pub mod Stores
+pub mod Makings
+mod Unbounded
+pub mod Carryings

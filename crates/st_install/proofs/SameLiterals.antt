@@ -155,6 +155,7 @@ module _ (z : Shown) where
 
     mutual
       unfolding place_literal place_members
+
       place_literal-alike : (next : ℕ) (l : LiteralView) → AlikePlaced (place_literal births ss own next l) (place_literal table (renamed_known (name z) ss) own' next l)
       place_literal-alike next (literals.number n) = place_number-alike next n
       place_literal-alike next (literals.character b) = place_character-alike b

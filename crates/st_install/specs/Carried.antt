@@ -1,13 +1,13 @@
 -- What a function of the code that is sure to succeed stands on, and what it does with a memory.
-use Rattle.std.specs.Prelude.{◌≡◌, ◌≤◌, ◌==◌, ℕ, ⊤, List, [], ◌∷◌, length, true, false}
-use Rattle.st_model.specs.declared.page.PageObject.TheVariants.{MethodClass}
-use Rattle.st_model.specs.Values.{Value, Ref, is_small}
-use Rattle.st_model.specs.Objects.{is_words, is_method, place_of}
-use Rattle.st_model.specs.Formed.{literals_of}
+use Rattle.std.specs.Prelude.{◌≡◌, ◌≤◌, ⊤, List, [], ◌∷◌, length, true}
+use Rattle.std.specs.List.{AllByRecursion}
+use Rattle.st_model.specs.Values.{Value}
+use Rattle.st_model.specs.Objects.{is_method}
 use Rattle.st_model.specs.Machine.{State, Transition, Died, Went, Step}
 use Rattle.st_model.specs.Table.{Table}
-use Rattle.st_model.specs.View.{View, object_of}
-use Rattle.st_install.specs.Plans.{Part, There, Made, NewObject, words_of_new}
+use Rattle.st_model.specs.View.{View, is_live, object_of, fits}
+use Rattle.st_install.specs.Goes.{IsOfKind}
+use Rattle.st_install.specs.Plans.{NewObject, Plan, words_of_new, demand_of_all}
 
 -- it didn't die
 abbrev pub HasGone : {S A : Type 0} → Transition S A → Type 0
@@ -28,19 +28,10 @@ pub record Becomes {A : Type 0} (m : Step Table A) (v : View) (a : A) (w : View)
 abbrev pub KeepsFields : Table → Table → Type 0
 KeepsFields t u = (x : Value) → length (object_of u x).fields ≡ length (object_of t x).fields
 
--- a header that is there, and counts the literals behind it
-abbrev pub IsHeaded : List Part → Type 0
-IsHeaded [] = ⊥
-IsHeaded (Made k ∷ literals) = ⊥
-IsHeaded (There header ∷ literals) = (is_small header ≡ true) × (literals_of header ≡ length literals)
-
--- An object that can be made as it is planned: it isn't of kind Words, its body isn't too long, of the class CompiledMethod
--- are the Methods alone, and a Method has a header that counts its literals.
+-- an object that can be made as it is planned: it is of its kind, and its body isn't too long
 pub record IsPlannable (o : NewObject) : Type 0 where
-  pub kind : is_words o.kind ≡ false
+  pub of_kind : IsOfKind o
   pub body : words_of_new o ≤ 65535
-  pub method : (class : ℕ) → o.class ≡ Ref class → is_method o.kind ≡ (class == place_of MethodClass)
-  pub header : is_method o.kind ≡ true → IsHeaded o.fields
 
 -- a Method that was made has as many fields as were planned for it
 abbrev pub IsShaped : Table → Value → NewObject → Type 0
@@ -51,3 +42,15 @@ abbrev pub AreShaped : Table → List Value → List NewObject → Type 0
 AreShaped t [] os = ⊤
 AreShaped t (v ∷ vs) [] = ⊤
 AreShaped t (v ∷ vs) (o ∷ os) = IsShaped t v o × AreShaped t vs os
+
+-- An object that was made: it is there, a Method with as many fields as were planned, all that was there stays as it was, and
+-- what has room beside it has room now.
+pub record Makes (v : View) (o : NewObject) (x : Value) (w : View) : Type 0 where
+  pub live : is_live w.objects x ≡ true
+  pub shaped : IsShaped w.objects x o
+  pub stays : (y : Value) → is_live v.objects y ≡ true → (is_live w.objects y ≡ true) × (object_of w.objects y ≡ object_of v.objects y)
+  pub room : (os : List NewObject) → fits v (demand_of_all (o ∷ os)) ≡ true → fits w (demand_of_all os) ≡ true
+
+-- no object of a plan has a longer body than an object can have
+abbrev pub HasSmallBodies : Plan → Type 0
+HasSmallBodies p = AllByRecursion (λ o. words_of_new o ≤ 65535) p.objects

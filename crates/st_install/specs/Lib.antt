@@ -28,3 +28,4 @@ pub mod Seen
 pub mod Told
 pub mod Naming
 pub mod Growing
+pub mod Placings

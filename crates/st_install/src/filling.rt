@@ -7,7 +7,8 @@ ghost use Rattle.st_model.specs.Objects.{nil};
 ghost use Rattle.st_model.specs.Table.{table};
 ghost use Rattle.st_model.specs.View.{object_of};
 ghost use Rattle.st_model.specs.Steps.{store_fields, store_bytes};
-ghost use Rattle.st_install.specs.Carried.{Goes, Becomes, KeepsFields, IsHeaded, IsShaped, AreShaped, IsPlannable};
+ghost use Rattle.st_install.specs.Carried.{Goes, Becomes, KeepsFields, IsShaped, AreShaped, IsPlannable};
+ghost use Rattle.st_install.specs.Goes.{HasHeader};
 ghost use Rattle.st_install.specs.Installing.{part_value, part_values, store_method_fields, fill_method, fill_by, fill_all};
 ghost use Rattle.st_install.specs.Meanings.{values};
 ghost use Rattle.st_install.specs.Readies.{part_of, parts_of, object_of as planned_of, objects_of};
@@ -49,7 +50,7 @@ fn store_method_fields<M: Memory>(m: &mut M, made: &[Oop], o: Oop, parts: &[Part
         Goes (store_method_fields table (value o) 0 fields) (M.view m.old) }
     requires few { length parts.now ≤ 65535 }
     requires shaped { length (object_of (M.view m.old).objects (value o)).fields ≡ length parts.now }
-    requires headed { IsHeaded (parts_of parts.now) }
+    requires headed { HasHeader (parts_of parts.now) }
     ensures becomes { let fields = part_values nil (values made.now) (parts_of parts.now) in
         Becomes (store_method_fields table (value o) 0 fields) (M.view m.old) tt (M.view m.new) }
     ensures fields { KeepsFields (M.view m.old).objects (M.view m.new).objects }
@@ -78,7 +79,7 @@ fn fill_method<M: Memory>(m: &mut M, made: &[Oop], o: Oop, parts: &[Part], bytes
         Goes (fill_method table (value o) fields bytes.now) (M.view m.old) }
     requires few { 2 * length parts.now + length bytes.now ≤ 131072 }
     requires shaped { length (object_of (M.view m.old).objects (value o)).fields ≡ length parts.now }
-    requires headed { IsHeaded (parts_of parts.now) }
+    requires headed { HasHeader (parts_of parts.now) }
     ensures becomes { let fields = part_values nil (values made.now) (parts_of parts.now) in
         Becomes (fill_method table (value o) fields bytes.now) (M.view m.old) tt (M.view m.new) }
     ensures fields { KeepsFields (M.view m.old).objects (M.view m.new).objects }

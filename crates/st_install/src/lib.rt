@@ -1,7 +1,7 @@
-//! What the installation of a definition reads of an image: `class_of_name` finds its class, and `names` the names that its method
-//! sees. The Symbols, shapes, places and fillings here are for the calls to come: whether a method can be installed, and its
-//! installation. These are defined, in `ready` of `specs/Calls.antt` and in `specs/Installing.antt`, and `install_shows_births`
-//! is the law that joins all of them over a table to the same over births.
+//! The installation of a definition in an image: `class_of_name` finds its class, `names` the names that its method sees, and
+//! `install` carries out a plan that is ready. The Symbols and shapes here are for the call to come between them: whether a method
+//! can be installed. It is defined in `ready` of `specs/Calls.antt`, and `install_shows_births` is the law that joins all of them
+//! over a table to the same over births.
 #![tactic(auto)]
 
 mod arrays;
@@ -11,21 +11,25 @@ mod fault;
 mod fields;
 mod filling;
 mod growing;
+mod installing;
 mod laws;
 mod lineage;
-mod literals;
+mod making;
 mod mentions;
-mod naming;
 mod places;
 mod plan;
+mod literals;
+mod naming;
 mod pools;
 mod reading;
 mod room;
+mod refilling;
 mod shapes;
 mod sharing;
 mod single;
 mod sizes;
 mod sought;
+mod storing;
 mod sure;
 mod symbol_plan;
 mod symbols;
@@ -34,5 +38,7 @@ mod unread;
 
 pub use classes::class_of_name;
 pub use fault::InstallFault;
+pub use installing::install;
 pub use laws::install_shows_births;
 pub use naming::names;
+pub use plan::Ready;

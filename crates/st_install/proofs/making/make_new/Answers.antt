@@ -1,0 +1,36 @@
+use Rattle.std.proofs.Common.{◌∙◌, ◌/◌, sym, subst}
+use Rattle.st_model.specs.Values.{value}
+use Rattle.st_model.specs.Table.{placed}
+use Rattle.st_model.specs.Formed.{IsMakeable, fresh}
+use Rattle.st_install.specs.Installing.{size_by}
+use Rattle.st_install.specs.Readies.{object_of as planned_of}
+use Rattle.st_install.proofs.Makings.{named_word, class_there, makeable, room_for, makes, new_becomes}
+use Rattle.st_install.proofs.making.make_new.Goals as goal
+
+pub make-requires-clause-class : goal.make-requires-clause-class
+make-requires-clause-class g c = class_there (planned_of c.args.object.now) (g.M.Memory.view c.args.m.now) c.requires.goes
+
+pub make-requires-clause-makeable : goal.make-requires-clause-makeable
+make-requires-clause-makeable g c =
+    let o = c.args.object.now in
+    let v = g.M.Memory.view c.args.m.now in
+    let named = named_word v.objects o.class.0 (class_there (planned_of o) v c.requires.goes) in
+    subst (λ n. IsMakeable (o.class.0 / 2) o.kind n c.literals_of_new-literals.result) (sym c.size_of_new-size.ensures)
+    (subst (λ n. IsMakeable (o.class.0 / 2) o.kind (size_by o.kind (planned_of o)) n) (sym c.literals_of_new-literals.ensures) (makeable (o.class.0 / 2) (planned_of o) named c.requires.plannable))
+
+pub returns-clause-becomes : goal.returns-clause-becomes
+returns-clause-becomes g c =
+    let o = c.args.object.now in
+    let v = g.M.Memory.view c.args.m.now in
+    let w = g.M.Memory.view c.make.new.self in
+    let objects = c.make.ensures.objects ∙ (λ i. placed v.objects (fresh (o.class.0 / 2) o.kind (c.size_of_new-size.ensures i) (c.literals_of_new-literals.ensures i))) in
+    new_becomes o c.make.result v w (class_there (planned_of o) v c.requires.goes) (room_for (planned_of o) c.requires.plannable v (o.class.0 / 2) c.requires.room)
+    c.make.ensures.pointer objects c.make.ensures.held c.make.ensures.head
+
+pub returns-clause-makes : goal.returns-clause-makes
+returns-clause-makes g c =
+    let o = c.args.object.now in
+    let v = g.M.Memory.view c.args.m.now in
+    let w = g.M.Memory.view c.make.new.self in
+    let objects = c.make.ensures.objects ∙ (λ i. placed v.objects (fresh (o.class.0 / 2) o.kind (c.size_of_new-size.ensures i) (c.literals_of_new-literals.ensures i))) in
+    makes (planned_of o) c.requires.plannable v (o.class.0 / 2) (value c.make.result) w c.make.ensures.pointer objects c.make.ensures.head
