@@ -53,3 +53,12 @@ pub mod SameHeaders
 pub mod Rooms
 pub mod SoughtIn
 pub mod SeenIn
+pub mod GainsPlaces
+pub mod GainsRefilling
+pub mod GainsFinding
+pub mod GainsClass
+pub mod GainsPlanning
+pub mod GainsStoring
+pub mod GainsEffect
+pub mod GainsNames
+pub mod GainsLaw

@@ -25,3 +25,4 @@ pub mod Same
 pub mod Rooms
 pub mod Sought
 pub mod Seen
+pub mod Gains
