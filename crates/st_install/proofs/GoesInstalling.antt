@@ -1,7 +1,7 @@
 -- A sound plan whose objects have room is carried out.
-use Rattle.std.proofs.Common.{◌≡◌, ◌≢◌, ℕ, ◌+◌, ◌*◌, ◌<◌, ◌≤◌, zero, suc, List, [], ◌∷◌, length, Option, Some, None, true, refl, sym, ap, ◌∙◌, subst, arith, is_some}
+use Rattle.std.proofs.Common.{inl, inr, ◌⊎◌, ◌≡◌, ◌≢◌, ℕ, ◌+◌, ◌*◌, ◌<◌, ◌≤◌, zero, suc, List, [], ◌∷◌, length, Option, Some, None, true, refl, sym, ap, ◌∙◌, subst, arith, is_some}
 use Rattle.std.specs.Prelude.{◌-◌, slice_get, get_or, replicate}
-use Rattle.std.proofs.lemmas.List.{length-replicate, get_or-replicate}
+use Rattle.std.proofs.lemmas.List.{get_or_past, length-replicate, get_or-replicate}
 use Rattle.std.proofs.lemmas.Option.{slice_get-get_or, slice_get_within}
 use Rattle.st_model.specs.declared.kind.Kind.TheVariants as kind
 use Rattle.st_model.specs.Values.{Value, Small, Ref}
@@ -111,12 +111,12 @@ one_at [] k l = absurd (omega arith)
 one_at (x ∷ xs) zero l = (x, refl)
 one_at (x ∷ xs) (suc k) l = one_at xs k (omega arith)
 
-shapes_of : (t : Table) (os : List NewObject) → CanMake t os → AllShaped os
+pub shapes_of : (t : Table) (os : List NewObject) → CanMake t os → AllShaped os
 shapes_of t [] h = tt
 shapes_of t (o ∷ os) h = (h.1, shapes_of t os h.2)
 
 module _ (t u : Table) (os : List NewObject) (vs : List Value) (m : Makes t os vs u) where
-  name_at : (k : ℕ) → k < length os → slice_get vs k ≡ Some (get_or vs k nil)
+  pub name_at : (k : ℕ) → k < length os → slice_get vs k ≡ Some (get_or vs k nil)
   name_at k l = slice_get-get_or vs k nil (let n = m.length in omega (arith, n, l))
 
   pub made_there : (k : ℕ) → k < length os → is_there bounded_table u (get_or vs k nil) ≡ true
@@ -157,14 +157,14 @@ module _ (t u : Table) (os : List NewObject) (vs : List Value) (m : Makes t os v
     pub part_filled : (p : Part) → IsSoundPart t (length os) p → is_there bounded_table w (part_value nil vs p) ≡ true
     part_filled p h = there_kept u w (part_value nil vs p) f.kept (part_there p h)
 
-    made_filled : (k : ℕ) (o : NewObject) → slice_get os k ≡ Some o → IsFilled vs o (get_or vs k nil) w
+    pub made_filled : (k : ℕ) (o : NewObject) → slice_get os k ≡ Some o → IsFilled vs o (get_or vs k nil) w
     made_filled k o e = f.objects k (get_or vs k nil) o (name_at k (slice_get_within os k o e)) e
 
-    length_filled : (o : NewObject) (v : Value) → IsFilled vs o v w → o.kind ≡ kind.Pointers → (x : Object) × (object_at w v ≡ Some x) × (is_pointers x.kind ≡ true) × (x.fields ≡ part_values nil vs o.fields)
+    pub length_filled : (o : NewObject) (v : Value) → IsFilled vs o v w → o.kind ≡ kind.Pointers → (x : Object) × (object_at w v ≡ Some x) × (is_pointers x.kind ≡ true) × (x.fields ≡ part_values nil vs o.fields)
     length_filled o v h e =
         (h.object, h.is, ap is_pointers h.like.kind ∙ (ap is_pointers (blank_kind o.kind o) ∙ ap is_pointers e), h.fields)
 
-    count_values : (ps : List Part) → length (part_values nil vs ps) ≡ length ps
+    pub count_values : (ps : List Part) → length (part_values nil vs ps) ≡ length ps
     count_values [] = refl
     count_values (p ∷ ps) = ap (λ n. suc n) (count_values ps)
 
@@ -204,7 +204,7 @@ module _ (t u : Table) (os : List NewObject) (vs : List Value) (m : Makes t os v
       values_of_nil zero = refl
       values_of_nil (suc n) = ap (λ xs. nil ∷ xs) (values_of_nil n)
 
-      grown_fields : part_values nil vs g.dictionary.fields ≡ g.tally ∷ get_or vs (k + 1) nil ∷ replicate places nil
+      pub grown_fields : part_values nil vs g.dictionary.fields ≡ g.tally ∷ get_or vs (k + 1) nil ∷ replicate places nil
       grown_fields = ap (λ ps. part_values nil vs ps) g.fields ∙ ap (λ xs. g.tally ∷ get_or vs (k + 1) nil ∷ xs) (values_of_nil places)
 
       pub names_apart : get_or vs k nil ≢ get_or vs (k + 1) nil
@@ -214,13 +214,13 @@ module _ (t u : Table) (os : List NewObject) (vs : List Value) (m : Makes t os v
           let z : k ≡ k + 1 = m.apart k (k + 1) (get_or vs k nil) a (b ∙ ap (λ v. Some v) (sym e)) in
           omega (arith, z)
 
-      place_of_nil : (n j : ℕ) (a b : Value) → j < n → at_place (a ∷ b ∷ replicate n nil) j ≡ nil
+      pub place_of_nil : (n j : ℕ) (a b : Value) → j < n → at_place (a ∷ b ∷ replicate n nil) j ≡ nil
       place_of_nil n j a b l = get_or_past_two (suc (suc j)) (omega arith) ∙ get_or-replicate n j nil nil l
         where
           get_or_past_two : (i : ℕ) → 2 + j ≡ i → get_or (a ∷ b ∷ replicate n nil) (2 + j) nil ≡ get_or (a ∷ b ∷ replicate n nil) i nil
           get_or_past_two i e = ap (λ x. get_or (a ∷ b ∷ replicate n nil) x nil) e
 
-      all_vacant : vacant_among (g.tally ∷ get_or vs (k + 1) nil ∷ replicate places nil) 0 places ≡ places
+      pub all_vacant : vacant_among (g.tally ∷ get_or vs (k + 1) nil ∷ replicate places nil) 0 places ≡ places
       all_vacant = all_counted (g.tally ∷ get_or vs (k + 1) nil ∷ replicate places nil) 0 places (λ j l n. ap (λ v. same_value v nil) (place_of_nil places j g.tally (get_or vs (k + 1) nil) (omega (arith, n))))
 
       pub refilling : Refilling w (get_or vs k nil) (get_or vs (k + 1) nil) g.tally places 0 w
@@ -243,6 +243,23 @@ module _ (t u : Table) (os : List NewObject) (vs : List Value) (m : Makes t os v
             others = λ v d e. refl;
             kept = all_kept w;
           }
+
+      nil_or_past : (j : ℕ) → at_place (g.tally ∷ get_or vs (k + 1) nil ∷ replicate places nil) j ≡ nil
+      nil_or_past j = elim (within j places) [
+        | inl l ↦ place_of_nil places j g.tally (get_or vs (k + 1) nil) l
+        | inr l ↦ get_or_past (g.tally ∷ get_or vs (k + 1) nil ∷ replicate places nil) (2 + j) nil (let n = length-replicate places nil in omega (arith, l, n))
+      ]
+        where
+          within : (j n : ℕ) → (j < n) ⊎ (n ≤ j)
+          within j n = grind arith
+
+      -- it has no selector yet
+      pub all_nil : (j : ℕ) → at_place refilling.dictionary.fields j ≡ nil
+      unfolding refilling
+      all_nil j =
+          let x = length_filled g.dictionary (get_or vs k nil) (made_filled k g.dictionary g.is) g.pointers in
+          let fs : x.0.fields ≡ g.tally ∷ get_or vs (k + 1) nil ∷ replicate places nil = x.3 ∙ grown_fields in
+          ap (λ xs. at_place xs j) fs ∙ nil_or_past j
 
 -- THE DICTIONARY INTO WHICH THE METHOD GOES
 

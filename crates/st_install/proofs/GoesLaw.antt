@@ -62,7 +62,7 @@ small_word : (w : ℕ) (b : Bool) (t : Table) → is_small (if b then Small (w /
 small_word w true t e l = let k : w / 2 < 32768 = omega (arith, l) in grind (arith, nat_tests)
 small_word w false t e l = cc
 
-header_there : (t : Table) (parts : PartsView) → IsHeaded parts → is_there bounded_table t (value_of parts.header) ≡ true
+pub header_there : (t : Table) (parts : PartsView) → IsHeaded parts → is_there bounded_table t (value_of parts.header) ≡ true
 unfolding value_of
 header_there t parts h = small_word parts.header (parts.header % 2 == 1) t h.small h.word
 
@@ -94,7 +94,7 @@ stays_kept t u x k e =
 -- THE LAW
 
 -- a state to read the objects in
-abbrev idle : View → State Table
+abbrev pub idle : View → State Table
 idle v = record {
   memory = v.objects;
   registers = record { active = Ref 1; home = Ref 1; method = Ref 1; receiver = Ref 1; ip = pos 0; sp = 0 };
@@ -103,10 +103,10 @@ idle v = record {
 }
 
 module _ (v : View) (p : Plan) (whole : IsWhole v) (h : IsReadyFor v p) where
-  dictionary : HasDictionary v.objects h.class
+  pub dictionary : HasDictionary v.objects h.class
   dictionary = ((names_give (idle v) (sound_table v whole) v.head h.class h.meta h.tree).gives (Ok h.seen) (idle v) (h.named (idle v) refl)).1
 
-  plan : IsReadyPlan (idle v) (sound_table v whole) h.class dictionary h.parts h.headed (header_there v.objects h.parts h.headed) v.head p
+  pub plan : IsReadyPlan (idle v) (sound_table v whole) h.class dictionary h.parts h.headed (header_there v.objects h.parts h.headed) v.head p
   plan = ((ready_gives (idle v) (sound_table v whole) h.class dictionary h.parts h.headed (header_there v.objects h.parts h.headed) v.head h.name h.meta).gives (Ok p) (idle v) (h.ready (idle v) refl)).1
 
   goes : Goes v.head (install bounded_table p) v.objects (λ a u. IsKept v.objects u)

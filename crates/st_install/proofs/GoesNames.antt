@@ -86,7 +86,7 @@ module _ (s : State Table) where
     chain_reads least zero class = search reading depth 16
     chain_reads least (suc left) class = search (reading, λ (v : Value). chain_reads least left v) depth 16
 
-    lineage_reads : (class : Value) (meta : Bool) → OnlyReads s (lineage table class meta)
+    pub lineage_reads : (class : Value) (meta : Bool) → OnlyReads s (lineage table class meta)
     unfolding lineage instance_lineage metaclass_lineage chain
     lineage_reads class false = search (reading, chain_reads) depth 16
     lineage_reads class true = search (reading, chain_reads) depth 16
@@ -118,7 +118,7 @@ module _ (s : State Table) where
     unfolding own_names
     own_reads class = then_reads _ _ (field_reads class 4) (λ array. then_reads _ _ (or_none_reads array) (λ vs. names_reads vs))
 
-    field_names_reads : (classes : List Value) → OnlyReads s (field_names table classes)
+    pub field_names_reads : (classes : List Value) → OnlyReads s (field_names table classes)
     unfolding field_names
     field_names_reads [] = answer_reads []
     field_names_reads (class ∷ classes) = then_reads _ _ (field_names_reads classes) (λ above. then_reads _ _ (own_reads class) (λ own. answer_reads _))
@@ -141,7 +141,7 @@ module _ (s : State Table) where
         (λ array. then_reads _ _ (or_none_reads array)
         (λ shared. answer_reads _))))
 
-    pools_reads : (classes : List Value) → OnlyReads s (pools table classes)
+    pub pools_reads : (classes : List Value) → OnlyReads s (pools table classes)
     unfolding pools
     pools_reads [] = answer_reads []
     pools_reads (class ∷ classes) = then_reads _ _ (own_pools_reads class) (λ own. then_reads _ _ (pools_reads classes) (λ above. answer_reads _))
@@ -165,7 +165,7 @@ module _ (s : State Table) where
     shared_reads text None = answer_reads []
     shared_reads text (Some v) = search reading depth 16
 
-    all_shared_reads : (tables : List Value) (texts : List (List ℕ)) → OnlyReads s (shared_names table tables texts)
+    pub all_shared_reads : (tables : List Value) (texts : List (List ℕ)) → OnlyReads s (shared_names table tables texts)
     unfolding shared_names
     all_shared_reads tables [] = answer_reads []
     all_shared_reads tables (text ∷ texts) =

@@ -122,7 +122,7 @@ module _ (s : State Table) (sound : IsSoundTable s.memory) where
         gives_less s _ _ _ full_gives
         (λ b z g f. let a = none_counted h.object.fields 0 (length h.object.fields - 2) (nowhere_full s.memory h.object.fields v v f) in let l = z g in omega (arith, a, l))
 
-    grows_gives : (p : Part) → Gives s (grows_for table d p) (λ b. b ≡ false → HasPlace s.memory h.object.fields p)
+    pub grows_gives : (p : Part) → Gives s (grows_for table d p) (λ b. b ≡ false → HasPlace s.memory h.object.fields p)
     unfolding grows_for place_of_selector
     grows_gives (Made k) = gives_less s _ _ _ full_gives (λ b z g. let l = z g in omega (arith, l))
     grows_gives (There v) =
@@ -162,7 +162,7 @@ module _ (s : State Table) (sound : IsSoundTable s.memory) where
     GrowsIf next true os = IsGrowth next os
     GrowsIf next false os = os ≡ []
 
-    grown_gives : (next : ℕ) (b : Bool) → Gives s (grown_if table d next b) (λ os. GrowsIf next b os)
+    pub grown_gives : (next : ℕ) (b : Bool) → Gives s (grown_if table d next b) (λ os. GrowsIf next b os)
     unfolding grown_if
     grown_gives next true = growth_gives next
     grown_gives next false = gives_answer s _ [] refl
@@ -346,7 +346,7 @@ module _ (s : State Table) (sound : IsSoundTable s.memory) (class : Value) (has 
       (λ ls hl. gives_then s _ _ _ _ (gives_or_die s dead.Field (symbol_part symbols.named parts.selector))
       (λ p e. objects_give symbols hs ls hl.0 hl.1 p (named_part s.memory (length symbols.objects) symbols.named parts.selector p hs.named e))))
 
-  association_gives : (globals : Value) (name : List ℕ) → Gives s (class_association table globals name) (λ v. HasFields s.memory v 2)
+  pub association_gives : (globals : Value) (name : List ℕ) → Gives s (class_association table globals name) (λ v. HasFields s.memory v 2)
   unfolding class_association
   association_gives globals name =
       gives_then s _ _ _ _ (gives_member s sound globals name)
@@ -373,10 +373,10 @@ module _ (s : State Table) (sound : IsSoundTable s.memory) (class : Value) (has 
       by_case false q f = (grind (arith, nat_tests), grind (arith, nat_tests))
 
   module _ (head : Head) where
-    abbrev RoomUnless : List NewObject → Bool → Type 0
+    abbrev pub RoomUnless : List NewObject → Bool → Type 0
     RoomUnless os b = b ≡ false → HasRoom head s.memory (length os) (words_of_all os)
 
-    crowded_gives : (os : List NewObject) → Gives s (is_crowded table head (demand_of_all os)) (λ b. RoomUnless os b)
+    pub crowded_gives : (os : List NewObject) → Gives s (is_crowded table head (demand_of_all os)) (λ b. RoomUnless os b)
     unfolding is_crowded
     crowded_gives os =
         gives_told s _ _ (is_over (both (used table s.memory) (demand_of_all os)) head) refl

@@ -28,7 +28,7 @@ among_itself : (fs : List Value) (k left j : ℕ) (e : Ending) → ending_among 
 among_itself fs k zero j e h = h
 among_itself fs k (suc left) j e h = among_itself fs (suc k) left j e (with_itself k j _ _ h)
 
-not_vacant : (t : Table) (fs : List Value) (selector : Value) (j : ℕ) → ending_for t fs nil selector ≡ Vacant j → ⊥
+pub not_vacant : (t : Table) (fs : List Value) (selector : Value) (j : ℕ) → ending_for t fs nil selector ≡ Vacant j → ⊥
 not_vacant t fs selector j h = nothing j (among_itself fs 0 _ j Nowhere (among_itself fs _ _ j _ h))
   where
     nothing : (j : ℕ) → Nowhere ≡ Vacant j → ⊥
@@ -52,7 +52,7 @@ pub record Refilling (t : Table) (new methods tally : Value) (places done : ℕ)
 
 module _ (head : Head) (t : Table) (new methods tally : Value) (places : ℕ) (apart : new ≢ methods) where
   -- a place that is passed
-  pub passes : (done : ℕ) (u : Table) → Refilling t new methods tally places done u → Refilling t new methods tally places (suc done) u
+  unfoldable pub passes : (done : ℕ) (u : Table) → Refilling t new methods tally places done u → Refilling t new methods tally places (suc done) u
   passes done u h = record {
     dictionary = h.dictionary;
     is = h.is;
@@ -70,16 +70,16 @@ module _ (head : Head) (t : Table) (new methods tally : Value) (places : ℕ) (a
   }
 
   module _ (done : ℕ) (u : Table) (h : Refilling t new methods tally places done u) (k : ℕ) (x y : Value) where
-    array_there : object_at (replaced u new (with_field h.dictionary (2 + k) x)) methods ≡ Some h.array
+    pub array_there : object_at (replaced u new (with_field h.dictionary (2 + k) x)) methods ≡ Some h.array
     array_there = replaced-other u new methods (with_field h.dictionary (2 + k) x) (λ e. apart (sym e)) ∙ h.array_is
 
-    kept_between : IsKept u (replaced u new (with_field h.dictionary (2 + k) x))
+    pub kept_between : IsKept u (replaced u new (with_field h.dictionary (2 + k) x))
     kept_between = kept_replaced u new h.dictionary (with_field h.dictionary (2 + k) x) h.is (like_with_field h.dictionary (2 + k) x)
 
-    kept_behind : IsKept u (replaced (replaced u new (with_field h.dictionary (2 + k) x)) methods (with_field h.array k y))
+    pub kept_behind : IsKept u (replaced (replaced u new (with_field h.dictionary (2 + k) x)) methods (with_field h.array k y))
     kept_behind = kept_then u _ _ kept_between (kept_replaced _ methods h.array (with_field h.array k y) array_there (like_with_field h.array k y))
 
-    put_leaves : Refilling t new methods tally places (suc done) (replaced (replaced u new (with_field h.dictionary (2 + k) x)) methods (with_field h.array k y))
+    unfoldable pub put_leaves : Refilling t new methods tally places (suc done) (replaced (replaced u new (with_field h.dictionary (2 + k) x)) methods (with_field h.array k y))
     put_leaves = record {
       dictionary = with_field h.dictionary (2 + k) x;
       is = replaced-other _ methods new (with_field h.array k y) apart ∙ replaced-it u new (with_field h.dictionary (2 + k) x) h.dictionary h.is;
@@ -96,21 +96,28 @@ module _ (head : Head) (t : Table) (new methods tally : Value) (places : ℕ) (a
       kept = kept_then t u _ h.kept kept_behind;
     }
 
-    pub put_goes : k < places → is_there bounded_table u x ≡ true → is_there bounded_table u y ≡ true
-        → Goes head (put_method bounded_table new methods k x y) u (λ a w. Refilling t new methods tally places (suc done) w)
+    -- the dictionary and its Array with them
+    pub put_exactly : k < places → is_there bounded_table u x ≡ true → is_there bounded_table u y ≡ true
+        → Goes head (put_method bounded_table new methods k x y) u (λ a w. w ≡ replaced (replaced u new (with_field h.dictionary (2 + k) x)) methods (with_field h.array k y))
     unfolding put_method
-    put_goes l p there =
+    put_exactly l p there =
         let n = h.size in
         let m = h.array_size in
         next_goes head u (λ a w. Stores new h.dictionary (with_field h.dictionary (2 + k) x) u w) _ _ _
         (store_goes u new h.dictionary head h.is (2 + k) x h.pointers (omega (arith, n, l)) p)
-        (λ a w e. subst (λ z. Goes head (store_field bounded_table methods k y) z (λ b z. Refilling t new methods tally places (suc done) z)) (sym e.is)
+        (λ a w e. subst (λ z. Goes head (store_field bounded_table methods k y) z (λ b z. z ≡ replaced (replaced u new (with_field h.dictionary (2 + k) x)) methods (with_field h.array k y))) (sym e.is)
         (record {
           value = tt;
           next = replaced (replaced u new (with_field h.dictionary (2 + k) x)) methods (with_field h.array k y);
           goes = λ s same. store_runs _ methods h.array s array_there k y h.array_pointers (omega (arith, m, l)) (there_kept u _ y kept_between there);
-          leaves = put_leaves;
+          leaves = refl;
         }))
+
+    pub put_goes : k < places → is_there bounded_table u x ≡ true → is_there bounded_table u y ≡ true
+        → Goes head (put_method bounded_table new methods k x y) u (λ a w. Refilling t new methods tally places (suc done) w)
+    put_goes l p there =
+        let g = put_exactly l p there in
+        record { value = g.value; next = g.next; goes = g.goes; leaves = subst (λ w. Refilling t new methods tally places (suc done) w) (sym g.leaves) put_leaves }
 
   module _ (done : ℕ) (u : Table) (h : Refilling t new methods tally places done u) (x y : Value) (p : is_there bounded_table u x ≡ true) (q : is_there bounded_table u y ≡ true) where
     pub put_at_goes : (e : Ending) → IsWithin places e → e ≢ Nowhere → ((j : ℕ) → e ≢ Vacant j)

@@ -72,10 +72,10 @@ tells_end t k false true n e h s = refl
 tells_end t k false false n e h s = h s
 
 module _ (m : ObjectMemory Table) (reads : ReadsAs m) where
-  half_tells : (t : Table) (v : Value) → Tells (half_word m v) t (half_of t v)
+  pub half_tells : (t : Table) (v : Value) → Tells (half_word m v) t (half_of t v)
   half_tells t v = subst (λ y. Tells y t (half_of t v)) (sym (reads.halves v)) (half_told t v)
 
-  page_tells : (t : Table) → Tells (of_page m NilObject) t nil
+  pub page_tells : (t : Table) → Tells (of_page m NilObject) t nil
   page_tells t = subst (λ y. Tells y t nil) (of_page-as bounded_reads.tabular NilObject ∙ sym (of_page-as reads.tabular NilObject)) (tells_page t NilObject)
 
   module _ (t : Table) (d : Value) (o : Object) (e : object_at t d ≡ Some o) (p : is_pointers o.kind ≡ true) where

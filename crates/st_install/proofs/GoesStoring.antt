@@ -94,7 +94,7 @@ raised_by : (t : Table) (n : ℕ) (b : Bool) → n < 32768 → is_there bounded_
 raised_by t n true l = grind (arith, nat_tests)
 raised_by t n false l = grind (arith, nat_tests)
 
-raised_there : (t : Table) (v : Value) → is_there bounded_table t v ≡ true → is_there bounded_table t (raised_tally v) ≡ true
+pub raised_there : (t : Table) (v : Value) → is_there bounded_table t v ≡ true → is_there bounded_table t (raised_tally v) ≡ true
 raised_there t (Small n) h = raised_by t n (n == 16383) (grind (arith, nat_tests))
 raised_there t (Ref n) h = h
 

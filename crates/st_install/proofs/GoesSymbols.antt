@@ -83,7 +83,7 @@ module _ (s : State Table) (sound : IsSoundTable s.memory) where
   unfolding member_named
   gives_member o text = field_gives o (λ v. has_name table v text) (λ v. gives_has v text)
 
-  gives_named : (o : Value) (text : List ℕ) → Gives s (symbol_named table o text) IsFound
+  pub gives_named : (o : Value) (text : List ℕ) → Gives s (symbol_named table o text) IsFound
   unfolding symbol_named
   gives_named o text = field_gives o (λ v. is_symbol table v text) (λ v. gives_symbol v text)
 

@@ -64,3 +64,12 @@ pub mod Stores
 pub mod Makings
 mod Unbounded
 pub mod Carryings
+pub mod GainsPlaces
+pub mod GainsRefilling
+pub mod GainsFinding
+pub mod GainsClass
+pub mod GainsPlanning
+pub mod GainsStoring
+pub mod GainsEffect
+pub mod GainsNames
+pub mod GainsLaw

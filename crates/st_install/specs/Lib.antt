@@ -29,3 +29,4 @@ pub mod Told
 pub mod Naming
 pub mod Growing
 pub mod Placings
+pub mod Gains
