@@ -1,26 +1,11 @@
 pub mod Opened
 pub mod Image
 mod InstallRows
-pub mod SameTexts
-pub mod TextsAt
-pub mod FirstFields
 mod LiteralRows
-pub mod ClassesOf
-pub mod Tallies
 pub mod SymbolsAt
-pub mod LeftTables
-pub mod Lineages
 pub mod Seeking
 pub mod Going
 pub mod Filled
-pub mod Passing
-pub mod Alike
-pub mod Finding
-pub mod FieldsOf
-pub mod TextsOf
-pub mod PoolsOf
-pub mod Walking
-pub mod LineageOf
 pub mod Goes
 pub mod GoesMaking
 pub mod GoesFilling
@@ -51,8 +36,6 @@ pub mod SameInstalls
 pub mod SameAnswers
 pub mod SameHeaders
 pub mod Rooms
-pub mod SoughtIn
-pub mod SeenIn
 pub mod Numbers
 pub mod Singles
 pub mod Placing

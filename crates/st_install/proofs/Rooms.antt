@@ -7,7 +7,7 @@ use Rattle.st_model.specs.Machine.{State, Went, used, is_over, answer, after, â—
 use Rattle.st_model.specs.Objects.{one, words_of}
 use Rattle.st_model.specs.Table.{Table, table, total_used}
 use Rattle.st_model.specs.View.{View, fits}
-use Rattle.st_install.specs.declared.fault.InstallFault.TheVariants.{NoRoom}
+use Rattle.st_names.specs.declared.fault.InstallFault.TheVariants.{NoRoom}
 use Rattle.st_install.specs.Plans.{Plan, demand_of_all}
 use Rattle.st_install.specs.Calls.{both, is_crowded, room_or, with_room}
 

@@ -12,9 +12,10 @@ use Rattle.st_model.specs.Laws.{Runs}
 use Rattle.st_tree.specs.Views.{MethodView}
 use Rattle.st_emit.specs.Names.{NamesView}
 use Rattle.st_code.specs.Methods.{PartsView}
-use Rattle.st_install.specs.declared.fault.InstallFault.{InstallFault}
+use Rattle.st_names.specs.declared.fault.InstallFault.{InstallFault}
 use Rattle.st_install.specs.Plans.{Plan}
-use Rattle.st_install.specs.Calls.{class_of_name, names, ready}
+use Rattle.st_names.specs.Calls.{class_of_name, names}
+use Rattle.st_install.specs.Calls.{ready}
 use Rattle.st_install.specs.Installing.{install}
 use Rattle.st_install.specs.SamePlans.{renamed_class, IsLiveClass, renamed_ready, IsLiveReady, renamed_plan}
 use Rattle.st_install.specs.Same.{AnswersAlike, RunsOn, HasHeader, IsReady}

@@ -13,7 +13,8 @@ use Rattle.st_tree.specs.Views.{MethodView}
 use Rattle.st_emit.specs.Names.{NamesView}
 use Rattle.st_code.specs.Methods.{PartsView}
 use Rattle.st_install.specs.Plans.{Part, There, Made, NewObject, Plan}
-use Rattle.st_install.specs.Calls.{names, ready}
+use Rattle.st_names.specs.Calls.{names}
+use Rattle.st_install.specs.Calls.{ready}
 use Rattle.st_install.specs.Installing.{install}
 
 -- the header of parts is a SmallInteger that counts their literals, as that of each compiled method is

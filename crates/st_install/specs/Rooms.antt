@@ -2,8 +2,8 @@
 use Rattle.std.specs.Prelude.{◌≡◌, Result, Ok, Err, ⊤}
 use Rattle.st_model.specs.Machine.{State, Went, Step}
 use Rattle.st_model.specs.Table.{Table}
-use Rattle.st_install.specs.declared.fault.InstallFault.{InstallFault}
-use Rattle.st_install.specs.declared.fault.InstallFault.TheVariants.{OutOfMemory}
+use Rattle.st_names.specs.declared.fault.InstallFault.{InstallFault}
+use Rattle.st_names.specs.declared.fault.InstallFault.TheVariants.{OutOfMemory}
 use Rattle.st_install.specs.declared.plan.Ready.{Ready}
 use Rattle.st_install.specs.Plans.{Plan}
 use Rattle.st_install.specs.Readies.{plan_of}

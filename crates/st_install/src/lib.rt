@@ -4,41 +4,24 @@
 //! over a table to the same over births.
 #![tactic(auto)]
 
-mod arrays;
-mod chains;
-mod classes;
-mod fault;
-mod fields;
 mod filling;
 mod growing;
 mod installing;
 mod laws;
-mod lineage;
+mod literals;
 mod making;
-mod mentions;
 mod places;
 mod plan;
-mod literals;
-mod naming;
-mod pools;
-mod reading;
-mod room;
 mod refilling;
-mod shapes;
-mod sharing;
+mod room;
 mod single;
 mod sizes;
-mod sought;
 mod storing;
 mod sure;
 mod symbol_plan;
 mod symbols;
-mod tables;
-mod unread;
 
-pub use classes::class_of_name;
-pub use fault::InstallFault;
 pub use installing::install;
 pub use laws::install_shows_births;
-pub use naming::names;
 pub use plan::Ready;
+pub use st_names::{InstallFault, class_of_name, names};

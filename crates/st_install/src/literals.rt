@@ -10,9 +10,9 @@ use crate::single::{
     ARRAY_CLASS, NamedSymbols, Owner, Single, place_character, place_number, place_owner,
     place_pointer, place_string, place_symbol, pointers_object,
 };
-use crate::unread::Unread;
 use st_emit::Literal;
 use st_memory::Memory;
+use st_names::Unread;
 use st_tree::Signed;
 use std::alloc::{AllocError, Global};
 

@@ -8,9 +8,9 @@ ghost use Rattle.st_model.specs.Calls.{Reads, itself};
 ghost use Rattle.st_install.specs.Dictionaries.{count_places, seek_from, seek};
 ghost use Rattle.st_install.specs.Endings.{SeeksAt, SeeksFrom, ending_of, IsSmallPlace};
 
-use crate::reading::{count_fields, fetch_field};
 use st_memory::Memory;
 use st_model::{Dead, Oop};
+use st_names::{count_fields, fetch_field};
 
 /// The place at which a search ends, counted from 0.
 #[derive(Clone, Copy, Debug, PartialEq, Eq)]

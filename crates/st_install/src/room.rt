@@ -7,10 +7,10 @@ ghost use Rattle.st_install.specs.Calls.{with_room};
 ghost use Rattle.st_install.specs.Readies.{object_of, objects_of, plan_of, HasRoom};
 ghost use Rattle.st_install.specs.Rooms.{TellsReady};
 
-use crate::fault::InstallFault;
 use crate::plan::{NewObject, Ready};
 use st_memory::Memory;
 use st_model::Demand;
+use st_names::InstallFault;
 
 /// The words of a new object, where they are below 2^32.
 fn words_of_new(object: &NewObject) -> Option<u32>

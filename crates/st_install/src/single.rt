@@ -11,10 +11,9 @@ ghost use Rattle.st_install.specs.Readies.{part_of, parts_of, object_of};
 ghost use Rattle.st_install.specs.Told.{IsSingle, TellsSingle, part_placed, owner_step, named_of};
 
 use crate::plan::{NewObject, Part};
-use crate::reading::{class_of, fetch_field};
-use crate::unread::Unread;
 use st_memory::Memory;
 use st_model::{Dead, Kind, Oop};
+use st_names::{Unread, class_of, fetch_field};
 use st_tree::{Signed, Text};
 use std::alloc::{AllocError, Global};
 use std::collections::BTreeMap;

@@ -12,13 +12,12 @@ ghost use Rattle.st_install.specs.Naming.{nil, Becomes, with_named, in_field, in
 
 use crate::literals::put_object;
 use crate::plan::{NewObject, Part, SymbolStore};
-use crate::reading::{count_fields, fetch_field};
 use crate::single::{ARRAY_CLASS, NamedSymbols, bytes_object, named_symbol, pointers_object};
 use crate::symbols::symbol_named;
-use crate::unread::Unread;
 use st_emit::Literal;
 use st_memory::Memory;
 use st_model::Oop;
+use st_names::{Unread, count_fields, fetch_field};
 use std::alloc::{AllocError, Global};
 use std::collections::BTreeMap;
 

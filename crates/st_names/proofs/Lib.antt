@@ -1,0 +1,17 @@
+pub mod SameTexts
+pub mod TextsAt
+pub mod FirstFields
+pub mod ClassesOf
+pub mod Tallies
+pub mod LeftTables
+pub mod Lineages
+pub mod Passing
+pub mod Alike
+pub mod Finding
+pub mod FieldsOf
+pub mod TextsOf
+pub mod PoolsOf
+pub mod Walking
+pub mod LineageOf
+pub mod SoughtIn
+pub mod SeenIn

@@ -1,0 +1,14 @@
+pub mod Tables
+pub mod Texts
+pub mod Classes
+pub mod Mentions
+pub mod Variables
+pub mod Shapes
+pub mod Calls
+pub mod Meanings
+pub mod Findings
+pub mod Lineages
+pub mod Walks
+pub mod Alike
+pub mod Sought
+pub mod Seen
