@@ -56,3 +56,8 @@ pub mod GainsStoring
 pub mod GainsEffect
 pub mod GainsNames
 pub mod GainsLaw
+pub mod Drafting
+pub mod Growths
+pub mod Planned
+pub mod Readying
+pub mod Smalls

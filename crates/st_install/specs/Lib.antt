@@ -18,3 +18,4 @@ pub mod Placings
 pub mod Gains
 pub mod Shapes
 pub mod Calls
+pub mod PlanDrafts

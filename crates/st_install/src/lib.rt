@@ -1,7 +1,6 @@
-//! The installation of a definition in an image: `class_of_name` finds its class, `names` the names that its method sees, and
-//! `install` carries out a plan that is ready. The Symbols and shapes here are for the call to come between them: whether a method
-//! can be installed. It is defined in `ready` of `specs/Calls.antt`, and `install_shows_births` is the law that joins all of them
-//! over a table to the same over births.
+//! The installation of a definition in an image: `class_of_name` finds its class, `names` the names that its method sees, `ready`
+//! says whether the method can be installed and makes the plan of that, and `install` carries the plan out.
+//! `install_shows_births` is the law that joins all of them over a table to the same over births.
 #![tactic(auto)]
 
 mod filling;
@@ -12,6 +11,8 @@ mod literals;
 mod making;
 mod places;
 mod plan;
+mod planning;
+mod readiness;
 mod refilling;
 mod room;
 mod single;
@@ -24,4 +25,5 @@ mod symbols;
 pub use installing::install;
 pub use laws::install_shows_births;
 pub use plan::Ready;
+pub use readiness::ready;
 pub use st_names::{InstallFault, class_of_name, names};
