@@ -1,5 +1,5 @@
 //! The program: `st80 once IMAGE N` reads an image file, runs N cycles of its machine, and says what it
-//! shows then.
+//! shows then; `st80 session IMAGE` follows a script from standard input over the machine of an image.
 #![tactic(auto)]
 
 #[cfg(test)]

@@ -1,4 +1,7 @@
+pub mod Joining
 mod Opened
+pub mod Exits
+pub mod Headed
 mod Rows
 pub mod Scanned
 pub mod Syntaxes

@@ -3,6 +3,10 @@
 
 mod installation;
 mod laws;
+mod preparing;
+mod unprepared;
 
 pub use installation::Installation;
 pub use laws::one_syntax;
+pub use preparing::{Prepared, prepare};
+pub use unprepared::Unprepared;

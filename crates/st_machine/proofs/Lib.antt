@@ -1,4 +1,4 @@
-mod Settled
+pub mod Settled
 mod Endings
 mod Foreseeing
 mod Runs

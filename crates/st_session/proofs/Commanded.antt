@@ -1,8 +1,12 @@
 -- A session over an image, from the reading of the image to the last line.
-use Rattle.std.proofs.Common.{◌≡◌, ◌≤◌, ℕ, List, inl, inr, sym, subst, arith}
+use Rattle.std.proofs.Common.{◌≡◌, ◌≤◌, ℕ, List, inl, inr, sym, subst, arith, [], Ok}
 use Rattle.std.specs.Prelude.{◌⊎◌}
 use Rattle.st_outside.specs.Counts.{Rose}
-use Rattle.st_outside.specs.Runs.{OnlyReads}
+use Rattle.st_outside.specs.Runs.{OnlyReads, ReadsAndSays}
+use Rattle.st_outside.specs.declared.host.SayFault.{SayFault}
+use Rattle.st_outside.proofs.Telling.{OnlyNow}
+use Rattle.st_report.specs.Saying.{Pushes}
+use Rattle.st_report.proofs.Pushing.{push_none}
 use Rattle.st_outside.specs.declared.host.Host.{Ghosts}
 use Rattle.st_outside.proofs.Rising.{rose_first, rose_second}
 use Rattle.st_course.specs.declared.status.Status.{Status}
@@ -15,7 +19,7 @@ use Rattle.st_session.specs.Points.{alive}
 use Rattle.st_session.specs.Keeping.{keeps_nothing}
 use Rattle.st_session.specs.Sessions.{session, session_so_far}
 use Rattle.st_session.specs.Ends.{IsCalm}
-use Rattle.st_session.specs.Commands.{IsReadable, status_of, IsImageRefusal, RefusalHasCause, IsOver, IsWholeSession}
+use Rattle.st_session.specs.Commands.{IsReadable, status_of, IsImageRefusal, RefusalHasCause, IsOver, IsWholeSession, SaysInTurn}
 use Rattle.st_session.proofs.Ending.{complete_at}
 
 module _ {D : Type 0} (host : Ghosts D) (reads : Type 0) where
@@ -71,3 +75,21 @@ module _ {D : Type 0} (host : Ghosts D) (reads : Type 0) where
   complete_over install bytes script old new e (inl r) cause whole calm = refused_whole bytes old new r.refusal e r.is whole.0 r.why cause calm
   complete_over install bytes script old new e (inr s) cause whole calm =
       complete_at host (λ x. Unit {0}) (session keeps_nothing install 0 0 (alive s.births tt) script) (session_so_far keeps_nothing install 0 0 (alive s.births tt)) script reads e old new (λ f. (s.ends.whole f).0) cause (whole.1 s.births s.begins) calm
+
+-- a fault of the source that never comes has any cause
+pub cause_any : {D : Type 0} (host : Ghosts D) (reads : Type 0) (old new : D) (e : Status) → StatusHasCause host ⊥ old new e → StatusHasCause host reads old new e
+cause_any host reads old new status.Done h = h
+cause_any host reads old new status.Usage h = h
+cause_any host reads old new (status.Image f) h = h
+cause_any host reads old new (status.Script line) h = h
+cause_any host reads old new status.ReadFault h = absurd h
+cause_any host reads old new status.SayFault h = h
+cause_any host reads old new status.DiskFault h = h
+cause_any host reads old new status.TooLarge h = h
+cause_any host reads old new status.OutOfMemory h = h
+
+-- one run of calls, and none behind it
+pub in_turn : {D : Type 0} (host : Ghosts D) (text : List ℕ) (old new : D) → OnlyNow host new → ReadsAndSays host text old new → SaysInTurn host old new
+in_turn host text old new only run =
+    let none : Pushes {E = SayFault} host [] new new [] [] (Ok tt) = push_none host new only in
+    record { middle = new; text = text; line = none.adds.said; first = run; second = none.adds.says.part }

@@ -1,4 +1,5 @@
 pub mod Commanded
+pub mod Compiling
 pub mod Cycles
 pub mod Digits
 pub mod Ending

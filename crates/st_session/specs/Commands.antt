@@ -18,8 +18,8 @@ use Rattle.st_definition.specs.Installing.{Install}
 use Rattle.st_session.specs.Points.{alive}
 use Rattle.st_session.specs.Keeping.{keeps_nothing}
 use Rattle.st_session.specs.Sessions.{session, session_so_far}
-use Rattle.st_session.specs.Ends.{SessionEnds}
-use Rattle.st_session.specs.Words.{once_of, word_at}
+use Rattle.st_session.specs.Ends.{IsCalm, SessionEnds}
+use Rattle.st_session.specs.Words.{command_of, Once, Session}
 use Rattle.st_session.specs.declared.image_refusal.ImageRefusal.{ImageRefusal}
 use Rattle.st_session.specs.declared.image_refusal.ImageRefusal.TheVariants as refusal
 use Rattle.st_course.specs.declared.status.Status.{Status}
@@ -162,11 +162,16 @@ module _ {D : Type 0} (host : Ghosts D) where
     pub over : IsOver install bytes script old closed status
     pub line : SaysLastLine status closed new
 
-  -- How a call of the program with these words ends, over the bytes of the image that they name. It changes
-  -- no file.
-  pub record CallEnds (words : List (List ℕ)) (old new : D) (status : Status) : Type 0 where
-    pub usage : once_of words ≡ None → (status ≡ Usage) × SaysLastLine Usage old new
-    pub once : (n : ℕ) → once_of words ≡ Some n
-        → OnceEnds (bytes_of (host.files old (word_at words 1))) n old new status
-    pub cause : StatusHasCause host ⊥ old new status
-    pub reads : (text : List ℕ) × ReadsAndSays host text old new
+  -- How a call of the program with these words ends, over the bytes of the image that they name and of the script, where `read`
+  -- says that the source tells these, and `reads` that it had a fault. It changes no file.
+  pub record CallEnds (install : Install) (words : List (List ℕ)) (read reads : Type 0) (script : List ℕ) (old new : D) (status : Status) : Type 0 where
+    pub usage : command_of words ≡ None → (status ≡ Usage) × SaysLastLine Usage old new
+    pub once : (image : List ℕ) (n : ℕ) → command_of words ≡ Some (Once image n)
+        → OnceEnds (bytes_of (host.files old image)) n old new status
+    pub session : (image : List ℕ) → command_of words ≡ Some (Session image) → IsTrue host.is_told → read
+        → SessionCommandEnds install (bytes_of (host.files old image)) script old new status
+    pub complete : (image : List ℕ) → command_of words ≡ Some (Session image) → IsTrue host.is_told → read
+        → IsWholeSession install (bytes_of (host.files old image)) script → IsCalm host reads old new
+        → (status ≡ Done) ⊎ (status ≡ OutOfMemory)
+    pub cause : StatusHasCause host reads old new status
+    pub says : SaysInTurn old new

@@ -11,5 +11,6 @@ pub mod Sessions
 pub mod Standing
 pub mod Ends
 pub mod Words
+pub mod CommandViews
 pub mod Commands
 pub mod Reports

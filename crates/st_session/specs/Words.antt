@@ -1,5 +1,5 @@
--- The words of the program, without its name: once IMAGE N.
-use Rattle.std.specs.Prelude.{ℕ, ◌+◌, ◌*◌, ◌-◌, ◌==◌, Bool, false, not, ◌&&◌, ◌||◌, nat_eq, nat_le, List, [], ◌∷◌, length, codes, Option, Some, None, if◌then◌else◌}
+-- The words of the program, without its name: once IMAGE N, and session IMAGE.
+use Rattle.std.specs.Prelude.{ℕ, ◌+◌, ◌*◌, ◌-◌, ◌==◌, Bool, true, false, not, ◌&&◌, ◌||◌, nat_eq, nat_le, List, [], ◌∷◌, length, codes, Option, Some, None, if◌then◌else◌}
 use Rattle.std.specs.Cmp.Lexicographic.{pointwise}
 use Rattle.std.proofs.Common.{get_or}
 
@@ -30,3 +30,21 @@ unfoldable pub once_of : List (List ℕ) → Option ℕ
 once_of ws =
     if (length ws == 3) && (pointwise nat_eq (word_at ws 0) (codes "once") && is_operand (word_at ws 1))
     then cycles_said (word_at ws 2) else None
+
+-- session, and an operand
+unfoldable pub is_session : List (List ℕ) → Bool
+is_session ws = (length ws == 2) && (pointwise nat_eq (word_at ws 0) (codes "session") && is_operand (word_at ws 1))
+
+-- a command, with the name of an image
+pub data Command : Type 0 where
+  Once : (image : List ℕ) → (cycles : ℕ) → Command
+  Session : (image : List ℕ) → Command
+
+abbrev pub command_from : List ℕ → Option ℕ → Bool → Option Command
+command_from image (Some n) s = Some (Once image n)
+command_from image None true = Some (Session image)
+command_from image None false = None
+
+-- the command that the words say; None of all other words
+abbrev pub command_of : List (List ℕ) → Option Command
+command_of ws = command_from (word_at ws 1) (once_of ws) (is_session ws)

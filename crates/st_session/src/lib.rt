@@ -5,6 +5,7 @@
 
 mod answering;
 mod command;
+mod compiler;
 mod image;
 mod image_refusal;
 mod installer;
@@ -17,9 +18,10 @@ mod serving;
 mod words;
 
 pub use command::{once, session};
+pub use compiler::Compiler;
 pub use image::read_image;
 pub use image_refusal::ImageRefusal;
 pub use installer::Installer;
 pub use last_line::refuse;
 pub use reading::serve;
-pub use words::{image_name, read_once};
+pub use words::{Command, read_command};

@@ -1,6 +1,16 @@
-ghost use Rattle.std.specs.Prelude.{◌≡◌, map, length, IfSome};
+ghost use Rattle.std.specs.Prelude.{◌≡◌, ◌≤◌, map, length, true, IfSome, option_map};
 ghost use Rattle.std.specs.String.{string_bytes};
-ghost use Rattle.st_session.specs.Words.{is_operand, cycles_said, once_of, word_at};
+ghost use Rattle.st_session.specs.Words.{is_operand, cycles_said, once_of, is_session, word_at, command_of};
+ghost use Rattle.st_session.specs.CommandViews.{command_view};
+
+/// A command of the program.
+#[derive(Clone, Copy)]
+pub enum Command<'a> {
+    /// The report of so many cycles of an image.
+    Once { image: &'a str, cycles: u32 },
+    /// A session over an image.
+    Session { image: &'a str },
+}
 
 /// The most cycles that one run may have.
 const MOST_CYCLES: u64 = 1_000_000_000;
@@ -38,7 +48,7 @@ fn read_cycles(word: &[u8]) -> Option<u32>
 
 /// The number of cycles of the words `once IMAGE N`; none of all other words.
 #[tactic(auto, unfolding(crate::specs::Words::once_of))]
-pub fn read_once(words: &[String]) -> Option<u32>
+fn read_once(words: &[String]) -> Option<u32>
     ensures once { result ≡ once_of (map string_bytes words.now) }
     ensures three { IfSome result (λ _. length words.now ≡ 3) }
 {
@@ -48,10 +58,34 @@ pub fn read_once(words: &[String]) -> Option<u32>
     read_cycles(words[2].as_bytes())
 }
 
+/// Whether these are the words `session IMAGE`.
+#[tactic(auto, unfolding(crate::specs::Words::is_session))]
+fn is_session(words: &[String]) -> bool
+    ensures session { result ≡ is_session (map string_bytes words.now) }
+    ensures two { result ≡ true → length words.now ≡ 2 }
+{
+    words.len() == 2 && words[0].as_str() == "session" && is_operand(words[1].as_bytes())
+}
+
 /// The second word.
-pub fn image_name(words: &[String]) -> &str
-    requires { length words.now ≡ 3 }
+fn image_name(words: &[String]) -> &str
+    requires { 2 ≤ length words.now }
     ensures { result.now ≡ word_at (map string_bytes words.now) 1 }
 {
     words[1].as_str()
+}
+
+/// The command that the words say, without the program's name; none of words that say no command.
+pub fn read_command(words: &[String]) -> Option<Command<'_>>
+    ensures { option_map command_view result ≡ command_of (map string_bytes words.now) }
+{
+    if let Some(cycles) = read_once(words) {
+        let image = image_name(words);
+        return Some(Command::Once { image, cycles });
+    }
+    if is_session(words) {
+        let image = image_name(words);
+        return Some(Command::Session { image });
+    }
+    None
 }

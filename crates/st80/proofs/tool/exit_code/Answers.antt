@@ -1,14 +1,18 @@
 use Rattle.std.proofs.Common.{◌∙◌}
 use Rattle.st80.proofs.tool.exit_code.Goals as goal
 
-pub returns-clause-ends : goal.returns-clause-ends
-returns-clause-ends g c = (
-  c.tool.result,
-  c.from.ensures ∙ c.number.ensures,
-  record {
-    usage = c.tool.ensures.usage;
-    once = c.tool.ensures.once;
-    cause = c.tool.ensures.cause;
-    reads = c.tool.ensures.reads;
-  },
-)
+pub returns : goal.returns
+returns g c = record {
+  ends = (
+    c.tool.result,
+    c.from.ensures ∙ c.number.ensures,
+    record {
+      usage = c.tool.ensures.usage;
+      once = c.tool.ensures.once;
+      session = c.tool.ensures.session;
+      complete = c.tool.ensures.complete;
+      cause = c.tool.ensures.cause;
+      says = c.tool.ensures.says;
+    },
+  );
+}

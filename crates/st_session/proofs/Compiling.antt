@@ -1,0 +1,86 @@
+-- What is prepared of a definition is installed, and what nothing supports then is dropped.
+use Rattle.std.proofs.Common.{◌≡◌, ◌∙◌, refl, sym, ap, subst}
+use Rattle.st_model.specs.declared.oop.Oop.{Oop}
+use Rattle.st_model.specs.Machine.{State, World, Went}
+use Rattle.st_model.specs.Births.{Births}
+use Rattle.st_model.specs.Table.{Table, table, bounded_table}
+use Rattle.st_model.specs.Settled.{reclaim}
+use Rattle.st_model.specs.Show.{Shows}
+use Rattle.st_model.specs.Laws.{Runs}
+use Rattle.st_model.specs.View.{View, IsWhole, SettlesTo}
+use Rattle.st_frames.specs.declared.frame.Frame.{Frame}
+use Rattle.st_frames.specs.Shown.{IsFrame, IsReady, shown}
+use Rattle.st_frames.proofs.Closed.{is_closed}
+use Rattle.st_machine.proofs.Settled.{settled_same}
+use Rattle.st_chunk.specs.Definitions.{Definition}
+use Rattle.st_install.specs.Carried.{Becomes}
+use Rattle.st_install.specs.Goes.{IsReadyFor}
+use Rattle.st_install.specs.Installing.{install}
+use Rattle.st_install.specs.Readies.{plan_of}
+use Rattle.st_definition.proofs.Headed.{code_headed}
+use Rattle.st_course.specs.declared.refusal.Refusal.{Refusal}
+use Rattle.st_definition.specs.declared.installation.Installation.{Installation}
+use Rattle.st_definition.specs.declared.installation.Installation.TheVariants as installation
+use Rattle.st_definition.specs.declared.preparing.Prepared.{Prepared}
+use Rattle.st_definition.specs.Installing.{Installed, Refused, Accepted}
+use Rattle.st_definition.specs.Installations.{InstallsAs}
+use Rattle.st_definition.specs.Defining.{installed}
+use Rattle.st_definition.specs.Prepareds.{IsPrepared}
+use Rattle.st_definition.proofs.Joining.{installs}
+
+-- a memory that holds the same is ready for the same registers and world
+frame_held : (u v : View) (f : Frame) → u.held ≡ v.held → IsFrame v f → IsFrame u f
+frame_held u v f held h = record {
+  active = h.active ∙ (λ i. (sym held i).active);
+  home = h.home ∙ (λ i. (sym held i).home);
+  method = h.method ∙ (λ i. (sym held i).method);
+  receiver = h.receiver ∙ (λ i. (sym held i).receiver);
+  ip_low = h.ip_low;
+  ip_high = h.ip_high;
+  sp_low = h.sp_low;
+  sp_high = h.sp_high;
+}
+
+pub ready_held : (u v : View) (f : Frame) (w : World) → u.held ≡ v.held → IsReady v f w → IsReady u f w
+ready_held u v f w held h = record { frame = frame_held u v f held h.frame; devices = (λ i. (held i).devices) ∙ h.devices }
+
+pub ready_for : (v : View) (d : Definition) (p : Prepared) → IsPrepared v d p → IsReadyFor v (plan_of p.ready)
+ready_for v d p h = record {
+  class = h.class;
+  name = d.class;
+  meta = d.meta;
+  tree = h.tree;
+  seen = h.seen;
+  parts = h.parts;
+  headed = code_headed h.tree h.seen h.parts h.coded;
+  named = h.sees;
+  ready = h.ready;
+}
+
+-- what is refused, and want of memory
+pub refused_as : (o : Installed) (why : Refusal) (c : State Table) → o ≡ Refused why → InstallsAs o (installation.Refused why) c
+refused_as o why c e = subst (λ x. InstallsAs x (installation.Refused why) c) (sym e) refl
+
+pub without_memory : (o : Installed) (c : State Table) → InstallsAs o installation.OutOfMemory c
+without_memory (Refused why) c = tt
+without_memory (Accepted selector t) c = tt
+
+module _ (v : View) (d : Definition) (p : Prepared) (prepared : IsPrepared v d p) (whole : IsWhole v) (f : Frame) (w : World) (ready : IsReady v f w) (s : State Births) (shows : Shows (shown v f w) s) where
+  runs : Runs (shown v f w) s
+  runs = record {
+    shows = shows;
+    sound = record { places = whole.places; closed = is_closed v f w whole ready };
+    entries = whole.most_entries;
+  }
+
+  -- the state with the objects of u, which is as before otherwise
+  same_state : (u : View) → u.head ≡ v.head → record (shown v f w) { memory = u.objects } ≡ shown u f w
+  same_state u head = λ i. record (shown u f w) { head = sym head i }
+
+  pub carried : (u x : View) → Becomes (install bounded_table (plan_of p.ready)) v tt u → SettlesTo u x → InstallsAs (installed d s) (installation.Accepted p.selector) (shown x f w)
+  carried u x becomes settles =
+      let c = shown v f w in
+      let e : State Table = record c { memory = u.objects } in
+      let i = installs c s shows d prepared.class (prepared.found c refl) prepared.tree prepared.reads prepared.seen (prepared.sees c refl) prepared.parts prepared.coded (plan_of p.ready) e runs (prepared.ready c refl) (becomes.run c refl refl) in
+      let settled : reclaim table e ≡ shown x f w = ap (reclaim table) (same_state u becomes.head) ∙ settled_same u x f w (ready_held u v f w becomes.held ready) settles in
+      subst (λ o. InstallsAs o (installation.Accepted p.selector) (shown x f w)) (sym i.installs) (prepared.selector, subst (λ t. Shows t i.state) settled i.runs.shows)

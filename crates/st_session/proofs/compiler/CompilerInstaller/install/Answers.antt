@@ -1,0 +1,14 @@
+use Rattle.std.proofs.Common.{Err, refl, subst}
+use Rattle.st_frames.specs.Shown.{shown}
+use Rattle.st_script.specs.Definitions.{definition_of}
+use Rattle.st_definition.specs.Defining.{installed}
+use Rattle.st_definition.specs.Prepareds.{PreparesAs}
+use Rattle.st_session.proofs.Compiling.{refused_as}
+use Rattle.st_session.proofs.compiler.CompilerInstaller.install.Goals as goal
+
+pub returns-in-Err-Refused-clause-installs : goal.returns-in-Err-Refused-clause-installs
+returns-in-Err-Refused-clause-installs g c = λ f w s ready shows.
+    let v = g.M.Memory.view c.args.m.now in
+    let d = definition_of c.args.definition.now in
+    let refuses = subst (λ u. PreparesAs v d (Err u)) c.in-Err-Refused.field-0-is c.in-Err-Refused.ensures in
+    refused_as (installed d s) c.in-Err-Refused.why (shown v f w) (refuses (shown v f w) s (record { objects = refl; head = refl }) shows)

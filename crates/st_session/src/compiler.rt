@@ -1,0 +1,49 @@
+ghost use Rattle.st_chunk.specs.Definitions.{Definition as DefinitionView};
+ghost use Rattle.st_model.specs.Machine.{State, World};
+ghost use Rattle.st_model.specs.Births.{Births};
+ghost use Rattle.st_model.specs.Show.{Shows};
+ghost use Rattle.st_frames.specs.declared.frame.Frame.{Frame};
+ghost use Rattle.st_frames.specs.Shown.{IsReady, shown};
+ghost use Rattle.st_definition.specs.Defining.{installed};
+ghost use Rattle.st_definition.specs.Installations.{InstallsAs, Unchanged};
+ghost use Rattle.st_definition.specs.Prepareds.{IsPrepared};
+
+use crate::installer::Installer;
+use st_definition::{Installation, Prepared, Unprepared, prepare};
+use st_install::install;
+use st_memory::Memory;
+use st_script::Definition;
+use std::alloc::Global;
+
+/// Installs definitions by parsing and compiling their texts.
+pub struct Compiler;
+
+/// Installs what is prepared, and drops what nothing supports then.
+fn carry_out<M: Memory>(m: &mut M, prepared: Prepared) -> Installation
+    requires prepared { (d : DefinitionView) × IsPrepared (M.view m.old) d prepared }
+    ensures installs { (d : DefinitionView) (f : Frame) (w : World) (s : State Births)
+        → IsPrepared (M.view m.old) d prepared → IsReady (M.view m.old) f w
+        → Shows (shown (M.view m.old) f w) s
+        → InstallsAs (installed d s) result (shown (M.view m.new) f w) }
+    ensures refused { Unchanged result (M.view m.old) (M.view m.new) }
+    ensures ready { (f : Frame) (w : World) → IsReady (M.view m.old) f w
+        → IsReady (M.view m.new) f w }
+{
+    install(m, prepared.ready);
+    m.settle();
+    Installation::Accepted(prepared.selector)
+}
+
+impl Installer for Compiler {
+    ghost use Rattle.st_definition.specs.Defining.{installed};
+
+    ghost install = { installed };
+
+    fn install<M: Memory>(alloc: Global, m: &mut M, definition: &Definition<'_>) -> Installation {
+        match prepare(alloc, m, definition) {
+            Ok(prepared) => carry_out(m, prepared),
+            Err(Unprepared::Refused(why)) => Installation::Refused(why),
+            Err(Unprepared::OutOfMemory) => Installation::OutOfMemory,
+        }
+    }
+}
