@@ -119,10 +119,11 @@ fn host_with(alloc: Global, bytes: &[u8]) -> Result<MemHost, AllocError> {
     Ok(host)
 }
 
-/// Calls the program with these words, and checks its status.
-fn check_status(
+/// Calls the program with these words over this script, and checks its status.
+fn check_call(
     rt: &(impl Abort + AllocGlobal),
     host: &mut MemHost,
+    script: &mut MemSource,
     words: &[&str],
     status: Status,
 ) -> Result<(), Fail> {
@@ -131,10 +132,20 @@ fn check_status(
     for word in words {
         given.push(String::from_str(alloc, *word)?)?;
     }
-    let mut script = MemSource::new(alloc, b"", 1, &[])?;
-    let ended = tool(alloc, given.as_slice(), host, &mut script);
+    let ended = tool(alloc, given.as_slice(), host, script);
     assert_eq!(rt; ended, status);
     Ok(())
+}
+
+/// Calls the program with these words and no script, and checks its status.
+fn check_status(
+    rt: &(impl Abort + AllocGlobal),
+    host: &mut MemHost,
+    words: &[&str],
+    status: Status,
+) -> Result<(), Fail> {
+    let mut script = MemSource::new(rt.alloc(), b"", 1, &[])?;
+    check_call(rt, host, &mut script, words, status)
 }
 
 /// Words put at bytes of image B, the words of the program, its status, and all that it says.
@@ -344,4 +355,91 @@ fn registers_and_methods_are_reached_over_a_memory(rt: HostRuntime) -> Result<()
         Err(ReadImage::Fault(_)) | Err(ReadImage::OutOfMemory) => return Err(AllocError.into()),
     }
     Ok(())
+}
+
+/// A script, the number of the source's call that fails (0: none does), the status, and all that is said.
+type Session<'a> = (&'a str, u64, Status, &'a str);
+
+/// Follows scripts over image B, of which the source gives so many bytes at a time.
+fn check_sessions(
+    rt: &(impl Abort + AllocGlobal),
+    piece: usize,
+    rows: &[Session<'_>],
+) -> Result<(), Fail>
+    requires { 0 < piece }
+{
+    let alloc = rt.alloc();
+    for (text, failing, status, wanted) in rows {
+        let mut host = host_with(alloc, &image(alloc)?)?;
+        let mut script = MemSource::new(alloc, text.as_bytes(), piece, &[*failing])?;
+        check_call(rt, &mut host, &mut script, &["session", "B"], *status)?;
+        assert_eq!(rt; host.said(), wanted.as_bytes());
+    }
+    Ok(())
+}
+
+#[test]
+fn a_script_is_followed_in_pieces_of_any_size(rt: HostRuntime) -> Result<(), Fail> {
+    let rows: [Session<'_>; 8] = [
+        ("", 0, Status::Done, "opened 0 0\n"),
+        ("used\r\nend", 0, Status::Done, "opened 0 0\nused 24 78\n"),
+        (
+            "run 4\n\t\ninput 5\n",
+            0,
+            Status::Done,
+            "opened 0 0\nran 4\nok\n",
+        ),
+        ("end\nhop\n", 0, Status::Done, "opened 0 0\n"),
+        (
+            "!Point methodsFor: 'a'!\nx ^x! !\nclock 1",
+            0,
+            Status::Done,
+            "opened 0 0\nrefused install 2\nok\n",
+        ),
+        (
+            "hop\n",
+            0,
+            Status::Script { line: 1 },
+            "opened 0 0\nscript 1\n",
+        ),
+        (
+            "tick 1\n used\n",
+            0,
+            Status::Script { line: 2 },
+            "opened 0 0\nok\nscript 2\n",
+        ),
+        (
+            "\n!Point methodsFor: 'a'!",
+            0,
+            Status::Script { line: 2 },
+            "opened 0 0\nscript 2\n",
+        ),
+    ];
+    check_sessions(&rt, 1, &rows)?;
+    check_sessions(&rt, 7, &rows)?;
+    check_sessions(&rt, 512, &rows)
+}
+
+/// Eight bytes are the first line, which is answered once the eighth was taken.
+#[test]
+fn a_source_that_fails_ends_a_session_after_what_was_told(rt: HostRuntime) -> Result<(), Fail> {
+    let text = "input 5\nend\n";
+    let rows: [Session<'_>; 5] = [
+        (text, 1, Status::ReadFault, "opened 0 0\nread fault\n"),
+        (text, 8, Status::ReadFault, "opened 0 0\nread fault\n"),
+        (
+            text,
+            9,
+            Status::ReadFault,
+            "opened 0 0\nok\nread fault\n",
+        ),
+        (
+            text,
+            12,
+            Status::ReadFault,
+            "opened 0 0\nok\nread fault\n",
+        ),
+        (text, 13, Status::Done, "opened 0 0\nok\n"),
+    ];
+    check_sessions(&rt, 1, &rows)
 }
