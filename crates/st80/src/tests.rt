@@ -1,4 +1,5 @@
 //! Worked runs of the program over a host in memory, and calls over its memory that it doesn't make yet.
+ghost use Rattle.std.specs.Prelude.{◌<◌};
 ghost use Rattle.st_frames.specs.Shown.{IsFrame};
 
 use crate::tool::tool;
@@ -427,18 +428,8 @@ fn a_source_that_fails_ends_a_session_after_what_was_told(rt: HostRuntime) -> Re
     let rows: [Session<'_>; 5] = [
         (text, 1, Status::ReadFault, "opened 0 0\nread fault\n"),
         (text, 8, Status::ReadFault, "opened 0 0\nread fault\n"),
-        (
-            text,
-            9,
-            Status::ReadFault,
-            "opened 0 0\nok\nread fault\n",
-        ),
-        (
-            text,
-            12,
-            Status::ReadFault,
-            "opened 0 0\nok\nread fault\n",
-        ),
+        (text, 9, Status::ReadFault, "opened 0 0\nok\nread fault\n"),
+        (text, 12, Status::ReadFault, "opened 0 0\nok\nread fault\n"),
         (text, 13, Status::Done, "opened 0 0\nok\n"),
     ];
     check_sessions(&rt, 1, &rows)

@@ -1,6 +1,8 @@
 //! What joins the calls over a memory's table to those over births, in which nothing is reclaimed or moved.
 
 ghost use Rattle.st_install.specs.Same.{ClassShows, NamesShow, ReadyShows, InstallShows, InstallSettles};
+ghost use Rattle.st_install.specs.Goes.{ReadyInstalls};
+ghost use Rattle.st_install.specs.Gains.{Gains};
 
 /// Where a table shows births, `class_of_name`, `names` and `ready` answer over it what they answer over the births, each
 /// object by its pointer, and change nothing. What is then installed in the table of a running machine is what is installed in
@@ -11,4 +13,12 @@ pub fn install_shows_births()
     ensures ready { ReadyShows }
     ensures install { InstallShows }
     ensures settles { InstallSettles }
+{}
+
+/// What is ready is installed: over a memory that makes an object only where there is room, no step of `install` fails. Where the
+/// class is orderly, the search for a method then finds the new one for its selector, and for every other selector that was
+/// there what it found before.
+pub fn install_gains()
+    ensures installs { ReadyInstalls }
+    ensures gains { Gains }
 {}

@@ -1,6 +1,7 @@
 //! The installation of a definition in an image: `class_of_name` finds its class, `names` the names that its method sees, `ready`
 //! says whether the method can be installed and makes the plan of that, and `install` carries the plan out.
-//! `install_shows_births` is the law that joins all of them over a table to the same over births.
+//! `install_shows_births` is the law that joins all of them over a table to the same over births, and `install_gains` the one
+//! of what is found afterwards.
 #![tactic(auto)]
 
 mod filling;
@@ -23,7 +24,7 @@ mod symbol_plan;
 mod symbols;
 
 pub use installing::install;
-pub use laws::install_shows_births;
+pub use laws::{install_gains, install_shows_births};
 pub use plan::Ready;
 pub use readiness::ready;
 pub use st_names::{InstallFault, class_of_name, names};
