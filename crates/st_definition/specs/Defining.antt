@@ -1,5 +1,5 @@
 -- What comes of a definition: it is tested in the order NoGlobals, NoClass, the text's syntax, the shape of class and symbol table,
--- the method's code, the shape of what is replaced, and room; and then it is installed.
+-- the method's code, the table of characters and the size of what is replaced, and room; and then it is installed.
 use Rattle.std.specs.Prelude.{ℕ, List, Result, Ok, Err}
 use Rattle.st_model.specs.Values.{Value}
 use Rattle.st_model.specs.Machine.{ObjectMemory, Head, State, Transition, Died, Went, Step, answer, ◌>>=◌, ◌>>◌}

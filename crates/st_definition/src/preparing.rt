@@ -23,8 +23,8 @@ pub struct Prepared {
 }
 
 /// What a definition's installation makes and stores, or why it isn't installed: the first of NoGlobals, NoClass, a fault of the
-/// text's syntax, Shape for class and symbol table, a fault of the method's code, Shape for what is replaced, and NoRoom. All
-/// memory that the installation needs is taken here.
+/// text's syntax, Shape for class and symbol table, a fault of the method's code, Shape for the table of characters and for the
+/// size of what is replaced, and NoRoom. All memory that the installation needs is taken here.
 pub fn prepare<M: Memory>(
     alloc: Global,
     m: &M,
