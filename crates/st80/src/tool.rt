@@ -7,7 +7,7 @@ ghost use Rattle.st_course.specs.Statuses.{StatusHasCause, number_of};
 ghost use Rattle.st_course.specs.declared.status.Status.TheVariants.{Done, OutOfMemory, Usage};
 ghost use Rattle.st_definition.specs.Defining.{installed};
 ghost use Rattle.st_session.specs.Commands.{OnceEnds, SessionCommandEnds, IsWholeSession, SaysInTurn};
-ghost use Rattle.st_session.specs.Commands.{SaysLastLine, CallEnds};
+ghost use Rattle.st_session.specs.Commands.{IsOfSession, SaysLastLine, CallEnds};
 ghost use Rattle.st_session.specs.Ends.{IsCalm};
 ghost use Rattle.st_session.specs.Words.{command_of, Once, Session};
 
@@ -35,6 +35,8 @@ pub fn tool<H: Host, S: Source>(
     ensures session { (image : List ℕ) → command_of (map string_bytes words.now) ≡ Some (Session image)
         → IsTrue H.is_told → IsTrue S.is_told → let bytes = bytes_of (H.files host.old image) in
         SessionCommandEnds H.Host.own installed bytes (S.remaining script.old) host.old host.new result }
+    ensures kind { (image : List ℕ) → command_of (map string_bytes words.now) ≡ Some (Session image)
+        → IsOfSession H.Host.own (bytes_of (H.files host.old image)) result }
     ensures complete { (image : List ℕ) → command_of (map string_bytes words.now) ≡ Some (Session image)
         → IsTrue H.is_told → IsTrue S.is_told → let bytes = bytes_of (H.files host.old image) in
         IsWholeSession installed bytes (S.remaining script.old)

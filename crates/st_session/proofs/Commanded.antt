@@ -1,6 +1,6 @@
 -- A session over an image, from the reading of the image to the last line.
 use Rattle.std.proofs.Common.{◌≡◌, ◌≤◌, ℕ, List, inl, inr, sym, subst, arith, [], Ok}
-use Rattle.std.specs.Prelude.{◌⊎◌}
+use Rattle.std.specs.Prelude.{◌⊎◌, IsTrue}
 use Rattle.st_outside.specs.Counts.{Rose}
 use Rattle.st_outside.specs.Runs.{OnlyReads, ReadsAndSays}
 use Rattle.st_outside.specs.declared.host.SayFault.{SayFault}
@@ -18,8 +18,8 @@ use Rattle.st_session.specs.declared.image_refusal.ImageRefusal.TheVariants as r
 use Rattle.st_session.specs.Points.{alive}
 use Rattle.st_session.specs.Keeping.{keeps_nothing}
 use Rattle.st_session.specs.Sessions.{session, session_so_far}
-use Rattle.st_session.specs.Ends.{IsCalm}
-use Rattle.st_session.specs.Commands.{IsReadable, status_of, IsImageRefusal, RefusalHasCause, IsOver, IsWholeSession, SaysInTurn}
+use Rattle.st_session.specs.Ends.{IsCalm, IsOfServing}
+use Rattle.st_session.specs.Commands.{IsReadable, status_of, IsImageRefusal, IsOfSession, RefusalHasCause, IsOver, IsWholeSession, SaysInTurn}
 use Rattle.st_session.proofs.Ending.{complete_at}
 
 module _ {D : Type 0} (host : Ghosts D) (reads : Type 0) where
@@ -93,3 +93,23 @@ pub in_turn : {D : Type 0} (host : Ghosts D) (text : List ℕ) (old new : D) →
 in_turn host text old new only run =
     let none : Pushes {E = SayFault} host [] new new [] [] (Ok tt) = push_none host new only in
     record { middle = new; text = text; line = none.adds.said; first = run; second = none.adds.says.part }
+
+module _ {D : Type 0} (host : Ghosts D) (bytes : List ℕ) where
+  -- the status of a script that was followed over an image that is read
+  pub kind_followed : (e : Status) → IsOfServing e → (IsTrue host.is_told → IsReadable bytes) → IsOfSession host bytes e
+  kind_followed status.Done h readable = readable
+  kind_followed status.Usage h readable = absurd h
+  kind_followed (status.Image f) h readable = absurd h
+  kind_followed (status.Script line) h readable = readable
+  kind_followed status.ReadFault h readable = readable
+  kind_followed status.SayFault h readable = readable
+  kind_followed status.DiskFault h readable = tt
+  kind_followed status.TooLarge h readable = λ told. inr (readable told)
+  kind_followed status.OutOfMemory h readable = tt
+
+  -- that of an image that is refused
+  pub kind_refused : (r : ImageRefusal) → (IsTrue host.is_told → IsImageRefusal bytes r) → IsOfSession host bytes (status_of r)
+  kind_refused (refusal.Image f) why = why
+  kind_refused refusal.TooLarge why = λ told. inl (why told)
+  kind_refused refusal.DiskFault why = tt
+  kind_refused refusal.OutOfMemory why = tt

@@ -1,6 +1,6 @@
 -- How a session ends.
 use Rattle.std.proofs.Common.{◌≡◌, ◌⊎◌, inl, inr, ⊎_elim, ℕ, List, [], ◌∷◌, ◌∙◌, Bool, true, false, refl, sym, ap, subst, append-nil}
-use Rattle.std.specs.Prelude.{Result, Ok, Err, IsErrOf, nat_le, length, take}
+use Rattle.std.specs.Prelude.{Result, Ok, Err, IfErr, IsErrOf, nat_le, length, take}
 use Rattle.st_outside.specs.Runs.{SaysAll}
 use Rattle.st_outside.specs.Telling.{Says}
 use Rattle.st_outside.specs.declared.host.Host.{Ghosts}
@@ -20,7 +20,7 @@ use Rattle.st_session.specs.Keeping.{keeps_nothing}
 use Rattle.st_session.specs.Replies.{opened_text}
 use Rattle.st_session.specs.Sessions.{follow, follow_rest, follow_script, longest, session}
 use Rattle.st_session.specs.Telling.{Tells}
-use Rattle.st_session.specs.Ends.{status_in, IsCalm, DidTold, SessionEnds}
+use Rattle.st_session.specs.Ends.{status_in, IsOfServing, IsCalm, DidTold, SessionEnds}
 
 abbrev IsEnded : {C X : Type 0} → Course C X → Type 0
 IsEnded (Goes ds x) = ⊥
@@ -108,3 +108,8 @@ module _ {D : Type 0} (host : Ghosts D) where
       → SessionEnds host (session keeps_nothing install 0 0 p script) so_far script old new (status_in result)
   session_ended install at p so_far script result old new h told =
       ends_of at (session keeps_nothing install 0 0 p script) so_far script result old new (session_ends install 0 0 p script) h told
+
+-- what ends in a status of these, or hasn't ended
+pub served_in : (r : Result Unit Status) → IfErr r IsOfServing → IsOfServing (status_in r)
+served_in (Ok u) h = tt
+served_in (Err e) h = h

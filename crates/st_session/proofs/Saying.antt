@@ -26,6 +26,7 @@ module _ {D : Type 0} (host : Ghosts D) where
     says = says;
     fault = tt;
     counts = record { disk = omega (arith, says.disk_count); say = says.part.say; cause = tt };
+    served = tt;
   }
 
   -- or not
@@ -35,6 +36,7 @@ module _ {D : Type 0} (host : Ghosts D) where
     says = says;
     fault = refl;
     counts = record { disk = omega (arith, says.disk_count); say = says.part.say; cause = cause.rose refl };
+    served = tt;
   }
 
   end_cause : (old mid new : D) (result : Result Unit Status) → IsSayFault result → host.say_faults old ≤ host.say_faults mid → EndHasCause host ⊥ mid new result → EndHasCause host ⊥ old new result
@@ -51,6 +53,7 @@ module _ {D : Type 0} (host : Ghosts D) where
         says = says;
         fault = end.fault;
         counts = record { disk = omega (arith, says.disk_count); say = says.part.say; cause = end_cause old mid new result end.fault run.cause.later end.counts.cause };
+        served = end.served;
       }
     where
       over : (r : Result Unit Status) → OnOk r (SaysAll host q mid new) → OnOk r (SaysAll host text old new)
@@ -65,6 +68,7 @@ module _ {D : Type 0} (host : Ghosts D) where
         says = says;
         fault = refl;
         counts = record { disk = omega (arith, says.disk_count); say = says.part.say; cause = run.cause.rose refl };
+        served = tt;
       }
 
   pub say_fault : (e : Status) → e ≡ status.SayFault → IsFault e

@@ -156,6 +156,19 @@ module _ {D : Type 0} (host : Ghosts D) where
   abbrev pub IsOver : Install → List ℕ → List ℕ → D → D → Status → Type 0
   IsOver install bytes script old new status = IsRefusedImage bytes old new status ⊎ IsFollowed install bytes script old new status
 
+  -- The statuses in which the command session can end, whatever the source tells. A script is followed only over an image that
+  -- is read.
+  abbrev pub IsOfSession : List ℕ → Status → Type 0
+  IsOfSession bytes Done = IsTrue host.is_told → IsReadable bytes
+  IsOfSession bytes Usage = ⊥
+  IsOfSession bytes (Image f) = IsTrue host.is_told → IsFaulty bytes f
+  IsOfSession bytes (Script line) = IsTrue host.is_told → IsReadable bytes
+  IsOfSession bytes ReadFault = IsTrue host.is_told → IsReadable bytes
+  IsOfSession bytes SayFault = IsTrue host.is_told → IsReadable bytes
+  IsOfSession bytes DiskFault = ⊤
+  IsOfSession bytes TooLarge = IsTrue host.is_told → (2 ^ 23 < length bytes) ⊎ IsReadable bytes
+  IsOfSession bytes OutOfMemory = ⊤
+
   -- How the command session ends: with the last line of its status.
   pub record SessionCommandEnds (install : Install) (bytes script : List ℕ) (old new : D) (status : Status) : Type 0 where
     pub closed : D
@@ -170,6 +183,8 @@ module _ {D : Type 0} (host : Ghosts D) where
         → OnceEnds (bytes_of (host.files old image)) n old new status
     pub session : (image : List ℕ) → command_of words ≡ Some (Session image) → IsTrue host.is_told → read
         → SessionCommandEnds install (bytes_of (host.files old image)) script old new status
+    pub kind : (image : List ℕ) → command_of words ≡ Some (Session image)
+        → IsOfSession (bytes_of (host.files old image)) status
     pub complete : (image : List ℕ) → command_of words ≡ Some (Session image) → IsTrue host.is_told → read
         → IsWholeSession install (bytes_of (host.files old image)) script → IsCalm host reads old new
         → (status ≡ Done) ⊎ (status ≡ OutOfMemory)

@@ -1,11 +1,11 @@
 -- How a session ends.
-use Rattle.std.specs.Prelude.{◌≡◌, ℕ, List, take, Result, Ok, Err}
+use Rattle.std.specs.Prelude.{◌≡◌, ℕ, List, take, Result, Ok, Err, ⊤}
 use Rattle.st_outside.specs.Counts.{Rose}
 use Rattle.st_outside.specs.Runs.{SaysAll}
 use Rattle.st_outside.specs.Telling.{Says}
 use Rattle.st_outside.specs.declared.host.Host.{Ghosts}
 use Rattle.st_course.specs.declared.status.Status.{Status}
-use Rattle.st_course.specs.declared.status.Status.TheVariants.{Done, ReadFault}
+use Rattle.st_course.specs.declared.status.Status.TheVariants.{Done, Usage, Image, Script, ReadFault, SayFault, DiskFault, TooLarge, OutOfMemory}
 use Rattle.st_course.specs.Courses.{Course, deeds_of, said_of, IsEnd}
 use Rattle.st_course.specs.Done.{Did}
 use Rattle.st_course.specs.Statuses.{IsFault}
@@ -14,6 +14,18 @@ use Rattle.st_course.specs.Statuses.{IsFault}
 abbrev pub status_in : Result Unit Status → Status
 status_in (Ok u) = Done
 status_in (Err status) = status
+
+-- the statuses in which the following of a script can end, over any machine
+abbrev pub IsOfServing : Status → Type 0
+IsOfServing Done = ⊤
+IsOfServing Usage = ⊥
+IsOfServing (Image f) = ⊥
+IsOfServing (Script line) = ⊤
+IsOfServing ReadFault = ⊤
+IsOfServing SayFault = ⊤
+IsOfServing DiskFault = ⊤
+IsOfServing TooLarge = ⊤
+IsOfServing OutOfMemory = ⊤
 
 module _ {D : Type 0} (host : Ghosts D) where
   -- no count of a fault rose

@@ -1,11 +1,12 @@
 -- A call that says a text, and answers the session's status where that fails.
-use Rattle.std.specs.Prelude.{◌≡◌, ℕ, List, Result, OnOk, Ok, Err}
+use Rattle.std.specs.Prelude.{◌≡◌, ℕ, List, Result, OnOk, Ok, Err, IfErr}
 use Rattle.st_outside.specs.Runs.{SaysAll}
 use Rattle.st_outside.specs.Telling.{Says}
 use Rattle.st_outside.specs.declared.host.Host.{Ghosts}
 use Rattle.st_course.specs.declared.status.Status.{Status}
 use Rattle.st_course.specs.declared.status.Status.TheVariants.{SayFault}
 use Rattle.st_course.specs.Statuses.{Counts}
+use Rattle.st_session.specs.Ends.{IsOfServing}
 
 -- a call that only says fails by a fault in saying
 abbrev pub IsSayFault : Result Unit Status → Type 0
@@ -17,3 +18,4 @@ pub record Tells {D : Type 0} (host : Ghosts D) (text : List ℕ) (old new : D) 
   pub says : Says host text old new
   pub fault : IsSayFault result
   pub counts : Counts host ⊥ old new result
+  pub served : IfErr result IsOfServing

@@ -1,4 +1,4 @@
-ghost use Rattle.std.specs.Prelude.{◌≡◌, None};
+ghost use Rattle.std.specs.Prelude.{◌≡◌, IfErr, None};
 ghost use Rattle.st_model.specs.Machine.{State};
 ghost use Rattle.st_model.specs.Births.{Births, births};
 ghost use Rattle.st_model.specs.Events.{event};
@@ -12,6 +12,7 @@ ghost use Rattle.st_course.specs.Statuses.{Counts};
 ghost use Rattle.st_course.specs.Obeying.{Obeys};
 ghost use Rattle.st_session.specs.Answers.{dead_line, event_course, line_course, living_line};
 ghost use Rattle.st_session.specs.Asking.{IsSaying};
+ghost use Rattle.st_session.specs.Ends.{IsOfServing};
 ghost use Rattle.st_session.specs.Keeping.{keeps_nothing};
 ghost use Rattle.st_session.specs.Points.{Point, gone};
 ghost use Rattle.st_session.specs.Pushing.{PushesCourse};
@@ -108,6 +109,7 @@ fn say_answer<H: Host, M: Memory>(
         → Obeys H.Host.own (StandsAt M.view machine.new) (living_line keeps_nothing s (tt {0}) request)
         result host.old host.new }
     ensures counts { Counts H.Host.own ⊥ host.old host.new result }
+    ensures served { IfErr result IsOfServing }
 {
     let mut out = Output::new();
     match push_answer(&mut out, host, machine, request) {
@@ -130,6 +132,7 @@ fn answer_living<H: Host, M: Memory>(
         → Obeys H.Host.own (StandsAt M.view machine.new) (living_line keeps_nothing s (tt {0}) request)
         result host.old host.new }
     ensures counts { Counts H.Host.own ⊥ host.old host.new result }
+    ensures served { IfErr result IsOfServing }
 {
     match request {
         Request::End => Err(Status::Done),
@@ -144,6 +147,7 @@ fn answer_dead<H: Host>(host: &mut H, cause: Dead, request: Request) -> Result<(
     ensures obeys { Obeys H.Host.own (λ p. p ≡ gone cause (tt {0})) (dead_line cause (tt {0}) request)
         result host.old host.new }
     ensures counts { Counts H.Host.own ⊥ host.old host.new result }
+    ensures served { IfErr result IsOfServing }
 {
     match request {
         Request::End => Err(Status::Done),
@@ -165,6 +169,7 @@ pub(crate) fn answer_line<H: Host, M: Memory>(
         → Obeys H.Host.own (StandsAt M.view machine.new) (line_course keeps_nothing p.being p.kept request)
         result host.old host.new }
     ensures counts { Counts H.Host.own ⊥ host.old host.new result }
+    ensures served { IfErr result IsOfServing }
 {
     match machine.death() {
         Some(cause) => answer_dead(host, cause, request),

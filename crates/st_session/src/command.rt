@@ -11,6 +11,7 @@ ghost use Rattle.st_outside.specs.Telling.{Says};
 ghost use Rattle.st_course.specs.Statuses.{StatusHasCause};
 ghost use Rattle.st_course.specs.declared.status.Status.TheVariants.{Done, OutOfMemory};
 ghost use Rattle.st_session.specs.Commands.{OnceEnds, IsOver, SessionCommandEnds, IsWholeSession, SaysInTurn};
+ghost use Rattle.st_session.specs.Commands.{IsOfSession};
 ghost use Rattle.st_session.specs.Ends.{IsCalm};
 
 use crate::image::{read_image, start};
@@ -57,6 +58,7 @@ fn follow_image<I: Installer, H: Host, L: Loader, S: Source>(
         IsOver H.Host.own I.install bytes (S.remaining script.old) host.old host.new result }
     ensures cause { StatusHasCause H.Host.own (Rose (S.read_faults script.old) (S.read_faults script.new))
         host.old host.new result }
+    ensures kind { IsOfSession H.Host.own (bytes_of (H.files host.old image.now)) result }
     ensures reads { (text : List ℕ) × ReadsAndSays H.Host.own text host.old host.new }
 {
     match read_image::<H, L>(alloc, host, image) {
@@ -82,6 +84,7 @@ pub fn session<I: Installer, H: Host, L: Loader, S: Source>(
         → (result ≡ Done) ⊎ (result ≡ OutOfMemory) }
     ensures cause { StatusHasCause H.Host.own (Rose (S.read_faults script.old) (S.read_faults script.new))
         host.old host.new result }
+    ensures kind { IsOfSession H.Host.own (bytes_of (H.files host.old image.now)) result }
     ensures reads { SaysInTurn H.Host.own host.old host.new }
 {
     let status = follow_image::<I, H, L, S>(alloc, host, script, image);

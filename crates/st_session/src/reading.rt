@@ -1,4 +1,4 @@
-ghost use Rattle.std.specs.Prelude.{◌≡◌, ◌⊎◌, ℕ, List, [], IsTrue, OnOk, IsErrOf};
+ghost use Rattle.std.specs.Prelude.{◌≡◌, ◌⊎◌, ℕ, List, [], IsTrue, IfErr, OnOk, IsErrOf};
 ghost use Rattle.st_outside.specs.Counts.{Rose};
 ghost use Rattle.st_outside.specs.Runs.{ReadsAndSays};
 ghost use Rattle.st_outside.specs.Telling.{Says};
@@ -14,7 +14,7 @@ ghost use Rattle.st_course.specs.declared.status.Status.TheVariants.{Done, ReadF
 ghost use Rattle.st_course.specs.Courses.{ended, IsEnd};
 ghost use Rattle.st_course.specs.Statuses.{Counts, StatusHasCause};
 ghost use Rattle.st_course.specs.Obeying.{Obeys};
-ghost use Rattle.st_session.specs.Ends.{DidTold, IsCalm, SessionEnds, status_in};
+ghost use Rattle.st_session.specs.Ends.{DidTold, IsCalm, IsOfServing, SessionEnds, status_in};
 ghost use Rattle.st_session.specs.Keeping.{keeps_nothing};
 ghost use Rattle.st_session.specs.Points.{Point, alive};
 ghost use Rattle.st_session.specs.Sessions.{follow, follow_script, session, session_so_far, follow_told};
@@ -51,6 +51,7 @@ fn feed<I: Installer, H: Host, M: Memory>(
         (follow keeps_nothing I.install p (asked_by (read reader.old byte)))
         result host.old host.new }
     ensures counts { Counts H.Host.own ⊥ host.old host.new result }
+    ensures served { IfErr result IsOfServing }
 {
     let request = reader.feed(byte);
     answer_told::<I, H, M>(alloc, host, machine, reader, request)
@@ -72,6 +73,7 @@ fn feed_all<I: Installer, H: Host, M: Memory>(
         (follow keeps_nothing I.install p (told_from reader.old bytes.now))
         result host.old host.new }
     ensures counts { Counts H.Host.own ⊥ host.old host.new result }
+    ensures served { IfErr result IsOfServing }
 {
     for byte in bytes {
         match feed::<I, H, M>(alloc, host, machine, reader, *byte) {
@@ -97,6 +99,7 @@ fn end<I: Installer, H: Host, M: Memory>(
         (follow keeps_nothing I.install p (asked_by (end_read reader.old)))
         result host.old host.new }
     ensures counts { Counts H.Host.own ⊥ host.old host.new result }
+    ensures served { IfErr result IsOfServing }
 {
     let request = reader.finish();
     answer_told::<I, H, M>(alloc, host, machine, reader, request)
@@ -115,6 +118,7 @@ fn finish<I: Installer, H: Host, M: Memory>(
         (ended (follow keeps_nothing I.install p (asked_at_end reader.old)) Done)
         result host.old host.new }
     ensures counts { Counts H.Host.own ⊥ host.old host.new result }
+    ensures served { IfErr result IsOfServing }
 {
     match end::<I, H, M>(alloc, host, machine, reader) {
         Ok(()) => match end::<I, H, M>(alloc, host, machine, reader) {
@@ -139,6 +143,7 @@ fn feed_last<I: Installer, H: Host, M: Memory>(
         (ended (follow keeps_nothing I.install p (told_from reader.old bytes.now)) TooLarge)
         result host.old host.new }
     ensures counts { Counts H.Host.own ⊥ host.old host.new result }
+    ensures served { IfErr result IsOfServing }
 {
     match feed_all::<I, H, M>(alloc, host, machine, reader, bytes) {
         Ok(()) => Err(Status::TooLarge),
@@ -166,6 +171,7 @@ fn follow<I: Installer, H: Host, M: Memory, S: Source>(
     ensures says { (text : List ℕ) × Says H.Host.own text host.old host.new }
     ensures counts { Counts H.Host.own (Rose (S.read_faults script.old) (S.read_faults script.new))
         host.old host.new result }
+    ensures served { IfErr result IsOfServing }
 {
     let mut left = LONGEST;
     let mut piece = [0; 512];
@@ -208,6 +214,7 @@ fn open<I: Installer, H: Host, M: Memory, S: Source>(
     ensures says { (text : List ℕ) × Says H.Host.own text host.old host.new }
     ensures counts { Counts H.Host.own (Rose (S.read_faults script.old) (S.read_faults script.new))
         host.old host.new result }
+    ensures served { IfErr result IsOfServing }
 {
     match say_reply(host, Reply::Opened(0, 0)) {
         Ok(()) => follow::<I, H, M, S>(alloc, host, script, machine, reader),
@@ -248,6 +255,7 @@ pub fn serve<I: Installer, H: Host, M: Memory, S: Source>(
     ensures reads { (text : List ℕ) × ReadsAndSays H.Host.own text host.old host.new }
     ensures cause { StatusHasCause H.Host.own (Rose (S.read_faults script.old) (S.read_faults script.new))
         host.old host.new result }
+    ensures kind { IsOfServing result }
 {
     let world = match World::new(alloc) {
         Ok(world) => world,

@@ -1,4 +1,4 @@
-ghost use Rattle.std.specs.Prelude.{◌≡◌, None, Some, IfSome};
+ghost use Rattle.std.specs.Prelude.{◌≡◌, None, Some, IfErr, IfSome};
 ghost use Rattle.st_model.specs.Machine.{State};
 ghost use Rattle.st_model.specs.Births.{Births};
 ghost use Rattle.st_model.specs.Show.{Shows};
@@ -11,6 +11,7 @@ ghost use Rattle.st_script.specs.Scripts.{IsDefined, asked_at, asked_by};
 ghost use Rattle.st_course.specs.Statuses.{Counts};
 ghost use Rattle.st_course.specs.Obeying.{Obeys};
 ghost use Rattle.st_session.specs.Answers.{answer, defined_course, definition_course};
+ghost use Rattle.st_session.specs.Ends.{IsOfServing};
 ghost use Rattle.st_session.specs.Keeping.{keeps_nothing};
 ghost use Rattle.st_session.specs.Points.{Point};
 ghost use Rattle.st_session.specs.Sessions.{follow};
@@ -44,6 +45,7 @@ fn define<I: Installer, H: Host, M: Memory>(
         (I.install (definition_of definition.now) s))
         result host.old host.new }
     ensures counts { Counts H.Host.own ⊥ host.old host.new result }
+    ensures served { IfErr result IsOfServing }
 {
     match I::install(alloc, machine.memory_mut(), definition) {
         Installation::Accepted(selector) => {
@@ -74,6 +76,7 @@ fn answer_definition<I: Installer, H: Host, M: Memory>(
         (definition_course keeps_nothing I.install p.being p.kept (definition_of definition.now))
         result host.old host.new }
     ensures counts { Counts H.Host.own ⊥ host.old host.new result }
+    ensures served { IfErr result IsOfServing }
 {
     match machine.death() {
         Some(cause) => say_reply(host, Reply::Died(cause)),
@@ -98,6 +101,7 @@ fn answer_request<I: Installer, H: Host, M: Memory>(
         (answer keeps_nothing I.install p (asked_at reader.now.place request))
         result host.old host.new }
     ensures counts { Counts H.Host.own ⊥ host.old host.new result }
+    ensures served { IfErr result IsOfServing }
 {
     match request {
         Request::Define => {
@@ -124,6 +128,7 @@ pub(crate) fn answer_told<I: Installer, H: Host, M: Memory>(
         (follow keeps_nothing I.install p (asked_by (reader.now, request)))
         result host.old host.new }
     ensures counts { Counts H.Host.own ⊥ host.old host.new result }
+    ensures served { IfErr result IsOfServing }
 {
     match request {
         Some(request) => answer_request::<I, H, M>(alloc, host, machine, reader, request),

@@ -10,6 +10,7 @@ returns g c = record {
       usage = c.tool.ensures.usage;
       once = c.tool.ensures.once;
       session = c.tool.ensures.session;
+      kind = c.tool.ensures.kind;
       complete = c.tool.ensures.complete;
       cause = c.tool.ensures.cause;
       says = c.tool.ensures.says;

@@ -2,7 +2,8 @@ use Rattle.std.proofs.Common.{[], inl, inr, sym, subst}
 use Rattle.st_outside.specs.Counts.{Rose}
 use Rattle.st_outside.proofs.Joining.{reads_begin, reads_first}
 use Rattle.st_course.specs.Statuses.{StatusHasCause}
-use Rattle.st_session.proofs.Commanded.{cause_behind, refusal_cause}
+use Rattle.st_session.specs.Commands.{IsOfSession}
+use Rattle.st_session.proofs.Commanded.{cause_behind, refusal_cause, kind_followed, kind_refused}
 use Rattle.st_session.proofs.command.follow_image.Goals as goal
 
 pub returns-in-Ok-clause-over : goal.returns-in-Ok-clause-over
@@ -41,3 +42,9 @@ returns-in-Err-clause-cause g c =
 
 pub returns-in-Err-clause-reads : goal.returns-in-Err-clause-reads
 returns-in-Err-clause-reads g c = ([], reads_begin g.H.Host [] c.args.host.now c.read_image.new.host c.read_image.ensures.reads)
+
+pub returns-in-Ok-clause-kind : goal.returns-in-Ok-clause-kind
+returns-in-Ok-clause-kind g c = kind_followed g.H.Host _ c.serve.result c.serve.ensures.kind c.in-Ok.ensures.readable
+
+pub returns-in-Err-clause-kind : goal.returns-in-Err-clause-kind
+returns-in-Err-clause-kind g c = subst (IsOfSession g.H.Host _) (sym c.status.ensures) (kind_refused g.H.Host _ c.in-Err.refusal c.in-Err.ensures.refused)

@@ -30,3 +30,6 @@ returns-clause-reads g c = record {
   first = c.follow_image-status.ensures.reads.1;
   second = c.refuse.ensures.reads;
 }
+
+pub returns-clause-kind : goal.returns-clause-kind
+returns-clause-kind g c = c.follow_image-status.ensures.kind

@@ -94,6 +94,7 @@ returns-then-count-eq0 g c =
       told = λ fault told p stands. absurd (no_read g.H.Host c.pieces.host c.finish.new.host c.finish.result c.finish.ensures.counts fault);
       says = says_behind install g.H.Host at on (follows install some.0 (told_from (line_from 1) far.0)) end c.finish.result c.args.host.now c.pieces.host c.finish.new.host (far.4 some.0 some.1) ends;
       counts = never_read g.H.Host _ c.args.host.now c.finish.new.host c.finish.result (counts_behind g.H.Host ⊥ c.args.host.now c.pieces.host c.finish.new.host c.finish.result c.pieces.invariant.disk c.pieces.invariant.say c.finish.ensures.counts);
+      served = c.finish.ensures.served;
     }
 
 -- MORE BYTES CAME THAN MAY
@@ -124,6 +125,7 @@ returns-then-count-left g c =
       told = λ fault told p stands. absurd (no_read g.H.Host c.pieces.host c.feed_last.new.host c.feed_last.result c.feed_last.ensures.counts fault);
       says = says_behind install g.H.Host at on (follows install some.0 (told_from (line_from 1) far.0)) end c.feed_last.result c.args.host.now c.pieces.host c.feed_last.new.host (far.4 some.0 some.1) ends;
       counts = never_read g.H.Host _ c.args.host.now c.feed_last.new.host c.feed_last.result (counts_behind g.H.Host ⊥ c.args.host.now c.pieces.host c.feed_last.new.host c.feed_last.result c.pieces.invariant.disk c.pieces.invariant.say c.feed_last.ensures.counts);
+      served = c.feed_last.ensures.served;
     }
 
 -- THESE BYTES ARE FOLLOWED
@@ -153,6 +155,7 @@ returns-in-Err-feed_all g c =
       told = λ fault told p stands. absurd (no_read g.H.Host c.pieces.host c.feed_all.new.host (Err e) c.in-Err-feed_all.ensures.counts fault);
       says = says_behind install g.H.Host at on (follows install some.0 (told_from (line_from 1) far.0)) (λ q. follows install q (told_from r bytes)) (Err e) c.args.host.now c.pieces.host c.feed_all.new.host (far.4 some.0 some.1) fed;
       counts = never_read g.H.Host _ c.args.host.now c.feed_all.new.host (Err e) (counts_behind g.H.Host ⊥ c.args.host.now c.pieces.host c.feed_all.new.host (Err e) c.pieces.invariant.disk c.pieces.invariant.say c.in-Err-feed_all.ensures.counts);
+      served = c.in-Err-feed_all.ensures.served;
     }
 
 pub pieces-preserved : goal.pieces-preserved

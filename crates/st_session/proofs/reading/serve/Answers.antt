@@ -9,9 +9,9 @@ use Rattle.st_session.specs.Points.{Point, alive}
 use Rattle.st_session.specs.Keeping.{keeps_nothing}
 use Rattle.st_session.specs.Sessions.{session, session_so_far}
 use Rattle.st_session.specs.Standing.{shown_by, StandsAt}
-use Rattle.st_session.specs.Ends.{SessionEnds, status_in}
+use Rattle.st_session.specs.Ends.{SessionEnds, IsOfServing, status_in}
 use Rattle.st_session.proofs.Points.{ready_new}
-use Rattle.st_session.proofs.Ending.{session_ended, complete_of, cause_of}
+use Rattle.st_session.proofs.Ending.{session_ended, complete_of, cause_of, served_in}
 use Rattle.st_session.proofs.reading.serve.Goals as goal
 
 pub boot-machine-requires : goal.boot-machine-requires
@@ -45,3 +45,6 @@ returns-clause-complete g c = λ told s shows end calm.
     (session_ended g.H.Host install (StandsAt g.M.Memory.view c.open.new.machine) p (session_so_far keeps_nothing install 0 0 p) script c.open.result c.args.host.now c.open.new.host
     (c.open.ensures.obeys told p stands) (λ fault. c.open.ensures.told fault told p stands))
     (cause_of g.H.Host _ c.args.host.now c.open.new.host c.open.result c.open.ensures.counts.cause) end calm)
+
+pub returns-clause-kind : goal.returns-clause-kind
+returns-clause-kind g c = subst IsOfServing (sym c.status_of.ensures) (served_in c.open.result c.open.ensures.served)

@@ -22,6 +22,7 @@ returns-in-Some g c =
           dead_answers g.H.Host at (λ b. definition_course keeps_nothing g.I.Installer.install b tt d) m.death (shown_by g.M.Memory.view m) c.in-Some.cause c.say_reply.result c.args.host.now c.say_reply.new.host dies
           (obeys_tells g.H.Host at (dead_text 0 c.in-Some.cause) x c.say_reply.result c.args.host.now c.say_reply.new.host c.say_reply.ensures (when_ok c.say_reply.result dies)) p.being stands;
       counts = c.say_reply.ensures.counts;
+      served = c.say_reply.ensures.served;
     }
 
 pub returns-in-None-clause-obeys : goal.returns-in-None-clause-obeys
