@@ -2,6 +2,8 @@
 ghost use Rattle.std.specs.Prelude.{◌<◌};
 ghost use Rattle.st_frames.specs.Shown.{IsFrame};
 
+mod stores;
+
 use crate::tool::tool;
 use st_counted::CountedLoader;
 use st_course::Status;
@@ -66,13 +68,15 @@ fn pad(bytes: &mut Vec<u8>, length: usize) -> Result<(), AllocError> {
     Ok(())
 }
 
-/// The objects of an image and its table, with how many words each has.
+/// The objects of an image and its table, with how many words each has, and the pointers of its tables of names.
 #[derive(Clone, Copy)]
 struct Parts<'a> {
     objects: &'a [u16],
     objects_length: u16,
     table: &'a [u16],
     table_length: u16,
+    globals: u16,
+    symbols: u16,
 }
 
 /// An image of these objects and this table, with so many entries.
@@ -81,7 +85,9 @@ fn image_of(alloc: Global, entries: u16, parts: &Parts<'_>) -> Result<Vec<u8>, A
     let lengths = [0, parts.objects_length, 0, parts.table_length];
     push_words(&mut bytes, &lengths)?;
     push_words(&mut bytes, &[0x5354, 0x3830, 0, 1])?;
-    push_words(&mut bytes, &[0, entries, 16, 0, 0, 0, 0, 0])?;
+    let names = [0, parts.globals, 0, parts.symbols];
+    push_words(&mut bytes, &[0, entries, 16, 0])?;
+    push_words(&mut bytes, &names)?;
     pad(&mut bytes, 512)?;
     push_words(&mut bytes, parts.objects)?;
     pad(&mut bytes, 1024)?;
@@ -96,6 +102,8 @@ fn image(alloc: Global) -> Result<Vec<u8>, AllocError> {
         objects_length: 78,
         table: &TABLE,
         table_length: 66,
+        globals: 0,
+        symbols: 0,
     };
     image_of(alloc, 32767, &parts)
 }
@@ -120,6 +128,46 @@ fn host_with(alloc: Global, bytes: &[u8]) -> Result<MemHost, AllocError> {
     Ok(host)
 }
 
+/// A roots file with this word at the gate, and two roots of four numbers each.
+fn roots_file(alloc: Global, gate: u16, roots: &[u16; 8]) -> Result<Vec<u8>, AllocError> {
+    let mut bytes = Vec::new(alloc);
+    push_words(&mut bytes, &[0x5354, 0x3830, 0x524f, 0x4f54])?;
+    push_words(&mut bytes, &[gate, 0, 0, 0])?;
+    for number in roots {
+        push_words(&mut bytes, &[0, 0, 0, *number])?;
+    }
+    Ok(bytes)
+}
+
+/// A host with the files of a store S, whose image is in its first file, and with room for a session.
+fn store_with(
+    alloc: Global,
+    roots: &[u8],
+    image: &[u8],
+    changes: &[u8],
+) -> Result<MemHost, AllocError> {
+    let mut host = MemHost::new(alloc)?;
+    host.put(alloc, "S.roots", roots)?;
+    host.put(alloc, "S.a", image)?;
+    host.put(alloc, "S.changes", changes)?;
+    host.room_for(alloc, 20000, 1000)?;
+    Ok(host)
+}
+
+/// Calls the program with these words over this script.
+fn call(
+    alloc: Global,
+    host: &mut MemHost,
+    script: &mut MemSource,
+    words: &[&str],
+) -> Result<Status, AllocError> {
+    let mut given = Vec::new(alloc);
+    for word in words {
+        given.push(String::from_str(alloc, *word)?)?;
+    }
+    Ok(tool(alloc, given.as_slice(), host, script))
+}
+
 /// Calls the program with these words over this script, and checks its status.
 fn check_call(
     rt: &(impl Abort + AllocGlobal),
@@ -128,12 +176,7 @@ fn check_call(
     words: &[&str],
     status: Status,
 ) -> Result<(), Fail> {
-    let alloc = rt.alloc();
-    let mut given = Vec::new(alloc);
-    for word in words {
-        given.push(String::from_str(alloc, *word)?)?;
-    }
-    let ended = tool(alloc, given.as_slice(), host, script);
+    let ended = call(rt.alloc(), host, script, words)?;
     assert_eq!(rt; ended, status);
     Ok(())
 }
@@ -164,8 +207,11 @@ fn check_rows(rt: &(impl Abort + AllocGlobal), rows: &[Row<'_>]) -> Result<(), F
 
 #[test]
 fn other_words_are_refused(rt: HostRuntime) -> Result<(), Fail> {
-    let rows: [Row<'_>; 5] = [
+    let rows: [Row<'_>; 8] = [
         (&[], &[], Status::Usage, "usage\n"),
+        (&[], &["import", "B"], Status::Usage, "usage\n"),
+        (&[], &["import", "B", "-S"], Status::Usage, "usage\n"),
+        (&[], &["session"], Status::Usage, "usage\n"),
         (&[], &["once", "B"], Status::Usage, "usage\n"),
         (&[], &["once", "", "4"], Status::Usage, "usage\n"),
         (&[], &["once", "B", ""], Status::Usage, "usage\n"),
@@ -297,6 +343,8 @@ fn sending_image(alloc: Global, entries: u16, selector: u16) -> Result<Vec<u8>, 
         objects_length: 99,
         table: &SENDING_TABLE,
         table_length: 74,
+        globals: 0,
+        symbols: 0,
     };
     image_of(alloc, entries, &parts)
 }
@@ -361,7 +409,13 @@ fn registers_and_methods_are_reached_over_a_memory(rt: HostRuntime) -> Result<()
 /// A script, the number of the source's call that fails (0: none does), the status, and all that is said.
 type Session<'a> = (&'a str, u64, Status, &'a str);
 
-/// Follows scripts over image B, of which the source gives so many bytes at a time.
+/// A store of image B.
+fn store_of_image(alloc: Global) -> Result<MemHost, AllocError> {
+    let roots = roots_file(alloc, 0, &[0, 1156, 0, 0, 0, 0, 0, 0])?;
+    store_with(alloc, &roots, &image(alloc)?, b"")
+}
+
+/// Follows scripts over a store of image B, of which the source gives so many bytes at a time.
 fn check_sessions(
     rt: &(impl Abort + AllocGlobal),
     piece: usize,
@@ -371,9 +425,9 @@ fn check_sessions(
 {
     let alloc = rt.alloc();
     for (text, failing, status, wanted) in rows {
-        let mut host = host_with(alloc, &image(alloc)?)?;
+        let mut host = store_of_image(alloc)?;
         let mut script = MemSource::new(alloc, text.as_bytes(), piece, &[*failing])?;
-        check_call(rt, &mut host, &mut script, &["session", "B"], *status)?;
+        check_call(rt, &mut host, &mut script, &["session", "S"], *status)?;
         assert_eq!(rt; host.said(), wanted.as_bytes());
     }
     Ok(())

@@ -6,3 +6,4 @@ pub mod ListTexts
 pub mod Growing
 pub mod Lasts
 pub mod Determined
+pub mod Places

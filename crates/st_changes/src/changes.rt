@@ -1,5 +1,6 @@
 // The list of the definitions that a changes file keeps.
 use crate::Definition;
+use crate::counting::count_before;
 use crate::noting::prepare;
 use crate::writing::{entry_length, entry_text};
 use st_index::{Index, Span};
@@ -52,10 +53,11 @@ impl Model for Changes {
 const LIMIT: u64 = 1 << 30;
 
 impl Changes {
-    ghost use Rattle.std.specs.Prelude.{◌≡◌, ◌↔◌, Some, IsTrue, OnOk, OnErr, MatchOption};
-    ghost use Rattle.st_chunk.specs.Definitions.{IsDefinition, entry};
+    ghost use Rattle.std.specs.Prelude.{◌≡◌, ◌≤◌, ◌↔◌, Some, All, IsTrue, OnOk, OnErr, MatchOption, length, take};
+    ghost use Rattle.st_chunk.specs.Definitions.{IsDefinition, entry, entries};
     ghost use Rattle.st_changes.specs.Views.{definition_of, definitions_of};
     ghost use Rattle.st_changes.specs.States.{FitsBehind};
+    ghost use Rattle.st_changes.specs.Lists.{StandsAt};
     ghost use Rattle.st_changes.specs.Last.{IsNowhere, IsLast};
 
     /// The definitions, in order.
@@ -63,6 +65,16 @@ impl Changes {
         ensures { definitions_of result.now ≡ self.now.listed }
     {
         self.listed.as_slice()
+    }
+
+    /// How many definitions stand before this place of the changes file, in bytes from 0: the first byte of an entry, or the end.
+    pub fn count_before(&self, place: u64) -> usize
+        requires good { All IsDefinition self.now.listed }
+        requires stands { StandsAt self.now.listed place }
+        ensures within { result ≤ length self.now.listed }
+        ensures before { place ≡ length (entries (take result self.now.listed)) }
+    {
+        count_before(&self.listed, place)
     }
 
     /// Whether the changes file has at most 2^30 bytes with the entry of this definition behind it.
@@ -83,7 +95,7 @@ impl Changes {
         self.index.find(class, meta, selector)
     }
 
-    /// Takes the memory that `append` needs for this definition.
+    /// Takes the memory that `append` needs for this definition. After an error what was ready before is so still.
     pub fn reserve(&mut self, alloc: Global, definition: &Definition) -> Result<(), AllocError>
         requires { IsDefinition (definition_of definition.now) }
         ensures named { self.new.name ≡ self.old.name }

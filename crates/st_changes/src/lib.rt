@@ -3,6 +3,7 @@
 
 mod appending;
 mod changes;
+mod counting;
 mod definition;
 mod entry;
 mod header;

@@ -1,13 +1,13 @@
 // Reading a changes file.
-ghost use Rattle.std.specs.Prelude.{◌≡◌, IfOk, IfErr, OnOk, IsTrue, length, take, string_bytes};
+ghost use Rattle.std.specs.Prelude.{◌≡◌, All, IfOk, IfErr, OnOk, IsTrue, length, take, string_bytes};
 ghost use Rattle.st_outside.specs.Files.{bytes_of};
 ghost use Rattle.st_outside.specs.Runs.{ReadsAlike, OnlyReads, Changes as ChangesFile};
 ghost use Rattle.st_store.specs.Names.{changes_file};
 ghost use Rattle.st_store.specs.Refusals.{FaultHasCause};
 ghost use Rattle.st_store.specs.declared.fault.StoreFault.TheVariants.{NotAStore};
 ghost use Rattle.st_store.specs.declared.fault.StorePlace.TheVariants.{Changes as ChangesPlace};
-ghost use Rattle.st_chunk.specs.Definitions.{entries};
-ghost use Rattle.st_changes.specs.Lists.{Lists, RefusesChanges, IsOfLoading, IsOutside, kept_changes};
+ghost use Rattle.st_chunk.specs.Definitions.{IsDefinition, entries};
+ghost use Rattle.st_changes.specs.Lists.{Lists, StandsAt, RefusesChanges, IsOfLoading, IsOutside, kept_changes};
 
 use crate::changes::Changes;
 use crate::listing::list;
@@ -56,6 +56,8 @@ fn damaged(at: u64) -> StoreFault
 /// Reads the changes file of a store up to the length that its root has, and lists the definitions that it keeps.
 pub fn load<H: Host>(alloc: Global, host: &mut H, store: &Store) -> Result<Changes, StoreFault>
     ensures named { IfOk result (λ changes. changes.name ≡ store.now.name) }
+    ensures good { IfOk result (λ changes. All IsDefinition changes.listed) }
+    ensures stands { IfOk result (λ changes. StandsAt changes.listed store.now.root.base) }
     ensures listed { IfOk result (λ changes. IsTrue H.is_told
         → Lists (kept_changes store.now (H.files host.old)) store.now.root.base changes.listed) }
     ensures whole { IfOk result (λ changes. store.now.root.length ≡ length (entries changes.listed)) }

@@ -28,6 +28,12 @@ commits_of [] = []
 commits_of (Reply text ∷ ds) = commits_of ds
 commits_of (Keep c ∷ ds) = c ∷ commits_of ds
 
+-- the commit that stands after them, where this one stood before
+abbrev pub last_of : {C : Type 0} → C → List (Deed C) → C
+last_of c [] = c
+last_of c (Reply text ∷ ds) = last_of c ds
+last_of c (Keep d ∷ ds) = last_of d ds
+
 -- after these deeds
 abbrev pub preceded : {C X : Type 0} → List (Deed C) → Course C X → Course C X
 preceded ds (Goes es x) = Goes (ds ++ es) x

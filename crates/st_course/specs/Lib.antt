@@ -1,4 +1,6 @@
+pub mod Acknowledged
 pub mod Courses
 pub mod Done
 pub mod Obeying
 pub mod Statuses
+pub mod Underway

@@ -3,7 +3,7 @@ use Rattle.std.specs.Prelude.{ℕ, ◌≤◌, ⊤, Result, Ok, Err}
 use Rattle.st_outside.specs.Counts.{Rose}
 use Rattle.st_outside.specs.declared.host.Host.{Ghosts}
 use Rattle.st_course.specs.declared.status.Status.{Status}
-use Rattle.st_course.specs.declared.status.Status.TheVariants.{Done, Usage, Image, Script, ReadFault, SayFault, DiskFault, TooLarge, OutOfMemory}
+use Rattle.st_course.specs.declared.status.Status.TheVariants.{Done, Usage, Image, Script, ReadFault, SayFault, DiskFault, Store, TooLarge, OutOfMemory}
 
 -- the exit status
 abbrev pub number_of : Status → ℕ
@@ -14,6 +14,7 @@ number_of (Script line) = 3
 number_of ReadFault = 4
 number_of SayFault = 5
 number_of DiskFault = 6
+number_of (Store f) = 7
 number_of TooLarge = 9
 number_of OutOfMemory = 10
 
@@ -26,6 +27,7 @@ IsFault (Script line) = ⊥
 IsFault ReadFault = ⊤
 IsFault SayFault = ⊤
 IsFault DiskFault = ⊤
+IsFault (Store f) = ⊥
 IsFault TooLarge = ⊥
 IsFault OutOfMemory = ⊤
 
@@ -40,6 +42,7 @@ module _ {D : Type 0} (host : Ghosts D) where
   StatusHasCause reads old new ReadFault = reads
   StatusHasCause reads old new SayFault = Rose (host.say_faults old) (host.say_faults new)
   StatusHasCause reads old new DiskFault = Rose (host.disk_faults old) (host.disk_faults new)
+  StatusHasCause reads old new (Store f) = ⊤
   StatusHasCause reads old new TooLarge = ⊤
   StatusHasCause reads old new OutOfMemory = ⊤
 

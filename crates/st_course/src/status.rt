@@ -2,8 +2,9 @@ ghost use Rattle.std.specs.Prelude.{◌≡◌};
 ghost use Rattle.st_course.specs.Statuses.{number_of};
 
 use st_model::ImageFault;
+use st_store::StoreFault;
 
-/// How a session ends, or a call of the program that was to begin one. Its number is the exit status.
+/// How a call of the program ends. Its number is the exit status.
 #[derive(Clone, Copy, Debug, PartialEq, Eq)]
 pub enum Status {
     /// The command was done, or the script up to `end` or to its end.
@@ -20,7 +21,10 @@ pub enum Status {
     SayFault,
     /// The host failed at a file.
     DiskFault,
-    /// The image has more than 2^23 bytes, or the script more than 2^32.
+    /// The store isn't there, is there already, or its files are damaged at this place. It carries only Missing, Exists and
+    /// NotAStore.
+    Store(StoreFault),
+    /// The image has more than 2^23 bytes, the changes would have more than 2^30, or the script more than 2^32.
     TooLarge,
     /// There was no memory.
     OutOfMemory,
@@ -39,6 +43,7 @@ impl Status {
             Status::ReadFault => 4,
             Status::SayFault => 5,
             Status::DiskFault => 6,
+            Status::Store(_fault) => 7,
             Status::TooLarge => 9,
             Status::OutOfMemory => 10,
         }

@@ -1,5 +1,3 @@
-pub mod Installing
-pub mod Installations
 pub mod Syntax
 pub mod Defining
 pub mod Unprepareds

@@ -1,12 +1,10 @@
 //! What comes of a definition of a method: it is installed in an image, or refused with its cause.
 #![tactic(auto)]
 
-mod installation;
 mod laws;
 mod preparing;
 mod unprepared;
 
-pub use installation::Installation;
 pub use laws::one_syntax;
 pub use preparing::{Prepared, prepare};
 pub use unprepared::Unprepared;

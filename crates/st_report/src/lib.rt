@@ -14,3 +14,4 @@ pub use objects::{push_object, push_objects};
 pub use output::Output;
 pub use said::push_said;
 pub use state::{push_held, push_input, push_registers, push_state, push_used};
+pub use words::push_number;

@@ -1,3 +1,4 @@
+pub mod Asking
 pub mod Blanks
 mod Digits
 mod Fed

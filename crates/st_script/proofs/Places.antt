@@ -12,7 +12,7 @@ use Rattle.st_chunk.specs.Feeding.{State, fed, finished, carried_from, answer, l
 use Rattle.st_chunk.specs.Groups.{Header, header_of}
 use Rattle.st_chunk.specs.Definitions.{Definition, IsDefinition}
 use Rattle.st_script.specs.declared.request.Request.{Request}
-use Rattle.st_script.specs.declared.request.Request.TheVariants.{Run, Input, Mouse, Clock, Tick, State as ShowState, Used, End, Define, Wrong}
+use Rattle.st_script.specs.declared.request.Request.TheVariants.{Run, Input, Mouse, Clock, Tick, State as ShowState, Used, Snapshot, End, Define, Wrong}
 use Rattle.st_script.specs.Lines.{IsInRange, digits_after, at_most, number, is_word, place_of, mouse_at, with_arguments, alone, by_words, first_word, arguments, line_request, without_return}
 use Rattle.st_script.specs.Reading.{Place, InLine, Opened, InHeader, InMethods, Defined, CutOff, InBlanks, BehindBlanks, Over, Reading, Told, line_behind, line_from, over, wrong, is_last, line_ended, line_byte, begun, opened_byte, start_with, too_long, blanks_byte, behind_blanks_byte, header_ended, header_told, method_ended, method_told, byte_in, read, header_at_end, last_header, method_at_end, end_in, end_read}
 use Rattle.st_script.specs.Scripts.{IsDefined, HasDefinition, IsHeading, IsSound}
@@ -99,7 +99,8 @@ unfolding alone
 words word =
     if_line (is_word word (codes "state")) (Some ShowState) _ refl
     (if_line (is_word word (codes "used")) (Some Used) _ refl
-    (if_line (is_word word (codes "end")) (Some End) None refl refl))
+    (if_line (is_word word (codes "snapshot")) (Some Snapshot) _ refl
+    (if_line (is_word word (codes "end")) (Some End) None refl refl)))
 
 by_both : (word : List ℕ) (o : Option (List ℕ)) → is_line (by_words word o) ≡ true
 by_both word None = words word

@@ -2,7 +2,7 @@
 use Rattle.std.proofs.Common.{◌≡◌, ℕ, false, List, [], ◌∷◌, refl}
 use Rattle.std.specs.Prelude.{codes, Option, Some, None}
 use Rattle.st_script.specs.declared.request.Request.{Request}
-use Rattle.st_script.specs.declared.request.Request.TheVariants.{Run, Input, Mouse, Clock, Tick, State, Used, End, Wrong}
+use Rattle.st_script.specs.declared.request.Request.TheVariants.{Run, Input, Mouse, Clock, Tick, State, Used, Snapshot, End, Wrong}
 use Rattle.st_script.specs.Lines.{number, with_arguments, alone, line_request}
 use Rattle.st_script.specs.Reading.{read, end_read}
 use Rattle.st_script.specs.Scripts.{Asked, Asks, Defines, asked}
@@ -74,6 +74,22 @@ space_behind = refl
 space_before : line (codes " used") ≡ wrong
 unfolding line_request alone with_arguments
 space_before = refl
+
+snapshot : line (codes "snapshot") ≡ Some Snapshot
+unfolding line_request alone
+snapshot = refl
+
+snapshot_with_a_number : line (codes "snapshot 1") ≡ wrong
+unfolding line_request with_arguments
+snapshot_with_a_number = refl
+
+space_before_snapshot : line (codes " snapshot") ≡ wrong
+unfolding line_request alone with_arguments
+space_before_snapshot = refl
+
+snapshots : line (codes "snapshots") ≡ wrong
+unfolding line_request alone
+snapshots = refl
 
 tab_alone : line (codes "\t") ≡ None
 unfolding line_request

@@ -5,7 +5,7 @@ use Rattle.std.specs.Option.{option_map, option_and_then, unwrap_or}
 use Rattle.std.specs.Cmp.Lexicographic.{pointwise}
 use Rattle.st_chunk.specs.Texts.{most, is_empty}
 use Rattle.st_script.specs.declared.request.Request.{Request}
-use Rattle.st_script.specs.declared.request.Request.TheVariants.{Run, Input, Mouse, Clock, Tick, State, Used, End, Wrong}
+use Rattle.st_script.specs.declared.request.Request.TheVariants.{Run, Input, Mouse, Clock, Tick, State, Used, Snapshot, End, Wrong}
 
 -- NUMBERS
 
@@ -63,6 +63,7 @@ unfoldable pub alone : List ℕ → Option Request
 alone word =
     if is_word word (codes "state") then Some State else
     if is_word word (codes "used") then Some Used else
+    if is_word word (codes "snapshot") then Some Snapshot else
     if is_word word (codes "end") then Some End else
     None
 

@@ -107,6 +107,9 @@ fn alone(word: &[u8]) -> Option<Request>
     if word == b"used".as_slice() {
         return Some(Request::Used);
     }
+    if word == b"snapshot".as_slice() {
+        return Some(Request::Snapshot);
+    }
     if word == b"end".as_slice() {
         return Some(Request::End);
     }

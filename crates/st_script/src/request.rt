@@ -15,6 +15,8 @@ pub enum Request {
     State,
     /// `used`: how many entries and words are kept.
     Used,
+    /// `snapshot`: the machine's image is to be kept.
+    Snapshot,
     /// `end`: the end of the session.
     End,
     /// A method of a group, to be accepted.

@@ -60,7 +60,7 @@ fn asked(alloc: Global, script: &[u8]) -> Result<String, AllocError> {
 }
 
 /// Scripts, and what they ask for.
-const SCRIPTS: [(&[u8], &str); 22] = [
+const SCRIPTS: [(&[u8], &str); 26] = [
     (b"", ""),
     (
         b"state\r\nused\n\n \t\x0c\nend\nhop\n",
@@ -84,6 +84,10 @@ const SCRIPTS: [(&[u8], &str); 22] = [
     ),
     (b"!A methodsFor: ''! !\n!B methodsFor: ''!x! !", "B, , x; "),
     (b"used\n\nhop\nused\n", "Used; Wrong(3); "),
+    (b"snapshot\r\nused\nsnapshot", "Snapshot; Used; Snapshot; "),
+    (b"snapshot 1\n", "Wrong(1); "),
+    (b"\n snapshot\n", "Wrong(2); "),
+    (b"used\nsnapshots\n", "Used; Wrong(2); "),
     (b"\n\nrun 1000000001", "Wrong(3); "),
     (b"used\nend\r", "Used; Wrong(2); "),
     (b"mouse 1 16384\n", "Wrong(1); "),

@@ -1,115 +1,303 @@
--- A session over an image, from the reading of the image to the last line.
-use Rattle.std.proofs.Common.{◌≡◌, ◌≤◌, ℕ, List, inl, inr, sym, subst, arith, [], Ok}
-use Rattle.std.specs.Prelude.{◌⊎◌, IsTrue}
+-- A session over a store, from the opening of the store to the last line.
+use Rattle.std.proofs.Common.{◌≡◌, ◌⊎◌, inl, inr, ⊎_elim, ℕ, ◌≤◌, List, [], ◌∷◌, ◌++◌, length, ◌∙◌, IsTrue, Ok, Err, refl, sym, ap, subst, arith, append-nil, length-append}
+use Rattle.std.specs.Prelude.{All, Some}
+use Rattle.std.proofs.Math.Seq.{take-append_seam}
 use Rattle.st_outside.specs.Counts.{Rose}
-use Rattle.st_outside.specs.Runs.{OnlyReads, ReadsAndSays}
-use Rattle.st_outside.specs.declared.host.SayFault.{SayFault}
-use Rattle.st_outside.proofs.Telling.{OnlyNow}
-use Rattle.st_report.specs.Saying.{Pushes}
-use Rattle.st_report.proofs.Pushing.{push_none}
+use Rattle.st_outside.specs.Files.{Files, bytes_of}
+use Rattle.st_outside.specs.Runs.{LeavesOnly, ReadsAlike, ReadsAndSays, Spares, IsAtRest}
+use Rattle.st_outside.specs.Stops.{Here, SaidPart, WhileSaying}
 use Rattle.st_outside.specs.declared.host.Host.{Ghosts}
+use Rattle.st_outside.proofs.Joining.{weaker, moments_join}
 use Rattle.st_outside.proofs.Rising.{rose_first, rose_second}
+use Rattle.st_model.specs.Machine.{State, Transition, Went}
+use Rattle.st_model.specs.Births.{Births}
+use Rattle.st_model.specs.View.{View}
+use Rattle.st_chunk.specs.Definitions.{IsDefinition, entries}
+use Rattle.st_store.specs.Names.{roots_file, IsNoFileOf}
+use Rattle.st_store.specs.Roots.{place, root_at}
+use Rattle.st_store.specs.Stored.{Stored, Opens, IsKept, stored_in, IsOpening}
+use Rattle.st_store.specs.declared.root.Root.{Root}
+use Rattle.st_store.specs.declared.fault.StoreFault.{StoreFault}
+use Rattle.st_store.specs.declared.fault.StoreFault.TheVariants as unmade
+use Rattle.st_store.specs.declared.fault.StorePlace.TheVariants.{Roots, Changes}
+use Rattle.st_store.proofs.Determined.{none_opens, opens_there}
+use Rattle.st_changes.specs.Lists.{StandsAt, Lists, RefusesChanges}
+use Rattle.st_changes.proofs.Determined.{none_wrong, lists_back}
 use Rattle.st_course.specs.declared.status.Status.{Status}
 use Rattle.st_course.specs.declared.status.Status.TheVariants as status
 use Rattle.st_course.specs.Statuses.{StatusHasCause}
-use Rattle.st_definition.specs.Installing.{Install}
-use Rattle.st_session.specs.declared.image_refusal.ImageRefusal.{ImageRefusal}
-use Rattle.st_session.specs.declared.image_refusal.ImageRefusal.TheVariants as refusal
-use Rattle.st_session.specs.Points.{alive}
-use Rattle.st_session.specs.Keeping.{keeps_nothing}
-use Rattle.st_session.specs.Sessions.{session, session_so_far}
-use Rattle.st_session.specs.Ends.{IsCalm, IsOfServing}
-use Rattle.st_session.specs.Commands.{IsReadable, status_of, IsImageRefusal, IsOfSession, RefusalHasCause, IsOver, IsWholeSession, SaysInTurn}
-use Rattle.st_session.proofs.Ending.{complete_at}
+use Rattle.st_course.specs.Acknowledged.{acknowledged, SaysLines, Promised}
+use Rattle.st_course.specs.Courses.{Course, deeds_of, commits_of, IsEnd}
+use Rattle.st_course.specs.Done.{RestsAsOne}
+use Rattle.st_course.proofs.Counting.{front_of, front_acknowledges}
+use Rattle.st_course.proofs.Promising.{CountsNow, promise_kept, one_said}
+use Rattle.st_course.proofs.Underways.{nothing_of}
+use Rattle.st_definition.specs.Defining.{installed}
+use Rattle.st_installer.specs.Installing.{Install}
+use Rattle.st_recover.specs.Commits.{Commit, OpensAs, all_of, stored_of}
+use Rattle.st_recover.specs.Openings.{IsFaulty, IsReopenedAs, Reopens, RefusesOpening, IsOfReopening, OpeningHasCause}
+use Rattle.st_recover.specs.Replays.{Loss, Replayed, replay}
+use Rattle.st_recover.specs.declared.opened.Opened.{Opened}
+use Rattle.st_recover.specs.declared.fault.OpenFault.{OpenFault}
+use Rattle.st_recover.specs.declared.fault.OpenFault.TheVariants as opening
+use Rattle.st_session.specs.Commands.{last_line, store_status, opening_status, SaysLastLine}
+use Rattle.st_session.specs.Ends.{IsCalm, IsOfServing, SessionEnds}
+use Rattle.st_session.specs.StoreSessions.{course_over, IsOfSession, KeepsPromise}
+use Rattle.st_session.specs.Opening.{IsOpen, session_over, session_so_far_over}
+use Rattle.st_session.proofs.LastLines.{quiet_line}
+
+-- WHAT FILES OPEN AS
+
+opens_in : (name : List ℕ) (c : Stored) (f : Files) → Opens name c f → stored_in name f c.root ≡ c
+opens_in name c f opens = λ i. record { root = c.root; image = opens.image.is i; changes = opens.changes.is i }
+
+one_stored : (name : List ℕ) (c d : Stored) (f : Files) → Opens name c f → Opens name d f → c ≡ d
+one_stored name c d f x y =
+    let number : x.number ≡ y.number = sym x.chosen.gate ∙ y.chosen.gate in
+    let root : c.root ≡ d.root = sym x.chosen.names ∙ ap (λ n. root_at (place n) (bytes_of (f (roots_file name)))) number ∙ y.chosen.names in
+    sym (opens_in name c f x) ∙ ap (stored_in name f) root ∙ opens_in name d f y
+
+went_in : {A : Type 0} (a : A) → Transition A Unit → A
+went_in a (Went u s) = s
+went_in a t = a
+
+-- a commit opens as one state
+pub one_opening : (install : Install) (c : Commit) (r q : Replayed) → Reopens install c r → Reopens install c q → r ≡ q
+unfolding went_in
+one_opening install c r q x y =
+    let same : x.births ≡ y.births = ap (went_in x.births) (sym x.begins ∙ y.begins) in
+    x.replays ∙ ap (λ b. replay install b (length c.before) c.definitions) same ∙ sym y.replays
+
+module _ {D : Type 0} (host : Ghosts D) (name : List ℕ) where
+  -- files that open as those that were read open as the commit that each state opened as
+  pub opens_still : (old : D) (c : Commit) → IsAtRest host (OpensAs name) c old → ((n : List ℕ) → host.may_leave old n (host.files old n)) → (f : Files) → IsOpening host old name f → OpensAs name c f
+  opens_still old c rest reads f (inl can) = rest.opens_as f can
+  opens_still old c rest reads f (inr as_read) =
+      let now = rest.opens_as (host.files old) reads in
+      record { slot = now.slot; opens = subst (λ (s : Stored). Opens name s f) (one_stored name as_read.is (stored_of now.slot c) (host.files old) as_read.read now.opens) as_read.now }
+
+  -- nothing is acknowledged by a part of a last line
+  promised_none : (c : Commit) (cs : List Commit) (e : Status) (said s : List ℕ) (f : Files) → SaidPart said (last_line e) s → OpensAs name c f → Promised (OpensAs name) (c ∷ cs) said f s
+  promised_none c cs e said s f part opens =
+      let front = front_of said (last_line e) s part in
+      let none : 0 ≡ acknowledged front.0 = omega (arith, front_acknowledges front.0 (last_line e) front.2, quiet_line e) in
+      record { words = front.0; said_is = front.1; number = 0; commit = c; is_of = refl; opens_as = opens; acknowledges = inl none }
+
+  pub refused_promise : (c : Commit) (cs : List Commit) (e : Status) (old closed new : D) → IsAtRest host (OpensAs name) c old → ((n : List ℕ) → host.may_leave old n (host.files old n))
+      → LeavesOnly host old closed (λ f s. (s ≡ host.said old) × IsOpening host old name f) → ((f : Files) → ((n : List ℕ) → host.may_leave closed n (f n)) → IsOpening host old name f)
+      → host.said closed ≡ host.said old → IsTrue host.is_told → ReadsAndSays host (last_line e) closed new → KeepsPromise host name (c ∷ cs) old new e
+  refused_promise c cs e old closed new rest reads moments leaves quiet told line = record {
+    moments = moments_join host old closed new (Promised (OpensAs name) (c ∷ cs) (host.said old)) (WhileSaying (host.may_leave closed) (host.said closed) (last_line e))
+        (weaker host old closed (Promised (OpensAs name) (c ∷ cs) (host.said old)) (λ f s. (s ≡ host.said old) × IsOpening host old name f) moments
+        (λ f s so. promised_none c cs e (host.said old) s f (nothing_of (host.said old) (last_line e) s so.0) (opens_still old c rest reads f so.1)))
+        (line.moments told)
+        (λ f s w. promised_none c cs e (host.said old) s f (subst (λ (t : List ℕ). SaidPart t (last_line e) s) quiet w.1) (opens_still old c rest reads f (leaves f w.0)));
+    rests = λ none. record { number = 0; commit = c; is_of = refl; at = record { opens_as = λ f can. opens_still old c rest reads f (leaves f (λ n. (line.stops told).fewer n (f n) (can n))) } };
+  }
+
+  -- a last line behind a session; after a fault in saying there is none
+  line_promise : (commits : List Commit) (e : Status) (old closed new : D) → IsTrue host.is_told → CountsNow host closed → ((e ≡ status.SayFault → ⊥) → SaysLines (host.said old) (host.said closed))
+      → LeavesOnly host old closed (Promised (OpensAs name) commits (host.said old)) → ReadsAndSays host (last_line e) closed new → LeavesOnly host old new (Promised (OpensAs name) commits (host.said old))
+  line_promise commits e old closed new told now lines first line = over e lines line
+    where
+      kept : (d : Status) → (d ≡ status.SayFault → ⊥) → ((d ≡ status.SayFault → ⊥) → SaysLines (host.said old) (host.said closed)) → ReadsAndSays host (last_line d) closed new → LeavesOnly host old new (Promised (OpensAs name) commits (host.said old))
+      kept d other lines line = promise_kept host (OpensAs name) commits old closed new (last_line d) (lines other) (quiet_line d) told now first line
+
+      over : (d : Status) → ((d ≡ status.SayFault → ⊥) → SaysLines (host.said old) (host.said closed)) → ReadsAndSays host (last_line d) closed new → LeavesOnly host old new (Promised (OpensAs name) commits (host.said old))
+      over status.SayFault lines line =
+          moments_join host old closed new (Promised (OpensAs name) commits (host.said old)) (WhileSaying (host.may_leave closed) (host.said closed) []) first (line.moments told)
+          (λ f s w.
+          let front = front_of (host.said closed) [] s w.1 in
+          let same : s ≡ host.said closed = front.1 ∙ ap (λ (t : List ℕ). host.said closed ++ t) (none_in front.0 (front.2).0 (front.2).1) ∙ append-nil (host.said closed) in
+          subst (λ (t : List ℕ). Promised (OpensAs name) commits (host.said old) f t) (sym same) (first.each f (host.said closed) (now (host.moment old) f (host.said closed) told first.later (w.0, refl))))
+        where
+          none_in : (a b : List ℕ) → a ++ b ≡ [] → a ≡ []
+          none_in [] b e = refl
+          none_in (x ∷ a) b e = cc
+      over status.Done lines line = kept status.Done (λ e. cc) lines line
+      over status.Usage lines line = kept status.Usage (λ e. cc) lines line
+      over (status.Image f) lines line = kept (status.Image f) (λ e. cc) lines line
+      over (status.Script n) lines line = kept (status.Script n) (λ e. cc) lines line
+      over status.ReadFault lines line = kept status.ReadFault (λ e. cc) lines line
+      over status.DiskFault lines line = kept status.DiskFault (λ e. cc) lines line
+      over (status.Store f) lines line = kept (status.Store f) (λ e. cc) lines line
+      over status.TooLarge lines line = kept status.TooLarge (λ e. cc) lines line
+      over status.OutOfMemory lines line = kept status.OutOfMemory (λ e. cc) lines line
+
+  pub followed_promise : {X Y : Type 0} (c : Commit) (course : Course Commit X) (so_far : List ℕ → Course Commit Y) (script : List ℕ) (e : Status) (old mid closed new : D) → IsAtRest host (OpensAs name) c old → ((n : List ℕ) → host.may_leave old n (host.files old n))
+      → CountsNow host closed → LeavesOnly host old mid (λ f s. (s ≡ host.said old) × IsOpening host old name f) → host.said mid ≡ host.said old → IsTrue host.is_told
+      → SessionEnds host (OpensAs name) (IsNoFileOf name) c course so_far script mid closed e → ReadsAndSays host (last_line e) closed new → KeepsPromise host name (c ∷ commits_of (deeds_of course)) old new e
+  followed_promise c course so_far script e old mid closed new rest reads now moments quiet told ends line =
+      let commits = c ∷ commits_of (deeds_of course) in
+      let first = weaker host old mid (Promised (OpensAs name) commits (host.said old)) (λ f s. (s ≡ host.said old) × IsOpening host old name f) moments
+      (λ f s so. promised_none c (commits_of (deeds_of course)) e (host.said old) s f (nothing_of (host.said old) (last_line e) s so.0) (opens_still old c rest reads f so.1)) in
+      let both = moments_join host old mid closed (Promised (OpensAs name) commits (host.said old)) (Promised (OpensAs name) commits (host.said mid)) first (ends.moments told)
+      (λ f s p. subst (λ (t : List ℕ). Promised (OpensAs name) commits t f s) quiet p) in
+      record {
+        moments = line_promise commits e old closed new told now (λ other. subst (λ (t : List ℕ). SaysLines t (host.said closed)) quiet (ends.lines other told)) both line;
+        rests = λ none. one_said host (OpensAs name) commits old closed new (last_line e) told line (ends.rests none told);
+      }
+
+  -- LAST LINES AND COUNTS
+
+  pub refused_line : (e : Status) (old closed new : D) → (IsTrue host.is_told → host.said closed ≡ host.said old) → host.say_faults closed ≡ host.say_faults old → SaysLastLine host e closed new → SaysLastLine host e old new
+  refused_line e old closed new quiet say line = record {
+    part = λ told. subst (λ (t : List ℕ). SaidPart t (last_line e) (host.said new)) (quiet told) (line.part told);
+    whole = λ calm told. line.whole (λ rose. calm (subst (λ n. Rose n (host.say_faults new)) say rose)) told ∙ ap (λ (t : List ℕ). t ++ last_line e) (quiet told);
+  }
+
+  pub refused_moments : (e : Status) (old closed new : D) → LeavesOnly host old closed (λ f s. (s ≡ host.said old) × IsOpening host old name f) → ((f : Files) → ((n : List ℕ) → host.may_leave closed n (f n)) → IsOpening host old name f)
+      → host.said closed ≡ host.said old → IsTrue host.is_told → ReadsAndSays host (last_line e) closed new → LeavesOnly host old new (λ f s. SaidPart (host.said old) (last_line e) s × IsOpening host old name f)
+  refused_moments e old closed new moments leaves quiet told line =
+      moments_join host old closed new (λ f s. SaidPart (host.said old) (last_line e) s × IsOpening host old name f) (WhileSaying (host.may_leave closed) (host.said closed) (last_line e))
+      (weaker host old closed (λ f s. SaidPart (host.said old) (last_line e) s × IsOpening host old name f) (λ f s. (s ≡ host.said old) × IsOpening host old name f) moments (λ f s so. (nothing_of (host.said old) (last_line e) s so.0, so.1)))
+      (line.moments told)
+      (λ f s w. (subst (λ (t : List ℕ). SaidPart t (last_line e) s) quiet w.1, leaves f w.0))
+
+  pub spares_then : (old mid new : D) → Spares host (IsNoFileOf name) old mid → Spares host (IsNoFileOf name) mid new → Spares host (IsNoFileOf name) old new
+  spares_then old mid new first second = record {
+    files = λ told n is. second.files told n is ∙ first.files told n is;
+    fewer = λ told n c is can. first.fewer told n c is (second.fewer told n c is can);
+    more = λ told n c is could. second.more told n c is (first.more told n c is could);
+  }
+
+  pub spares_line : (text : List ℕ) (old closed new : D) → Spares host (IsNoFileOf name) old closed → ReadsAlike host closed new → ReadsAndSays host text closed new → Spares host (IsNoFileOf name) old new
+  spares_line text old closed new spares alike line = record {
+    files = λ told n is. alike.same told n ∙ spares.files told n is;
+    fewer = λ told n c is can. spares.fewer told n c is ((line.stops told).fewer n c can);
+    more = λ told n c is could. (line.stops told).more n c (spares.more told n c is could);
+  }
 
 module _ {D : Type 0} (host : Ghosts D) (reads : Type 0) where
-  -- the cause of a status behind calls that only read
-  pub cause_behind : (old mid new : D) (e : Status) → OnlyReads host old mid → StatusHasCause host reads mid new e → StatusHasCause host reads old new e
-  cause_behind old mid new status.Done first h = h
-  cause_behind old mid new status.Usage first h = h
-  cause_behind old mid new (status.Image f) first h = h
-  cause_behind old mid new (status.Script line) first h = h
-  cause_behind old mid new status.ReadFault first h = h
-  cause_behind old mid new status.SayFault first h = subst (λ n. Rose n (host.say_faults new)) first.say h
-  cause_behind old mid new status.DiskFault first h = rose_second (host.disk_faults old) (host.disk_faults mid) (host.disk_faults new) first.disk h
-  cause_behind old mid new status.TooLarge first h = h
-  cause_behind old mid new status.OutOfMemory first h = h
+  -- the cause of a status behind the opening and before the last line
+  pub cause_between : (old mid closed new : D) (e : Status) → host.disk_faults old ≤ host.disk_faults mid → host.say_faults mid ≡ host.say_faults old → host.say_faults mid ≤ host.say_faults closed → host.say_faults closed ≤ host.say_faults new → host.disk_faults new ≡ host.disk_faults closed
+      → StatusHasCause host reads mid closed e → StatusHasCause host reads old new e
+  cause_between old mid closed new status.SayFault low same say high disk h =
+      rose_first (host.say_faults old) (host.say_faults closed) (host.say_faults new) (subst (λ n. n ≤ host.say_faults closed) same say) high (subst (λ n. Rose n (host.say_faults closed)) same h)
+  cause_between old mid closed new status.DiskFault low same say high disk h =
+      subst (Rose (host.disk_faults old)) (sym disk) (rose_second (host.disk_faults old) (host.disk_faults mid) (host.disk_faults closed) low h)
+  cause_between old mid closed new status.Done low same say high disk h = h
+  cause_between old mid closed new status.Usage low same say high disk h = h
+  cause_between old mid closed new (status.Image f) low same say high disk h = h
+  cause_between old mid closed new (status.Script n) low same say high disk h = h
+  cause_between old mid closed new status.ReadFault low same say high disk h = h
+  cause_between old mid closed new (status.Store f) low same say high disk h = h
+  cause_between old mid closed new status.TooLarge low same say high disk h = h
+  cause_between old mid closed new status.OutOfMemory low same say high disk h = h
 
-  -- before a last line
-  pub cause_before : (old mid new : D) (e : Status) → host.say_faults old ≤ host.say_faults mid → host.say_faults mid ≤ host.say_faults new → host.disk_faults new ≡ host.disk_faults mid
-      → StatusHasCause host reads old mid e → StatusHasCause host reads old new e
-  cause_before old mid new status.Done low high disk h = h
-  cause_before old mid new status.Usage low high disk h = h
-  cause_before old mid new (status.Image f) low high disk h = h
-  cause_before old mid new (status.Script line) low high disk h = h
-  cause_before old mid new status.ReadFault low high disk h = h
-  cause_before old mid new status.SayFault low high disk h = rose_first (host.say_faults old) (host.say_faults mid) (host.say_faults new) low high h
-  cause_before old mid new status.DiskFault low high disk h = subst (λ n. Rose (host.disk_faults old) n) (sym disk) h
-  cause_before old mid new status.TooLarge low high disk h = h
-  cause_before old mid new status.OutOfMemory low high disk h = h
-
-  pub refusal_cause : (old new : D) (r : ImageRefusal) → RefusalHasCause host old new r → StatusHasCause host reads old new (status_of r)
-  refusal_cause old new (refusal.Image f) h = tt
-  refusal_cause old new refusal.TooLarge h = tt
-  refusal_cause old new refusal.DiskFault h = h
-  refusal_cause old new refusal.OutOfMemory h = tt
-
-  pub calm_before : (old mid new : D) → host.say_faults old ≤ host.say_faults mid → host.say_faults mid ≤ host.say_faults new → host.disk_faults new ≡ host.disk_faults mid
-      → IsCalm host reads old new → IsCalm host reads old mid
-  calm_before old mid new low high disk calm = record {
-    disk = λ rose. calm.disk (subst (λ n. Rose (host.disk_faults old) n) (sym disk) rose);
-    say = λ rose. calm.say (rose_first (host.say_faults old) (host.say_faults mid) (host.say_faults new) low high rose);
+  pub calm_between : (old mid closed new : D) → host.disk_faults old ≤ host.disk_faults mid → host.say_faults mid ≡ host.say_faults old → host.say_faults mid ≤ host.say_faults closed → host.say_faults closed ≤ host.say_faults new → host.disk_faults new ≡ host.disk_faults closed
+      → IsCalm host reads old new → IsCalm host reads mid closed
+  calm_between old mid closed new low same say high disk calm = record {
+    disk = λ rose. calm.disk (cause_between old mid closed new status.DiskFault low same say high disk rose);
+    say = λ rose. calm.say (cause_between old mid closed new status.SayFault low same say high disk rose);
     source = calm.source;
   }
 
-  -- the bytes of an image that is read have nothing for which they are refused
-  refused_whole : (bytes : List ℕ) (old new : D) (r : ImageRefusal) (e : Status) → e ≡ status_of r → IsReadable bytes → IsImageRefusal bytes r → StatusHasCause host reads old new e → IsCalm host reads old new
-      → (e ≡ status.Done) ⊎ (e ≡ status.OutOfMemory)
-  refused_whole bytes old new (refusal.Image f) e is readable why cause calm = absurd (readable.formed f why.fault.fails)
-  refused_whole bytes old new refusal.TooLarge e is readable why cause calm = let short = readable.short in absurd (omega (arith, short, why))
-  refused_whole bytes old new refusal.DiskFault e is readable why cause calm = absurd (calm.disk (subst (StatusHasCause host reads old new) is cause))
-  refused_whole bytes old new refusal.OutOfMemory e is readable why cause calm = inr is
+  -- that of a refused opening
+  pub opening_cause : (old closed new : D) (fault : OpenFault) → IsOfReopening fault → OpeningHasCause host old closed fault → host.disk_faults new ≡ host.disk_faults closed → StatusHasCause host reads old new (opening_status fault)
+  opening_cause old closed new (opening.Store unmade.Missing) kind h disk = tt
+  opening_cause old closed new (opening.Store unmade.Exists) kind h disk = tt
+  opening_cause old closed new (opening.Store (unmade.NotAStore at)) kind h disk = tt
+  opening_cause old closed new (opening.Store unmade.Disk) kind h disk = absurd kind
+  opening_cause old closed new (opening.Store unmade.OutOfMemory) kind h disk = tt
+  opening_cause old closed new (opening.Image f) kind h disk = tt
+  opening_cause old closed new opening.TooLarge kind h disk = tt
+  opening_cause old closed new opening.Disk kind h disk = subst (Rose (host.disk_faults old)) (sym disk) h
+  opening_cause old closed new opening.OutOfMemory kind h disk = tt
 
-  pub complete_over : (install : Install) (bytes script : List ℕ) (old new : D) (e : Status) → IsOver host install bytes script old new e → StatusHasCause host reads old new e → IsWholeSession install bytes script → IsCalm host reads old new
-      → (e ≡ status.Done) ⊎ (e ≡ status.OutOfMemory)
-  complete_over install bytes script old new e (inl r) cause whole calm = refused_whole bytes old new r.refusal e r.is whole.0 r.why cause calm
-  complete_over install bytes script old new e (inr s) cause whole calm =
-      complete_at host (λ x. Unit {0}) (session keeps_nothing install 0 0 (alive s.births tt) script) (session_so_far keeps_nothing install 0 0 (alive s.births tt)) script reads e old new (λ f. (s.ends.whole f).0) cause (whole.1 s.births s.begins) calm
+-- WHAT IS OPENED
 
--- a fault of the source that never comes has any cause
-pub cause_any : {D : Type 0} (host : Ghosts D) (reads : Type 0) (old new : D) (e : Status) → StatusHasCause host ⊥ old new e → StatusHasCause host reads old new e
-cause_any host reads old new status.Done h = h
-cause_any host reads old new status.Usage h = h
-cause_any host reads old new (status.Image f) h = h
-cause_any host reads old new (status.Script line) h = h
-cause_any host reads old new status.ReadFault h = absurd h
-cause_any host reads old new status.SayFault h = h
-cause_any host reads old new status.DiskFault h = h
-cause_any host reads old new status.TooLarge h = h
-cause_any host reads old new status.OutOfMemory h = h
+-- what is opened holds its commit, and shows what this opens as
+pub open_at : {M D : Type 0} (view : M → View) (host : Ghosts D) (install : Install) (name : List ℕ) (old new : D) (o : Opened M) (c : Commit) (at : IsReopenedAs host install view name old new o c) → IsOpen view host new o c at.replayed.state
+open_at view host install name old new o c at = record {
+  holds = record {
+    chosen = o.store.chosen;
+    slot = o.store.root.slot;
+    store = λ i. Some (record { name = o.store.name; chosen = o.store.chosen; root = at.root i });
+    listed = at.listed;
+    good = at.good;
+    kept = λ told. subst (λ (r : Root). IsKept host new (record { name = o.store.name; chosen = o.store.chosen; root = r }) (stored_of o.store.root.slot c)) at.root at.kept;
+  };
+  shows = at.shows;
+}
 
--- one run of calls, and none behind it
-pub in_turn : {D : Type 0} (host : Ghosts D) (text : List ℕ) (old new : D) → OnlyNow host new → ReadsAndSays host text old new → SaysInTurn host old new
-in_turn host text old new only run =
-    let none : Pushes {E = SayFault} host [] new new [] [] (Ok tt) = push_none host new only in
-    record { middle = new; text = text; line = none.adds.said; first = run; second = none.adds.says.part }
+module _ {D : Type 0} (host : Ghosts D) (c : Commit) (script : List ℕ) (mid closed : D) (e : Status) where
+  abbrev Ends_at : List ℕ → ℕ → List Loss → State Births → Type 0
+  Ends_at name count lost s = SessionEnds host (OpensAs name) (IsNoFileOf name) c (session_over count lost s c script) (session_so_far_over count lost s c) script mid closed e
 
-module _ {D : Type 0} (host : Ghosts D) (bytes : List ℕ) where
-  -- the status of a script that was followed over an image that is read
-  pub kind_followed : (e : Status) → IsOfServing e → (IsTrue host.is_told → IsReadable bytes) → IsOfSession host bytes e
-  kind_followed status.Done h readable = readable
-  kind_followed status.Usage h readable = absurd h
-  kind_followed (status.Image f) h readable = absurd h
-  kind_followed (status.Script line) h readable = readable
-  kind_followed status.ReadFault h readable = readable
-  kind_followed status.SayFault h readable = readable
-  kind_followed status.DiskFault h readable = tt
-  kind_followed status.TooLarge h readable = λ told. inr (readable told)
-  kind_followed status.OutOfMemory h readable = tt
+  pub ends_at : (n m : List ℕ) (count : ℕ) (lost : List Loss) (r : Replayed) → n ≡ m → count ≡ r.count → lost ≡ r.lost → Ends_at n count lost r.state → Ends_at m r.count r.lost r.state
+  ends_at n m count lost r one two three h = subst (λ (x : List Loss). Ends_at m r.count x r.state) three (subst (λ (x : ℕ). Ends_at m x lost r.state) two (subst (λ (x : List ℕ). Ends_at x count lost r.state) one h))
 
-  -- that of an image that is refused
-  pub kind_refused : (r : ImageRefusal) → (IsTrue host.is_told → IsImageRefusal bytes r) → IsOfSession host bytes (status_of r)
-  kind_refused (refusal.Image f) why = why
-  kind_refused refusal.TooLarge why = λ told. inl (why told)
-  kind_refused refusal.DiskFault why = tt
-  kind_refused refusal.OutOfMemory why = tt
+-- the end of a session over what was opened
+pub end_at : (c d : Commit) (r q : Replayed) (count : ℕ) (lost : List Loss) (script : List ℕ) → c ≡ d → r ≡ q → count ≡ r.count → lost ≡ r.lost → IsEnd (course_over d q script) status.Done → IsEnd (session_over count lost r.state c script) status.Done
+end_at c d r q count lost script one two three four h =
+    subst (λ (n : ℕ). IsEnd (session_over n lost r.state c script) status.Done) (sym three) (subst (λ (l : List Loss). IsEnd (session_over r.count l r.state c script) status.Done) (sym four)
+    (subst (λ (x : Replayed). IsEnd (course_over c x script) status.Done) (sym two) (subst (λ (x : Commit). IsEnd (course_over x q script) status.Done) (sym one) h)))
+
+-- what holds of a host that tells holds of any
+pub spares_told : {D : Type 0} (host : Ghosts D) (names : List ℕ → Type 0) (old new : D) → (IsTrue host.is_told → Spares host names old new) → Spares host names old new
+spares_told host names old new h = record { files = λ told. (h told).files told; fewer = λ told. (h told).fewer told; more = λ told. (h told).more told }
+
+-- KINDS
+
+pub kind_served : (told : Type 0) (name : List ℕ) (f : Files) (e : Status) → IsOfServing e → IsOfSession told name f e
+kind_served told name f status.Done h = tt
+kind_served told name f status.Usage h = absurd h
+kind_served told name f (status.Image x) h = absurd h
+kind_served told name f (status.Script n) h = tt
+kind_served told name f status.ReadFault h = tt
+kind_served told name f status.SayFault h = tt
+kind_served told name f status.DiskFault h = tt
+kind_served told name f (status.Store x) h = absurd h
+kind_served told name f status.TooLarge h = tt
+kind_served told name f status.OutOfMemory h = tt
+
+pub kind_refused : (told : Type 0) (name : List ℕ) (f : Files) (fault : OpenFault) → IsOfReopening fault → (told → RefusesOpening name f fault) → IsOfSession told name f (opening_status fault)
+kind_refused told name f (opening.Store unmade.Missing) h why = why
+kind_refused told name f (opening.Store unmade.Exists) h why = absurd h
+kind_refused told name f (opening.Store (unmade.NotAStore place)) h why = why
+kind_refused told name f (opening.Store unmade.Disk) h why = absurd h
+kind_refused told name f (opening.Store unmade.OutOfMemory) h why = absurd h
+kind_refused told name f (opening.Image x) h why = why
+kind_refused told name f opening.TooLarge h why = tt
+kind_refused told name f opening.Disk h why = tt
+kind_refused told name f opening.OutOfMemory h why = tt
+
+-- COMPLETENESS
+
+stands : (c : Commit) → StandsAt (all_of c) (length (entries c.before))
+stands c = record {
+  count = length c.before;
+  within = omega (arith, length-append c.before c.definitions);
+  is = ap (λ ds. length (entries ds)) (sym (take-append_seam c.before c.definitions));
+}
+
+module _ (name : List ℕ) (f : Files) (c : Commit) (opens : OpensAs name c f) where
+  stored_is : (x : Stored) → Opens name x f → x ≡ stored_of opens.slot c
+  stored_is x o = one_stored name x (stored_of opens.slot c) f o opens.opens
+
+  -- the changes of a commit aren't damaged
+  changes_whole : All IsDefinition (all_of c) → (x : Stored) (at : ℕ) → Opens name x f → RefusesChanges x.changes x.root (unmade.NotAStore (Changes at)) → ⊥
+  changes_whole good x at o why =
+      let lists : Lists (entries (all_of c)) (length (entries c.before)) (all_of c) = lists_back (all_of c) (length (entries c.before)) good (stands c) in
+      none_wrong (entries (all_of c)) (stored_of opens.slot c).root at (all_of c) lists refl (subst (λ (s : Stored). RefusesChanges s.changes s.root (unmade.NotAStore (Changes at))) (stored_is x o) why)
+
+  -- a commit that opens isn't refused but by a fault of the disk, or for want of memory
+  pub refused_whole : {D : Type 0} (host : Ghosts D) (old mid : D) (r : Replayed) (fault : OpenFault) → All IsDefinition (all_of c) → Reopens installed c r → IsOfReopening fault → RefusesOpening name f fault
+      → OpeningHasCause host old mid fault → (Rose (host.disk_faults old) (host.disk_faults mid) → ⊥) → (opening_status fault ≡ status.Done) ⊎ (opening_status fault ≡ status.OutOfMemory)
+  refused_whole host old mid r (opening.Store unmade.Missing) good reopens kind why cause calm = absurd (opens_there name f (stored_of opens.slot c) opens.opens why)
+  refused_whole host old mid r (opening.Store unmade.Exists) good reopens kind why cause calm = absurd kind
+  refused_whole host old mid r (opening.Store (unmade.NotAStore (Roots at))) good reopens kind why cause calm = absurd (none_opens name f at (stored_of opens.slot c) opens.opens why)
+  refused_whole host old mid r (opening.Store (unmade.NotAStore (Changes at))) good reopens kind why cause calm = absurd (changes_whole good why.0 at why.1 why.3)
+  refused_whole host old mid r (opening.Store unmade.Disk) good reopens kind why cause calm = absurd kind
+  refused_whole host old mid r (opening.Store unmade.OutOfMemory) good reopens kind why cause calm = inr refl
+  refused_whole host old mid r (opening.Image x) good reopens kind why cause calm =
+      let faulty = subst (λ (s : Stored). IsFaulty s.image x) (stored_is why.0 why.1) why.2 in
+      absurd (reopens.readable.formed x faulty.fault.fails)
+  refused_whole host old mid r opening.TooLarge good reopens kind why cause calm =
+      let short = reopens.readable.short in
+      let long = ap (λ (s : Stored). length s.image) (stored_is why.0 why.1) in
+      let most = why.2 in
+      absurd (omega (arith, short, long, most))
+  refused_whole host old mid r opening.Disk good reopens kind why cause calm = absurd (calm cause)
+  refused_whole host old mid r opening.OutOfMemory good reopens kind why cause calm = inr refl

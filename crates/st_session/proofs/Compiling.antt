@@ -17,13 +17,14 @@ use Rattle.st_install.specs.Carried.{Becomes}
 use Rattle.st_install.specs.Goes.{IsReadyFor}
 use Rattle.st_install.specs.Installing.{install}
 use Rattle.st_install.specs.Readies.{plan_of}
+use Rattle.st_install.proofs.GoesLaw.{ready_installs}
 use Rattle.st_definition.proofs.Headed.{code_headed}
 use Rattle.st_course.specs.declared.refusal.Refusal.{Refusal}
-use Rattle.st_definition.specs.declared.installation.Installation.{Installation}
-use Rattle.st_definition.specs.declared.installation.Installation.TheVariants as installation
+use Rattle.st_installer.specs.declared.installation.Installation.{Installation}
+use Rattle.st_installer.specs.declared.installation.Installation.TheVariants as installation
 use Rattle.st_definition.specs.declared.preparing.Prepared.{Prepared}
-use Rattle.st_definition.specs.Installing.{Installed, Refused, Accepted}
-use Rattle.st_definition.specs.Installations.{InstallsAs}
+use Rattle.st_installer.specs.Installing.{Installed, Refused, Accepted}
+use Rattle.st_installer.specs.Installations.{InstallsAs}
 use Rattle.st_definition.specs.Defining.{installed}
 use Rattle.st_definition.specs.Prepareds.{IsPrepared}
 use Rattle.st_definition.proofs.Joining.{installs}
@@ -84,3 +85,12 @@ module _ (v : View) (d : Definition) (p : Prepared) (prepared : IsPrepared v d p
       let i = installs c s shows d prepared.class (prepared.found c refl) prepared.tree prepared.reads prepared.seen (prepared.sees c refl) prepared.parts prepared.coded (plan_of p.ready) e runs (prepared.ready c refl) (becomes.run c refl refl) in
       let settled : reclaim table e ≡ shown x f w = ap (reclaim table) (same_state u becomes.head) ∙ settled_same u x f w (ready_held u v f w becomes.held ready) settles in
       subst (λ o. InstallsAs o (installation.Accepted p.selector) (shown x f w)) (sym i.installs) (prepared.selector, subst (λ t. Shows t i.state) settled i.runs.shows)
+
+  -- what is prepared is accepted, also where nothing is installed yet
+  pub is_accepted : (t : State Births) × (installed d s ≡ Accepted prepared.parts.selector t)
+  is_accepted =
+      let c = shown v f w in
+      let all = ready_installs v (plan_of p.ready) whole (ready_for v d p prepared) in
+      let e : State Table = record c { memory = all.after } in
+      let i = installs c s shows d prepared.class (prepared.found c refl) prepared.tree prepared.reads prepared.seen (prepared.sees c refl) prepared.parts prepared.coded (plan_of p.ready) e runs (prepared.ready c refl) (all.goes c refl refl) in
+      (i.state, i.installs)

@@ -1,7 +1,10 @@
--- What a run of the code says and leaves is the course of the book's machine.
-use Rattle.std.proofs.Common.{◌≡◌, ℕ, zero, suc, ◌+◌, ◌-◌, List, [], ◌∷◌, ◌++◌, Bool, true, false, Some, None, refl, sym, ap, subst, ◌∙◌, append-nil, arith}
-use Rattle.std.specs.Prelude.{Result, Ok, Err, OnOk, IsErr, if◌then◌else◌}
+-- What a run of the code says, and where it stops, is what the book's machine does.
+use Rattle.std.proofs.Common.{◌≡◌, ℕ, zero, suc, ◌+◌, ◌-◌, ◌≤◌, List, [], ◌∷◌, ◌++◌, map, Bool, true, false, Option, Some, None, refl, sym, ap, subst, ◌∙◌, append-nil, append_assoc, arith}
+use Rattle.std.specs.Prelude.{Result, Ok, Err, OnOk, IfOk, IsErr, if◌then◌else◌}
+use Rattle.std.specs.List.{flat_map}
+use Rattle.st_model.specs.declared.dead.Dead.{Dead}
 use Rattle.st_model.specs.declared.demand.Demand.{Demand}
+use Rattle.st_model.specs.declared.oop.Oop.{Oop}
 use Rattle.st_model.specs.Values.{Value, Small, Ref, value, renamed, IsLive}
 use Rattle.st_model.specs.Objects.{Object}
 use Rattle.st_model.specs.Outcomes.{Ending, With, Space, renamed_ending, IsLiveEnding}
@@ -21,61 +24,44 @@ use Rattle.st_report.proofs.Pushing.{push_none, push_then, push_begun, push_as}
 use Rattle.st_machine.specs.declared.ending.RunEnd.{RunEnd}
 use Rattle.st_machine.specs.declared.ending.RunEnd.TheVariants as end
 use Rattle.st_machine.specs.Runs.{EndsAs, cycles_of, transition_at, death_of}
-use Rattle.st_course.specs.Courses.{Deed, Reply, Course, Goes, Ends, deeds_of, said_of, preceded, replies}
-use Rattle.st_course.proofs.Courses.{said_of_both, preceded_none, preceded_both, deeds_preceded}
-use Rattle.st_session.specs.Points.{Point, alive, gone}
-use Rattle.st_session.specs.Keeping.{keeps_nothing}
-use Rattle.st_session.specs.Answers.{cycle_course, run_course}
-use Rattle.st_session.specs.Runs.{goes_on, asked_text, end_text}
-use Rattle.st_session.specs.Pushing.{LeadsTo, PushesCourse}
+use Rattle.st_session.specs.Points.{Being, Alive, Gone}
+use Rattle.st_session.specs.Runs.{end_text}
 use Rattle.st_session.specs.Standing.{IsBeing}
-
-abbrev pub Line : Type 0
-Line = Course (Unit {0}) (Point (Unit {0}))
-
-abbrev pub Deeds : Type 0
-Deeds = List (Deed (Unit {0}))
-
--- the course of n cycles more, after others that were finished
-abbrev pub cycles : ℕ → ℕ → State Births → Line
-cycles n k s = run_course keeps_nothing n k s tt
+use Rattle.st_session.specs.Stretches.{Stop, Over, Asked, Stretch, words_of, saying, over, asking, cycle_stretch, stretch, StopsAs, went, PushesStretch}
 
 -- what follows where so many cycles are finished, so many are left, and the machine has come to this
-abbrev course_at : ℕ → ℕ → Transition (State Births) Ending → Line
-course_at n k (Died cause) = replies (dead_text n cause) (gone cause tt)
-course_at n k (Went (With outcome.Went) s) = replies (ran_text n) (alive s tt)
-course_at n k (Went (With outcome.Snapshot) s) = preceded [] (cycles n k s)
-course_at n k (Went (With outcome.Quit) s) = replies (quit_text n) (alive s tt)
-course_at n k (Went (With outcome.Debugger) s) = replies (debugger_text n) (alive s tt)
-course_at n k (Went (With (outcome.Say v)) s) = preceded (Reply (said_value s.memory v) ∷ []) (cycles n k s)
-course_at n k (Went (Space demand left) s) = replies (space_text n demand left) (alive s tt)
+abbrev stretch_at : ℕ → ℕ → Transition (State Births) Ending → Stretch
+stretch_at n k (Died cause) = over (dead_text n cause) (Gone cause)
+stretch_at n k (Went (With outcome.Went) s) = over (ran_text n) (Alive s)
+stretch_at n k (Went (With outcome.Snapshot) s) = asking n s
+stretch_at n k (Went (With outcome.Quit) s) = over (quit_text n) (Alive s)
+stretch_at n k (Went (With outcome.Debugger) s) = over (debugger_text n) (Alive s)
+stretch_at n k (Went (With (outcome.Say v)) s) = saying (said_value s.memory v ∷ []) (stretch n k s)
+stretch_at n k (Went (Space demand left) s) = over (space_text n demand left) (Alive s)
 
-course_is : (k n : ℕ) (s : State Births) → cycles n k s ≡ course_at (n + finished births k s) (k - finished births k s) (run births k s)
-unfolding run_course run run_of finished finished_of
-course_is zero n s = let e : n ≡ n + 0 = omega arith in ap (λ i. replies (ran_text i) (alive s tt)) e
-course_is (suc k) n s = over (cycle births s) (λ t. course_is k (suc n) t)
+stretch_is : (k n : ℕ) (s : State Births) → stretch n k s ≡ stretch_at (n + finished births k s) (k - finished births k s) (run births k s)
+unfolding stretch run run_of finished finished_of
+stretch_is zero n s = let e : n ≡ n + 0 = omega arith in ap (λ i. over (ran_text i) (Alive s)) e
+stretch_is (suc k) n s = onward (cycle births s) (λ t. stretch_is k (suc n) t)
   where
-    over : (o : Transition (State Births) Ending)
-        → ((t : State Births) → cycles (suc n) k t ≡ course_at (suc n + finished_of (cycle births) k t) (k - finished_of (cycle births) k t) (run_of (cycle births) k t))
-        → cycle_course keeps_nothing n o (run_course keeps_nothing (suc n) k) tt
-        ≡ course_at (n + counted o (λ t. finished_of (cycle births) k t)) (suc k - counted o (λ t. finished_of (cycle births) k t)) (and_on o (λ t. run_of (cycle births) k t))
-    over (Died cause) h = let e : n ≡ n + 0 = omega arith in ap (λ i. replies (dead_text i cause) (gone cause tt)) e
-    over (Went (With outcome.Went) t) h =
+    onward : (o : Transition (State Births) Ending)
+        → ((t : State Births) → stretch (suc n) k t ≡ stretch_at (suc n + finished_of (cycle births) k t) (k - finished_of (cycle births) k t) (run_of (cycle births) k t))
+        → cycle_stretch n o (stretch (suc n) k)
+        ≡ stretch_at (n + counted o (λ t. finished_of (cycle births) k t)) (suc k - counted o (λ t. finished_of (cycle births) k t)) (and_on o (λ t. run_of (cycle births) k t))
+    onward (Died cause) h = let e : n ≡ n + 0 = omega arith in ap (λ i. over (dead_text i cause) (Gone cause)) e
+    onward (Went (With outcome.Went) t) h =
         let d = finished_of (cycle births) k t in
         let e : suc n + d ≡ n + suc d = omega arith in
         let f : k - d ≡ suc k - suc d = omega arith in
-        h t ∙ (λ i. course_at (e i) (f i) (run_of (cycle births) k t))
-    over (Went (With outcome.Snapshot) t) h =
+        h t ∙ (λ i. stretch_at (e i) (f i) (run_of (cycle births) k t))
+    onward (Went (With outcome.Snapshot) t) h = let e : suc n ≡ n + 1 = omega arith in ap (λ i. asking i t) e
+    onward (Went (With outcome.Quit) t) h = let e : suc n ≡ n + 1 = omega arith in ap (λ i. over (quit_text i) (Alive t)) e
+    onward (Went (With outcome.Debugger) t) h = let e : suc n ≡ n + 1 = omega arith in ap (λ i. over (debugger_text i) (Alive t)) e
+    onward (Went (With (outcome.Say v)) t) h =
         let e : suc n ≡ n + 1 = omega arith in
         let f : k ≡ suc k - 1 = omega arith in
-        λ i. preceded [] (cycles (e i) (f i) t)
-    over (Went (With outcome.Quit) t) h = let e : suc n ≡ n + 1 = omega arith in ap (λ i. replies (quit_text i) (alive t tt)) e
-    over (Went (With outcome.Debugger) t) h = let e : suc n ≡ n + 1 = omega arith in ap (λ i. replies (debugger_text i) (alive t tt)) e
-    over (Went (With (outcome.Say v)) t) h =
-        let e : suc n ≡ n + 1 = omega arith in
-        let f : k ≡ suc k - 1 = omega arith in
-        λ i. preceded (Reply (said_value t.memory v) ∷ []) (cycles (e i) (f i) t)
-    over (Went (Space demand left) t) h = let e : n ≡ n + 0 = omega arith in ap (λ i. replies (space_text i demand left) (alive t tt)) e
+        λ i. saying (said_value t.memory v ∷ []) (stretch (e i) (f i) t)
+    onward (Went (Space demand left) t) h = let e : n ≡ n + 0 = omega arith in ap (λ i. over (space_text i demand left) (Alive t)) e
 
 -- an ending that names nothing is the same under other names
 
@@ -122,162 +108,160 @@ value_said c s (Ref n) w live =
     let shown = w.objects n live.0 o.0 live.1 o.1 in
     rw (borne_is s.memory n live.0 live.1, shown, o.1) refl
 
--- how a run ended, and the course there
+-- how a run ended, and what the stretch is there
+
+pub words_both : (a b : List (List ℕ)) → words_of (a ++ b) ≡ words_of a ++ words_of b
+words_both [] b = refl
+words_both (x ∷ a) b = ap (λ t. x ++ t) (words_both a b) ∙ sym (append_assoc x (words_of a) (words_of b))
+
+saying_both : (a b : List (List ℕ)) (r : Stretch) → saying (a ++ b) r ≡ saying a (saying b r)
+saying_both a b r = ap (λ t. record { texts = t; stop = r.stop }) (append_assoc a b r.texts)
 
 module _ (d k : ℕ) (c : State Table) where
-  ended_so : (a : Ending) (s : State Births) (x : Ending) → x ≡ a → course_at d k (Went x s) ≡ course_at d k (Went a s)
-  ended_so a s x e = ap (λ y. course_at d k (Went y s)) e
+  ended_so : (a : Ending) (s : State Births) (x : Ending) → x ≡ a → stretch_at d k (Went x s) ≡ stretch_at d k (Went a s)
+  ended_so a s x e = ap (λ y. stretch_at d k (Went y s)) e
 
-  -- where the run is over, it stands at a point, and its last line is said
+  -- where the run is over, the machine is this, and its last line is said
   record IsOver (e : RunEnd) (b : Transition (State Births) Ending) : Type 0 where
-    point : Point (Unit {0})
-    stands : IsBeing (death_of e) c point.being
-    course : course_at d k b ≡ replies (end_text d e) point
+    being : Being
+    stands : IsBeing (death_of e) c being
+    is : stretch_at d k b ≡ over (end_text d e) being
 
-  alive_end : (a : Ending) (e : RunEnd) (s : State Births) (x : Ending) → death_of e ≡ None → Shows c s → x ≡ a → course_at d k (Went a s) ≡ replies (end_text d e) (alive s tt) → IsOver e (Went x s)
-  alive_end a e s x lives shows same is = record { point = alive s tt; stands = (lives, shows); course = ended_so a s x same ∙ is }
+  alive_end : (a : Ending) (e : RunEnd) (s : State Births) (x : Ending) → death_of e ≡ None → Shows c s → x ≡ a → stretch_at d k (Went a s) ≡ over (end_text d e) (Alive s) → IsOver e (Went x s)
+  alive_end a e s x lives shows same is = record { being = Alive s; stands = (lives, shows); is = ended_so a s x same ∙ is }
 
-  is_over : (e : RunEnd) → goes_on e ≡ false → (b : Transition (State Births) Ending) → EndsShown (transition_at e c) b → IsOver e b
-  is_over end.Ran a (Died cause) h = absurd h
-  is_over end.Ran a (Went x s) h = alive_end (With outcome.Went) end.Ran s x refl h.1 (back (pointer_of s.memory) (With outcome.Went) x h.0) refl
-  is_over (end.Space done demand entries words) a (Died cause) h = absurd h
-  is_over (end.Space done demand entries words) a (Went x s) h =
+  is_over : (e : RunEnd) → ((done : ℕ) → e ≡ end.Snapshot done → ⊥) → ((done : ℕ) (o : Oop) → e ≡ end.Say done o → ⊥) → (b : Transition (State Births) Ending) → EndsShown (transition_at e c) b → IsOver e b
+  is_over end.Ran n m (Died cause) h = absurd h
+  is_over end.Ran n m (Went x s) h = alive_end (With outcome.Went) end.Ran s x refl h.1 (back (pointer_of s.memory) (With outcome.Went) x h.0) refl
+  is_over (end.Space done demand entries words) n m (Died cause) h = absurd h
+  is_over (end.Space done demand entries words) n m (Went x s) h =
       let left : Demand = record { entries = entries; words = words } in
       alive_end (Space demand left) (end.Space done demand entries words) s x refl h.1 (back (pointer_of s.memory) (Space demand left) x h.0) refl
-  is_over (end.Snapshot done) a b h = cc
-  is_over (end.Say done o) a b h = cc
-  is_over (end.Quit done) a (Died cause) h = absurd h
-  is_over (end.Quit done) a (Went x s) h = alive_end (With outcome.Quit) (end.Quit done) s x refl h.1 (back (pointer_of s.memory) (With outcome.Quit) x h.0) refl
-  is_over (end.Debugger done) a (Died cause) h = absurd h
-  is_over (end.Debugger done) a (Went x s) h = alive_end (With outcome.Debugger) (end.Debugger done) s x refl h.1 (back (pointer_of s.memory) (With outcome.Debugger) x h.0) refl
-  is_over (end.Dead done cause) a (Died b) h = record { point = gone cause tt; stands = refl; course = λ i. replies (dead_text d (sym h i)) (gone (sym h i) tt) }
-  is_over (end.Dead done cause) a (Went x s) h = absurd h
+  is_over (end.Snapshot done) n m b h = absurd (n done refl)
+  is_over (end.Say done o) n m b h = absurd (m done o refl)
+  is_over (end.Quit done) n m (Died cause) h = absurd h
+  is_over (end.Quit done) n m (Went x s) h = alive_end (With outcome.Quit) (end.Quit done) s x refl h.1 (back (pointer_of s.memory) (With outcome.Quit) x h.0) refl
+  is_over (end.Debugger done) n m (Died cause) h = absurd h
+  is_over (end.Debugger done) n m (Went x s) h = alive_end (With outcome.Debugger) (end.Debugger done) s x refl h.1 (back (pointer_of s.memory) (With outcome.Debugger) x h.0) refl
+  is_over (end.Dead done cause) n m (Died b) h = record { being = Gone cause; stands = refl; is = λ i. over (dead_text d (sym h i)) (Gone (sym h i)) }
+  is_over (end.Dead done cause) n m (Went x s) h = absurd h
 
-  -- where the run goes on, the births have come to some that are shown
-  record GoesOn (e : RunEnd) (b : Transition (State Births) Ending) : Type 0 where
+  -- a snapshot is asked for, by births that are shown
+  record AsksToSave (b : Transition (State Births) Ending) : Type 0 where
     state : State Births
     shows : Shows c state
-    deeds : Deeds
-    said : said_of deeds ≡ asked_text e c.memory
-    course : course_at d k b ≡ preceded deeds (cycles d k state)
+    is : stretch_at d k b ≡ asking d state
 
-  goes_further : (e : RunEnd) → goes_on e ≡ true → (b : Transition (State Births) Ending) → EndsShown (transition_at e c) b → GoesOn e b
-  goes_further end.Ran a b h = cc
-  goes_further (end.Space done demand entries words) a b h = cc
-  goes_further (end.Snapshot done) a (Died cause) h = absurd h
-  goes_further (end.Snapshot done) a (Went x s) h = record {
+  asks_to_save : (done : ℕ) (b : Transition (State Births) Ending) → EndsShown (transition_at (end.Snapshot done) c) b → AsksToSave b
+  asks_to_save done (Died cause) h = absurd h
+  asks_to_save done (Went x s) h = record {
     state = s;
     shows = h.1;
-    deeds = [];
-    said = refl;
-    course = ended_so (With outcome.Snapshot) s x (back (pointer_of s.memory) (With outcome.Snapshot) x h.0);
+    is = ended_so (With outcome.Snapshot) s x (back (pointer_of s.memory) (With outcome.Snapshot) x h.0);
   }
-  goes_further (end.Say done o) a (Died cause) h = absurd h
-  goes_further (end.Say done o) a (Went x s) h =
+
+  -- or bytes are to be said, and the run goes on
+  record AsksToSay (o : Oop) (b : Transition (State Births) Ending) : Type 0 where
+    state : State Births
+    shows : Shows c state
+    text : List ℕ
+    said : text ≡ said_in c.memory (value o)
+    is : stretch_at d k b ≡ saying (text ∷ []) (stretch d k state)
+
+  asks_to_say : (done : ℕ) (o : Oop) (b : Transition (State Births) Ending) → EndsShown (transition_at (end.Say done o) c) b → AsksToSay o b
+  asks_to_say done o (Died cause) h = absurd h
+  asks_to_say done o (Went x s) h =
       let r = back (pointer_of s.memory) (With (outcome.Say (value o))) x h.0 in
       let live : IsLiveEnding (IsKept s.memory) (With (outcome.Say r.0)) = subst (IsLiveEnding (IsKept s.memory)) r.1 h.2 in
       record {
         state = s;
         shows = h.1;
-        deeds = Reply (said_value s.memory r.0) ∷ [];
-        said = append-nil (said_value s.memory r.0) ∙ (value_said c s r.0 h.1 live ∙ ap (said_in c.memory) (sym r.2));
-        course = ended_so (With (outcome.Say r.0)) s x r.1;
+        text = said_value s.memory r.0;
+        said = value_said c s r.0 h.1 live ∙ ap (said_in c.memory) (sym r.2);
+        is = ended_so (With (outcome.Say r.0)) s x r.1;
       }
-  goes_further (end.Quit done) a b h = cc
-  goes_further (end.Debugger done) a b h = cc
-  goes_further (end.Dead done cause) a b h = cc
 
--- What is added where so many of n cycles are finished: with the course of the others from the births that are shown, it is the
--- course of all from s.
-pub record SaidSoFar {D : Type 0} (host : Ghosts D) (n : ℕ) (s : State Births) (done : ℕ) (c : State Table) (old new : D) (before after : List ℕ) : Type 0 where
-  pub deeds : Deeds
+-- What is added where so many of n cycles are finished, from `first` on: with the stretch of the others from the births that are
+-- shown, it is the stretch of all from s.
+pub record SaidSoFar {D : Type 0} (host : Ghosts D) (n first : ℕ) (s : State Births) (done : ℕ) (c : State Table) (old new : D) (before after : List ℕ) : Type 0 where
+  pub texts : List (List ℕ)
   pub state : State Births
   pub shows : Shows c state
-  pub rest : preceded deeds (cycles done (n - done) state) ≡ cycles 0 n s
-  pub pushed : Pushes {E = SayFault} host (said_of deeds) old new before after (Ok tt)
+  pub rest : saying texts (stretch done (n - done) state) ≡ stretch first (n - first) s
+  pub pushed : Pushes {E = SayFault} host (words_of texts) old new before after (Ok tt)
 
-pub none_so_far : {D : Type 0} (host : Ghosts D) (n : ℕ) (s : State Births) (c : State Table) (old : D) (before : List ℕ) → OnlyNow host old → Shows c s → SaidSoFar host n s 0 c old old before before
-none_so_far host n s c old before only w = record {
-  deeds = [];
+pub none_so_far : {D : Type 0} (host : Ghosts D) (n first : ℕ) (s : State Births) (c : State Table) (old : D) (before : List ℕ) → OnlyNow host old → Shows c s → SaidSoFar host n first s first c old old before before
+none_so_far host n first s c old before only w = record {
+  texts = [];
   state = s;
   shows = w;
-  rest = preceded_none (cycles 0 (n - 0) s) ∙ (let e : n - 0 ≡ n = omega arith in ap (λ k. cycles 0 k s) e);
+  rest = refl;
   pushed = push_none host old only;
 }
 
-pub all_ok : {A : Type 0} (r : Result Unit SayFault) → A → OnOk r A
-all_ok (Ok u) a = a
-all_ok (Err e) a = tt
+module _ {D : Type 0} {host : Ghosts D} {n first : ℕ} {s : State Births} {done : ℕ} {c : State Table} {old mid : D} {p q : List ℕ} (far : SaidSoFar host n first s done c old mid p q) (e : RunEnd) (d : State Table) (ends : EndsAs (n - done) far.state e d) where
+  abbrev now : ℕ
+  now = done + cycles_of (n - done) e
 
-module _ {D : Type 0} (host : Ghosts D) (at : Point (Unit {0}) → Type 0) where
-  pub course_as : (c d : Line) {old new : D} {before after : List ℕ} {result : Result Unit SayFault} → c ≡ d → PushesCourse host at c old new before after result → PushesCourse host at d old new before after result
-  course_as c d {old = old} {new = new} {before = before} {after = after} {result = result} e h = subst (λ x. PushesCourse host at x old new before after result) e h
-
-  -- a text is added, and leads to a point
-  pub course_replies : (text : List ℕ) (x : Point (Unit {0})) {old new : D} {p q : List ℕ} {result : Result Unit SayFault} → Pushes {E = SayFault} host text old new p q result → OnOk result (at x) → PushesCourse {C = Unit {0}} host at (replies text x) old new p q result
-  course_replies text x run stands = record { pushes = push_as run (sym (append-nil text)); leads = stands }
-
-  leads_behind : (ds : Deeds) (c : Line) (result : Result Unit SayFault) → OnOk result (LeadsTo at c) → OnOk result (LeadsTo at (preceded ds c))
-  leads_behind ds (Goes es x) result h = h
-  leads_behind ds (Ends es e) result h = h
-
-  -- deeds that were added, and a course behind them
-  pub course_behind : (ds : Deeds) (c : Line) {old mid new : D} {p q r : List ℕ} {result : Result Unit SayFault} → Pushes {E = SayFault} host (said_of ds) old mid p q (Ok tt) → PushesCourse host at c mid new q r result → PushesCourse host at (preceded ds c) old new p r result
-  course_behind ds c {result = result} first second = record {
-    pushes = push_as (push_then first second.pushes) (sym (ap said_of (deeds_preceded ds c) ∙ said_of_both ds (deeds_of c)));
-    leads = leads_behind ds c result second.leads;
-  }
-
-  -- deeds that were added in part, and a course that isn't begun
-  pub course_begun : (ds : Deeds) (c : Line) {old new : D} {p q : List ℕ} {fault : SayFault} {result : Result Unit SayFault} → IsErr result → Pushes {E = SayFault} host (said_of ds) old new p q (Err fault) → PushesCourse host at (preceded ds c) old new p q result
-  course_begun ds c {result = Ok u} err run = cc
-  course_begun ds c {result = Err e} err run = record {
-    pushes = push_as (push_begun (said_of (deeds_of c)) err run) (sym (ap said_of (deeds_preceded ds c) ∙ said_of_both ds (deeds_of c)));
-    leads = tt;
-  }
-
-module _ {D : Type 0} {host : Ghosts D} {n : ℕ} {s : State Births} {done : ℕ} {c : State Table} {old mid : D} {p q : List ℕ} (far : SaidSoFar host n s done c old mid p q) (e : RunEnd) (d : State Table) (ends : EndsAs (n - done) far.state e d) where
   abbrev left : ℕ
   left = n - done - cycles_of (n - done) e
 
-  after_run : cycles done (n - done) far.state ≡ course_at (done + cycles_of (n - done) e) left (run births (n - done) far.state)
-  after_run = course_is (n - done) done far.state ∙ ap (λ k. course_at (done + k) (n - done - k) (run births (n - done) far.state)) ends.count
+  after_run : stretch done (n - done) far.state ≡ stretch_at now left (run births (n - done) far.state)
+  after_run = stretch_is (n - done) done far.state ∙ ap (λ i. stretch_at (done + i) (n - done - i) (run births (n - done) far.state)) ends.count
+
+  -- the whole stretch, where this follows
+  whole : (r : Stretch) → stretch_at now left (run births (n - done) far.state) ≡ r → saying far.texts r ≡ stretch first (n - first) s
+  whole r is = ap (saying far.texts) (sym (after_run ∙ is)) ∙ far.rest
+
+  -- a stretch, by what it says and where it stops
+  pushes_as : (r : Stretch) (death : Option Dead) {new : D} {z : List ℕ} {result : Result (Option ℕ) SayFault} → stretch_at now left (run births (n - done) far.state) ≡ r
+      → Pushes host (words_of r.texts) mid new q z (went result) → IfOk result (λ answer. StopsAs death d answer r.stop)
+      → PushesStretch host death d (stretch first (n - first) s) old new p z result
+  pushes_as r death {new = new} {z = z} {result = result} is last stops =
+      subst (λ x. PushesStretch host death d x old new p z result) (whole r is) (record {
+        pushes = push_as (push_then far.pushed last) (sym (words_both far.texts r.texts));
+        stops = stops;
+      })
 
   -- the run's end
-  pub ends_here : (at : Point (Unit {0}) → Type 0) → ((x : Point (Unit {0})) → IsBeing (death_of e) d x.being → at x) → {new : D} {r : List ℕ} {result : Result Unit SayFault}
-      → goes_on e ≡ false → Pushes host (end_text (done + cycles_of (n - done) e) e) mid new q r result → PushesCourse host at (cycles 0 n s) old new p r result
-  ends_here at stands {result = result} stop last =
-      let over = is_over (done + cycles_of (n - done) e) left d e stop (run births (n - done) far.state) ends.ends in
-      let text = end_text (done + cycles_of (n - done) e) e in
-      course_as host at (preceded far.deeds (replies text over.point)) (cycles 0 n s)
-      (ap (preceded far.deeds) (sym (after_run ∙ over.course)) ∙ far.rest)
-      (course_behind host at far.deeds (replies text over.point) far.pushed (course_replies host at text over.point last (all_ok result (stands over.point over.stands))))
+  pub ends_here : (death : Option Dead) {new : D} {r : List ℕ} → death ≡ death_of e → ((k : ℕ) → e ≡ end.Snapshot k → ⊥) → ((k : ℕ) (o : Oop) → e ≡ end.Say k o → ⊥)
+      → Pushes {E = SayFault} host (end_text now e) mid new q r (Ok tt) → PushesStretch {E = SayFault} host death d (stretch first (n - first) s) old new p r (Ok None)
+  ends_here death died unsaved unsaid last =
+      let o = is_over now left d e unsaved unsaid (run births (n - done) far.state) ends.ends in
+      pushes_as (over (end_text now e) o.being) death o.is (push_as last (sym (append-nil (end_text now e)))) (subst (λ x. IsBeing x d o.being) (sym died) o.stands)
 
-  further : goes_on e ≡ true → GoesOn (done + cycles_of (n - done) e) left d e (run births (n - done) far.state)
-  further goes = goes_further (done + cycles_of (n - done) e) left d e goes (run births (n - done) far.state) ends.ends
+  pub end_unsaid : (death : Option Dead) {new : D} {r : List ℕ} {fault : SayFault} → ((k : ℕ) → e ≡ end.Snapshot k → ⊥) → ((k : ℕ) (o : Oop) → e ≡ end.Say k o → ⊥)
+      → Pushes {E = SayFault} host (end_text now e) mid new q r (Err fault) → PushesStretch {E = SayFault} host death d (stretch first (n - first) s) old new p r (Err fault)
+  end_unsaid death unsaved unsaid last =
+      let o = is_over now left d e unsaved unsaid (run births (n - done) far.state) ends.ends in
+      pushes_as (over (end_text now e) o.being) death o.is (push_as last (sym (append-nil (end_text now e)))) tt
 
-  onward : (goes : goes_on e ≡ true) → preceded (far.deeds ++ (further goes).deeds) (cycles (done + cycles_of (n - done) e) left (further goes).state) ≡ cycles 0 n s
-  onward goes =
-      let f = further goes in
-      preceded_both far.deeds f.deeds (cycles (done + cycles_of (n - done) e) left f.state) ∙ (ap (preceded far.deeds) (sym (after_run ∙ f.course)) ∙ far.rest)
+  -- a snapshot is asked for
+  pub stops_here : (death : Option Dead) (k : ℕ) → death ≡ None → e ≡ end.Snapshot k → OnlyNow host mid → PushesStretch {E = SayFault} host death d (stretch first (n - first) s) old mid p q (Ok (Some now))
+  stops_here death k lives asked only =
+      let a = asks_to_save now left d k (run births (n - done) far.state) (subst (λ x. EndsShown (transition_at x d) (run births (n - done) far.state)) asked ends.ends) in
+      pushes_as (asking now a.state) death a.is (push_none host mid only) (refl, lives, a.shows)
 
-  -- what is said, and the cycles behind it
-  pub said_on : {new : D} {r : List ℕ} → goes_on e ≡ true → Pushes {E = SayFault} host (asked_text e d.memory) mid new q r (Ok tt) → SaidSoFar host n s (done + cycles_of (n - done) e) d old new p r
-  said_on goes next =
-      let f = further goes in
-      let k : n - (done + cycles_of (n - done) e) ≡ left = omega arith in
-      record {
-        deeds = far.deeds ++ f.deeds;
-        state = f.state;
-        shows = f.shows;
-        rest = ap (λ j. preceded (far.deeds ++ f.deeds) (cycles (done + cycles_of (n - done) e) j f.state)) k ∙ onward goes;
-        pushed = push_as (push_then far.pushed (push_as next (sym f.said))) (sym (said_of_both far.deeds f.deeds));
-      }
+  -- bytes are said, and the run goes on
+  module _ (k : ℕ) (o : Oop) (asked : e ≡ end.Say k o) where
+    further : AsksToSay now left d o (run births (n - done) far.state)
+    further = asks_to_say now left d k o (run births (n - done) far.state) (subst (λ x. EndsShown (transition_at x d) (run births (n - done) far.state)) asked ends.ends)
 
-  -- or it isn't said whole
-  pub cut_short : (at : Point (Unit {0}) → Type 0) → {new : D} {r : List ℕ} {fault : SayFault} {result : Result Unit SayFault} → goes_on e ≡ true → IsErr result → Pushes {E = SayFault} host (asked_text e d.memory) mid new q r (Err fault) → PushesCourse host at (cycles 0 n s) old new p r result
-  cut_short at {result = result} goes err next =
-      let f = further goes in
-      course_as host at (preceded (far.deeds ++ f.deeds) (cycles (done + cycles_of (n - done) e) left f.state)) (cycles 0 n s) (onward goes)
-      (course_begun host at (far.deeds ++ f.deeds) (cycles (done + cycles_of (n - done) e) left f.state) err
-      (push_as (push_then far.pushed (push_as next (sym f.said))) (sym (said_of_both far.deeds f.deeds))))
+    pub said_on : {new : D} {r : List ℕ} → Pushes {E = SayFault} host (said_in d.memory (value o)) mid new q r (Ok tt) → SaidSoFar host n first s now d old new p r
+    said_on next =
+        let f = further in
+        let same : n - now ≡ left = omega arith in
+        record {
+          texts = far.texts ++ (f.text ∷ []);
+          state = f.state;
+          shows = f.shows;
+          rest = ap (λ j. saying (far.texts ++ (f.text ∷ [])) (stretch now j f.state)) same
+              ∙ (saying_both far.texts (f.text ∷ []) (stretch now left f.state) ∙ whole (saying (f.text ∷ []) (stretch now left f.state)) f.is);
+          pushed = push_as (push_then far.pushed (push_as next (sym f.said ∙ sym (append-nil f.text)))) (sym (words_both far.texts (f.text ∷ [])));
+        }
+
+    -- or they aren't said whole
+    pub cut_short : (death : Option Dead) {new : D} {r : List ℕ} {fault : SayFault} → Pushes {E = SayFault} host (said_in d.memory (value o)) mid new q r (Err fault) → PushesStretch {E = SayFault} host death d (stretch first (n - first) s) old new p r (Err fault)
+    cut_short death next =
+        let f = further in
+        pushes_as (saying (f.text ∷ []) (stretch now left f.state)) death f.is (push_begun (words_of (stretch now left f.state).texts) refl (push_as next (sym f.said))) tt

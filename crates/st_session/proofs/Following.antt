@@ -1,26 +1,24 @@
 -- A script that is followed in pieces.
-use Rattle.std.proofs.Common.{◌≡◌, ℕ, ◌+◌, ◌-◌, ◌≤◌, ◌<◌, List, [], ◌∷◌, ◌++◌, length, take, true, false, Bool, refl, sym, ap, subst, ◌∙◌, append-nil, append_assoc, arith, length-append}
-use Rattle.std.specs.Prelude.{nat_le, Result, Ok, Err, IsErrOf}
+use Rattle.std.proofs.Common.{◌≡◌, ℕ, ◌+◌, ◌-◌, ◌≤◌, ◌<◌, List, [], ◌∷◌, ◌++◌, length, take, true, false, Bool, IsTrue, refl, sym, ap, ◌∙◌, append-nil, append_assoc, arith, length-append}
+use Rattle.std.specs.Prelude.{nat_le, Result, Ok, Err}
 use Rattle.std.proofs.lemmas.Bool.Decides.{nat_tests}
 use Rattle.std.proofs.Math.Seq.{take-append-add}
 use Rattle.std.proofs.lemmas.List.{take-append-le}
+use Rattle.st_outside.specs.Files.{Files}
+use Rattle.st_outside.specs.Runs.{IsAtRest}
 use Rattle.st_outside.specs.declared.host.Host.{Ghosts}
 use Rattle.st_outside.proofs.Telling.{OnlyNow}
 use Rattle.st_script.specs.Reading.{Reading, read, end_read}
 use Rattle.st_script.specs.Scripts.{Asked, asked_by, asked_from, asked_at_end, told_from, read_through}
 use Rattle.st_course.specs.declared.status.Status.{Status}
 use Rattle.st_course.specs.declared.status.Status.TheVariants as status
-use Rattle.st_course.specs.Courses.{Course, Goes, Ends, deeds_of, said_of, and_then}
-use Rattle.st_course.specs.Done.{Did}
-use Rattle.st_outside.specs.Telling.{Says}
+use Rattle.st_course.specs.Courses.{Course, Goes, Ends, and_then}
 use Rattle.st_course.specs.Obeying.{Obeys}
-use Rattle.st_course.specs.Statuses.{StatusHasCause, EndHasCause, Counts}
-use Rattle.st_outside.proofs.Rising.{rose_second}
-use Rattle.st_course.proofs.Courses.{preceded_none, then_then}
-use Rattle.st_course.proofs.Joins.{obeys_as, obeys_then, obeys_err, obeys_end, obeys_says}
-use Rattle.st_definition.specs.Installing.{Install}
+use Rattle.st_course.proofs.Courses.{preceded_none, then_then, then_goes}
+use Rattle.st_course.proofs.Joins.{obeys_as, obeys_then, obeys_err, obeys_end}
+use Rattle.st_installer.specs.Installing.{Install}
 use Rattle.st_session.specs.Points.{Point}
-use Rattle.st_session.specs.Keeping.{keeps_nothing}
+use Rattle.st_session.specs.Keeping.{Keeping}
 use Rattle.st_session.specs.Answers.{answer}
 use Rattle.st_session.specs.Sessions.{follow, follow_rest}
 
@@ -56,44 +54,40 @@ take_behind bytes rest left few =
     let e : left ≡ length bytes + (left - length bytes) = omega (arith, few) in
     ap (λ n. take n (bytes ++ rest)) e ∙ take-append-add bytes rest (left - length bytes)
 
-module _ (install : Install) where
+module _ {C : Type 0} (keeping : Keeping C) (install : Install) where
   abbrev Follow : Type 0
-  Follow = Course (Unit {0}) (Point (Unit {0}))
+  Follow = Course C (Point C)
 
-  abbrev pub follows : Point (Unit {0}) → List Asked → Follow
-  follows p asked = follow keeps_nothing install p asked
+  abbrev pub follows : Point C → List Asked → Follow
+  follows p asked = follow keeping install p asked
 
-  follow_both : (p : Point (Unit {0})) (a b : List Asked) → follows p (a ++ b) ≡ and_then (follows p a) (λ q. follows q b)
+  follow_both : (p : Point C) (a b : List Asked) → follows p (a ++ b) ≡ and_then (follows p a) (λ q. follows q b)
   follow_both p [] b = sym (preceded_none (follows p b))
-  follow_both p (x ∷ a) b = (λ i. and_then (answer keeps_nothing install p x) (λ q. follow_both q a b i)) ∙ sym (then_then (answer keeps_nothing install p x) (λ q. follows q a) (λ q. follows q b))
-
-  then_goes : (c : Follow) → and_then c (λ q. Goes [] q) ≡ c
-  then_goes (Goes ds q) = ap (λ l. Goes l q) (append-nil ds)
-  then_goes (Ends ds e) = refl
+  follow_both p (x ∷ a) b = (λ i. and_then (answer keeping install p x) (λ q. follow_both q a b i)) ∙ sym (then_then (answer keeping install p x) (λ q. follows q a) (λ q. follows q b))
 
   -- one request
-  pub follow_one : (p : Point (Unit {0})) (x : Asked) → follows p (x ∷ []) ≡ answer keeps_nothing install p x
-  follow_one p x = then_goes (answer keeps_nothing install p x)
+  pub follow_one : (p : Point C) (x : Asked) → follows p (x ∷ []) ≡ answer keeping install p x
+  follow_one p x = then_goes (answer keeping install p x)
 
-  told_then : (r : Reading) (p : Point (Unit {0})) (a b : List ℕ) → follows p (told_from r (a ++ b)) ≡ and_then (follows p (told_from r a)) (λ q. follows q (told_from (read_through r a) b))
+  told_then : (r : Reading) (p : Point C) (a b : List ℕ) → follows p (told_from r (a ++ b)) ≡ and_then (follows p (told_from r a)) (λ q. follows q (told_from (read_through r a) b))
   told_then r p a b = ap (follows p) (told_both r a b) ∙ follow_both p (told_from r a) (told_from (read_through r a) b)
 
-  byte_is : (r : Reading) (p : Point (Unit {0})) (b : ℕ) → follows p (asked_by (read r b)) ≡ follows p (told_from r (b ∷ []))
+  byte_is : (r : Reading) (p : Point C) (b : ℕ) → follows p (asked_by (read r b)) ≡ follows p (told_from r (b ∷ []))
   byte_is r p b = ap (follows p) (sym (append-nil (asked_by (read r b))))
 
-  abbrev pub rest_of : Reading → ℕ → Point (Unit {0}) → List ℕ → Follow
-  rest_of r left p rest = follow_rest keeps_nothing install r left p rest (nat_le (length rest) left)
+  abbrev pub rest_of : Reading → ℕ → Point C → List ℕ → Follow
+  rest_of r left p rest = follow_rest keeping install r left p rest (nat_le (length rest) left)
 
   -- what is left behind some bytes
-  pub rest_behind : (r : Reading) (left : ℕ) (p : Point (Unit {0})) (bytes rest : List ℕ) → length bytes ≤ left
+  pub rest_behind : (r : Reading) (left : ℕ) (p : Point C) (bytes rest : List ℕ) → length bytes ≤ left
       → rest_of r left p (bytes ++ rest) ≡ and_then (follows p (told_from r bytes)) (λ q. rest_of (read_through r bytes) (left - length bytes) q rest)
   rest_behind r left p bytes rest few =
-      ap (follow_rest keeps_nothing install r left p (bytes ++ rest)) (room_behind bytes rest left few) ∙ over (nat_le (length rest) (left - length bytes))
+      ap (follow_rest keeping install r left p (bytes ++ rest)) (room_behind bytes rest left few) ∙ over (nat_le (length rest) (left - length bytes))
     where
       behind : List Asked → Status → List Asked → Follow
       behind asked e others = and_then (follows p asked) (λ q. and_then (follows q others) (λ o. Ends [] e))
 
-      over : (b : Bool) → follow_rest keeps_nothing install r left p (bytes ++ rest) b ≡ and_then (follows p (told_from r bytes)) (λ q. follow_rest keeps_nothing install (read_through r bytes) (left - length bytes) q rest b)
+      over : (b : Bool) → follow_rest keeping install r left p (bytes ++ rest) b ≡ and_then (follows p (told_from r bytes)) (λ q. follow_rest keeping install (read_through r bytes) (left - length bytes) q rest b)
       over true =
           (λ i. and_then (follows p (asked_both r bytes rest i)) (λ q. Ends [] status.Done))
           ∙ ((λ i. and_then (follow_both p (told_from r bytes) (asked_from (read_through r bytes) rest) i) (λ q. Ends [] status.Done))
@@ -104,138 +98,89 @@ module _ (install : Install) where
           ∙ then_then (follows p (told_from r bytes)) (λ q. follows q (told_from (read_through r bytes) (take (left - length bytes) rest))) (λ q. Ends [] status.TooLarge))
 
   -- the script has ended
-  pub rest_none : (r : Reading) (left : ℕ) (p : Point (Unit {0})) → rest_of r left p [] ≡ and_then (follows p (asked_at_end r)) (λ q. Ends [] status.Done)
-  rest_none r left p = ap (follow_rest keeps_nothing install r left p []) (let e : nat_le 0 left ≡ true = grind (arith, nat_tests) in e)
+  pub rest_none : (r : Reading) (left : ℕ) (p : Point C) → rest_of r left p [] ≡ and_then (follows p (asked_at_end r)) (λ q. Ends [] status.Done)
+  rest_none r left p = ap (follow_rest keeping install r left p []) (let e : nat_le 0 left ≡ true = grind (arith, nat_tests) in e)
 
   -- or has more bytes than may come
-  pub rest_over : (r : Reading) (left : ℕ) (p : Point (Unit {0})) (bytes rest : List ℕ) → left < length bytes
+  pub rest_over : (r : Reading) (left : ℕ) (p : Point C) (bytes rest : List ℕ) → left < length bytes
       → rest_of r left p (bytes ++ rest) ≡ and_then (follows p (told_from r (take left bytes))) (λ q. Ends [] status.TooLarge)
   rest_over r left p bytes rest more =
       let both = length-append bytes rest in
       let over : nat_le (length (bytes ++ rest)) left ≡ false = grind (arith, nat_tests, both) in
-      ap (follow_rest keeps_nothing install r left p (bytes ++ rest)) over ∙ (λ i. and_then (follows p (told_from r (take_within i))) (λ q. Ends [] status.TooLarge))
+      ap (follow_rest keeping install r left p (bytes ++ rest)) over ∙ (λ i. and_then (follows p (told_from r (take_within i))) (λ q. Ends [] status.TooLarge))
     where
       take_within : take left (bytes ++ rest) ≡ take left bytes
       take_within = take-append-le left bytes rest (omega (arith, more))
 
-  module _ {D : Type 0} (host : Ghosts D) (at on : Point (Unit {0}) → Type 0) where
+  module _ {D : Type 0} (host : Ghosts D) (opens : C → Files → Type 0) (spared : List ℕ → Type 0) (at on : Point C → Type 0) where
+    abbrev kept : Point C → C
+    kept q = q.kept
+
+    -- what a call does, from a commit on
+    abbrev Doing : (Point C → Type 0) → C → Follow → Result Unit Status → D → D → Type 0
+    Doing where_to c course result old new = Obeys host opens spared where_to kept c course result old new
+
     -- some bytes more
-    pub told_more : (r : Reading) (p : Point (Unit {0})) (a b : List ℕ) (result : Result Unit Status) (old mid new : D) → Obeys host at (follows p (told_from r a)) (Ok tt) old mid
-        → ((q : Point (Unit {0})) → at q → Obeys host on (follows q (told_from (read_through r a) b)) result mid new)
-        → Obeys host on (follows p (told_from r (a ++ b))) result old new
+    pub told_more : (r : Reading) (p : Point C) (a b : List ℕ) (result : Result Unit Status) (old mid new : D) → Doing at p.kept (follows p (told_from r a)) (Ok tt) old mid
+        → ((q : Point C) → at q → Doing on q.kept (follows q (told_from (read_through r a) b)) result mid new)
+        → Doing on p.kept (follows p (told_from r (a ++ b))) result old new
     told_more r p a b result old mid new first next =
-        obeys_as host on (and_then (follows p (told_from r a)) (λ q. follows q (told_from (read_through r a) b))) (follows p (told_from r (a ++ b))) result old new (sym (told_then r p a b))
-        (obeys_then host at on (follows p (told_from r a)) (λ q. follows q (told_from (read_through r a) b)) result old mid new first next)
+        obeys_as host opens spared on kept p.kept (and_then (follows p (told_from r a)) (λ q. follows q (told_from (read_through r a) b))) (follows p (told_from r (a ++ b))) result old new (sym (told_then r p a b))
+        (obeys_then host opens spared at kept on kept p.kept (follows p (told_from r a)) (λ q. follows q (told_from (read_through r a) b)) result old mid new first next)
 
     -- one byte more
-    pub byte_more : (r : Reading) (p : Point (Unit {0})) (a : List ℕ) (b : ℕ) (result : Result Unit Status) (old mid new : D) → Obeys host at (follows p (told_from r a)) (Ok tt) old mid
-        → ((q : Point (Unit {0})) → at q → Obeys host on (follows q (asked_by (read (read_through r a) b))) result mid new)
-        → Obeys host on (follows p (told_from r (a ++ b ∷ []))) result old new
+    pub byte_more : (r : Reading) (p : Point C) (a : List ℕ) (b : ℕ) (result : Result Unit Status) (old mid new : D) → Doing at p.kept (follows p (told_from r a)) (Ok tt) old mid
+        → ((q : Point C) → at q → Doing on q.kept (follows q (asked_by (read (read_through r a) b))) result mid new)
+        → Doing on p.kept (follows p (told_from r (a ++ b ∷ []))) result old new
     byte_more r p a b result old mid new first next =
         told_more r p a (b ∷ []) result old mid new first
-        (λ q stands. obeys_as host on (follows q (asked_by (read (read_through r a) b))) (follows q (told_from (read_through r a) (b ∷ []))) result mid new (byte_is (read_through r a) q b) (next q stands))
+        (λ q stands. obeys_as host opens spared on kept q.kept (follows q (asked_by (read (read_through r a) b))) (follows q (told_from (read_through r a) (b ∷ []))) result mid new (byte_is (read_through r a) q b) (next q stands))
 
     -- where some bytes end the session, those behind them tell nothing
-    pub told_err : (r : Reading) (p : Point (Unit {0})) (a b : List ℕ) (e : Status) (old new : D) → Obeys host at (follows p (told_from r a)) (Err e) old new → Obeys host on (follows p (told_from r (a ++ b))) (Err e) old new
+    pub told_err : (r : Reading) (p : Point C) (a b : List ℕ) (e : Status) (old new : D) → Doing at p.kept (follows p (told_from r a)) (Err e) old new → Doing on p.kept (follows p (told_from r (a ++ b))) (Err e) old new
     told_err r p a b e old new h =
-        obeys_as host on (and_then (follows p (told_from r a)) (λ q. follows q (told_from (read_through r a) b))) (follows p (told_from r (a ++ b))) (Err e) old new (sym (told_then r p a b))
-        (obeys_err host at on (follows p (told_from r a)) (λ q. follows q (told_from (read_through r a) b)) e old new h)
+        obeys_as host opens spared on kept p.kept (and_then (follows p (told_from r a)) (λ q. follows q (told_from (read_through r a) b))) (follows p (told_from r (a ++ b))) (Err e) old new (sym (told_then r p a b))
+        (obeys_err host opens spared at kept on kept p.kept (follows p (told_from r a)) (λ q. follows q (told_from (read_through r a) b)) e old new h)
 
     -- so many bytes more may come behind some
-    pub rest_then : (r : Reading) (left more : ℕ) (p : Point (Unit {0})) (bytes rest : List ℕ) (result : Result Unit Status) (old mid new : D) → length bytes + more ≡ left → Obeys host at (follows p (told_from r bytes)) (Ok tt) old mid
-        → ((q : Point (Unit {0})) → at q → Obeys host on (rest_of (read_through r bytes) more q rest) result mid new)
-        → Obeys host on (rest_of r left p (bytes ++ rest)) result old new
+    pub rest_then : (r : Reading) (left more : ℕ) (p : Point C) (bytes rest : List ℕ) (result : Result Unit Status) (old mid new : D) → length bytes + more ≡ left → Doing at p.kept (follows p (told_from r bytes)) (Ok tt) old mid
+        → ((q : Point C) → at q → Doing on q.kept (rest_of (read_through r bytes) more q rest) result mid new)
+        → Doing on p.kept (rest_of r left p (bytes ++ rest)) result old new
     rest_then r left more p bytes rest result old mid new sum first next =
         let few : length bytes ≤ left = omega (arith, sum) in
         let same : more ≡ left - length bytes = omega (arith, sum) in
-        obeys_as host on (and_then (follows p (told_from r bytes)) (λ q. rest_of (read_through r bytes) (left - length bytes) q rest)) (rest_of r left p (bytes ++ rest)) result old new (sym (rest_behind r left p bytes rest few))
-        (obeys_then host at on (follows p (told_from r bytes)) (λ q. rest_of (read_through r bytes) (left - length bytes) q rest) result old mid new first
-        (λ q stands. obeys_as host on (rest_of (read_through r bytes) more q rest) (rest_of (read_through r bytes) (left - length bytes) q rest) result mid new (ap (λ n. rest_of (read_through r bytes) n q rest) same) (next q stands)))
+        obeys_as host opens spared on kept p.kept (and_then (follows p (told_from r bytes)) (λ q. rest_of (read_through r bytes) (left - length bytes) q rest)) (rest_of r left p (bytes ++ rest)) result old new (sym (rest_behind r left p bytes rest few))
+        (obeys_then host opens spared at kept on kept p.kept (follows p (told_from r bytes)) (λ q. rest_of (read_through r bytes) (left - length bytes) q rest) result old mid new first
+        (λ q stands. obeys_as host opens spared on kept q.kept (rest_of (read_through r bytes) more q rest) (rest_of (read_through r bytes) (left - length bytes) q rest) result mid new (ap (λ n. rest_of (read_through r bytes) n q rest) same) (next q stands)))
 
-    pub rest_err : (r : Reading) (left : ℕ) (p : Point (Unit {0})) (bytes rest : List ℕ) (e : Status) (old new : D) → length bytes ≤ left → Obeys host at (follows p (told_from r bytes)) (Err e) old new → Obeys host on (rest_of r left p (bytes ++ rest)) (Err e) old new
+    pub rest_err : (r : Reading) (left : ℕ) (p : Point C) (bytes rest : List ℕ) (e : Status) (old new : D) → length bytes ≤ left → Doing at p.kept (follows p (told_from r bytes)) (Err e) old new → Doing on p.kept (rest_of r left p (bytes ++ rest)) (Err e) old new
     rest_err r left p bytes rest e old new few h =
-        obeys_as host on (and_then (follows p (told_from r bytes)) (λ q. rest_of (read_through r bytes) (left - length bytes) q rest)) (rest_of r left p (bytes ++ rest)) (Err e) old new (sym (rest_behind r left p bytes rest few))
-        (obeys_err host at on (follows p (told_from r bytes)) (λ q. rest_of (read_through r bytes) (left - length bytes) q rest) e old new h)
+        obeys_as host opens spared on kept p.kept (and_then (follows p (told_from r bytes)) (λ q. rest_of (read_through r bytes) (left - length bytes) q rest)) (rest_of r left p (bytes ++ rest)) (Err e) old new (sym (rest_behind r left p bytes rest few))
+        (obeys_err host opens spared at kept on kept p.kept (follows p (told_from r bytes)) (λ q. rest_of (read_through r bytes) (left - length bytes) q rest) e old new h)
 
     -- behind a course the session ends
-    pub ends_then : (c : Follow) (e : Status) (old new : D) → OnlyNow host new → Obeys host at c (Ok tt) old new → Obeys host on (and_then c (λ q. Ends [] e)) (Err e) old new
-    ends_then c e old new only_now h = obeys_then host at on c (λ q. Ends [] e) (Err e) old new new h (λ q stands. obeys_end host on e only_now)
+    pub ends_then : (k : C) (c : Follow) (e : Status) (old new : D) → OnlyNow host new → ((q : Point C) → at q → IsTrue host.is_told → IsAtRest host opens q.kept new) → Doing at k c (Ok tt) old new
+        → Doing on k (and_then c (λ q. Ends [] e)) (Err e) old new
+    ends_then k c e old new only_now rest h = obeys_then host opens spared at kept on kept k c (λ q. Ends [] e) (Err e) old new new h (λ q stands. obeys_end host opens spared on kept q.kept e only_now (rest q stands))
 
-    pub ends_err : (c : Follow) (end e : Status) (old new : D) → Obeys host at c (Err e) old new → Obeys host on (and_then c (λ q. Ends [] end)) (Err e) old new
-    ends_err c end e old new h = obeys_err host at on c (λ q. Ends [] end) e old new h
+    pub ends_err : (k : C) (c : Follow) (end e : Status) (old new : D) → Doing at k c (Err e) old new → Doing on k (and_then c (λ q. Ends [] end)) (Err e) old new
+    ends_err k c end e old new h = obeys_err host opens spared at kept on kept k c (λ q. Ends [] end) e old new h
 
     -- the end of the script comes once, and once more
-    pub end_then : (r : Reading) (p : Point (Unit {0})) (result : Result Unit Status) (old mid new : D) → Obeys host at (follows p (asked_by (end_read r))) (Ok tt) old mid
-        → ((q : Point (Unit {0})) → at q → Obeys host on (and_then (follows q (asked_by (end_read (end_read r).0))) (λ o. Ends [] status.Done)) result mid new)
-        → Obeys host on (and_then (follows p (asked_at_end r)) (λ q. Ends [] status.Done)) result old new
+    pub end_then : (r : Reading) (p : Point C) (result : Result Unit Status) (old mid new : D) → Doing at p.kept (follows p (asked_by (end_read r))) (Ok tt) old mid
+        → ((q : Point C) → at q → Doing on q.kept (and_then (follows q (asked_by (end_read (end_read r).0))) (λ o. Ends [] status.Done)) result mid new)
+        → Doing on p.kept (and_then (follows p (asked_at_end r)) (λ q. Ends [] status.Done)) result old new
     end_then r p result old mid new first next =
         let a = asked_by (end_read r) in
         let b = asked_by (end_read (end_read r).0) in
-        obeys_as host on (and_then (follows p a) (λ q. and_then (follows q b) (λ o. Ends [] status.Done))) (and_then (follows p (a ++ b)) (λ q. Ends [] status.Done)) result old new
+        obeys_as host opens spared on kept p.kept (and_then (follows p a) (λ q. and_then (follows q b) (λ o. Ends [] status.Done))) (and_then (follows p (a ++ b)) (λ q. Ends [] status.Done)) result old new
         (sym ((λ i. and_then (follow_both p a b i) (λ q. Ends [] status.Done)) ∙ then_then (follows p a) (λ q. follows q b) (λ q. Ends [] status.Done)))
-        (obeys_then host at on (follows p a) (λ q. and_then (follows q b) (λ o. Ends [] status.Done)) result old mid new first next)
+        (obeys_then host opens spared at kept on kept p.kept (follows p a) (λ q. and_then (follows q b) (λ o. Ends [] status.Done)) result old mid new first next)
 
-    pub end_err : (r : Reading) (p : Point (Unit {0})) (e : Status) (old new : D) → Obeys host at (follows p (asked_by (end_read r))) (Err e) old new → Obeys host on (and_then (follows p (asked_at_end r)) (λ q. Ends [] status.Done)) (Err e) old new
+    pub end_err : (r : Reading) (p : Point C) (e : Status) (old new : D) → Doing at p.kept (follows p (asked_by (end_read r))) (Err e) old new → Doing on p.kept (and_then (follows p (asked_at_end r)) (λ q. Ends [] status.Done)) (Err e) old new
     end_err r p e old new h =
         let a = asked_by (end_read r) in
         let b = asked_by (end_read (end_read r).0) in
-        obeys_as host on (and_then (follows p a) (λ q. and_then (follows q b) (λ o. Ends [] status.Done))) (and_then (follows p (a ++ b)) (λ q. Ends [] status.Done)) (Err e) old new
+        obeys_as host opens spared on kept p.kept (and_then (follows p a) (λ q. and_then (follows q b) (λ o. Ends [] status.Done))) (and_then (follows p (a ++ b)) (λ q. Ends [] status.Done)) (Err e) old new
         (sym ((λ i. and_then (follow_both p a b i) (λ q. Ends [] status.Done)) ∙ then_then (follows p a) (λ q. follows q b) (λ q. Ends [] status.Done)))
-        (obeys_err host at on (follows p a) (λ q. and_then (follows q b) (λ o. Ends [] status.Done)) e old new h)
-
-    -- no more is said than one course and one behind it say
-    pub says_behind : (c : Follow) (f : Point (Unit {0}) → Follow) (result : Result Unit Status) (old mid new : D) → Obeys host at c (Ok tt) old mid → ((q : Point (Unit {0})) → at q → Obeys host on (f q) result mid new)
-        → (text : List ℕ) × Says host text old new
-    says_behind c f result old mid new first next =
-        (said_of (deeds_of (and_then c f)), obeys_says host on (and_then c f) result old new (obeys_then host at on c f result old mid new first next))
-
-  module _ {D : Type 0} (host : Ghosts D) (at : Point (Unit {0}) → Type 0) where
-    pub did_all : (c : Follow) (old new : D) → Obeys host at c (Ok tt) old new → Did host (deeds_of c) old new
-    did_all (Goes ds x) old new h = h.1
-    did_all (Ends ds e) old new h = absurd h
-
--- the counts behind a part that went well
-pub counts_behind : {D : Type 0} (host : Ghosts D) (reads : Type 0) (old mid new : D) (result : Result Unit Status) → host.disk_faults old ≤ host.disk_faults mid → host.say_faults old ≤ host.say_faults mid
-    → Counts host reads mid new result → Counts host reads old new result
-counts_behind host reads old mid new result disk say h = record {
-  disk = omega (arith, disk, h.disk);
-  say = omega (arith, say, h.say);
-  cause = over result h.cause;
-}
-  where
-    status_behind : (e : Status) → StatusHasCause host reads mid new e → StatusHasCause host reads old new e
-    status_behind status.SayFault cause = rose_second (host.say_faults old) (host.say_faults mid) (host.say_faults new) say cause
-    status_behind status.DiskFault cause = rose_second (host.disk_faults old) (host.disk_faults mid) (host.disk_faults new) disk cause
-    status_behind status.Done cause = cause
-    status_behind status.Usage cause = cause
-    status_behind (status.Image f) cause = cause
-    status_behind (status.Script line) cause = cause
-    status_behind status.ReadFault cause = cause
-    status_behind status.TooLarge cause = cause
-    status_behind status.OutOfMemory cause = cause
-
-    over : (r : Result Unit Status) → EndHasCause host reads mid new r → EndHasCause host reads old new r
-    over (Ok u) cause = cause
-    over (Err e) cause = status_behind e cause
-
--- no fault of a source came below the source
-pub never_read : {D : Type 0} (host : Ghosts D) (reads : Type 0) (old new : D) (result : Result Unit Status) → Counts host ⊥ old new result → Counts host reads old new result
-never_read host reads old new result h = record { disk = h.disk; say = h.say; cause = over result h.cause }
-  where
-    of_status : (e : Status) → StatusHasCause host ⊥ old new e → StatusHasCause host reads old new e
-    of_status status.ReadFault cause = absurd cause
-    of_status status.SayFault cause = cause
-    of_status status.DiskFault cause = cause
-    of_status status.Done cause = cause
-    of_status status.Usage cause = cause
-    of_status (status.Image f) cause = cause
-    of_status (status.Script line) cause = cause
-    of_status status.TooLarge cause = cause
-    of_status status.OutOfMemory cause = cause
-
-    over : (r : Result Unit Status) → EndHasCause host ⊥ old new r → EndHasCause host reads old new r
-    over (Ok u) cause = cause
-    over (Err e) cause = of_status e cause
-
-pub no_read : {D : Type 0} (host : Ghosts D) (old new : D) (result : Result Unit Status) → Counts host ⊥ old new result → IsErrOf result status.ReadFault → ⊥
-no_read host old new result h e = subst (λ r. EndHasCause host ⊥ old new r) e h.cause
+        (obeys_err host opens spared at kept on kept p.kept (follows p a) (λ q. and_then (follows q b) (λ o. Ends [] status.Done)) e old new h)

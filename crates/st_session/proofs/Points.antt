@@ -1,11 +1,10 @@
 -- A machine stands at some point, and where it does.
-use Rattle.std.proofs.Common.{◌≡◌, ◌∙◌, refl, sym, ap, subst}
+use Rattle.std.proofs.Common.{◌≡◌, ◌∙◌, ℕ, List, IsTrue, refl, sym, ap, subst}
 use Rattle.std.specs.Prelude.{Option, Some, None, Result}
 use Rattle.st_model.specs.declared.dead.Dead.{Dead}
 use Rattle.st_model.specs.Objects.{nil}
 use Rattle.st_model.specs.Machine.{State, World, empty_world}
 use Rattle.st_model.specs.Births.{Births}
-use Rattle.st_model.specs.Table.{Table}
 use Rattle.st_model.specs.Show.{Shows, raised}
 use Rattle.st_model.specs.View.{View, IsWhole, no_devices}
 use Rattle.st_model.proofs.Raised.{raised_shown}
@@ -13,40 +12,58 @@ use Rattle.st_frames.specs.declared.frame.Frame.{Frame}
 use Rattle.st_frames.specs.Shown.{IsFrame, IsReady, filled}
 use Rattle.st_frames.proofs.Closed.{is_closed}
 use Rattle.st_machine.specs.declared.machine.Machine.{Machine}
+use Rattle.st_outside.specs.Runs.{IsAtRest}
 use Rattle.st_outside.specs.declared.host.Host.{Ghosts}
+use Rattle.st_store.specs.Names.{IsNoFileOf}
 use Rattle.st_course.specs.declared.status.Status.{Status}
 use Rattle.st_course.specs.Courses.{Course}
 use Rattle.st_course.specs.Obeying.{Obeys}
-use Rattle.st_session.specs.Points.{Being, Alive, Gone, Point, alive, gone}
-use Rattle.st_session.specs.Standing.{IsBeing, shown_by, MayRun, StandsAt}
+use Rattle.st_recover.specs.Archives.{ArchiveState, Holds}
+use Rattle.st_recover.specs.Commits.{Commit, OpensAs}
+use Rattle.st_session.specs.Points.{Being, Alive, Gone, Point}
+use Rattle.st_session.specs.Standing.{IsBeing, shown_by, MayRun, IsAt}
+use Rattle.st_session.proofs.Holding.{holds_rest}
 
 pub shown_births : {M : Type 0} (view : M → View) (m : Machine M) → IsWhole (view m.memory) → IsReady (view m.memory) m.frame m.world → (s : State Births) × Shows (shown_by view m) s
 shown_births view m whole ready = (raised (shown_by view m), raised_shown (shown_by view m) (is_closed (view m.memory) m.frame m.world whole ready))
 
-pub some_point : {M : Type 0} (view : M → View) (m : Machine M) → IsWhole (view m.memory) → MayRun view m → (p : Point (Unit {0})) × StandsAt view m p
-some_point view m whole may = over m.death refl
-  where
-    over : (d : Option Dead) → m.death ≡ d → (p : Point (Unit {0})) × StandsAt view m p
-    over None e = let s = shown_births view m whole (may e) in (alive s.0 tt, (e, s.1))
-    over (Some cause) e = (gone cause tt, e)
+module _ {M D : Type 0} (view : M → View) (host : Ghosts D) where
+  -- what a call does that leaves the machine and the archive so, from a commit on, where the store has this name
+  abbrev pub GoesAs : List ℕ → Machine M → ArchiveState → D → D → Commit → Course Commit (Point Commit) → Result Unit Status → Type 0
+  GoesAs name n b old new c course result = Obeys host (OpensAs name) (IsNoFileOf name) (IsAt view host n b new) (λ (q : Point Commit). q.kept) c course result old new
 
-module _ {D C X : Type 0} (host : Ghosts D) (at : X → Type 0) (course : Being → Course C X) where
-  -- a machine that isn't dead answers as births that it shows
-  pub living_answers : (death : Option Dead) (c : State Table) (result : Result Unit Status) (old new : D) → death ≡ None
-      → ((s : State Births) → Shows c s → Obeys host at (course (Alive s)) result old new)
-      → (being : Being) → IsBeing death c being → Obeys host at (course being) result old new
-  living_answers death c result old new lives f (Alive s) h = f s h.1
-  living_answers death c result old new lives f (Gone cause) h = let none : Some cause ≡ None = sym h ∙ lives in cc
+  -- where the store's name is this too
+  pub named_so : (name other : List ℕ) (n : Machine M) (b : ArchiveState) (old new : D) (c : Commit) (course : Course Commit (Point Commit)) (result : Result Unit Status) → name ≡ other
+      → GoesAs name n b old new c course result → GoesAs other n b old new c course result
+  named_so name other n b old new c course result e h = subst (λ (x : List ℕ). GoesAs x n b old new c course result) e h
 
-  -- a dead one by its cause
-  pub dead_answers : (death : Option Dead) (c : State Table) (cause : Dead) (result : Result Unit Status) (old new : D) → death ≡ Some cause
-      → Obeys host at (course (Gone cause)) result old new
-      → (being : Being) → IsBeing death c being → Obeys host at (course being) result old new
-  dead_answers death c cause result old new dies h (Alive s) w = let none : Some cause ≡ None = sym dies ∙ w.0 in cc
-  dead_answers death c cause result old new dies h (Gone a) w = subst (λ x. Obeys host at (course (Gone x)) result old new) (same cause a (sym dies ∙ w)) h
-    where
-      same : (a b : Dead) → Some a ≡ Some b → a ≡ b
-      same a b e = cc
+  -- each state that a stop may leave opens as the commit of where it stands
+  pub at_rest : (name : List ℕ) (n : Machine M) (b : ArchiveState) (now : D) (q : Point Commit) → b.name ≡ name → IsAt view host n b now q → IsTrue host.is_told → IsAtRest host (OpensAs name) q.kept now
+  at_rest name n b now q e at told = subst (λ (x : List ℕ). IsAtRest host (OpensAs x) q.kept now) e (holds_rest host b q.kept at.holds told)
+
+  module _ (m : Machine M) (a : ArchiveState) (old : D) (n : Machine M) (b : ArchiveState) (new : D) (course : Being → Commit → Course Commit (Point Commit)) (result : Result Unit Status) where
+    -- a machine that isn't dead answers as births that it shows
+    pub living_answers : m.death ≡ None
+        → ((s : State Births) (c : Commit) → Shows (shown_by view m) s → Holds host old a c → GoesAs a.name n b old new c (course (Alive s) c) result)
+        → (p : Point Commit) → IsAt view host m a old p → GoesAs a.name n b old new p.kept (course p.being p.kept) result
+    living_answers lives f p at = over p.being at.stands
+      where
+        over : (being : Being) → IsBeing m.death (shown_by view m) being → GoesAs a.name n b old new p.kept (course being p.kept) result
+        over (Alive s) h = f s p.kept h.1 at.holds
+        over (Gone cause) h = let none : Some cause ≡ None = sym h ∙ lives in cc
+
+    -- a dead one by its cause
+    pub dead_answers : (cause : Dead) → m.death ≡ Some cause
+        → ((c : Commit) → Holds host old a c → GoesAs a.name n b old new c (course (Gone cause) c) result)
+        → (p : Point Commit) → IsAt view host m a old p → GoesAs a.name n b old new p.kept (course p.being p.kept) result
+    dead_answers cause dies f p at = over p.being at.stands
+      where
+        same : (x y : Dead) → Some x ≡ Some y → x ≡ y
+        same x y e = cc
+
+        over : (being : Being) → IsBeing m.death (shown_by view m) being → GoesAs a.name n b old new p.kept (course being p.kept) result
+        over (Alive s) w = let none : Some cause ≡ None = sym dies ∙ w.0 in cc
+        over (Gone x) w = subst (λ y. GoesAs a.name n b old new p.kept (course (Gone y) p.kept) result) (same cause x (sym dies ∙ w)) (f p.kept at.holds)
 
 -- a memory that holds nothing but the registers is ready with a new world
 filled_empty : filled (empty_world nil).devices ≡ no_devices

@@ -23,7 +23,7 @@ use Rattle.st_session.specs.Answers.{cycle_course, run_course}
 use Rattle.st_session.specs.Reports.{text_of}
 use Rattle.st_session.specs.Pushing.{LeadsTo, PushesCourse}
 use Rattle.st_session.specs.Standing.{IsBeing}
-use Rattle.st_session.proofs.Cycles.{Line, Deeds, cycles}
+use Rattle.st_session.proofs.Stretches.{Line, Deeds, cycles}
 
 -- what is shown of a point, and of where a course leads
 abbrev being_text : Being → List ℕ

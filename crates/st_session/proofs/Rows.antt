@@ -7,11 +7,11 @@ use Rattle.st_script.specs.Reading.{read, end_read}
 use Rattle.st_course.specs.declared.refusal.Refusal.TheVariants.{NoClass}
 use Rattle.st_course.specs.declared.status.Status.TheVariants.{Done, Script}
 use Rattle.st_course.specs.Courses.{Course, Reply, Ends}
-use Rattle.st_definition.specs.Installing.{Install, Refused}
+use Rattle.st_installer.specs.Installing.{Install, Refused}
 use Rattle.st_session.specs.Points.{Point, gone}
 use Rattle.st_session.specs.Keeping.{keeps_nothing}
 use Rattle.st_model.specs.Text.{dead_text}
-use Rattle.st_session.specs.Replies.{opened_text}
+use Rattle.st_session.specs.Replies.{opening_text}
 use Rattle.st_session.specs.Sessions.{session}
 
 -- without any class
@@ -20,23 +20,23 @@ no_class d s = Refused NoClass
 
 -- over a machine that died of a stack pointer
 abbrev over_the_dead : List ℕ → Course (Unit {0}) (Point (Unit {0}))
-over_the_dead script = session keeps_nothing no_class 0 0 (gone Sp tt) script
+over_the_dead script = session keeps_nothing no_class 0 [] (gone Sp tt) script
 
-no_line : over_the_dead [] ≡ Ends (Reply (opened_text 0 0) ∷ []) Done
+no_line : over_the_dead [] ≡ Ends (Reply (opening_text 0 []) ∷ []) Done
 unfolding session end_read line_request
 no_line = refl
 
-out_of_the_grammar : over_the_dead (codes "hop") ≡ Ends (Reply (opened_text 0 0) ∷ []) (Script 1)
+out_of_the_grammar : over_the_dead (codes "hop") ≡ Ends (Reply (opening_text 0 []) ∷ []) (Script 1)
 unfolding session read end_read line_request alone
 out_of_the_grammar = refl
 
 the_dead_answer : over_the_dead (codes "used\n!Point methodsFor: 'a'!\nx ^x! !\nrun 5\nend\nhop")
-    ≡ Ends (Reply (opened_text 0 0) ∷ Reply (dead_text 0 Sp) ∷ Reply (dead_text 0 Sp) ∷ Reply (dead_text 0 Sp) ∷ []) Done
+    ≡ Ends (Reply (opening_text 0 []) ∷ Reply (dead_text 0 Sp) ∷ Reply (dead_text 0 Sp) ∷ Reply (dead_text 0 Sp) ∷ []) Done
 unfolding session read end_read line_request alone with_arguments number
 the_dead_answer = refl
 
 -- a method that ends with the script is answered, and the chunk that is cut off behind it starts in the third line
 cut_off : over_the_dead (codes "used\n!Point methodsFor: 'a'!\nx ^x!")
-    ≡ Ends (Reply (opened_text 0 0) ∷ Reply (dead_text 0 Sp) ∷ Reply (dead_text 0 Sp) ∷ []) (Script 3)
+    ≡ Ends (Reply (opening_text 0 []) ∷ Reply (dead_text 0 Sp) ∷ Reply (dead_text 0 Sp) ∷ []) (Script 3)
 unfolding session read end_read line_request alone with_arguments number
 cut_off = refl

@@ -1,22 +1,37 @@
 -- Texts that are added and then said.
-use Rattle.std.proofs.Common.{◌≡◌, ◌≤◌, inl, ℕ, List, [], refl, sym, subst, arith}
-use Rattle.std.specs.Prelude.{Result, Ok, Err, OnOk}
+use Rattle.std.proofs.Common.{◌≡◌, ◌≤◌, ◌∙◌, inl, ℕ, List, [], IsTrue, refl, sym, subst, arith}
+use Rattle.std.specs.Prelude.{Option, Result, Ok, Err, OnOk}
+use Rattle.st_model.specs.declared.dead.Dead.{Dead}
+use Rattle.st_model.specs.Machine.{State}
+use Rattle.st_model.specs.Table.{Table}
 use Rattle.st_outside.specs.declared.host.Host.{Ghosts}
 use Rattle.st_outside.specs.declared.host.SayFault.{SayFault}
 use Rattle.st_outside.specs.Counts.{HasCause}
-use Rattle.st_outside.specs.Runs.{SaysAll}
+use Rattle.st_outside.specs.Files.{Files}
+use Rattle.st_outside.specs.Runs.{SaysAll, IsAtRest}
 use Rattle.st_outside.specs.Telling.{Says}
 use Rattle.st_outside.proofs.Rising.{rose_second}
 use Rattle.st_report.specs.Saying.{Pushes}
 use Rattle.st_report.proofs.Pushing.{pushed_all, pushed_says, pushed_part}
 use Rattle.st_course.specs.declared.status.Status.{Status}
 use Rattle.st_course.specs.declared.status.Status.TheVariants as status
-use Rattle.st_course.specs.Courses.{Course, Goes, Ends, deeds_of, said_of, replies}
-use Rattle.st_course.specs.Statuses.{IsFault, StatusHasCause, EndHasCause}
+use Rattle.st_course.specs.Courses.{Course, Goes, Ends, deeds_of, said_of, commits_of, last_of, replies}
+use Rattle.st_course.specs.Statuses.{StatusHasCause, EndHasCause}
 use Rattle.st_course.specs.Obeying.{Obeys}
-use Rattle.st_course.proofs.Joins.{obeys_reply, obeys_unsaid}
+use Rattle.st_course.proofs.Courses.{last_unkept}
+use Rattle.st_course.proofs.Joins.{said_did, said_began, obeys_reply, obeys_unsaid, obeys_began}
 use Rattle.st_session.specs.Telling.{IsSayFault, Tells}
 use Rattle.st_session.specs.Pushing.{LeadsTo, PushesCourse}
+use Rattle.st_session.specs.Stretches.{StopsAs, Stretch, words_of, went, PushesStretch, SaysStretch}
+
+-- a course that keeps nothing, and leads to what was kept before
+abbrev pub KeepsNone : {C X : Type 0} → (X → C) → C → Course C X → Type 0
+KeepsNone commit c (Goes ds x) = (commits_of ds ≡ []) × (commit x ≡ c)
+KeepsNone commit c (Ends ds end) = ⊥
+
+pub when_ok : {A : Type 0} (r : Result Unit Status) → A → OnOk r A
+when_ok (Ok u) a = a
+when_ok (Err e) a = tt
 
 module _ {D : Type 0} (host : Ghosts D) where
   -- all of it was said
@@ -71,33 +86,45 @@ module _ {D : Type 0} (host : Ghosts D) where
         served = tt;
       }
 
-  pub say_fault : (e : Status) → e ≡ status.SayFault → IsFault e
-  say_fault e f = subst IsFault (sym f) tt
-
-  module _ {X : Type 0} (at : X → Type 0) where
+  module _ {C X : Type 0} (opens : C → Files → Type 0) (spared : List ℕ → Type 0) (at : X → Type 0) (commit : X → C) (c : C) where
     -- a text that is said, or not, as a course
-    pub obeys_tells : (text : List ℕ) (x : X) (result : Result Unit Status) (old new : D) → Tells host text old new result → OnOk result (at x) → Obeys host {C = Unit {0}} at (replies text x) result old new
-    obeys_tells text x (Ok u) old new run stands = obeys_reply host at text x run.all run.says stands
-    obeys_tells text x (Err e) old new run stands = obeys_unsaid host at text x e (say_fault e run.fault) run.says
+    pub obeys_tells : (text : List ℕ) (x : X) (result : Result Unit Status) (old new : D) → Tells host text old new result → (IsTrue host.is_told → IsAtRest host opens c old) → OnOk result (at x) → commit x ≡ c
+        → Obeys host opens spared at commit c (replies text x) result old new
+    obeys_tells text x (Ok u) old new run rest stands same = obeys_reply host opens spared at commit c text x run.all run.says rest stands same
+    obeys_tells text x (Err e) old new run rest stands same = obeys_unsaid host opens spared at commit c text x e run.fault run.says rest
+
+    -- deeds that were begun, of which none keeps anything
+    pub obeys_unfinished : (course : Course C X) (e : Status) (old new : D) → commits_of (deeds_of course) ≡ [] → Tells host (said_of (deeds_of course)) old new (Err e) → (IsTrue host.is_told → IsAtRest host opens c old)
+        → Obeys host opens spared at commit c course (Err e) old new
+    obeys_unfinished course e old new none run rest =
+        subst (λ (s : Status). Obeys host opens spared at commit c course (Err s) old new) (sym run.fault)
+        (obeys_began host opens spared at commit c course status.SayFault old new tt (said_began host opens spared c (deeds_of course) old new none rest run.says))
 
     -- a course that was added and said, or not
-    obeys_said : (c : Course (Unit {0}) X) (result : Result Unit Status) (old new : D) → Tells host (said_of (deeds_of c)) old new result → LeadsTo at c → Obeys host at c result old new
-    obeys_said (Goes ds x) (Ok u) old new run leads = (leads, record { all = run.all; says = run.says })
-    obeys_said (Goes ds x) (Err e) old new run leads = (say_fault e run.fault, record { says = run.says })
-    obeys_said (Ends ds end) result old new run leads = absurd leads
+    pub obeys_said : (from : X → Type 0) (course : Course C X) (result : Result Unit Status) (old new : D) → KeepsNone commit c course → Tells host (said_of (deeds_of course)) old new result → (IsTrue host.is_told → IsAtRest host opens c old)
+        → OnOk result (LeadsTo from course) → ((x : X) → from x → commit x ≡ c → at x) → Obeys host opens spared at commit c course result old new
+    obeys_said from (Goes ds x) (Ok u) old new none run rest leads f =
+        (f x leads none.1, none.1 ∙ sym (last_unkept c ds none.0), said_did host opens spared c ds old new none.0 rest run.all run.says)
+    obeys_said from (Goes ds x) (Err e) old new none run rest leads f = obeys_unfinished (Goes ds x) e old new none.0 run rest
+    obeys_said from (Ends ds end) result old new none run rest leads f = absurd none
 
-    obeys_unfinished : (c : Course (Unit {0}) X) (e : Status) (old new : D) → Tells host (said_of (deeds_of c)) old new (Err e) → Obeys host at c (Err e) old new
-    obeys_unfinished (Goes ds x) e old new run = (say_fault e run.fault, record { says = run.says })
-    obeys_unfinished (Ends ds end) e old new run = inl (say_fault e run.fault, record { says = run.says })
+    pub obeys_pushed : (from : X → Type 0) (course : Course C X) (p q : List ℕ) (old mid new : D) (result : Result Unit Status) → KeepsNone commit c course → p ≡ [] → PushesCourse {E = SayFault} host from course old mid p q (Ok tt) → Tells host q mid new result
+        → (IsTrue host.is_told → IsAtRest host opens c old) → ((x : X) → from x → commit x ≡ c → at x) → Obeys host opens spared at commit c course result old new
+    obeys_pushed from course p q old mid new result none empty run end rest f =
+        obeys_said from course result old new none (tells_pushed (said_of (deeds_of course)) p q old mid new result empty run.pushes end) rest (when_ok result run.leads) f
 
-    pub obeys_pushed : (c : Course (Unit {0}) X) (p q : List ℕ) (old mid new : D) (result : Result Unit Status) → p ≡ [] → PushesCourse {E = SayFault} host at c old mid p q (Ok tt) → Tells host q mid new result → Obeys host at c result old new
-    obeys_pushed c p q old mid new result empty run end =
-        obeys_said c result old new (tells_pushed (said_of (deeds_of c)) p q old mid new result empty run.pushes end) run.leads
+    pub obeys_cut : (from : X → Type 0) (course : Course C X) (p q : List ℕ) (old new : D) (fault : SayFault) → KeepsNone commit c course → p ≡ [] → PushesCourse {E = SayFault} host from course old new p q (Err fault)
+        → (IsTrue host.is_told → IsAtRest host opens c old) → ((x : X) → from x → commit x ≡ c → at x) → Obeys host opens spared at commit c course (Err status.SayFault) old new
+    obeys_cut from course p q old new fault none empty run rest f =
+        obeys_said from course (Err status.SayFault) old new none (tells_cut (said_of (deeds_of course)) p q old new fault empty run.pushes) rest tt f
 
-    pub obeys_cut : (c : Course (Unit {0}) X) (p q : List ℕ) (old new : D) (fault : SayFault) → p ≡ [] → PushesCourse {E = SayFault} host at c old new p q (Err fault) → Obeys host at c (Err status.SayFault) old new
-    obeys_cut c p q old new fault empty run =
-        obeys_unfinished c status.SayFault old new (tells_cut (said_of (deeds_of c)) p q old new fault empty run.pushes)
+-- a stretch that was added to nothing, and then said, or not
+module _ {D : Type 0} (host : Ghosts D) (death : Option Dead) (c : State Table) (r : Stretch) where
+  pub stretch_said : (p q : List ℕ) (old mid new : D) (answer : Option ℕ) → p ≡ [] → PushesStretch {E = SayFault} host death c r old mid p q (Ok answer) → Tells host q mid new (Ok tt) → SaysStretch host death c r old new (Ok answer)
+  stretch_said p q old mid new answer empty run end = record { tells = tells_pushed host (words_of r.texts) p q old mid new (Ok tt) empty run.pushes end; stops = run.stops }
 
-pub when_ok : {A : Type 0} (r : Result Unit Status) → A → OnOk r A
-when_ok (Ok u) a = a
-when_ok (Err e) a = tt
+  pub stretch_unsaid : (p q : List ℕ) (old mid new : D) (answer : Option ℕ) (e : Status) → p ≡ [] → PushesStretch {E = SayFault} host death c r old mid p q (Ok answer) → Tells host q mid new (Err e) → SaysStretch host death c r old new (Err e)
+  stretch_unsaid p q old mid new answer e empty run end = record { tells = tells_pushed host (words_of r.texts) p q old mid new (Err e) empty run.pushes end; stops = tt }
+
+  pub stretch_cut : (p q : List ℕ) (old new : D) (fault : SayFault) → p ≡ [] → PushesStretch {E = SayFault} host death c r old new p q (Err fault) → SaysStretch host death c r old new (Err status.SayFault)
+  stretch_cut p q old new fault empty run = record { tells = tells_cut host (words_of r.texts) p q old new fault empty run.pushes; stops = tt }

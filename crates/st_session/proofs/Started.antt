@@ -7,7 +7,7 @@ use Rattle.st_model.specs.View.{View}
 use Rattle.st_frames.specs.declared.frame.Frame.{Frame}
 use Rattle.st_image.specs.HeadValues.{no_values, head_over}
 use Rattle.st_image.specs.Reading.{IsStart}
-use Rattle.st_session.specs.Commands.{IsReadable, IsFaulty}
+use Rattle.st_recover.specs.Openings.{IsReadable, IsFaulty}
 
 own_head : (bytes : List ℕ) → head_over no_values bytes ≡ image_head bytes
 unfolding head_over

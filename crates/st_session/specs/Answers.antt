@@ -12,11 +12,11 @@ use Rattle.st_model.specs.Show.{show}
 use Rattle.st_model.specs.Text.{ran_text, dead_text, space_text, quit_text, debugger_text, said_value, used_text}
 use Rattle.st_chunk.specs.Definitions.{Definition}
 use Rattle.st_script.specs.declared.request.Request.{Request}
-use Rattle.st_script.specs.declared.request.Request.TheVariants.{Run, Input, Mouse, Clock, Tick, State as ShowState, Used, End, Define, Wrong}
+use Rattle.st_script.specs.declared.request.Request.TheVariants.{Run, Input, Mouse, Clock, Tick, State as ShowState, Used, Snapshot, End, Define, Wrong}
 use Rattle.st_script.specs.Scripts.{Asked, Asks, Defines}
 use Rattle.st_course.specs.declared.status.Status.TheVariants as status
 use Rattle.st_course.specs.Courses.{Course, Reply, Goes, Ends, preceded, and_then, replies}
-use Rattle.st_definition.specs.Installing.{Installed, Refused, Accepted, Install}
+use Rattle.st_installer.specs.Installing.{Installed, Refused, Accepted, Install}
 use Rattle.st_session.specs.Points.{Being, Alive, Gone, Point, alive, gone}
 use Rattle.st_session.specs.Keeping.{Keeping}
 use Rattle.st_session.specs.Replies.{ok_text, full_text, machine_text, accepted_text, refused_text}
@@ -63,6 +63,7 @@ module _ {C : Type 0} where
     living_line s c (Tick time) = event_course s c (events.event births (event.Tick time) s)
     living_line s c ShowState = replies (machine_text (show s)) (alive s c)
     living_line s c Used = replies (used_text (show s).memory) (alive s c)
+    living_line s c Snapshot = keeping.snapshot 0 s c
     living_line s c End = Ends [] status.Done
     living_line s c Define = Goes [] (alive s c)
     living_line s c (Wrong line) = Ends [] (status.Script line)

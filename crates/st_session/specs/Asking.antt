@@ -1,9 +1,11 @@
 -- What a line asks for.
 use Rattle.st_script.specs.declared.request.Request.{Request}
-use Rattle.st_script.specs.declared.request.Request.TheVariants.{End, Define, Wrong}
+use Rattle.st_script.specs.declared.request.Request.TheVariants.{Run, Snapshot, End, Define, Wrong}
 
--- lines are said, and nothing else is done but with the machine
+-- lines are said, and nothing is kept
 abbrev pub IsSaying : Request → Type 0
+IsSaying (Run cycles) = ⊥
+IsSaying Snapshot = ⊥
 IsSaying End = ⊥
 IsSaying Define = ⊥
 IsSaying (Wrong line) = ⊥

@@ -1,30 +1,30 @@
 -- How a call of the program ends: its status, and what it says and does.
-use Rattle.std.specs.Prelude.{◌≡◌, ◌⊎◌, ℕ, ◌<◌, ◌≤◌, ◌^◌, List, [], ◌∷◌, length, ◌++◌, codes, decimal, IsTrue, ⊤, Some, None}
+use Rattle.std.specs.Prelude.{◌≡◌, ℕ, ◌<◌, ◌^◌, List, [], ◌∷◌, length, ◌++◌, codes, decimal, IsTrue, ⊤, Option, Some, None}
 use Rattle.st_outside.specs.Counts.{Rose}
 use Rattle.st_outside.specs.Files.{bytes_of}
-use Rattle.st_outside.specs.Runs.{OnlyReads, ReadsAndSays}
+use Rattle.st_outside.specs.Runs.{ReadsAndSays}
 use Rattle.st_outside.specs.Stops.{SaidPart}
 use Rattle.st_outside.specs.declared.host.Host.{Ghosts}
 use Rattle.st_model.specs.declared.fault.ImageFault.{ImageFault}
 use Rattle.st_model.specs.declared.fault.ImageFault.TheVariants as fault
 use Rattle.st_model.specs.Machine.{State, Went}
 use Rattle.st_model.specs.Image.{image_head}
-use Rattle.st_model.specs.Faults.{IsImageFault, IsWellFormed}
 use Rattle.st_model.specs.Births.{Births}
 use Rattle.st_model.specs.Start.{begin}
 use Rattle.st_model.specs.Text.{numbers_text, run_text}
-use Rattle.st_course.specs.Courses.{IsEnd}
-use Rattle.st_definition.specs.Installing.{Install}
-use Rattle.st_session.specs.Points.{alive}
-use Rattle.st_session.specs.Keeping.{keeps_nothing}
-use Rattle.st_session.specs.Sessions.{session, session_so_far}
-use Rattle.st_session.specs.Ends.{IsCalm, SessionEnds}
-use Rattle.st_session.specs.Words.{command_of, Once, Session}
+use Rattle.st_store.specs.declared.fault.StoreFault.{StoreFault}
+use Rattle.st_store.specs.declared.fault.StoreFault.TheVariants as store
+use Rattle.st_store.specs.declared.fault.StorePlace.{StorePlace}
+use Rattle.st_store.specs.declared.fault.StorePlace.TheVariants.{Roots, Changes}
+use Rattle.st_recover.specs.Openings.{IsReadable, IsFaulty}
+use Rattle.st_recover.specs.declared.fault.OpenFault.{OpenFault}
+use Rattle.st_recover.specs.declared.fault.OpenFault.TheVariants as opening
 use Rattle.st_session.specs.declared.image_refusal.ImageRefusal.{ImageRefusal}
 use Rattle.st_session.specs.declared.image_refusal.ImageRefusal.TheVariants as refusal
 use Rattle.st_course.specs.declared.status.Status.{Status}
-use Rattle.st_course.specs.declared.status.Status.TheVariants.{Done, Usage, Image, Script, ReadFault, SayFault, DiskFault, TooLarge, OutOfMemory}
-use Rattle.st_course.specs.Statuses.{StatusHasCause}
+use Rattle.st_course.specs.declared.status.Status.TheVariants.{Done, Usage, Image, Script, ReadFault, SayFault, DiskFault, Store, TooLarge, OutOfMemory}
+
+-- LAST LINES
 
 -- a fault's row, then its pointer, and its second pointer or its index
 abbrev pub fault_numbers : ImageFault → List ℕ
@@ -46,6 +46,19 @@ fault_line f = codes "image" ++ (numbers_text (fault_numbers f) ++ codes "\n")
 abbrev pub script_line : ℕ → List ℕ
 script_line line = codes "script" ++ ((codes " " ++ decimal line) ++ codes "\n")
 
+-- a place in a file of a store
+abbrev pub place_line : StorePlace → List ℕ
+place_line (Roots at) = codes "store damaged roots" ++ ((codes " " ++ decimal at) ++ codes "\n")
+place_line (Changes at) = codes "store damaged changes" ++ ((codes " " ++ decimal at) ++ codes "\n")
+
+-- why a store isn't opened or made; the last two have statuses of their own
+abbrev pub store_line : StoreFault → List ℕ
+store_line store.Missing = codes "store missing\n"
+store_line store.Exists = codes "store exists\n"
+store_line (store.NotAStore place) = place_line place
+store_line store.Disk = codes "disk fault\n"
+store_line store.OutOfMemory = codes "out of memory\n"
+
 abbrev pub last_line : Status → List ℕ
 last_line Done = []
 last_line Usage = codes "usage\n"
@@ -54,25 +67,34 @@ last_line (Script line) = script_line line
 last_line ReadFault = codes "read fault\n"
 last_line SayFault = []
 last_line DiskFault = codes "disk fault\n"
+last_line (Store f) = store_line f
 last_line TooLarge = codes "too large\n"
 last_line OutOfMemory = codes "out of memory\n"
 
--- the status after a machine wasn't started
+-- REFUSALS
+
+-- the status after an image wasn't read
 abbrev pub status_of : ImageRefusal → Status
 status_of (refusal.Image f) = Image f
 status_of refusal.TooLarge = TooLarge
 status_of refusal.DiskFault = DiskFault
 status_of refusal.OutOfMemory = OutOfMemory
 
--- the bytes of an image that is read: they are at most 2^23, and well-formed
-pub record IsReadable (bytes : List ℕ) : Type 0 where
-  pub short : length bytes ≤ 2 ^ 23
-  pub formed : IsWellFormed (image_head bytes) bytes
+-- the status after a store wasn't made, or not opened for its files
+abbrev pub store_status : StoreFault → Status
+store_status store.Missing = Store store.Missing
+store_status store.Exists = Store store.Exists
+store_status (store.NotAStore place) = Store (store.NotAStore place)
+store_status store.Disk = DiskFault
+store_status store.OutOfMemory = OutOfMemory
 
--- those of one that is refused for its fault
-pub record IsFaulty (bytes : List ℕ) (f : ImageFault) : Type 0 where
-  pub short : length bytes ≤ 2 ^ 23
-  pub fault : IsImageFault (image_head bytes) bytes f
+-- the status after a store wasn't opened
+abbrev pub opening_status : OpenFault → Status
+opening_status (opening.Store f) = store_status f
+opening_status (opening.Image f) = Image f
+opening_status opening.TooLarge = TooLarge
+opening_status opening.Disk = DiskFault
+opening_status opening.OutOfMemory = OutOfMemory
 
 -- what a refusal says of the image's bytes
 abbrev pub IsImageRefusal : List ℕ → ImageRefusal → Type 0
@@ -88,10 +110,7 @@ pub record IsReport (bytes : List ℕ) (n : ℕ) (text : List ℕ) : Type 0 wher
   pub begins : begin (image_head bytes) bytes ≡ Went tt births
   pub is : text ≡ run_text n births
 
--- a session over these bytes follows the script to its end
-abbrev pub IsWholeSession : Install → List ℕ → List ℕ → Type 0
-IsWholeSession install bytes script = IsReadable bytes
-    × ((births : State Births) → begin (image_head bytes) bytes ≡ Went tt births → IsEnd (session keeps_nothing install 0 0 (alive births tt) script) Done)
+-- CALLS
 
 module _ {D : Type 0} (host : Ghosts D) where
   -- Nothing but the last line was said. It may be cut or missing only where the count of say faults rose,
@@ -116,6 +135,7 @@ module _ {D : Type 0} (host : Ghosts D) where
       → (text : List ℕ) × IsReadable bytes × IsReport bytes n text
       × SaidPart (host.said old) text (host.said new)
   OnceEnds bytes n old new DiskFault = SaysLastLine DiskFault old new
+  OnceEnds bytes n old new (Store f) = ⊥
   OnceEnds bytes n old new TooLarge =
       (IsTrue host.is_told → 2 ^ 23 < length bytes) × SaysLastLine TooLarge old new
   OnceEnds bytes n old new OutOfMemory = SaysLastLine OutOfMemory old new
@@ -127,66 +147,10 @@ module _ {D : Type 0} (host : Ghosts D) where
   RefusalHasCause old new refusal.DiskFault = Rose (host.disk_faults old) (host.disk_faults new)
   RefusalHasCause old new refusal.OutOfMemory = Unit {0}
 
-  -- One run of calls, and then another: each changes no file, and says no more than its text.
-  pub record SaysInTurn (old new : D) : Type 0 where
-    pub middle : D
-    pub text : List ℕ
-    pub line : List ℕ
-    pub first : ReadsAndSays host text old middle
-    pub second : ReadsAndSays host line middle new
-
-  -- The image is refused.
-  pub record IsRefusedImage (bytes : List ℕ) (old new : D) (status : Status) : Type 0 where
-    pub refusal : ImageRefusal
-    pub is : status ≡ status_of refusal
-    pub why : IsImageRefusal bytes refusal
-    pub reads : OnlyReads host old new
-
-  -- The image is read, and then the session goes on over the births with which the book's machine begins.
-  pub record IsFollowed (install : Install) (bytes script : List ℕ) (old new : D) (status : Status) : Type 0 where
-    pub readable : IsReadable bytes
-    pub births : State Births
-    pub begins : begin (image_head bytes) bytes ≡ Went tt births
-    pub opened : D
-    pub reads : OnlyReads host old opened
-    pub ends : SessionEnds host (session keeps_nothing install 0 0 (alive births tt) script)
-        (session_so_far keeps_nothing install 0 0 (alive births tt)) script opened new status
-
-  -- a session over the bytes of an image and of a script, up to the last line
-  abbrev pub IsOver : Install → List ℕ → List ℕ → D → D → Status → Type 0
-  IsOver install bytes script old new status = IsRefusedImage bytes old new status ⊎ IsFollowed install bytes script old new status
-
-  -- The statuses in which the command session can end, whatever the source tells. A script is followed only over an image that
-  -- is read.
-  abbrev pub IsOfSession : List ℕ → Status → Type 0
-  IsOfSession bytes Done = IsTrue host.is_told → IsReadable bytes
-  IsOfSession bytes Usage = ⊥
-  IsOfSession bytes (Image f) = IsTrue host.is_told → IsFaulty bytes f
-  IsOfSession bytes (Script line) = IsTrue host.is_told → IsReadable bytes
-  IsOfSession bytes ReadFault = IsTrue host.is_told → IsReadable bytes
-  IsOfSession bytes SayFault = IsTrue host.is_told → IsReadable bytes
-  IsOfSession bytes DiskFault = ⊤
-  IsOfSession bytes TooLarge = IsTrue host.is_told → (2 ^ 23 < length bytes) ⊎ IsReadable bytes
-  IsOfSession bytes OutOfMemory = ⊤
-
-  -- How the command session ends: with the last line of its status.
-  pub record SessionCommandEnds (install : Install) (bytes script : List ℕ) (old new : D) (status : Status) : Type 0 where
-    pub closed : D
-    pub over : IsOver install bytes script old closed status
-    pub line : SaysLastLine status closed new
-
-  -- How a call of the program with these words ends, over the bytes of the image that they name and of the script, where `read`
-  -- says that the source tells these, and `reads` that it had a fault. It changes no file.
-  pub record CallEnds (install : Install) (words : List (List ℕ)) (read reads : Type 0) (script : List ℕ) (old new : D) (status : Status) : Type 0 where
-    pub usage : command_of words ≡ None → (status ≡ Usage) × SaysLastLine Usage old new
-    pub once : (image : List ℕ) (n : ℕ) → command_of words ≡ Some (Once image n)
-        → OnceEnds (bytes_of (host.files old image)) n old new status
-    pub session : (image : List ℕ) → command_of words ≡ Some (Session image) → IsTrue host.is_told → read
-        → SessionCommandEnds install (bytes_of (host.files old image)) script old new status
-    pub kind : (image : List ℕ) → command_of words ≡ Some (Session image)
-        → IsOfSession (bytes_of (host.files old image)) status
-    pub complete : (image : List ℕ) → command_of words ≡ Some (Session image) → IsTrue host.is_told → read
-        → IsWholeSession install (bytes_of (host.files old image)) script → IsCalm host reads old new
-        → (status ≡ Done) ⊎ (status ≡ OutOfMemory)
-    pub cause : StatusHasCause host reads old new status
-    pub says : SaysInTurn old new
+  -- A run of calls that leaves the files of these names alone: a stop may leave of each just what it could leave before, and
+  -- where no disk fault was counted each reads as before.
+  pub record LeavesAlone (names : List ℕ → Type 0) (old new : D) : Type 0 where
+    pub alike : (Rose (host.disk_faults old) (host.disk_faults new) → ⊥) → IsTrue host.is_told
+        → (n : List ℕ) → names n → host.files new n ≡ host.files old n
+    pub fewer : IsTrue host.is_told → (n : List ℕ) (c : Option (List ℕ)) → names n → host.may_leave new n c → host.may_leave old n c
+    pub more : IsTrue host.is_told → (n : List ℕ) (c : Option (List ℕ)) → names n → host.may_leave old n c → host.may_leave new n c

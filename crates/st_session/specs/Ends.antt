@@ -1,13 +1,15 @@
 -- How a session ends.
-use Rattle.std.specs.Prelude.{◌≡◌, ℕ, List, take, Result, Ok, Err, ⊤}
+use Rattle.std.specs.Prelude.{◌≡◌, ℕ, List, ◌∷◌, take, IsTrue, Result, Ok, Err, ⊤}
 use Rattle.st_outside.specs.Counts.{Rose}
-use Rattle.st_outside.specs.Runs.{SaysAll}
-use Rattle.st_outside.specs.Telling.{Says}
+use Rattle.st_outside.specs.Files.{Files}
+use Rattle.st_outside.specs.Runs.{LeavesOnly, SaysAll, Spares}
+use Rattle.st_outside.specs.Stops.{SaidPart}
 use Rattle.st_outside.specs.declared.host.Host.{Ghosts}
 use Rattle.st_course.specs.declared.status.Status.{Status}
-use Rattle.st_course.specs.declared.status.Status.TheVariants.{Done, Usage, Image, Script, ReadFault, SayFault, DiskFault, TooLarge, OutOfMemory}
-use Rattle.st_course.specs.Courses.{Course, deeds_of, said_of, IsEnd}
-use Rattle.st_course.specs.Done.{Did}
+use Rattle.st_course.specs.declared.status.Status.TheVariants.{Done, Usage, Image, Script, ReadFault, SayFault, DiskFault, Store, TooLarge, OutOfMemory}
+use Rattle.st_course.specs.Courses.{Course, deeds_of, said_of, commits_of, IsEnd}
+use Rattle.st_course.specs.Acknowledged.{SaysLines, Promised}
+use Rattle.st_course.specs.Done.{Did, RestsAsOne}
 use Rattle.st_course.specs.Statuses.{IsFault}
 
 -- the status that an answer stands for
@@ -24,6 +26,7 @@ IsOfServing (Script line) = ⊤
 IsOfServing ReadFault = ⊤
 IsOfServing SayFault = ⊤
 IsOfServing DiskFault = ⊤
+IsOfServing (Store fault) = ⊥
 IsOfServing TooLarge = ⊤
 IsOfServing OutOfMemory = ⊤
 
@@ -34,16 +37,25 @@ module _ {D : Type 0} (host : Ghosts D) where
     pub say : Rose (host.say_faults old) (host.say_faults new) → ⊥
     pub source : reads → ⊥
 
-  -- the deeds were done that some first bytes of a script tell
-  pub record DidTold {C X : Type 0} (course : List ℕ → Course C X) (script : List ℕ) (old new : D) : Type 0 where
-    pub count : ℕ
-    pub did : Did host (deeds_of (course (take count script))) old new
+  module _ {C : Type 0} (opens : C → Files → Type 0) (spared : List ℕ → Type 0) (c : C) where
+    -- the deeds were done that some first bytes of a script tell
+    pub record DidTold {X : Type 0} (course : List ℕ → Course C X) (script : List ℕ) (old new : D) : Type 0 where
+      pub count : ℕ
+      pub did : Did host opens spared c (deeds_of (course (take count script))) old new
 
-  -- A session of this course; `so_far` is its course after the first bytes of the script.
-  pub record SessionEnds {C X Y : Type 0} (course : Course C X) (so_far : List ℕ → Course C Y) (script : List ℕ) (old new : D) (status : Status) : Type 0 where
-    -- where no fault comes, the status is the session's, and all of its replies were said
-    pub whole : (IsFault status → ⊥) → IsEnd course status × SaysAll host (said_of (deeds_of course)) old new
-    -- whatever the status, no more was said than some first bytes of its replies, and no file changed
-    pub part : Says host (said_of (deeds_of course)) old new
-    -- after a fault of the source these are the replies to the lines and methods whose end was told
-    pub told : status ≡ ReadFault → DidTold so_far script old new
+    -- A session of this course, over a store that opens as commit c; `so_far` is its course after the first bytes of the script.
+    pub record SessionEnds {X Y : Type 0} (course : Course C X) (so_far : List ℕ → Course C Y) (script : List ℕ) (old new : D) (status : Status) : Type 0 where
+      -- where no fault comes, the status is the session's, and all of its replies were said
+      pub whole : (IsFault status → ⊥) → IsEnd course status × SaysAll host (said_of (deeds_of course)) old new
+      -- whatever the status, no more was said than some first bytes of its replies
+      pub part : IsTrue host.is_told → SaidPart (host.said old) (said_of (deeds_of course)) (host.said new)
+      -- after a fault of the source these are the replies to the lines and methods whose end was told
+      pub told : status ≡ ReadFault → DidTold so_far script old new
+      -- what was said ends with a whole line, unless the fault was one in saying
+      pub lines : (status ≡ SayFault → ⊥) → IsTrue host.is_told → SaysLines (host.said old) (host.said new)
+      -- each state that a stop may leave behind it opens as one of the commits, unless a fault of the disk came
+      pub rests : (status ≡ DiskFault → ⊥) → IsTrue host.is_told → RestsAsOne host opens (c ∷ commits_of (deeds_of course)) new
+      -- at each moment the files open as the commit whose number is that of the commits acknowledged by then, or as the next
+      pub moments : IsTrue host.is_told → LeavesOnly host old new (Promised opens (c ∷ commits_of (deeds_of course)) (host.said old))
+      -- no other file was touched
+      pub spares : Spares host spared old new

@@ -8,9 +8,14 @@ pub mod Telling
 pub mod Asking
 pub mod Answers
 pub mod Sessions
-pub mod Standing
 pub mod Ends
+pub mod Standing
+pub mod Stretches
+pub mod Opening
 pub mod Words
 pub mod CommandViews
 pub mod Commands
+pub mod Imports
+pub mod StoreSessions
+pub mod Calls
 pub mod Reports

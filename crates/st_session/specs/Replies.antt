@@ -1,9 +1,11 @@
 -- The lines of a session besides those of a run and of a state.
-use Rattle.std.specs.Prelude.{ℕ, Bool, true, false, List, [], ◌∷◌, ◌++◌, codes}
+use Rattle.std.specs.Prelude.{ℕ, Bool, true, false, List, [], ◌∷◌, ◌++◌, length, codes}
+use Rattle.std.specs.List.{flat_map}
 use Rattle.st_model.specs.Machine.{State}
 use Rattle.st_model.specs.Table.{Table}
 use Rattle.st_model.specs.Text.{numbers_text, registers_text, input_text, held_text}
 use Rattle.st_chunk.specs.Definitions.{Definition}
+use Rattle.st_recover.specs.Replays.{Loss}
 use Rattle.st_course.specs.declared.refusal.Refusal.{Refusal}
 use Rattle.st_course.specs.declared.refusal.Refusal.TheVariants as refusal
 
@@ -45,3 +47,15 @@ why_text refusal.Shape = codes "install" ++ (numbers_text (4 ∷ []) ++ codes "\
 
 abbrev pub refused_text : Refusal → List ℕ
 refused_text why = codes "refused " ++ why_text why
+
+-- a definition that was lost when the store was opened: its number in the changes file, and why
+abbrev pub lost_text : Loss → List ℕ
+lost_text loss = codes "lost" ++ (numbers_text (loss.number ∷ []) ++ (codes " " ++ why_text loss.why))
+
+-- what is said first: how many definitions were replayed and how many lost, and a line for each lost one
+abbrev pub opening_text : ℕ → List Loss → List ℕ
+opening_text replayed lost = opened_text replayed (length lost) ++ flat_map lost_text lost
+
+-- a snapshot was kept, whose image has so many bytes
+abbrev pub snapshot_text : ℕ → List ℕ
+snapshot_text length = codes "snapshot" ++ (numbers_text (length ∷ []) ++ codes "\n")

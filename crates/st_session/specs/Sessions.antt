@@ -4,10 +4,11 @@ use Rattle.st_script.specs.Reading.{Reading, line_from}
 use Rattle.st_script.specs.Scripts.{Asked, asked_from, told_from, told}
 use Rattle.st_course.specs.declared.status.Status.TheVariants.{Done, TooLarge}
 use Rattle.st_course.specs.Courses.{Course, Reply, Goes, preceded, and_then, ended}
-use Rattle.st_definition.specs.Installing.{Install}
+use Rattle.st_installer.specs.Installing.{Install}
 use Rattle.st_session.specs.Points.{Point}
 use Rattle.st_session.specs.Keeping.{Keeping}
-use Rattle.st_session.specs.Replies.{opened_text}
+use Rattle.st_recover.specs.Replays.{Loss}
+use Rattle.st_session.specs.Replies.{opening_text}
 use Rattle.st_session.specs.Answers.{answer}
 
 -- the most bytes of a script
@@ -34,10 +35,10 @@ module _ {C : Type 0} (keeping : Keeping C) (install : Install) where
   abbrev pub follow_script : Point C → List ℕ → Course C (Point C)
   follow_script p script = follow_rest (line_from 1) longest p script (nat_le (length script) longest)
 
-  -- First it is said how many definitions were replayed, and how many lost.
-  unfoldable pub session : ℕ → ℕ → Point C → List ℕ → Course C (Point C)
-  session replayed lost p script = preceded (Reply (opened_text replayed lost) ∷ []) (follow_script p script)
+  -- First it is said how many definitions were replayed, and which were lost.
+  unfoldable pub session : ℕ → List Loss → Point C → List ℕ → Course C (Point C)
+  session replayed lost p script = preceded (Reply (opening_text replayed lost) ∷ []) (follow_script p script)
 
   -- after the first bytes of a script
-  abbrev pub session_so_far : ℕ → ℕ → Point C → List ℕ → Course C (Point C)
-  session_so_far replayed lost p front = preceded (Reply (opened_text replayed lost) ∷ []) (follow_told p front)
+  abbrev pub session_so_far : ℕ → List Loss → Point C → List ℕ → Course C (Point C)
+  session_so_far replayed lost p front = preceded (Reply (opening_text replayed lost) ∷ []) (follow_told p front)

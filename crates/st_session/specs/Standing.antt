@@ -1,5 +1,6 @@
 -- That a machine stands at a point.
-use Rattle.std.specs.Prelude.{◌≡◌, Option, Some, None}
+use Rattle.std.specs.Prelude.{◌≡◌, Option, Some, None, IsSome, Result, ℕ, List}
+use Rattle.st_outside.specs.declared.host.Host.{Ghosts}
 use Rattle.st_model.specs.declared.dead.Dead.{Dead}
 use Rattle.st_model.specs.Machine.{State}
 use Rattle.st_model.specs.Table.{Table}
@@ -7,6 +8,13 @@ use Rattle.st_model.specs.Show.{Shows}
 use Rattle.st_model.specs.View.{View}
 use Rattle.st_frames.specs.Shown.{IsReady, shown}
 use Rattle.st_machine.specs.declared.machine.Machine.{Machine}
+use Rattle.st_store.specs.Names.{IsNoFileOf}
+use Rattle.st_course.specs.declared.status.Status.{Status}
+use Rattle.st_course.specs.Courses.{Course}
+use Rattle.st_course.specs.Obeying.{Obeys}
+use Rattle.st_recover.specs.Archives.{ArchiveState, Holds}
+use Rattle.st_recover.specs.Commits.{Commit, OpensAs}
+use Rattle.st_session.specs.Ends.{DidTold}
 use Rattle.st_session.specs.Points.{Being, Alive, Gone, Point}
 
 -- a machine with this death, which shows this table, is this
@@ -23,5 +31,27 @@ module _ {M : Type 0} (view : M → View) where
   abbrev pub MayRun : Machine M → Type 0
   MayRun m = m.death ≡ None → IsReady (view m.memory) m.frame m.world
 
-  abbrev pub StandsAt : Machine M → Point (Unit {0}) → Type 0
+  abbrev pub StandsAt : {C : Type 0} → Machine M → Point C → Type 0
   StandsAt m p = IsBeing m.death (shown_by m) p.being
+
+  -- a session can go on: its machine is dead or ready, and its archive is open
+  pub record MayGoOn (m : Machine M) (a : ArchiveState) : Type 0 where
+    pub may_run : MayRun m
+    pub is_open : IsSome a.store
+
+  module _ {D : Type 0} (host : Ghosts D) where
+    -- The machine stands at this point, and the archive holds its commit.
+    pub record IsAt (m : Machine M) (a : ArchiveState) (h : D) (p : Point Commit) : Type 0 where
+      pub stands : StandsAt m p
+      pub holds : Holds host h a p.kept
+
+    -- From wherever the machine and the archive stand, the call does what the course from there says, and they stand where it
+    -- leads. No file but the store's is touched.
+    abbrev pub Follows : (Point Commit → Course Commit (Point Commit)) → Machine M → ArchiveState → D → Result Unit Status → Machine M → ArchiveState → D → Type 0
+    Follows course m a old result n b new = (p : Point Commit) → IsAt m a old p
+        → Obeys host (OpensAs a.name) (IsNoFileOf a.name) (IsAt n b new) (λ q. q.kept) p.kept (course p) result old new
+
+    -- From wherever they stand, the deeds were done that some first bytes of the script tell.
+    abbrev pub FollowsTold : (Point Commit → List ℕ → Course Commit (Point Commit)) → List ℕ → Machine M → ArchiveState → D → D → Type 0
+    FollowsTold course script m a old new = (p : Point Commit) → IsAt m a old p
+        → DidTold host (OpensAs a.name) (IsNoFileOf a.name) p.kept (course p) script old new

@@ -1,4 +1,4 @@
--- The words of the program, without its name: once IMAGE N, and session IMAGE.
+-- The words of the program, without its name: once IMAGE N, import IMAGE STORE, and session STORE.
 use Rattle.std.specs.Prelude.{ℕ, ◌+◌, ◌*◌, ◌-◌, ◌==◌, Bool, true, false, not, ◌&&◌, ◌||◌, nat_eq, nat_le, List, [], ◌∷◌, length, codes, Option, Some, None, if◌then◌else◌}
 use Rattle.std.specs.Cmp.Lexicographic.{pointwise}
 use Rattle.std.proofs.Common.{get_or}
@@ -31,20 +31,27 @@ once_of ws =
     if (length ws == 3) && (pointwise nat_eq (word_at ws 0) (codes "once") && is_operand (word_at ws 1))
     then cycles_said (word_at ws 2) else None
 
+-- import, and two operands
+unfoldable pub is_import : List (List ℕ) → Bool
+is_import ws =
+    (length ws == 3) && (pointwise nat_eq (word_at ws 0) (codes "import") && (is_operand (word_at ws 1) && is_operand (word_at ws 2)))
+
 -- session, and an operand
 unfoldable pub is_session : List (List ℕ) → Bool
 is_session ws = (length ws == 2) && (pointwise nat_eq (word_at ws 0) (codes "session") && is_operand (word_at ws 1))
 
--- a command, with the name of an image
+-- a command, with the names of an image and of a store
 pub data Command : Type 0 where
   Once : (image : List ℕ) → (cycles : ℕ) → Command
-  Session : (image : List ℕ) → Command
+  Import : (image store : List ℕ) → Command
+  Session : (store : List ℕ) → Command
 
-abbrev pub command_from : List ℕ → Option ℕ → Bool → Option Command
-command_from image (Some n) s = Some (Once image n)
-command_from image None true = Some (Session image)
-command_from image None false = None
+abbrev pub command_from : List (List ℕ) → Option ℕ → Bool → Bool → Option Command
+command_from ws (Some n) i s = Some (Once (word_at ws 1) n)
+command_from ws None true s = Some (Import (word_at ws 1) (word_at ws 2))
+command_from ws None false true = Some (Session (word_at ws 1))
+command_from ws None false false = None
 
 -- the command that the words say; None of all other words
 abbrev pub command_of : List (List ℕ) → Option Command
-command_of ws = command_from (word_at ws 1) (once_of ws) (is_session ws)
+command_of ws = command_from ws (once_of ws) (is_import ws) (is_session ws)

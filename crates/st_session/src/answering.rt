@@ -1,31 +1,31 @@
-ghost use Rattle.std.specs.Prelude.{◌≡◌, IfErr, None};
+ghost use Rattle.std.specs.Prelude.{◌≡◌, IfErr, None, Some, OnOk};
+ghost use Rattle.st_outside.specs.Telling.{Says};
 ghost use Rattle.st_model.specs.Machine.{State};
 ghost use Rattle.st_model.specs.Births.{Births, births};
 ghost use Rattle.st_model.specs.Events.{event};
 ghost use Rattle.st_model.specs.Show.{Shows};
-ghost use Rattle.st_model.specs.Text.{used_text};
 ghost use Rattle.st_frames.specs.Shown.{IsReady};
 ghost use Rattle.st_input.specs.Coming.{HasPlace};
 ghost use Rattle.st_report.specs.Saying.{Pushes};
 ghost use Rattle.st_script.specs.Lines.{IsInRange};
 ghost use Rattle.st_course.specs.Statuses.{Counts};
-ghost use Rattle.st_course.specs.Obeying.{Obeys};
-ghost use Rattle.st_session.specs.Answers.{dead_line, event_course, line_course, living_line};
+ghost use Rattle.st_recover.specs.Commits.{Commit};
+ghost use Rattle.st_session.specs.Answers.{event_course, line_course, living_line};
 ghost use Rattle.st_session.specs.Asking.{IsSaying};
 ghost use Rattle.st_session.specs.Ends.{IsOfServing};
-ghost use Rattle.st_session.specs.Keeping.{keeps_nothing};
-ghost use Rattle.st_session.specs.Points.{Point, gone};
+ghost use Rattle.st_session.specs.Keeping.{in_a_store};
 ghost use Rattle.st_session.specs.Pushing.{PushesCourse};
 ghost use Rattle.st_session.specs.Replies.{machine_text};
-ghost use Rattle.st_session.specs.Standing.{MayRun, StandsAt, shown_by};
+ghost use Rattle.st_session.specs.Standing.{MayRun, MayGoOn, Follows, StandsAt, shown_by};
 
 use crate::replies::{Reply, finish, say_reply};
-use crate::running::push_run;
+use crate::saving::{run, snapshot};
 use st_course::Status;
 use st_machine::Machine;
 use st_memory::Memory;
 use st_model::{Dead, Event, InputFull};
 use st_outside::{Host, SayFault};
+use st_recover::Archive;
 use st_report::{Output, push_held, push_input, push_registers, push_used};
 use st_script::Request;
 
@@ -40,8 +40,8 @@ fn push_event<H: Host, M: Memory>(
     requires alive { machine.old.death ≡ None }
     requires place { HasPlace e }
     ensures may_run { MayRun M.view machine.new }
-    ensures pushes { (s : State Births) → Shows (shown_by M.view machine.old) s
-        → PushesCourse H.Host.own (StandsAt M.view machine.new) (event_course s (tt {0}) (event births e s))
+    ensures pushes { (s : State Births) (c : Commit) → Shows (shown_by M.view machine.old) s
+        → PushesCourse H.Host.own (StandsAt M.view machine.new) (event_course s c (event births e s))
         host.old host.new out.old out.new result }
 {
     match machine.event(e) {
@@ -77,20 +77,19 @@ fn push_answer<H: Host, M: Memory>(
     requires range { IsInRange request }
     requires saying { IsSaying request }
     ensures may_run { MayRun M.view machine.new }
-    ensures pushes { (s : State Births) → Shows (shown_by M.view machine.old) s
-        → PushesCourse H.Host.own (StandsAt M.view machine.new)
-        (living_line keeps_nothing s (tt {0}) request)
+    ensures pushes { (s : State Births) (c : Commit) → Shows (shown_by M.view machine.old) s
+        → PushesCourse H.Host.own (StandsAt M.view machine.new) (living_line in_a_store s c request)
         host.old host.new out.old out.new result }
 {
     match request {
-        Request::Run(cycles) => push_run(out, host, machine, cycles),
         Request::Input(word) => push_event(out, host, machine, Event::Word(word)),
         Request::Mouse(x, y) => push_event(out, host, machine, Event::Mouse(x, y)),
         Request::Clock(time) => push_event(out, host, machine, Event::Clock(time)),
         Request::Tick(time) => push_event(out, host, machine, Event::Tick(time)),
         Request::State => push_machine(out, host, machine),
         Request::Used => push_used(out, host, machine.memory()),
-        Request::End | Request::Define | Request::Wrong(_) => Ok(()),
+        Request::Run(_) | Request::Snapshot | Request::End | Request::Define | Request::Wrong(_) =>
+            Ok(()),
     }
 }
 
@@ -98,16 +97,16 @@ fn push_answer<H: Host, M: Memory>(
 fn say_answer<H: Host, M: Memory>(
     host: &mut H,
     machine: &mut Machine<M>,
+    archive: &Archive,
     request: Request,
 ) -> Result<(), Status>
-    requires ready { IsReady (M.view machine.old.memory) machine.old.frame machine.old.world }
+    requires go_on { MayGoOn M.view machine.old archive.now }
     requires alive { machine.old.death ≡ None }
     requires range { IsInRange request }
     requires saying { IsSaying request }
-    ensures may_run { MayRun M.view machine.new }
-    ensures obeys { (s : State Births) → Shows (shown_by M.view machine.old) s
-        → Obeys H.Host.own (StandsAt M.view machine.new) (living_line keeps_nothing s (tt {0}) request)
-        result host.old host.new }
+    ensures go_on { OnOk result (MayGoOn M.view machine.new archive.now) }
+    ensures follows { Follows M.view H.Host.own (λ p. line_course in_a_store p.being p.kept request)
+        machine.old archive.now host.old result machine.new archive.now host.new }
     ensures counts { Counts H.Host.own ⊥ host.old host.new result }
     ensures served { IfErr result IsOfServing }
 {
@@ -122,15 +121,16 @@ fn say_answer<H: Host, M: Memory>(
 fn answer_living<H: Host, M: Memory>(
     host: &mut H,
     machine: &mut Machine<M>,
+    archive: &mut Archive,
     request: Request,
 ) -> Result<(), Status>
-    requires ready { IsReady (M.view machine.old.memory) machine.old.frame machine.old.world }
+    requires go_on { MayGoOn M.view machine.old archive.old }
     requires alive { machine.old.death ≡ None }
     requires range { IsInRange request }
-    ensures may_run { MayRun M.view machine.new }
-    ensures obeys { (s : State Births) → Shows (shown_by M.view machine.old) s
-        → Obeys H.Host.own (StandsAt M.view machine.new) (living_line keeps_nothing s (tt {0}) request)
-        result host.old host.new }
+    ensures go_on { OnOk result (MayGoOn M.view machine.new archive.new) }
+    ensures named { archive.new.name ≡ archive.old.name }
+    ensures follows { Follows M.view H.Host.own (λ p. line_course in_a_store p.being p.kept request)
+        machine.old archive.old host.old result machine.new archive.new host.new }
     ensures counts { Counts H.Host.own ⊥ host.old host.new result }
     ensures served { IfErr result IsOfServing }
 {
@@ -138,21 +138,30 @@ fn answer_living<H: Host, M: Memory>(
         Request::End => Err(Status::Done),
         Request::Wrong(line) => Err(Status::Script { line }),
         Request::Define => Ok(()),
-        _ => say_answer(host, machine, request),
+        Request::Run(cycles) => run(host, machine, archive, cycles),
+        Request::Snapshot => snapshot(host, machine, archive, 0),
+        _ => say_answer(host, machine, archive, request),
     }
 }
 
 /// Answers a line where the machine is dead.
-fn answer_dead<H: Host>(host: &mut H, cause: Dead, request: Request) -> Result<(), Status>
-    ensures obeys { Obeys H.Host.own (λ p. p ≡ gone cause (tt {0})) (dead_line cause (tt {0}) request)
-        result host.old host.new }
+fn answer_dead<H: Host, M: Memory>(
+    host: &mut H,
+    machine: &Machine<M>,
+    archive: &Archive,
+    cause: Dead,
+    request: Request,
+) -> Result<(), Status>
+    requires dead { machine.now.death ≡ Some cause }
+    ensures follows { Follows M.view H.Host.own (λ p. line_course in_a_store p.being p.kept request)
+        machine.now archive.now host.old result machine.now archive.now host.new }
     ensures counts { Counts H.Host.own ⊥ host.old host.new result }
     ensures served { IfErr result IsOfServing }
 {
     match request {
         Request::End => Err(Status::Done),
         Request::Wrong(line) => Err(Status::Script { line }),
-        _ => say_reply(host, Reply::Died(cause)),
+        _ => say_reply(host, Reply::Died { finished: 0, cause }),
     }
 }
 
@@ -160,19 +169,20 @@ fn answer_dead<H: Host>(host: &mut H, cause: Dead, request: Request) -> Result<(
 pub(crate) fn answer_line<H: Host, M: Memory>(
     host: &mut H,
     machine: &mut Machine<M>,
+    archive: &mut Archive,
     request: Request,
 ) -> Result<(), Status>
-    requires may_run { MayRun M.view machine.old }
+    requires go_on { MayGoOn M.view machine.old archive.old }
     requires range { IsInRange request }
-    ensures may_run { MayRun M.view machine.new }
-    ensures obeys { (p : Point (Unit {0})) → StandsAt M.view machine.old p
-        → Obeys H.Host.own (StandsAt M.view machine.new) (line_course keeps_nothing p.being p.kept request)
-        result host.old host.new }
+    ensures go_on { OnOk result (MayGoOn M.view machine.new archive.new) }
+    ensures named { archive.new.name ≡ archive.old.name }
+    ensures follows { Follows M.view H.Host.own (λ p. line_course in_a_store p.being p.kept request)
+        machine.old archive.old host.old result machine.new archive.new host.new }
     ensures counts { Counts H.Host.own ⊥ host.old host.new result }
     ensures served { IfErr result IsOfServing }
 {
     match machine.death() {
-        Some(cause) => answer_dead(host, cause, request),
-        None => answer_living(host, machine, request),
+        Some(cause) => answer_dead(host, machine, archive, cause, request),
+        None => answer_living(host, machine, archive, request),
     }
 }

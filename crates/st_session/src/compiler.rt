@@ -5,12 +5,13 @@ ghost use Rattle.st_model.specs.Show.{Shows};
 ghost use Rattle.st_frames.specs.declared.frame.Frame.{Frame};
 ghost use Rattle.st_frames.specs.Shown.{IsReady, shown};
 ghost use Rattle.st_definition.specs.Defining.{installed};
-ghost use Rattle.st_definition.specs.Installations.{InstallsAs, Unchanged};
+ghost use Rattle.st_installer.specs.Installations.{InstallsAs};
+ghost use Rattle.st_installer.specs.declared.installation.Installation.TheVariants.{Accepted};
 ghost use Rattle.st_definition.specs.Prepareds.{IsPrepared};
 
-use crate::installer::Installer;
-use st_definition::{Installation, Prepared, Unprepared, prepare};
+use st_definition::{Prepared, Unprepared, prepare};
 use st_install::install;
+use st_installer::{Installation, Installer};
 use st_memory::Memory;
 use st_script::Definition;
 use std::alloc::Global;
@@ -18,20 +19,19 @@ use std::alloc::Global;
 /// Installs definitions by parsing and compiling their texts.
 pub struct Compiler;
 
-/// Installs what is prepared, and drops what nothing supports then.
-fn carry_out<M: Memory>(m: &mut M, prepared: Prepared) -> Installation
+/// Installs what is prepared, and drops what nothing supports then. Answers the method's selector.
+pub(crate) fn carry_out<M: Memory>(m: &mut M, prepared: Prepared) -> Vec<u8>
     requires prepared { (d : DefinitionView) × IsPrepared (M.view m.old) d prepared }
     ensures installs { (d : DefinitionView) (f : Frame) (w : World) (s : State Births)
         → IsPrepared (M.view m.old) d prepared → IsReady (M.view m.old) f w
         → Shows (shown (M.view m.old) f w) s
-        → InstallsAs (installed d s) result (shown (M.view m.new) f w) }
-    ensures refused { Unchanged result (M.view m.old) (M.view m.new) }
+        → InstallsAs (installed d s) (Accepted result) (shown (M.view m.new) f w) }
     ensures ready { (f : Frame) (w : World) → IsReady (M.view m.old) f w
         → IsReady (M.view m.new) f w }
 {
     install(m, prepared.ready);
     m.settle();
-    Installation::Accepted(prepared.selector)
+    prepared.selector
 }
 
 impl Installer for Compiler {
@@ -41,7 +41,7 @@ impl Installer for Compiler {
 
     fn install<M: Memory>(alloc: Global, m: &mut M, definition: &Definition<'_>) -> Installation {
         match prepare(alloc, m, definition) {
-            Ok(prepared) => carry_out(m, prepared),
+            Ok(prepared) => Installation::Accepted(carry_out(m, prepared)),
             Err(Unprepared::Refused(why)) => Installation::Refused(why),
             Err(Unprepared::OutOfMemory) => Installation::OutOfMemory,
         }

@@ -1,13 +1,14 @@
-ghost use Rattle.std.specs.Prelude.{◌≡◌, ◌≤◌, ◌^◌, length, IsTrue, IfOk, IfErr, None};
+ghost use Rattle.std.specs.Prelude.{◌≡◌, ◌≤◌, ◌^◌, length, IsTrue, IfOk, IfErr, OnOk, None};
 ghost use Rattle.st_outside.specs.Files.{bytes_of};
-ghost use Rattle.st_outside.specs.Runs.{OnlyReads};
+ghost use Rattle.st_outside.specs.Runs.{OnlyReads, ReadsAlike};
 ghost use Rattle.st_model.specs.Objects.{nil};
 ghost use Rattle.st_model.specs.Machine.{empty_world};
 ghost use Rattle.st_model.specs.Image.{image_head};
 ghost use Rattle.st_model.specs.View.{no_devices};
 ghost use Rattle.st_frames.specs.Shown.{IsFrame, IsReady};
 ghost use Rattle.st_image.specs.Reading.{IsStart};
-ghost use Rattle.st_session.specs.Commands.{IsReadable, IsImageRefusal, RefusalHasCause};
+ghost use Rattle.st_recover.specs.Openings.{IsReadable};
+ghost use Rattle.st_session.specs.Commands.{IsImageRefusal, RefusalHasCause};
 
 use crate::image_refusal::ImageRefusal;
 use st_frames::Loaded;
@@ -28,6 +29,7 @@ fn read_file<H: Host>(alloc: Global, host: &mut H, name: &str) -> Result<Vec<u8>
     ensures short { IfOk result (λ v. length v.items ≤ 2 ^ 23) }
     ensures refused { IfErr result (λ e. IsTrue H.is_told →
         IsImageRefusal (bytes_of (H.files host.old name.now)) e) }
+    ensures alike { OnOk result (ReadsAlike H.Host.own host.old host.new) }
     ensures cause { IfErr result (RefusalHasCause H.Host.own host.old host.new) }
     ensures reads { OnlyReads H.Host.own host.old host.new }
 {
@@ -57,6 +59,7 @@ pub fn read_image<H: Host, L: Loader>(
     ensures quiet { IfOk result (λ l. (L.Done.view l.memory).held.devices ≡ no_devices) }
     ensures refused { IfErr result (λ e. IsTrue H.is_told →
         IsImageRefusal (bytes_of (H.files host.old name.now)) e) }
+    ensures alike { OnOk result (ReadsAlike H.Host.own host.old host.new) }
     ensures cause { IfErr result (RefusalHasCause H.Host.own host.old host.new) }
     ensures reads { OnlyReads H.Host.own host.old host.new }
 {

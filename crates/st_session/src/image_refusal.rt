@@ -6,7 +6,7 @@ use st_model::ImageFault;
 use st_outside::HostFault;
 use std::alloc::AllocError;
 
-/// Why a machine wasn't started.
+/// Why an image isn't read, or no machine started over it.
 #[derive(Clone, Copy, Debug, PartialEq, Eq)]
 pub enum ImageRefusal {
     /// The image has this fault.

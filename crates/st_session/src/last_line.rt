@@ -1,14 +1,15 @@
 ghost use Rattle.std.specs.Prelude.{◌≡◌, OnOk};
 ghost use Rattle.st_outside.specs.Counts.{HasCause};
-ghost use Rattle.st_outside.specs.Runs.{ReadsAndSays, SaysAll};
+ghost use Rattle.st_outside.specs.Runs.{ReadsAlike, ReadsAndSays, SaysAll};
 ghost use Rattle.st_outside.specs.Telling.{Says};
 ghost use Rattle.st_report.specs.Saying.{Pushes};
-ghost use Rattle.st_session.specs.Commands.{fault_line, last_line, SaysLastLine};
+ghost use Rattle.st_session.specs.Commands.{fault_line, place_line, store_line, last_line, SaysLastLine};
 
 use st_course::Status;
 use st_model::ImageFault;
 use st_outside::{Host, SayFault};
 use st_report::{Output, push_line, push_long_line};
+use st_store::{StoreFault, StorePlace};
 
 /// Adds the line of an image's fault: its row, then its pointer, and its second pointer or its index.
 fn push_fault<H: Host>(out: &mut Output, host: &mut H, fault: ImageFault) -> Result<(), SayFault>
@@ -28,6 +29,29 @@ fn push_fault<H: Host>(out: &mut Output, host: &mut H, fault: ImageFault) -> Res
     }
 }
 
+/// Adds the line of a place at which a store is damaged.
+fn push_place<H: Host>(out: &mut Output, host: &mut H, place: StorePlace) -> Result<(), SayFault>
+    ensures { Pushes H.Host.own (place_line place) host.old host.new out.old out.new result }
+{
+    match place {
+        StorePlace::Roots(at) => push_long_line(out, host, b"store damaged roots", at),
+        StorePlace::Changes(at) => push_long_line(out, host, b"store damaged changes", at),
+    }
+}
+
+/// Adds the line of why a store isn't opened or made.
+fn push_store<H: Host>(out: &mut Output, host: &mut H, fault: StoreFault) -> Result<(), SayFault>
+    ensures { Pushes H.Host.own (store_line fault) host.old host.new out.old out.new result }
+{
+    match fault {
+        StoreFault::Missing => push_line(out, host, b"store missing", &[]),
+        StoreFault::Exists => push_line(out, host, b"store exists", &[]),
+        StoreFault::NotAStore { place } => push_place(out, host, place),
+        StoreFault::Disk => push_line(out, host, b"disk fault", &[]),
+        StoreFault::OutOfMemory => push_line(out, host, b"out of memory", &[]),
+    }
+}
+
 /// Adds the last line of a status, where it has one.
 fn push_last_line<H: Host>(out: &mut Output, host: &mut H, status: Status) -> Result<(), SayFault>
     ensures { Pushes H.Host.own (last_line status) host.old host.new out.old out.new result }
@@ -39,6 +63,7 @@ fn push_last_line<H: Host>(out: &mut Output, host: &mut H, status: Status) -> Re
         Status::Script { line } => push_long_line(out, host, b"script", line),
         Status::ReadFault => push_line(out, host, b"read fault", &[]),
         Status::DiskFault => push_line(out, host, b"disk fault", &[]),
+        Status::Store(fault) => push_store(out, host, fault),
         Status::TooLarge => push_line(out, host, b"too large", &[]),
         Status::OutOfMemory => push_line(out, host, b"out of memory", &[]),
     }
@@ -59,6 +84,7 @@ fn say_last_line<H: Host>(host: &mut H, status: Status) -> Result<(), SayFault>
 pub fn refuse<H: Host>(host: &mut H, status: Status)
     ensures line { SaysLastLine H.Host.own status host.old host.new }
     ensures reads { ReadsAndSays H.Host.own (last_line status) host.old host.new }
+    ensures alike { ReadsAlike H.Host.own host.old host.new }
     ensures disk { H.disk_faults host.new ≡ H.disk_faults host.old }
 {
     match say_last_line(host, status) {

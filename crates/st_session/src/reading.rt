@@ -1,33 +1,33 @@
-ghost use Rattle.std.specs.Prelude.{◌≡◌, ◌⊎◌, ℕ, List, [], IsTrue, IfErr, OnOk, IsErrOf};
+ghost use Rattle.std.specs.Prelude.{◌≡◌, ◌⊎◌, ◌<◌, ◌≤◌, ◌^◌, length, IsTrue, IfErr, OnOk, IsErrOf};
 ghost use Rattle.st_outside.specs.Counts.{Rose};
-ghost use Rattle.st_outside.specs.Runs.{ReadsAndSays};
-ghost use Rattle.st_outside.specs.Telling.{Says};
-ghost use Rattle.st_model.specs.Objects.{nil};
-ghost use Rattle.st_model.specs.Machine.{State, empty_world};
+ghost use Rattle.st_model.specs.Machine.{State};
 ghost use Rattle.st_model.specs.Births.{Births};
-ghost use Rattle.st_model.specs.Show.{Shows};
 ghost use Rattle.st_model.specs.View.{no_devices};
-ghost use Rattle.st_frames.specs.Shown.{IsFrame, shown};
+ghost use Rattle.st_frames.specs.Shown.{IsFrame};
+ghost use Rattle.st_chunk.specs.Definitions.{entries};
 ghost use Rattle.st_script.specs.Reading.{line_from, read, end_read};
 ghost use Rattle.st_script.specs.Scripts.{told_from, read_through, asked_by, asked_at_end};
-ghost use Rattle.st_course.specs.declared.status.Status.TheVariants.{Done, ReadFault as Unread, TooLarge, OutOfMemory};
+ghost use Rattle.st_store.specs.Names.{IsNoFileOf};
+ghost use Rattle.st_course.specs.declared.status.Status.TheVariants.{Done, ReadFault as Unread, TooLarge};
+ghost use Rattle.st_course.specs.declared.status.Status.TheVariants.{OutOfMemory};
 ghost use Rattle.st_course.specs.Courses.{ended, IsEnd};
 ghost use Rattle.st_course.specs.Statuses.{Counts, StatusHasCause};
-ghost use Rattle.st_course.specs.Obeying.{Obeys};
-ghost use Rattle.st_session.specs.Ends.{DidTold, IsCalm, IsOfServing, SessionEnds, status_in};
-ghost use Rattle.st_session.specs.Keeping.{keeps_nothing};
-ghost use Rattle.st_session.specs.Points.{Point, alive};
+ghost use Rattle.st_recover.specs.Commits.{Commit, OpensAs};
+ghost use Rattle.st_recover.specs.Replays.{losses_of};
+ghost use Rattle.st_definition.specs.Defining.{installed};
+ghost use Rattle.st_session.specs.Ends.{IsCalm, IsOfServing, SessionEnds, status_in};
+ghost use Rattle.st_session.specs.Keeping.{in_a_store};
 ghost use Rattle.st_session.specs.Sessions.{follow, follow_script, session, session_so_far, follow_told};
-ghost use Rattle.st_session.specs.Standing.{MayRun, StandsAt};
+ghost use Rattle.st_session.specs.Standing.{MayGoOn, Follows, FollowsTold};
+ghost use Rattle.st_session.specs.Opening.{IsOpen, session_over, session_so_far_over};
 
-use crate::installer::Installer;
-use crate::replies::{Reply, say_reply};
+use crate::replies::say_opening;
 use crate::serving::answer_told;
 use st_course::Status;
-use st_frames::Loaded;
 use st_machine::Machine;
 use st_memory::Memory;
 use st_outside::{Host, ReadFault, Source};
+use st_recover::{Archive, Lost, Opened};
 use st_script::Reader;
 use st_world::World;
 use std::alloc::{AllocError, Global};
@@ -36,47 +36,49 @@ use std::alloc::{AllocError, Global};
 const LONGEST: u64 = 4_294_967_296;
 
 /// Reads a byte of the script, and answers what it tells to be asked for.
-fn feed<I: Installer, H: Host, M: Memory>(
+fn feed<H: Host, M: Memory>(
     alloc: Global,
     host: &mut H,
     machine: &mut Machine<M>,
+    archive: &mut Archive,
     reader: &mut Reader,
     byte: u8,
 ) -> Result<(), Status>
-    requires may_run { MayRun M.view machine.old }
-    ensures may_run { MayRun M.view machine.new }
+    requires go_on { MayGoOn M.view machine.old archive.old }
+    ensures go_on { OnOk result (MayGoOn M.view machine.new archive.new) }
+    ensures named { archive.new.name ≡ archive.old.name }
     ensures reader { reader.new ≡ (read reader.old byte).0 }
-    ensures obeys { (p : Point (Unit {0})) → StandsAt M.view machine.old p
-        → Obeys H.Host.own (StandsAt M.view machine.new)
-        (follow keeps_nothing I.install p (asked_by (read reader.old byte)))
-        result host.old host.new }
+    ensures follows { Follows M.view H.Host.own
+        (λ p. follow in_a_store installed p (asked_by (read reader.old byte)))
+        machine.old archive.old host.old result machine.new archive.new host.new }
     ensures counts { Counts H.Host.own ⊥ host.old host.new result }
     ensures served { IfErr result IsOfServing }
 {
     let request = reader.feed(byte);
-    answer_told::<I, H, M>(alloc, host, machine, reader, request)
+    answer_told(alloc, host, machine, archive, reader, request)
 }
 
 /// Reads these bytes of the script, and answers what they tell to be asked for.
-fn feed_all<I: Installer, H: Host, M: Memory>(
+fn feed_all<H: Host, M: Memory>(
     alloc: Global,
     host: &mut H,
     machine: &mut Machine<M>,
+    archive: &mut Archive,
     reader: &mut Reader,
     bytes: &[u8],
 ) -> Result<(), Status>
-    requires may_run { MayRun M.view machine.old }
-    ensures may_run { MayRun M.view machine.new }
+    requires go_on { MayGoOn M.view machine.old archive.old }
+    ensures go_on { OnOk result (MayGoOn M.view machine.new archive.new) }
+    ensures named { archive.new.name ≡ archive.old.name }
     ensures reader { OnOk result (reader.new ≡ read_through reader.old bytes.now) }
-    ensures obeys { (p : Point (Unit {0})) → StandsAt M.view machine.old p
-        → Obeys H.Host.own (StandsAt M.view machine.new)
-        (follow keeps_nothing I.install p (told_from reader.old bytes.now))
-        result host.old host.new }
+    ensures follows { Follows M.view H.Host.own
+        (λ p. follow in_a_store installed p (told_from reader.old bytes.now))
+        machine.old archive.old host.old result machine.new archive.new host.new }
     ensures counts { Counts H.Host.own ⊥ host.old host.new result }
     ensures served { IfErr result IsOfServing }
 {
     for byte in bytes {
-        match feed::<I, H, M>(alloc, host, machine, reader, *byte) {
+        match feed(alloc, host, machine, archive, reader, *byte) {
             Ok(()) => {}
             Err(status) => return Err(status),
         }
@@ -85,43 +87,44 @@ fn feed_all<I: Installer, H: Host, M: Memory>(
 }
 
 /// Comes to the end of the script, and answers what it tells to be asked for.
-fn end<I: Installer, H: Host, M: Memory>(
+fn end<H: Host, M: Memory>(
     alloc: Global,
     host: &mut H,
     machine: &mut Machine<M>,
+    archive: &mut Archive,
     reader: &mut Reader,
 ) -> Result<(), Status>
-    requires may_run { MayRun M.view machine.old }
-    ensures may_run { MayRun M.view machine.new }
+    requires go_on { MayGoOn M.view machine.old archive.old }
+    ensures go_on { OnOk result (MayGoOn M.view machine.new archive.new) }
+    ensures named { archive.new.name ≡ archive.old.name }
     ensures reader { reader.new ≡ (end_read reader.old).0 }
-    ensures obeys { (p : Point (Unit {0})) → StandsAt M.view machine.old p
-        → Obeys H.Host.own (StandsAt M.view machine.new)
-        (follow keeps_nothing I.install p (asked_by (end_read reader.old)))
-        result host.old host.new }
+    ensures follows { Follows M.view H.Host.own
+        (λ p. follow in_a_store installed p (asked_by (end_read reader.old)))
+        machine.old archive.old host.old result machine.new archive.new host.new }
     ensures counts { Counts H.Host.own ⊥ host.old host.new result }
     ensures served { IfErr result IsOfServing }
 {
     let request = reader.finish();
-    answer_told::<I, H, M>(alloc, host, machine, reader, request)
+    answer_told(alloc, host, machine, archive, reader, request)
 }
 
 /// Comes to the end of the script, and behind a method once more.
-fn finish<I: Installer, H: Host, M: Memory>(
+fn finish<H: Host, M: Memory>(
     alloc: Global,
     host: &mut H,
     machine: &mut Machine<M>,
+    archive: &mut Archive,
     reader: &mut Reader,
 ) -> Result<(), Status>
-    requires may_run { MayRun M.view machine.old }
-    ensures obeys { (p : Point (Unit {0})) → StandsAt M.view machine.old p
-        → Obeys H.Host.own (StandsAt M.view machine.new)
-        (ended (follow keeps_nothing I.install p (asked_at_end reader.old)) Done)
-        result host.old host.new }
+    requires go_on { MayGoOn M.view machine.old archive.old }
+    ensures follows { Follows M.view H.Host.own
+        (λ p. ended (follow in_a_store installed p (asked_at_end reader.old)) Done)
+        machine.old archive.old host.old result machine.new archive.new host.new }
     ensures counts { Counts H.Host.own ⊥ host.old host.new result }
     ensures served { IfErr result IsOfServing }
 {
-    match end::<I, H, M>(alloc, host, machine, reader) {
-        Ok(()) => match end::<I, H, M>(alloc, host, machine, reader) {
+    match end(alloc, host, machine, archive, reader) {
+        Ok(()) => match end(alloc, host, machine, archive, reader) {
             Ok(()) => Err(Status::Done),
             Err(status) => Err(status),
         },
@@ -130,45 +133,44 @@ fn finish<I: Installer, H: Host, M: Memory>(
 }
 
 /// Reads the last bytes of the script that may come; it has more.
-fn feed_last<I: Installer, H: Host, M: Memory>(
+fn feed_last<H: Host, M: Memory>(
     alloc: Global,
     host: &mut H,
     machine: &mut Machine<M>,
+    archive: &mut Archive,
     reader: &mut Reader,
     bytes: &[u8],
 ) -> Result<(), Status>
-    requires may_run { MayRun M.view machine.old }
-    ensures obeys { (p : Point (Unit {0})) → StandsAt M.view machine.old p
-        → Obeys H.Host.own (StandsAt M.view machine.new)
-        (ended (follow keeps_nothing I.install p (told_from reader.old bytes.now)) TooLarge)
-        result host.old host.new }
+    requires go_on { MayGoOn M.view machine.old archive.old }
+    ensures follows { Follows M.view H.Host.own
+        (λ p. ended (follow in_a_store installed p (told_from reader.old bytes.now)) TooLarge)
+        machine.old archive.old host.old result machine.new archive.new host.new }
     ensures counts { Counts H.Host.own ⊥ host.old host.new result }
     ensures served { IfErr result IsOfServing }
 {
-    match feed_all::<I, H, M>(alloc, host, machine, reader, bytes) {
+    match feed_all(alloc, host, machine, archive, reader, bytes) {
         Ok(()) => Err(Status::TooLarge),
         Err(status) => Err(status),
     }
 }
 
 /// Follows a script.
-fn follow<I: Installer, H: Host, M: Memory, S: Source>(
+fn follow<H: Host, M: Memory, S: Source>(
     alloc: Global,
     host: &mut H,
     script: &mut S,
     machine: &mut Machine<M>,
+    archive: &mut Archive,
     reader: &mut Reader,
 ) -> Result<(), Status>
-    requires may_run { MayRun M.view machine.old }
+    requires go_on { MayGoOn M.view machine.old archive.old }
     requires begins { reader.old ≡ line_from 1 }
-    ensures obeys { IsTrue S.is_told → (p : Point (Unit {0})) → StandsAt M.view machine.old p
-        → Obeys H.Host.own (StandsAt M.view machine.new)
-        (follow_script keeps_nothing I.install p (S.remaining script.old)) result host.old host.new }
-    ensures told { IsErrOf result Unread → IsTrue S.is_told
-        → (p : Point (Unit {0})) → StandsAt M.view machine.old p
-        → DidTold H.Host.own (follow_told keeps_nothing I.install p)
-        (S.remaining script.old) host.old host.new }
-    ensures says { (text : List ℕ) × Says H.Host.own text host.old host.new }
+    ensures follows { IsTrue S.is_told → Follows M.view H.Host.own
+        (λ p. follow_script in_a_store installed p (S.remaining script.old))
+        machine.old archive.old host.old result machine.new archive.new host.new }
+    ensures told { IsErrOf result Unread → IsTrue S.is_told → FollowsTold M.view H.Host.own
+        (follow_told in_a_store installed)
+        (S.remaining script.old) machine.old archive.old host.old host.new }
     ensures counts { Counts H.Host.own (Rose (S.read_faults script.old) (S.read_faults script.new))
         host.old host.new result }
     ensures served { IfErr result IsOfServing }
@@ -181,43 +183,54 @@ fn follow<I: Installer, H: Host, M: Memory, S: Source>(
             Err(ReadFault) => return Err(Status::ReadFault),
         };
         if count == 0 {
-            return finish::<I, H, M>(alloc, host, machine, reader);
+            return finish(alloc, host, machine, archive, reader);
         }
         let bytes = &piece[..count];
         if count as u64 > left {
-            return feed_last::<I, H, M>(alloc, host, machine, reader, &bytes[..left as usize]);
+            return feed_last(
+                alloc,
+                host,
+                machine,
+                archive,
+                reader,
+                &bytes[..left as usize],
+            );
         }
-        match feed_all::<I, H, M>(alloc, host, machine, reader, bytes) {
+        match feed_all(alloc, host, machine, archive, reader, bytes) {
             Ok(()) => left -= count as u64,
             Err(status) => return Err(status),
         }
     }
 }
 
-/// Says that the session is open, and follows a script.
-fn open<I: Installer, H: Host, M: Memory, S: Source>(
+/// Says what was replayed and what was lost, and follows a script.
+fn open<H: Host, M: Memory, S: Source>(
     alloc: Global,
     host: &mut H,
     script: &mut S,
     machine: &mut Machine<M>,
-    reader: &mut Reader,
+    archive: &mut Archive,
+    replayed: u32,
+    lost: &[Lost],
 ) -> Result<(), Status>
-    requires may_run { MayRun M.view machine.old }
-    requires begins { reader.old ≡ line_from 1 }
-    ensures obeys { IsTrue S.is_told → (p : Point (Unit {0})) → StandsAt M.view machine.old p
-        → Obeys H.Host.own (StandsAt M.view machine.new)
-        (session keeps_nothing I.install 0 0 p (S.remaining script.old)) result host.old host.new }
-    ensures told { IsErrOf result Unread → IsTrue S.is_told
-        → (p : Point (Unit {0})) → StandsAt M.view machine.old p
-        → DidTold H.Host.own (session_so_far keeps_nothing I.install 0 0 p)
-        (S.remaining script.old) host.old host.new }
-    ensures says { (text : List ℕ) × Says H.Host.own text host.old host.new }
+    requires few { length lost.now < 2 ^ 32 }
+    requires go_on { MayGoOn M.view machine.old archive.old }
+    ensures follows { IsTrue S.is_told → Follows M.view H.Host.own
+        (λ p. session in_a_store installed replayed (losses_of lost.now) p (S.remaining script.old))
+        machine.old archive.old host.old result machine.new archive.new host.new }
+    ensures told { IsErrOf result Unread → IsTrue S.is_told → FollowsTold M.view H.Host.own
+        (session_so_far in_a_store installed replayed (losses_of lost.now))
+        (S.remaining script.old) machine.old archive.old host.old host.new }
     ensures counts { Counts H.Host.own (Rose (S.read_faults script.old) (S.read_faults script.new))
         host.old host.new result }
     ensures served { IfErr result IsOfServing }
 {
-    match say_reply(host, Reply::Opened(0, 0)) {
-        Ok(()) => follow::<I, H, M, S>(alloc, host, script, machine, reader),
+    let mut reader = match Reader::new(alloc) {
+        Ok(reader) => reader,
+        Err(AllocError) => return Err(Status::OutOfMemory),
+    };
+    match say_opening(host, replayed, lost) {
+        Ok(()) => follow(alloc, host, script, machine, archive, &mut reader),
         Err(status) => Err(status),
     }
 }
@@ -232,39 +245,50 @@ fn status_of(answer: Result<(), Status>) -> Status
     }
 }
 
-/// Says that a session is open, and follows a script, line by line and group by group, over a machine that begins with these
-/// objects and registers, in an empty world. All memory but that of definitions is taken at the beginning. No file is changed.
-pub fn serve<I: Installer, H: Host, M: Memory, S: Source>(
+/// Follows a script, line by line and group by group, over a store that was opened: over a machine that begins with its objects
+/// and registers, in an empty world. Answers the status in which that ends. A definition is in the store, synced, before it is said to be accepted, and a snapshot
+/// before its length is said. All memory but that of definitions is taken at the beginning.
+pub fn serve<H: Host, M: Memory, S: Source>(
     alloc: Global,
     host: &mut H,
     script: &mut S,
-    loaded: Loaded<M>,
+    opened: Opened<M>,
 ) -> Status
-    requires frame { IsFrame (M.view loaded.memory) loaded.frame }
-    requires quiet { (M.view loaded.memory).held.devices ≡ no_devices }
-    ensures ends { IsTrue S.is_told → (s : State Births)
-        → Shows (shown (M.view loaded.memory) loaded.frame (empty_world nil)) s
-        → SessionEnds H.Host.own (session keeps_nothing I.install 0 0 (alive s (tt {0})) (S.remaining script.old))
-        (session_so_far keeps_nothing I.install 0 0 (alive s (tt {0}))) (S.remaining script.old)
-        host.old host.new result }
-    ensures complete { IsTrue S.is_told → (s : State Births)
-        → Shows (shown (M.view loaded.memory) loaded.frame (empty_world nil)) s
-        → IsEnd (session keeps_nothing I.install 0 0 (alive s (tt {0})) (S.remaining script.old)) Done
+    requires frame { IsFrame (M.view opened.loaded.memory) opened.loaded.frame }
+    requires quiet { (M.view opened.loaded.memory).held.devices ≡ no_devices }
+    requires named { opened.changes.name ≡ opened.store.name }
+    requires whole { opened.store.root.length ≡ length (entries opened.changes.listed) }
+    requires few { length opened.lost.items < 2 ^ 32 }
+    ensures ends { IsTrue S.is_told → (c : Commit) (s : State Births)
+        → IsOpen M.view H.Host.own host.old opened c s
+        → SessionEnds H.Host.own (OpensAs opened.store.name) (IsNoFileOf opened.store.name) c
+        (session_over opened.replayed (losses_of opened.lost.items) s c (S.remaining script.old))
+        (session_so_far_over opened.replayed (losses_of opened.lost.items) s c)
+        (S.remaining script.old) host.old host.new result }
+    ensures complete { IsTrue S.is_told → (c : Commit) (s : State Births)
+        → IsOpen M.view H.Host.own host.old opened c s
+        → IsEnd (session_over opened.replayed (losses_of opened.lost.items) s c
+        (S.remaining script.old)) Done
         → IsCalm H.Host.own (Rose (S.read_faults script.old) (S.read_faults script.new)) host.old host.new
         → (result ≡ Done) ⊎ (result ≡ OutOfMemory) }
-    ensures reads { (text : List ℕ) × ReadsAndSays H.Host.own text host.old host.new }
     ensures cause { StatusHasCause H.Host.own (Rose (S.read_faults script.old) (S.read_faults script.new))
         host.old host.new result }
+    ensures say_count { H.say_faults host.old ≤ H.say_faults host.new }
     ensures kind { IsOfServing result }
 {
     let world = match World::new(alloc) {
         Ok(world) => world,
         Err(AllocError) => return Status::OutOfMemory,
     };
-    let mut reader = match Reader::new(alloc) {
-        Ok(reader) => reader,
-        Err(AllocError) => return Status::OutOfMemory,
-    };
-    let mut machine = Machine::boot(loaded, world);
-    status_of(open::<I, H, M, S>(alloc, host, script, &mut machine, &mut reader))
+    let mut machine = Machine::boot(opened.loaded, world);
+    let mut archive = Archive::new(opened.store, opened.changes);
+    status_of(open(
+        alloc,
+        host,
+        script,
+        &mut machine,
+        &mut archive,
+        opened.replayed,
+        &opened.lost,
+    ))
 }

@@ -1,21 +1,28 @@
-ghost use Rattle.std.specs.Prelude.{◌≡◌};
+ghost use Rattle.std.specs.Prelude.{◌<◌, ◌^◌, length};
+ghost use Rattle.std.specs.List.{flat_map};
 ghost use Rattle.st_report.specs.Saying.{Pushes};
+ghost use Rattle.st_recover.specs.Replays.{loss_of, losses_of};
 ghost use Rattle.st_session.specs.Lines.{reply_text};
 ghost use Rattle.st_session.specs.Replies.{accepted_line, refused_text, side_text, why_text};
+ghost use Rattle.st_session.specs.Replies.{lost_text, opening_text};
 ghost use Rattle.st_session.specs.Telling.{Tells};
 
 use st_course::{Refusal, Status};
 use st_model::Dead;
 use st_outside::{Host, SayFault};
-use st_report::{Output, push_line};
+use st_recover::Lost;
+use st_report::{Output, push_line, push_long_line, push_number};
 
 /// A line that a session says, which shows nothing of the machine's objects.
 #[derive(Clone, Copy)]
 pub(crate) enum Reply<'a> {
-    /// How many definitions were replayed, and how many lost.
-    Opened(u32, u32),
-    /// The machine is dead of this cause.
-    Died(Dead),
+    /// A snapshot was kept, whose image has so many bytes.
+    Snapshot(u64),
+    /// The machine is dead of this cause; so many cycles of the line are finished.
+    Died {
+        finished: u32,
+        cause: Dead,
+    },
     /// A definition of a class, on its class side or not, was accepted, with its selector.
     Accepted {
         class: &'a [u8],
@@ -87,14 +94,64 @@ fn push_reply<H: Host>(out: &mut Output, host: &mut H, reply: Reply<'_>) -> Resu
     ensures { Pushes H.Host.own (reply_text reply.entry) host.old host.new out.old out.new result }
 {
     match reply {
-        Reply::Opened(replayed, lost) => push_line(out, host, b"opened", &[replayed, lost]),
-        Reply::Died(cause) => push_line(out, host, b"dead", &[0, u32::from(cause.number())]),
+        Reply::Snapshot(length) => push_long_line(out, host, b"snapshot", length),
+        Reply::Died { finished, cause } => {
+            push_line(out, host, b"dead", &[finished, u32::from(cause.number())])
+        }
         Reply::Accepted {
             class,
             meta,
             selector,
         } => push_accepted(out, host, class, meta, selector),
         Reply::Refused(why) => push_refused(out, host, why),
+    }
+}
+
+/// Adds the line of a definition that was lost when the store was opened.
+fn push_lost<H: Host>(out: &mut Output, host: &mut H, lost: &Lost) -> Result<(), SayFault>
+    ensures { Pushes H.Host.own (lost_text (loss_of lost.now)) host.old host.new out.old out.new result }
+{
+    out.push(host, b"lost")?;
+    push_number(out, host, lost.number)?;
+    out.push(host, b" ")?;
+    push_why(out, host, lost.why)
+}
+
+/// Adds the lines of definitions that were lost.
+fn push_all_lost<H: Host>(out: &mut Output, host: &mut H, lost: &[Lost]) -> Result<(), SayFault>
+    ensures { let text = flat_map lost_text (losses_of lost.now) in
+        Pushes H.Host.own text host.old host.new out.old out.new result }
+{
+    for each in lost {
+        push_lost(out, host, each)?;
+    }
+    Ok(())
+}
+
+/// Adds how many definitions were replayed and how many lost, and a line for each that was lost.
+fn push_opening<H: Host>(
+    out: &mut Output,
+    host: &mut H,
+    replayed: u32,
+    lost: &[Lost],
+) -> Result<(), SayFault>
+    requires few { length lost.now < 2 ^ 32 }
+    ensures { let text = opening_text replayed (losses_of lost.now) in
+        Pushes H.Host.own text host.old host.new out.old out.new result }
+{
+    push_line(out, host, b"opened", &[replayed, lost.len() as u32])?;
+    push_all_lost(out, host, lost)
+}
+
+/// Says how many definitions were replayed and how many lost, and a line for each that was lost.
+pub(crate) fn say_opening<H: Host>(host: &mut H, replayed: u32, lost: &[Lost]) -> Result<(), Status>
+    requires few { length lost.now < 2 ^ 32 }
+    ensures { Tells H.Host.own (opening_text replayed (losses_of lost.now)) host.old host.new result }
+{
+    let mut out = Output::new();
+    match push_opening(&mut out, host, replayed, lost) {
+        Ok(()) => finish(out, host),
+        Err(SayFault) => Err(Status::SayFault),
     }
 }
 

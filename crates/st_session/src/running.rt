@@ -1,4 +1,4 @@
-ghost use Rattle.std.specs.Prelude.{◌≡◌, None};
+ghost use Rattle.std.specs.Prelude.{◌≡◌, ◌-◌, ◌≤◌, ◌<◌, None, IfOk, IfSome};
 ghost use Rattle.st_model.specs.Machine.{State};
 ghost use Rattle.st_model.specs.Births.{Births};
 ghost use Rattle.st_model.specs.Show.{Shows};
@@ -7,36 +7,14 @@ ghost use Rattle.st_report.specs.Saying.{Pushes};
 ghost use Rattle.st_session.specs.Answers.{run_course};
 ghost use Rattle.st_session.specs.Keeping.{keeps_nothing};
 ghost use Rattle.st_session.specs.Pushing.{PushesCourse};
-ghost use Rattle.st_session.specs.Runs.{goes_on, asked_text, end_text};
+ghost use Rattle.st_session.specs.Runs.{end_text};
 ghost use Rattle.st_session.specs.Standing.{MayRun, StandsAt, shown_by};
+ghost use Rattle.st_session.specs.Stretches.{PushesStretch, stretch};
 
 use st_machine::{Machine, RunEnd};
 use st_memory::Memory;
 use st_outside::{Host, SayFault};
 use st_report::{Output, push_line, push_said};
-
-/// Whether a run goes on after the cycle that ended so.
-fn goes_on(end: RunEnd) -> bool
-    ensures { result ≡ goes_on end }
-{
-    matches!(end, RunEnd::Snapshot { .. } | RunEnd::Say { .. })
-}
-
-/// Adds what is said where a run goes on: the bytes of an object, or nothing.
-fn push_asked<H: Host, M: Memory>(
-    out: &mut Output,
-    host: &mut H,
-    m: &M,
-    end: RunEnd,
-) -> Result<(), SayFault>
-    ensures { let text = asked_text end (M.view m.now).objects in
-        Pushes H.Host.own text host.old host.new out.old out.new result }
-{
-    match end {
-        RunEnd::Say { object, .. } => push_said(out, host, m, object),
-        _ => Ok(()),
-    }
-}
 
 /// Adds the line of a run's end, where so many cycles are finished in all. A snapshot has none, and what is said
 /// neither.
@@ -74,7 +52,49 @@ fn push_end<H: Host>(
     }
 }
 
-/// Runs so many cycles, and adds what is said of them: each line of bytes at its place, and the run's end.
+/// Runs on, where so many of a line's cycles are finished, and adds what is said of it: each line of bytes at its place, and
+/// the run's end. Where a bytecode asks for a snapshot it stops, and answers how many are finished with it.
+pub(crate) fn push_stretch<H: Host, M: Memory>(
+    out: &mut Output,
+    host: &mut H,
+    machine: &mut Machine<M>,
+    finished: u32,
+    cycles: u32,
+) -> Result<Option<u32>, SayFault>
+    requires ready { IsReady (M.view machine.old.memory) machine.old.frame machine.old.world }
+    requires alive { machine.old.death ≡ None }
+    requires few { finished ≤ cycles }
+    ensures may_run { MayRun M.view machine.new }
+    ensures alive { IfOk result (λ asked. IfSome asked (λ n. machine.new.death ≡ None)) }
+    ensures later { IfOk result (λ asked. IfSome asked (λ n. (finished < n) × (n ≤ cycles))) }
+    ensures pushes { (s : State Births) → Shows (shown_by M.view machine.old) s
+        → PushesStretch H.Host.own machine.new.death (shown_by M.view machine.new)
+        (stretch finished (cycles - finished) s)
+        host.old host.new out.old out.new result }
+{
+    let mut finished = finished;
+    'cycles: loop {
+        let left = cycles - finished;
+        let end = machine.run(left);
+        finished += end.finished(left);
+        match end {
+            RunEnd::Snapshot { .. } => return Ok(Some(finished)),
+            RunEnd::Say { object, .. } => match push_said(out, host, machine.memory(), object) {
+                Ok(()) => {}
+                Err(SayFault) => return Err(SayFault),
+            },
+            _ => {
+                return match push_end(out, host, finished, end) {
+                    Ok(()) => Ok(None),
+                    Err(SayFault) => Err(SayFault),
+                };
+            }
+        }
+    }
+}
+
+/// Runs so many cycles, and adds what is said of them: each line of bytes at its place, and the run's end. A snapshot that a
+/// bytecode asks for is passed over.
 pub(crate) fn push_run<H: Host, M: Memory>(
     out: &mut Output,
     host: &mut H,
@@ -90,13 +110,11 @@ pub(crate) fn push_run<H: Host, M: Memory>(
         host.old host.new out.old out.new result }
 {
     let mut finished = 0;
-    loop {
-        let left = cycles - finished;
-        let end = machine.run(left);
-        finished += end.finished(left);
-        if !goes_on(end) {
-            return push_end(out, host, finished, end);
+    'stretches: loop {
+        match push_stretch(out, host, machine, finished, cycles) {
+            Ok(Some(asked)) => finished = asked,
+            Ok(None) => return Ok(()),
+            Err(SayFault) => return Err(SayFault),
         }
-        push_asked(out, host, machine.memory(), end)?;
     }
 }

@@ -1,6 +1,7 @@
-ghost use Rattle.std.specs.Prelude.{◌≡◌, ◌≤◌, map, length, true, IfSome, option_map};
+ghost use Rattle.std.specs.Prelude.{◌≡◌, ◌<◌, map, length, true, IfSome, option_map};
 ghost use Rattle.std.specs.String.{string_bytes};
-ghost use Rattle.st_session.specs.Words.{is_operand, cycles_said, once_of, is_session, word_at, command_of};
+ghost use Rattle.st_session.specs.Words.{is_operand, cycles_said, once_of, is_import, is_session};
+ghost use Rattle.st_session.specs.Words.{word_at, command_of};
 ghost use Rattle.st_session.specs.CommandViews.{command_view};
 
 /// A command of the program.
@@ -8,8 +9,10 @@ ghost use Rattle.st_session.specs.CommandViews.{command_view};
 pub enum Command<'a> {
     /// The report of so many cycles of an image.
     Once { image: &'a str, cycles: u32 },
-    /// A session over an image.
-    Session { image: &'a str },
+    /// The making of a store of an image.
+    Import { image: &'a str, store: &'a str },
+    /// A session over a store.
+    Session { store: &'a str },
 }
 
 /// The most cycles that one run may have.
@@ -58,7 +61,19 @@ fn read_once(words: &[String]) -> Option<u32>
     read_cycles(words[2].as_bytes())
 }
 
-/// Whether these are the words `session IMAGE`.
+/// Whether these are the words `import IMAGE STORE`.
+#[tactic(auto, unfolding(crate::specs::Words::is_import))]
+fn is_import(words: &[String]) -> bool
+    ensures import { result ≡ is_import (map string_bytes words.now) }
+    ensures three { result ≡ true → length words.now ≡ 3 }
+{
+    words.len() == 3
+        && words[0].as_str() == "import"
+        && is_operand(words[1].as_bytes())
+        && is_operand(words[2].as_bytes())
+}
+
+/// Whether these are the words `session STORE`.
 #[tactic(auto, unfolding(crate::specs::Words::is_session))]
 fn is_session(words: &[String]) -> bool
     ensures session { result ≡ is_session (map string_bytes words.now) }
@@ -67,12 +82,12 @@ fn is_session(words: &[String]) -> bool
     words.len() == 2 && words[0].as_str() == "session" && is_operand(words[1].as_bytes())
 }
 
-/// The second word.
-fn image_name(words: &[String]) -> &str
-    requires { 2 ≤ length words.now }
-    ensures { result.now ≡ word_at (map string_bytes words.now) 1 }
+/// The word at this place, counted from 0.
+fn word_at(words: &[String], place: usize) -> &str
+    requires { place < length words.now }
+    ensures { result.now ≡ word_at (map string_bytes words.now) place }
 {
-    words[1].as_str()
+    words[place].as_str()
 }
 
 /// The command that the words say, without the program's name; none of words that say no command.
@@ -80,12 +95,17 @@ pub fn read_command(words: &[String]) -> Option<Command<'_>>
     ensures { option_map command_view result ≡ command_of (map string_bytes words.now) }
 {
     if let Some(cycles) = read_once(words) {
-        let image = image_name(words);
+        let image = word_at(words, 1);
         return Some(Command::Once { image, cycles });
     }
+    if is_import(words) {
+        let image = word_at(words, 1);
+        let store = word_at(words, 2);
+        return Some(Command::Import { image, store });
+    }
     if is_session(words) {
-        let image = image_name(words);
-        return Some(Command::Session { image });
+        let store = word_at(words, 1);
+        return Some(Command::Session { store });
     }
     None
 }

@@ -1,11 +1,11 @@
 // Opening a store, in steps of a few calls.
-ghost use Rattle.std.specs.Prelude.{◌≡◌, ◌≢◌, ◌≤◌, ◌<◌, ◌+◌, IsTrue, IfOk, IfErr, OnOk, MatchOption, length};
+ghost use Rattle.std.specs.Prelude.{◌≡◌, ◌≢◌, ◌≤◌, ◌<◌, ◌+◌, ◌^◌, IsTrue, IfOk, IfErr, OnOk, MatchOption, length};
 ghost use Rattle.st_outside.specs.Files.{bytes_of};
 ghost use Rattle.st_outside.specs.Runs.{LeavesOnly, ReadsAlike, Narrows, NarrowsBut, Changes, Spares, IsSynced};
 ghost use Rattle.st_store.specs.Names.{roots_file, IsNoFileOf};
 ghost use Rattle.st_store.specs.Roots.{Chooses, IsFresh};
 ghost use Rattle.st_store.specs.Refusals.{IsWrongNumber, Fit, RefusesFront, RefusesNumbers, Refuses, IsOfOpening, FaultHasCause};
-ghost use Rattle.st_store.specs.Stored.{Opens, IsKept, IsOpening, stored_in};
+ghost use Rattle.st_store.specs.Stored.{Opens, IsSound, IsKept, IsOpening, stored_in};
 ghost use Rattle.st_store.specs.declared.fault.StoreFault.TheVariants.{NotAStore, Disk};
 ghost use Rattle.st_store.specs.declared.fault.StorePlace.TheVariants.{Roots};
 
@@ -84,6 +84,8 @@ fn make_firm<H: Host>(
     ensures fit { OnOk result (IsTrue H.is_told
         → Fit chosen.now.root (length (bytes_of (H.files host.old image.now)))
         (length (bytes_of (H.files host.old changes.now)))) }
+    ensures base { OnOk result (chosen.now.root.base ≤ chosen.now.root.length) }
+    ensures limit { OnOk result (chosen.now.root.length ≤ 2 ^ 30) }
     ensures refused { IfErr result (λ e. IsTrue H.is_told
         → RefusesNumbers chosen.now.number chosen.now.root (length (bytes_of (H.files host.old image.now)))
         (length (bytes_of (H.files host.old changes.now))) e) }
@@ -109,6 +111,7 @@ fn make_firm<H: Host>(
 /// a copy of the chosen one, and the gate afresh. Without a fault of the disk a refusal has written nothing.
 pub fn open_store<H: Host>(alloc: Global, host: &mut H, name: &str) -> Result<Store, StoreFault>
     ensures named { IfOk result (λ store. store.name ≡ name.now) }
+    ensures sound { IfOk result (λ store. IsSound store.root) }
     ensures opens { IfOk result (λ store. IsTrue H.is_told
         → Opens name.now (stored_in name.now (H.files host.old) store.root) (H.files host.old)) }
     ensures kept { IfOk result (λ store. IsTrue H.is_told

@@ -9,9 +9,8 @@ returns g c = record {
     record {
       usage = c.tool.ensures.usage;
       once = c.tool.ensures.once;
+      imports = c.tool.ensures.imports;
       session = c.tool.ensures.session;
-      kind = c.tool.ensures.kind;
-      complete = c.tool.ensures.complete;
       cause = c.tool.ensures.cause;
       says = c.tool.ensures.says;
     },

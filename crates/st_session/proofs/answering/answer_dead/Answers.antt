@@ -1,23 +1,38 @@
-use Rattle.std.proofs.Common.{◌≡◌, refl, sym}
+use Rattle.std.proofs.Common.{◌≡◌, refl, sym, subst}
+use Rattle.std.specs.Prelude.{Err}
 use Rattle.st_model.specs.Text.{dead_text}
 use Rattle.st_course.specs.declared.status.Status.TheVariants as status
-use Rattle.st_course.specs.Courses.{replies}
-use Rattle.st_course.proofs.Joins.{obeys_as, obeys_end}
-use Rattle.st_session.specs.Points.{Point, gone}
-use Rattle.st_session.specs.Answers.{dead_line}
-use Rattle.st_session.proofs.Saying.{obeys_tells, when_ok}
+use Rattle.st_session.specs.Answers.{line_course}
+use Rattle.st_session.specs.Keeping.{in_a_store}
+use Rattle.st_session.specs.Points.{gone}
+use Rattle.st_session.proofs.Responding.{ends_now, line_said}
 use Rattle.st_session.proofs.Lines.{dead_is}
+use Rattle.st_session.proofs.Points.{GoesAs, dead_answers}
 use Rattle.st_session.proofs.answering.answer_dead.Goals as goal
 
-pub returns-in-End-clause-obeys : goal.returns-in-End-clause-obeys
-returns-in-End-clause-obeys g c = rw c.in-End.is (obeys_end g.H.Host (λ (p : Point (Unit {0})). p ≡ gone c.args.cause tt) status.Done (g.met.H.Host.only_now c.args.host.now))
+pub returns-in-End-clause-follows : goal.returns-in-End-clause-follows
+returns-in-End-clause-follows g c =
+    let m = c.args.machine.now in
+    let a = c.args.archive.now in
+    let h = c.args.host.now in
+    dead_answers g.M.Memory.view g.H.Host m a h m a h (λ being k. line_course in_a_store being k c.args.request) (Err status.Done) c.args.cause c.requires.dead
+    (λ k holds. rw c.in-End.is (ends_now g.M.Memory.view g.H.Host m a k status.Done h (g.met.H.Host.only_now h) holds))
 
-pub returns-in-Wrong-clause-obeys : goal.returns-in-Wrong-clause-obeys
-returns-in-Wrong-clause-obeys g c = rw c.in-Wrong.is (obeys_end g.H.Host (λ (p : Point (Unit {0})). p ≡ gone c.args.cause tt) (status.Script c.in-Wrong.line) (g.met.H.Host.only_now c.args.host.now))
+pub returns-in-Wrong-clause-follows : goal.returns-in-Wrong-clause-follows
+returns-in-Wrong-clause-follows g c =
+    let m = c.args.machine.now in
+    let a = c.args.archive.now in
+    let h = c.args.host.now in
+    dead_answers g.M.Memory.view g.H.Host m a h m a h (λ being k. line_course in_a_store being k c.args.request) (Err (status.Script c.in-Wrong.line)) c.args.cause c.requires.dead
+    (λ k holds. rw c.in-Wrong.is (ends_now g.M.Memory.view g.H.Host m a k (status.Script c.in-Wrong.line) h (g.met.H.Host.only_now h) holds))
 
-pub returns-in_default-clause-obeys : goal.returns-in_default-clause-obeys
-returns-in_default-clause-obeys g c =
-    let x : Point (Unit {0}) = gone c.args.cause tt in
-    obeys_as g.H.Host (λ (p : Point (Unit {0})). p ≡ x) (replies (dead_text 0 c.args.cause) x) (dead_line c.args.cause tt c.args.request) c.say_reply.result c.args.host.now c.say_reply.new.host
-    (sym (dead_is c.args.cause c.args.request c.in_default.not-End c.in_default.not-Wrong))
-    (obeys_tells g.H.Host (λ (p : Point (Unit {0})). p ≡ x) (dead_text 0 c.args.cause) x c.say_reply.result c.args.host.now c.say_reply.new.host c.say_reply.ensures (when_ok c.say_reply.result refl))
+pub returns-in_default-clause-follows : goal.returns-in_default-clause-follows
+returns-in_default-clause-follows g c =
+    let m = c.args.machine.now in
+    let a = c.args.archive.now in
+    let old = c.args.host.now in
+    let new = c.say_reply.new.host in
+    let cause = c.args.cause in
+    dead_answers g.M.Memory.view g.H.Host m a old m a new (λ being k. line_course in_a_store being k c.args.request) c.say_reply.result cause c.requires.dead
+    (λ k holds. subst (λ course. GoesAs g.M.Memory.view g.H.Host a.name m a old new k course c.say_reply.result) (sym (dead_is cause k c.args.request c.in_default.not-End c.in_default.not-Wrong))
+    (line_said g.M.Memory.view g.H.Host m a k (dead_text 0 cause) (gone cause k) old new c.say_reply.result c.say_reply.ensures holds c.requires.dead refl))

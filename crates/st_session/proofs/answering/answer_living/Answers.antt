@@ -1,18 +1,47 @@
-use Rattle.st_course.proofs.Joins.{obeys_end, obeys_none}
+use Rattle.std.proofs.Common.{refl}
+use Rattle.std.specs.Prelude.{Ok, Err}
 use Rattle.st_course.specs.declared.status.Status.TheVariants as status
+use Rattle.st_session.specs.Answers.{line_course}
+use Rattle.st_session.specs.Keeping.{in_a_store}
 use Rattle.st_session.specs.Points.{alive}
-use Rattle.st_session.specs.Standing.{StandsAt}
+use Rattle.st_session.proofs.Responding.{ends_now, stays_now}
 use Rattle.st_session.proofs.Lines.{says_lines}
+use Rattle.st_session.proofs.Points.{living_answers}
 use Rattle.st_session.proofs.answering.answer_living.Goals as goal
 
-pub returns-in-End-clause-obeys : goal.returns-in-End-clause-obeys
-returns-in-End-clause-obeys g c = λ s h. rw c.in-End.is (obeys_end g.H.Host (StandsAt g.M.Memory.view c.args.machine.now) status.Done (g.met.H.Host.only_now c.args.host.now))
+pub returns-in-End-clause-follows : goal.returns-in-End-clause-follows
+returns-in-End-clause-follows g c =
+    let m = c.args.machine.now in
+    let a = c.args.archive.now in
+    let h = c.args.host.now in
+    living_answers g.M.Memory.view g.H.Host m a h m a h (λ being k. line_course in_a_store being k c.args.request) (Err status.Done) c.requires.alive
+    (λ s k shows holds. rw c.in-End.is (ends_now g.M.Memory.view g.H.Host m a k status.Done h (g.met.H.Host.only_now h) holds))
 
-pub returns-in-Wrong-clause-obeys : goal.returns-in-Wrong-clause-obeys
-returns-in-Wrong-clause-obeys g c = λ s h. rw c.in-Wrong.is (obeys_end g.H.Host (StandsAt g.M.Memory.view c.args.machine.now) (status.Script c.in-Wrong.line) (g.met.H.Host.only_now c.args.host.now))
+pub returns-in-Wrong-clause-follows : goal.returns-in-Wrong-clause-follows
+returns-in-Wrong-clause-follows g c =
+    let m = c.args.machine.now in
+    let a = c.args.archive.now in
+    let h = c.args.host.now in
+    living_answers g.M.Memory.view g.H.Host m a h m a h (λ being k. line_course in_a_store being k c.args.request) (Err (status.Script c.in-Wrong.line)) c.requires.alive
+    (λ s k shows holds. rw c.in-Wrong.is (ends_now g.M.Memory.view g.H.Host m a k (status.Script c.in-Wrong.line) h (g.met.H.Host.only_now h) holds))
 
-pub returns-in-Define-clause-obeys : goal.returns-in-Define-clause-obeys
-returns-in-Define-clause-obeys g c = λ s h. rw c.in-Define.is (obeys_none g.H.Host (StandsAt g.M.Memory.view c.args.machine.now) (alive s tt) (g.met.H.Host.only_now c.args.host.now) (c.requires.alive, h))
+pub returns-in-Define-clause-follows : goal.returns-in-Define-clause-follows
+returns-in-Define-clause-follows g c =
+    let m = c.args.machine.now in
+    let a = c.args.archive.now in
+    let h = c.args.host.now in
+    living_answers g.M.Memory.view g.H.Host m a h m a h (λ being k. line_course in_a_store being k c.args.request) (Ok tt) c.requires.alive
+    (λ s k shows holds. rw c.in-Define.is (stays_now g.M.Memory.view g.H.Host m a k (alive s k) h (g.met.H.Host.only_now h) holds (c.requires.alive, shows) refl))
+
+pub returns-in-Run-clause-follows : goal.returns-in-Run-clause-follows
+returns-in-Run-clause-follows g c =
+    living_answers g.M.Memory.view g.H.Host c.args.machine.now c.args.archive.now c.args.host.now c.run.new.machine c.run.new.archive c.run.new.host (λ being k. line_course in_a_store being k c.args.request) c.run.result c.requires.alive
+    (λ s k shows holds. rw c.in-Run.is (c.run.ensures.follows (alive s k) (record { stands = (c.requires.alive, shows); holds = holds })))
+
+pub returns-in-Snapshot-clause-follows : goal.returns-in-Snapshot-clause-follows
+returns-in-Snapshot-clause-follows g c =
+    living_answers g.M.Memory.view g.H.Host c.args.machine.now c.args.archive.now c.args.host.now c.snapshot.new.machine c.snapshot.new.archive c.snapshot.new.host (λ being k. line_course in_a_store being k c.args.request) c.snapshot.result c.requires.alive
+    (λ s k shows holds. rw c.in-Snapshot.is (c.snapshot.ensures.follows (alive s k) (record { stands = (c.requires.alive, shows); holds = holds })))
 
 pub say_answer-requires-clause-saying : goal.say_answer-requires-clause-saying
-say_answer-requires-clause-saying g c = says_lines c.args.request c.in_default.not-End c.in_default.not-Wrong c.in_default.not-Define
+say_answer-requires-clause-saying g c = says_lines c.args.request c.in_default.not-Run c.in_default.not-Snapshot c.in_default.not-End c.in_default.not-Wrong c.in_default.not-Define

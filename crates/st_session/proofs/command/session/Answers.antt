@@ -1,35 +1,131 @@
+use Rattle.std.proofs.Common.{◌≡◌, ◌⊎◌, List, ℕ, ◌∙◌, IsTrue, inl, inr, refl, sym, ap, subst}
 use Rattle.st_outside.specs.Counts.{Rose}
-use Rattle.st_session.proofs.Commanded.{cause_before, calm_before, complete_over}
+use Rattle.st_outside.specs.Runs.{IsAtRest}
+use Rattle.st_store.specs.Names.{IsNoFileOf}
+use Rattle.st_course.specs.declared.status.Status.{Status}
+use Rattle.st_course.specs.declared.status.Status.TheVariants as status
+use Rattle.st_course.specs.Courses.{deeds_of, commits_of}
+use Rattle.st_course.specs.Statuses.{StatusHasCause}
+use Rattle.st_definition.specs.Defining.{installed}
+use Rattle.st_recover.specs.Commits.{Commit, OpensAs}
+use Rattle.st_recover.specs.Openings.{Reopens}
+use Rattle.st_recover.specs.Replays.{losses_of}
+use Rattle.st_recover.proofs.Determined.{same_commit}
+use Rattle.st_session.specs.Opening.{session_so_far_over}
+use Rattle.st_session.specs.StoreSessions.{course_over, commits_over, IsOfSession, KeepsPromise}
+use Rattle.st_session.proofs.Commanded.{one_opening, refused_promise, followed_promise, refused_line, refused_moments, spares_line, spares_then, cause_between, calm_between, opening_cause, open_at, ends_at, end_at, spares_told, kind_served, kind_refused, refused_whole}
 use Rattle.st_session.proofs.command.session.Goals as goal
 
-pub returns-clause-ends : goal.returns-clause-ends
-returns-clause-ends g c = λ told read. record {
-  closed = c.follow_image-status.new.host;
-  over = c.follow_image-status.ensures.over told read;
-  line = c.refuse.ensures.line;
-}
+pub returns-in-Ok-clause-ends : goal.returns-in-Ok-clause-ends
+returns-in-Ok-clause-ends g c =
+    let host = g.H.Host in
+    let name = c.args.store.now in
+    let o = c.in-Ok.opened in
+    let view = g.L.Done.Memory.view in
+    let opened = c.in-Ok.ensures in
+    let served = c.serve-status.ensures in
+    let line = c.refuse.ensures in
+    let e = c.serve-status.result in
+    let old = c.args.host.now in
+    let mid = c.reopen.new.host in
+    let closed = c.serve-status.new.host in
+    let new = c.refuse.new.host in
+    let script = g.S.Source.remaining c.args.script.now in
+    let reads = Rose (g.S.Source.read_faults c.args.script.now) (g.S.Source.read_faults c.serve-status.new.script) in
+    let is = λ (told : IsTrue host.is_told). open_at view host installed name old mid o (opened.opened told).0 (opened.opened told).1 in
+    let ends = λ (told : IsTrue host.is_told) (read : IsTrue g.S.Source.is_told).
+    let at = (opened.opened told).1 in
+    ends_at host (opened.opened told).0 script mid closed e o.store.name name o.replayed (losses_of o.lost.items) at.replayed opened.named at.count at.lost (served.ends read (opened.opened told).0 at.replayed.state (is told)) in
+    record {
+      over = λ told read. let at = (opened.opened told).1 in inr (record {
+        commit = (opened.opened told).0;
+        good = at.good;
+        opens = at.opens;
+        replayed = at.replayed;
+        reopens = at.reopens;
+        opened = mid;
+        quiet = opened.only.quiet told;
+        closed = closed;
+        ends = ends told read;
+        line = line.line;
+      });
+      promise = λ told read k good rest r reopens.
+          let at = (opened.opened told).1 in
+          let one = same_commit name (opened.opened told).0 k (host.files old) at.good good at.opens (rest.opens_as (host.files old) (λ n. g.met.H.Host.read_counts old n told)) in
+          let two = one_opening installed k at.replayed r (subst (λ (x : Commit). Reopens installed x at.replayed) one at.reopens) reopens in
+          subst (λ (l : List Commit). KeepsPromise host name l old new e) (λ i. commits_over (one i) (two i) script)
+          (followed_promise host name (opened.opened told).0 (course_over (opened.opened told).0 at.replayed script) (session_so_far_over at.replayed.count at.replayed.lost at.replayed.state (opened.opened told).0) script e old mid closed new
+          (subst (λ (x : Commit). IsAtRest host (OpensAs name) x old) (sym one) rest) (λ n. g.met.H.Host.read_counts old n told) (g.met.H.Host.counts_now closed) (opened.moments told) (opened.only.quiet told) told (ends told read) line.reads);
+      complete = λ told read whole calm.
+          let at = (opened.opened told).1 in
+          let one = same_commit name (opened.opened told).0 whole.commit (host.files old) at.good whole.good at.opens whole.opens in
+          let two = one_opening installed whole.commit at.replayed whole.replayed (subst (λ (x : Commit). Reopens installed x at.replayed) one at.reopens) whole.reopens in
+          served.complete read (opened.opened told).0 at.replayed.state (is told) (end_at (opened.opened told).0 whole.commit at.replayed whole.replayed o.replayed (losses_of o.lost.items) script one two at.count at.lost whole.ends)
+          (calm_between host reads old mid closed new opened.only.disk opened.only.say served.say_count line.reads.say line.disk calm);
+      kind = kind_served (IsTrue host.is_told) name (host.files old) e served.kind;
+      spares = λ read. spares_told host (IsNoFileOf name) old new (λ told. spares_line host name _ old closed new (spares_then host name old mid closed opened.spares (ends told read).spares) line.alike line.reads);
+    }
 
-pub returns-clause-complete : goal.returns-clause-complete
-returns-clause-complete g c = λ told read whole calm.
-    let reads = Rose (g.S.Source.read_faults c.args.script.now) (g.S.Source.read_faults c.follow_image-status.new.script) in
-    let run = c.follow_image-status.ensures in
-    complete_over g.H.Host reads g.I.Installer.install _ (g.S.Source.remaining c.args.script.now) c.args.host.now c.follow_image-status.new.host c.follow_image-status.result (run.over told read) run.cause whole
-    (calm_before g.H.Host reads c.args.host.now c.follow_image-status.new.host c.refuse.new.host run.reads.1.say c.refuse.ensures.reads.say c.refuse.ensures.disk calm)
+pub returns-in-Ok-clause-cause : goal.returns-in-Ok-clause-cause
+returns-in-Ok-clause-cause g c =
+    let host = g.H.Host in
+    let name = c.args.store.now in
+    let o = c.in-Ok.opened in
+    let view = g.L.Done.Memory.view in
+    let opened = c.in-Ok.ensures in
+    let served = c.serve-status.ensures in
+    let line = c.refuse.ensures in
+    let e = c.serve-status.result in
+    let old = c.args.host.now in
+    let mid = c.reopen.new.host in
+    let closed = c.serve-status.new.host in
+    let new = c.refuse.new.host in
+    let script = g.S.Source.remaining c.args.script.now in
+    let reads = Rose (g.S.Source.read_faults c.args.script.now) (g.S.Source.read_faults c.serve-status.new.script) in
+    cause_between host reads old mid closed new e opened.only.disk opened.only.say served.say_count line.reads.say line.disk served.cause
 
-pub returns-clause-cause : goal.returns-clause-cause
-returns-clause-cause g c =
-    let reads = Rose (g.S.Source.read_faults c.args.script.now) (g.S.Source.read_faults c.follow_image-status.new.script) in
-    let run = c.follow_image-status.ensures in
-    cause_before g.H.Host reads c.args.host.now c.follow_image-status.new.host c.refuse.new.host c.follow_image-status.result run.reads.1.say c.refuse.ensures.reads.say c.refuse.ensures.disk run.cause
+pub returns-in-Err-clause-ends : goal.returns-in-Err-clause-ends
+returns-in-Err-clause-ends g c =
+    let host = g.H.Host in
+    let name = c.args.store.now in
+    let opened = c.in-Err.ensures in
+    let fault = c.in-Err.fault in
+    let line = c.refuse-in-Err.ensures in
+    let e = c.opening_status-status.result in
+    let old = c.args.host.now in
+    let mid = c.reopen.new.host in
+    let new = c.refuse-in-Err.new.host in
+    let script = g.S.Source.remaining c.args.script.now in
+    let reads = Rose (g.S.Source.read_faults c.args.script.now) (g.S.Source.read_faults c.args.script.now) in
+    let is = c.opening_status-status.ensures in
+    record {
+      over = λ told read. inl (record {
+        fault = fault;
+        is = is;
+        why = opened.refused told;
+        line = refused_line host name e old mid new (λ told. opened.only.quiet told) opened.only.say line.line;
+        moments = refused_moments host name e old mid new (opened.moments told) (opened.leaves told) (opened.only.quiet told) told line.reads;
+      });
+      promise = λ told read k good rest r reopens.
+          refused_promise host name k (commits_of (deeds_of (course_over k r script))) e old mid new rest (λ n. g.met.H.Host.read_counts old n told) (opened.moments told) (opened.leaves told) (opened.only.quiet told) told line.reads;
+      complete = λ told read whole calm.
+          subst (λ (x : Status). (x ≡ status.Done) ⊎ (x ≡ status.OutOfMemory)) (sym is)
+          (refused_whole name (host.files old) whole.commit whole.opens host old mid whole.replayed fault whole.good whole.reopens opened.kind (opened.refused told) opened.cause (λ rose. calm.disk (subst (Rose (host.disk_faults old)) (sym line.disk) rose)));
+      kind = subst (IsOfSession (IsTrue host.is_told) name (host.files old)) (sym is) (kind_refused (IsTrue host.is_told) name (host.files old) fault opened.kind opened.refused);
+      spares = λ read. spares_line host name _ old mid new opened.spares line.alike line.reads;
+    }
 
-pub returns-clause-reads : goal.returns-clause-reads
-returns-clause-reads g c = record {
-  middle = c.follow_image-status.new.host;
-  text = c.follow_image-status.ensures.reads.0;
-  line = _;
-  first = c.follow_image-status.ensures.reads.1;
-  second = c.refuse.ensures.reads;
-}
-
-pub returns-clause-kind : goal.returns-clause-kind
-returns-clause-kind g c = c.follow_image-status.ensures.kind
+pub returns-in-Err-clause-cause : goal.returns-in-Err-clause-cause
+returns-in-Err-clause-cause g c =
+    let host = g.H.Host in
+    let name = c.args.store.now in
+    let opened = c.in-Err.ensures in
+    let fault = c.in-Err.fault in
+    let line = c.refuse-in-Err.ensures in
+    let e = c.opening_status-status.result in
+    let old = c.args.host.now in
+    let mid = c.reopen.new.host in
+    let new = c.refuse-in-Err.new.host in
+    let script = g.S.Source.remaining c.args.script.now in
+    let reads = Rose (g.S.Source.read_faults c.args.script.now) (g.S.Source.read_faults c.args.script.now) in
+    subst (StatusHasCause host reads old new) (sym c.opening_status-status.ensures) (opening_cause host reads old mid new fault opened.kind opened.cause line.disk)

@@ -1,14 +1,15 @@
+use Rattle.std.proofs.Common.{◌≡◌, subst}
 use Rattle.st_script.specs.Reading.{end_read}
 use Rattle.st_script.specs.Scripts.{asked_by}
-use Rattle.st_course.proofs.Joins.{obeys_as}
-use Rattle.st_session.specs.Keeping.{keeps_nothing}
+use Rattle.st_definition.specs.Defining.{installed}
+use Rattle.st_session.specs.Keeping.{in_a_store}
 use Rattle.st_session.specs.Sessions.{follow}
-use Rattle.st_session.specs.Standing.{StandsAt}
+use Rattle.st_session.proofs.Points.{GoesAs}
 use Rattle.st_session.proofs.reading.end.Goals as goal
 
-pub returns-clause-obeys : goal.returns-clause-obeys
-returns-clause-obeys g c = λ p stands.
-    let install = g.I.Installer.install in
-    obeys_as g.H.Host (StandsAt g.M.Memory.view c.answer_told.new.machine) (follow keeps_nothing install p (asked_by (c.finish-request.new.self, c.finish-request.result))) (follow keeps_nothing install p (asked_by (end_read c.args.reader.now))) c.answer_told.result c.args.host.now c.answer_told.new.host
-    (λ i. follow keeps_nothing install p (asked_by (c.finish-request.ensures.read i, c.finish-request.ensures.told i)))
-    (c.answer_told.ensures.obeys p stands)
+pub returns-clause-follows : goal.returns-clause-follows
+returns-clause-follows g c = λ p at.
+    let called = c.answer_told in
+    subst (λ x. GoesAs g.M.Memory.view g.H.Host c.args.archive.now.name called.new.machine called.new.archive c.args.host.now called.new.host p.kept x called.result)
+    (λ i. follow in_a_store installed p (asked_by (c.finish-request.ensures.read i, c.finish-request.ensures.told i)))
+    (called.ensures.follows p at)

@@ -1,62 +1,77 @@
-use Rattle.std.proofs.Common.{◌≡◌, refl, ◌∷◌, [], ◌++◌, ◌+◌, ◌∙◌, ◌<◌, ℕ, List, take, drop, get_or, length, sym, ap, arith, Ok, Err}
+use Rattle.std.proofs.Common.{◌≡◌, refl, ◌∷◌, [], ◌++◌, ◌+◌, ◌∙◌, ◌<◌, ℕ, List, take, drop, get_or, length, sym, ap, subst, arith, Ok, Err}
+use Rattle.std.specs.Prelude.{Result}
 use Rattle.std.proofs.lemmas.List.{take_more, take-append-drop}
 use Rattle.st_script.specs.Reading.{read}
 use Rattle.st_script.specs.Scripts.{told_from, read_through, asked_by}
-use Rattle.st_course.proofs.Joins.{obeys_as, obeys_none}
-use Rattle.st_session.specs.Standing.{StandsAt}
-use Rattle.st_session.proofs.Following.{follows, byte_more, told_err, read_both, counts_behind}
+use Rattle.st_store.specs.Names.{IsNoFileOf}
+use Rattle.st_course.specs.declared.status.Status.{Status}
+use Rattle.st_course.proofs.Joins.{counts_behind}
+use Rattle.st_definition.specs.Defining.{installed}
+use Rattle.st_recover.specs.Commits.{Commit, OpensAs}
+use Rattle.st_session.specs.Keeping.{in_a_store}
+use Rattle.st_session.specs.Points.{Point}
+use Rattle.st_session.specs.Sessions.{follow}
+use Rattle.st_session.specs.Standing.{IsAt}
+use Rattle.st_session.proofs.Following.{byte_more, told_err, read_both}
+use Rattle.st_session.proofs.Points.{GoesAs, named_so}
+use Rattle.st_session.proofs.Responding.{stays_now}
 use Rattle.st_session.proofs.reading.feed_all.Goals as goal
 
 pub loop-byte-init : goal.loop-byte-init
 loop-byte-init g c = record {
-  may_run = c.requires.may_run;
+  go_on = c.requires.go_on;
+  named = refl;
   reader = refl;
   disk = omega arith;
   say = omega arith;
-  obeys = λ p stands. obeys_none g.H.Host (StandsAt g.M.Memory.view c.args.machine.now) p (g.met.H.Host.only_now c.args.host.now) stands;
+  follows = λ p at. stays_now g.M.Memory.view g.H.Host c.args.machine.now c.args.archive.now p.kept p c.args.host.now (g.met.H.Host.only_now c.args.host.now) at.holds at.stands refl;
 }
 
 pub loop-byte-preserved : goal.loop-byte-preserved
 loop-byte-preserved g c =
-    let install = g.I.Installer.install in
+    let view = g.M.Memory.view in
+    let name = c.args.archive.now.name in
     let bytes = c.args.bytes.now in
     let i = c.loop-byte.byte-index in
     let r = c.args.reader.now in
     let b = get_or bytes i 0 in
     let l : i < length bytes = c.loop-byte-test.true in
-    let at = c.loop-byte.invariant.reader in
+    let inv = c.loop-byte.invariant in
+    let new = c.feed.new in
     record {
-      may_run = c.feed.ensures.may_run;
-      reader = c.feed.ensures.reader ∙ (ap (λ x. (read x b).0) at ∙ (sym (read_both r (take i bytes) (b ∷ [])) ∙ ap (read_through r) (sym (take_more bytes i 0 l))));
-      disk = omega (arith, c.loop-byte.invariant.disk, c.feed.ensures.counts.disk);
-      say = omega (arith, c.loop-byte.invariant.say, c.feed.ensures.counts.say);
-      obeys = λ p stands.
-          obeys_as g.H.Host (StandsAt g.M.Memory.view c.feed.new.machine) (follows install p (told_from r (take i bytes ++ b ∷ []))) (follows install p (told_from r (take (i + 1) bytes))) (Ok tt) c.args.host.now c.feed.new.host
-          (ap (λ t. follows install p (told_from r t)) (sym (take_more bytes i 0 l)))
-          (byte_more install g.H.Host (StandsAt g.M.Memory.view c.loop-byte.machine) (StandsAt g.M.Memory.view c.feed.new.machine) r p (take i bytes) b (Ok tt) c.args.host.now c.loop-byte.host c.feed.new.host
-          (c.loop-byte.invariant.obeys p stands)
-          (λ q there. obeys_as g.H.Host (StandsAt g.M.Memory.view c.feed.new.machine) (follows install q (asked_by (read c.loop-byte.reader b))) (follows install q (asked_by (read (read_through r (take i bytes)) b))) (Ok tt) c.loop-byte.host c.feed.new.host
-          (ap (λ x. follows install q (asked_by (read x b))) at) (c.in-Ok.ensures.obeys q there)));
+      go_on = c.in-Ok.ensures.go_on;
+      named = c.feed.ensures.named ∙ inv.named;
+      reader = c.feed.ensures.reader ∙ (ap (λ x. (read x b).0) inv.reader ∙ (sym (read_both r (take i bytes) (b ∷ [])) ∙ ap (read_through r) (sym (take_more bytes i 0 l))));
+      disk = omega (arith, inv.disk, c.feed.ensures.counts.disk);
+      say = omega (arith, inv.say, c.feed.ensures.counts.say);
+      follows = λ p at.
+          subst (λ t. GoesAs view g.H.Host name new.machine new.archive c.args.host.now new.host p.kept (follow in_a_store installed p (told_from r t)) (Ok tt)) (sym (take_more bytes i 0 l))
+          (byte_more in_a_store installed g.H.Host (OpensAs name) (IsNoFileOf name) (IsAt view g.H.Host c.loop-byte.machine c.loop-byte.archive c.loop-byte.host) (IsAt view g.H.Host new.machine new.archive new.host) r p (take i bytes) b (Ok tt) c.args.host.now c.loop-byte.host new.host
+          (inv.follows p at)
+          (λ q there. subst (λ x. GoesAs view g.H.Host name new.machine new.archive c.loop-byte.host new.host q.kept (follow in_a_store installed q (asked_by (read x b))) (Ok tt)) inv.reader
+          (named_so view g.H.Host c.loop-byte.archive.name name new.machine new.archive c.loop-byte.host new.host q.kept (follow in_a_store installed q (asked_by (read c.loop-byte.reader b))) (Ok tt) inv.named (c.in-Ok.ensures.follows q there))));
     }
 
-pub returns-in-Err-clause-obeys : goal.returns-in-Err-clause-obeys
-returns-in-Err-clause-obeys g c = λ p stands.
-    let install = g.I.Installer.install in
+pub returns-in-Err-clause-follows : goal.returns-in-Err-clause-follows
+returns-in-Err-clause-follows g c = λ p at.
+    let view = g.M.Memory.view in
+    let name = c.args.archive.now.name in
     let bytes = c.args.bytes.now in
     let i = c.loop-byte.byte-index in
     let r = c.args.reader.now in
     let b = get_or bytes i 0 in
     let l : i < length bytes = c.loop-byte-test.true in
-    let at = c.loop-byte.invariant.reader in
-    let on = StandsAt g.M.Memory.view c.feed.new.machine in
+    let inv = c.loop-byte.invariant in
+    let new = c.feed.new in
+    let e = c.in-Err.status in
+    let on = IsAt view g.H.Host new.machine new.archive new.host in
     let all : (take i bytes ++ b ∷ []) ++ drop (i + 1) bytes ≡ bytes = ap (λ (f : List ℕ). f ++ drop (i + 1) bytes) (sym (take_more bytes i 0 l)) ∙ take-append-drop (i + 1) bytes in
-    obeys_as g.H.Host on (follows install p (told_from r ((take i bytes ++ b ∷ []) ++ drop (i + 1) bytes))) (follows install p (told_from r bytes)) (Err c.in-Err.status) c.args.host.now c.feed.new.host
-    (ap (λ t. follows install p (told_from r t)) all)
-    (told_err install g.H.Host on on r p (take i bytes ++ b ∷ []) (drop (i + 1) bytes) c.in-Err.status c.args.host.now c.feed.new.host
-    (byte_more install g.H.Host (StandsAt g.M.Memory.view c.loop-byte.machine) on r p (take i bytes) b (Err c.in-Err.status) c.args.host.now c.loop-byte.host c.feed.new.host
-    (c.loop-byte.invariant.obeys p stands)
-    (λ q there. obeys_as g.H.Host on (follows install q (asked_by (read c.loop-byte.reader b))) (follows install q (asked_by (read (read_through r (take i bytes)) b))) (Err c.in-Err.status) c.loop-byte.host c.feed.new.host
-    (ap (λ x. follows install q (asked_by (read x b))) at) (c.in-Err.ensures.obeys q there))))
+    subst (λ t. GoesAs view g.H.Host name new.machine new.archive c.args.host.now new.host p.kept (follow in_a_store installed p (told_from r t)) (Err e)) all
+    (told_err in_a_store installed g.H.Host (OpensAs name) (IsNoFileOf name) on on r p (take i bytes ++ b ∷ []) (drop (i + 1) bytes) e c.args.host.now new.host
+    (byte_more in_a_store installed g.H.Host (OpensAs name) (IsNoFileOf name) (IsAt view g.H.Host c.loop-byte.machine c.loop-byte.archive c.loop-byte.host) on r p (take i bytes) b (Err e) c.args.host.now c.loop-byte.host new.host
+    (inv.follows p at)
+    (λ q there. subst (λ x. GoesAs view g.H.Host name new.machine new.archive c.loop-byte.host new.host q.kept (follow in_a_store installed q (asked_by (read x b))) (Err e)) inv.reader
+    (named_so view g.H.Host c.loop-byte.archive.name name new.machine new.archive c.loop-byte.host new.host q.kept (follow in_a_store installed q (asked_by (read c.loop-byte.reader b))) (Err e) inv.named (c.in-Err.ensures.follows q there)))))
 
 pub returns-in-Err-clause-counts : goal.returns-in-Err-clause-counts
 returns-in-Err-clause-counts g c =

@@ -1,15 +1,27 @@
 use Rattle.st_script.specs.Scripts.{told_from}
+use Rattle.st_store.specs.Names.{IsNoFileOf}
 use Rattle.st_course.specs.declared.status.Status.TheVariants as status
-use Rattle.st_session.specs.Standing.{StandsAt}
+use Rattle.st_definition.specs.Defining.{installed}
+use Rattle.st_recover.specs.Commits.{OpensAs}
+use Rattle.st_session.specs.Keeping.{in_a_store}
+use Rattle.st_session.specs.Standing.{IsAt}
 use Rattle.st_session.proofs.Following.{follows, ends_then, ends_err}
+use Rattle.st_session.proofs.Points.{at_rest}
 use Rattle.st_session.proofs.reading.feed_last.Goals as goal
 
-pub returns-in-Ok-clause-obeys : goal.returns-in-Ok-clause-obeys
-returns-in-Ok-clause-obeys g c = λ p stands.
-    ends_then g.I.Installer.install g.H.Host (StandsAt g.M.Memory.view c.feed_all.new.machine) (StandsAt g.M.Memory.view c.feed_all.new.machine) (follows g.I.Installer.install p (told_from c.args.reader.now c.args.bytes.now)) status.TooLarge c.args.host.now c.feed_all.new.host
-    (g.met.H.Host.only_now c.feed_all.new.host) (c.in-Ok.ensures.obeys p stands)
+pub returns-in-Ok-clause-follows : goal.returns-in-Ok-clause-follows
+returns-in-Ok-clause-follows g c = λ p at.
+    let view = g.M.Memory.view in
+    let name = c.args.archive.now.name in
+    let new = c.feed_all.new in
+    let on = IsAt view g.H.Host new.machine new.archive new.host in
+    ends_then in_a_store installed g.H.Host (OpensAs name) (IsNoFileOf name) on on p.kept (follows in_a_store installed p (told_from c.args.reader.now c.args.bytes.now)) status.TooLarge c.args.host.now new.host (g.met.H.Host.only_now new.host)
+    (λ q so. at_rest view g.H.Host name new.machine new.archive new.host q c.feed_all.ensures.named so) (c.in-Ok.ensures.follows p at)
 
-pub returns-in-Err-clause-obeys : goal.returns-in-Err-clause-obeys
-returns-in-Err-clause-obeys g c = λ p stands.
-    ends_err g.I.Installer.install g.H.Host (StandsAt g.M.Memory.view c.feed_all.new.machine) (StandsAt g.M.Memory.view c.feed_all.new.machine) (follows g.I.Installer.install p (told_from c.args.reader.now c.args.bytes.now)) status.TooLarge c.in-Err.status c.args.host.now c.feed_all.new.host
-    (c.in-Err.ensures.obeys p stands)
+pub returns-in-Err-clause-follows : goal.returns-in-Err-clause-follows
+returns-in-Err-clause-follows g c = λ p at.
+    let view = g.M.Memory.view in
+    let name = c.args.archive.now.name in
+    let new = c.feed_all.new in
+    let on = IsAt view g.H.Host new.machine new.archive new.host in
+    ends_err in_a_store installed g.H.Host (OpensAs name) (IsNoFileOf name) on on p.kept (follows in_a_store installed p (told_from c.args.reader.now c.args.bytes.now)) status.TooLarge c.in-Err.status c.args.host.now new.host (c.in-Err.ensures.follows p at)

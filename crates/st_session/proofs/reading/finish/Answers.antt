@@ -1,36 +1,51 @@
-use Rattle.std.proofs.Common.{ap, Ok, Err}
+use Rattle.std.proofs.Common.{ap, subst, ◌∙◌, Ok, Err}
 use Rattle.st_script.specs.Reading.{end_read}
 use Rattle.st_script.specs.Scripts.{asked_by}
+use Rattle.st_store.specs.Names.{IsNoFileOf}
 use Rattle.st_course.specs.declared.status.Status.TheVariants as status
-use Rattle.st_course.proofs.Joins.{obeys_as}
-use Rattle.st_session.specs.Standing.{StandsAt}
+use Rattle.st_definition.specs.Defining.{installed}
+use Rattle.st_recover.specs.Commits.{OpensAs}
+use Rattle.st_session.specs.Keeping.{in_a_store}
+use Rattle.st_session.specs.Sessions.{follow}
+use Rattle.st_session.specs.Standing.{IsAt}
 use Rattle.st_session.proofs.Following.{follows, ends_then, ends_err, end_then, end_err}
+use Rattle.st_session.proofs.Points.{GoesAs, named_so, at_rest}
 use Rattle.st_session.proofs.reading.finish.Goals as goal
 
-pub returns-in-Ok-end-clause-obeys : goal.returns-in-Ok-end-clause-obeys
-returns-in-Ok-end-clause-obeys g c = λ p stands.
-    let install = g.I.Installer.install in
-    let at = StandsAt g.M.Memory.view c.end.new.machine in
-    let on = StandsAt g.M.Memory.view c.end-in-Ok.new.machine in
+pub returns-in-Ok-end-clause-follows : goal.returns-in-Ok-end-clause-follows
+returns-in-Ok-end-clause-follows g c = λ p at.
+    let view = g.M.Memory.view in
+    let name = c.args.archive.now.name in
+    let one = c.end.new in
+    let two = c.end-in-Ok.new in
     let r = c.args.reader.now in
-    end_then install g.H.Host at on r p (Err status.Done) c.args.host.now c.end.new.host c.end-in-Ok.new.host (c.in-Ok.ensures.obeys p stands)
-    (λ q there. ends_then install g.H.Host on on (follows install q (asked_by (end_read (end_read r).0))) status.Done c.end.new.host c.end-in-Ok.new.host (g.met.H.Host.only_now c.end-in-Ok.new.host)
-    (obeys_as g.H.Host on (follows install q (asked_by (end_read c.end.new.reader))) (follows install q (asked_by (end_read (end_read r).0))) (Ok tt) c.end.new.host c.end-in-Ok.new.host
-    (ap (λ x. follows install q (asked_by (end_read x))) c.in-Ok.ensures.reader) (c.in-Ok-end.ensures.obeys q there)))
+    let here = IsAt view g.H.Host one.machine one.archive one.host in
+    let there = IsAt view g.H.Host two.machine two.archive two.host in
+    end_then in_a_store installed g.H.Host (OpensAs name) (IsNoFileOf name) here there r p (Err status.Done) c.args.host.now one.host two.host (c.in-Ok.ensures.follows p at)
+    (λ q stands. ends_then in_a_store installed g.H.Host (OpensAs name) (IsNoFileOf name) there there q.kept (follows in_a_store installed q (asked_by (end_read (end_read r).0))) status.Done one.host two.host (g.met.H.Host.only_now two.host)
+    (λ o so. at_rest view g.H.Host name two.machine two.archive two.host o (c.end-in-Ok.ensures.named ∙ c.end.ensures.named) so)
+    (subst (λ x. GoesAs view g.H.Host name two.machine two.archive one.host two.host q.kept (follow in_a_store installed q (asked_by (end_read x))) (Ok tt)) c.in-Ok.ensures.reader
+    (named_so view g.H.Host one.archive.name name two.machine two.archive one.host two.host q.kept (follow in_a_store installed q (asked_by (end_read one.reader))) (Ok tt) c.end.ensures.named (c.in-Ok-end.ensures.follows q stands))))
 
-pub returns-in-Err-end-clause-obeys : goal.returns-in-Err-end-clause-obeys
-returns-in-Err-end-clause-obeys g c = λ p stands.
-    let install = g.I.Installer.install in
-    let at = StandsAt g.M.Memory.view c.end.new.machine in
-    let on = StandsAt g.M.Memory.view c.end-in-Ok.new.machine in
+pub returns-in-Err-end-clause-follows : goal.returns-in-Err-end-clause-follows
+returns-in-Err-end-clause-follows g c = λ p at.
+    let view = g.M.Memory.view in
+    let name = c.args.archive.now.name in
+    let one = c.end.new in
+    let two = c.end-in-Ok.new in
     let r = c.args.reader.now in
-    end_then install g.H.Host at on r p (Err c.in-Err-end.status) c.args.host.now c.end.new.host c.end-in-Ok.new.host (c.in-Ok.ensures.obeys p stands)
-    (λ q there. ends_err install g.H.Host on on (follows install q (asked_by (end_read (end_read r).0))) status.Done c.in-Err-end.status c.end.new.host c.end-in-Ok.new.host
-    (obeys_as g.H.Host on (follows install q (asked_by (end_read c.end.new.reader))) (follows install q (asked_by (end_read (end_read r).0))) (Err c.in-Err-end.status) c.end.new.host c.end-in-Ok.new.host
-    (ap (λ x. follows install q (asked_by (end_read x))) c.in-Ok.ensures.reader) (c.in-Err-end.ensures.obeys q there)))
+    let e = c.in-Err-end.status in
+    let here = IsAt view g.H.Host one.machine one.archive one.host in
+    let there = IsAt view g.H.Host two.machine two.archive two.host in
+    end_then in_a_store installed g.H.Host (OpensAs name) (IsNoFileOf name) here there r p (Err e) c.args.host.now one.host two.host (c.in-Ok.ensures.follows p at)
+    (λ q stands. ends_err in_a_store installed g.H.Host (OpensAs name) (IsNoFileOf name) there there q.kept (follows in_a_store installed q (asked_by (end_read (end_read r).0))) status.Done e one.host two.host
+    (subst (λ x. GoesAs view g.H.Host name two.machine two.archive one.host two.host q.kept (follow in_a_store installed q (asked_by (end_read x))) (Err e)) c.in-Ok.ensures.reader
+    (named_so view g.H.Host one.archive.name name two.machine two.archive one.host two.host q.kept (follow in_a_store installed q (asked_by (end_read one.reader))) (Err e) c.end.ensures.named (c.in-Err-end.ensures.follows q stands))))
 
-pub returns-in-Err-clause-obeys : goal.returns-in-Err-clause-obeys
-returns-in-Err-clause-obeys g c = λ p stands.
-    let install = g.I.Installer.install in
-    let on = StandsAt g.M.Memory.view c.end.new.machine in
-    end_err install g.H.Host on on c.args.reader.now p c.in-Err.status c.args.host.now c.end.new.host (c.in-Err.ensures.obeys p stands)
+pub returns-in-Err-clause-follows : goal.returns-in-Err-clause-follows
+returns-in-Err-clause-follows g c = λ p at.
+    let view = g.M.Memory.view in
+    let name = c.args.archive.now.name in
+    let one = c.end.new in
+    let here = IsAt view g.H.Host one.machine one.archive one.host in
+    end_err in_a_store installed g.H.Host (OpensAs name) (IsNoFileOf name) here here c.args.reader.now p c.in-Err.status c.args.host.now one.host (c.in-Err.ensures.follows p at)

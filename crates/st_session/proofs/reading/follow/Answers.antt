@@ -4,21 +4,27 @@ use Rattle.std.proofs.Math.Seq.{take-append_seam}
 use Rattle.st_outside.proofs.Rising.{rose_second}
 use Rattle.st_script.specs.Reading.{line_from}
 use Rattle.st_script.specs.Scripts.{told_from, read_through, asked_at_end}
+use Rattle.st_store.specs.Names.{IsNoFileOf}
 use Rattle.st_course.specs.declared.status.Status.TheVariants as status
 use Rattle.st_course.specs.Courses.{ended, deeds_of}
 use Rattle.st_course.specs.Done.{Did}
-use Rattle.st_course.proofs.Joins.{obeys_as, obeys_none, obeys_fault, obeys_says}
+use Rattle.st_course.proofs.Joins.{obeys_did, counts_behind, counts_wider, no_read}
+use Rattle.st_definition.specs.Defining.{installed}
+use Rattle.st_recover.specs.Commits.{Commit, OpensAs}
+use Rattle.st_session.specs.Keeping.{in_a_store}
 use Rattle.st_session.specs.Points.{Point}
-use Rattle.st_session.specs.Sessions.{longest}
-use Rattle.st_session.specs.Standing.{StandsAt}
-use Rattle.st_session.proofs.Points.{some_point}
-use Rattle.st_session.proofs.Following.{follows, rest_of, told_more, read_both, rest_then, rest_err, rest_none, rest_over, says_behind, did_all, counts_behind, never_read, no_read}
+use Rattle.st_session.specs.Sessions.{follow, longest}
+use Rattle.st_session.specs.Standing.{IsAt}
+use Rattle.st_session.proofs.Following.{follows, rest_of, told_more, read_both, rest_then, rest_err, rest_none, rest_over}
+use Rattle.st_session.proofs.Points.{GoesAs, named_so}
+use Rattle.st_session.proofs.Responding.{stays_now, fails_now}
 use Rattle.st_session.proofs.reading.follow.Goals as goal
 
 pub pieces-init : goal.pieces-init
 pieces-init g c = record {
   size = refl;
-  may_run = c.requires.may_run;
+  go_on = c.requires.go_on;
+  named = refl;
   disk = omega arith;
   say = omega arith;
   reads = omega arith;
@@ -27,42 +33,40 @@ pieces-init g c = record {
     (λ told. refl),
     omega arith,
     c.requires.begins,
-    λ p stands. obeys_none g.H.Host (StandsAt g.M.Memory.view c.args.machine.now) p (g.met.H.Host.only_now c.args.host.now) stands,
+    λ p at. stays_now g.M.Memory.view g.H.Host c.args.machine.now c.args.archive.now p.kept p c.args.host.now (g.met.H.Host.only_now c.args.host.now) at.holds at.stands refl,
   );
 }
 
 -- THE SOURCE FAILS
 
-pub returns-in-Err-clause-obeys : goal.returns-in-Err-clause-obeys
-returns-in-Err-clause-obeys g c = λ told p stands.
-    let install = g.I.Installer.install in
-    let far = c.pieces.invariant.far in
+pub returns-in-Err-clause-follows : goal.returns-in-Err-clause-follows
+returns-in-Err-clause-follows g c = λ told p at.
+    let view = g.M.Memory.view in
+    let name = c.args.archive.now.name in
+    let inv = c.pieces.invariant in
+    let far = inv.far in
+    let m = c.pieces.machine in
+    let a = c.pieces.archive in
+    let now = c.pieces.host in
     let rest = g.S.Source.remaining c.pieces.script in
-    let at = StandsAt g.M.Memory.view c.pieces.machine in
-    obeys_as g.H.Host at (rest_of install (line_from 1) longest p (far.0 ++ rest)) (rest_of install (line_from 1) longest p (g.S.Source.remaining c.args.script.now)) (Err status.ReadFault) c.args.host.now c.pieces.host
-    (ap (rest_of install (line_from 1) longest p) (sym (far.1 told)))
-    (rest_then install g.H.Host at at (line_from 1) longest c.pieces.left p far.0 rest (Err status.ReadFault) c.args.host.now c.pieces.host c.pieces.host far.2 (far.4 p stands)
-    (λ q there. obeys_fault g.H.Host at (rest_of install (read_through (line_from 1) far.0) c.pieces.left q rest) status.ReadFault c.pieces.host tt (g.met.H.Host.only_now c.pieces.host)))
+    let here = IsAt view g.H.Host m a now in
+    subst (λ t. GoesAs view g.H.Host name m a c.args.host.now now p.kept (rest_of in_a_store installed (line_from 1) longest p t) (Err status.ReadFault)) (sym (far.1 told))
+    (rest_then in_a_store installed g.H.Host (OpensAs name) (IsNoFileOf name) here here (line_from 1) longest c.pieces.left p far.0 rest (Err status.ReadFault) c.args.host.now now now far.2 (far.4 p at)
+    (λ q there. named_so view g.H.Host a.name name m a now now q.kept (rest_of in_a_store installed (read_through (line_from 1) far.0) c.pieces.left q rest) (Err status.ReadFault) inv.named
+    (fails_now view g.H.Host m a q.kept (rest_of in_a_store installed (read_through (line_from 1) far.0) c.pieces.left q rest) status.ReadFault now tt (g.met.H.Host.only_now now) there.holds)))
 
 pub returns-in-Err-clause-told : goal.returns-in-Err-clause-told
-returns-in-Err-clause-told g c = λ fault told p stands.
-    let install = g.I.Installer.install in
+returns-in-Err-clause-told g c = λ fault told p at.
+    let view = g.M.Memory.view in
+    let name = c.args.archive.now.name in
     let far = c.pieces.invariant.far in
     let rest = g.S.Source.remaining c.pieces.script in
     let front : take (length far.0) (g.S.Source.remaining c.args.script.now) ≡ far.0 = ap (take (length far.0)) (far.1 told) ∙ take-append_seam far.0 rest in
     record {
       count = length far.0;
-      did = subst (λ (t : List ℕ). Did g.H.Host (deeds_of (follows install p (told_from (line_from 1) t))) c.args.host.now c.pieces.host) (sym front)
-          (did_all install g.H.Host (StandsAt g.M.Memory.view c.pieces.machine) (follows install p (told_from (line_from 1) far.0)) c.args.host.now c.pieces.host (far.4 p stands));
+      did = subst (λ (t : List ℕ). Did g.H.Host (OpensAs name) (IsNoFileOf name) p.kept (deeds_of (follows in_a_store installed p (told_from (line_from 1) t))) c.args.host.now c.pieces.host) (sym front)
+          (obeys_did g.H.Host (OpensAs name) (IsNoFileOf name) (IsAt view g.H.Host c.pieces.machine c.pieces.archive c.pieces.host) (λ (q : Point Commit). q.kept) p.kept (follows in_a_store installed p (told_from (line_from 1) far.0)) c.args.host.now c.pieces.host (far.4 p at));
     }
-
-pub returns-in-Err-clause-says : goal.returns-in-Err-clause-says
-returns-in-Err-clause-says g c =
-    let install = g.I.Installer.install in
-    let far = c.pieces.invariant.far in
-    let m = c.args.machine.now in
-    let some = some_point g.M.Memory.view m (g.met.M.Memory.whole m.memory) c.requires.may_run in
-    (_, obeys_says g.H.Host (StandsAt g.M.Memory.view c.pieces.machine) (follows install some.0 (told_from (line_from 1) far.0)) (Ok tt) c.args.host.now c.pieces.host (far.4 some.0 some.1))
 
 pub returns-in-Err-clause-counts : goal.returns-in-Err-clause-counts
 returns-in-Err-clause-counts g c = record {
@@ -75,25 +79,25 @@ returns-in-Err-clause-counts g c = record {
 
 pub returns-then-count-eq0 : goal.returns-then-count-eq0
 returns-then-count-eq0 g c =
-    let install = g.I.Installer.install in
-    let far = c.pieces.invariant.far in
-    let at = StandsAt g.M.Memory.view c.pieces.machine in
-    let on = StandsAt g.M.Memory.view c.finish.new.machine in
+    let view = g.M.Memory.view in
+    let name = c.args.archive.now.name in
+    let inv = c.pieces.invariant in
+    let far = inv.far in
+    let here = IsAt view g.H.Host c.pieces.machine c.pieces.archive c.pieces.host in
+    let new = c.finish.new in
+    let on = IsAt view g.H.Host new.machine new.archive new.host in
     let r = read_through (line_from 1) far.0 in
-    let end = λ (q : Point (Unit {0})). ended (follows install q (asked_at_end r)) status.Done in
-    let m = c.args.machine.now in
-    let some = some_point g.M.Memory.view m (g.met.M.Memory.whole m.memory) c.requires.may_run in
-    let ends = λ (q : Point (Unit {0})) (there : at q). obeys_as g.H.Host on (ended (follows install q (asked_at_end c.pieces.reader)) status.Done) (end q) c.finish.result c.pieces.host c.finish.new.host (ap (λ x. ended (follows install q (asked_at_end x)) status.Done) far.3) (c.finish.ensures.obeys q there) in
+    let result = c.finish.result in
     record {
-      obeys = λ told p stands.
-          let none : g.S.Source.remaining c.pieces.script ≡ [] = ⊎_elim (λ z. absurd (omega (arith, z, c.pieces.invariant.size))) (λ e. e) (c.in-Ok.ensures.end told c.if-count-eq0.true) in
-          obeys_as g.H.Host on (rest_of install (line_from 1) longest p (far.0 ++ [])) (rest_of install (line_from 1) longest p (g.S.Source.remaining c.args.script.now)) c.finish.result c.args.host.now c.finish.new.host
-          (ap (rest_of install (line_from 1) longest p) (sym (far.1 told ∙ ap (λ (x : List ℕ). far.0 ++ x) none)))
-          (rest_then install g.H.Host at on (line_from 1) longest c.pieces.left p far.0 [] c.finish.result c.args.host.now c.pieces.host c.finish.new.host far.2 (far.4 p stands)
-          (λ q there. obeys_as g.H.Host on (end q) (rest_of install r c.pieces.left q []) c.finish.result c.pieces.host c.finish.new.host (sym (rest_none install r c.pieces.left q)) (ends q there)));
-      told = λ fault told p stands. absurd (no_read g.H.Host c.pieces.host c.finish.new.host c.finish.result c.finish.ensures.counts fault);
-      says = says_behind install g.H.Host at on (follows install some.0 (told_from (line_from 1) far.0)) end c.finish.result c.args.host.now c.pieces.host c.finish.new.host (far.4 some.0 some.1) ends;
-      counts = never_read g.H.Host _ c.args.host.now c.finish.new.host c.finish.result (counts_behind g.H.Host ⊥ c.args.host.now c.pieces.host c.finish.new.host c.finish.result c.pieces.invariant.disk c.pieces.invariant.say c.finish.ensures.counts);
+      follows = λ told p at.
+          let none : g.S.Source.remaining c.pieces.script ≡ [] = ⊎_elim (λ z. absurd (omega (arith, z, inv.size))) (λ e. e) (c.in-Ok.ensures.end told c.if-count-eq0.true) in
+          subst (λ t. GoesAs view g.H.Host name new.machine new.archive c.args.host.now new.host p.kept (rest_of in_a_store installed (line_from 1) longest p t) result) (sym (far.1 told ∙ ap (λ (x : List ℕ). far.0 ++ x) none))
+          (rest_then in_a_store installed g.H.Host (OpensAs name) (IsNoFileOf name) here on (line_from 1) longest c.pieces.left p far.0 [] result c.args.host.now c.pieces.host new.host far.2 (far.4 p at)
+          (λ q there. subst (λ x. GoesAs view g.H.Host name new.machine new.archive c.pieces.host new.host q.kept x result) (sym (rest_none in_a_store installed r c.pieces.left q))
+          (subst (λ x. GoesAs view g.H.Host name new.machine new.archive c.pieces.host new.host q.kept (ended (follows in_a_store installed q (asked_at_end x)) status.Done) result) far.3
+          (named_so view g.H.Host c.pieces.archive.name name new.machine new.archive c.pieces.host new.host q.kept (ended (follows in_a_store installed q (asked_at_end c.pieces.reader)) status.Done) result inv.named (c.finish.ensures.follows q there)))));
+      told = λ fault told p at. absurd (no_read g.H.Host c.pieces.host new.host result c.finish.ensures.counts fault);
+      counts = counts_wider g.H.Host _ c.args.host.now new.host result (counts_behind g.H.Host ⊥ c.args.host.now c.pieces.host new.host result inv.disk inv.say c.finish.ensures.counts);
       served = c.finish.ensures.served;
     }
 
@@ -101,87 +105,91 @@ returns-then-count-eq0 g c =
 
 pub returns-then-count-left : goal.returns-then-count-left
 returns-then-count-left g c =
-    let install = g.I.Installer.install in
-    let far = c.pieces.invariant.far in
-    let at = StandsAt g.M.Memory.view c.pieces.machine in
-    let on = StandsAt g.M.Memory.view c.feed_last.new.machine in
+    let view = g.M.Memory.view in
+    let name = c.args.archive.now.name in
+    let inv = c.pieces.invariant in
+    let far = inv.far in
+    let here = IsAt view g.H.Host c.pieces.machine c.pieces.archive c.pieces.host in
+    let new = c.feed_last.new in
+    let on = IsAt view g.H.Host new.machine new.archive new.host in
     let r = read_through (line_from 1) far.0 in
+    let result = c.feed_last.result in
     let bytes = take c.in-Ok.count c.take.new.into in
     let rest = g.S.Source.remaining c.take.new.self in
     let last = take c.pieces.left bytes in
-    let end = λ (q : Point (Unit {0})). ended (follows install q (told_from r last)) status.TooLarge in
-    let m = c.args.machine.now in
-    let some = some_point g.M.Memory.view m (g.met.M.Memory.whole m.memory) c.requires.may_run in
-    let within : c.in-Ok.count ≤ length c.take.new.into = omega (arith, c.in-Ok.ensures.within, c.pieces.invariant.size, c.if-count-eq0.array_long) in
+    let within : c.in-Ok.count ≤ length c.take.new.into = omega (arith, c.in-Ok.ensures.within, inv.size, c.if-count-eq0.array_long) in
     let size : length bytes ≡ c.in-Ok.count = length-take-le c.in-Ok.count c.take.new.into within in
     let more : c.pieces.left < length bytes = omega (arith, size, c.if-count-left.true) in
-    let ends = λ (q : Point (Unit {0})) (there : at q). obeys_as g.H.Host on (ended (follows install q (told_from c.pieces.reader last)) status.TooLarge) (end q) c.feed_last.result c.pieces.host c.feed_last.new.host (ap (λ x. ended (follows install q (told_from x last)) status.TooLarge) far.3) (c.feed_last.ensures.obeys q there) in
     record {
-      obeys = λ told p stands.
-          obeys_as g.H.Host on (rest_of install (line_from 1) longest p (far.0 ++ (bytes ++ rest))) (rest_of install (line_from 1) longest p (g.S.Source.remaining c.args.script.now)) c.feed_last.result c.args.host.now c.feed_last.new.host
-          (ap (rest_of install (line_from 1) longest p) (sym (far.1 told ∙ ap (λ (x : List ℕ). far.0 ++ x) (c.in-Ok.ensures.takes told))))
-          (rest_then install g.H.Host at on (line_from 1) longest c.pieces.left p far.0 (bytes ++ rest) c.feed_last.result c.args.host.now c.pieces.host c.feed_last.new.host far.2 (far.4 p stands)
-          (λ q there. obeys_as g.H.Host on (end q) (rest_of install r c.pieces.left q (bytes ++ rest)) c.feed_last.result c.pieces.host c.feed_last.new.host (sym (rest_over install r c.pieces.left q bytes rest more)) (ends q there)));
-      told = λ fault told p stands. absurd (no_read g.H.Host c.pieces.host c.feed_last.new.host c.feed_last.result c.feed_last.ensures.counts fault);
-      says = says_behind install g.H.Host at on (follows install some.0 (told_from (line_from 1) far.0)) end c.feed_last.result c.args.host.now c.pieces.host c.feed_last.new.host (far.4 some.0 some.1) ends;
-      counts = never_read g.H.Host _ c.args.host.now c.feed_last.new.host c.feed_last.result (counts_behind g.H.Host ⊥ c.args.host.now c.pieces.host c.feed_last.new.host c.feed_last.result c.pieces.invariant.disk c.pieces.invariant.say c.feed_last.ensures.counts);
+      follows = λ told p at.
+          subst (λ t. GoesAs view g.H.Host name new.machine new.archive c.args.host.now new.host p.kept (rest_of in_a_store installed (line_from 1) longest p t) result) (sym (far.1 told ∙ ap (λ (x : List ℕ). far.0 ++ x) (c.in-Ok.ensures.takes told)))
+          (rest_then in_a_store installed g.H.Host (OpensAs name) (IsNoFileOf name) here on (line_from 1) longest c.pieces.left p far.0 (bytes ++ rest) result c.args.host.now c.pieces.host new.host far.2 (far.4 p at)
+          (λ q there. subst (λ x. GoesAs view g.H.Host name new.machine new.archive c.pieces.host new.host q.kept x result) (sym (rest_over in_a_store installed r c.pieces.left q bytes rest more))
+          (subst (λ x. GoesAs view g.H.Host name new.machine new.archive c.pieces.host new.host q.kept (ended (follows in_a_store installed q (told_from x last)) status.TooLarge) result) far.3
+          (named_so view g.H.Host c.pieces.archive.name name new.machine new.archive c.pieces.host new.host q.kept (ended (follows in_a_store installed q (told_from c.pieces.reader last)) status.TooLarge) result inv.named (c.feed_last.ensures.follows q there)))));
+      told = λ fault told p at. absurd (no_read g.H.Host c.pieces.host new.host result c.feed_last.ensures.counts fault);
+      counts = counts_wider g.H.Host _ c.args.host.now new.host result (counts_behind g.H.Host ⊥ c.args.host.now c.pieces.host new.host result inv.disk inv.say c.feed_last.ensures.counts);
       served = c.feed_last.ensures.served;
     }
 
--- THESE BYTES ARE FOLLOWED
+-- A PIECE
 
 pub returns-in-Err-feed_all : goal.returns-in-Err-feed_all
 returns-in-Err-feed_all g c =
-    let install = g.I.Installer.install in
-    let far = c.pieces.invariant.far in
-    let at = StandsAt g.M.Memory.view c.pieces.machine in
-    let on = StandsAt g.M.Memory.view c.feed_all.new.machine in
+    let view = g.M.Memory.view in
+    let name = c.args.archive.now.name in
+    let inv = c.pieces.invariant in
+    let far = inv.far in
+    let here = IsAt view g.H.Host c.pieces.machine c.pieces.archive c.pieces.host in
+    let new = c.feed_all.new in
+    let on = IsAt view g.H.Host new.machine new.archive new.host in
     let r = read_through (line_from 1) far.0 in
+    let e = c.in-Err-feed_all.status in
     let bytes = take c.in-Ok.count c.take.new.into in
     let rest = g.S.Source.remaining c.take.new.self in
-    let m = c.args.machine.now in
-    let some = some_point g.M.Memory.view m (g.met.M.Memory.whole m.memory) c.requires.may_run in
-    let e = c.in-Err-feed_all.status in
-    let fed = λ (q : Point (Unit {0})) (there : at q). obeys_as g.H.Host on (follows install q (told_from c.pieces.reader bytes)) (follows install q (told_from r bytes)) (Err e) c.pieces.host c.feed_all.new.host (ap (λ x. follows install q (told_from x bytes)) far.3) (c.in-Err-feed_all.ensures.obeys q there) in
-    let within : c.in-Ok.count ≤ length c.take.new.into = omega (arith, c.in-Ok.ensures.within, c.pieces.invariant.size, c.if-count-eq0.array_long) in
+    let within : c.in-Ok.count ≤ length c.take.new.into = omega (arith, c.in-Ok.ensures.within, inv.size, c.if-count-eq0.array_long) in
     let size : length bytes ≡ c.in-Ok.count = length-take-le c.in-Ok.count c.take.new.into within in
     let few : length bytes ≤ c.pieces.left = omega (arith, size, c.if-count-left.false) in
     record {
-      obeys = λ told p stands.
-          obeys_as g.H.Host on (rest_of install (line_from 1) longest p (far.0 ++ (bytes ++ rest))) (rest_of install (line_from 1) longest p (g.S.Source.remaining c.args.script.now)) (Err e) c.args.host.now c.feed_all.new.host
-          (ap (rest_of install (line_from 1) longest p) (sym (far.1 told ∙ ap (λ (x : List ℕ). far.0 ++ x) (c.in-Ok.ensures.takes told))))
-          (rest_then install g.H.Host at on (line_from 1) longest c.pieces.left p far.0 (bytes ++ rest) (Err e) c.args.host.now c.pieces.host c.feed_all.new.host far.2 (far.4 p stands)
-          (λ q there. rest_err install g.H.Host on on r c.pieces.left q bytes rest e c.pieces.host c.feed_all.new.host few (fed q there)));
-      told = λ fault told p stands. absurd (no_read g.H.Host c.pieces.host c.feed_all.new.host (Err e) c.in-Err-feed_all.ensures.counts fault);
-      says = says_behind install g.H.Host at on (follows install some.0 (told_from (line_from 1) far.0)) (λ q. follows install q (told_from r bytes)) (Err e) c.args.host.now c.pieces.host c.feed_all.new.host (far.4 some.0 some.1) fed;
-      counts = never_read g.H.Host _ c.args.host.now c.feed_all.new.host (Err e) (counts_behind g.H.Host ⊥ c.args.host.now c.pieces.host c.feed_all.new.host (Err e) c.pieces.invariant.disk c.pieces.invariant.say c.in-Err-feed_all.ensures.counts);
+      follows = λ told p at.
+          subst (λ t. GoesAs view g.H.Host name new.machine new.archive c.args.host.now new.host p.kept (rest_of in_a_store installed (line_from 1) longest p t) (Err e)) (sym (far.1 told ∙ ap (λ (x : List ℕ). far.0 ++ x) (c.in-Ok.ensures.takes told)))
+          (rest_then in_a_store installed g.H.Host (OpensAs name) (IsNoFileOf name) here on (line_from 1) longest c.pieces.left p far.0 (bytes ++ rest) (Err e) c.args.host.now c.pieces.host new.host far.2 (far.4 p at)
+          (λ q there. rest_err in_a_store installed g.H.Host (OpensAs name) (IsNoFileOf name) on on r c.pieces.left q bytes rest e c.pieces.host new.host few
+          (subst (λ x. GoesAs view g.H.Host name new.machine new.archive c.pieces.host new.host q.kept (follow in_a_store installed q (told_from x bytes)) (Err e)) far.3
+          (named_so view g.H.Host c.pieces.archive.name name new.machine new.archive c.pieces.host new.host q.kept (follow in_a_store installed q (told_from c.pieces.reader bytes)) (Err e) inv.named (c.in-Err-feed_all.ensures.follows q there)))));
+      told = λ fault told p at. absurd (no_read g.H.Host c.pieces.host new.host (Err e) c.in-Err-feed_all.ensures.counts fault);
+      counts = counts_wider g.H.Host _ c.args.host.now new.host (Err e) (counts_behind g.H.Host ⊥ c.args.host.now c.pieces.host new.host (Err e) inv.disk inv.say c.in-Err-feed_all.ensures.counts);
       served = c.in-Err-feed_all.ensures.served;
     }
 
 pub pieces-preserved : goal.pieces-preserved
 pieces-preserved g c =
-    let install = g.I.Installer.install in
-    let far = c.pieces.invariant.far in
-    let at = StandsAt g.M.Memory.view c.pieces.machine in
-    let on = StandsAt g.M.Memory.view c.feed_all.new.machine in
-    let r = read_through (line_from 1) far.0 in
+    let view = g.M.Memory.view in
+    let name = c.args.archive.now.name in
+    let inv = c.pieces.invariant in
+    let far = inv.far in
+    let here = IsAt view g.H.Host c.pieces.machine c.pieces.archive c.pieces.host in
+    let new = c.feed_all.new in
+    let on = IsAt view g.H.Host new.machine new.archive new.host in
     let bytes = take c.in-Ok.count c.take.new.into in
     let rest = g.S.Source.remaining c.take.new.self in
-    let within : c.in-Ok.count ≤ length c.take.new.into = omega (arith, c.in-Ok.ensures.within, c.pieces.invariant.size, c.if-count-eq0.array_long) in
+    let within : c.in-Ok.count ≤ length c.take.new.into = omega (arith, c.in-Ok.ensures.within, inv.size, c.if-count-eq0.array_long) in
     let size : length bytes ≡ c.in-Ok.count = length-take-le c.in-Ok.count c.take.new.into within in
     let few : c.in-Ok.count ≤ c.pieces.left = c.if-count-left.false in
     record {
-      size = c.take.auto.into ∙ c.pieces.invariant.size;
-      may_run = c.feed_all.ensures.may_run;
-      disk = omega (arith, c.pieces.invariant.disk, c.in-Ok-feed_all.ensures.counts.disk);
-      say = omega (arith, c.pieces.invariant.say, c.in-Ok-feed_all.ensures.counts.say);
-      reads = omega (arith, c.pieces.invariant.reads, c.in-Ok.ensures.cause.later);
+      size = c.take.auto.into ∙ inv.size;
+      go_on = c.in-Ok-feed_all.ensures.go_on;
+      named = c.feed_all.ensures.named ∙ inv.named;
+      disk = omega (arith, inv.disk, c.in-Ok-feed_all.ensures.counts.disk);
+      say = omega (arith, inv.say, c.in-Ok-feed_all.ensures.counts.say);
+      reads = omega (arith, inv.reads, c.in-Ok.ensures.cause.later);
       far = (
         far.0 ++ bytes,
         (λ told. far.1 told ∙ (ap (λ (x : List ℕ). far.0 ++ x) (c.in-Ok.ensures.takes told) ∙ sym (append_assoc far.0 bytes rest))),
         (let both = length-append far.0 bytes in let sum = far.2 in omega (arith, both, sum, size, few)),
         c.in-Ok-feed_all.ensures.reader ∙ (ap (λ x. read_through x bytes) far.3 ∙ sym (read_both (line_from 1) far.0 bytes)),
-        λ p stands. told_more install g.H.Host at on (line_from 1) p far.0 bytes (Ok tt) c.args.host.now c.pieces.host c.feed_all.new.host (far.4 p stands)
-            (λ q there. obeys_as g.H.Host on (follows install q (told_from c.pieces.reader bytes)) (follows install q (told_from r bytes)) (Ok tt) c.pieces.host c.feed_all.new.host (ap (λ x. follows install q (told_from x bytes)) far.3) (c.in-Ok-feed_all.ensures.obeys q there)),
+        λ p at. told_more in_a_store installed g.H.Host (OpensAs name) (IsNoFileOf name) here on (line_from 1) p far.0 bytes (Ok tt) c.args.host.now c.pieces.host new.host (far.4 p at)
+            (λ q there. subst (λ x. GoesAs view g.H.Host name new.machine new.archive c.pieces.host new.host q.kept (follow in_a_store installed q (told_from x bytes)) (Ok tt)) far.3
+            (named_so view g.H.Host c.pieces.archive.name name new.machine new.archive c.pieces.host new.host q.kept (follow in_a_store installed q (told_from c.pieces.reader bytes)) (Ok tt) inv.named (c.in-Ok-feed_all.ensures.follows q there))),
       );
     }

@@ -1,44 +1,66 @@
 use Rattle.std.proofs.Common.{◌∷◌, [], refl, Err}
-use Rattle.st_outside.proofs.Telling.{says_then}
+use Rattle.st_store.specs.Names.{IsNoFileOf}
+use Rattle.st_course.specs.declared.status.Status.TheVariants as status
 use Rattle.st_course.specs.Courses.{Reply}
-use Rattle.st_course.proofs.Joins.{obeys_behind, obeys_begun}
-use Rattle.st_session.specs.Keeping.{keeps_nothing}
-use Rattle.st_session.specs.Replies.{opened_text}
+use Rattle.st_course.proofs.Joins.{obeys_behind, counts_behind, counts_wider, no_read}
+use Rattle.st_definition.specs.Defining.{installed}
+use Rattle.st_recover.specs.Commits.{Commit, OpensAs}
+use Rattle.st_recover.specs.Replays.{losses_of}
+use Rattle.st_session.specs.Keeping.{in_a_store}
+use Rattle.st_session.specs.Points.{Point}
+use Rattle.st_session.specs.Replies.{opening_text}
 use Rattle.st_session.specs.Sessions.{follow_script, follow_told, session}
-use Rattle.st_session.specs.Standing.{StandsAt}
-use Rattle.st_session.proofs.Ending.{did_reply, began_reply, told_behind}
-use Rattle.st_session.proofs.Following.{counts_behind, never_read, no_read}
-use Rattle.st_session.proofs.Saying.{say_fault}
+use Rattle.st_session.specs.Standing.{IsAt}
+use Rattle.st_session.proofs.Ending.{did_reply, unsaid_before, told_behind}
+use Rattle.st_session.proofs.Holding.{holds_said, holds_rest}
+use Rattle.st_session.proofs.Responding.{fails_now}
 use Rattle.st_session.proofs.reading.open.Goals as goal
 
-pub returns-in-Ok-clause-obeys : goal.returns-in-Ok-clause-obeys
+pub returns-in-Ok-say_opening-clause-follows : goal.returns-in-Ok-say_opening-clause-follows
 unfolding session
-returns-in-Ok-clause-obeys g c = λ told p stands.
-    obeys_behind g.H.Host (StandsAt g.M.Memory.view c.follow.new.machine) (Reply (opened_text 0 0) ∷ []) (follow_script keeps_nothing g.I.Installer.install p (g.S.Source.remaining c.args.script.now)) c.follow.result c.args.host.now c.say_reply.new.host c.follow.new.host
-    (did_reply g.H.Host (opened_text 0 0) c.args.host.now c.say_reply.new.host c.in-Ok.ensures) (c.follow.ensures.obeys told p stands)
+returns-in-Ok-say_opening-clause-follows g c = λ told p at.
+    let view = g.M.Memory.view in
+    let a = c.args.archive.now in
+    let name = a.name in
+    let text = opening_text c.args.replayed (losses_of c.args.lost.now) in
+    let mid = c.say_opening.new.host in
+    let new = c.follow.new in
+    let said = c.in-Ok-say_opening.ensures in
+    obeys_behind g.H.Host (OpensAs name) (IsNoFileOf name) (IsAt view g.H.Host new.machine new.archive new.host) (λ (q : Point Commit). q.kept) p.kept (Reply text ∷ []) (follow_script in_a_store installed p (g.S.Source.remaining c.args.script.now)) c.follow.result c.args.host.now mid new.host
+    (did_reply g.H.Host (OpensAs name) (IsNoFileOf name) p.kept text c.args.host.now mid said (holds_rest g.H.Host a p.kept at.holds))
+    (c.follow.ensures.follows told p (record { stands = at.stands; holds = holds_said g.H.Host a p.kept said.says at.holds }))
 
-pub returns-in-Ok-clause-told : goal.returns-in-Ok-clause-told
-returns-in-Ok-clause-told g c = λ fault told p stands.
-    told_behind g.H.Host (Reply (opened_text 0 0) ∷ []) (follow_told keeps_nothing g.I.Installer.install p) (g.S.Source.remaining c.args.script.now) c.args.host.now c.say_reply.new.host c.follow.new.host
-    (did_reply g.H.Host (opened_text 0 0) c.args.host.now c.say_reply.new.host c.in-Ok.ensures) (c.follow.ensures.told fault told p stands)
+pub returns-in-Ok-say_opening-clause-told : goal.returns-in-Ok-say_opening-clause-told
+returns-in-Ok-say_opening-clause-told g c = λ fault told p at.
+    let a = c.args.archive.now in
+    let name = a.name in
+    let text = opening_text c.args.replayed (losses_of c.args.lost.now) in
+    let mid = c.say_opening.new.host in
+    let said = c.in-Ok-say_opening.ensures in
+    told_behind g.H.Host (OpensAs name) (IsNoFileOf name) p.kept (Reply text ∷ []) (follow_told in_a_store installed p) (g.S.Source.remaining c.args.script.now) c.args.host.now mid c.follow.new.host
+    (did_reply g.H.Host (OpensAs name) (IsNoFileOf name) p.kept text c.args.host.now mid said (holds_rest g.H.Host a p.kept at.holds))
+    (c.follow.ensures.told fault told p (record { stands = at.stands; holds = holds_said g.H.Host a p.kept said.says at.holds }))
 
-pub returns-in-Ok-clause-says : goal.returns-in-Ok-clause-says
-returns-in-Ok-clause-says g c = (_, says_then c.in-Ok.ensures.says c.in-Ok.ensures.all c.follow.ensures.says.1 refl)
+pub returns-in-Ok-say_opening-clause-counts : goal.returns-in-Ok-say_opening-clause-counts
+returns-in-Ok-say_opening-clause-counts g c = counts_behind g.H.Host _ c.args.host.now c.say_opening.new.host c.follow.new.host c.follow.result c.in-Ok-say_opening.ensures.counts.disk c.in-Ok-say_opening.ensures.counts.say c.follow.ensures.counts
 
-pub returns-in-Ok-clause-counts : goal.returns-in-Ok-clause-counts
-returns-in-Ok-clause-counts g c = counts_behind g.H.Host _ c.args.host.now c.say_reply.new.host c.follow.new.host c.follow.result c.in-Ok.ensures.counts.disk c.in-Ok.ensures.counts.say c.follow.ensures.counts
-
-pub returns-in-Err-clause-obeys : goal.returns-in-Err-clause-obeys
+pub returns-clause-follows : goal.returns-clause-follows
 unfolding session
-returns-in-Err-clause-obeys g c = λ told p stands.
-    obeys_begun g.H.Host (StandsAt g.M.Memory.view c.args.machine.now) (Reply (opened_text 0 0) ∷ []) (follow_script keeps_nothing g.I.Installer.install p (g.S.Source.remaining c.args.script.now)) c.in-Err.status c.args.host.now c.say_reply.new.host
-    (say_fault g.H.Host c.in-Err.status c.in-Err.ensures.fault) (began_reply g.H.Host (opened_text 0 0) c.in-Err.status c.args.host.now c.say_reply.new.host c.in-Err.ensures)
+returns-clause-follows g c = λ told p at.
+    let a = c.args.archive.now in
+    let name = a.name in
+    let text = opening_text c.args.replayed (losses_of c.args.lost.now) in
+    let new = c.say_opening.new.host in
+    unsaid_before g.H.Host (OpensAs name) (IsNoFileOf name) p.kept (IsAt g.M.Memory.view g.H.Host c.args.machine.now a new) (λ (q : Point Commit). q.kept) text (follow_script in_a_store installed p (g.S.Source.remaining c.args.script.now)) c.in-Err-say_opening.status c.args.host.now new
+    c.in-Err-say_opening.ensures (holds_rest g.H.Host a p.kept at.holds)
 
-pub returns-in-Err-clause-told : goal.returns-in-Err-clause-told
-returns-in-Err-clause-told g c = λ fault told p stands. absurd (no_read g.H.Host c.args.host.now c.say_reply.new.host (Err c.in-Err.status) c.in-Err.ensures.counts fault)
+pub returns-clause-told : goal.returns-clause-told
+returns-clause-told g c = λ fault told p at. absurd (no_read g.H.Host c.args.host.now c.say_opening.new.host (Err c.in-Err-say_opening.status) c.in-Err-say_opening.ensures.counts fault)
 
-pub returns-in-Err-clause-says : goal.returns-in-Err-clause-says
-returns-in-Err-clause-says g c = (_, c.in-Err.ensures.says)
+pub returns-clause-counts : goal.returns-clause-counts
+returns-clause-counts g c = counts_wider g.H.Host _ c.args.host.now c.say_opening.new.host (Err c.in-Err-say_opening.status) c.in-Err-say_opening.ensures.counts
 
-pub returns-in-Err-clause-counts : goal.returns-in-Err-clause-counts
-returns-in-Err-clause-counts g c = never_read g.H.Host _ c.args.host.now c.say_reply.new.host (Err c.in-Err.status) c.in-Err.ensures.counts
+pub returns-in-Err-clause-follows : goal.returns-in-Err-clause-follows
+returns-in-Err-clause-follows g c = λ told p at.
+    let h = c.args.host.now in
+    fails_now g.M.Memory.view g.H.Host c.args.machine.now c.args.archive.now p.kept (session in_a_store installed c.args.replayed (losses_of c.args.lost.now) p (g.S.Source.remaining c.args.script.now)) status.OutOfMemory h tt (g.met.H.Host.only_now h) at.holds

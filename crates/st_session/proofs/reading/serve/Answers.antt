@@ -1,50 +1,96 @@
-use Rattle.std.proofs.Common.{◌≡◌, sym, subst, ◌∙◌}
-use Rattle.st_model.specs.Show.{Shows}
+use Rattle.std.proofs.Common.{◌≡◌, ◌∙◌, ℕ, List, IsTrue, refl, sym, ap, subst}
+use Rattle.std.specs.Prelude.{Some, Ok, Err}
+use Rattle.st_outside.specs.Counts.{Rose}
+use Rattle.st_outside.specs.declared.host.Host.{Ghosts}
+use Rattle.st_model.specs.Births.{Births}
 use Rattle.st_model.specs.Machine.{State, empty_world}
-use Rattle.st_model.specs.Table.{Table}
 use Rattle.st_model.specs.Objects.{nil}
+use Rattle.st_model.specs.Show.{Shows}
+use Rattle.st_model.specs.Table.{Table}
 use Rattle.st_frames.specs.Shown.{shown}
+use Rattle.st_store.specs.Names.{IsNoFileOf}
 use Rattle.st_course.specs.declared.status.Status.{Status}
+use Rattle.st_course.specs.declared.status.Status.TheVariants as status
+use Rattle.st_course.specs.Statuses.{StatusHasCause}
+use Rattle.st_course.proofs.Joins.{obeys_fault}
+use Rattle.st_definition.specs.Defining.{installed}
+use Rattle.st_recover.specs.Archives.{ArchiveState, Holds}
+use Rattle.st_recover.specs.Commits.{Commit, OpensAs}
+use Rattle.st_recover.specs.Replays.{Loss, losses_of}
+use Rattle.st_session.specs.Ends.{IsOfServing, SessionEnds, status_in}
+use Rattle.st_session.specs.Keeping.{in_a_store}
+use Rattle.st_session.specs.Opening.{IsOpen, session_over, session_so_far_over}
 use Rattle.st_session.specs.Points.{Point, alive}
-use Rattle.st_session.specs.Keeping.{keeps_nothing}
-use Rattle.st_session.specs.Sessions.{session, session_so_far}
-use Rattle.st_session.specs.Standing.{shown_by, StandsAt}
-use Rattle.st_session.specs.Ends.{SessionEnds, IsOfServing, status_in}
+use Rattle.st_session.specs.Standing.{IsAt, shown_by}
+use Rattle.st_session.proofs.Ending.{session_ends, ends_of, complete_of, cause_of, served_in}
+use Rattle.st_session.proofs.Holding.{holds_rest}
+use Rattle.st_session.proofs.Lawful.{session_law}
 use Rattle.st_session.proofs.Points.{ready_new}
-use Rattle.st_session.proofs.Ending.{session_ended, complete_of, cause_of, served_in}
 use Rattle.st_session.proofs.reading.serve.Goals as goal
 
+-- the same end in other words
+module _ {D : Type 0} (host : Ghosts D) (k : Commit) (s : State Births) (replayed : ℕ) (script : List ℕ) (old new : D) where
+  abbrev Ends_so : List ℕ → List Loss → Status → Type 0
+  Ends_so name lost e = SessionEnds host (OpensAs name) (IsNoFileOf name) k (session_over replayed lost s k script) (session_so_far_over replayed lost s k) script old new e
+
+  ends_so : (n m : List ℕ) (l o : List Loss) (e f : Status) → n ≡ m → l ≡ o → e ≡ f → Ends_so n l e → Ends_so m o f
+  ends_so n m l o e f one two three h = subst (λ (x : Status). Ends_so m o x) three (subst (λ (x : List Loss). Ends_so m x e) two (subst (λ (x : List ℕ). Ends_so x l e) one h))
+
 pub boot-machine-requires : goal.boot-machine-requires
-boot-machine-requires g c = record { ready = ready_new (g.M.Memory.view c.args.loaded.memory) c.args.loaded.frame c.in-Ok.world c.requires.frame c.requires.quiet c.in-Ok.ensures }
+boot-machine-requires g c =
+    let loaded = c.args.opened.loaded in
+    record { ready = ready_new (g.M.Memory.view loaded.memory) loaded.frame c.in-Ok.world c.requires.frame c.requires.quiet c.in-Ok.ensures }
+
+-- there was no memory for a world
+pub returns-in-Err-clause-ends : goal.returns-in-Err-clause-ends
+returns-in-Err-clause-ends g c = λ told k s o.
+    let opened = c.args.opened in
+    let name = opened.store.name in
+    let h = c.args.host.now in
+    let script = g.S.Source.remaining c.args.script.now in
+    let lost = losses_of opened.lost.items in
+    let course = session_over opened.replayed lost s k script in
+    let a : ArchiveState = record { name = name; store = Some opened.store; listed = opened.changes.listed } in
+    ends_of g.H.Host (OpensAs name) (IsNoFileOf name) k (λ (x : Point Commit). Unit {0}) (λ (x : Point Commit). x.kept) course (session_so_far_over opened.replayed lost s k) script (Err status.OutOfMemory) h h
+    (session_ends in_a_store installed opened.replayed lost (alive s k) script) (session_law opened.replayed lost (alive s k) script)
+    (obeys_fault g.H.Host (OpensAs name) (IsNoFileOf name) (λ (x : Point Commit). Unit {0}) (λ (x : Point Commit). x.kept) k course status.OutOfMemory h tt (g.met.H.Host.only_now h) (holds_rest g.H.Host a k o.holds))
+    (λ fault. cc)
 
 pub returns-clause-ends : goal.returns-clause-ends
-returns-clause-ends g c = λ told s shows.
-    let install = g.I.Installer.install in
-    let p : Point (Unit {0}) = alive s tt in
+returns-clause-ends g c = λ told k s o.
+    let view = g.M.Memory.view in
+    let opened = c.args.opened in
+    let h = c.args.host.now in
+    let new = c.open.new.host in
     let script = g.S.Source.remaining c.args.script.now in
-    let machine = c.boot-machine.result in
-    let ensures = c.boot-machine.ensures in
-    let world = ensures.world ∙ c.in-Ok.ensures in
-    let same : shown_by g.M.Memory.view machine ≡ shown (g.M.Memory.view c.args.loaded.memory) c.args.loaded.frame (empty_world nil) = λ i. shown (ensures.memory i) (ensures.frame i) (world i) in
-    let stands : StandsAt g.M.Memory.view machine p = (ensures.alive, subst (λ (x : State Table). Shows x s) (sym same) shows) in
-    subst (λ (x : Status). SessionEnds g.H.Host (session keeps_nothing install 0 0 p script) (session_so_far keeps_nothing install 0 0 p) script c.args.host.now c.open.new.host x) (sym c.status_of.ensures)
-    (session_ended g.H.Host install (StandsAt g.M.Memory.view c.open.new.machine) p (session_so_far keeps_nothing install 0 0 p) script c.open.result c.args.host.now c.open.new.host
-    (c.open.ensures.obeys told p stands) (λ fault. c.open.ensures.told fault told p stands))
+    let m = c.boot-machine.result in
+    let a = c.new-archive.result in
+    let p : Point Commit = alive s k in
+    let boots = c.boot-machine.ensures in
+    let lost = losses_of c.deref.result.now in
+    let same : shown_by view m ≡ shown (view opened.loaded.memory) opened.loaded.frame (empty_world nil) = λ i. shown (boots.memory i) (boots.frame i) ((boots.world ∙ c.in-Ok.ensures) i) in
+    let holds : Holds g.H.Host h a k = subst (λ (x : ArchiveState). Holds g.H.Host h x k) (sym c.new-archive.ensures)
+    (subst (λ (n : List ℕ). Holds g.H.Host h (record { name = n; store = Some opened.store; listed = opened.changes.listed }) k) (sym c.requires.named) o.holds) in
+    let at : IsAt view g.H.Host m a h p = record { stands = (boots.alive, subst (λ (x : State Table). Shows x s) (sym same) o.shows); holds = holds } in
+    let on = IsAt view g.H.Host c.open.new.machine c.open.new.archive new in
+    let named : a.name ≡ opened.store.name = ap (λ (x : ArchiveState). x.name) c.new-archive.ensures ∙ c.requires.named in
+    ends_so g.H.Host k s opened.replayed script h new a.name opened.store.name lost (losses_of opened.lost.items) (status_in c.open.result) c.status_of.result named (ap losses_of c.deref.ensures.value) (sym c.status_of.ensures)
+    (ends_of g.H.Host (OpensAs a.name) (IsNoFileOf a.name) k on (λ (x : Point Commit). x.kept) (session_over opened.replayed lost s k script) (session_so_far_over opened.replayed lost s k) script c.open.result h new
+    (session_ends in_a_store installed opened.replayed lost p script) (session_law opened.replayed lost p script) (c.open.ensures.follows told p at) (λ fault. c.open.ensures.told fault told p at))
+
+pub returns-clause-cause : goal.returns-clause-cause
+returns-clause-cause g c =
+    let reads = Rose (g.S.Source.read_faults c.args.script.now) (g.S.Source.read_faults c.open.new.script) in
+    subst (λ (x : Status). StatusHasCause g.H.Host reads c.args.host.now c.open.new.host x) (sym c.status_of.ensures) (cause_of g.H.Host reads c.args.host.now c.open.new.host c.open.result c.open.ensures.counts.cause)
 
 pub returns-clause-complete : goal.returns-clause-complete
-returns-clause-complete g c = λ told s shows end calm.
-    let install = g.I.Installer.install in
-    let p : Point (Unit {0}) = alive s tt in
+returns-clause-complete g c = λ told k s o end calm.
+    let opened = c.args.opened in
+    let name = opened.store.name in
     let script = g.S.Source.remaining c.args.script.now in
-    let machine = c.boot-machine.result in
-    let ensures = c.boot-machine.ensures in
-    let world = ensures.world ∙ c.in-Ok.ensures in
-    let same : shown_by g.M.Memory.view machine ≡ shown (g.M.Memory.view c.args.loaded.memory) c.args.loaded.frame (empty_world nil) = λ i. shown (ensures.memory i) (ensures.frame i) (world i) in
-    let stands : StandsAt g.M.Memory.view machine p = (ensures.alive, subst (λ (x : State Table). Shows x s) (sym same) shows) in
-    rw c.status_of.ensures (complete_of g.H.Host (StandsAt g.M.Memory.view c.open.new.machine) (session keeps_nothing install 0 0 p script) (session_so_far keeps_nothing install 0 0 p) script _ (status_in c.open.result) c.args.host.now c.open.new.host
-    (session_ended g.H.Host install (StandsAt g.M.Memory.view c.open.new.machine) p (session_so_far keeps_nothing install 0 0 p) script c.open.result c.args.host.now c.open.new.host
-    (c.open.ensures.obeys told p stands) (λ fault. c.open.ensures.told fault told p stands))
-    (cause_of g.H.Host _ c.args.host.now c.open.new.host c.open.result c.open.ensures.counts.cause) end calm)
+    let lost = losses_of opened.lost.items in
+    complete_of g.H.Host (OpensAs name) (IsNoFileOf name) k (λ (x : Point Commit). Unit {0}) (λ (x : Point Commit). x.kept) (session_over opened.replayed lost s k script) (session_so_far_over opened.replayed lost s k) script (Rose (g.S.Source.read_faults c.args.script.now) (g.S.Source.read_faults c.open.new.script)) c.status_of.result c.args.host.now c.open.new.host
+    (returns-clause-ends g c told k s o) (returns-clause-cause g c) end calm
 
 pub returns-clause-kind : goal.returns-clause-kind
 returns-clause-kind g c = subst IsOfServing (sym c.status_of.ensures) (served_in c.open.result c.open.ensures.served)

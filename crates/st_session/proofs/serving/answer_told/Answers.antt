@@ -1,19 +1,19 @@
-use Rattle.std.proofs.Common.{sym, ◌∷◌, []}
+use Rattle.std.proofs.Common.{◌∷◌, [], refl, sym, subst}
+use Rattle.std.specs.Prelude.{Ok}
 use Rattle.st_script.specs.Scripts.{asked_at}
-use Rattle.st_course.proofs.Joins.{obeys_as, obeys_none}
-use Rattle.st_session.specs.Keeping.{keeps_nothing}
-use Rattle.st_session.specs.Answers.{answer}
-use Rattle.st_session.specs.Sessions.{follow}
-use Rattle.st_session.specs.Standing.{StandsAt}
+use Rattle.st_definition.specs.Defining.{installed}
+use Rattle.st_session.specs.Keeping.{in_a_store}
 use Rattle.st_session.proofs.Following.{follow_one}
+use Rattle.st_session.proofs.Points.{GoesAs}
+use Rattle.st_session.proofs.Responding.{stays_now}
 use Rattle.st_session.proofs.serving.answer_told.Goals as goal
 
-pub returns-in-Some-clause-obeys : goal.returns-in-Some-clause-obeys
-returns-in-Some-clause-obeys g c = λ p stands.
-    let install = g.I.Installer.install in
-    let asked = asked_at c.args.reader.now.place c.in-Some.request in
-    rw c.in-Some.is (obeys_as g.H.Host (StandsAt g.M.Memory.view c.answer_request.new.machine) (answer keeps_nothing install p asked) (follow keeps_nothing install p (asked ∷ [])) c.answer_request.result c.args.host.now c.answer_request.new.host
-    (sym (follow_one install p asked)) (c.answer_request.ensures.obeys p stands))
+pub returns-in-Some-clause-follows : goal.returns-in-Some-clause-follows
+returns-in-Some-clause-follows g c = λ p at.
+    let called = c.answer_request in
+    rw c.in-Some.is (subst (λ x. GoesAs g.M.Memory.view g.H.Host c.args.archive.now.name called.new.machine called.new.archive c.args.host.now called.new.host p.kept x called.result)
+    (sym (follow_one in_a_store installed p (asked_at c.args.reader.now.place c.in-Some.request))) (called.ensures.follows p at))
 
-pub returns-in-None-clause-obeys : goal.returns-in-None-clause-obeys
-returns-in-None-clause-obeys g c = λ p stands. rw c.in-None.is (obeys_none g.H.Host (StandsAt g.M.Memory.view c.args.machine.now) p (g.met.H.Host.only_now c.args.host.now) stands)
+pub returns-in-None-clause-follows : goal.returns-in-None-clause-follows
+returns-in-None-clause-follows g c = λ p at.
+    rw c.in-None.is (stays_now g.M.Memory.view g.H.Host c.args.machine.now c.args.archive.now p.kept p c.args.host.now (g.met.H.Host.only_now c.args.host.now) at.holds at.stands refl)

@@ -1,18 +1,36 @@
-use Rattle.std.proofs.Common.{refl, ap, sym, subst}
-use Rattle.st_model.specs.Show.{Shows}
-use Rattle.st_frames.specs.Shown.{IsReady, shown}
+use Rattle.std.proofs.Common.{Err, refl, subst}
+use Rattle.st_course.specs.declared.status.Status.TheVariants as status
+use Rattle.st_frames.specs.Shown.{shown}
 use Rattle.st_script.specs.Definitions.{definition_of}
-use Rattle.st_session.specs.Replies.{accepted_line}
-use Rattle.st_session.specs.Standing.{StandsAt}
-use Rattle.st_session.proofs.Lines.{acknowledged}
+use Rattle.st_definition.specs.Defining.{installed}
+use Rattle.st_definition.specs.Prepareds.{PreparesAs}
+use Rattle.st_session.specs.Answers.{definition_course, defined_course}
+use Rattle.st_session.specs.Keeping.{in_a_store}
+use Rattle.st_session.specs.Standing.{shown_by}
+use Rattle.st_session.proofs.Accepting.{refused_said}
+use Rattle.st_session.proofs.Points.{living_answers}
+use Rattle.st_session.proofs.Responding.{fails_now}
 use Rattle.st_session.proofs.serving.define.Goals as goal
 
-pub returns-in-Accepted-clause-obeys : goal.returns-in-Accepted-clause-obeys
-returns-in-Accepted-clause-obeys g c = λ s h.
+pub returns-in-Refused-clause-follows : goal.returns-in-Refused-clause-follows
+returns-in-Refused-clause-follows g c =
+    let view = g.M.Memory.view in
     let m = c.args.machine.now in
+    let a = c.args.archive.now in
     let d = definition_of c.args.definition.now in
-    let same = sym c.memory_mut.ensures.value in
-    let ready = subst (λ x. IsReady (g.M.Memory.view x) m.frame m.world) same c.requires.ready in
-    let shows = subst (λ x. Shows (shown (g.M.Memory.view x) m.frame m.world) s) same h in
-    acknowledged g.H.Host (StandsAt g.M.Memory.view (record m { memory = c.install.new.m })) s (shown (g.M.Memory.view c.install.new.m) m.frame m.world) d (g.I.Installer.install d s) c.install.result c.in-Accepted.selector.items _ c.say_reply.result c.args.host.now c.say_reply.new.host
-    (c.install.ensures.installs m.frame m.world s ready shows) (rw c.in-Accepted.is refl) (ap (accepted_line d.class d.meta) c.deref.ensures.value) c.say_reply.ensures (λ t w. (c.requires.alive, w))
+    let why = c.in-Refused.why in
+    let new = c.say_reply.new.host in
+    living_answers view g.H.Host m a c.args.host.now m a new (λ being k. definition_course in_a_store installed being k d) c.say_reply.result c.requires.alive
+    (λ s k shows holds.
+    let refuses = subst (λ u. PreparesAs (view m.memory) d (Err u)) c.in-Refused.is (subst (λ x. PreparesAs (view x) d (Err c.in-Err.unprepared)) c.memory.ensures c.in-Err.ensures) in
+    refused_said view g.H.Host m a s k d (installed d s) why c.args.host.now new c.say_reply.result (refuses (shown_by view m) s (record { objects = refl; head = refl }) shows) c.requires.alive shows holds c.say_reply.ensures)
+
+pub returns-in-OutOfMemory-clause-follows : goal.returns-in-OutOfMemory-clause-follows
+returns-in-OutOfMemory-clause-follows g c =
+    let view = g.M.Memory.view in
+    let m = c.args.machine.now in
+    let a = c.args.archive.now in
+    let d = definition_of c.args.definition.now in
+    let h = c.args.host.now in
+    living_answers view g.H.Host m a h m a h (λ being k. definition_course in_a_store installed being k d) (Err status.OutOfMemory) c.requires.alive
+    (λ s k shows holds. fails_now view g.H.Host m a k (defined_course in_a_store s k d (installed d s)) status.OutOfMemory h tt (g.met.H.Host.only_now h) holds)

@@ -1,0 +1,13 @@
+pub mod Commits
+pub mod Beside
+pub mod Determined
+pub mod Replaying
+pub mod Started
+pub mod Refusing
+pub mod Fetching
+pub mod Holding
+pub mod Images
+pub mod Making
+pub mod Obeying
+pub mod Restoring
+pub mod Rests

@@ -1,0 +1,95 @@
+use Rattle.std.proofs.Common.{◌≡◌, ℕ, List, [], ◌∷◌, ◌++◌, refl, sym, subst, ap, ◌∙◌, true≢false}
+use Rattle.std.specs.Prelude.{Ok, Err}
+use Rattle.st_outside.specs.Runs.{ChangesBoth}
+use Rattle.st_chunk.specs.Definitions.{Definition, IsDefinition}
+use Rattle.st_script.specs.Definitions.{definition_of}
+use Rattle.st_store.specs.Names.{changes_file, roots_file, IsNoFileOf}
+use Rattle.st_store.specs.Stored.{StoreState}
+use Rattle.st_changes.specs.Views.{definition_of as kept_definition}
+use Rattle.st_course.specs.declared.status.Status.TheVariants.{DiskFault, TooLarge}
+use Rattle.st_course.proofs.Joins.{obeys_as}
+use Rattle.st_recover.specs.Archives.{ArchiveState, IsStoreOf}
+use Rattle.st_recover.specs.Commits.{OpensAs, accepting}
+use Rattle.st_recover.proofs.Commits.{holds_rest}
+use Rattle.st_recover.proofs.Making.{both_spare}
+use Rattle.st_recover.proofs.Holding.{some_same, store_grown, named, accept_makes, accept_holds}
+use Rattle.st_recover.proofs.Obeying.{it_fits, it_is_too_long, accept_kept, accept_failed, accept_refused, accept_starved}
+use Rattle.st_recover.proofs.archive.Archive.accept.Goals as goal
+
+pub returns-in_default-clause-obeys : goal.returns-in_default-clause-obeys
+returns-in_default-clause-obeys g c x holds =
+    let H = g.H.Host in
+    let a = c.args.host.now in
+    let old = c.args.self.now in
+    accept_starved H (OpensAs old.name) (IsNoFileOf old.name) _ x (definition_of c.args.definition.now) a (λ f s told left. g.met.H.Host.only_now a f s told left) (holds_rest H a old x holds)
+
+pub returns-in_default-reserve-clause-obeys : goal.returns-in_default-reserve-clause-obeys
+returns-in_default-reserve-clause-obeys g c x holds =
+    let H = g.H.Host in
+    let a = c.args.host.now in
+    let old = c.args.self.now in
+    accept_starved H (OpensAs old.name) (IsNoFileOf old.name) _ x (definition_of c.args.definition.now) a (λ f s told left. g.met.H.Host.only_now a f s told left) (holds_rest H a old x holds)
+
+pub returns-then-not-fits-clause-obeys : goal.returns-then-not-fits-clause-obeys
+returns-then-not-fits-clause-obeys g c x holds =
+    let H = g.H.Host in
+    let a = c.args.host.now in
+    let old = c.args.self.now in
+    let kept = kept_definition c.in-Ok.definition in
+    let is : kept ≡ definition_of c.args.definition.now = c.in-Ok.ensures in
+    let listed = ap (λ (s : ArchiveState). s.listed) c.self.view_is ∙ holds.listed in
+    let long = it_is_too_long x kept c.self.inside.changes.listed listed (λ low. true≢false (sym (c.fits.ensures.1 low) ∙ c.if-not-fits.true)) in
+    obeys_as H (OpensAs old.name) (IsNoFileOf old.name) _ (λ d. d) x (accepting x kept) (accepting x (definition_of c.args.definition.now)) (Err TooLarge) a a (ap (accepting x) is)
+    (accept_refused H (OpensAs old.name) (IsNoFileOf old.name) _ x kept a (λ f s told left. g.met.H.Host.only_now a f s told left) (holds_rest H a old x holds) long)
+
+pub returns-in_default-append-clause-obeys : goal.returns-in_default-append-clause-obeys
+returns-in_default-append-clause-obeys g c x holds =
+    let H = g.H.Host in
+    let a = c.args.host.now in
+    let old = c.args.self.now in
+    let kept = kept_definition c.in-Ok.definition in
+    let is : kept ≡ definition_of c.args.definition.now = c.in-Ok.ensures in
+    let listed = ap (λ (s : ArchiveState). s.listed) c.self.view_is ∙ holds.listed in
+    let b = c.append.new.host in
+    let st = c.in-Some.store in
+    let there = ap (λ (s : ArchiveState). s.store) (sym c.self.view_is) ∙ sym c.take.ensures.value ∙ c.in-Some.is in
+    let fits = it_fits x kept c.self.inside.changes.listed listed (c.fits.ensures.0 c.if-not-fits.false) in
+    let name_is = named H a old st x holds there in
+    let both = subst (λ (n : List ℕ). ChangesBoth H (changes_file n) (roots_file n) a b) name_is c.append.ensures.changes in
+    let spares = both_spare H (changes_file old.name) (roots_file old.name) (IsNoFileOf old.name) a b (λ n no. no.changes) (λ n no. no.roots) both in
+    let makes = accept_makes H a old st x holds there kept b c.append.result (λ y told keeps. c.append.ensures.makes y told keeps) in
+    obeys_as H (OpensAs old.name) (IsNoFileOf old.name) _ (λ d. d) x (accepting x kept) (accepting x (definition_of c.args.definition.now)) (Err DiskFault) a b (ap (accepting x) is)
+    (accept_failed H (OpensAs old.name) (IsNoFileOf old.name) _ x kept a b c.append.result fits makes spares)
+
+pub invariant_of-self-2 : goal.invariant_of-self-2
+invariant_of-self-2 g c =
+    let kept = kept_definition c.in-Ok.definition in
+    let inside = c.self.inside.changes in
+    let was : IsStoreOf inside.name inside.listed c.in-Some.store = c.self.invariant c.in-Some.store (sym c.take.ensures.value ∙ c.in-Some.is) in
+    let more : c.append.new.self.listed ≡ inside.listed ++ kept ∷ [] = c.in-Ok-append.ensures.listed ∙ ap (λ (ds : List Definition). ds ++ kept ∷ []) c.reserve.ensures.listed in
+    let next = store_grown inside.name c.append.new.self.name inside.listed c.append.new.self.listed kept c.in-Some.store c.in-Ok-append.store was c.in-Ok-append.ensures.store
+    (c.append.ensures.named ∙ c.reserve.ensures.named) more in
+    λ y e. subst (λ (s : StoreState). IsStoreOf c.append.new.self.name c.append.new.self.listed s) (some_same e) next
+
+pub returns-clause-obeys : goal.returns-clause-obeys
+returns-clause-obeys g c x holds =
+    let H = g.H.Host in
+    let a = c.args.host.now in
+    let old = c.args.self.now in
+    let kept = kept_definition c.in-Ok.definition in
+    let is : kept ≡ definition_of c.args.definition.now = c.in-Ok.ensures in
+    let listed = ap (λ (s : ArchiveState). s.listed) c.self.view_is ∙ holds.listed in
+    let b = c.append.new.host in
+    let st = c.in-Some.store in
+    let there = ap (λ (s : ArchiveState). s.store) (sym c.self.view_is) ∙ sym c.take.ensures.value ∙ c.in-Some.is in
+    let fits = it_fits x kept c.self.inside.changes.listed listed (c.fits.ensures.0 c.if-not-fits.false) in
+    let name_is = named H a old st x holds there in
+    let both = subst (λ (n : List ℕ). ChangesBoth H (changes_file n) (roots_file n) a b) name_is c.append.ensures.changes in
+    let spares = both_spare H (changes_file old.name) (roots_file old.name) (IsNoFileOf old.name) a b (λ n no. no.changes) (λ n no. no.roots) both in
+    let makes = accept_makes H a old st x holds there kept b (Ok c.in-Ok-append.store) (λ y told keeps. c.in-Ok-append.ensures.makes y told keeps) in
+    let good = subst IsDefinition (sym is) c.requires.good in
+    let more = c.in-Ok-append.ensures.listed ∙ ap (λ (ds : List Definition). ds ++ kept ∷ []) (c.reserve.ensures.listed ∙ ap (λ (s : ArchiveState). s.listed) c.self.view_is) in
+    let held = accept_holds H a old st x holds there kept b _ c.in-Ok-append.store good (c.append.ensures.named ∙ c.reserve.ensures.named ∙ ap (λ (s : ArchiveState). s.name) c.self.view_is) refl more
+    c.in-Ok-append.ensures.store (λ y told keeps. c.in-Ok-append.ensures.kept y told keeps) in
+    obeys_as H (OpensAs old.name) (IsNoFileOf old.name) _ (λ d. d) x (accepting x kept) (accepting x (definition_of c.args.definition.now)) (Ok tt) a b (ap (accepting x) is)
+    (accept_kept H (OpensAs old.name) (IsNoFileOf old.name) _ x kept a b c.in-Ok-append.store fits held makes spares)

@@ -1,0 +1,39 @@
+-- What a session keeps, as contracts see it.
+use Rattle.std.specs.Prelude.{◌≡◌, ℕ, List, length, Option, Some, IsTrue, All, ⊤}
+use Rattle.st_outside.specs.declared.host.Host.{Ghosts}
+use Rattle.st_chunk.specs.Definitions.{Definition, IsDefinition, entries}
+use Rattle.st_store.specs.Stored.{StoreState, IsKept}
+use Rattle.st_course.specs.declared.status.Status.{Status}
+use Rattle.st_course.specs.declared.status.Status.TheVariants.{DiskFault, TooLarge, OutOfMemory}
+use Rattle.st_recover.specs.Commits.{Commit, all_of, root_of, stored_of}
+
+-- The open store, which there is none after a fault of the disk; its name; and the definitions of the changes file.
+pub record ArchiveState : Type 0 where
+  pub name : List ℕ
+  pub store : Option StoreState
+  pub listed : List Definition
+
+-- the store has this name, and its root the length of these definitions' entries
+pub record IsStoreOf (name : List ℕ) (listed : List Definition) (store : StoreState) : Type 0 where
+  pub named : store.name ≡ name
+  pub whole : store.root.length ≡ length (entries listed)
+
+-- a store of this name whose root names the commit, with its image in a slot
+abbrev pub store_of : List ℕ → ℕ → ℕ → Commit → StoreState
+store_of name chosen slot c = record { name = name; chosen = chosen; root = root_of slot c }
+
+-- The archive is open, and what it holds is this commit, which a stop leaves as it is.
+pub record Holds {D : Type 0} (host : Ghosts D) (h : D) (a : ArchiveState) (c : Commit) : Type 0 where
+  pub chosen : ℕ
+  pub slot : ℕ
+  pub store : a.store ≡ Some (store_of a.name chosen slot c)
+  pub listed : a.listed ≡ all_of c
+  pub good : All IsDefinition (all_of c)
+  pub kept : IsTrue host.is_told → IsKept host h (store_of a.name chosen slot c) (stored_of slot c)
+
+-- how keeping a definition ends, on any host
+abbrev pub IsOfKeeping : Status → Type 0
+IsOfKeeping DiskFault = ⊤
+IsOfKeeping TooLarge = ⊤
+IsOfKeeping OutOfMemory = ⊤
+IsOfKeeping _ = ⊥

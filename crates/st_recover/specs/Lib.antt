@@ -1,0 +1,6 @@
+pub mod Commits
+pub mod Archives
+pub mod Replays
+pub mod Openings
+pub mod Fetched
+pub mod Creating

@@ -1,0 +1,121 @@
+-- What the opening of a store answers.
+use Rattle.std.specs.Prelude.{◌≡◌, ◌≤◌, ◌<◌, ◌^◌, ℕ, List, length, take, ⊤, All}
+use Rattle.st_outside.specs.Counts.{Rose}
+use Rattle.st_outside.specs.Files.{Files, bytes_of}
+use Rattle.st_outside.specs.declared.host.Host.{Ghosts}
+use Rattle.st_model.specs.declared.fault.ImageFault.{ImageFault}
+use Rattle.st_model.specs.Objects.{nil}
+use Rattle.st_model.specs.Machine.{State, Went, empty_world}
+use Rattle.st_model.specs.Births.{Births}
+use Rattle.st_model.specs.View.{View}
+use Rattle.st_model.specs.Image.{image_head}
+use Rattle.st_model.specs.Faults.{IsImageFault, IsWellFormed}
+use Rattle.st_model.specs.Show.{Shows}
+use Rattle.st_model.specs.Start.{begin}
+use Rattle.st_frames.specs.Shown.{shown}
+use Rattle.st_chunk.specs.Definitions.{IsDefinition}
+use Rattle.st_store.specs.Names.{image_file}
+use Rattle.st_store.specs.Refusals.{Refuses}
+use Rattle.st_store.specs.Stored.{Stored, StoreState, Opens, IsKept}
+use Rattle.st_store.specs.declared.fault.StoreFault.{StoreFault}
+use Rattle.st_store.specs.declared.fault.StoreFault.TheVariants.{Missing, Exists, NotAStore, Disk as DiskOfStore, OutOfMemory as NoMemoryForStore}
+use Rattle.st_store.specs.declared.fault.StorePlace.TheVariants.{Roots, Changes}
+use Rattle.st_changes.specs.Lists.{RefusesChanges}
+use Rattle.st_installer.specs.Installing.{Install}
+use Rattle.st_recover.specs.Commits.{Commit, OpensAs, all_of, root_of, stored_of}
+use Rattle.st_recover.specs.Replays.{Replayed, replay, losses_of}
+use Rattle.st_recover.specs.declared.fault.OpenFault.{OpenFault}
+use Rattle.st_recover.specs.declared.fault.OpenFault.TheVariants as opening
+use Rattle.st_recover.specs.declared.opened.Opened.{Opened}
+
+-- IMAGES
+
+-- an image that is read: it has at most 2^23 bytes, and is well-formed
+pub record IsReadable (image : List ℕ) : Type 0 where
+  pub short : length image ≤ 2 ^ 23
+  pub formed : IsWellFormed (image_head image) image
+
+-- one that is refused for its fault
+pub record IsFaulty (image : List ℕ) (f : ImageFault) : Type 0 where
+  pub short : length image ≤ 2 ^ 23
+  pub fault : IsImageFault (image_head image) image f
+
+-- the bytes of the image that a store's root names
+abbrev pub image_in : StoreState → Files → List ℕ
+image_in store f = take store.root.image_length (bytes_of (f (image_file store.name store.root.slot)))
+
+-- why the image of a store, which is this, isn't read; the last two come from outside
+abbrev pub RefusesImage : StoreState → List ℕ → OpenFault → Type 0
+RefusesImage store image (opening.Store fault) = ⊥
+RefusesImage store image (opening.Image fault) = IsFaulty image fault
+RefusesImage store image opening.TooLarge = 2 ^ 23 < store.root.image_length
+RefusesImage store image opening.Disk = ⊤
+RefusesImage store image opening.OutOfMemory = ⊤
+
+-- the faults of reading a store's image, on any host
+abbrev pub IsOfImage : OpenFault → Type 0
+IsOfImage (opening.Store fault) = ⊥
+IsOfImage _ = ⊤
+
+-- WHAT IS OPENED
+
+-- What a commit opens as: the book's machine begins with the image's objects, and the definitions from the base on are
+-- installed again.
+pub record Reopens (install : Install) (c : Commit) (r : Replayed) : Type 0 where
+  pub readable : IsReadable c.image
+  pub births : State Births
+  pub begins : begin (image_head c.image) c.image ≡ Went tt births
+  pub replays : r ≡ replay install births (length c.before) c.definitions
+
+-- The files as they read open as this commit, which the open store keeps. The commit opens as what the memory shows under
+-- its registers in an empty world, with this count and these losses.
+pub record IsReopenedAs {D M : Type 0} (host : Ghosts D) (install : Install) (view : M → View) (name : List ℕ) (old new : D) (o : Opened M) (c : Commit) : Type 0 where
+  pub opens : OpensAs name c (host.files old)
+  pub good : All IsDefinition (all_of c)
+  pub listed : o.changes.listed ≡ all_of c
+  pub root : o.store.root ≡ root_of o.store.root.slot c
+  pub kept : IsKept host new o.store (stored_of o.store.root.slot c)
+  pub replayed : Replayed
+  pub reopens : Reopens install c replayed
+  pub shows : Shows (shown (view o.loaded.memory) o.loaded.frame (empty_world nil)) replayed.state
+  pub count : o.replayed ≡ replayed.count
+  pub lost : losses_of o.lost.items ≡ replayed.lost
+
+-- REFUSALS
+
+-- the fault of a store, as one of opening it
+abbrev pub by_store : StoreFault → OpenFault
+by_store DiskOfStore = opening.Disk
+by_store NoMemoryForStore = opening.OutOfMemory
+by_store Missing = opening.Store Missing
+by_store Exists = opening.Store Exists
+by_store (NotAStore place) = opening.Store (NotAStore place)
+
+-- Why these files aren't opened, in the order of the tests: the roots file and its root, the image's length, the image, the
+-- changes. The last two come from outside.
+abbrev pub RefusesOpening : List ℕ → Files → OpenFault → Type 0
+RefusesOpening name f (opening.Store (NotAStore (Changes at))) =
+    (c : Stored) × Opens name c f × IsReadable c.image × RefusesChanges c.changes c.root (NotAStore (Changes at))
+RefusesOpening name f (opening.Store fault) = Refuses name f fault
+RefusesOpening name f (opening.Image fault) = (c : Stored) × Opens name c f × IsFaulty c.image fault
+RefusesOpening name f opening.TooLarge = (c : Stored) × Opens name c f × (2 ^ 23 < length c.image)
+RefusesOpening name f opening.Disk = ⊤
+RefusesOpening name f opening.OutOfMemory = ⊤
+
+-- the faults of opening, on any host: of the store only that it is missing or damaged
+abbrev pub IsOfReopening : OpenFault → Type 0
+IsOfReopening (opening.Store Missing) = ⊤
+IsOfReopening (opening.Store (NotAStore place)) = ⊤
+IsOfReopening (opening.Store fault) = ⊥
+IsOfReopening _ = ⊤
+
+-- the faults of the roots file, which is tested before anything is written
+abbrev pub IsOfRoots : OpenFault → Type 0
+IsOfRoots (opening.Store Missing) = ⊤
+IsOfRoots (opening.Store (NotAStore (Roots at))) = ⊤
+IsOfRoots _ = ⊥
+
+-- a fault of the disk comes only where its count rose
+abbrev pub OpeningHasCause : {D : Type 0} → Ghosts D → D → D → OpenFault → Type 0
+OpeningHasCause host old new opening.Disk = Rose (host.disk_faults old) (host.disk_faults new)
+OpeningHasCause host old new _ = ⊤

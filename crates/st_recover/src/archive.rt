@@ -1,0 +1,148 @@
+// What a session keeps.
+ghost use Rattle.std.specs.Prelude.{◌≡◌, ◌-◌, ℕ, List, Some, IsTrue, IfErr, IfOk, OnOk, IsSome, length};
+ghost use Rattle.st_outside.specs.Counts.{HasCause};
+ghost use Rattle.st_outside.specs.Runs.{Makes, Spares};
+ghost use Rattle.st_chunk.specs.Definitions.{IsDefinition, entries};
+ghost use Rattle.st_script.specs.Definitions.{definition_of};
+ghost use Rattle.st_changes.specs.Views.{definition_of as kept_definition};
+ghost use Rattle.st_store.specs.Names.{IsNoFileOf};
+ghost use Rattle.st_course.specs.Obeying.{Obeys};
+ghost use Rattle.st_course.specs.declared.status.Status.TheVariants.{DiskFault};
+ghost use Rattle.st_course.specs.Statuses.{Counts};
+ghost use Rattle.st_recover.specs.Archives.{Holds, IsStoreOf, IsOfKeeping};
+ghost use Rattle.st_recover.specs.Commits.{Commit, OpensAs, accepting, imaged, image_in};
+
+use st_changes::{Changes, Definition as KeptDefinition};
+use st_course::Status;
+use st_memory::Memory;
+use st_outside::{Host, HostFault};
+use st_script::Definition;
+use st_store::{Root, Store};
+use st_tree::Text;
+use st_writer::write;
+use std::alloc::{AllocError, Global};
+use std::marker::Model;
+
+fn copied(alloc: Global, bytes: &[u8]) -> Result<Text, AllocError>
+    ensures { IfOk result (λ text. text.items ≡ bytes.now) }
+{
+    let mut text = Text::new(alloc);
+    text.extend_from_slice(bytes)?;
+    Ok(text)
+}
+
+/// A definition with texts of its own.
+fn owned(alloc: Global, definition: &Definition<'_>) -> Result<KeptDefinition, AllocError>
+    ensures { IfOk result (λ d. kept_definition d ≡ definition_of definition.now) }
+{
+    Ok(KeptDefinition {
+        class: copied(alloc, definition.class)?,
+        meta: definition.meta,
+        category: copied(alloc, definition.category)?,
+        text: copied(alloc, definition.text)?,
+    })
+}
+
+/// What a session keeps: a store, and the list of its definitions. After a fault of the disk the store is closed, and has
+/// to be opened again.
+#[derive(Drop)]
+pub struct Archive {
+    store: Option<Store>,
+    changes: Changes,
+}
+
+impl Model for Archive {
+    ghost use Rattle.std.specs.Option.{ForSome};
+    ghost use Rattle.st_recover.specs.Archives.{ArchiveState, IsStoreOf};
+
+    ghost Value = { ArchiveState };
+
+    ghost view = { λ a. record { name = a.changes.name; store = a.store; listed = a.changes.listed } };
+
+    ghost invariant = { λ a. ForSome a.store (IsStoreOf a.changes.name a.changes.listed) };
+}
+
+impl Archive {
+    /// A store and the list of its definitions.
+    pub fn new(store: Store, changes: Changes) -> Archive
+        requires { IsStoreOf changes.name changes.listed store }
+        ensures { result ≡ record { name = changes.name; store = Some store; listed = changes.listed } }
+    {
+        Archive {
+            store: Some(store),
+            changes,
+        }
+    }
+
+    /// Keeps a definition: its entry stands in the changes file, synced. `TooLarge` comes where the entry would take the file
+    /// past 2^30 bytes, and `OutOfMemory` where there is no memory: then nothing was done, since all memory is taken before the
+    /// first write. After `DiskFault` the store has the definition or it hasn't, and is closed.
+    pub fn accept<H: Host>(
+        &mut self,
+        alloc: Global,
+        host: &mut H,
+        definition: &Definition<'_>,
+    ) -> Result<(), Status>
+        requires good { IsDefinition (definition_of definition.now) }
+        requires open { IsSome self.old.store }
+        ensures named { self.new.name ≡ self.old.name }
+        ensures open { OnOk result (IsSome self.new.store) }
+        ensures obeys { (c : Commit) → Holds H.Host.own host.old self.old c
+            → Obeys H.Host.own (OpensAs self.old.name) (IsNoFileOf self.old.name)
+            (Holds H.Host.own host.new self.new) (λ d. d) c
+            (accepting c (definition_of definition.now)) result host.old host.new }
+        ensures untouched { IfErr result (λ e. (e ≡ DiskFault → ⊥) → host.new ≡ host.old) }
+        ensures counts { Counts H.Host.own ⊥ host.old host.new result }
+        ensures kind { IfErr result IsOfKeeping }
+    {
+        let Ok(definition) = owned(alloc, definition) else {
+            return Err(Status::OutOfMemory);
+        };
+        if !self.changes.fits(&definition) {
+            return Err(Status::TooLarge);
+        }
+        let Ok(()) = self.changes.reserve(alloc, &definition) else {
+            return Err(Status::OutOfMemory);
+        };
+        let Some(store) = self.store.take() else {
+            unreachable!()
+        };
+        let Ok(store) = self.changes.append(host, store, definition) else {
+            return Err(Status::DiskFault);
+        };
+        self.store = Some(store);
+        Ok(())
+    }
+
+    /// Keeps the image of a memory, and answers its length: it is written to the file that the store doesn't use, and the
+    /// store goes over to it whole, or not at all. No definition is to be replayed behind it. It takes no memory.
+    pub fn snapshot<M: Memory, H: Host>(&mut self, host: &mut H, m: &M) -> Result<u64, HostFault>
+        requires open { IsSome self.old.store }
+        ensures named { self.new.name ≡ self.old.name }
+        ensures open { OnOk result (IsSome self.new.store) }
+        ensures length { IfOk result (λ l. l ≡ length (image_in (M.view m.now))) }
+        ensures makes { (c : Commit) → IsTrue H.is_told → Holds H.Host.own host.old self.old c
+            → Makes H.Host.own (OpensAs self.old.name) c (imaged c (image_in (M.view m.now)))
+            host.old host.new result }
+        ensures holds { OnOk result ((c : Commit) → Holds H.Host.own host.old self.old c
+            → Holds H.Host.own host.new self.new (imaged c (image_in (M.view m.now)))) }
+        ensures spares { Spares H.Host.own (IsNoFileOf self.old.name) host.old host.new }
+        ensures say_count { H.say_faults host.new ≡ H.say_faults host.old }
+        ensures cause { HasCause (H.disk_faults host.old) (H.disk_faults host.new) result }
+    {
+        let Some(store) = self.store.take() else {
+            unreachable!()
+        };
+        let Root { slot, length, .. } = store.root();
+        let other = 1u64.saturating_sub(slot);
+        let image_length = write(m, host, store.image_name(other))?;
+        let root = Root {
+            slot: other,
+            image_length,
+            base: length,
+            length,
+        };
+        self.store = Some(store.commit(host, root)?);
+        Ok(image_length)
+    }
+}

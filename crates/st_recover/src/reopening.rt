@@ -1,0 +1,207 @@
+// Opening a store again, with its definitions replayed.
+ghost use Rattle.std.specs.Prelude.{◌≡◌, ◌≤◌, ◌<◌, ◌^◌, ℕ, List, length, All, IsTrue, IfOk, IfErr, OnOk};
+ghost use Rattle.st_outside.specs.Files.{Files};
+ghost use Rattle.st_outside.specs.Runs.{LeavesOnly, ReadsAlike, OnlyReads, Narrows, NarrowsBut, Changes as ChangesFile, Spares};
+ghost use Rattle.st_model.specs.Image.{image_head};
+ghost use Rattle.st_model.specs.View.{no_devices};
+ghost use Rattle.st_model.specs.Machine.{World};
+ghost use Rattle.st_frames.specs.declared.frame.Frame.{Frame};
+ghost use Rattle.st_frames.specs.Shown.{IsFrame, IsReady};
+ghost use Rattle.st_image.specs.Reading.{IsStart};
+ghost use Rattle.st_chunk.specs.Definitions.{IsDefinition, entries};
+ghost use Rattle.st_store.specs.Names.{roots_file, image_file, IsNoFileOf};
+ghost use Rattle.st_store.specs.Stored.{IsSound, IsOpening};
+ghost use Rattle.st_changes.specs.Lists.{StandsAt};
+ghost use Rattle.st_recover.specs.Commits.{Commit};
+ghost use Rattle.st_recover.specs.Replays.{ReplaysFrom};
+ghost use Rattle.st_recover.specs.Openings.{IsReadable, image_in, RefusesImage, IsOfImage};
+ghost use Rattle.st_recover.specs.Openings.{IsReopenedAs, RefusesOpening, IsOfReopening, IsOfRoots, OpeningHasCause};
+ghost use Rattle.st_recover.specs.Fetched.{IsFetchedAs};
+
+use crate::fault::OpenFault;
+use crate::opened::Opened;
+use crate::replay::{Replay, replay_all};
+use st_changes::{Changes, load};
+use st_frames::Loaded;
+use st_image::{HeadValues, ReadImage, read};
+use st_installer::Installer;
+use st_memory::{Loader, Memory};
+use st_outside::{Host, read_from};
+use st_store::{Store, open_store};
+use std::alloc::{AllocError, Global};
+
+/// The most bytes that a store's image may have, 2^23.
+const LONGEST_IMAGE: u64 = 8_388_608;
+
+/// A store, with its image's objects and registers and its definitions, before any of these is installed.
+#[derive(Drop)]
+struct Fetched<M> {
+    loaded: Loaded<M>,
+    store: Store,
+    changes: Changes,
+}
+
+/// The bytes of a store's image, where they are at most 2^23.
+fn read_bytes<H: Host>(alloc: Global, host: &mut H, store: &Store) -> Result<Vec<u8>, OpenFault>
+    requires slot { store.now.root.slot ≤ 1 }
+    ensures bytes { IfOk result (λ v. IsTrue H.is_told
+        → v.items ≡ image_in store.now (H.files host.old)) }
+    ensures short { IfOk result (λ v. length v.items ≤ 2 ^ 23) }
+    ensures refused { IfErr result (λ e.
+        RefusesImage store.now (image_in store.now (H.files host.old)) e) }
+    ensures kind { IfErr result IsOfImage }
+    ensures cause { IfErr result (OpeningHasCause H.Host.own host.old host.new) }
+    ensures alike { OnOk result (ReadsAlike H.Host.own host.old host.new) }
+    ensures reads { OnlyReads H.Host.own host.old host.new }
+    ensures only { ChangesFile H.Host.own (image_file store.now.name store.now.root.slot)
+        host.old host.new }
+{
+    let root = store.root();
+    if root.image_length > LONGEST_IMAGE {
+        return Err(OpenFault::TooLarge);
+    }
+    let mut bytes = vec![in alloc; 0; root.image_length as usize]?;
+    let count = read_from(host, store.image_name(root.slot), 0, &mut bytes)?;
+    bytes.truncate(count);
+    Ok(bytes)
+}
+
+/// The memory and registers of a store's image.
+fn read_image<L: Loader, H: Host>(
+    alloc: Global,
+    host: &mut H,
+    store: &Store,
+) -> Result<Loaded<L::Done>, OpenFault>
+    requires slot { store.now.root.slot ≤ 1 }
+    ensures readable { IfOk result (λ _. IsTrue H.is_told
+        → IsReadable (image_in store.now (H.files host.old))) }
+    ensures start { let image = image_in store.now (H.files host.old) in
+        IfOk result (λ l. IsTrue H.is_told
+        → IsStart (image_head image) image (L.Done.view l.memory) l.frame) }
+    ensures frame { IfOk result (λ l. IsFrame (L.Done.view l.memory) l.frame) }
+    ensures quiet { IfOk result (λ l. (L.Done.view l.memory).held.devices ≡ no_devices) }
+    ensures refused { IfErr result (λ e. IsTrue H.is_told
+        → RefusesImage store.now (image_in store.now (H.files host.old)) e) }
+    ensures kind { IfErr result IsOfImage }
+    ensures cause { IfErr result (OpeningHasCause H.Host.own host.old host.new) }
+    ensures alike { OnOk result (ReadsAlike H.Host.own host.old host.new) }
+    ensures reads { OnlyReads H.Host.own host.old host.new }
+    ensures only { ChangesFile H.Host.own (image_file store.now.name store.now.root.slot)
+        host.old host.new }
+{
+    let bytes = read_bytes(alloc, host, store)?;
+    match read::<L>(alloc, &bytes, &HeadValues::NONE) {
+        Ok(loaded) => Ok(loaded),
+        Err(ReadImage::Fault(fault)) => Err(OpenFault::Image(fault)),
+        Err(ReadImage::OutOfMemory) => Err(OpenFault::OutOfMemory),
+    }
+}
+
+/// Opens the store, and reads its image and its changes.
+fn fetch<L: Loader, H: Host>(
+    alloc: Global,
+    host: &mut H,
+    name: &str,
+) -> Result<Fetched<L::Done>, OpenFault>
+    ensures named { IfOk result (λ p. p.store.name ≡ name.now) }
+    ensures listed { IfOk result (λ p. p.changes.name ≡ name.now) }
+    ensures whole { IfOk result (λ p. p.store.root.length ≡ length (entries p.changes.listed)) }
+    ensures sound { IfOk result (λ p. IsSound p.store.root) }
+    ensures good { IfOk result (λ p. All IsDefinition p.changes.listed) }
+    ensures stands { IfOk result (λ p. StandsAt p.changes.listed p.store.root.base) }
+    ensures frame { IfOk result (λ p. IsFrame (L.Done.view p.loaded.memory) p.loaded.frame) }
+    ensures quiet { IfOk result (λ p. (L.Done.view p.loaded.memory).held.devices ≡ no_devices) }
+    ensures fetched { IfOk result (λ p. IsTrue H.is_told
+        → IsFetchedAs H.Host.own L.Done.view name.now host.old host.new p) }
+    ensures refused { IfErr result (λ e. IsTrue H.is_told
+        → RefusesOpening name.now (H.files host.old) e) }
+    ensures kind { IfErr result IsOfReopening }
+    ensures writes_nothing { IfErr result (λ e. IsOfRoots e → Narrows H.Host.own host.old host.new) }
+    ensures moments { IsTrue H.is_told → LeavesOnly H.Host.own host.old host.new
+        (λ f s. (s ≡ H.said host.old) × IsOpening H.Host.own host.old name.now f) }
+    ensures only { NarrowsBut H.Host.own (roots_file name.now) host.old host.new }
+    ensures spares { Spares H.Host.own (IsNoFileOf name.now) host.old host.new }
+    ensures cause { IfErr result (OpeningHasCause H.Host.own host.old host.new) }
+{
+    let store = open_store(alloc, host, name)?;
+    let loaded = read_image::<L, H>(alloc, host, &store)?;
+    let changes = load(alloc, host, &store)?;
+    Ok(Fetched {
+        loaded,
+        store,
+        changes,
+    })
+}
+
+/// Installs the definitions again that stand from a place of their changes file on.
+fn install_again<I: Installer, M: Memory>(
+    alloc: Global,
+    m: &mut M,
+    changes: &Changes,
+    base: u64,
+) -> Result<Replay, AllocError>
+    requires good { All IsDefinition changes.now.listed }
+    requires stands { StandsAt changes.now.listed base }
+    requires limit { length (entries changes.now.listed) ≤ 2 ^ 30 }
+    ensures replays { IfOk result
+        (ReplaysFrom I.install changes.now.listed base (M.view m.old) (M.view m.new)) }
+    ensures few { IfOk result (λ r. length r.lost.items < 2 ^ 32) }
+    ensures ready { (f : Frame) (w : World) → IsReady (M.view m.old) f w → IsReady (M.view m.new) f w }
+{
+    let before = changes.count_before(base);
+    replay_all::<I, M>(alloc, m, &changes.definitions()[before..], before as u32)
+}
+
+/// Opens the store of this name: the objects and registers of its image, with the definitions from its base on installed again,
+/// or listed as lost. Why it isn't opened is looked for in this order: the roots file and its root, the image's length, the image,
+/// the changes file.
+pub fn reopen<I: Installer, L: Loader, H: Host>(
+    alloc: Global,
+    host: &mut H,
+    name: &str,
+) -> Result<Opened<L::Done>, OpenFault>
+    // The files open as one commit, which is what is answered.
+    ensures opened { IfOk result (λ o. IsTrue H.is_told → (c : Commit)
+        × IsReopenedAs H.Host.own I.install L.Done.view name.now host.old host.new o c) }
+    ensures named { IfOk result (λ o. o.store.name ≡ name.now) }
+    ensures listed { IfOk result (λ o. o.changes.name ≡ name.now) }
+    ensures whole { IfOk result (λ o. o.store.root.length ≡ length (entries o.changes.listed)) }
+    ensures frame { IfOk result (λ o. IsFrame (L.Done.view o.loaded.memory) o.loaded.frame) }
+    ensures quiet { IfOk result (λ o. (L.Done.view o.loaded.memory).held.devices ≡ no_devices) }
+    ensures few { IfOk result (λ o. length o.lost.items < 2 ^ 32) }
+
+    ensures refused { IfErr result (λ e. IsTrue H.is_told
+        → RefusesOpening name.now (H.files host.old) e) }
+    ensures kind { IfErr result IsOfReopening }
+    ensures writes_nothing { IfErr result (λ e. IsOfRoots e → Narrows H.Host.own host.old host.new) }
+
+    // A stop at any moment, and from then on, leaves what it could leave before, or files that open as those that were read.
+    ensures moments { IsTrue H.is_told → LeavesOnly H.Host.own host.old host.new
+        (λ f s. (s ≡ H.said host.old) × IsOpening H.Host.own host.old name.now f) }
+    ensures leaves { IsTrue H.is_told → (f : Files) → ((n : List ℕ) → H.may_leave host.new n (f n))
+        → IsOpening H.Host.own host.old name.now f }
+
+    ensures only { NarrowsBut H.Host.own (roots_file name.now) host.old host.new }
+    ensures spares { Spares H.Host.own (IsNoFileOf name.now) host.old host.new }
+    ensures cause { IfErr result (OpeningHasCause H.Host.own host.old host.new) }
+{
+    let Fetched {
+        mut loaded,
+        store,
+        changes,
+    } = fetch::<L, H>(alloc, host, name)?;
+    let base = store.root().base;
+    let Replay { count, lost } = install_again::<I, L::Done>(
+        alloc,
+        &mut loaded.memory,
+        &changes,
+        base,
+    )?;
+    Ok(Opened {
+        loaded,
+        store,
+        changes,
+        replayed: count,
+        lost,
+    })
+}

@@ -1,0 +1,101 @@
+-- Last lines acknowledge nothing, and none says that an image is imported.
+use Rattle.std.proofs.Common.{◌≡◌, ℕ, List, [], ◌∷◌, ◌++◌, refl, sym, ap, ◌∙◌, subst, append-nil, arith}
+use Rattle.std.specs.Prelude.{codes, decimal, slice_index}
+use Rattle.std.proofs.lemmas.List.{append_cancel_left}
+use Rattle.st_outside.specs.Stops.{SaidPart}
+use Rattle.st_model.specs.declared.fault.ImageFault.{ImageFault}
+use Rattle.st_model.specs.Table.{Table}
+use Rattle.st_model.specs.Text.{numbers_text}
+use Rattle.st_store.specs.declared.fault.StoreFault.{StoreFault}
+use Rattle.st_store.specs.declared.fault.StoreFault.TheVariants as store
+use Rattle.st_store.specs.declared.fault.StorePlace.{StorePlace}
+use Rattle.st_store.specs.declared.fault.StorePlace.TheVariants.{Roots, Changes}
+use Rattle.st_course.specs.declared.status.Status.{Status}
+use Rattle.st_course.specs.declared.status.Status.TheVariants as status
+use Rattle.st_course.specs.Acknowledged.{counts, acknowledged}
+use Rattle.st_course.proofs.Counting.{front_of}
+use Rattle.st_course.proofs.Underways.{nothing_of}
+use Rattle.st_session.specs.Commands.{fault_line, fault_numbers, script_line, place_line, store_line, last_line}
+use Rattle.st_session.specs.Imports.{imported_text}
+use Rattle.st_session.proofs.WholeLines.{IsLine, one_line, numbers_line}
+
+-- a word and one number
+word_line : (word : List ℕ) (n : ℕ) → word ++ (numbers_text (n ∷ []) ++ codes "\n") ≡ word ++ ((codes " " ++ decimal n) ++ codes "\n")
+word_line word n = ap (λ t. word ++ (t ++ codes "\n")) (append-nil (codes " " ++ decimal n))
+
+-- a line acknowledges nothing if two letters with which it begins are those of no line that does
+quiet_word : (b d : ℕ) (rest word : List ℕ) → ((w : List ℕ) → counts (b ∷ d ∷ w) ≡ 0) → (d ≡ 10 → ⊥) → b ∷ d ∷ rest ≡ word ++ 10 ∷ [] → counts word ≡ 0
+quiet_word b d rest [] none inside e = cc
+quiet_word b d rest (x ∷ []) none inside e = let second : d ≡ 10 = ap (λ (l : List ℕ). slice_index l 1) e in absurd (inside second)
+quiet_word b d rest (x ∷ y ∷ w) none inside e =
+    let first : x ≡ b = sym (ap (λ (l : List ℕ). slice_index l 0) e) in
+    let second : y ≡ d = sym (ap (λ (l : List ℕ). slice_index l 1) e) in
+    (λ i. counts (first i ∷ second i ∷ w)) ∙ none w
+
+quiet : (b d : ℕ) (rest : List ℕ) → ((w : List ℕ) → counts (b ∷ d ∷ w) ≡ 0) → (d ≡ 10 → ⊥) → IsLine (b ∷ d ∷ rest) → acknowledged (b ∷ d ∷ rest) ≡ 0
+quiet b d rest none inside l = (one_line 0 (b ∷ d ∷ rest) l (quiet_word b d rest l.word none inside l.is)).count
+
+fault_quiet : (f : ImageFault) → acknowledged (fault_line f) ≡ 0
+fault_quiet f = quiet 105 109 _ (λ w. refl) (λ e. omega (arith, e)) (numbers_line (codes "image") (fault_numbers f) refl)
+
+script_quiet : (n : ℕ) → acknowledged (script_line n) ≡ 0
+script_quiet n = ap acknowledged (sym (word_line (codes "script") n)) ∙ quiet 115 99 _ (λ w. refl) (λ e. omega (arith, e)) (numbers_line (codes "script") (n ∷ []) refl)
+
+place_quiet : (p : StorePlace) → acknowledged (place_line p) ≡ 0
+place_quiet (Roots at) = ap acknowledged (sym (word_line (codes "store damaged roots") at)) ∙ quiet 115 116 _ (λ w. refl) (λ e. omega (arith, e)) (numbers_line (codes "store damaged roots") (at ∷ []) refl)
+place_quiet (Changes at) = ap acknowledged (sym (word_line (codes "store damaged changes") at)) ∙ quiet 115 116 _ (λ w. refl) (λ e. omega (arith, e)) (numbers_line (codes "store damaged changes") (at ∷ []) refl)
+
+store_quiet : (f : StoreFault) → acknowledged (store_line f) ≡ 0
+store_quiet store.Missing = refl
+store_quiet store.Exists = refl
+store_quiet (store.NotAStore place) = place_quiet place
+store_quiet store.Disk = refl
+store_quiet store.OutOfMemory = refl
+
+pub quiet_line : (e : Status) → acknowledged (last_line e) ≡ 0
+quiet_line status.Done = refl
+quiet_line status.Usage = refl
+quiet_line (status.Image f) = fault_quiet f
+quiet_line (status.Script line) = script_quiet line
+quiet_line status.ReadFault = refl
+quiet_line status.SayFault = refl
+quiet_line status.DiskFault = refl
+quiet_line (status.Store f) = store_quiet f
+quiet_line status.TooLarge = refl
+quiet_line status.OutOfMemory = refl
+
+-- IMPORTED
+
+third : {a b : List ℕ} → a ≡ b → slice_index a 2 ≡ slice_index b 2
+third e = ap (λ (l : List ℕ). slice_index l 2) e
+
+not_store : (t : Table) (f : StoreFault) (rest : List ℕ) → imported_text t ++ rest ≡ store_line f → ⊥
+not_store t store.Missing rest e = let x : 112 ≡ 111 = third e in omega (arith, x)
+not_store t store.Exists rest e = let x : 112 ≡ 111 = third e in omega (arith, x)
+not_store t (store.NotAStore (Roots at)) rest e = let x : 112 ≡ 111 = third e in omega (arith, x)
+not_store t (store.NotAStore (Changes at)) rest e = let x : 112 ≡ 111 = third e in omega (arith, x)
+not_store t store.Disk rest e = let x : 112 ≡ 115 = third e in omega (arith, x)
+not_store t store.OutOfMemory rest e = let x : 112 ≡ 116 = third e in omega (arith, x)
+
+not_imported : (t : Table) (e : Status) (rest : List ℕ) → imported_text t ++ rest ≡ last_line e → ⊥
+not_imported t status.Done rest e = let x : 112 ≡ 0 = third e in omega (arith, x)
+not_imported t status.Usage rest e = let x : 112 ≡ 97 = third e in omega (arith, x)
+not_imported t (status.Image f) rest e = let x : 112 ≡ 97 = third e in omega (arith, x)
+not_imported t (status.Script line) rest e = let x : 112 ≡ 114 = third e in omega (arith, x)
+not_imported t status.ReadFault rest e = let x : 112 ≡ 97 = third e in omega (arith, x)
+not_imported t status.SayFault rest e = let x : 112 ≡ 0 = third e in omega (arith, x)
+not_imported t status.DiskFault rest e = let x : 112 ≡ 115 = third e in omega (arith, x)
+not_imported t (status.Store f) rest e = not_store t f rest e
+not_imported t status.TooLarge rest e = let x : 112 ≡ 111 = third e in omega (arith, x)
+not_imported t status.OutOfMemory rest e = let x : 112 ≡ 116 = third e in omega (arith, x)
+
+-- no part of a last line
+pub part_not_imported : (t : Table) (e : Status) (said s : List ℕ) → SaidPart said (last_line e) s → s ≡ said ++ imported_text t → ⊥
+part_not_imported t e said s part whole =
+    let front = front_of said (last_line e) s part in
+    let same : front.0 ≡ imported_text t = append_cancel_left said front.0 (imported_text t) (sym front.1 ∙ whole) in
+    not_imported t e (front.2).0 (subst (λ (w : List ℕ). w ++ (front.2).0 ≡ last_line e) same (front.2).1)
+
+-- nor nothing
+pub none_not_imported : (t : Table) (said s : List ℕ) → s ≡ said → s ≡ said ++ imported_text t → ⊥
+none_not_imported t said s same whole = part_not_imported t status.Done said s (nothing_of said [] s same) whole

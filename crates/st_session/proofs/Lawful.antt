@@ -1,0 +1,168 @@
+-- A session acknowledges each commit that it makes, and nothing else.
+use Rattle.std.proofs.Common.{◌≡◌, ℕ, zero, suc, Bool, true, false, List, [], ◌∷◌, length, refl}
+use Rattle.std.specs.Prelude.{codes, nat_le, take, Option, Some, None}
+use Rattle.st_model.specs.declared.dead.Dead.{Dead}
+use Rattle.st_model.specs.declared.event.Event.TheVariants as event
+use Rattle.st_model.specs.Outcomes.{Ending, With, Space}
+use Rattle.st_model.specs.Outcomes as outcome
+use Rattle.st_model.specs.Machine.{State, Transition, Died, Went}
+use Rattle.st_model.specs.Births.{Births, births}
+use Rattle.st_model.specs.Table.{total_used}
+use Rattle.st_model.specs.Objects.{one, words_of}
+use Rattle.st_model.specs.Cycles.{cycle}
+use Rattle.st_model.specs.Events as events
+use Rattle.st_model.specs.Saving.{save}
+use Rattle.st_model.specs.Show.{show}
+use Rattle.st_model.specs.Text.{ran_text, dead_text, space_text, quit_text, debugger_text, said_value, used_text}
+use Rattle.st_chunk.specs.Definitions.{Definition, IsDefinition}
+use Rattle.st_script.specs.declared.request.Request.{Request}
+use Rattle.st_script.specs.declared.request.Request.TheVariants.{Run, Input, Mouse, Clock, Tick, State as ShowState, Used, Snapshot, End, Define, Wrong}
+use Rattle.st_script.specs.Reading.{Reading, line_from}
+use Rattle.st_script.specs.Scripts.{Asked, Asks, Defines, IsSound, asked_from, told_from}
+use Rattle.st_script.proofs.Asking.{AreGood, IsGood, asked_good, told_good}
+use Rattle.st_course.specs.Acknowledged.{IsLines, AcknowledgesEach}
+use Rattle.st_course.proofs.Lawful.{IsLawful, lawful_preceded, lawful_then, law_of}
+use Rattle.st_course.specs.Courses.{Deed, Reply, Course, deeds_of, preceded, and_then, replies}
+use Rattle.st_installer.specs.Installing.{Installed, Refused, Accepted, Install}
+use Rattle.st_definition.specs.Defining.{installed}
+use Rattle.st_definition.proofs.Selectors.{IsInLine, accepted_selector}
+use Rattle.st_recover.specs.Commits.{Commit, fits, accepted_if}
+use Rattle.st_recover.specs.Replays.{Loss}
+use Rattle.st_session.specs.Points.{Being, Alive, Gone, Point, alive}
+use Rattle.st_session.specs.Keeping.{Keeping, image_of, saved, in_a_store}
+use Rattle.st_session.specs.Replies.{ok_text, full_text, machine_text, accepted_text, refused_text, opening_text}
+use Rattle.st_session.specs.Answers.{dead_line, event_course, going_on, cycle_course, run_course, living_line, line_course, defined_course, definition_course, answer}
+use Rattle.st_session.specs.Sessions.{longest, follow, follow_rest, follow_script, session, session_so_far}
+use Rattle.st_session.proofs.WholeLines.{numbers_lines, dead_lines, machine_lines, said_value_lines, accepted_lines, refused_lines, opening_lines, snapshot_lines}
+
+-- COURSES
+
+abbrev Any : {X : Type 0} → X → Type 0
+Any x = Unit {0}
+
+-- what a course does keeps the law
+abbrev pub KeepsLaw : {C X : Type 0} → Course C X → Type 0
+KeepsLaw c = IsLawful Any c
+
+preceded_law : {C X : Type 0} (ds : List (Deed C)) (c : Course C X) → AcknowledgesEach ds → KeepsLaw c → KeepsLaw (preceded ds c)
+preceded_law ds c h k = lawful_preceded Any ds c h k
+
+then_law : {C X Y : Type 0} (c : Course C X) (f : X → Course C Y) → KeepsLaw c → ((x : X) → KeepsLaw (f x)) → KeepsLaw (and_then c f)
+then_law c f h k = lawful_then Any Any c f h (λ x any. k x)
+
+-- such a text is all that a course says
+said : (text : List ℕ) → IsLines 0 text → (IsLines 0 text × Unit {0}) × Unit {0}
+said text h = ((h, tt), tt)
+
+-- WHAT IS KEPT
+
+-- what is kept is acknowledged by what is said next
+pub record KeepsLawfully {C : Type 0} (keeping : Keeping C) : Type 0 where
+  pub accepts : (c : C) (d : Definition) (text : List ℕ) (t : State Births) → IsLines 1 text → KeepsLaw (and_then (keeping.accepts c d) (λ k. replies text (alive t k)))
+  pub snapshot : (n : ℕ) (s : State Births) (c : C) → KeepsLaw (keeping.snapshot n s c)
+
+-- the selectors of what is accepted have no line's end
+abbrev pub InstallsInLine : Install → Type 0
+InstallsInLine install = (d : Definition) (s : State Births) (selector : List ℕ) (t : State Births) → install d s ≡ Accepted selector t → IsInLine selector
+
+module _ {C : Type 0} where
+  dead_lawful : (cause : Dead) (c : C) (request : Request) → KeepsLaw (dead_line cause c request)
+  dead_lawful cause c End = tt
+  dead_lawful cause c (Wrong line) = tt
+  dead_lawful cause c request = said (dead_text 0 cause) (dead_lines 0 cause)
+
+  event_lawful : (s : State Births) (c : C) (o : Option (State Births)) → KeepsLaw (event_course s c o)
+  event_lawful s c None = said full_text (record { whole = refl; count = refl })
+  event_lawful s c (Some t) = said ok_text (record { whole = refl; count = refl })
+
+  module _ (keeping : Keeping C) (laws : KeepsLawfully keeping) where
+    going_lawful : (f : State Births → C → Course C (Point C)) (b : Being) (c : C) → ((t : State Births) (d : C) → KeepsLaw (f t d)) → KeepsLaw (going_on keeping f b c)
+    going_lawful f (Alive s) c h = h s c
+    going_lawful f (Gone cause) c h = (tt, tt)
+
+    cycle_lawful : (n : ℕ) (o : Transition (State Births) Ending) (f : State Births → C → Course C (Point C)) (c : C) → ((t : State Births) (d : C) → KeepsLaw (f t d)) → KeepsLaw (cycle_course keeping n o f c)
+    cycle_lawful n (Died cause) f c h = said (dead_text n cause) (dead_lines n cause)
+    cycle_lawful n (Went (With outcome.Went) s) f c h = h s c
+    cycle_lawful n (Went (With outcome.Snapshot) s) f c h = then_law (keeping.snapshot (suc n) s c) _ (laws.snapshot (suc n) s c) (λ p. going_lawful f p.being p.kept h)
+    cycle_lawful n (Went (With outcome.Quit) s) f c h = said (quit_text (suc n)) (numbers_lines 0 (codes "quit") (suc n ∷ []) refl refl)
+    cycle_lawful n (Went (With outcome.Debugger) s) f c h = said (debugger_text (suc n)) (numbers_lines 0 (codes "debugger") (suc n ∷ []) refl refl)
+    cycle_lawful n (Went (With (outcome.Say v)) s) f c h = preceded_law (Reply (said_value s.memory v) ∷ []) (f s c) (said_value_lines s.memory v, tt) (h s c)
+    cycle_lawful n (Went (Space demand left) s) f c h = said (space_text n demand left) (numbers_lines 0 (codes "space") (n ∷ demand.entries ∷ demand.words ∷ left.entries ∷ left.words ∷ []) refl refl)
+
+    run_lawful : (k n : ℕ) (s : State Births) (c : C) → KeepsLaw (run_course keeping n k s c)
+    unfolding run_course
+    run_lawful zero n s c = said (ran_text n) (numbers_lines 0 (codes "ran") (n ∷ []) refl refl)
+    run_lawful (suc k) n s c = cycle_lawful n (cycle births s) (run_course keeping (suc n) k) c (λ t d. run_lawful k (suc n) t d)
+
+    living_lawful : (s : State Births) (c : C) (request : Request) → KeepsLaw (living_line keeping s c request)
+    living_lawful s c (Run n) = run_lawful n 0 s c
+    living_lawful s c (Input word) = event_lawful s c (events.event births (event.Word word) s)
+    living_lawful s c (Mouse x y) = event_lawful s c (events.event births (event.Mouse x y) s)
+    living_lawful s c (Clock time) = event_lawful s c (events.event births (event.Clock time) s)
+    living_lawful s c (Tick time) = event_lawful s c (events.event births (event.Tick time) s)
+    living_lawful s c ShowState = said (machine_text (show s)) (machine_lines (show s))
+    living_lawful s c Used = said (used_text (show s).memory) (numbers_lines 0 (codes "used") (total_used one (show s).memory ∷ total_used words_of (show s).memory ∷ []) refl refl)
+    living_lawful s c Snapshot = laws.snapshot 0 s c
+    living_lawful s c End = tt
+    living_lawful s c Define = (tt, tt)
+    living_lawful s c (Wrong line) = tt
+
+    line_lawful : (b : Being) (c : C) (request : Request) → KeepsLaw (line_course keeping b c request)
+    line_lawful (Alive s) c request = living_lawful s c request
+    line_lawful (Gone cause) c request = dead_lawful cause c request
+
+    defined_lawful : (s : State Births) (c : C) (d : Definition) (o : Installed) → IsDefinition d → ((selector : List ℕ) (t : State Births) → o ≡ Accepted selector t → IsInLine selector) → KeepsLaw (defined_course keeping s c d o)
+    defined_lawful s c d (Refused why) good h = said (refused_text why) (refused_lines why)
+    defined_lawful s c d (Accepted selector t) good h = laws.accepts c d (accepted_text d selector) t (accepted_lines d selector good.named (h selector t refl))
+
+    module _ (install : Install) (in_line : InstallsInLine install) where
+      definition_lawful : (b : Being) (c : C) (d : Definition) → IsDefinition d → KeepsLaw (definition_course keeping install b c d)
+      definition_lawful (Alive s) c d good = defined_lawful s c d (install d s) good (in_line d s)
+      definition_lawful (Gone cause) c d good = said (dead_text 0 cause) (dead_lines 0 cause)
+
+      answer_lawful : (p : Point C) (a : Asked) → IsGood a → KeepsLaw (answer keeping install p a)
+      answer_lawful p (Asks request) good = line_lawful p.being p.kept request
+      answer_lawful p (Defines d) good = definition_lawful p.being p.kept d good
+
+      follow_lawful : (p : Point C) (all : List Asked) → AreGood all → KeepsLaw (follow keeping install p all)
+      follow_lawful p [] good = (tt, tt)
+      follow_lawful p (a ∷ rest) good = then_law (answer keeping install p a) _ (answer_lawful p a good.0) (λ q. follow_lawful q rest good.1)
+
+      rest_lawful : (r : Reading) (left : ℕ) (p : Point C) (rest : List ℕ) (t : Bool) → IsSound r.place → KeepsLaw (follow_rest keeping install r left p rest t)
+      rest_lawful r left p rest true sound = then_law (follow keeping install p (asked_from r rest)) _ (follow_lawful p (asked_from r rest) (asked_good r rest sound)) (λ q. tt)
+      rest_lawful r left p rest false sound = then_law (follow keeping install p (told_from r (take left rest))) _ (follow_lawful p (told_from r (take left rest)) (told_good r (take left rest) sound)) (λ q. tt)
+
+      pub follow_law : (p : Point C) (script : List ℕ) → KeepsLaw (follow_script keeping install p script)
+      follow_law p script = rest_lawful (line_from 1) longest p script (nat_le (length script) longest) tt
+
+      pub any_session_law : (replayed : ℕ) (lost : List Loss) (p : Point C) (script : List ℕ) → AcknowledgesEach (deeds_of (session keeping install replayed lost p script))
+      unfolding session
+      any_session_law replayed lost p script =
+          law_of Any _ (preceded_law (Reply (opening_text replayed lost) ∷ []) (follow_script keeping install p script) (opening_lines replayed lost, tt) (follow_law p script))
+
+      pub any_session_so_far_law : (replayed : ℕ) (lost : List Loss) (p : Point C) (front : List ℕ) → AcknowledgesEach (deeds_of (session_so_far keeping install replayed lost p front))
+      any_session_so_far_law replayed lost p front =
+          let all = told_from (line_from 1) front in
+          law_of Any _ (preceded_law (Reply (opening_text replayed lost) ∷ []) (follow keeping install p all) (opening_lines replayed lost, tt) (follow_lawful p all (told_good (line_from 1) front tt)))
+
+-- IN A STORE
+
+accepting_lawful : (c : Commit) (d : Definition) (text : List ℕ) (t : State Births) (b : Bool) → IsLines 1 text → KeepsLaw (and_then (accepted_if c d b) (λ k. replies text (alive t k)))
+accepting_lawful c d text t true h = ((h, tt), tt)
+accepting_lawful c d text t false h = tt
+
+saved_lawful : (n : ℕ) (o : Transition (State Births) Unit) (c : Commit) → KeepsLaw (saved n o c)
+saved_lawful n (Died cause) c = said (dead_text n cause) (dead_lines n cause)
+saved_lawful n (Went u s) c = ((snapshot_lines (length (image_of s)), tt), tt)
+
+store_laws : KeepsLawfully in_a_store
+store_laws = record {
+  accepts = λ c d text t h. accepting_lawful c d text t (fits c d) h;
+  snapshot = λ n s c. saved_lawful n (save births s) c;
+}
+
+pub session_law : (replayed : ℕ) (lost : List Loss) (p : Point Commit) (script : List ℕ) → AcknowledgesEach (deeds_of (session in_a_store installed replayed lost p script))
+session_law = any_session_law in_a_store store_laws installed accepted_selector
+
+pub session_so_far_law : (replayed : ℕ) (lost : List Loss) (p : Point Commit) (front : List ℕ) → AcknowledgesEach (deeds_of (session_so_far in_a_store installed replayed lost p front))
+session_so_far_law = any_session_so_far_law in_a_store store_laws installed accepted_selector

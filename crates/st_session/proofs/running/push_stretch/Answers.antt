@@ -1,0 +1,86 @@
+use Rattle.std.proofs.Common.{◌≡◌, ◌+◌, ◌≤◌, ◌<◌, None, refl, sym, ap, subst, ◌∙◌, arith}
+use Rattle.st_model.specs.Values.{value}
+use Rattle.st_machine.specs.declared.ending.RunEnd.{RunEnd}
+use Rattle.st_machine.specs.declared.ending.RunEnd.TheVariants as end
+use Rattle.st_machine.specs.Runs.{cycles_of, death_of}
+use Rattle.st_report.specs.Saying.{said_in}
+use Rattle.st_report.proofs.Pushing.{push_as}
+use Rattle.st_session.specs.Runs.{end_text}
+use Rattle.st_session.specs.Standing.{shown_by}
+use Rattle.st_session.specs.Stretches.{PushesStretch, stretch}
+use Rattle.st_session.proofs.Cycles.{SaidSoFar, none_so_far, ends_here, end_unsaid, stops_here, said_on, cut_short}
+use Rattle.st_session.proofs.running.push_stretch.Goals as goal
+
+pub cycles-init : goal.cycles-init
+cycles-init g c = record {
+  ready = c.requires.ready;
+  alive = c.requires.alive;
+  later = omega arith;
+  few = c.requires.few;
+  said = λ s h. none_so_far g.H.Host c.args.cycles c.args.finished s (shown_by g.M.Memory.view c.args.machine.now) c.args.host.now c.args.out.now (g.met.H.Host.only_now c.args.host.now) h;
+}
+
+pub returns-in-Snapshot-clause-pushes : goal.returns-in-Snapshot-clause-pushes
+returns-in-Snapshot-clause-pushes g c = λ s h.
+    let new = c.run-end.new.self in
+    let e = c.run-end.result in
+    let d = shown_by g.M.Memory.view new in
+    let far = c.cycles.invariant.said s h in
+    let alive = c.cycles.invariant.alive in
+    let ends = c.run-end.ensures.ends alive far.state far.shows in
+    let lives = c.run-end.ensures.death alive ∙ ap death_of c.in-Snapshot.is in
+    rw c.finished-finished.ensures (stops_here far e d ends new.death _ lives c.in-Snapshot.is (g.met.H.Host.only_now c.cycles.host))
+
+pub cycles-preserved : goal.cycles-preserved
+cycles-preserved g c =
+    let new = c.run-end.new.self in
+    let e = c.run-end.result in
+    let n = c.args.cycles in
+    let d = shown_by g.M.Memory.view new in
+    let alive = c.cycles.invariant.alive in
+    let lives = c.run-end.ensures.death alive ∙ ap death_of c.in-Say.is in
+    let most = c.run-end.ensures.counts.most in
+    let count = c.finished-finished.ensures in
+    let few = c.cycles.invariant.few in
+    let later = c.cycles.invariant.later in
+    record {
+      ready = c.run-end.ensures.ready lives;
+      alive = lives;
+      later = omega (arith, later);
+      few = omega (arith, most, count, few);
+      said = λ s h.
+          let far = c.cycles.invariant.said s h in
+          let ends = c.run-end.ensures.ends alive far.state far.shows in
+          let line = push_as c.in-Ok.ensures (ap (λ m. said_in (g.M.Memory.view m).objects (value c.in-Say.object)) c.memory.ensures) in
+          subst (λ k. SaidSoFar g.H.Host n c.args.finished s (c.cycles.finished + k) d c.args.host.now c.push_said.new.host c.args.out.now c.push_said.new.out) (sym count) (said_on far e d ends _ c.in-Say.object c.in-Say.is line);
+    }
+
+pub returns-in-Err-clause-pushes : goal.returns-in-Err-clause-pushes
+returns-in-Err-clause-pushes g c = λ s h.
+    let new = c.run-end.new.self in
+    let e = c.run-end.result in
+    let d = shown_by g.M.Memory.view new in
+    let far = c.cycles.invariant.said s h in
+    let ends = c.run-end.ensures.ends c.cycles.invariant.alive far.state far.shows in
+    cut_short far e d ends _ c.in-Say.object c.in-Say.is new.death (push_as c.in-Err.ensures (ap (λ m. said_in (g.M.Memory.view m).objects (value c.in-Say.object)) c.memory.ensures))
+
+pub returns-in-Ok-push_end-clause-pushes : goal.returns-in-Ok-push_end-clause-pushes
+returns-in-Ok-push_end-clause-pushes g c = λ s h.
+    let new = c.run-end.new.self in
+    let e = c.run-end.result in
+    let d = shown_by g.M.Memory.view new in
+    let far = c.cycles.invariant.said s h in
+    let alive = c.cycles.invariant.alive in
+    let ends = c.run-end.ensures.ends alive far.state far.shows in
+    ends_here far e d ends new.death (c.run-end.ensures.death alive) c.in_default.not-Snapshot c.in_default.not-Say
+    (push_as c.in-Ok-push_end.ensures (λ i. end_text (c.cycles.finished + c.finished-finished.ensures i) e))
+
+pub returns-in-Err-push_end-clause-pushes : goal.returns-in-Err-push_end-clause-pushes
+returns-in-Err-push_end-clause-pushes g c = λ s h.
+    let new = c.run-end.new.self in
+    let e = c.run-end.result in
+    let d = shown_by g.M.Memory.view new in
+    let far = c.cycles.invariant.said s h in
+    let ends = c.run-end.ensures.ends c.cycles.invariant.alive far.state far.shows in
+    end_unsaid far e d ends new.death c.in_default.not-Snapshot c.in_default.not-Say
+    (push_as c.in-Err-push_end.ensures (λ i. end_text (c.cycles.finished + c.finished-finished.ensures i) e))

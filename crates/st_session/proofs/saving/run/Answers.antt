@@ -1,0 +1,140 @@
+use Rattle.std.proofs.Common.{◌≡◌, ◌∙◌, ◌-◌, ◌≤◌, ◌<◌, ℕ, true, false, refl, sym, subst, arith}
+use Rattle.std.specs.Prelude.{Option, Some, None, is_some, IfSome, Ok, Err}
+use Rattle.st_model.specs.declared.dead.Dead.{Dead}
+use Rattle.st_course.proofs.Joins.{counts_behind}
+use Rattle.st_session.specs.Answers.{going_on, run_course}
+use Rattle.st_session.specs.Keeping.{in_a_store}
+use Rattle.st_session.specs.Points.{alive}
+use Rattle.st_session.specs.Standing.{shown_by}
+use Rattle.st_session.specs.Stretches.{SaysStretch, stretch}
+use Rattle.st_session.proofs.Points.{living_answers}
+use Rattle.st_session.proofs.Snapshots.{ran_none, run_over, run_unsaid, asked, at_snapshot, snapshot_failed, snapshot_died, snapshot_kept}
+use Rattle.st_session.proofs.saving.run.Goals as goal
+
+some_of : (x : Option Dead) → is_some x ≡ true → (cause : Dead) × (x ≡ Some cause)
+some_of (Some cause) e = (cause, refl)
+some_of None e = absurd (cc)
+
+none_of : (x : Option Dead) → is_some x ≡ false → x ≡ None
+none_of (Some cause) e = absurd (cc)
+none_of None e = refl
+
+pub stretches-init : goal.stretches-init
+stretches-init g c = record {
+  go_on = c.requires.go_on;
+  alive = c.requires.alive;
+  named = refl;
+  few = omega arith;
+  disk = omega arith;
+  say = omega arith;
+  ran = λ s k shows holds. ran_none g.M.Memory.view g.H.Host c.args.cycles s k c.args.machine.now c.args.archive.now c.args.host.now (g.met.H.Host.only_now c.args.host.now) shows holds;
+}
+
+-- THE RUN'S END
+
+pub returns-in-Ok-None-clause-follows : goal.returns-in-Ok-None-clause-follows
+returns-in-Ok-None-clause-follows g c =
+    let view = g.M.Memory.view in
+    let n = c.args.cycles in
+    let inv = c.stretches.invariant in
+    let m1 = c.say_stretch.new.machine in
+    let mid = c.say_stretch.new.host in
+    living_answers view g.H.Host c.args.machine.now c.args.archive.now c.args.host.now m1 c.stretches.archive mid (λ being. going_on in_a_store (run_course in_a_store 0 n) being) (Ok tt) c.requires.alive
+    (λ s k shows holds.
+    let far = inv.ran s k shows holds in
+    run_over view g.H.Host far inv.few (sym inv.named) m1 mid (g.met.H.Host.only_now mid)
+    (subst (λ (x : Option ℕ). SaysStretch g.H.Host m1.death (shown_by view m1) (stretch c.stretches.finished (n - c.stretches.finished) far.state) c.stretches.host mid (Ok x)) c.in-Ok-None.field-0-is (c.in-Ok-None.ensures.says far.state far.shows)))
+
+pub returns-in-Ok-None-clause-counts : goal.returns-in-Ok-None-clause-counts
+returns-in-Ok-None-clause-counts g c = counts_behind g.H.Host ⊥ c.args.host.now c.stretches.host c.say_stretch.new.host (Ok tt) c.stretches.invariant.disk c.stretches.invariant.say c.in-Ok-None.ensures.counts
+
+-- WHAT IS SAID ISN'T SAID WHOLE
+
+pub returns-in-Err-clause-follows : goal.returns-in-Err-clause-follows
+returns-in-Err-clause-follows g c =
+    let view = g.M.Memory.view in
+    let inv = c.stretches.invariant in
+    let m1 = c.say_stretch.new.machine in
+    let mid = c.say_stretch.new.host in
+    living_answers view g.H.Host c.args.machine.now c.args.archive.now c.args.host.now m1 c.stretches.archive mid (λ being. going_on in_a_store (run_course in_a_store 0 c.args.cycles) being) (Err c.in-Err.status) c.requires.alive
+    (λ s k shows holds.
+    let far = inv.ran s k shows holds in
+    run_unsaid view g.H.Host far inv.few (sym inv.named) m1 mid m1 c.stretches.archive c.in-Err.status (c.in-Err.ensures.says far.state far.shows))
+
+pub returns-in-Err-clause-counts : goal.returns-in-Err-clause-counts
+returns-in-Err-clause-counts g c = counts_behind g.H.Host ⊥ c.args.host.now c.stretches.host c.say_stretch.new.host (Err c.in-Err.status) c.stretches.invariant.disk c.stretches.invariant.say c.in-Err.ensures.counts
+
+-- A SNAPSHOT
+
+pub returns-in-Err-snapshot-clause-follows : goal.returns-in-Err-snapshot-clause-follows
+returns-in-Err-snapshot-clause-follows g c =
+    let view = g.M.Memory.view in
+    let n = c.args.cycles in
+    let inv = c.stretches.invariant in
+    let m1 = c.say_stretch.new.machine in
+    let mid = c.say_stretch.new.host in
+    let m2 = c.snapshot.new.machine in
+    let b = c.snapshot.new.archive in
+    let new = c.snapshot.new.host in
+    let j = c.in-Ok-Some.asked in
+    living_answers view g.H.Host c.args.machine.now c.args.archive.now c.args.host.now m2 b new (λ being. going_on in_a_store (run_course in_a_store 0 n) being) (Err c.in-Err-snapshot.status) c.requires.alive
+    (λ s k shows holds.
+    let far = inv.ran s k shows holds in
+    let said = subst (λ (x : Option ℕ). SaysStretch g.H.Host m1.death (shown_by view m1) (stretch c.stretches.finished (n - c.stretches.finished) far.state) c.stretches.host mid (Ok x)) c.in-Ok-Some.field-0-is (c.in-Ok-Some.ensures.says far.state far.shows) in
+    let from = at_snapshot view g.H.Host far inv.few (sym inv.named) m1 mid j said m2 b new in
+    let p = alive (asked view g.H.Host far inv.few (sym inv.named) m1 mid j said m2 b new).state far.commit in
+    snapshot_failed view g.H.Host far inv.few (sym inv.named) m1 mid j said m2 b new c.in-Err-snapshot.status
+    (c.in-Err-snapshot.ensures.follows p from))
+
+-- the machine died of saving
+pub returns-then-is_some-clause-follows : goal.returns-then-is_some-clause-follows
+returns-then-is_some-clause-follows g c =
+    let view = g.M.Memory.view in
+    let n = c.args.cycles in
+    let inv = c.stretches.invariant in
+    let m1 = c.say_stretch.new.machine in
+    let mid = c.say_stretch.new.host in
+    let m2 = c.snapshot.new.machine in
+    let b = c.snapshot.new.archive in
+    let new = c.snapshot.new.host in
+    let j = c.in-Ok-Some.asked in
+    let died = some_of c.death.result (sym c.is_some.ensures ∙ c.if-is_some.true) in
+    living_answers view g.H.Host c.args.machine.now c.args.archive.now c.args.host.now m2 b new (λ being. going_on in_a_store (run_course in_a_store 0 n) being) (Ok tt) c.requires.alive
+    (λ s k shows holds.
+    let far = inv.ran s k shows holds in
+    let said = subst (λ (x : Option ℕ). SaysStretch g.H.Host m1.death (shown_by view m1) (stretch c.stretches.finished (n - c.stretches.finished) far.state) c.stretches.host mid (Ok x)) c.in-Ok-Some.field-0-is (c.in-Ok-Some.ensures.says far.state far.shows) in
+    let from = at_snapshot view g.H.Host far inv.few (sym inv.named) m1 mid j said m2 b new in
+    let p = alive (asked view g.H.Host far inv.few (sym inv.named) m1 mid j said m2 b new).state far.commit in
+    snapshot_died view g.H.Host far inv.few (sym inv.named) m1 mid j said m2 b new died.0 (sym c.death.ensures ∙ died.1) (sym (c.snapshot.ensures.named ∙ inv.named)) (g.met.H.Host.only_now new)
+    (c.in-Ok.ensures.follows p from))
+
+pub stretches-preserved : goal.stretches-preserved
+stretches-preserved g c =
+    let view = g.M.Memory.view in
+    let n = c.args.cycles in
+    let inv = c.stretches.invariant in
+    let m1 = c.say_stretch.new.machine in
+    let mid = c.say_stretch.new.host in
+    let m2 = c.snapshot.new.machine in
+    let b = c.snapshot.new.archive in
+    let new = c.snapshot.new.host in
+    let j = c.in-Ok-Some.asked in
+    let is = c.in-Ok-Some.field-0-is in
+    let later : (c.stretches.finished < j) × (j ≤ n) = subst (λ (x : Option ℕ). IfSome x (λ k. (c.stretches.finished < k) × (k ≤ n))) is c.in-Ok-Some.ensures.later in
+    let lives = sym c.death.ensures ∙ none_of c.death.result (sym c.is_some.ensures ∙ c.if-is_some.false) in
+    let first = c.in-Ok-Some.ensures.counts in
+    let second = c.in-Ok.ensures.counts in
+    record {
+      go_on = c.in-Ok.ensures.go_on;
+      alive = lives;
+      named = c.snapshot.ensures.named ∙ inv.named;
+      few = later.1;
+      disk = omega (arith, inv.disk, first.disk, second.disk);
+      say = omega (arith, inv.say, first.say, second.say);
+      ran = λ s k shows holds.
+          let far = inv.ran s k shows holds in
+          let said = subst (λ (x : Option ℕ). SaysStretch g.H.Host m1.death (shown_by view m1) (stretch c.stretches.finished (n - c.stretches.finished) far.state) c.stretches.host mid (Ok x)) is (c.in-Ok-Some.ensures.says far.state far.shows) in
+          let from = at_snapshot view g.H.Host far inv.few (sym inv.named) m1 mid j said m2 b new in
+          let p = alive (asked view g.H.Host far inv.few (sym inv.named) m1 mid j said m2 b new).state far.commit in
+          snapshot_kept view g.H.Host far inv.few (sym inv.named) m1 mid j said m2 b new lives (c.in-Ok.ensures.follows p from);
+    }

@@ -1,0 +1,43 @@
+use Rattle.std.proofs.Common.{◌≡◌, ◌∙◌, refl, ap, sym, subst}
+use Rattle.st_model.specs.Births.{births}
+use Rattle.st_model.specs.Saving.{save}
+use Rattle.st_model.proofs.Showing.{show_is}
+use Rattle.st_machine.specs.Asked.{death_by}
+use Rattle.st_store.specs.Names.{IsNoFileOf}
+use Rattle.st_course.specs.Obeying.{Obeys}
+use Rattle.st_recover.specs.Archives.{Holds}
+use Rattle.st_recover.specs.Commits.{Commit, OpensAs, image_with}
+use Rattle.st_session.specs.Answers.{going_on}
+use Rattle.st_session.specs.Keeping.{in_a_store, imaging}
+use Rattle.st_session.specs.Standing.{shown_by}
+use Rattle.st_session.proofs.Points.{living_answers}
+use Rattle.st_session.proofs.Snapshots.{saved_kept, saved_died}
+use Rattle.st_session.proofs.saving.snapshot.Goals as goal
+
+pub returns-in-Ok-clause-follows : goal.returns-in-Ok-clause-follows
+returns-in-Ok-clause-follows g c =
+    let view = g.M.Memory.view in
+    let m = c.args.machine.now in
+    let a = c.args.archive.now in
+    let n = c.save.new.self in
+    let new = c.keep_image.new.host in
+    let b = c.keep_image.new.archive in
+    let result = c.keep_image.result in
+    let lives = c.save.ensures.death c.requires.alive ∙ ap death_by c.in-Ok.is in
+    living_answers view g.H.Host m a c.args.host.now n b new (λ being. going_on in_a_store (in_a_store.snapshot c.args.finished) being) result c.requires.alive
+    (λ s k shows holds. saved_kept view g.H.Host a.name n b c.args.host.now new k c.args.finished (save births s) result (c.in-Ok.ensures.saves c.requires.alive s shows) lives
+    (λ t w. show_is (shown_by view n) t w (g.met.M.Memory.whole n.memory).places)
+    (subst (λ x. Obeys g.H.Host (OpensAs a.name) (IsNoFileOf a.name) (Holds g.H.Host new b) (λ (d : Commit). d) k (imaging k (image_with (view x).objects (view x).head)) result c.args.host.now new) c.memory.ensures
+    (c.keep_image.ensures.obeys k holds)))
+
+pub returns-in-Err-clause-follows : goal.returns-in-Err-clause-follows
+returns-in-Err-clause-follows g c =
+    let view = g.M.Memory.view in
+    let m = c.args.machine.now in
+    let a = c.args.archive.now in
+    let n = c.save.new.self in
+    let new = c.say_reply.new.host in
+    let result = c.say_reply.result in
+    let dies = c.save.ensures.death c.requires.alive ∙ ap death_by c.in-Err.is in
+    living_answers view g.H.Host m a c.args.host.now n a new (λ being. going_on in_a_store (in_a_store.snapshot c.args.finished) being) result c.requires.alive
+    (λ s k shows holds. saved_died view g.H.Host a.name n a c.args.host.now new k c.args.finished c.in-Err.cause (save births s) result (c.in-Err.ensures.saves c.requires.alive s shows) dies refl holds c.say_reply.ensures)

@@ -1,0 +1,42 @@
+use Rattle.std.proofs.Common.{◌≡◌, ◌∙◌, refl, ap, sym, subst}
+use Rattle.st_model.specs.Show.{Shows}
+use Rattle.st_frames.specs.Shown.{IsReady, shown}
+use Rattle.st_script.specs.Definitions.{definition_of}
+use Rattle.st_definition.specs.Defining.{installed}
+use Rattle.st_definition.specs.Prepareds.{IsPrepared}
+use Rattle.st_session.specs.Answers.{definition_course}
+use Rattle.st_session.specs.Keeping.{in_a_store}
+use Rattle.st_session.specs.Replies.{accepted_line}
+use Rattle.st_session.proofs.Accepting.{accepted_said, accepted_unkept}
+use Rattle.st_session.proofs.Compiling.{is_accepted}
+use Rattle.st_session.proofs.Points.{living_answers}
+use Rattle.st_session.proofs.serving.accept.Goals as goal
+
+pub returns-in-Ok-clause-follows : goal.returns-in-Ok-clause-follows
+returns-in-Ok-clause-follows g c =
+    let view = g.M.Memory.view in
+    let m = c.args.machine.now in
+    let a = c.args.archive.now in
+    let d = definition_of c.args.definition.now in
+    let n = record m { memory = c.carry_out-selector.new.m } in
+    let b = c.accept.new.self in
+    let same = sym c.memory_mut.ensures.value in
+    let ready = subst (λ x. IsReady (view x) m.frame m.world) same (c.requires.go_on.may_run c.requires.alive) in
+    let prepared = subst (λ x. IsPrepared (view x) d c.args.prepared) same c.requires.prepared in
+    living_answers view g.H.Host m a c.args.host.now n b c.say_reply.new.host (λ being k. definition_course in_a_store installed being k d) c.say_reply.result c.requires.alive
+    (λ s k shows holds.
+    accepted_said view g.H.Host a.name n b s k d c.carry_out-selector.result (installed d s) _ c.args.host.now c.accept.new.host c.say_reply.new.host c.say_reply.result c.accept.ensures.named (c.in-Ok.ensures.obeys k holds)
+    (c.carry_out-selector.ensures.installs d m.frame m.world s prepared ready (subst (λ x. Shows (shown (view x) m.frame m.world) s) same shows)) c.requires.alive
+    (ap (accepted_line d.class d.meta) c.deref.ensures.value) c.say_reply.ensures)
+
+pub returns-in-Err-clause-follows : goal.returns-in-Err-clause-follows
+returns-in-Err-clause-follows g c =
+    let view = g.M.Memory.view in
+    let m = c.args.machine.now in
+    let a = c.args.archive.now in
+    let d = definition_of c.args.definition.now in
+    let b = c.accept.new.self in
+    living_answers view g.H.Host m a c.args.host.now m b c.accept.new.host (λ being k. definition_course in_a_store installed being k d) _ c.requires.alive
+    (λ s k shows holds.
+    let is = is_accepted (view m.memory) d c.args.prepared c.requires.prepared (g.met.M.Memory.whole m.memory) m.frame m.world (c.requires.go_on.may_run c.requires.alive) s shows in
+    accepted_unkept view g.H.Host a.name m b s k d (installed d s) _ is.0 c.in-Err.status c.args.host.now c.accept.new.host is.1 (c.in-Err.ensures.obeys k holds))

@@ -1,0 +1,98 @@
+-- How a session over a store ends.
+use Rattle.std.specs.Prelude.{◌≡◌, ◌⊎◌, ℕ, List, ◌∷◌, IsTrue, ⊤, All}
+use Rattle.st_outside.specs.Counts.{Rose}
+use Rattle.st_outside.specs.Files.{Files}
+use Rattle.st_outside.specs.Runs.{LeavesOnly, Spares, IsAtRest}
+use Rattle.st_outside.specs.Stops.{SaidPart}
+use Rattle.st_outside.specs.declared.host.Host.{Ghosts}
+use Rattle.st_chunk.specs.Definitions.{IsDefinition}
+use Rattle.st_store.specs.Names.{IsNoFileOf}
+use Rattle.st_store.specs.Stored.{IsOpening}
+use Rattle.st_store.specs.declared.fault.StoreFault.TheVariants as store
+use Rattle.st_course.specs.declared.status.Status.{Status}
+use Rattle.st_course.specs.declared.status.Status.TheVariants.{Done, Usage, Image, Script, ReadFault, SayFault, DiskFault, Store, TooLarge, OutOfMemory}
+use Rattle.st_course.specs.Acknowledged.{Promised}
+use Rattle.st_course.specs.Courses.{Course, deeds_of, commits_of, IsEnd}
+use Rattle.st_course.specs.Done.{RestsAsOne}
+use Rattle.st_definition.specs.Defining.{installed}
+use Rattle.st_recover.specs.Commits.{Commit, OpensAs, all_of}
+use Rattle.st_recover.specs.Openings.{Reopens, RefusesOpening}
+use Rattle.st_recover.specs.Replays.{Replayed}
+use Rattle.st_recover.specs.declared.fault.OpenFault.{OpenFault}
+use Rattle.st_recover.specs.declared.fault.OpenFault.TheVariants as opening
+use Rattle.st_session.specs.Commands.{last_line, opening_status, SaysLastLine}
+use Rattle.st_session.specs.Ends.{IsCalm, SessionEnds}
+use Rattle.st_session.specs.Opening.{session_over, session_so_far_over}
+use Rattle.st_session.specs.Points.{Point}
+
+-- the course of a session over what a commit opens as
+abbrev pub course_over : Commit → Replayed → List ℕ → Course Commit (Point Commit)
+course_over c r script = session_over r.count r.lost r.state c script
+
+-- the commit that is opened, and those of the session
+abbrev pub commits_over : Commit → Replayed → List ℕ → List Commit
+commits_over c r script = c ∷ commits_of (deeds_of (course_over c r script))
+
+-- These files open as a commit, and the session over it follows the script to its end.
+pub record IsWholeSession (name : List ℕ) (f : Files) (script : List ℕ) : Type 0 where
+  pub commit : Commit
+  pub good : All IsDefinition (all_of commit)
+  pub opens : OpensAs name commit f
+  pub replayed : Replayed
+  pub reopens : Reopens installed commit replayed
+  pub ends : IsEnd (course_over commit replayed script) Done
+
+-- The statuses in which the command session can end, whatever the source tells. Where these are the files, a status that comes of
+-- them is the one of their refusal.
+abbrev pub IsOfSession : Type 0 → List ℕ → Files → Status → Type 0
+IsOfSession told name f Usage = ⊥
+IsOfSession told name f (Image fault) = told → RefusesOpening name f (opening.Image fault)
+IsOfSession told name f (Store store.Missing) = told → RefusesOpening name f (opening.Store store.Missing)
+IsOfSession told name f (Store (store.NotAStore place)) = told → RefusesOpening name f (opening.Store (store.NotAStore place))
+IsOfSession told name f (Store _) = ⊥
+IsOfSession told name f _ = ⊤
+
+module _ {D : Type 0} (host : Ghosts D) (name : List ℕ) where
+  -- The store isn't opened, and nothing but the last line is said. A stop at any moment leaves what it could leave before, or
+  -- files that open as those that were read.
+  pub record IsRefused (old new : D) (status : Status) : Type 0 where
+    pub fault : OpenFault
+    pub is : status ≡ opening_status fault
+    pub why : RefusesOpening name (host.files old) fault
+    pub line : SaysLastLine host status old new
+    pub moments : LeavesOnly host old new (λ f s. SaidPart (host.said old) (last_line status) s × IsOpening host old name f)
+
+  -- The store is opened as the commit that its files hold, and a session over this goes on, from where nothing was said yet. The
+  -- last line is said behind it.
+  pub record IsFollowed (script : List ℕ) (old new : D) (status : Status) : Type 0 where
+    pub commit : Commit
+    pub good : All IsDefinition (all_of commit)
+    pub opens : OpensAs name commit (host.files old)
+    pub replayed : Replayed
+    pub reopens : Reopens installed commit replayed
+    pub opened : D
+    pub quiet : host.said opened ≡ host.said old
+    pub closed : D
+    pub ends : SessionEnds host (OpensAs name) (IsNoFileOf name) commit (course_over commit replayed script)
+        (session_so_far_over replayed.count replayed.lost replayed.state commit) script opened closed status
+    pub line : SaysLastLine host status closed new
+
+  -- At each moment the files open as the commit whose number is that of the commits acknowledged by then, or as the next. Behind
+  -- it each state that a stop may leave opens as one of them, unless a fault of the disk came.
+  pub record KeepsPromise (commits : List Commit) (old new : D) (status : Status) : Type 0 where
+    pub moments : LeavesOnly host old new (Promised (OpensAs name) commits (host.said old))
+    pub rests : (status ≡ DiskFault → ⊥) → RestsAsOne host (OpensAs name) commits new
+
+  -- How the command session ends, over the bytes of the script, where `read` says that the source tells these, and `reads` that
+  -- it had a fault.
+  pub record SessionCommandEnds (read reads : Type 0) (script : List ℕ) (old new : D) (status : Status) : Type 0 where
+    pub over : IsTrue host.is_told → read → IsRefused old new status ⊎ IsFollowed script old new status
+    -- where each state that a stop could leave before opens as one commit
+    pub promise : IsTrue host.is_told → read → (c : Commit) → All IsDefinition (all_of c) → IsAtRest host (OpensAs name) c old
+        → (r : Replayed) → Reopens installed c r → KeepsPromise (commits_over c r script) old new status
+    -- without a fault of host and source a session that follows its script to the end is done, or there was no memory
+    pub complete : IsTrue host.is_told → read → IsWholeSession name (host.files old) script → IsCalm host reads old new
+        → (status ≡ Done) ⊎ (status ≡ OutOfMemory)
+    pub kind : IsOfSession (IsTrue host.is_told) name (host.files old) status
+    -- no other file is touched
+    pub spares : read → Spares host (IsNoFileOf name) old new

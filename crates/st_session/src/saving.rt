@@ -1,0 +1,131 @@
+// Runs and snapshots of a session, which keep images in the store.
+ghost use Rattle.std.specs.Prelude.{◌≡◌, ◌-◌, ◌≤◌, ◌<◌, IfErr, IfOk, IfSome, IsSome, None, OnOk};
+ghost use Rattle.st_model.specs.Machine.{State};
+ghost use Rattle.st_model.specs.Births.{Births};
+ghost use Rattle.st_model.specs.Show.{Shows};
+ghost use Rattle.st_frames.specs.Shown.{IsReady};
+ghost use Rattle.st_store.specs.Names.{IsNoFileOf};
+ghost use Rattle.st_course.specs.Obeying.{Obeys};
+ghost use Rattle.st_course.specs.Statuses.{Counts};
+ghost use Rattle.st_recover.specs.Archives.{Holds};
+ghost use Rattle.st_recover.specs.Commits.{Commit, OpensAs, image_with};
+ghost use Rattle.st_session.specs.Answers.{run_course, going_on};
+ghost use Rattle.st_session.specs.Ends.{IsOfServing};
+ghost use Rattle.st_session.specs.Keeping.{in_a_store, imaging};
+ghost use Rattle.st_session.specs.Standing.{MayRun, MayGoOn, Follows, shown_by};
+ghost use Rattle.st_session.specs.Stretches.{SaysStretch, stretch, went};
+
+use crate::replies::{Reply, finish, say_reply};
+use crate::running::push_stretch;
+use st_course::Status;
+use st_machine::Machine;
+use st_memory::Memory;
+use st_outside::{Host, HostFault, SayFault};
+use st_recover::Archive;
+use st_report::Output;
+
+/// Keeps the image of a memory, and then says its length.
+fn keep_image<H: Host, M: Memory>(host: &mut H, m: &M, archive: &mut Archive) -> Result<(), Status>
+    requires open { IsSome archive.old.store }
+    ensures open { OnOk result (IsSome archive.new.store) }
+    ensures named { archive.new.name ≡ archive.old.name }
+    ensures obeys { let image = image_with (M.view m.now).objects (M.view m.now).head in
+        (c : Commit) → Holds H.Host.own host.old archive.old c
+        → Obeys H.Host.own (OpensAs archive.old.name) (IsNoFileOf archive.old.name)
+        (Holds H.Host.own host.new archive.new) (λ d. d) c (imaging c image) result host.old host.new }
+    ensures counts { Counts H.Host.own ⊥ host.old host.new result }
+    ensures served { IfErr result IsOfServing }
+{
+    match archive.snapshot(host, m) {
+        Ok(length) => say_reply(host, Reply::Snapshot(length)),
+        Err(HostFault) => Err(Status::DiskFault),
+    }
+}
+
+/// Saves a machine that isn't dead, keeps its image and says the image's length; or says of what saving died. So many cycles of
+/// the line are finished.
+pub(crate) fn snapshot<H: Host, M: Memory>(
+    host: &mut H,
+    machine: &mut Machine<M>,
+    archive: &mut Archive,
+    finished: u32,
+) -> Result<(), Status>
+    requires go_on { MayGoOn M.view machine.old archive.old }
+    requires alive { machine.old.death ≡ None }
+    ensures go_on { OnOk result (MayGoOn M.view machine.new archive.new) }
+    ensures named { archive.new.name ≡ archive.old.name }
+    ensures follows { Follows M.view H.Host.own
+        (λ p. going_on in_a_store (in_a_store.snapshot finished) p.being p.kept)
+        machine.old archive.old host.old result machine.new archive.new host.new }
+    ensures counts { Counts H.Host.own ⊥ host.old host.new result }
+    ensures served { IfErr result IsOfServing }
+{
+    match machine.save() {
+        Ok(()) => keep_image(host, machine.memory(), archive),
+        Err(cause) => say_reply(host, Reply::Died { finished, cause }),
+    }
+}
+
+/// Runs on, where so many of a line's cycles are finished, up to the first bytecode that asks for a snapshot or to the run's end,
+/// and says what is said of it. Where a snapshot is asked for, answers how many are finished then.
+fn say_stretch<H: Host, M: Memory>(
+    host: &mut H,
+    machine: &mut Machine<M>,
+    finished: u32,
+    cycles: u32,
+) -> Result<Option<u32>, Status>
+    requires ready { IsReady (M.view machine.old.memory) machine.old.frame machine.old.world }
+    requires alive { machine.old.death ≡ None }
+    requires few { finished ≤ cycles }
+    ensures may_run { MayRun M.view machine.new }
+    ensures alive { IfOk result (λ asked. IfSome asked (λ n. machine.new.death ≡ None)) }
+    ensures later { IfOk result (λ asked. IfSome asked (λ n. (finished < n) × (n ≤ cycles))) }
+    ensures says { (s : State Births) → Shows (shown_by M.view machine.old) s
+        → SaysStretch H.Host.own machine.new.death (shown_by M.view machine.new)
+        (stretch finished (cycles - finished) s) host.old host.new result }
+    ensures counts { Counts H.Host.own ⊥ host.old host.new (went result) }
+    ensures served { IfErr result IsOfServing }
+{
+    let mut out = Output::new();
+    match push_stretch(&mut out, host, machine, finished, cycles) {
+        Ok(asked) => match finish(out, host) {
+            Ok(()) => Ok(asked),
+            Err(status) => Err(status),
+        },
+        Err(SayFault) => Err(Status::SayFault),
+    }
+}
+
+/// Runs so many cycles, with the snapshots that bytecodes ask for, and says what is said of them.
+pub(crate) fn run<H: Host, M: Memory>(
+    host: &mut H,
+    machine: &mut Machine<M>,
+    archive: &mut Archive,
+    cycles: u32,
+) -> Result<(), Status>
+    requires go_on { MayGoOn M.view machine.old archive.old }
+    requires alive { machine.old.death ≡ None }
+    ensures go_on { OnOk result (MayGoOn M.view machine.new archive.new) }
+    ensures named { archive.new.name ≡ archive.old.name }
+    ensures follows { Follows M.view H.Host.own
+        (λ p. going_on in_a_store (run_course in_a_store 0 cycles) p.being p.kept)
+        machine.old archive.old host.old result machine.new archive.new host.new }
+    ensures counts { Counts H.Host.own ⊥ host.old host.new result }
+    ensures served { IfErr result IsOfServing }
+{
+    let mut finished = 0;
+    'stretches: loop {
+        finished = match say_stretch(host, machine, finished, cycles) {
+            Ok(Some(asked)) => asked,
+            Ok(None) => return Ok(()),
+            Err(status) => return Err(status),
+        };
+        match snapshot(host, machine, archive, finished) {
+            Ok(()) => {}
+            Err(status) => return Err(status),
+        }
+        if machine.death().is_some() {
+            return Ok(());
+        }
+    }
+}
