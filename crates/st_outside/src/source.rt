@@ -1,5 +1,5 @@
 // The source: bytes that are read in.
-ghost use Rattle.std.specs.Prelude.{◌≡◌, ◌≤◌, ◌⊎◌, ◌++◌, [], ℕ, Bool, IsTrue, List, length, take, IfOk};
+ghost use Rattle.std.specs.Prelude.{◌≡◌, ◌≤◌, ◌⊎◌, ◌++◌, [], ℕ, Bool, IsTrue, List, length, take, IfOk, IfErr};
 ghost use Rattle.st_outside.specs.Counts.{HasCause};
 
 /// A call of `take` failed.
@@ -21,11 +21,13 @@ pub trait Source {
     ghost read_faults: { Self → ℕ };
 
     /// Takes bytes into the front of the slice, and answers how many. They may be fewer than are left, but 0 comes
-    /// only for an empty slice or at the end. What the slice holds behind them, and after an error, is left open.
+    /// only for an empty slice or at the end. A call that fails takes none. What the slice holds behind them, and
+    /// after an error, is left open.
     fn take(&mut self, into: &mut [u8]) -> Result<usize, ReadFault>
         ensures within { IfOk result (λ k. k ≤ length into.old) }
         ensures takes { IfOk result (λ k. IsTrue is_told
             → remaining self.old ≡ take k into.new ++ remaining self.new) }
+        ensures keeps { IfErr result (λ _. IsTrue is_told → remaining self.new ≡ remaining self.old) }
         ensures end { IfOk result (λ k. IsTrue is_told → k ≡ 0
             → (length into.old ≡ 0) ⊎ (remaining self.old ≡ [])) }
         ensures cause { HasCause (read_faults self.old) (read_faults self.new) result };
