@@ -9,3 +9,6 @@ pub mod Entries
 pub mod Complete
 pub mod Starts
 pub mod Back
+pub mod Fetching
+pub mod Saved
+pub mod Begun

@@ -68,14 +68,14 @@ unfolding start_view empty_view nothing_held
 start_devices h bytes = refl
 
 -- the births with which the book's machine begins
-abbrev Begins : ImageHead → List ℕ → State Table → Type 0
+abbrev pub Begins : ImageHead → List ℕ → State Table → Type 0
 Begins h bytes c = (s : State Births) × (begin h bytes ≡ Went tt s) × Shows c s
 
 begins_as : (h : ImageHead) (bytes : List ℕ) (c : State Table) (x : Transition (State Births) Unit) → begin h bytes ≡ x → ShownAgain (Went tt c) x → Begins h bytes c
 begins_as h bytes c (Died cause) e shown = absurd shown
 begins_as h bytes c (Went x s) e shown = (s, e, shown.0)
 
-begins_with : (h : ImageHead) (bytes : List ℕ) (w : View) (c : State Table) → IsComplete w → w.objects ≡ (start_view h bytes).objects → w.head ≡ (start_view h bytes).head
+pub begins_with : (h : ImageHead) (bytes : List ℕ) (w : View) (c : State Table) → IsComplete w → w.objects ≡ (start_view h bytes).objects → w.head ≡ (start_view h bytes).head
     → start h bytes ≡ Went tt c → Begins h bytes c
 begins_with h bytes w c complete objects head started =
     let idle : idle_state w ≡ idle_state (start_view h bytes) = λ i. record { memory = objects i; registers = idle_registers; world = empty_world nil; head = head i } in

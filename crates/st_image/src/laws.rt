@@ -2,6 +2,12 @@ ghost use Rattle.std.specs.Prelude.{◌≡◌, ℕ, List};
 ghost use Rattle.st_model.specs.declared.fault.ImageFault.{ImageFault};
 ghost use Rattle.st_model.specs.declared.head.ImageHead.{ImageHead};
 ghost use Rattle.st_model.specs.Faults.{IsImageFault, IsWellFormed};
+ghost use Rattle.st_model.specs.Machine.{State, Went};
+ghost use Rattle.st_model.specs.Births.{Births, births};
+ghost use Rattle.st_model.specs.Table.{Table};
+ghost use Rattle.st_model.specs.Show.{Shows};
+ghost use Rattle.st_model.specs.Start.{begin};
+ghost use Rattle.st_model.specs.Saving.{save};
 ghost use Rattle.st_model.specs.View.{View, IsWhole};
 ghost use Rattle.st_frames.specs.declared.frame.Frame.{Frame};
 ghost use Rattle.st_image.specs.HeadValues.{no_values, head_over};
@@ -23,6 +29,12 @@ pub fn no_fault_is_well_formed()
         ¬ IsImageFault h bytes f }
 {}
 
+/// The law that the book's machine begins with each well-formed image.
+pub fn well_formed_begins()
+    ensures { (h : ImageHead) (bytes : List ℕ) → IsWellFormed h bytes →
+        (s : State Births) × (begin h bytes ≡ Went tt s) }
+{}
+
 /// The law that what is written is read back. Where the registers can be fetched from what a memory
 /// contains, its image is well-formed; and whatever memory is read from it has the same objects, capacities
 /// and tables of names.
@@ -33,4 +45,12 @@ pub fn image_back()
         IsStart (head_over no_values (image_of v)) (image_of v) w f → w.objects ≡ v.objects }
     ensures head { (v w : View) (f : Frame) → IsWhole v →
         IsStart (head_over no_values (image_of v)) (image_of v) w f → w.head ≡ v.head }
+{}
+
+/// The law that what was saved or read can start: the registers can be fetched from the objects of a table
+/// that shows what saving left, and from those of a memory that an image was read into.
+pub fn can_start()
+    ensures saved { (s t : State Births) (c : State Table) (v : View) → save births s ≡ Went tt t →
+        Shows c t → v.objects ≡ c.memory → CanStart v }
+    ensures read { (h : ImageHead) (bytes : List ℕ) (v : View) (f : Frame) → IsStart h bytes v f → CanStart v }
 {}

@@ -16,7 +16,9 @@ mod shape;
 
 pub use error::ReadImage;
 pub use head::HeadValues;
-pub use laws::{fault_is_determined, image_back, no_fault_is_well_formed};
+pub use laws::{
+    can_start, fault_is_determined, image_back, no_fault_is_well_formed, well_formed_begins,
+};
 pub use reading::read;
 pub use st_writer::write;
 
