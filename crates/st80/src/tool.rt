@@ -44,8 +44,8 @@ pub fn tool<H: Host, S: Source>(
         → ImportEnds H.Host.own (bytes_of (H.files host.old image)) store host.old host.new result }
     ensures session { let reads = Rose (S.read_faults script.old) (S.read_faults script.new) in
         (store : List ℕ) → command_of (map string_bytes words.now) ≡ Some (Session store)
-        → SessionCommandEnds H.Host.own store (IsTrue S.is_told) reads (S.remaining script.old)
-        host.old host.new result }
+        → SessionCommandEnds H.Host.own store (IsTrue S.is_told) reads
+        (S.remaining script.old) (S.remaining script.new) host.old host.new result }
     ensures cause { StatusHasCause H.Host.own (Rose (S.read_faults script.old) (S.read_faults script.new))
         host.old host.new result }
     ensures says { OnlySays (command_of (map string_bytes words.now))
@@ -78,7 +78,7 @@ pub fn exit_code<H: Host, S: Source>(
     ensures ends { let reads = Rose (S.read_faults script.old) (S.read_faults script.new) in
         (status : Status) × (exit_status result ≡ number_of status)
         × CallEnds H.Host.own (map string_bytes words.now) (IsTrue S.is_told) reads
-        (S.remaining script.old) host.old host.new status }
+        (S.remaining script.old) (S.remaining script.new) host.old host.new status }
 {
     ExitCode::from(tool(alloc, words, host, script).number())
 }

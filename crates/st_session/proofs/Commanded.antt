@@ -124,10 +124,10 @@ module _ {D : Type 0} (host : Ghosts D) (name : List ℕ) where
       over status.TooLarge lines line = kept status.TooLarge (λ e. cc) lines line
       over status.OutOfMemory lines line = kept status.OutOfMemory (λ e. cc) lines line
 
-  pub followed_promise : {X Y : Type 0} (c : Commit) (course : Course Commit X) (so_far : List ℕ → Course Commit Y) (script : List ℕ) (e : Status) (old mid closed new : D) → IsAtRest host (OpensAs name) c old → ((n : List ℕ) → host.may_leave old n (host.files old n))
+  pub followed_promise : {X Y : Type 0} (c : Commit) (course : Course Commit X) (so_far : List ℕ → Course Commit Y) (script left : List ℕ) (e : Status) (old mid closed new : D) → IsAtRest host (OpensAs name) c old → ((n : List ℕ) → host.may_leave old n (host.files old n))
       → CountsNow host closed → LeavesOnly host old mid (λ f s. (s ≡ host.said old) × IsOpening host old name f) → host.said mid ≡ host.said old → IsTrue host.is_told
-      → SessionEnds host (OpensAs name) (IsNoFileOf name) c course so_far script mid closed e → ReadsAndSays host (last_line e) closed new → KeepsPromise host name (c ∷ commits_of (deeds_of course)) old new e
-  followed_promise c course so_far script e old mid closed new rest reads now moments quiet told ends line =
+      → SessionEnds host (OpensAs name) (IsNoFileOf name) c course so_far script left mid closed e → ReadsAndSays host (last_line e) closed new → KeepsPromise host name (c ∷ commits_of (deeds_of course)) old new e
+  followed_promise c course so_far script left e old mid closed new rest reads now moments quiet told ends line =
       let commits = c ∷ commits_of (deeds_of course) in
       let first = weaker host old mid (Promised (OpensAs name) commits (host.said old)) (λ f s. (s ≡ host.said old) × IsOpening host old name f) moments
       (λ f s so. promised_none c (commits_of (deeds_of course)) e (host.said old) s f (nothing_of (host.said old) (last_line e) s so.0) (opens_still old c rest reads f so.1)) in
@@ -221,9 +221,9 @@ open_at view host install name old new o c at = record {
   shows = at.shows;
 }
 
-module _ {D : Type 0} (host : Ghosts D) (c : Commit) (script : List ℕ) (mid closed : D) (e : Status) where
+module _ {D : Type 0} (host : Ghosts D) (c : Commit) (script left : List ℕ) (mid closed : D) (e : Status) where
   abbrev Ends_at : List ℕ → ℕ → List Loss → State Births → Type 0
-  Ends_at name count lost s = SessionEnds host (OpensAs name) (IsNoFileOf name) c (session_over count lost s c script) (session_so_far_over count lost s c) script mid closed e
+  Ends_at name count lost s = SessionEnds host (OpensAs name) (IsNoFileOf name) c (session_over count lost s c script) (session_so_far_over count lost s c) script left mid closed e
 
   pub ends_at : (n m : List ℕ) (count : ℕ) (lost : List Loss) (r : Replayed) → n ≡ m → count ≡ r.count → lost ≡ r.lost → Ends_at n count lost r.state → Ends_at m r.count r.lost r.state
   ends_at n m count lost r one two three h = subst (λ (x : List Loss). Ends_at m r.count x r.state) three (subst (λ (x : ℕ). Ends_at m x lost r.state) two (subst (λ (x : List ℕ). Ends_at x count lost r.state) one h))

@@ -64,14 +64,15 @@ module _ {D : Type 0} (host : Ghosts D) {C : Type 0} (opens : C → Files → Ty
       subst (λ (x : Status). Obeys host opens spared at commit c (preceded (Reply text ∷ []) course) (Err x) old new) (sym run.fault)
       (obeys_begun host opens spared at commit c (Reply text ∷ []) course status.SayFault old new tt (says_began host opens spared c text old new rest run.says))
 
-  pub told_behind : {X : Type 0} (ds : List (Deed C)) (course : List ℕ → Course C X) (script : List ℕ) (old mid new : D) → Did host opens spared c ds old mid → DidTold host opens spared (last_of c ds) course script mid new
-      → DidTold host opens spared c (λ front. preceded ds (course front)) script old new
-  told_behind ds course script old mid new first h = record {
-    count = h.count;
-    did = subst (λ l. Did host opens spared c l old new) (sym (deeds_preceded ds (course (take h.count script)))) (did_join host opens spared c ds (deeds_of (course (take h.count script))) old mid new first h.did);
+  pub told_behind : {X : Type 0} (ds : List (Deed C)) (course : List ℕ → Course C X) (script left : List ℕ) (old mid new : D) → Did host opens spared c ds old mid → DidTold host opens spared (last_of c ds) course script left mid new
+      → DidTold host opens spared c (λ front. preceded ds (course front)) script left old new
+  told_behind ds course script left old mid new first h = record {
+    told = h.told;
+    all = h.all;
+    did = subst (λ l. Did host opens spared c l old new) (sym (deeds_preceded ds (course h.told))) (did_join host opens spared c ds (deeds_of (course h.told)) old mid new first h.did);
   }
 
-  module _ {X Y : Type 0} (at : X → Type 0) (commit : X → C) (course : Course C X) (so_far : List ℕ → Course C Y) (script : List ℕ) where
+  module _ {X Y : Type 0} (at : X → Type 0) (commit : X → C) (course : Course C X) (so_far : List ℕ → Course C Y) (script left : List ℕ) where
     whole_of : (result : Result Unit Status) (old new : D) → IsEnded course → Obeys host opens spared at commit c course result old new → (IsFault (status_in result) → ⊥) → IsEnd course (status_in result) × SaysAll host (said_of (deeds_of course)) old new
     whole_of result old new ends h calm = over course result ends h calm
       where
@@ -85,7 +86,7 @@ module _ {D : Type 0} (host : Ghosts D) {C : Type 0} (opens : C → Files → Ty
     is_unread (Err d) e = ap Err e
 
     pub ends_of : (result : Result Unit Status) (old new : D) → IsEnded course → AcknowledgesEach (deeds_of course) → Obeys host opens spared at commit c course result old new
-        → (IsErrOf result status.ReadFault → DidTold host opens spared c so_far script old new) → SessionEnds host opens spared c course so_far script old new (status_in result)
+        → (IsErrOf result status.ReadFault → DidTold host opens spared c so_far script left old new) → SessionEnds host opens spared c course so_far script left old new (status_in result)
     ends_of result old new ends law h told = record {
       whole = whole_of result old new ends h;
       part = λ tells. obeys_says host opens spared at commit c course result old new tells h;
@@ -109,7 +110,7 @@ module _ {D : Type 0} (host : Ghosts D) {C : Type 0} (opens : C → Files → Ty
     complete_at reads status.TooLarge old new ends cause end calm = inl (end_is course status.TooLarge status.Done (ends (λ x. x)) end)
     complete_at reads status.OutOfMemory old new ends cause end calm = inr refl
 
-    pub complete_of : (reads : Type 0) (e : Status) (old new : D) → SessionEnds host opens spared c course so_far script old new e → StatusHasCause host reads old new e → IsEnd course status.Done → IsCalm host reads old new → (e ≡ status.Done) ⊎ (e ≡ status.OutOfMemory)
+    pub complete_of : (reads : Type 0) (e : Status) (old new : D) → SessionEnds host opens spared c course so_far script left old new e → StatusHasCause host reads old new e → IsEnd course status.Done → IsCalm host reads old new → (e ≡ status.Done) ⊎ (e ≡ status.OutOfMemory)
     complete_of reads e old new ends cause end calm = complete_at reads e old new (λ f. (ends.whole f).0) cause end calm
 
 pub cause_of : {D : Type 0} (host : Ghosts D) (reads : Type 0) (old new : D) (result : Result Unit Status) → EndHasCause host reads old new result → StatusHasCause host reads old new (status_in result)

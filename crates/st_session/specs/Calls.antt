@@ -18,12 +18,12 @@ OnlySays (Some (Once image cycles)) = ⊤
 OnlySays (Some (Import image store)) = ⊥
 OnlySays (Some (Session store)) = ⊥
 
--- A call of the program with these words, over the bytes of a script, where `read` says that the source tells these, and `reads`
--- that it had a fault.
-pub record CallEnds {D : Type 0} (host : Ghosts D) (words : List (List ℕ)) (read reads : Type 0) (script : List ℕ) (old new : D) (end : Status) : Type 0 where
+-- A call of the program with these words, over the bytes of a script, of which the source still has `left`. `read` says that it
+-- tells these, and `reads` that it had a fault.
+pub record CallEnds {D : Type 0} (host : Ghosts D) (words : List (List ℕ)) (read reads : Type 0) (script left : List ℕ) (old new : D) (end : Status) : Type 0 where
   pub usage : command_of words ≡ None → (end ≡ status.Usage) × SaysLastLine host status.Usage old new
   pub once : (image : List ℕ) (n : ℕ) → command_of words ≡ Some (Once image n) → OnceEnds host (bytes_of (host.files old image)) n old new end
   pub imports : (image store : List ℕ) → command_of words ≡ Some (Import image store) → ImportEnds host (bytes_of (host.files old image)) store old new end
-  pub session : (store : List ℕ) → command_of words ≡ Some (Session store) → SessionCommandEnds host store read reads script old new end
+  pub session : (store : List ℕ) → command_of words ≡ Some (Session store) → SessionCommandEnds host store read reads script left old new end
   pub cause : StatusHasCause host reads old new end
   pub says : OnlySays (command_of words) → (text : List ℕ) × ReadsAndSays host text old new

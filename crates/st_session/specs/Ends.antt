@@ -1,5 +1,5 @@
 -- How a session ends.
-use Rattle.std.specs.Prelude.{◌≡◌, ℕ, List, ◌∷◌, take, IsTrue, Result, Ok, Err, ⊤}
+use Rattle.std.specs.Prelude.{◌≡◌, ℕ, List, ◌∷◌, ◌++◌, IsTrue, Result, Ok, Err, ⊤}
 use Rattle.st_outside.specs.Counts.{Rose}
 use Rattle.st_outside.specs.Files.{Files}
 use Rattle.st_outside.specs.Runs.{LeavesOnly, SaysAll, Spares}
@@ -38,19 +38,21 @@ module _ {D : Type 0} (host : Ghosts D) where
     pub source : reads → ⊥
 
   module _ {C : Type 0} (opens : C → Files → Type 0) (spared : List ℕ → Type 0) (c : C) where
-    -- the deeds were done that some first bytes of a script tell
-    pub record DidTold {X : Type 0} (course : List ℕ → Course C X) (script : List ℕ) (old new : D) : Type 0 where
-      pub count : ℕ
-      pub did : Did host opens spared c (deeds_of (course (take count script))) old new
+    -- the deeds were done that those bytes of a script tell which stand before the bytes that are left
+    pub record DidTold {X : Type 0} (course : List ℕ → Course C X) (script left : List ℕ) (old new : D) : Type 0 where
+      pub told : List ℕ
+      pub all : script ≡ told ++ left
+      pub did : Did host opens spared c (deeds_of (course told)) old new
 
-    -- A session of this course, over a store that opens as commit c; `so_far` is its course after the first bytes of the script.
-    pub record SessionEnds {X Y : Type 0} (course : Course C X) (so_far : List ℕ → Course C Y) (script : List ℕ) (old new : D) (status : Status) : Type 0 where
+    -- A session of this course, over a store that opens as commit c; `so_far` is its course after the first bytes of the script,
+    -- and `left` are the bytes that the source still has.
+    pub record SessionEnds {X Y : Type 0} (course : Course C X) (so_far : List ℕ → Course C Y) (script left : List ℕ) (old new : D) (status : Status) : Type 0 where
       -- where no fault comes, the status is the session's, and all of its replies were said
       pub whole : (IsFault status → ⊥) → IsEnd course status × SaysAll host (said_of (deeds_of course)) old new
       -- whatever the status, no more was said than some first bytes of its replies
       pub part : IsTrue host.is_told → SaidPart (host.said old) (said_of (deeds_of course)) (host.said new)
-      -- after a fault of the source these are the replies to the lines and methods whose end was told
-      pub told : status ≡ ReadFault → DidTold so_far script old new
+      -- after a fault of the source these are the replies to all lines and methods whose end was told
+      pub told : status ≡ ReadFault → DidTold so_far script left old new
       -- what was said ends with a whole line, unless the fault was one in saying
       pub lines : (status ≡ SayFault → ⊥) → IsTrue host.is_told → SaysLines (host.said old) (host.said new)
       -- each state that a stop may leave behind it opens as one of the commits, unless a fault of the disk came

@@ -51,7 +51,7 @@ module _ {M : Type 0} (view : M → View) where
     Follows course m a old result n b new = (p : Point Commit) → IsAt m a old p
         → Obeys host (OpensAs a.name) (IsNoFileOf a.name) (IsAt n b new) (λ q. q.kept) p.kept (course p) result old new
 
-    -- From wherever they stand, the deeds were done that some first bytes of the script tell.
-    abbrev pub FollowsTold : (Point Commit → List ℕ → Course Commit (Point Commit)) → List ℕ → Machine M → ArchiveState → D → D → Type 0
-    FollowsTold course script m a old new = (p : Point Commit) → IsAt m a old p
-        → DidTold host (OpensAs a.name) (IsNoFileOf a.name) p.kept (course p) script old new
+    -- From wherever they stand, the deeds were done that the bytes of the script before those that are left tell.
+    abbrev pub FollowsTold : (Point Commit → List ℕ → Course Commit (Point Commit)) → List ℕ → List ℕ → Machine M → ArchiveState → D → D → Type 0
+    FollowsTold course script left m a old new = (p : Point Commit) → IsAt m a old p
+        → DidTold host (OpensAs a.name) (IsNoFileOf a.name) p.kept (course p) script left old new

@@ -64,7 +64,7 @@ module _ {D : Type 0} (host : Ghosts D) (name : List ℕ) where
 
   -- The store is opened as the commit that its files hold, and a session over this goes on, from where nothing was said yet. The
   -- last line is said behind it.
-  pub record IsFollowed (script : List ℕ) (old new : D) (status : Status) : Type 0 where
+  pub record IsFollowed (script left : List ℕ) (old new : D) (status : Status) : Type 0 where
     pub commit : Commit
     pub good : All IsDefinition (all_of commit)
     pub opens : OpensAs name commit (host.files old)
@@ -74,7 +74,7 @@ module _ {D : Type 0} (host : Ghosts D) (name : List ℕ) where
     pub quiet : host.said opened ≡ host.said old
     pub closed : D
     pub ends : SessionEnds host (OpensAs name) (IsNoFileOf name) commit (course_over commit replayed script)
-        (session_so_far_over replayed.count replayed.lost replayed.state commit) script opened closed status
+        (session_so_far_over replayed.count replayed.lost replayed.state commit) script left opened closed status
     pub line : SaysLastLine host status closed new
 
   -- At each moment the files open as the commit whose number is that of the commits acknowledged by then, or as the next. Behind
@@ -83,10 +83,10 @@ module _ {D : Type 0} (host : Ghosts D) (name : List ℕ) where
     pub moments : LeavesOnly host old new (Promised (OpensAs name) commits (host.said old))
     pub rests : (status ≡ DiskFault → ⊥) → RestsAsOne host (OpensAs name) commits new
 
-  -- How the command session ends, over the bytes of the script, where `read` says that the source tells these, and `reads` that
-  -- it had a fault.
-  pub record SessionCommandEnds (read reads : Type 0) (script : List ℕ) (old new : D) (status : Status) : Type 0 where
-    pub over : IsTrue host.is_told → read → IsRefused old new status ⊎ IsFollowed script old new status
+  -- How the command session ends, over the bytes of the script, of which the source still has `left`. `read` says that it tells
+  -- these, and `reads` that it had a fault.
+  pub record SessionCommandEnds (read reads : Type 0) (script left : List ℕ) (old new : D) (status : Status) : Type 0 where
+    pub over : IsTrue host.is_told → read → IsRefused old new status ⊎ IsFollowed script left old new status
     -- where each state that a stop could leave before opens as one commit
     pub promise : IsTrue host.is_told → read → (c : Commit) → All IsDefinition (all_of c) → IsAtRest host (OpensAs name) c old
         → (r : Replayed) → Reopens installed c r → KeepsPromise (commits_over c r script) old new status

@@ -75,8 +75,8 @@ pub fn session<H: Host, L: Loader, S: Source>(
     store: &str,
 ) -> Status
     ensures ends { let reads = Rose (S.read_faults script.old) (S.read_faults script.new) in
-        SessionCommandEnds H.Host.own store.now (IsTrue S.is_told) reads (S.remaining script.old)
-        host.old host.new result }
+        SessionCommandEnds H.Host.own store.now (IsTrue S.is_told) reads
+        (S.remaining script.old) (S.remaining script.new) host.old host.new result }
     ensures cause { StatusHasCause H.Host.own (Rose (S.read_faults script.old) (S.read_faults script.new))
         host.old host.new result }
 {

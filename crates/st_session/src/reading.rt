@@ -169,8 +169,8 @@ fn follow<H: Host, M: Memory, S: Source>(
         (λ p. follow_script in_a_store installed p (S.remaining script.old))
         machine.old archive.old host.old result machine.new archive.new host.new }
     ensures told { IsErrOf result Unread → IsTrue S.is_told → FollowsTold M.view H.Host.own
-        (follow_told in_a_store installed)
-        (S.remaining script.old) machine.old archive.old host.old host.new }
+        (follow_told in_a_store installed) (S.remaining script.old) (S.remaining script.new)
+        machine.old archive.old host.old host.new }
     ensures counts { Counts H.Host.own (Rose (S.read_faults script.old) (S.read_faults script.new))
         host.old host.new result }
     ensures served { IfErr result IsOfServing }
@@ -220,7 +220,8 @@ fn open<H: Host, M: Memory, S: Source>(
         machine.old archive.old host.old result machine.new archive.new host.new }
     ensures told { IsErrOf result Unread → IsTrue S.is_told → FollowsTold M.view H.Host.own
         (session_so_far in_a_store installed replayed (losses_of lost.now))
-        (S.remaining script.old) machine.old archive.old host.old host.new }
+        (S.remaining script.old) (S.remaining script.new)
+        machine.old archive.old host.old host.new }
     ensures counts { Counts H.Host.own (Rose (S.read_faults script.old) (S.read_faults script.new))
         host.old host.new result }
     ensures served { IfErr result IsOfServing }
@@ -264,7 +265,7 @@ pub fn serve<H: Host, M: Memory, S: Source>(
         → SessionEnds H.Host.own (OpensAs opened.store.name) (IsNoFileOf opened.store.name) c
         (session_over opened.replayed (losses_of opened.lost.items) s c (S.remaining script.old))
         (session_so_far_over opened.replayed (losses_of opened.lost.items) s c)
-        (S.remaining script.old) host.old host.new result }
+        (S.remaining script.old) (S.remaining script.new) host.old host.new result }
     ensures complete { IsTrue S.is_told → (c : Commit) (s : State Births)
         → IsOpen M.view H.Host.own host.old opened c s
         → IsEnd (session_over opened.replayed (losses_of opened.lost.items) s c

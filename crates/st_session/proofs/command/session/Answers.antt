@@ -31,11 +31,12 @@ returns-in-Ok-clause-ends g c =
     let closed = c.serve-status.new.host in
     let new = c.refuse.new.host in
     let script = g.S.Source.remaining c.args.script.now in
+    let left = g.S.Source.remaining c.serve-status.new.script in
     let reads = Rose (g.S.Source.read_faults c.args.script.now) (g.S.Source.read_faults c.serve-status.new.script) in
     let is = λ (told : IsTrue host.is_told). open_at view host installed name old mid o (opened.opened told).0 (opened.opened told).1 in
     let ends = λ (told : IsTrue host.is_told) (read : IsTrue g.S.Source.is_told).
     let at = (opened.opened told).1 in
-    ends_at host (opened.opened told).0 script mid closed e o.store.name name o.replayed (losses_of o.lost.items) at.replayed opened.named at.count at.lost (served.ends read (opened.opened told).0 at.replayed.state (is told)) in
+    ends_at host (opened.opened told).0 script left mid closed e o.store.name name o.replayed (losses_of o.lost.items) at.replayed opened.named at.count at.lost (served.ends read (opened.opened told).0 at.replayed.state (is told)) in
     record {
       over = λ told read. let at = (opened.opened told).1 in inr (record {
         commit = (opened.opened told).0;
@@ -54,7 +55,7 @@ returns-in-Ok-clause-ends g c =
           let one = same_commit name (opened.opened told).0 k (host.files old) at.good good at.opens (rest.opens_as (host.files old) (λ n. g.met.H.Host.read_counts old n told)) in
           let two = one_opening installed k at.replayed r (subst (λ (x : Commit). Reopens installed x at.replayed) one at.reopens) reopens in
           subst (λ (l : List Commit). KeepsPromise host name l old new e) (λ i. commits_over (one i) (two i) script)
-          (followed_promise host name (opened.opened told).0 (course_over (opened.opened told).0 at.replayed script) (session_so_far_over at.replayed.count at.replayed.lost at.replayed.state (opened.opened told).0) script e old mid closed new
+          (followed_promise host name (opened.opened told).0 (course_over (opened.opened told).0 at.replayed script) (session_so_far_over at.replayed.count at.replayed.lost at.replayed.state (opened.opened told).0) script left e old mid closed new
           (subst (λ (x : Commit). IsAtRest host (OpensAs name) x old) (sym one) rest) (λ n. g.met.H.Host.read_counts old n told) (g.met.H.Host.counts_now closed) (opened.moments told) (opened.only.quiet told) told (ends told read) line.reads);
       complete = λ told read whole calm.
           let at = (opened.opened told).1 in

@@ -1,13 +1,11 @@
 use Rattle.std.proofs.Common.{◌≡◌, ◌≤◌, ◌<◌, ⊎_elim, ℕ, List, [], ◌++◌, ◌∙◌, take, length, refl, sym, ap, subst, arith, append_assoc, length-append, Ok, Err}
 use Rattle.std.proofs.lemmas.List.{length-take-le}
-use Rattle.std.proofs.Math.Seq.{take-append_seam}
 use Rattle.st_outside.proofs.Rising.{rose_second}
 use Rattle.st_script.specs.Reading.{line_from}
 use Rattle.st_script.specs.Scripts.{told_from, read_through, asked_at_end}
 use Rattle.st_store.specs.Names.{IsNoFileOf}
 use Rattle.st_course.specs.declared.status.Status.TheVariants as status
-use Rattle.st_course.specs.Courses.{ended, deeds_of}
-use Rattle.st_course.specs.Done.{Did}
+use Rattle.st_course.specs.Courses.{ended}
 use Rattle.st_course.proofs.Joins.{obeys_did, counts_behind, counts_wider, no_read}
 use Rattle.st_definition.specs.Defining.{installed}
 use Rattle.st_recover.specs.Commits.{Commit, OpensAs}
@@ -60,12 +58,10 @@ returns-in-Err-clause-told g c = λ fault told p at.
     let view = g.M.Memory.view in
     let name = c.args.archive.now.name in
     let far = c.pieces.invariant.far in
-    let rest = g.S.Source.remaining c.pieces.script in
-    let front : take (length far.0) (g.S.Source.remaining c.args.script.now) ≡ far.0 = ap (take (length far.0)) (far.1 told) ∙ take-append_seam far.0 rest in
     record {
-      count = length far.0;
-      did = subst (λ (t : List ℕ). Did g.H.Host (OpensAs name) (IsNoFileOf name) p.kept (deeds_of (follows in_a_store installed p (told_from (line_from 1) t))) c.args.host.now c.pieces.host) (sym front)
-          (obeys_did g.H.Host (OpensAs name) (IsNoFileOf name) (IsAt view g.H.Host c.pieces.machine c.pieces.archive c.pieces.host) (λ (q : Point Commit). q.kept) p.kept (follows in_a_store installed p (told_from (line_from 1) far.0)) c.args.host.now c.pieces.host (far.4 p at));
+      told = far.0;
+      all = far.1 told ∙ ap (λ (x : List ℕ). far.0 ++ x) (sym (c.in-Err.ensures.keeps told));
+      did = obeys_did g.H.Host (OpensAs name) (IsNoFileOf name) (IsAt view g.H.Host c.pieces.machine c.pieces.archive c.pieces.host) (λ (q : Point Commit). q.kept) p.kept (follows in_a_store installed p (told_from (line_from 1) far.0)) c.args.host.now c.pieces.host (far.4 p at);
     }
 
 pub returns-in-Err-clause-counts : goal.returns-in-Err-clause-counts

@@ -37,7 +37,7 @@ returns-in-Ok-say_opening-clause-told g c = λ fault told p at.
     let text = opening_text c.args.replayed (losses_of c.args.lost.now) in
     let mid = c.say_opening.new.host in
     let said = c.in-Ok-say_opening.ensures in
-    told_behind g.H.Host (OpensAs name) (IsNoFileOf name) p.kept (Reply text ∷ []) (follow_told in_a_store installed p) (g.S.Source.remaining c.args.script.now) c.args.host.now mid c.follow.new.host
+    told_behind g.H.Host (OpensAs name) (IsNoFileOf name) p.kept (Reply text ∷ []) (follow_told in_a_store installed p) (g.S.Source.remaining c.args.script.now) (g.S.Source.remaining c.follow.new.script) c.args.host.now mid c.follow.new.host
     (did_reply g.H.Host (OpensAs name) (IsNoFileOf name) p.kept text c.args.host.now mid said (holds_rest g.H.Host a p.kept at.holds))
     (c.follow.ensures.told fault told p (record { stands = at.stands; holds = holds_said g.H.Host a p.kept said.says at.holds }))
 

@@ -1,4 +1,4 @@
-use Rattle.std.proofs.Common.{◌≡◌, ◌∙◌, ℕ, List, IsTrue, refl, sym, ap, subst}
+use Rattle.std.proofs.Common.{◌≡◌, ◌∙◌, ℕ, List, IsTrue, refl, sym, ap, subst, arith}
 use Rattle.std.specs.Prelude.{Some, Ok, Err}
 use Rattle.st_outside.specs.Counts.{Rose}
 use Rattle.st_outside.specs.declared.host.Host.{Ghosts}
@@ -29,9 +29,9 @@ use Rattle.st_session.proofs.Points.{ready_new}
 use Rattle.st_session.proofs.reading.serve.Goals as goal
 
 -- the same end in other words
-module _ {D : Type 0} (host : Ghosts D) (k : Commit) (s : State Births) (replayed : ℕ) (script : List ℕ) (old new : D) where
+module _ {D : Type 0} (host : Ghosts D) (k : Commit) (s : State Births) (replayed : ℕ) (script left : List ℕ) (old new : D) where
   abbrev Ends_so : List ℕ → List Loss → Status → Type 0
-  Ends_so name lost e = SessionEnds host (OpensAs name) (IsNoFileOf name) k (session_over replayed lost s k script) (session_so_far_over replayed lost s k) script old new e
+  Ends_so name lost e = SessionEnds host (OpensAs name) (IsNoFileOf name) k (session_over replayed lost s k script) (session_so_far_over replayed lost s k) script left old new e
 
   ends_so : (n m : List ℕ) (l o : List Loss) (e f : Status) → n ≡ m → l ≡ o → e ≡ f → Ends_so n l e → Ends_so m o f
   ends_so n m l o e f one two three h = subst (λ (x : Status). Ends_so m o x) three (subst (λ (x : List Loss). Ends_so m x e) two (subst (λ (x : List ℕ). Ends_so x l e) one h))
@@ -51,7 +51,7 @@ returns-in-Err-clause-ends g c = λ told k s o.
     let lost = losses_of opened.lost.items in
     let course = session_over opened.replayed lost s k script in
     let a : ArchiveState = record { name = name; store = Some opened.store; listed = opened.changes.listed } in
-    ends_of g.H.Host (OpensAs name) (IsNoFileOf name) k (λ (x : Point Commit). Unit {0}) (λ (x : Point Commit). x.kept) course (session_so_far_over opened.replayed lost s k) script (Err status.OutOfMemory) h h
+    ends_of g.H.Host (OpensAs name) (IsNoFileOf name) k (λ (x : Point Commit). Unit {0}) (λ (x : Point Commit). x.kept) course (session_so_far_over opened.replayed lost s k) script script (Err status.OutOfMemory) h h
     (session_ends in_a_store installed opened.replayed lost (alive s k) script) (session_law opened.replayed lost (alive s k) script)
     (obeys_fault g.H.Host (OpensAs name) (IsNoFileOf name) (λ (x : Point Commit). Unit {0}) (λ (x : Point Commit). x.kept) k course status.OutOfMemory h tt (g.met.H.Host.only_now h) (holds_rest g.H.Host a k o.holds))
     (λ fault. cc)
@@ -63,6 +63,7 @@ returns-clause-ends g c = λ told k s o.
     let h = c.args.host.now in
     let new = c.open.new.host in
     let script = g.S.Source.remaining c.args.script.now in
+    let left = g.S.Source.remaining c.open.new.script in
     let m = c.boot-machine.result in
     let a = c.new-archive.result in
     let p : Point Commit = alive s k in
@@ -74,8 +75,8 @@ returns-clause-ends g c = λ told k s o.
     let at : IsAt view g.H.Host m a h p = record { stands = (boots.alive, subst (λ (x : State Table). Shows x s) (sym same) o.shows); holds = holds } in
     let on = IsAt view g.H.Host c.open.new.machine c.open.new.archive new in
     let named : a.name ≡ opened.store.name = ap (λ (x : ArchiveState). x.name) c.new-archive.ensures ∙ c.requires.named in
-    ends_so g.H.Host k s opened.replayed script h new a.name opened.store.name lost (losses_of opened.lost.items) (status_in c.open.result) c.status_of.result named (ap losses_of c.deref.ensures.value) (sym c.status_of.ensures)
-    (ends_of g.H.Host (OpensAs a.name) (IsNoFileOf a.name) k on (λ (x : Point Commit). x.kept) (session_over opened.replayed lost s k script) (session_so_far_over opened.replayed lost s k) script c.open.result h new
+    ends_so g.H.Host k s opened.replayed script left h new a.name opened.store.name lost (losses_of opened.lost.items) (status_in c.open.result) c.status_of.result named (ap losses_of c.deref.ensures.value) (sym c.status_of.ensures)
+    (ends_of g.H.Host (OpensAs a.name) (IsNoFileOf a.name) k on (λ (x : Point Commit). x.kept) (session_over opened.replayed lost s k script) (session_so_far_over opened.replayed lost s k) script left c.open.result h new
     (session_ends in_a_store installed opened.replayed lost p script) (session_law opened.replayed lost p script) (c.open.ensures.follows told p at) (λ fault. c.open.ensures.told fault told p at))
 
 pub returns-clause-cause : goal.returns-clause-cause
@@ -89,7 +90,7 @@ returns-clause-complete g c = λ told k s o end calm.
     let name = opened.store.name in
     let script = g.S.Source.remaining c.args.script.now in
     let lost = losses_of opened.lost.items in
-    complete_of g.H.Host (OpensAs name) (IsNoFileOf name) k (λ (x : Point Commit). Unit {0}) (λ (x : Point Commit). x.kept) (session_over opened.replayed lost s k script) (session_so_far_over opened.replayed lost s k) script (Rose (g.S.Source.read_faults c.args.script.now) (g.S.Source.read_faults c.open.new.script)) c.status_of.result c.args.host.now c.open.new.host
+    complete_of g.H.Host (OpensAs name) (IsNoFileOf name) k (λ (x : Point Commit). Unit {0}) (λ (x : Point Commit). x.kept) (session_over opened.replayed lost s k script) (session_so_far_over opened.replayed lost s k) script (g.S.Source.remaining c.open.new.script) (Rose (g.S.Source.read_faults c.args.script.now) (g.S.Source.read_faults c.open.new.script)) c.status_of.result c.args.host.now c.open.new.host
     (returns-clause-ends g c told k s o) (returns-clause-cause g c) end calm
 
 pub returns-clause-kind : goal.returns-clause-kind
