@@ -1,5 +1,5 @@
 -- How a session ends.
-use Rattle.std.specs.Prelude.{◌≡◌, ℕ, List, ◌∷◌, ◌++◌, IsTrue, Result, Ok, Err, ⊤}
+use Rattle.std.specs.Prelude.{◌≡◌, ℕ, ◌≤◌, List, ◌∷◌, ◌++◌, IsTrue, Result, Ok, Err, ⊤}
 use Rattle.st_outside.specs.Counts.{Rose}
 use Rattle.st_outside.specs.Files.{Files}
 use Rattle.st_outside.specs.Runs.{LeavesOnly, SaysAll, Spares}
@@ -31,6 +31,11 @@ IsOfServing TooLarge = ⊤
 IsOfServing OutOfMemory = ⊤
 
 module _ {D : Type 0} (host : Ghosts D) where
+  -- no count of a fault fell
+  pub record NoCountFell (old new : D) : Type 0 where
+    pub disk : host.disk_faults old ≤ host.disk_faults new
+    pub say : host.say_faults old ≤ host.say_faults new
+
   -- no count of a fault rose
   pub record IsCalm (reads : Type 0) (old new : D) : Type 0 where
     pub disk : Rose (host.disk_faults old) (host.disk_faults new) → ⊥

@@ -2,11 +2,11 @@
 use Rattle.std.specs.Prelude.{◌≡◌, ◌⊎◌, ℕ, List, ◌∷◌, IsTrue, ⊤, All}
 use Rattle.st_outside.specs.Counts.{Rose}
 use Rattle.st_outside.specs.Files.{Files}
-use Rattle.st_outside.specs.Runs.{LeavesOnly, Spares, IsAtRest}
+use Rattle.st_outside.specs.Runs.{LeavesOnly, ReadsAndSays, NarrowsBut, Spares, IsAtRest}
 use Rattle.st_outside.specs.Stops.{SaidPart}
 use Rattle.st_outside.specs.declared.host.Host.{Ghosts}
 use Rattle.st_chunk.specs.Definitions.{IsDefinition}
-use Rattle.st_store.specs.Names.{IsNoFileOf}
+use Rattle.st_store.specs.Names.{roots_file, IsNoFileOf}
 use Rattle.st_store.specs.Stored.{IsOpening}
 use Rattle.st_store.specs.declared.fault.StoreFault.TheVariants as store
 use Rattle.st_course.specs.declared.status.Status.{Status}
@@ -21,7 +21,7 @@ use Rattle.st_recover.specs.Replays.{Replayed}
 use Rattle.st_recover.specs.declared.fault.OpenFault.{OpenFault}
 use Rattle.st_recover.specs.declared.fault.OpenFault.TheVariants as opening
 use Rattle.st_session.specs.Commands.{last_line, opening_status, SaysLastLine}
-use Rattle.st_session.specs.Ends.{IsCalm, SessionEnds}
+use Rattle.st_session.specs.Ends.{IsCalm, NoCountFell, SessionEnds}
 use Rattle.st_session.specs.Opening.{session_over, session_so_far_over}
 use Rattle.st_session.specs.Points.{Point}
 
@@ -70,12 +70,18 @@ module _ {D : Type 0} (host : Ghosts D) (name : List ℕ) where
     pub opens : OpensAs name commit (host.files old)
     pub replayed : Replayed
     pub reopens : Reopens installed commit replayed
+    -- Opening says nothing, and changes no file but the roots file. A stop meanwhile leaves what it could leave before, or files
+    -- that open as those that were read.
     pub opened : D
-    pub quiet : host.said opened ≡ host.said old
+    pub opening : NarrowsBut host (roots_file name) old opened
+    pub meanwhile : LeavesOnly host old opened (λ f s. (s ≡ host.said old) × IsOpening host old name f)
     pub closed : D
+    pub counts : NoCountFell host opened closed
     pub ends : SessionEnds host (OpensAs name) (IsNoFileOf name) commit (course_over commit replayed script)
         (session_so_far_over replayed.count replayed.lost replayed.state commit) script left opened closed status
+    -- behind the session nothing else is done
     pub line : SaysLastLine host status closed new
+    pub behind : ReadsAndSays host (last_line status) closed new
 
   -- At each moment the files open as the commit whose number is that of the commits acknowledged by then, or as the next. Behind
   -- it each state that a stop may leave opens as one of them, unless a fault of the disk came.

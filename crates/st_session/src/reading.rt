@@ -1,4 +1,4 @@
-ghost use Rattle.std.specs.Prelude.{◌≡◌, ◌⊎◌, ◌<◌, ◌≤◌, ◌^◌, length, IsTrue, IfErr, OnOk, IsErrOf};
+ghost use Rattle.std.specs.Prelude.{◌≡◌, ◌⊎◌, ◌<◌, ◌^◌, length, IsTrue, IfErr, OnOk, IsErrOf};
 ghost use Rattle.st_outside.specs.Counts.{Rose};
 ghost use Rattle.st_model.specs.Machine.{State};
 ghost use Rattle.st_model.specs.Births.{Births};
@@ -15,7 +15,7 @@ ghost use Rattle.st_course.specs.Statuses.{Counts, StatusHasCause};
 ghost use Rattle.st_recover.specs.Commits.{Commit, OpensAs};
 ghost use Rattle.st_recover.specs.Replays.{losses_of};
 ghost use Rattle.st_definition.specs.Defining.{installed};
-ghost use Rattle.st_session.specs.Ends.{IsCalm, IsOfServing, SessionEnds, status_in};
+ghost use Rattle.st_session.specs.Ends.{IsCalm, NoCountFell, IsOfServing, SessionEnds, status_in};
 ghost use Rattle.st_session.specs.Keeping.{in_a_store};
 ghost use Rattle.st_session.specs.Sessions.{follow, follow_script, session, session_so_far, follow_told};
 ghost use Rattle.st_session.specs.Standing.{MayGoOn, Follows, FollowsTold};
@@ -274,7 +274,7 @@ pub fn serve<H: Host, M: Memory, S: Source>(
         → (result ≡ Done) ⊎ (result ≡ OutOfMemory) }
     ensures cause { StatusHasCause H.Host.own (Rose (S.read_faults script.old) (S.read_faults script.new))
         host.old host.new result }
-    ensures say_count { H.say_faults host.old ≤ H.say_faults host.new }
+    ensures counts { NoCountFell H.Host.own host.old host.new }
     ensures kind { IsOfServing result }
 {
     let world = match World::new(alloc) {

@@ -45,10 +45,13 @@ returns-in-Ok-clause-ends g c =
         replayed = at.replayed;
         reopens = at.reopens;
         opened = mid;
-        quiet = opened.only.quiet told;
+        opening = opened.only;
+        meanwhile = opened.moments told;
         closed = closed;
+        counts = served.counts;
         ends = ends told read;
         line = line.line;
+        behind = line.reads;
       });
       promise = λ told read k good rest r reopens.
           let at = (opened.opened told).1 in
@@ -62,7 +65,7 @@ returns-in-Ok-clause-ends g c =
           let one = same_commit name (opened.opened told).0 whole.commit (host.files old) at.good whole.good at.opens whole.opens in
           let two = one_opening installed whole.commit at.replayed whole.replayed (subst (λ (x : Commit). Reopens installed x at.replayed) one at.reopens) whole.reopens in
           served.complete read (opened.opened told).0 at.replayed.state (is told) (end_at (opened.opened told).0 whole.commit at.replayed whole.replayed o.replayed (losses_of o.lost.items) script one two at.count at.lost whole.ends)
-          (calm_between host reads old mid closed new opened.only.disk opened.only.say served.say_count line.reads.say line.disk calm);
+          (calm_between host reads old mid closed new opened.only.disk opened.only.say served.counts.say line.reads.say line.disk calm);
       kind = kind_served (IsTrue host.is_told) name (host.files old) e served.kind;
       spares = λ read. spares_told host (IsNoFileOf name) old new (λ told. spares_line host name _ old closed new (spares_then host name old mid closed opened.spares (ends told read).spares) line.alike line.reads);
     }
@@ -83,7 +86,7 @@ returns-in-Ok-clause-cause g c =
     let new = c.refuse.new.host in
     let script = g.S.Source.remaining c.args.script.now in
     let reads = Rose (g.S.Source.read_faults c.args.script.now) (g.S.Source.read_faults c.serve-status.new.script) in
-    cause_between host reads old mid closed new e opened.only.disk opened.only.say served.say_count line.reads.say line.disk served.cause
+    cause_between host reads old mid closed new e opened.only.disk opened.only.say served.counts.say line.reads.say line.disk served.cause
 
 pub returns-in-Err-clause-ends : goal.returns-in-Err-clause-ends
 returns-in-Err-clause-ends g c =

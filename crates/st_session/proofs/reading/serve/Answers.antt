@@ -95,3 +95,9 @@ returns-clause-complete g c = λ told k s o end calm.
 
 pub returns-clause-kind : goal.returns-clause-kind
 returns-clause-kind g c = subst IsOfServing (sym c.status_of.ensures) (served_in c.open.result c.open.ensures.served)
+
+pub returns-clause-counts : goal.returns-clause-counts
+returns-clause-counts g c = record { disk = c.open.ensures.counts.disk; say = c.open.ensures.counts.say }
+
+pub returns-in-Err-clause-counts : goal.returns-in-Err-clause-counts
+returns-in-Err-clause-counts g c = record { disk = omega arith; say = omega arith }
