@@ -12,6 +12,7 @@ use Rattle.st_store.proofs.Turning.{rests}
 use Rattle.st_changes.specs.States.{grown, next_store}
 use Rattle.st_changes.proofs.ListTexts.{entries_more}
 use Rattle.st_recover.specs.Archives.{ArchiveState, Holds, store_of}
+use Rattle.st_recover.specs.Images.{IsReadable}
 use Rattle.st_recover.specs.Commits.{Commit, OpensAs, all_of, accepted, imaged, root_of, stored_of}
 
 pub all_accepted : (c : Commit) (d : Definition) → all_of (accepted c d) ≡ all_of c ++ d ∷ []
@@ -40,29 +41,30 @@ root_imaged slot c image at l m n at_is l_is m_is n_is =
     λ i. record { slot = sym at_is i; image_length = sym l_is i; base = sym m_is i; length = long i }
 
 module _ (name : List ℕ) where
-  as_commit : (slot : ℕ) (c : Commit) (f : Files) → Opens name (stored_of slot c) f → OpensAs name c f
-  as_commit slot c f opens = record { slot = slot; opens = opens }
+  as_commit : (slot : ℕ) (c : Commit) (f : Files) → IsReadable c.image → Opens name (stored_of slot c) f → OpensAs name c f
+  as_commit slot c f readable opens = record { slot = slot; opens = opens; readable = readable }
 
-  either_commit : (s t : ℕ) (c d : Commit) (f : Files) → Opens name (stored_of s c) f ⊎ Opens name (stored_of t d) f → OpensAs name c f ⊎ OpensAs name d f
-  either_commit s t c d f so = ⊎_elim (λ was. inl (as_commit s c f was)) (λ is. inr (as_commit t d f is)) so
+  either_commit : (s t : ℕ) (c d : Commit) (f : Files) → IsReadable c.image → IsReadable d.image → Opens name (stored_of s c) f ⊎ Opens name (stored_of t d) f
+      → OpensAs name c f ⊎ OpensAs name d f
+  either_commit s t c d f first second so = ⊎_elim (λ was. inl (as_commit s c f first was)) (λ is. inr (as_commit t d f second is)) so
 
   module _ {D : Type 0} (host : Ghosts D) where
-    rest_as : {R E : Type 0} (slot : ℕ) (c : Commit) (h : D) (result : Result R E) → OnOk result (IsAtRest host (Opens name) (stored_of slot c) h) → OnOk result (IsAtRest host (OpensAs name) c h)
-    rest_as slot c h (Ok x) rest = record { opens_as = λ f can. as_commit slot c f (rest.opens_as f can) }
-    rest_as slot c h (Err e) rest = tt
+    rest_as : {R E : Type 0} (slot : ℕ) (c : Commit) (h : D) (result : Result R E) → IsReadable c.image → OnOk result (IsAtRest host (Opens name) (stored_of slot c) h) → OnOk result (IsAtRest host (OpensAs name) c h)
+    rest_as slot c h (Ok x) readable rest = record { opens_as = λ f can. as_commit slot c f readable (rest.opens_as f can) }
+    rest_as slot c h (Err e) readable rest = tt
 
-    -- what makes one store of another makes one commit of another
-    pub makes_commit : {R E : Type 0} (s t : ℕ) (c d : Commit) (a b : D) (result : Result R E) → Makes host (Opens name) (stored_of s c) (stored_of t d) a b result → Makes host (OpensAs name) c d a b result
-    makes_commit s t c d a b result makes = record {
-      rest = rest_as t d b result makes.rest;
-      either = λ f can. either_commit s t c d f (makes.either f can);
+    -- what makes one store of another makes one commit of another, where the images can be read
+    pub makes_commit : {R E : Type 0} (s t : ℕ) (c d : Commit) (a b : D) (result : Result R E) → IsReadable c.image → IsReadable d.image → Makes host (Opens name) (stored_of s c) (stored_of t d) a b result → Makes host (OpensAs name) c d a b result
+    makes_commit s t c d a b result first second makes = record {
+      rest = rest_as t d b result second makes.rest;
+      either = λ f can. either_commit s t c d f first second (makes.either f can);
       quiet = makes.quiet;
       moments = weaker host a b (λ f w. (w ≡ host.said a) × (OpensAs name c f ⊎ OpensAs name d f)) (λ f w. (w ≡ host.said a) × (Opens name (stored_of s c) f ⊎ Opens name (stored_of t d) f))
-          makes.moments (λ f w so. (so.0, either_commit s t c d f so.1));
+          makes.moments (λ f w so. (so.0, either_commit s t c d f first second so.1));
     }
 
 -- an archive that holds a commit is at rest
 pub holds_rest : {D : Type 0} (host : Ghosts D) (h : D) (a : ArchiveState) (c : Commit) → Holds host h a c → IsTrue host.is_told → IsAtRest host (OpensAs a.name) c h
 holds_rest host h a c holds told = record {
-  opens_as = λ f can. as_commit a.name holds.slot c f (rests host a.name h holds.chosen (stored_of holds.slot c) f (holds.kept told).is can);
+  opens_as = λ f can. as_commit a.name holds.slot c f holds.readable (rests host a.name h holds.chosen (stored_of holds.slot c) f (holds.kept told).is can);
 }

@@ -12,6 +12,7 @@ use Rattle.st_store.specs.declared.root.Root.{Root}
 use Rattle.st_changes.specs.States.{grown, next_store}
 use Rattle.st_changes.proofs.ListTexts.{entries_more, all_more}
 use Rattle.st_recover.specs.Archives.{ArchiveState, IsStoreOf, store_of, Holds}
+use Rattle.st_recover.specs.Images.{IsReadable}
 use Rattle.st_recover.specs.Commits.{Commit, OpensAs, all_of, accepted, imaged, root_of, stored_of}
 use Rattle.st_recover.proofs.Commits.{all_accepted, grown_accepted, next_accepted, root_imaged, makes_commit}
 use Rattle.st_recover.proofs.Beside.{still_kept, written_makes, image_firm}
@@ -45,7 +46,7 @@ module _ {D : Type 0} (host : Ghosts D) (a : D) (old : ArchiveState) (st : Store
       → IsTrue host.is_told → Makes host (OpensAs old.name) c (accepted c d) a h result
   accept_makes {R = R} {E = E} d h result makes told =
       let slot = holds.slot in
-      makes_commit old.name host slot slot c (accepted c d) a h result
+      makes_commit old.name host slot slot c (accepted c d) a h result holds.readable holds.readable
       (subst (λ (x : Stored). Makes {R = R} {E = E} host (Opens old.name) (stored_of slot c) x a h result) (grown_accepted slot c d)
       (subst (λ (n : List ℕ). Makes {R = R} {E = E} host (Opens n) (stored_of slot c) (grown (stored_of slot c) (entry d)) a h result) named
       (makes (stored_of slot c) told (kept told))))
@@ -64,12 +65,13 @@ module _ {D : Type 0} (host : Ghosts D) (a : D) (old : ArchiveState) (st : Store
         good = subst (λ (ds : List Definition). All IsDefinition ds) (sym (all_accepted c d)) (all_more (all_of c) d holds.good good);
         kept = λ told. subst (λ (s : StoreState). IsKept host h s (stored_of slot (accepted c d))) next_is
             (subst (λ (x : Stored). IsKept host h next x) (grown_accepted slot c d) (keeps (stored_of slot c) told (kept told)));
+        readable = holds.readable;
       }
 
   -- A SNAPSHOT
 
-  -- the root that is committed, and the file that the image is written to
-  module _ (b : D) (image file : List ℕ) (root : Root) (at : ℕ) (at_is : at ≡ 1 - st.root.slot) (file_is : file ≡ image_file st.name at)
+  -- the root that is committed, and the file that the image is written to, which can be read
+  module _ (b : D) (image file : List ℕ) (readable : IsReadable image) (root : Root) (at : ℕ) (at_is : at ≡ 1 - st.root.slot) (file_is : file ≡ image_file st.name at)
       (writes : WritesAbove host 0 file a b) where
     slot_is : st.root.slot ≡ holds.slot
     slot_is = ap (λ (s : StoreState). s.root.slot) store_is
@@ -82,7 +84,7 @@ module _ {D : Type 0} (host : Ghosts D) (a : D) (old : ArchiveState) (st : Store
 
     as_commits : {R E : Type 0} (h : D) (result : Result R E) → Makes host (Opens st.name) (stored_of holds.slot c) (stored_of (1 - holds.slot) (imaged c image)) a h result
         → Makes host (OpensAs old.name) c (imaged c image) a h result
-    as_commits {R = R} {E = E} h result makes = makes_commit old.name host holds.slot (1 - holds.slot) c (imaged c image) a h result
+    as_commits {R = R} {E = E} h result makes = makes_commit old.name host holds.slot (1 - holds.slot) c (imaged c image) a h result holds.readable readable
         (subst (λ (n : List ℕ). Makes {R = R} {E = E} host (Opens n) (stored_of holds.slot c) (stored_of (1 - holds.slot) (imaged c image)) a h result) named makes)
 
     -- the image wasn't written
@@ -128,4 +130,5 @@ module _ {D : Type 0} (host : Ghosts D) (a : D) (old : ArchiveState) (st : Store
             kept = λ told. subst (λ (s : StoreState). IsKept host e s (stored_of (1 - holds.slot) (imaged c image))) next_is
                 (keeps (stored_of holds.slot c) (stored_of (1 - holds.slot) (imaged c image)) told
                 (still_kept host st holds.slot c a b told (kept told) file file_at writes) (firm told) root_is);
+            readable = readable;
           }

@@ -14,6 +14,7 @@ use Rattle.st_store.specs.Founding.{OpensMaybe, IsCleared, first_root, first_sto
 use Rattle.st_store.proofs.Founding.{empty_none}
 use Rattle.st_store.proofs.Others.{image_roots, image_changes}
 use Rattle.st_recover.specs.Archives.{store_of}
+use Rattle.st_recover.specs.Images.{IsReadable}
 use Rattle.st_recover.specs.Commits.{stored_of}
 use Rattle.st_recover.specs.Creating.{first_commit, IsMade, IsNoFirstFile, AreFirstFiles}
 use Rattle.st_recover.proofs.Beside.{whole}
@@ -40,14 +41,14 @@ module _ {D : Type 0} (host : Ghosts D) (name image : List ℕ) (a : D) where
     pub still_empty : (d : D) → Changes host (image_file name 0) b d → Leaves host d (roots_file name) (λ file. bytes_of file ≡ [])
     still_empty d run x can = empty x ((run.others told).fewer (roots_file name) x (λ e. image_roots name 0 (sym e)) can)
 
-    maybe_made : (f : Files) → OpensMaybe name None f ⊎ OpensMaybe name (Some (first_stored (length image) image)) f → IsMade host name (first_commit image) a f
-    maybe_made f so = ⊎_elim (λ is. inr (none, inl is)) (λ is. inr (none, inr (record { slot = 0; opens = is }))) so
+    maybe_made : (f : Files) → IsReadable image → OpensMaybe name None f ⊎ OpensMaybe name (Some (first_stored (length image) image)) f → IsMade host name (first_commit image) a f
+    maybe_made f readable so = ⊎_elim (λ is. inr (none, inl is)) (λ is. inr (none, inr (record { slot = 0; opens = is; readable = readable }))) so
 
     -- while the store is founded
-    pub founding : {R E : Type 0} (d e : D) (result : Result R E) → LeavesOnly host a d Moment → host.said d ≡ host.said b
+    pub founding : {R E : Type 0} (d e : D) (result : Result R E) → IsReadable image → LeavesOnly host a d Moment → host.said d ≡ host.said b
         → Makes {C = Option Stored} host (OpensMaybe name) None (Some (first_stored (length image) image)) d e result → LeavesOnly host a e Moment
-    founding d e result first calm makes = moments_join host a d e Moment (λ f s. (s ≡ host.said d) × (OpensMaybe name None f ⊎ OpensMaybe name (Some (first_stored (length image) image)) f))
-        first makes.moments (λ f s so. (so.0 ∙ calm ∙ quiet, maybe_made f so.1))
+    founding d e result readable first calm makes = moments_join host a d e Moment (λ f s. (s ≡ host.said d) × (OpensMaybe name None f ⊎ OpensMaybe name (Some (first_stored (length image) image)) f))
+        first makes.moments (λ f s so. (so.0 ∙ calm ∙ quiet, maybe_made f readable so.1))
 
   -- what stands behind it is what stands at its last moment
   pub behind : (b : D) → IsTrue host.is_told → ((f : Files) (s : List ℕ) → Here (host.may_leave b) (host.said b) f s → host.left_since b (host.moment a) f s)

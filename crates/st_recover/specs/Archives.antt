@@ -5,6 +5,7 @@ use Rattle.st_chunk.specs.Definitions.{Definition, IsDefinition, entries}
 use Rattle.st_store.specs.Stored.{StoreState, IsKept}
 use Rattle.st_course.specs.declared.status.Status.{Status}
 use Rattle.st_course.specs.declared.status.Status.TheVariants.{DiskFault, TooLarge, OutOfMemory}
+use Rattle.st_recover.specs.Images.{IsReadable}
 use Rattle.st_recover.specs.Commits.{Commit, all_of, root_of, stored_of}
 
 -- The open store, which there is none after a fault of the disk; its name; and the definitions of the changes file.
@@ -22,7 +23,7 @@ pub record IsStoreOf (name : List ℕ) (listed : List Definition) (store : Store
 abbrev pub store_of : List ℕ → ℕ → ℕ → Commit → StoreState
 store_of name chosen slot c = record { name = name; chosen = chosen; root = root_of slot c }
 
--- The archive is open, and what it holds is this commit, which a stop leaves as it is.
+-- The archive is open, and what it holds is this commit, which a stop leaves as it is, and whose image can be read.
 pub record Holds {D : Type 0} (host : Ghosts D) (h : D) (a : ArchiveState) (c : Commit) : Type 0 where
   pub chosen : ℕ
   pub slot : ℕ
@@ -30,6 +31,7 @@ pub record Holds {D : Type 0} (host : Ghosts D) (h : D) (a : ArchiveState) (c : 
   pub listed : a.listed ≡ all_of c
   pub good : All IsDefinition (all_of c)
   pub kept : IsTrue host.is_told → IsKept host h (store_of a.name chosen slot c) (stored_of slot c)
+  pub readable : IsReadable c.image
 
 -- how keeping a definition ends, on any host
 abbrev pub IsOfKeeping : Status → Type 0

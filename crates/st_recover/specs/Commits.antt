@@ -10,6 +10,7 @@ use Rattle.st_store.specs.Stored.{Stored, Opens}
 use Rattle.st_store.specs.declared.root.Root.{Root}
 use Rattle.st_course.specs.declared.status.Status.TheVariants.{TooLarge}
 use Rattle.st_course.specs.Courses.{Course, Keep, Goes, Ends}
+use Rattle.st_recover.specs.Images.{IsReadable}
 
 -- An image, and the definitions of the changes file: those before its base, and those from it on.
 pub record Commit : Type 0 where
@@ -43,10 +44,11 @@ root_of slot c = record {
 abbrev pub stored_of : ℕ → Commit → Stored
 stored_of slot c = record { root = root_of slot c; image = c.image; changes = entries (all_of c) }
 
--- The store of this name opens from these files as this commit, its image in one of the two slots.
+-- The store of this name opens from these files as this commit: its image is in one of the two slots, and can be read.
 pub record OpensAs (name : List ℕ) (c : Commit) (f : Files) : Type 0 where
   pub slot : ℕ
   pub opens : Opens name (stored_of slot c) f
+  pub readable : IsReadable c.image
 
 -- IN A SESSION
 

@@ -1,3 +1,4 @@
+pub mod Images
 pub mod Commits
 pub mod Archives
 pub mod Replays

@@ -1,15 +1,13 @@
 -- What the opening of a store answers.
-use Rattle.std.specs.Prelude.{◌≡◌, ◌≤◌, ◌<◌, ◌^◌, ℕ, List, length, take, ⊤, All}
+use Rattle.std.specs.Prelude.{◌≡◌, ◌<◌, ◌^◌, ℕ, List, length, take, ⊤, All}
 use Rattle.st_outside.specs.Counts.{Rose}
 use Rattle.st_outside.specs.Files.{Files, bytes_of}
 use Rattle.st_outside.specs.declared.host.Host.{Ghosts}
-use Rattle.st_model.specs.declared.fault.ImageFault.{ImageFault}
 use Rattle.st_model.specs.Objects.{nil}
 use Rattle.st_model.specs.Machine.{State, Went, empty_world}
 use Rattle.st_model.specs.Births.{Births}
 use Rattle.st_model.specs.View.{View}
 use Rattle.st_model.specs.Image.{image_head}
-use Rattle.st_model.specs.Faults.{IsImageFault, IsWellFormed}
 use Rattle.st_model.specs.Show.{Shows}
 use Rattle.st_model.specs.Start.{begin}
 use Rattle.st_frames.specs.Shown.{shown}
@@ -22,6 +20,7 @@ use Rattle.st_store.specs.declared.fault.StoreFault.TheVariants.{Missing, Exists
 use Rattle.st_store.specs.declared.fault.StorePlace.TheVariants.{Roots, Changes}
 use Rattle.st_changes.specs.Lists.{RefusesChanges}
 use Rattle.st_installer.specs.Installing.{Install}
+pub use Rattle.st_recover.specs.Images.{IsReadable, IsFaulty}
 use Rattle.st_recover.specs.Commits.{Commit, OpensAs, all_of, root_of, stored_of}
 use Rattle.st_recover.specs.Replays.{Replayed, replay, losses_of}
 use Rattle.st_recover.specs.declared.fault.OpenFault.{OpenFault}
@@ -29,16 +28,6 @@ use Rattle.st_recover.specs.declared.fault.OpenFault.TheVariants as opening
 use Rattle.st_recover.specs.declared.opened.Opened.{Opened}
 
 -- IMAGES
-
--- an image that is read: it has at most 2^23 bytes, and is well-formed
-pub record IsReadable (image : List ℕ) : Type 0 where
-  pub short : length image ≤ 2 ^ 23
-  pub formed : IsWellFormed (image_head image) image
-
--- one that is refused for its fault
-pub record IsFaulty (image : List ℕ) (f : ImageFault) : Type 0 where
-  pub short : length image ≤ 2 ^ 23
-  pub fault : IsImageFault (image_head image) image f
 
 -- the bytes of the image that a store's root names
 abbrev pub image_in : StoreState → Files → List ℕ

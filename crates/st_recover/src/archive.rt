@@ -2,6 +2,7 @@
 ghost use Rattle.std.specs.Prelude.{◌≡◌, ◌-◌, ℕ, List, Some, IsTrue, IfErr, IfOk, OnOk, IsSome, length};
 ghost use Rattle.st_outside.specs.Counts.{HasCause};
 ghost use Rattle.st_outside.specs.Runs.{Makes, Spares};
+ghost use Rattle.st_image.specs.Back.{CanStart};
 ghost use Rattle.st_chunk.specs.Definitions.{IsDefinition, entries};
 ghost use Rattle.st_script.specs.Definitions.{definition_of};
 ghost use Rattle.st_changes.specs.Views.{definition_of as kept_definition};
@@ -115,9 +116,11 @@ impl Archive {
     }
 
     /// Keeps the image of a memory, and answers its length: it is written to the file that the store doesn't use, and the
-    /// store goes over to it whole, or not at all. No definition is to be replayed behind it. It takes no memory.
+    /// store goes over to it whole, or not at all. No definition is to be replayed behind it. It takes no memory. A machine
+    /// can start from the memory, so that the image can be read.
     pub fn snapshot<M: Memory, H: Host>(&mut self, host: &mut H, m: &M) -> Result<u64, HostFault>
         requires open { IsSome self.old.store }
+        requires starts { CanStart (M.view m.now) }
         ensures named { self.new.name ≡ self.old.name }
         ensures open { OnOk result (IsSome self.new.store) }
         ensures length { IfOk result (λ l. l ≡ length (image_in (M.view m.now))) }

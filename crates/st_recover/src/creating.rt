@@ -2,6 +2,7 @@
 ghost use Rattle.std.specs.Prelude.{◌≡◌, ℕ, List, IsTrue, IfErr, IfOk, OnOk};
 ghost use Rattle.st_outside.specs.Files.{Files, bytes_of};
 ghost use Rattle.st_outside.specs.Runs.{LeavesOnly, Narrows, Spares};
+ghost use Rattle.st_image.specs.Back.{CanStart};
 ghost use Rattle.st_store.specs.Names.{roots_file};
 ghost use Rattle.st_store.specs.Roots.{HasLetters};
 ghost use Rattle.st_store.specs.Stored.{IsKept};
@@ -18,13 +19,15 @@ use st_writer::write;
 use std::alloc::Global;
 
 /// Makes a store of this name, which holds the image of a memory and no definitions. Where there is one already (`Exists`), or no
-/// memory (`OutOfMemory`), nothing is written; `Disk` comes after a call on a file that failed.
+/// memory (`OutOfMemory`), nothing is written; `Disk` comes after a call on a file that failed. A machine can start from the
+/// memory, so that the image can be read.
 pub fn create<M: Memory, H: Host>(
     alloc: Global,
     host: &mut H,
     name: &str,
     m: &M,
 ) -> Result<Store, StoreFault>
+    requires starts { CanStart (M.view m.now) }
     ensures store { IfOk result (λ store. store
         ≡ store_of name.now 0 0 (first_commit (image_in (M.view m.now)))) }
     ensures kept { IfOk result (λ store. IsTrue H.is_told → IsKept H.Host.own host.new store

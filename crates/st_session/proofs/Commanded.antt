@@ -74,7 +74,7 @@ module _ {D : Type 0} (host : Ghosts D) (name : List ℕ) where
   opens_still old c rest reads f (inl can) = rest.opens_as f can
   opens_still old c rest reads f (inr as_read) =
       let now = rest.opens_as (host.files old) reads in
-      record { slot = now.slot; opens = subst (λ (s : Stored). Opens name s f) (one_stored name as_read.is (stored_of now.slot c) (host.files old) as_read.read now.opens) as_read.now }
+      record { slot = now.slot; opens = subst (λ (s : Stored). Opens name s f) (one_stored name as_read.is (stored_of now.slot c) (host.files old) as_read.read now.opens) as_read.now; readable = now.readable }
 
   -- nothing is acknowledged by a part of a last line
   promised_none : (c : Commit) (cs : List Commit) (e : Status) (said s : List ℕ) (f : Files) → SaidPart said (last_line e) s → OpensAs name c f → Promised (OpensAs name) (c ∷ cs) said f s
@@ -217,6 +217,7 @@ open_at view host install name old new o c at = record {
     listed = at.listed;
     good = at.good;
     kept = λ told. subst (λ (r : Root). IsKept host new (record { name = o.store.name; chosen = o.store.chosen; root = r }) (stored_of o.store.root.slot c)) at.root at.kept;
+    readable = at.opens.readable;
   };
   shows = at.shows;
 }

@@ -34,8 +34,9 @@ module _ {D : Type 0} (host : Ghosts D) where
     listed = h.listed;
     good = h.good;
     kept = λ told. still_kept old new (says.part.stops told).fewer (store_of a.name h.chosen h.slot c) (stored_of h.slot c) (h.kept told);
+    readable = h.readable;
   }
 
   -- each state that a stop may leave opens as what is held
   pub holds_rest : {now : D} (a : ArchiveState) (c : Commit) → Holds host now a c → IsTrue host.is_told → IsAtRest host (OpensAs a.name) c now
-  holds_rest {now = now} a c h told = record { opens_as = λ f can. record { slot = h.slot; opens = rests host a.name now h.chosen (stored_of h.slot c) f (h.kept told).is can } }
+  holds_rest {now = now} a c h told = record { opens_as = λ f can. record { slot = h.slot; opens = rests host a.name now h.chosen (stored_of h.slot c) f (h.kept told).is can; readable = h.readable } }

@@ -38,9 +38,10 @@ pub same_commit : (bytes : List ℕ) (v : View) → v.objects ≡ (start_view (i
     → first_commit (image_with v.objects v.head) ≡ imported bytes
 same_commit bytes v objects head i = first_commit (image_with (objects i) (head i))
 
--- a store at rest opens as what it holds
-pub kept_rests : {D : Type 0} (host : Ghosts D) (h : D) (name : List ℕ) (c : Commit) (slot : ℕ) (store : StoreState) → store.name ≡ name → IsKept host h store (stored_of slot c) → IsAtRest host (OpensAs name) c h
-kept_rests host h name c slot store named kept = record {
+-- a store at rest opens as what it holds, where its image can be read
+pub kept_rests : {D : Type 0} (host : Ghosts D) (h : D) (name : List ℕ) (c : Commit) (slot : ℕ) (store : StoreState) → store.name ≡ name → IsReadable c.image → IsKept host h store (stored_of slot c)
+    → IsAtRest host (OpensAs name) c h
+kept_rests host h name c slot store named readable kept = record {
   opens_as = λ f can. subst (λ n. OpensAs n c f) named (record {
     slot = slot;
     opens = record {
@@ -50,6 +51,7 @@ kept_rests host h name c slot store named kept = record {
       image = kept.is.firm.image (f _) (can _);
       changes = kept.is.firm.changes (f _) (can _);
     };
+    readable = readable;
   });
 }
 

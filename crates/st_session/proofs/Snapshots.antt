@@ -13,6 +13,8 @@ use Rattle.st_outside.specs.Files.{Files}
 use Rattle.st_outside.specs.Runs.{IsAtRest, Makes, Spares}
 use Rattle.st_outside.specs.declared.host.Host.{Ghosts}
 use Rattle.st_outside.proofs.Telling.{OnlyNow}
+use Rattle.st_image.specs.Back.{CanStart}
+use Rattle.st_image.proofs.Saved.{saved_starts}
 use Rattle.st_machine.specs.declared.machine.Machine.{Machine}
 use Rattle.st_machine.specs.Asked.{SavedAs}
 use Rattle.st_store.specs.Names.{IsNoFileOf}
@@ -54,6 +56,12 @@ module _ {D : Type 0} (host : Ghosts D) (opens : Commit → Files → Type 0) (s
   image_unkept old new result makes spares = (tt, image_lost host opens spared c (imaged c image) (snapshot_text (length image)) old new result makes spares)
 
 -- A SNAPSHOT
+
+-- a machine that was saved can start
+pub saved_can_start : {M : Type 0} (view : M → View) (n : Machine M) (s : State Births) (o : Transition (State Births) Unit) → save births s ≡ o
+    → SavedAs (Ok tt) (shown_by view n) o → CanStart (view n.memory)
+saved_can_start view n s (Died k) is saves = absurd saves
+saved_can_start view n s (Went u t) is saves = saved_starts s t (shown_by view n) (view n.memory) is saves refl
 
 -- what is shown has this image
 pub image_shown : (s : State Births) (c : State Table) → show s ≡ c → image_of s ≡ image_with c.memory c.head

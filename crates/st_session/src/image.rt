@@ -6,6 +6,7 @@ ghost use Rattle.st_model.specs.Machine.{empty_world};
 ghost use Rattle.st_model.specs.Image.{image_head};
 ghost use Rattle.st_model.specs.View.{no_devices};
 ghost use Rattle.st_frames.specs.Shown.{IsFrame, IsReady};
+ghost use Rattle.st_image.specs.Back.{CanStart};
 ghost use Rattle.st_image.specs.Reading.{IsStart};
 ghost use Rattle.st_recover.specs.Openings.{IsReadable};
 ghost use Rattle.st_session.specs.Commands.{IsImageRefusal, RefusalHasCause};
@@ -55,6 +56,7 @@ pub fn read_image<H: Host, L: Loader>(
     ensures start { let bytes = bytes_of (H.files host.old name.now) in
         IfOk result (λ l. IsTrue H.is_told →
         IsStart (image_head bytes) bytes (L.Done.view l.memory) l.frame) }
+    ensures starts { IfOk result (λ l. CanStart (L.Done.view l.memory)) }
     ensures frame { IfOk result (λ l. IsFrame (L.Done.view l.memory) l.frame) }
     ensures quiet { IfOk result (λ l. (L.Done.view l.memory).held.devices ≡ no_devices) }
     ensures refused { IfErr result (λ e. IsTrue H.is_told →

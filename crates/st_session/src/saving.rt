@@ -4,6 +4,7 @@ ghost use Rattle.st_model.specs.Machine.{State};
 ghost use Rattle.st_model.specs.Births.{Births};
 ghost use Rattle.st_model.specs.Show.{Shows};
 ghost use Rattle.st_frames.specs.Shown.{IsReady};
+ghost use Rattle.st_image.specs.Back.{CanStart};
 ghost use Rattle.st_store.specs.Names.{IsNoFileOf};
 ghost use Rattle.st_course.specs.Obeying.{Obeys};
 ghost use Rattle.st_course.specs.Statuses.{Counts};
@@ -24,9 +25,10 @@ use st_outside::{Host, HostFault, SayFault};
 use st_recover::Archive;
 use st_report::Output;
 
-/// Keeps the image of a memory, and then says its length.
+/// Keeps the image of a memory from which a machine can start, and then says its length.
 fn keep_image<H: Host, M: Memory>(host: &mut H, m: &M, archive: &mut Archive) -> Result<(), Status>
     requires open { IsSome archive.old.store }
+    requires starts { CanStart (M.view m.now) }
     ensures open { OnOk result (IsSome archive.new.store) }
     ensures named { archive.new.name ≡ archive.old.name }
     ensures obeys { let image = image_with (M.view m.now).objects (M.view m.now).head in

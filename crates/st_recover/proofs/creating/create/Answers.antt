@@ -4,7 +4,7 @@ use Rattle.st_outside.specs.Runs.{Changes}
 use Rattle.st_outside.proofs.Touching.{above_changes}
 use Rattle.st_store.specs.Names.{image_file}
 use Rattle.st_recover.specs.Commits.{image_with}
-use Rattle.st_recover.proofs.Images.{image_is}
+use Rattle.st_recover.proofs.Images.{image_is, image_readable}
 use Rattle.st_recover.proofs.Making.{clearing, imaging, still_empty, founding, behind, image_stands, found_makes, found_kept, found_files, found_store, roots_spared, image_spared, found_spared}
 use Rattle.st_recover.proofs.creating.create.Goals as goal
 
@@ -113,7 +113,7 @@ returns-in_err-store-clause-moments g c told =
     let firm = image_stands H name image c.image_name.result.now d told is reads c.in_ok-image_length.ensures.synced in
     let still = still_empty H name image a b told none empty quiet d wrote in
     let makes = found_makes H name image d e c.in_ok-new_store.new_store l named long still firm c.found.result (λ im x y. c.found.ensures.makes im told x y) in
-    let third = founding H name image a b told none empty quiet d e c.found.result second (wrote.quiet told) makes in
+    let third = founding H name image a b told none empty quiet d e c.found.result (image_readable v (g.met.M.Memory.whole c.args.m.now) c.requires.starts) second (wrote.quiet told) makes in
     third
 
 pub returns-in_err-store-clause-left : goal.returns-in_err-store-clause-left
@@ -140,7 +140,7 @@ returns-in_err-store-clause-left g c f told can =
     let firm = image_stands H name image c.image_name.result.now d told is reads c.in_ok-image_length.ensures.synced in
     let still = still_empty H name image a b told none empty quiet d wrote in
     let makes = found_makes H name image d e c.in_ok-new_store.new_store l named long still firm c.found.result (λ im x y. c.found.ensures.makes im told x y) in
-    let third = founding H name image a b told none empty quiet d e c.found.result second (wrote.quiet told) makes in
+    let third = founding H name image a b told none empty quiet d e c.found.result (image_readable v (g.met.M.Memory.whole c.args.m.now) c.requires.starts) second (wrote.quiet told) makes in
     behind H name image a e told (λ g2 s here. g.met.H.Host.counts_now e (H.moment a) g2 s told third.later here) third f can
 
 pub returns-in_err-store-clause-spares : goal.returns-in_err-store-clause-spares
@@ -181,7 +181,7 @@ returns-clause-moments g c told =
     let firm = image_stands H name image c.image_name.result.now d told is reads c.in_ok-image_length.ensures.synced in
     let still = still_empty H name image a b told none empty quiet d wrote in
     let makes = found_makes H name image d e c.in_ok-new_store.new_store l named long still firm c.found.result (λ im x y. c.found.ensures.makes im told x y) in
-    let third = founding H name image a b told none empty quiet d e c.found.result second (wrote.quiet told) makes in
+    let third = founding H name image a b told none empty quiet d e c.found.result (image_readable v (g.met.M.Memory.whole c.args.m.now) c.requires.starts) second (wrote.quiet told) makes in
     third
 
 pub returns-clause-left : goal.returns-clause-left
@@ -208,7 +208,7 @@ returns-clause-left g c f told can =
     let firm = image_stands H name image c.image_name.result.now d told is reads c.in_ok-image_length.ensures.synced in
     let still = still_empty H name image a b told none empty quiet d wrote in
     let makes = found_makes H name image d e c.in_ok-new_store.new_store l named long still firm c.found.result (λ im x y. c.found.ensures.makes im told x y) in
-    let third = founding H name image a b told none empty quiet d e c.found.result second (wrote.quiet told) makes in
+    let third = founding H name image a b told none empty quiet d e c.found.result (image_readable v (g.met.M.Memory.whole c.args.m.now) c.requires.starts) second (wrote.quiet told) makes in
     behind H name image a e told (λ g2 s here. g.met.H.Host.counts_now e (H.moment a) g2 s told third.later here) third f can
 
 pub returns-clause-spares : goal.returns-clause-spares

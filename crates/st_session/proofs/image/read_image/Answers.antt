@@ -2,6 +2,7 @@ use Rattle.std.proofs.Common.{◌≡◌, ◌≤◌, ◌^◌, List, ℕ, length, 
 use Rattle.st_image.specs.HeadValues.{no_values, head_over}
 use Rattle.st_image.specs.Rows.{IsReadFault}
 use Rattle.st_image.specs.declared.error.ReadImage.{ReadImage}
+use Rattle.st_image.proofs.Saved.{read_starts}
 use Rattle.st_session.proofs.Started.{readable, started, faulty}
 use Rattle.st_session.proofs.image.read_image.Goals as goal
 
@@ -15,6 +16,9 @@ pub returns-in-Ok-clause-start : goal.returns-in-Ok-clause-start
 returns-in-Ok-clause-start g c told =
     let seen : c.deref.result.now ≡ c.in_ok-bytes.bytes.items = c.deref.ensures.value in
     started c.deref.result.now _ _ _ (seen ∙ c.in_ok-bytes.ensures.bytes told) c.in-Ok.ensures.start
+
+pub returns-in-Ok-clause-starts : goal.returns-in-Ok-clause-starts
+returns-in-Ok-clause-starts g c = read_starts _ _ _ _ c.in-Ok.ensures.start
 
 pub returns-in-Err-Fault-clause-refused : goal.returns-in-Err-Fault-clause-refused
 returns-in-Err-Fault-clause-refused g c told =

@@ -8,6 +8,7 @@ use Rattle.st_model.specs.Table.{Table}
 use Rattle.st_store.specs.Stored.{StoreState}
 use Rattle.st_recover.specs.Commits.{Commit, OpensAs}
 use Rattle.st_recover.specs.Creating.{first_commit, IsMade, AreFirstFiles}
+use Rattle.st_recover.proofs.Images.{image_readable}
 use Rattle.st_session.specs.Imports.{imported, imported_text, imported_line}
 use Rattle.st_session.proofs.Imported.{Tries, same_commit, kept_rests, quiet, say_same, done_moments, done_alone, is_imported, failed_moments, failed_alone, failed_has, failed_whole, refused_moments, refused_alone, refused_has, refused_whole, line_behind}
 use Rattle.st_session.proofs.importing.import.Goals as goal
@@ -28,7 +29,8 @@ returns-in-Ok-say_imported-clause-ends g c =
       disk = made.cause.later;
     } in
     let rest = λ (told : IsTrue g.H.Host.is_told). subst (λ (x : Commit). IsAtRest g.H.Host (OpensAs c.args.store.now) x c.create.new.host) (same told)
-    (kept_rests g.H.Host c.create.new.host c.args.store.now _ 0 c.in-Ok-create._store (ap (λ (s : StoreState). s.name) made.store) (made.kept told)) in
+    (kept_rests g.H.Host c.create.new.host c.args.store.now _ 0 c.in-Ok-create._store (ap (λ (s : StoreState). s.name) made.store)
+    (image_readable v (g.met.L.Done.Memory.whole c.in-Ok.loaded.memory) read.starts) (made.kept told)) in
     let files = λ (told : IsTrue g.H.Host.is_told). subst (λ (x : Commit). AreFirstFiles c.args.store.now x.image (g.H.Host.files c.create.new.host)) (same told) (made.files told) in
     let says = c.say_imported.ensures.says in
     let line = λ (told : IsTrue g.H.Host.is_told). subst (λ (t : Table). Says g.H.Host (imported_text t) c.create.new.host c.say_imported.new.host) (read.start told).objects says in
@@ -56,7 +58,8 @@ returns-in-Ok-create-clause-ends g c =
       disk = made.cause.later;
     } in
     let rest = λ (told : IsTrue g.H.Host.is_told). subst (λ (x : Commit). IsAtRest g.H.Host (OpensAs c.args.store.now) x c.create.new.host) (same told)
-    (kept_rests g.H.Host c.create.new.host c.args.store.now _ 0 c.in-Ok-create._store (ap (λ (s : StoreState). s.name) made.store) (made.kept told)) in
+    (kept_rests g.H.Host c.create.new.host c.args.store.now _ 0 c.in-Ok-create._store (ap (λ (s : StoreState). s.name) made.store)
+    (image_readable v (g.met.L.Done.Memory.whole c.in-Ok.loaded.memory) read.starts) (made.kept told)) in
     let files = λ (told : IsTrue g.H.Host.is_told). subst (λ (x : Commit). AreFirstFiles c.args.store.now x.image (g.H.Host.files c.create.new.host)) (same told) (made.files told) in
     let says = c.say_imported.ensures.says in
     let line = λ (told : IsTrue g.H.Host.is_told). subst (λ (t : Table). Says g.H.Host (imported_text t) c.create.new.host c.say_imported.new.host) (read.start told).objects says in

@@ -2,6 +2,7 @@ use Rattle.std.proofs.Common.{◌≡◌, ◌∙◌, refl, ap, sym, subst}
 use Rattle.st_model.specs.Births.{births}
 use Rattle.st_model.specs.Saving.{save}
 use Rattle.st_model.proofs.Showing.{show_is}
+use Rattle.st_image.specs.Back.{CanStart}
 use Rattle.st_machine.specs.Asked.{death_by}
 use Rattle.st_store.specs.Names.{IsNoFileOf}
 use Rattle.st_course.specs.Obeying.{Obeys}
@@ -10,9 +11,17 @@ use Rattle.st_recover.specs.Commits.{Commit, OpensAs, image_with}
 use Rattle.st_session.specs.Answers.{going_on}
 use Rattle.st_session.specs.Keeping.{in_a_store, imaging}
 use Rattle.st_session.specs.Standing.{shown_by}
-use Rattle.st_session.proofs.Points.{living_answers}
-use Rattle.st_session.proofs.Snapshots.{saved_kept, saved_died}
+use Rattle.st_session.proofs.Points.{living_answers, shown_births}
+use Rattle.st_session.proofs.Snapshots.{saved_can_start, saved_kept, saved_died}
 use Rattle.st_session.proofs.saving.snapshot.Goals as goal
+
+pub keep_image-requires-clause-starts : goal.keep_image-requires-clause-starts
+keep_image-requires-clause-starts g c =
+    let view = g.M.Memory.view in
+    let m = c.args.machine.now in
+    let some = shown_births view m (g.met.M.Memory.whole m.memory) (c.requires.go_on.may_run c.requires.alive) in
+    subst (λ x. CanStart (view x)) (sym c.memory.ensures)
+    (saved_can_start view c.save.new.self some.0 (save births some.0) refl (c.in-Ok.ensures.saves c.requires.alive some.0 some.1))
 
 pub returns-in-Ok-clause-follows : goal.returns-in-Ok-clause-follows
 returns-in-Ok-clause-follows g c =

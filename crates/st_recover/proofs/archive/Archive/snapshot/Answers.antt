@@ -5,7 +5,7 @@ use Rattle.st_store.specs.Stored.{Opens}
 use Rattle.st_store.specs.declared.root.Root.{Root}
 use Rattle.st_recover.specs.Archives.{ArchiveState}
 use Rattle.st_recover.specs.Commits.{image_with}
-use Rattle.st_recover.proofs.Images.{image_is}
+use Rattle.st_recover.proofs.Images.{image_is, image_readable}
 use Rattle.st_recover.proofs.Holding.{unwritten_makes, snapshot_makes, snapshot_holds}
 use Rattle.st_recover.proofs.archive.Archive.snapshot.Goals as goal
 
@@ -22,7 +22,7 @@ returns-in_err-image_length-clause-makes g c x told holds =
     let at = c.saturating_sub-other.result in
     let at_is : at ≡ 1 - st.root.slot = c.saturating_sub-other.ensures ∙ ap (λ (r : Root). 1 - r.slot) c.root-slot.ensures in
     let file = c.image_name.result.now in
-    unwritten_makes H a old st x holds there b image file st.root at at_is c.image_name.ensures c.write.ensures.writes c.write.result c.from_residual.result c.from_residual.ensures.0 told
+    unwritten_makes H a old st x holds there b image file (image_readable v (g.met.M.Memory.whole c.args.m.now) c.requires.starts) st.root at at_is c.image_name.ensures c.write.ensures.writes c.write.result c.from_residual.result c.from_residual.ensures.0 told
 
 pub returns-in_err-commit-clause-makes : goal.returns-in_err-commit-clause-makes
 returns-in_err-commit-clause-makes g c x told holds =
@@ -43,7 +43,7 @@ returns-in_err-commit-clause-makes g c x told holds =
     let long : l ≡ length image = c.in_ok-image_length.ensures.length ∙ ap length (image_is v) in
     let n_is = ap (λ (r : Root). r.length) c.root-slot.ensures in
     let e = c.commit.new.host in
-    snapshot_makes H a old st x holds there b image file root at at_is c.image_name.ensures c.write.ensures.writes (λ told. c.in_ok-image_length.ensures.file told ∙ ap Some (image_is v)) c.in_ok-image_length.ensures.synced refl long n_is n_is
+    snapshot_makes H a old st x holds there b image file (image_readable v (g.met.M.Memory.whole c.args.m.now) c.requires.starts) root at at_is c.image_name.ensures c.write.ensures.writes (λ told. c.in_ok-image_length.ensures.file told ∙ ap Some (image_is v)) c.in_ok-image_length.ensures.synced refl long n_is n_is
     e c.write.result c.commit.result c.from_residual-in_err-commit.result (λ y z told kept firm is. c.commit.ensures.makes y z told kept firm is)
     (λ y z makes. makes_of H (Opens st.name) y z b e c.commit.result c.from_residual-in_err-commit.result c.from_residual-in_err-commit.ensures.0 makes) told
 
@@ -71,7 +71,7 @@ returns-clause-makes g c x told holds =
     let long : l ≡ length image = c.in_ok-image_length.ensures.length ∙ ap length (image_is v) in
     let n_is = ap (λ (r : Root). r.length) c.root-slot.ensures in
     let e = c.commit.new.host in
-    snapshot_makes H a old st x holds there b image file root at at_is c.image_name.ensures c.write.ensures.writes (λ told. c.in_ok-image_length.ensures.file told ∙ ap Some (image_is v)) c.in_ok-image_length.ensures.synced refl long n_is n_is
+    snapshot_makes H a old st x holds there b image file (image_readable v (g.met.M.Memory.whole c.args.m.now) c.requires.starts) root at at_is c.image_name.ensures c.write.ensures.writes (λ told. c.in_ok-image_length.ensures.file told ∙ ap Some (image_is v)) c.in_ok-image_length.ensures.synced refl long n_is n_is
     e c.write.result (Ok c.in_ok-commit.field-0) _ (λ y z told kept firm is. c.in_ok-commit.ensures.makes y z told kept firm is)
     (λ y z makes. record { rest = makes.rest; either = makes.either; quiet = makes.quiet; moments = makes.moments }) told
 
@@ -94,6 +94,6 @@ returns-clause-holds g c x holds =
     let long : l ≡ length image = c.in_ok-image_length.ensures.length ∙ ap length (image_is v) in
     let n_is = ap (λ (r : Root). r.length) c.root-slot.ensures in
     let e = c.commit.new.host in
-    snapshot_holds H a old st x holds there b image file root at at_is c.image_name.ensures c.write.ensures.writes (λ told. c.in_ok-image_length.ensures.file told ∙ ap Some (image_is v)) c.in_ok-image_length.ensures.synced refl long n_is n_is
+    snapshot_holds H a old st x holds there b image file (image_readable v (g.met.M.Memory.whole c.args.m.now) c.requires.starts) root at at_is c.image_name.ensures c.write.ensures.writes (λ told. c.in_ok-image_length.ensures.file told ∙ ap Some (image_is v)) c.in_ok-image_length.ensures.synced refl long n_is n_is
     e _ c.in_ok-commit.field-0 (ap (λ (s : ArchiveState). s.name) c.self.view_is) refl (ap (λ (s : ArchiveState). s.listed) c.self.view_is) c.in_ok-commit.ensures.store
     (λ y z told kept firm is. c.in_ok-commit.ensures.kept y z told kept firm is)
