@@ -207,17 +207,24 @@ fn check_rows(rt: &(impl Abort + AllocGlobal), rows: &[Row<'_>]) -> Result<(), F
 
 #[test]
 fn other_words_are_refused(rt: HostRuntime) -> Result<(), Fail> {
-    let rows: [Row<'_>; 8] = [
-        (&[], &[], Status::Usage, "usage\n"),
-        (&[], &["import", "B"], Status::Usage, "usage\n"),
-        (&[], &["import", "B", "-S"], Status::Usage, "usage\n"),
-        (&[], &["session"], Status::Usage, "usage\n"),
-        (&[], &["once", "B"], Status::Usage, "usage\n"),
-        (&[], &["once", "", "4"], Status::Usage, "usage\n"),
-        (&[], &["once", "B", ""], Status::Usage, "usage\n"),
-        (&[], &["once", "B", "4", "4"], Status::Usage, "usage\n"),
+    let rows: [&[&str]; 12] = [
+        &[],
+        &["import", "B"],
+        &["import", "B", "-S"],
+        &["import", "B", "S", "--words"],
+        &["import", "B", "S", "--words=4294967296"],
+        &["import", "B", "S", "--words", "78", "--words", "78"],
+        &["session"],
+        &["once", "B"],
+        &["once", "", "4"],
+        &["once", "B", ""],
+        &["once", "B", "4", "4"],
+        &["once", "B", "4", "--words", "78"],
     ];
-    check_rows(&rt, &rows)
+    for words in rows {
+        check_rows(&rt, &[(&[], words, Status::Usage, "usage\n")])?;
+    }
+    Ok(())
 }
 
 #[test]

@@ -4,26 +4,29 @@ ghost use Rattle.std.specs.Process.{exit_status};
 ghost use Rattle.st_outside.specs.Counts.{Rose};
 ghost use Rattle.st_outside.specs.Files.{bytes_of};
 ghost use Rattle.st_outside.specs.Runs.{ReadsAndSays};
+ghost use Rattle.st_image.specs.declared.head.HeadValues.{HeadValues};
 ghost use Rattle.st_course.specs.Statuses.{StatusHasCause, number_of};
 ghost use Rattle.st_course.specs.declared.status.Status.TheVariants.{Usage};
 ghost use Rattle.st_session.specs.Calls.{OnlySays, CallEnds};
 ghost use Rattle.st_session.specs.Commands.{OnceEnds, SaysLastLine};
+ghost use Rattle.st_session.specs.Exports.{ExportEnds};
 ghost use Rattle.st_session.specs.Imports.{ImportEnds};
 ghost use Rattle.st_session.specs.StoreSessions.{SessionCommandEnds};
-ghost use Rattle.st_session.specs.Words.{command_of, Once, Import, Session};
+ghost use Rattle.st_session.specs.Words.{command_of, Once, Import, Export, Session};
 
 use st_counted::CountedLoader;
 use st_course::Status;
 use st_outside::{Host, Source};
-use st_session::{Command, import, once, read_command, refuse, session};
+use st_session::{Command, export, import, once, read_command, refuse, session};
 use std::alloc::Global;
 use std::process::ExitCode;
 
 /// Does the command that the words say, without the program's name.
 ///
 /// `once IMAGE N` reads the image file IMAGE, runs N cycles of its machine, and says the run's end and what the machine shows
-/// then. `import IMAGE STORE` makes a store of an image. `session STORE` opens a store, and follows a script over what it holds,
-/// whose bytes are taken from the source. No file but the store's is changed.
+/// then. `import IMAGE STORE` makes a store of an image, with the values of options in place of those of its head. `export STORE
+/// IMAGE` writes an image of what a store holds. `session STORE` opens a store, and follows a script over what it holds, whose bytes
+/// are taken from the source. No file is changed but the store's, and the image's by `export`.
 ///
 /// For every well-formed image, script and n, after n bytecodes the kept objects, display, input state and output are those of
 /// the book's interpreter over objects never reclaimed or moved. A halt for space comes exactly where the table or the heap
@@ -39,9 +42,13 @@ pub fn tool<H: Host, S: Source>(
         (result ≡ Usage) × SaysLastLine H.Host.own Usage host.old host.new }
     ensures once { (image : List ℕ) (n : ℕ) → command_of (map string_bytes words.now) ≡ Some (Once image n)
         → OnceEnds H.Host.own (bytes_of (H.files host.old image)) n host.old host.new result }
-    ensures imports { (image store : List ℕ)
-        → command_of (map string_bytes words.now) ≡ Some (Import image store)
-        → ImportEnds H.Host.own (bytes_of (H.files host.old image)) store host.old host.new result }
+    ensures imports { (image store : List ℕ) (over : HeadValues)
+        → command_of (map string_bytes words.now) ≡ Some (Import image store over)
+        → ImportEnds H.Host.own over (bytes_of (H.files host.old image)) store
+        host.old host.new result }
+    ensures exports { (store image : List ℕ)
+        → command_of (map string_bytes words.now) ≡ Some (Export store image)
+        → ExportEnds H.Host.own store image host.old host.new result }
     ensures session { let reads = Rose (S.read_faults script.old) (S.read_faults script.new) in
         (store : List ℕ) → command_of (map string_bytes words.now) ≡ Some (Session store)
         → SessionCommandEnds H.Host.own store (IsTrue S.is_told) reads
@@ -55,8 +62,11 @@ pub fn tool<H: Host, S: Source>(
         Some(Command::Once { image, cycles }) => {
             once::<H, CountedLoader>(alloc, host, image, cycles)
         }
-        Some(Command::Import { image, store }) => {
-            import::<H, CountedLoader>(alloc, host, image, store)
+        Some(Command::Import { image, store, over }) => {
+            import::<H, CountedLoader>(alloc, host, image, store, &over)
+        }
+        Some(Command::Export { store, image }) => {
+            export::<H, CountedLoader>(alloc, host, store, image)
         }
         Some(Command::Session { store }) => {
             session::<H, CountedLoader, S>(alloc, host, script, store)

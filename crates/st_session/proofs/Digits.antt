@@ -2,17 +2,17 @@
 use Rattle.std.proofs.Common.{◌≡◌, ℕ, ◌+◌, ◌*◌, ◌-◌, ◌<◌, ◌≤◌, zero, suc, Bool, true, false, List, [], ◌∷◌, length, drop, get_or, refl, sym, ap, ◌∙◌, arith}
 use Rattle.std.specs.Prelude.{Option, None, nat_le, ◌&&◌, if◌then◌else◌}
 use Rattle.std.proofs.lemmas.Bool.Decides.{nat_tests}
-use Rattle.st_session.specs.Words.{digits_after, at_most_a_billion, cycles_said}
+use Rattle.st_session.specs.Arguments.{digits_after, at_most, number_said}
 
--- what passes the most cycles gives none, whatever digits follow
-pub too_many : (ds : List ℕ) (n : ℕ) → 1000000000 < n → at_most_a_billion (digits_after n ds) ≡ None
-too_many [] n l =
-    let b : nat_le n 1000000000 ≡ false = grind (arith, nat_tests) in
+-- what passes the most gives none, whatever digits follow
+pub too_many : (most : ℕ) (ds : List ℕ) (n : ℕ) → most < n → at_most most (digits_after n ds) ≡ None
+too_many most [] n l =
+    let b : nat_le n most ≡ false = grind (arith, nat_tests) in
     rw b refl
-too_many (b ∷ bs) n l = too_case (nat_le 48 b && nat_le b 57) b bs n l (too_many bs)
+too_many most (b ∷ bs) n l = too_case (nat_le 48 b && nat_le b 57) b bs n l (too_many most bs)
   where
-    too_case : (c : Bool) (b : ℕ) (bs : List ℕ) (n : ℕ) → 1000000000 < n → ((m : ℕ) → 1000000000 < m → at_most_a_billion (digits_after m bs) ≡ None)
-        → at_most_a_billion (if c then digits_after (10 * n + (b - 48)) bs else None) ≡ None
+    too_case : (c : Bool) (b : ℕ) (bs : List ℕ) (n : ℕ) → most < n → ((m : ℕ) → most < m → at_most most (digits_after m bs) ≡ None)
+        → at_most most (if c then digits_after (10 * n + (b - 48)) bs else None) ≡ None
     too_case true b bs n l more = more (10 * n + (b - 48)) (omega (arith, l))
     too_case false b bs n l more = refl
 
@@ -47,16 +47,16 @@ pub digits_stop : (w : List ℕ) (i n d : ℕ) → i < length w → (nat_le 48 (
 digits_stop w i n d l other =
     ap (λ ds. digits_after n ds) (next_of w i d l) ∙ other_case (nat_le 48 (get_or w i d) && nat_le (get_or w i d) 57) (get_or w i d) (drop (suc i) w) n other
 
-none_over : (c : Bool) (x : Option ℕ) → at_most_a_billion x ≡ None → None ≡ (if c then at_most_a_billion x else None)
-none_over true x e = sym e
-none_over false x e = refl
+none_over : (most : ℕ) (c : Bool) (x : Option ℕ) → at_most most x ≡ None → None ≡ (if c then at_most most x else None)
+none_over most true x e = sym e
+none_over most false x e = refl
 
--- a number that passes the most cycles before its end is none
-pub digits_over : (w : List ℕ) (i n d : ℕ) → i < length w → 48 ≤ get_or w i d → get_or w i d ≤ 57 → digits_after 0 w ≡ digits_after n (drop i w)
-    → 1000000000 < 10 * n + (get_or w i d - 48) → None ≡ cycles_said w
-unfolding cycles_said
-digits_over w i n d l low high so_far over =
-    none_over (nat_le 1 (length w) && nat_le (length w) 10) (digits_after 0 w)
-    (ap at_most_a_billion (so_far ∙ digits_next w i n d l low high) ∙ too_many (drop (i + 1) w) (10 * n + (get_or w i d - 48)) over)
+-- a number that passes the most before its end is none
+pub digits_over : (most : ℕ) (w : List ℕ) (i n d : ℕ) → i < length w → 48 ≤ get_or w i d → get_or w i d ≤ 57 → digits_after 0 w ≡ digits_after n (drop i w)
+    → most < 10 * n + (get_or w i d - 48) → None ≡ number_said most w
+unfolding number_said
+digits_over most w i n d l low high so_far over =
+    none_over most (nat_le 1 (length w) && nat_le (length w) 10) (digits_after 0 w)
+    (ap (at_most most) (so_far ∙ digits_next w i n d l low high) ∙ too_many most (drop (i + 1) w) (10 * n + (get_or w i d - 48)) over)
 
 pub ruleset digits = (digits_next, digits_stop, digits_over)

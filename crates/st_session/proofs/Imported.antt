@@ -8,7 +8,8 @@ use Rattle.st_outside.specs.Telling.{Says}
 use Rattle.st_outside.specs.declared.host.Host.{Ghosts}
 use Rattle.st_outside.proofs.Joining.{weaker, moments_join}
 use Rattle.st_outside.proofs.Rising.{rose_first, rose_second}
-use Rattle.st_model.specs.Image.{image_head}
+use Rattle.st_image.specs.declared.head.HeadValues.{HeadValues}
+use Rattle.st_image.specs.HeadValues.{head_over}
 use Rattle.st_model.specs.Start.{start_view}
 use Rattle.st_model.specs.Table.{Table}
 use Rattle.st_model.specs.View.{View}
@@ -23,20 +24,19 @@ use Rattle.st_course.specs.declared.status.Status.TheVariants as status
 use Rattle.st_recover.specs.Archives.{store_of}
 use Rattle.st_recover.specs.Commits.{Commit, OpensAs, image_with, stored_of}
 use Rattle.st_recover.specs.Creating.{first_commit, IsMade, IsNoFirstFile, AreFirstFiles}
-use Rattle.st_recover.specs.Openings.{IsReadable}
 use Rattle.st_session.specs.declared.image_refusal.ImageRefusal.{ImageRefusal}
 use Rattle.st_session.specs.declared.image_refusal.ImageRefusal.TheVariants as refusal
 use Rattle.st_session.specs.Commands.{last_line, status_of, store_status, IsImageRefusal, RefusalHasCause, SaysLastLine, LeavesAlone}
-use Rattle.st_session.specs.Imports.{imported, imported_line, IsThere, IsImported, ImportHas, IsImporting}
+use Rattle.st_session.specs.Imports.{imported, imported_line, IsReadableOver, IsFaultyOver, IsThere, IsImported, ImportHas, IsImporting}
 use Rattle.st_session.proofs.LastLines.{part_not_imported, none_not_imported}
 
-abbrev read_table : List ℕ → Table
-read_table bytes = (start_view (image_head bytes) bytes).objects
+abbrev read_table : HeadValues → List ℕ → Table
+read_table over bytes = (start_view (head_over over bytes) bytes).objects
 
 -- what stands in the new store is what was read
-pub same_commit : (bytes : List ℕ) (v : View) → v.objects ≡ (start_view (image_head bytes) bytes).objects → v.head ≡ (start_view (image_head bytes) bytes).head
-    → first_commit (image_with v.objects v.head) ≡ imported bytes
-same_commit bytes v objects head i = first_commit (image_with (objects i) (head i))
+pub same_commit : (over : HeadValues) (bytes : List ℕ) (v : View) → v.objects ≡ (start_view (head_over over bytes) bytes).objects → v.head ≡ (start_view (head_over over bytes) bytes).head
+    → first_commit (image_with v.objects v.head) ≡ imported over bytes
+same_commit over bytes v objects head i = first_commit (image_with (objects i) (head i))
 
 -- a store at rest opens as what it holds, where its image can be read
 pub kept_rests : {D : Type 0} (host : Ghosts D) (h : D) (name : List ℕ) (c : Commit) (slot : ℕ) (store : StoreState) → store.name ≡ name → IsReadable c.image → IsKept host h store (stored_of slot c)
@@ -64,25 +64,25 @@ pub record Tries {D : Type 0} (host : Ghosts D) (name : List ℕ) (c : Commit) (
   pub say : host.say_faults new ≡ host.say_faults old
   pub disk : host.disk_faults old ≤ host.disk_faults new
 
-module _ {D : Type 0} (host : Ghosts D) (bytes store : List ℕ) (old mid : D) (reads : OnlyReads host old mid) where
+module _ {D : Type 0} (host : Ghosts D) (over : HeadValues) (bytes store : List ℕ) (old mid : D) (reads : OnlyReads host old mid) where
   -- nothing has changed
-  untouched : (f : Files) (s : List ℕ) → ((n : List ℕ) → host.may_leave old n (f n)) → (s ≡ host.said old ++ imported_line bytes → ⊥) → IsImporting host bytes store old f s
+  untouched : (f : Files) (s : List ℕ) → ((n : List ℕ) → host.may_leave old n (f n)) → (s ≡ host.said old ++ imported_line over bytes → ⊥) → IsImporting host over bytes store old f s
   untouched f s can none = record { files = inl can; said = λ e. absurd (none e) }
 
-  read_moments : IsTrue host.is_told → LeavesOnly host old mid (IsImporting host bytes store old)
-  read_moments told = weaker host old mid (IsImporting host bytes store old) (Here (host.may_leave old) (host.said old)) (reads.moments told)
-      (λ f s here. untouched f s here.0 (none_not_imported (read_table bytes) (host.said old) s here.1))
+  read_moments : IsTrue host.is_told → LeavesOnly host old mid (IsImporting host over bytes store old)
+  read_moments told = weaker host old mid (IsImporting host over bytes store old) (Here (host.may_leave old) (host.said old)) (reads.moments told)
+      (λ f s here. untouched f s here.0 (none_not_imported (read_table over bytes) (host.said old) s here.1))
 
   -- a last line behind calls of which a stop leaves no more than this
-  line_moments : (IsTrue host.is_told) → (e : Status) (made new : D) → host.said made ≡ host.said old → ((f : Files) (s : List ℕ) → ((n : List ℕ) → host.may_leave made n (f n)) → (s ≡ host.said old ++ imported_line bytes → ⊥) → IsImporting host bytes store old f s)
-      → LeavesOnly host old made (IsImporting host bytes store old) → ReadsAndSays host (last_line e) made new → LeavesOnly host old new (IsImporting host bytes store old)
+  line_moments : (IsTrue host.is_told) → (e : Status) (made new : D) → host.said made ≡ host.said old → ((f : Files) (s : List ℕ) → ((n : List ℕ) → host.may_leave made n (f n)) → (s ≡ host.said old ++ imported_line over bytes → ⊥) → IsImporting host over bytes store old f s)
+      → LeavesOnly host old made (IsImporting host over bytes store old) → ReadsAndSays host (last_line e) made new → LeavesOnly host old new (IsImporting host over bytes store old)
   line_moments told e made new quiet from first line =
-      moments_join host old made new (IsImporting host bytes store old) (WhileSaying (host.may_leave made) (host.said made) (last_line e)) first (line.moments told)
-      (λ f s w. from f s w.0 (part_not_imported (read_table bytes) e (host.said old) s (subst (λ (t : List ℕ). SaidPart t (last_line e) s) quiet w.1)))
+      moments_join host old made new (IsImporting host over bytes store old) (WhileSaying (host.may_leave made) (host.said made) (last_line e)) first (line.moments told)
+      (λ f s w. from f s w.0 (part_not_imported (read_table over bytes) e (host.said old) s (subst (λ (t : List ℕ). SaidPart t (last_line e) s) quiet w.1)))
 
   -- THE IMAGE IS REFUSED
 
-  pub refused_moments : (e : Status) (new : D) → ReadsAndSays host (last_line e) mid new → IsTrue host.is_told → LeavesOnly host old new (IsImporting host bytes store old)
+  pub refused_moments : (e : Status) (new : D) → ReadsAndSays host (last_line e) mid new → IsTrue host.is_told → LeavesOnly host old new (IsImporting host over bytes store old)
   refused_moments e new line told =
       line_moments told e mid new (reads.quiet told) (λ f s can none. untouched f s (λ n. (reads.stops told).fewer n (f n) (can n)) none) (read_moments told) line
 
@@ -100,7 +100,7 @@ module _ {D : Type 0} (host : Ghosts D) (bytes store : List ℕ) (old mid : D) (
     whole = λ calm told. line.whole (λ rose. calm (subst (λ n. Rose n (host.say_faults new)) say rose)) told ∙ ap (λ (t : List ℕ). t ++ last_line e) (quiet told);
   }
 
-  module _ (alike : ReadsAlike host old mid) (readable : IsTrue host.is_told → IsReadable bytes) (made : D) (tries : Tries host store (imported bytes) mid made) where
+  module _ (alike : ReadsAlike host old mid) (readable : IsTrue host.is_told → IsReadableOver over bytes) (made : D) (tries : Tries host store (imported over bytes) mid made) where
     roots_same : IsTrue host.is_told → bytes_of (host.files mid (roots_file store)) ≡ bytes_of (host.files old (roots_file store))
     roots_same told = ap bytes_of (alike.same told (roots_file store))
 
@@ -111,16 +111,16 @@ module _ {D : Type 0} (host : Ghosts D) (bytes store : List ℕ) (old mid : D) (
     none_before told none h = none (subst HasLetters (sym (roots_same told)) h)
 
     -- while the store was made
-    made_from : IsTrue host.is_told → (f : Files) (s : List ℕ) → IsMade host store (imported bytes) mid f → (s ≡ host.said old ++ imported_line bytes → ⊥) → IsImporting host bytes store old f s
+    made_from : IsTrue host.is_told → (f : Files) (s : List ℕ) → IsMade host store (imported over bytes) mid f → (s ≡ host.said old ++ imported_line over bytes → ⊥) → IsImporting host over bytes store old f s
     made_from told f s is none = ⊎_elim
         (λ can. untouched f s (λ n. (reads.stops told).fewer n (f n) (can n)) none)
         (λ new. record { files = inr (readable told, none_before told new.0, new.1); said = λ e. absurd (none e) })
         is
 
-    tried_moments : IsTrue host.is_told → LeavesOnly host old made (IsImporting host bytes store old)
+    tried_moments : IsTrue host.is_told → LeavesOnly host old made (IsImporting host over bytes store old)
     tried_moments told =
-        moments_join host old mid made (IsImporting host bytes store old) (λ f s. (s ≡ host.said mid) × IsMade host store (imported bytes) mid f) (read_moments told) (tries.moments told)
-        (λ f s so. made_from told f s so.1 (none_not_imported (read_table bytes) (host.said old) s (so.0 ∙ reads.quiet told)))
+        moments_join host old mid made (IsImporting host over bytes store old) (λ f s. (s ≡ host.said mid) × IsMade host store (imported over bytes) mid f) (read_moments told) (tries.moments told)
+        (λ f s so. made_from told f s so.1 (none_not_imported (read_table over bytes) (host.said old) s (so.0 ∙ reads.quiet told)))
 
     pub quiet : IsTrue host.is_told → host.said made ≡ host.said old
     quiet told = tries.quiet told ∙ reads.quiet told
@@ -137,7 +137,7 @@ module _ {D : Type 0} (host : Ghosts D) (bytes store : List ℕ) (old mid : D) (
 
     -- THE STORE IS REFUSED
 
-    pub failed_moments : (e : Status) (new : D) → ReadsAndSays host (last_line e) made new → IsTrue host.is_told → LeavesOnly host old new (IsImporting host bytes store old)
+    pub failed_moments : (e : Status) (new : D) → ReadsAndSays host (last_line e) made new → IsTrue host.is_told → LeavesOnly host old new (IsImporting host over bytes store old)
     failed_moments e new line told =
         line_moments told e made new (quiet told) (λ f s can none. made_from told f s (tries.left f told can) none) (tried_moments told) line
 
@@ -146,10 +146,10 @@ module _ {D : Type 0} (host : Ghosts D) (bytes store : List ℕ) (old mid : D) (
 
     -- THE STORE IS MADE
 
-    pub done_moments : (new : D) → (IsTrue host.is_told → HasLetters (bytes_of (host.files mid (roots_file store))) → ⊥) → (IsTrue host.is_told → IsAtRest host (OpensAs store) (imported bytes) made)
-        → (IsTrue host.is_told → Says host (imported_line bytes) made new) → IsTrue host.is_told → LeavesOnly host old new (IsImporting host bytes store old)
+    pub done_moments : (new : D) → (IsTrue host.is_told → HasLetters (bytes_of (host.files mid (roots_file store))) → ⊥) → (IsTrue host.is_told → IsAtRest host (OpensAs store) (imported over bytes) made)
+        → (IsTrue host.is_told → Says host (imported_line over bytes) made new) → IsTrue host.is_told → LeavesOnly host old new (IsImporting host over bytes store old)
     done_moments new none rest says told =
-        moments_join host old made new (IsImporting host bytes store old) (WhileSaying (host.may_leave made) (host.said made) (imported_line bytes)) (tried_moments told) ((says told).part.moments told)
+        moments_join host old made new (IsImporting host over bytes store old) (WhileSaying (host.may_leave made) (host.said made) (imported_line over bytes)) (tried_moments told) ((says told).part.moments told)
         (λ f s w. let opens = (rest told).opens_as f w.0 in record {
           files = inr (readable told, none_before told (none told), inr opens);
           said = λ e. opens;
@@ -158,8 +158,8 @@ module _ {D : Type 0} (host : Ghosts D) (bytes store : List ℕ) (old mid : D) (
     pub done_alone : (new : D) (text : List ℕ) → Says host text made new → LeavesAlone host (IsNoFirstFile store) old new
     done_alone new text says = alone_with new text says.disk_count says.alike says.part
 
-    pub is_imported : (new : D) → (IsTrue host.is_told → HasLetters (bytes_of (host.files mid (roots_file store))) → ⊥) → (IsTrue host.is_told → IsAtRest host (OpensAs store) (imported bytes) made) → (text : List ℕ)
-        → Says host text made new → (IsTrue host.is_told → AreFirstFiles store (imported bytes).image (host.files made)) → IsTrue host.is_told → IsImported host bytes store old new
+    pub is_imported : (new : D) → (IsTrue host.is_told → HasLetters (bytes_of (host.files mid (roots_file store))) → ⊥) → (IsTrue host.is_told → IsAtRest host (OpensAs store) (imported over bytes) made) → (text : List ℕ)
+        → Says host text made new → (IsTrue host.is_told → AreFirstFiles store (imported over bytes).image (host.files made)) → IsTrue host.is_told → IsImported host over bytes store old new
     is_imported new none rest text says files told = record {
       readable = readable told;
       none = none_before told (none told);
@@ -173,16 +173,16 @@ module _ {D : Type 0} (host : Ghosts D) (bytes store : List ℕ) (old mid : D) (
 
     -- what is so where no store was made
     pub failed_has : (fault : StoreFault) (e : Status) (new : D) → e ≡ store_status fault → IsOfMaking fault → (IsTrue host.is_told → RefusesNew (host.files mid (roots_file store)) fault) → SaysLastLine host e old new
-        → ImportHas host bytes store old new e
+        → ImportHas host over bytes store old new e
     failed_has fault e new is kind why line =
-        subst (ImportHas host bytes store old new) (sym is) (over fault kind why (subst (λ (x : Status). SaysLastLine host x old new) is line))
+        subst (ImportHas host over bytes store old new) (sym is) (each fault kind why (subst (λ (x : Status). SaysLastLine host x old new) is line))
       where
-        over : (r : StoreFault) → IsOfMaking r → (IsTrue host.is_told → RefusesNew (host.files mid (roots_file store)) r) → SaysLastLine host (store_status r) old new → ImportHas host bytes store old new (store_status r)
-        over unmade.Missing kind why line = absurd kind
-        over unmade.Exists kind why line = (λ told. (readable told, there_before told (why told)), line)
-        over (unmade.NotAStore place) kind why line = absurd kind
-        over unmade.Disk kind why line = line
-        over unmade.OutOfMemory kind why line = line
+        each : (r : StoreFault) → IsOfMaking r → (IsTrue host.is_told → RefusesNew (host.files mid (roots_file store)) r) → SaysLastLine host (store_status r) old new → ImportHas host over bytes store old new (store_status r)
+        each unmade.Missing kind why line = absurd kind
+        each unmade.Exists kind why line = (λ told. (readable told, there_before told (why told)), line)
+        each (unmade.NotAStore place) kind why line = absurd kind
+        each unmade.Disk kind why line = line
+        each unmade.OutOfMemory kind why line = line
 
     pub failed_whole : (fault : StoreFault) (e : Status) (new : D) → e ≡ store_status fault → IsOfMaking fault → (IsTrue host.is_told → RefusesNew (host.files mid (roots_file store)) fault)
         → (fault ≡ unmade.Disk → Rose (host.disk_faults mid) (host.disk_faults made)) → host.disk_faults new ≡ host.disk_faults made
@@ -195,18 +195,18 @@ module _ {D : Type 0} (host : Ghosts D) (bytes store : List ℕ) (old mid : D) (
     failed_whole unmade.OutOfMemory e new is kind why cause disk told none calm = inr is
 
   -- what is so where the image is refused
-  pub refused_has : (r : ImageRefusal) (e : Status) (new : D) → e ≡ status_of r → (IsTrue host.is_told → IsImageRefusal bytes r) → SaysLastLine host e old new → ImportHas host bytes store old new e
+  pub refused_has : (r : ImageRefusal) (e : Status) (new : D) → e ≡ status_of r → (IsTrue host.is_told → IsImageRefusal (IsFaultyOver over) bytes r) → SaysLastLine host e old new → ImportHas host over bytes store old new e
   refused_has r e new is why line =
-      subst (ImportHas host bytes store old new) (sym is) (over r why (subst (λ (x : Status). SaysLastLine host x old new) is line))
+      subst (ImportHas host over bytes store old new) (sym is) (each r why (subst (λ (x : Status). SaysLastLine host x old new) is line))
     where
-      over : (r : ImageRefusal) → (IsTrue host.is_told → IsImageRefusal bytes r) → SaysLastLine host (status_of r) old new → ImportHas host bytes store old new (status_of r)
-      over (refusal.Image f) why line = (why, line)
-      over refusal.TooLarge why line = (why, line)
-      over refusal.DiskFault why line = line
-      over refusal.OutOfMemory why line = line
+      each : (r : ImageRefusal) → (IsTrue host.is_told → IsImageRefusal (IsFaultyOver over) bytes r) → SaysLastLine host (status_of r) old new → ImportHas host over bytes store old new (status_of r)
+      each (refusal.Image f) why line = (why, line)
+      each refusal.TooLarge why line = (why, line)
+      each refusal.DiskFault why line = line
+      each refusal.OutOfMemory why line = line
 
-  pub refused_whole : (r : ImageRefusal) (e : Status) (new : D) → e ≡ status_of r → (IsTrue host.is_told → IsImageRefusal bytes r) → RefusalHasCause host old mid r → host.disk_faults new ≡ host.disk_faults mid
-      → IsTrue host.is_told → IsReadable bytes → (Rose (host.disk_faults old) (host.disk_faults new) → ⊥) → (e ≡ status.Done) ⊎ (e ≡ status.OutOfMemory)
+  pub refused_whole : (r : ImageRefusal) (e : Status) (new : D) → e ≡ status_of r → (IsTrue host.is_told → IsImageRefusal (IsFaultyOver over) bytes r) → RefusalHasCause host old mid r → host.disk_faults new ≡ host.disk_faults mid
+      → IsTrue host.is_told → IsReadableOver over bytes → (Rose (host.disk_faults old) (host.disk_faults new) → ⊥) → (e ≡ status.Done) ⊎ (e ≡ status.OutOfMemory)
   refused_whole (refusal.Image f) e new is why cause disk told readable calm = absurd (readable.formed f (why told).fault.fails)
   refused_whole refusal.TooLarge e new is why cause disk told readable calm = let short = readable.short in let long = why told in absurd (omega (arith, short, long))
   refused_whole refusal.DiskFault e new is why cause disk told readable calm = absurd (calm (subst (Rose (host.disk_faults old)) (sym disk) cause))

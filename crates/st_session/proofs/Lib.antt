@@ -4,6 +4,7 @@ pub mod Compiling
 pub mod Cycles
 pub mod Digits
 pub mod Ending
+pub mod Exported
 pub mod Following
 pub mod Holding
 pub mod Imported
@@ -16,6 +17,7 @@ pub mod Responding
 pub mod Rows
 pub mod Saying
 pub mod Snapshots
+mod Spoken
 pub mod Started
 pub mod Stretches
 pub mod WholeLines

@@ -3,19 +3,22 @@ use Rattle.std.specs.Prelude.{◌≡◌, ℕ, List, Option, Some, None, ⊤}
 use Rattle.st_outside.specs.Files.{bytes_of}
 use Rattle.st_outside.specs.Runs.{ReadsAndSays}
 use Rattle.st_outside.specs.declared.host.Host.{Ghosts}
+use Rattle.st_image.specs.declared.head.HeadValues.{HeadValues}
 use Rattle.st_course.specs.declared.status.Status.{Status}
 use Rattle.st_course.specs.declared.status.Status.TheVariants as status
 use Rattle.st_course.specs.Statuses.{StatusHasCause}
 use Rattle.st_session.specs.Commands.{SaysLastLine, OnceEnds}
+use Rattle.st_session.specs.Exports.{ExportEnds}
 use Rattle.st_session.specs.Imports.{ImportEnds}
 use Rattle.st_session.specs.StoreSessions.{SessionCommandEnds}
-use Rattle.st_session.specs.Words.{Command, command_of, Once, Import, Session}
+use Rattle.st_session.specs.Words.{Command, command_of, Once, Import, Export, Session}
 
 -- a command that writes no file, or no command
 abbrev pub OnlySays : Option Command → Type 0
 OnlySays None = ⊤
 OnlySays (Some (Once image cycles)) = ⊤
-OnlySays (Some (Import image store)) = ⊥
+OnlySays (Some (Import image store over)) = ⊥
+OnlySays (Some (Export store image)) = ⊥
 OnlySays (Some (Session store)) = ⊥
 
 -- A call of the program with these words, over the bytes of a script, of which the source still has `left`. `read` says that it
@@ -23,7 +26,8 @@ OnlySays (Some (Session store)) = ⊥
 pub record CallEnds {D : Type 0} (host : Ghosts D) (words : List (List ℕ)) (read reads : Type 0) (script left : List ℕ) (old new : D) (end : Status) : Type 0 where
   pub usage : command_of words ≡ None → (end ≡ status.Usage) × SaysLastLine host status.Usage old new
   pub once : (image : List ℕ) (n : ℕ) → command_of words ≡ Some (Once image n) → OnceEnds host (bytes_of (host.files old image)) n old new end
-  pub imports : (image store : List ℕ) → command_of words ≡ Some (Import image store) → ImportEnds host (bytes_of (host.files old image)) store old new end
+  pub imports : (image store : List ℕ) (over : HeadValues) → command_of words ≡ Some (Import image store over) → ImportEnds host over (bytes_of (host.files old image)) store old new end
+  pub exports : (store image : List ℕ) → command_of words ≡ Some (Export store image) → ExportEnds host store image old new end
   pub session : (store : List ℕ) → command_of words ≡ Some (Session store) → SessionCommandEnds host store read reads script left old new end
   pub cause : StatusHasCause host reads old new end
   pub says : OnlySays (command_of words) → (text : List ℕ) × ReadsAndSays host text old new

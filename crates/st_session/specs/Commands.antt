@@ -96,12 +96,12 @@ opening_status opening.TooLarge = TooLarge
 opening_status opening.Disk = DiskFault
 opening_status opening.OutOfMemory = OutOfMemory
 
--- what a refusal says of the image's bytes
-abbrev pub IsImageRefusal : List ℕ → ImageRefusal → Type 0
-IsImageRefusal bytes (refusal.Image f) = IsFaulty bytes f
-IsImageRefusal bytes refusal.TooLarge = 2 ^ 23 < length bytes
-IsImageRefusal bytes refusal.DiskFault = ⊤
-IsImageRefusal bytes refusal.OutOfMemory = ⊤
+-- what a refusal says of the image's bytes, where this says which fault they have
+abbrev pub IsImageRefusal : (List ℕ → ImageFault → Type 0) → List ℕ → ImageRefusal → Type 0
+IsImageRefusal faulty bytes (refusal.Image f) = faulty bytes f
+IsImageRefusal faulty bytes refusal.TooLarge = 2 ^ 23 < length bytes
+IsImageRefusal faulty bytes refusal.DiskFault = ⊤
+IsImageRefusal faulty bytes refusal.OutOfMemory = ⊤
 
 -- What is said of n cycles of an image: how the book's machine ends that begins with the image's objects as
 -- births and the registers fetched over them, and what it shows then.

@@ -12,10 +12,12 @@ pub mod Ends
 pub mod Standing
 pub mod Stretches
 pub mod Opening
+pub mod Arguments
 pub mod Words
 pub mod CommandViews
 pub mod Commands
 pub mod Imports
 pub mod StoreSessions
+pub mod Exports
 pub mod Calls
 pub mod Reports

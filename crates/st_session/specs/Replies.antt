@@ -59,3 +59,7 @@ opening_text replayed lost = opened_text replayed (length lost) ++ flat_map lost
 -- a snapshot was kept, whose image has so many bytes
 abbrev pub snapshot_text : ℕ → List ℕ
 snapshot_text length = codes "snapshot" ++ (numbers_text (length ∷ []) ++ codes "\n")
+
+-- an image of so many bytes was exported
+abbrev pub exported_text : ℕ → List ℕ
+exported_text length = codes "exported" ++ (numbers_text (length ∷ []) ++ codes "\n")

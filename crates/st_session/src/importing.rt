@@ -13,6 +13,7 @@ use crate::image::read_image;
 use crate::last_line::refuse;
 use crate::store_refusal::store_status;
 use st_course::Status;
+use st_image::HeadValues;
 use st_memory::{Loader, Memory};
 use st_outside::{Host, SayFault};
 use st_recover::create;
@@ -31,15 +32,21 @@ fn say_imported<H: Host, M: Memory>(host: &mut H, m: &M) -> Result<(), SayFault>
     out.finish(host)
 }
 
-/// The command `import`: reads an image, makes a store of it, and says how many objects and words it has. The image is read
+/// The command `import`: reads an image with these values in place of those of its head, makes a store of it, and says how many objects and words it has. The image is read
 /// before the store is looked for. A stop at any moment leaves what could be left before, or, where there was no store, files
 /// that are none's, or that open as the new store; once `imported` was said they do that.
-pub fn import<H: Host, L: Loader>(alloc: Global, host: &mut H, image: &str, store: &str) -> Status
-    ensures ends { ImportEnds H.Host.own (bytes_of (H.files host.old image.now)) store.now
+pub fn import<H: Host, L: Loader>(
+    alloc: Global,
+    host: &mut H,
+    image: &str,
+    store: &str,
+    over: &HeadValues,
+) -> Status
+    ensures ends { ImportEnds H.Host.own over.now (bytes_of (H.files host.old image.now)) store.now
         host.old host.new result }
     ensures cause { StatusHasCause H.Host.own ⊥ host.old host.new result }
 {
-    match read_image::<H, L>(alloc, host, image) {
+    match read_image::<H, L>(alloc, host, image, over) {
         Ok(loaded) => match create(alloc, host, store, &loaded.memory) {
             Ok(_store) => match say_imported(host, &loaded.memory) {
                 Ok(()) => Status::Done,

@@ -1,12 +1,14 @@
 //! A session over a store: a script is followed line by line, each line and each method of a group is answered, and what is
 //! accepted is in the store before it is said. And the commands of the program: `once`, which runs cycles of an image's machine
-//! and says how they end and what it shows then, `import`, which makes a store of an image, and `session`. With the reading of
-//! an image, the words of a call, and the last line of a status.
+//! and says how they end and what it shows then, `import`, which makes a store of an image, `export`, which writes one out of a
+//! store, and `session`. With the reading of an image, the words of a call, and the last line of a status.
 #![tactic(auto)]
 
 mod answering;
+mod arguments;
 mod command;
 mod compiler;
+mod exporting;
 mod image;
 mod image_refusal;
 mod importing;
@@ -22,6 +24,7 @@ mod words;
 
 pub use command::{once, session};
 pub use compiler::Compiler;
+pub use exporting::export;
 pub use image::read_image;
 pub use image_refusal::ImageRefusal;
 pub use importing::import;

@@ -236,8 +236,8 @@ fn open<H: Host, M: Memory, S: Source>(
     }
 }
 
-/// The status in which a session ends; where it hasn't, it would be done.
-fn status_of(answer: Result<(), Status>) -> Status
+/// The status in which a command ends; where nothing ended it, it is done.
+pub(crate) fn status_of(answer: Result<(), Status>) -> Status
     ensures { result ≡ status_in answer }
 {
     match answer {

@@ -18,6 +18,8 @@ use st_report::{Output, push_line, push_long_line, push_number};
 pub(crate) enum Reply<'a> {
     /// A snapshot was kept, whose image has so many bytes.
     Snapshot(u64),
+    /// An image of so many bytes was exported.
+    Exported(u64),
     /// The machine is dead of this cause; so many cycles of the line are finished.
     Died {
         finished: u32,
@@ -95,6 +97,7 @@ fn push_reply<H: Host>(out: &mut Output, host: &mut H, reply: Reply<'_>) -> Resu
 {
     match reply {
         Reply::Snapshot(length) => push_long_line(out, host, b"snapshot", length),
+        Reply::Exported(length) => push_long_line(out, host, b"exported", length),
         Reply::Died { finished, cause } => {
             push_line(out, host, b"dead", &[finished, u32::from(cause.number())])
         }

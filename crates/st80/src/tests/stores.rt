@@ -118,6 +118,8 @@ const IMPORT_B: &[&str] = &["import", "B", "S"];
 
 const SESSION: &[&str] = &["session", "S"];
 
+const EXPORT: &[&str] = &["export", "--", "S", "I"];
+
 const EXISTS: Status = Status::Store(StoreFault::Exists);
 
 const MISSING: Status = Status::Store(StoreFault::Missing);
@@ -172,6 +174,33 @@ fn what_a_session_keeps_is_opened_again(rt: HostRuntime) -> Result<(), Fail> {
         (SESSION, "used", Status::Done, OPENINGS[3]),
     ];
     check_calls(&rt, &mut host, &calls)
+}
+
+/// What is exported has the definitions in it, and the store stays as it is.
+#[test]
+fn a_store_is_exported(rt: HostRuntime) -> Result<(), Fail> {
+    let roots = roots_file(rt.alloc(), 0, &[0, 1168, 0, 64, 0, 1168, 0, 64])?;
+    let image = class_image(rt.alloc())?;
+    let mut host = store_with(rt.alloc(), &roots, &image, CHANGES.as_bytes())?;
+    let calls: [Call<'_>; 5] = [
+        (EXPORT, "", Status::Done, "exported 1192\n"),
+        (SESSION, "used", Status::Done, OPENINGS[2]),
+        (
+            &["import", "I", "--entries", "39", "T", "--words=149"],
+            "",
+            Status::Done,
+            "imported 39 149\n",
+        ),
+        (
+            &["import", "I", "--words=148", "U"],
+            "",
+            Status::Image(ImageFault::Capacity),
+            "image 3\n",
+        ),
+        (&["export", "U", "I"], "", MISSING, "store missing\n"),
+    ];
+    check_calls(&rt, &mut host, &calls)?;
+    check_file(&rt, &mut host, "S.roots", &roots)
 }
 
 /// Each commit writes the root that isn't chosen: the second definition root 0, and the snapshot root 1.
@@ -340,6 +369,28 @@ fn a_fault_ends_a_session_between_commits(rt: HostRuntime) -> Result<(), Fail> {
         check_promise(&rt, host, Leave::Old)?;
     }
     assert_eq!(rt; last, Status::Done);
+    Ok(())
+}
+
+/// Checks that what a stop of an export left opens as the store did before.
+fn check_same(rt: &(impl Abort + AllocGlobal), host: MemHost, how: Leave) -> Result<(), Fail> {
+    let mut left = host.after_stop(rt.alloc(), how)?;
+    left.room_for(rt.alloc(), 4000, 100)?;
+    check_calls(rt, &mut left, &[(SESSION, "used", Status::Done, OPENINGS[0])])
+}
+
+/// A stop behind each call of an export, with all that it may leave.
+#[test]
+fn a_stop_of_an_export_leaves_the_store(rt: HostRuntime) -> Result<(), Fail> {
+    for last in 0..CALLS {
+        for how in LEAVES {
+            let mut host = new_store(rt.alloc())?;
+            host.stop_after(last);
+            let mut script = MemSource::new(rt.alloc(), b"", 1, &[])?;
+            call(rt.alloc(), &mut host, &mut script, EXPORT)?;
+            check_same(&rt, host, how)?;
+        }
+    }
     Ok(())
 }
 

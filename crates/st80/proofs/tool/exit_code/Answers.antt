@@ -10,6 +10,7 @@ returns g c = record {
       usage = c.tool.ensures.usage;
       once = c.tool.ensures.once;
       imports = c.tool.ensures.imports;
+      exports = c.tool.ensures.exports;
       session = c.tool.ensures.session;
       cause = c.tool.ensures.cause;
       says = c.tool.ensures.says;

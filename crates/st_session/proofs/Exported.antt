@@ -1,0 +1,243 @@
+-- How an export ends, from its parts: the store is opened, what it opens as is saved, its image is written, and a line is said.
+use Rattle.std.proofs.Common.{◌≡◌, ◌≢◌, ◌⊎◌, inl, inr, ℕ, ◌≤◌, List, [], ◌∷◌, ◌++◌, length, ◌∙◌, IsTrue, Option, refl, sym, ap, subst, arith, append-nil}
+use Rattle.std.specs.Prelude.{Some, None, Result, Ok, Err, IfErr, All}
+use Rattle.st_outside.specs.Counts.{Rose}
+use Rattle.st_outside.specs.Files.{Files}
+use Rattle.st_outside.specs.Runs.{LeavesOnly, ReadsAlike, ReadsAndSays, Changes, Spares, IsAtRest}
+use Rattle.st_outside.specs.Stops.{SaidPart, WhileSaying}
+use Rattle.st_outside.specs.Telling.{Says}
+use Rattle.st_outside.specs.declared.host.Host.{Ghosts}
+use Rattle.st_outside.proofs.Joining.{weaker, moments_join}
+use Rattle.st_outside.proofs.Rising.{rose_second}
+use Rattle.st_outside.proofs.Telling.{OnlyNow, says_none}
+use Rattle.st_outside.proofs.Touching.{changes_spare}
+use Rattle.st_model.specs.declared.dead.Dead.{Dead}
+use Rattle.st_model.specs.Machine.{State, Transition, Died, Went}
+use Rattle.st_model.specs.Births.{Births}
+use Rattle.st_model.specs.Table.{Table}
+use Rattle.st_model.specs.Show.{Shows, show}
+use Rattle.st_model.specs.Text.{dead_text}
+use Rattle.st_machine.specs.Asked.{SavedAs}
+use Rattle.st_chunk.specs.Definitions.{IsDefinition}
+use Rattle.st_store.specs.Names.{roots_file, changes_file, image_file, IsNoFileOf}
+use Rattle.st_store.specs.Stored.{StoreState, IsKept, IsOpening}
+use Rattle.st_store.specs.declared.fault.StoreFault.TheVariants as unmade
+use Rattle.st_course.specs.declared.status.Status.{Status}
+use Rattle.st_course.specs.declared.status.Status.TheVariants as status
+use Rattle.st_course.specs.Statuses.{StatusHasCause, EndHasCause, Counts}
+use Rattle.st_course.proofs.Counting.{front_of}
+use Rattle.st_recover.specs.Commits.{Commit, OpensAs, all_of, stored_of, image_with}
+use Rattle.st_recover.specs.Openings.{RefusesOpening, IsOfReopening}
+use Rattle.st_recover.specs.declared.fault.OpenFault.{OpenFault}
+use Rattle.st_recover.specs.declared.fault.OpenFault.TheVariants as opening
+use Rattle.st_recover.proofs.Determined.{same_commit}
+use Rattle.st_session.specs.Commands.{last_line, opening_status, SaysLastLine}
+use Rattle.st_session.specs.Ends.{IsCalm, status_in}
+use Rattle.st_session.specs.Keeping.{image_of}
+use Rattle.st_session.specs.Replies.{exported_text}
+use Rattle.st_session.specs.Telling.{Tells}
+use Rattle.st_session.specs.Exports.{Export, exporting, exporting_saved, written, IsOfExporting, IsOfExport, LeavesOthers, HasExported, HasImage, ExportHas, Stays}
+use Rattle.st_session.proofs.Commanded.{cause_between, opens_still}
+use Rattle.st_session.proofs.Snapshots.{image_shown}
+
+-- WHAT SAVING COMES TO
+
+pub saved_export : (c : State Table) (x : Transition (State Births) Unit) → SavedAs (Ok tt) c x → ((s : State Births) → Shows c s → show s ≡ c) → exporting (image_with c.memory c.head) ≡ exporting_saved x
+saved_export c (Died k) w shown = absurd w
+saved_export c (Went u s) w shown = ap exporting (sym (image_shown s c (shown s w)))
+
+pub died_export : (cause : Dead) (c : State Table) (x : Transition (State Births) Unit) → SavedAs (Err cause) c x → record { image = None; text = dead_text 0 cause } ≡ exporting_saved x
+died_export cause c (Died k) w = λ i. exporting_saved (Died (sym w i))
+died_export cause c (Went u s) w = absurd w
+
+-- nothing more was said
+none_more : (before now : List ℕ) → SaidPart before [] now → now ≡ before
+none_more before now part =
+    let front = front_of before [] now part in
+    front.1 ∙ ap (λ (t : List ℕ). before ++ t) (none_in front.0 (front.2).0 (front.2).1) ∙ append-nil before
+  where
+    none_in : (a b : List ℕ) → a ++ b ≡ [] → a ≡ []
+    none_in [] b e = refl
+    none_in (x ∷ a) b e = cc
+
+module _ {D : Type 0} (host : Ghosts D) (name : List ℕ) where
+  -- WHAT IS LEFT ALONE
+
+  abbrev Others : D → Files → List ℕ → Type 0
+  Others old f s = (n : List ℕ) → n ≢ name → host.may_leave old n (f n)
+
+  pub others_changed : (old new : D) → Changes host name old new → LeavesOthers host name old new
+  others_changed old new run = record {
+    spares = changes_spare host name (λ n. n ≢ name) old new (λ n is. is) run;
+    moments = λ told. weaker host old new (Others old) _ (run.moments told) (λ f s so. so.1);
+  }
+
+  pub others_said : (text : List ℕ) (old mid new : D) → LeavesOthers host name old mid → Says host text mid new → LeavesOthers host name old new
+  others_said text old mid new before says = record {
+    spares = record {
+      files = λ told n is. says.alike.same told n ∙ before.spares.files told n is;
+      fewer = λ told n c is can. before.spares.fewer told n c is ((says.part.stops told).fewer n c can);
+      more = λ told n c is could. (says.part.stops told).more n c (before.spares.more told n c is could);
+    };
+    moments = λ told. moments_join host old mid new (Others old) (WhileSaying (host.may_leave mid) (host.said mid) text) (before.moments told) (says.part.moments told)
+        (λ f s w n is. before.spares.fewer told n (f n) is (w.0 n));
+  }
+
+  pub others_none : (old : D) → OnlyNow host old → LeavesOthers host name old old
+  others_none old only = record {
+    spares = record { files = λ told n is. refl; fewer = λ told n c is can. can; more = λ told n c is could. could };
+    moments = λ told. weaker host old old (Others old) (WhileSaying (host.may_leave old) (host.said old) []) ((says_none {host = host} only).part.moments told) (λ f s w n is. w.0 n);
+  }
+
+  -- WHAT IS DONE
+
+  module _ (old mid new : D) (result : Result Unit Status) where
+    pub counts_behind : host.disk_faults old ≤ host.disk_faults mid → host.say_faults mid ≡ host.say_faults old → Counts host ⊥ mid new result → Counts host ⊥ old new result
+    counts_behind disk say counts = record {
+      disk = omega (arith, disk, counts.disk);
+      say = omega (arith, say, counts.say);
+      cause = over result counts.cause;
+    }
+      where
+        over : (r : Result Unit Status) → EndHasCause host ⊥ mid new r → EndHasCause host ⊥ old new r
+        over (Ok u) h = tt
+        over (Err e) h = cause_between host ⊥ old mid new new e disk say counts.say (omega arith) refl h
+
+  pub told_kind : (text : List ℕ) (mid new : D) (result : Result Unit Status) → Tells host text mid new result → IfErr result IsOfExporting
+  told_kind text mid new (Ok u) tells = tt
+  told_kind text mid new (Err e) tells = subst IsOfExporting (sym tells.fault) tt
+
+  -- the file has been written, and the text is said
+  pub has_told : (x : Export) (old mid new : D) (result : Result Unit Status) → IsTrue host.is_told → host.files mid name ≡ written x.image (host.files old name) → host.said mid ≡ host.said old
+      → Tells host x.text mid new result → HasExported host name x old new result
+  has_told x old mid new (Ok u) told file quiet tells = (tells.says.alike.same told name ∙ file, tells.all.is told ∙ ap (λ (t : List ℕ). t ++ x.text) quiet)
+  has_told x old mid new (Err e) told file quiet tells =
+      subst (λ (d : Status). HasExported host name x old new (Err d)) (sym tells.fault)
+      (tells.says.alike.same told name ∙ file, subst (λ (t : List ℕ). SaidPart t x.text (host.said new)) quiet (tells.says.part.part told))
+
+-- BEHIND THE OPENING
+
+pub caused_in : {D : Type 0} (host : Ghosts D) (old new : D) (r : Result Unit Status) → EndHasCause host ⊥ old new r → StatusHasCause host ⊥ old new (status_in r)
+caused_in host old new (Ok u) h = tt
+caused_in host old new (Err e) h = h
+
+pub kind_in : (told : Type 0) (store : List ℕ) (f : Files) (r : Result Unit Status) → IfErr r IsOfExporting → IsOfExport told store f (status_in r)
+kind_in told store f (Ok u) kind = tt
+kind_in told store f (Err status.SayFault) kind = tt
+kind_in told store f (Err status.DiskFault) kind = tt
+kind_in told store f (Err status.OutOfMemory) kind = tt
+kind_in told store f (Err status.Done) kind = absurd kind
+kind_in told store f (Err status.Usage) kind = absurd kind
+kind_in told store f (Err (status.Image x)) kind = absurd kind
+kind_in told store f (Err (status.Script n)) kind = absurd kind
+kind_in told store f (Err status.ReadFault) kind = absurd kind
+kind_in told store f (Err (status.Store x)) kind = absurd kind
+kind_in told store f (Err status.TooLarge) kind = absurd kind
+
+pub kind_unopened : (told : Type 0) (store : List ℕ) (f : Files) (fault : OpenFault) → IsOfReopening fault → (told → RefusesOpening store f fault) → IsOfExport told store f (opening_status fault)
+kind_unopened told store f (opening.Store unmade.Missing) h why = why
+kind_unopened told store f (opening.Store unmade.Exists) h why = absurd h
+kind_unopened told store f (opening.Store (unmade.NotAStore place)) h why = why
+kind_unopened told store f (opening.Store unmade.Disk) h why = absurd h
+kind_unopened told store f (opening.Store unmade.OutOfMemory) h why = absurd h
+kind_unopened told store f (opening.Image x) h why = why
+kind_unopened told store f opening.TooLarge h why = tt
+kind_unopened told store f opening.Disk h why = tt
+kind_unopened told store f opening.OutOfMemory h why = tt
+
+-- where no count rose all was done
+pub done_or_full : {D : Type 0} (host : Ghosts D) (old new : D) (r : Result Unit Status) → IfErr r IsOfExporting → StatusHasCause host ⊥ old new (status_in r) → IsCalm host ⊥ old new
+    → (status_in r ≡ status.Done) ⊎ (status_in r ≡ status.OutOfMemory)
+done_or_full host old new (Ok u) kind h calm = inl refl
+done_or_full host old new (Err status.SayFault) kind h calm = absurd (calm.say h)
+done_or_full host old new (Err status.DiskFault) kind h calm = absurd (calm.disk h)
+done_or_full host old new (Err status.OutOfMemory) kind h calm = inr refl
+done_or_full host old new (Err status.Done) kind h calm = absurd kind
+done_or_full host old new (Err status.Usage) kind h calm = absurd kind
+done_or_full host old new (Err (status.Image x)) kind h calm = absurd kind
+done_or_full host old new (Err (status.Script n)) kind h calm = absurd kind
+done_or_full host old new (Err status.ReadFault) kind h calm = absurd kind
+done_or_full host old new (Err (status.Store x)) kind h calm = absurd kind
+done_or_full host old new (Err status.TooLarge) kind h calm = absurd kind
+
+module _ {D : Type 0} (host : Ghosts D) (store image : List ℕ) where
+  -- a last line behind them
+  line_behind : (e : Status) (old closed new : D) → host.said closed ≡ host.said old → host.say_faults old ≤ host.say_faults closed → SaysLastLine host e closed new → SaysLastLine host e old new
+  line_behind e old closed new quiet low line = record {
+    part = λ told. subst (λ (t : List ℕ). SaidPart t (last_line e) (host.said new)) quiet (line.part told);
+    whole = λ calm told. line.whole (λ rose. calm (rose_second (host.say_faults old) (host.say_faults closed) (host.say_faults new) low rose)) told ∙ ap (λ (t : List ℕ). t ++ last_line e) quiet;
+  }
+
+  has_image : (i : Option (List ℕ)) (old mid new : D) → host.files new image ≡ written i (host.files mid image) → (IsNoFileOf store image → host.files mid image ≡ host.files old image) → HasImage host store image i old new
+  has_image None old mid new is same = λ apart. is ∙ same apart
+  has_image (Some bytes) old mid new is same = is
+
+  -- what is so of what was done, with the last line behind it
+  pub export_has : (x : Export) (r : Result Unit Status) (old mid closed new : D) → IsTrue host.is_told → IfErr r IsOfExporting → HasExported host image x mid closed r
+      → (IsNoFileOf store image → host.files mid image ≡ host.files old image) → host.said mid ≡ host.said old → host.say_faults old ≤ host.say_faults closed
+      → ReadsAlike host closed new → SaysLastLine host (status_in r) closed new → ExportHas host store image x old new (status_in r)
+  export_has x (Ok u) old mid closed new told kind has same quiet low alike line =
+      (has_image x.image old mid new (alike.same told image ∙ has.0) same, none_more (host.said closed) (host.said new) (line.part told) ∙ has.1 ∙ ap (λ (t : List ℕ). t ++ x.text) quiet)
+  export_has x (Err status.SayFault) old mid closed new told kind has same quiet low alike line =
+      (has_image x.image old mid new (alike.same told image ∙ has.0) same,
+      subst (SaidPart (host.said old) x.text) (sym (none_more (host.said closed) (host.said new) (line.part told))) (subst (λ (t : List ℕ). SaidPart t x.text (host.said closed)) quiet has.1))
+  export_has x (Err status.DiskFault) old mid closed new told kind has same quiet low alike line = line_behind status.DiskFault old closed new (has ∙ quiet) low line
+  export_has x (Err status.OutOfMemory) old mid closed new told kind has same quiet low alike line = line_behind status.OutOfMemory old closed new (has ∙ quiet) low line
+  export_has x (Err status.Done) old mid closed new told kind has same quiet low alike line = absurd kind
+  export_has x (Err status.Usage) old mid closed new told kind has same quiet low alike line = absurd kind
+  export_has x (Err (status.Image f)) old mid closed new told kind has same quiet low alike line = absurd kind
+  export_has x (Err (status.Script n)) old mid closed new told kind has same quiet low alike line = absurd kind
+  export_has x (Err status.ReadFault) old mid closed new told kind has same quiet low alike line = absurd kind
+  export_has x (Err (status.Store f)) old mid closed new told kind has same quiet low alike line = absurd kind
+  export_has x (Err status.TooLarge) old mid closed new told kind has same quiet low alike line = absurd kind
+
+  -- THE STORE STAYS
+
+  -- a kept store opens from files of which its own are as a stop may leave them
+  kept_opens : (h : D) (s : StoreState) (slot : ℕ) (c : Commit) → s.name ≡ store → IsKept host h s (stored_of slot c) → IsNoFileOf store image → (f : Files) → ((n : List ℕ) → n ≢ image → host.may_leave h n (f n)) → OpensAs store c f
+  kept_opens h s slot c named kept apart f can = subst (λ (n : List ℕ). OpensAs n c f) named (record {
+    slot = slot;
+    opens = record {
+      number = s.chosen;
+      chosen = kept.is.roots (f (roots_file s.name)) (can (roots_file s.name) (λ e. apart.roots (sym e ∙ ap roots_file named)));
+      sound = kept.is.firm.sound;
+      image = kept.is.firm.image (f _) (can _ (λ e. apart.image slot (sym e ∙ ap (λ (n : List ℕ). image_file n slot) named)));
+      changes = kept.is.firm.changes (f _) (can _ (λ e. apart.changes (sym e ∙ ap changes_file named)));
+    };
+  })
+
+  pub exported_stays : (c d : Commit) (s : StoreState) (slot : ℕ) (text : List ℕ) (old mid closed new : D) → IsNoFileOf store image → All IsDefinition (all_of c) → IsAtRest host (OpensAs store) c old
+      → ((n : List ℕ) → host.may_leave old n (host.files old n)) → All IsDefinition (all_of d) → OpensAs store d (host.files old) → s.name ≡ store → IsKept host mid s (stored_of slot d)
+      → IsTrue host.is_told → LeavesOnly host old mid (λ f t. (t ≡ host.said old) × IsOpening host old store f) → LeavesOthers host image mid closed → ReadsAndSays host text closed new → Stays host store c old new
+  exported_stays c d s slot text old mid closed new apart good rest reads same_good opened named kept told moments others line =
+      let one = same_commit store d c (host.files old) same_good good opened (rest.opens_as (host.files old) reads) in
+      let at : (f : Files) → ((n : List ℕ) → n ≢ image → host.may_leave mid n (f n)) → OpensAs store c f = λ f can. subst (λ (x : Commit). OpensAs store x f) one (kept_opens mid s slot d named kept apart f can) in
+      record {
+        moments = moments_join host old closed new (λ f t. OpensAs store c f) (WhileSaying (host.may_leave closed) (host.said closed) text)
+            (moments_join host old mid closed (λ f t. OpensAs store c f) (Others host image mid)
+            (weaker host old mid (λ f t. OpensAs store c f) (λ f t. (t ≡ host.said old) × IsOpening host old store f) moments (λ f t so. opens_still host store old c rest reads f so.1))
+            (others.moments told) (λ f t so. at f so))
+            (line.moments told)
+            (λ f t w. at f (λ n is. others.spares.fewer told n (f n) is (w.0 n)));
+        rest = record { opens_as = λ f can. at f (λ n is. others.spares.fewer told n (f n) is ((line.stops told).fewer n (f n) (can n))) };
+      }
+
+  pub refused_stays : (c : Commit) (text : List ℕ) (old closed new : D) → IsAtRest host (OpensAs store) c old → ((n : List ℕ) → host.may_leave old n (host.files old n))
+      → LeavesOnly host old closed (λ f t. (t ≡ host.said old) × IsOpening host old store f) → ((f : Files) → ((n : List ℕ) → host.may_leave closed n (f n)) → IsOpening host old store f)
+      → IsTrue host.is_told → ReadsAndSays host text closed new → Stays host store c old new
+  refused_stays c text old closed new rest reads moments leaves told line = record {
+    moments = moments_join host old closed new (λ f t. OpensAs store c f) (WhileSaying (host.may_leave closed) (host.said closed) text)
+        (weaker host old closed (λ f t. OpensAs store c f) (λ f t. (t ≡ host.said old) × IsOpening host old store f) moments (λ f t so. opens_still host store old c rest reads f so.1))
+        (line.moments told)
+        (λ f t w. opens_still host store old c rest reads f (leaves f w.0));
+    rest = record { opens_as = λ f can. opens_still host store old c rest reads f (leaves f (λ n. (line.stops told).fewer n (f n) (can n))) };
+  }
+
+  -- WHAT IS TOUCHED
+
+  pub names_said : (names : List ℕ → Type 0) (text : List ℕ) (old closed new : D) → Spares host names old closed → ReadsAlike host closed new → ReadsAndSays host text closed new → Spares host names old new
+  names_said names text old closed new spares alike line = record {
+    files = λ told n is. alike.same told n ∙ spares.files told n is;
+    fewer = λ told n c is can. spares.fewer told n c is ((line.stops told).fewer n c can);
+    more = λ told n c is could. (line.stops told).more n c (spares.more told n c is could);
+  }

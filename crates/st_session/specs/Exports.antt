@@ -1,0 +1,121 @@
+-- How the export of what a store holds ends.
+use Rattle.std.specs.Prelude.{◌≡◌, ◌≢◌, ◌⊎◌, ℕ, List, ◌++◌, length, Option, Some, None, IsTrue, Result, Ok, Err, ⊤, All}
+use Rattle.st_outside.specs.Files.{Files}
+use Rattle.st_outside.specs.Runs.{LeavesOnly, Spares, IsAtRest}
+use Rattle.st_outside.specs.Stops.{SaidPart}
+use Rattle.st_outside.specs.declared.host.Host.{Ghosts}
+use Rattle.st_model.specs.Machine.{State, Transition, Died, Went}
+use Rattle.st_model.specs.Births.{Births, births}
+use Rattle.st_model.specs.Saving.{save}
+use Rattle.st_model.specs.Text.{dead_text}
+use Rattle.st_chunk.specs.Definitions.{IsDefinition}
+use Rattle.st_store.specs.Names.{IsNoFileOf}
+use Rattle.st_course.specs.declared.status.Status.{Status}
+use Rattle.st_course.specs.declared.status.Status.TheVariants.{Done, Script, ReadFault, SayFault, DiskFault, OutOfMemory}
+use Rattle.st_definition.specs.Defining.{installed}
+use Rattle.st_recover.specs.Commits.{Commit, OpensAs, all_of}
+use Rattle.st_recover.specs.Openings.{Reopens}
+use Rattle.st_recover.specs.Replays.{Replayed}
+use Rattle.st_session.specs.Commands.{SaysLastLine}
+use Rattle.st_session.specs.Ends.{IsCalm}
+use Rattle.st_session.specs.Keeping.{image_of}
+use Rattle.st_session.specs.Replies.{exported_text}
+use Rattle.st_session.specs.StoreSessions.{IsRefused, IsOfSession}
+
+-- WHAT IS EXPORTED
+
+-- what is said, and the image that is written, if any
+pub record Export : Type 0 where
+  pub image : Option (List ℕ)
+  pub text : List ℕ
+
+abbrev pub exporting : List ℕ → Export
+exporting image = record { image = Some image; text = exported_text (length image) }
+
+-- the image of what saving comes to; where it dies the cause is said, and none is written
+abbrev pub exporting_saved : Transition (State Births) Unit → Export
+exporting_saved (Died cause) = record { image = None; text = dead_text 0 cause }
+exporting_saved (Went u s) = exporting (image_of s)
+
+-- of a state
+abbrev pub export_of : State Births → Export
+export_of s = exporting_saved (save births s)
+
+-- a file once this was written, if any
+abbrev pub written : Option (List ℕ) → Option (List ℕ) → Option (List ℕ)
+written (Some image) file = Some image
+written None file = file
+
+-- the statuses in which an export can end that was begun, on any host
+abbrev pub IsOfExporting : Status → Type 0
+IsOfExporting SayFault = ⊤
+IsOfExporting DiskFault = ⊤
+IsOfExporting OutOfMemory = ⊤
+IsOfExporting _ = ⊥
+
+-- CALLS
+
+module _ {D : Type 0} (host : Ghosts D) where
+  -- A run of calls that changes no file but this one, whatever is said. A stop leaves of each other file what it could leave.
+  pub record LeavesOthers (name : List ℕ) (old new : D) : Type 0 where
+    pub spares : Spares host (λ n. n ≢ name) old new
+    pub moments : IsTrue host.is_told → LeavesOnly host old new (λ f s. (n : List ℕ) → n ≢ name → host.may_leave old n (f n))
+
+  -- the file of this name has the image, and the text was said; or that failed
+  abbrev pub HasExported : List ℕ → Export → D → D → Result Unit Status → Type 0
+  HasExported name x old new (Ok u) = (host.files new name ≡ written x.image (host.files old name)) × (host.said new ≡ host.said old ++ x.text)
+  HasExported name x old new (Err SayFault) = (host.files new name ≡ written x.image (host.files old name)) × SaidPart (host.said old) x.text (host.said new)
+  HasExported name x old new (Err status) = host.said new ≡ host.said old
+
+  -- at each moment and behind it the store opens as this
+  pub record Stays (store : List ℕ) (c : Commit) (old new : D) : Type 0 where
+    pub moments : LeavesOnly host old new (λ f s. OpensAs store c f)
+    pub rest : IsAtRest host (OpensAs store) c new
+
+-- THE COMMAND
+
+-- The statuses in which the command export can end. Where these are the files, a status that comes of them is the one of their
+-- refusal.
+abbrev pub IsOfExport : Type 0 → List ℕ → Files → Status → Type 0
+IsOfExport told store f (Script line) = ⊥
+IsOfExport told store f ReadFault = ⊥
+IsOfExport told store f status = IsOfSession told store f status
+
+-- these files open as this commit, which opens as this
+pub record OpensWhole (store : List ℕ) (f : Files) (c : Commit) (r : Replayed) : Type 0 where
+  pub good : All IsDefinition (all_of c)
+  pub opens : OpensAs store c f
+  pub reopens : Reopens installed c r
+
+module _ {D : Type 0} (host : Ghosts D) (store image : List ℕ) where
+  -- The file of the image's name has these bytes. Where there are none it is as before, unless it is one of the store's.
+  abbrev pub HasImage : Option (List ℕ) → D → D → Type 0
+  HasImage (Some bytes) old new = host.files new image ≡ Some bytes
+  HasImage None old new = IsNoFileOf store image → host.files new image ≡ host.files old image
+
+  -- what is so of an export in each status that it can have behind the opening
+  abbrev pub ExportHas : Export → D → D → Status → Type 0
+  ExportHas x old new Done = HasImage x.image old new × (host.said new ≡ host.said old ++ x.text)
+  ExportHas x old new SayFault = HasImage x.image old new × SaidPart (host.said old) x.text (host.said new)
+  ExportHas x old new DiskFault = SaysLastLine host DiskFault old new
+  ExportHas x old new OutOfMemory = SaysLastLine host OutOfMemory old new
+  ExportHas x old new _ = ⊥
+
+  -- The store is opened as the commit that its files hold, and the state that this opens as is saved and exported.
+  pub record IsExported (old new : D) (status : Status) : Type 0 where
+    pub commit : Commit
+    pub replayed : Replayed
+    pub opened : OpensWhole store (host.files old) commit replayed
+    pub has : ExportHas (export_of replayed.state) old new status
+
+  -- How the command export ends.
+  pub record ExportEnds (old new : D) (status : Status) : Type 0 where
+    pub over : IsTrue host.is_told → IsRefused host store old new status ⊎ IsExported old new status
+    -- where each state that a stop could leave before opens as one commit
+    pub stays : IsTrue host.is_told → IsNoFileOf store image → (c : Commit) → All IsDefinition (all_of c) → IsAtRest host (OpensAs store) c old → Stays host store c old new
+    -- without a fault of the host a store that opens is exported, or there was no memory
+    pub complete : IsTrue host.is_told → (c : Commit) (r : Replayed) → OpensWhole store (host.files old) c r → IsCalm host ⊥ old new
+        → (status ≡ Done) ⊎ (status ≡ OutOfMemory)
+    pub kind : IsOfExport (IsTrue host.is_told) store (host.files old) status
+    -- no file is touched but the store's and the image's
+    pub spares : Spares host (λ n. IsNoFileOf store n × (n ≢ image)) old new
