@@ -3,14 +3,15 @@ use Rattle.std.proofs.Common.{ℕ, List, [], ◌∷◌, ◌++◌}
 use Rattle.std.specs.Prelude.{Some, None}
 use Rattle.st_chunk.specs.Definitions.{IsDefinition}
 use Rattle.st_script.specs.declared.request.Request.{Request}
-use Rattle.st_script.specs.declared.request.Request.TheVariants.{Define}
-use Rattle.st_script.specs.Reading.{Place, Defined, CutOff, Reading, Told, read, end_read}
-use Rattle.st_script.specs.Scripts.{Asked, Asks, Defines, asked_at, asked_by, asked_at_end, asked_from, told_from, IsSound}
+use Rattle.st_script.specs.declared.request.Request.TheVariants.{Browse, Define}
+use Rattle.st_script.specs.Reading.{Place, Browsed, Defined, CutOff, Reading, Told, read, end_read}
+use Rattle.st_script.specs.Scripts.{Asked, Asks, Browses, Defines, asked_at, asked_by, asked_at_end, asked_from, told_from, IsSound}
 use Rattle.st_script.proofs.Places.{read_right, end_right}
 
--- a line, or a definition that meets it
+-- a line, what is to be looked at, or a definition that meets it
 abbrev pub IsGood : Asked → Type 0
 IsGood (Asks request) = Unit {0}
+IsGood (Browses ask) = Unit {0}
 IsGood (Defines d) = IsDefinition d
 
 abbrev pub AreGood : List Asked → Type 0
@@ -22,6 +23,8 @@ both [] b p q = q
 both (x ∷ a) b p q = (p.0, both a b p.1 q)
 
 by_place : (place : Place) (request : Request) → IsSound place → IsGood (asked_at place request)
+by_place (Browsed ask) Browse sound = tt
+by_place (Browsed ask) request sound = tt
 by_place (Defined h s) Define sound = sound.1
 by_place (Defined h s) request sound = tt
 by_place (CutOff h s) Define sound = sound.1

@@ -3,6 +3,7 @@ pub mod Blanks
 mod Digits
 mod Fed
 pub mod Headers
+pub mod Held
 pub mod Places
 pub mod Quotes
 mod Rows

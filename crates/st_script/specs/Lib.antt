@@ -1,3 +1,4 @@
+pub mod Asks
 pub mod Lines
 pub mod Reading
 pub mod Scripts

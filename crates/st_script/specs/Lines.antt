@@ -1,11 +1,13 @@
 -- The lines of a script. Words in a line are separated by single spaces.
-use Rattle.std.specs.Prelude.{ℕ, ◌≤◌, ◌+◌, ◌*◌, ◌-◌, ◌==◌, ◌&&◌, Bool, not, nat_eq, nat_lt, nat_le, List, [], ◌∷◌, length, take, drop, codes, Option, Some, None, if◌then◌else◌}
+use Rattle.std.specs.Prelude.{ℕ, ◌≤◌, ◌+◌, ◌*◌, ◌-◌, ◌%◌, ◌==◌, ◌&&◌, Bool, not, nat_eq, nat_lt, nat_le, List, [], ◌∷◌, length, take, drop, codes, Option, Some, None, if◌then◌else◌}
 use Rattle.std.specs.List.{prefix_len, ends_with}
-use Rattle.std.specs.Option.{option_map, option_and_then, unwrap_or}
+use Rattle.std.specs.Option.{option_map, option_and_then, option_or, unwrap_or}
 use Rattle.std.specs.Cmp.Lexicographic.{pointwise}
 use Rattle.st_chunk.specs.Texts.{most, is_empty}
+use Rattle.st_chunk.specs.Groups.{is_name}
 use Rattle.st_script.specs.declared.request.Request.{Request}
-use Rattle.st_script.specs.declared.request.Request.TheVariants.{Run, Input, Mouse, Clock, Tick, State, Used, Snapshot, End, Wrong}
+use Rattle.st_script.specs.declared.request.Request.TheVariants.{Run, Input, Mouse, Clock, Tick, State, Used, Snapshot, Browse, End, Wrong}
+use Rattle.st_script.specs.Asks.{Side, Ask, Object, Display, Classes, Methods, Source, Bytecodes, Senders, instance_side, class_side}
 
 -- NUMBERS
 
@@ -37,6 +39,64 @@ arguments text = if nat_lt (word_end text) (length text) then Some (drop (word_e
 
 abbrev pub is_word : List ℕ → List ℕ → Bool
 is_word word text = pointwise nat_eq word text
+
+-- WHAT A LINE ASKS TO LOOK AT
+
+-- an object's pointer is even, and from 2 to 65534
+abbrev pub if_pointer : ℕ → Option ℕ
+if_pointer n = if nat_le 2 n && (n % 2 == 0) then Some n else None
+
+abbrev pub pointer_in : List ℕ → Option ℕ
+pointer_in text = option_and_then if_pointer (number 65534 text)
+
+-- a selector is any word, and the whole of its text
+abbrev pub selector_in : List ℕ → Option (List ℕ)
+selector_in text = if not (length text == 0) && (word_end text == length text) then Some text else None
+
+-- the first word, where it is a name
+abbrev pub class_in : List ℕ → Option (List ℕ)
+class_in text = if is_name (first_word text) then Some (first_word text) else None
+
+-- behind a class's name: nothing, or `class`
+abbrev pub side_behind : List ℕ → Option (List ℕ) → Option Side
+side_behind class None = Some (instance_side class)
+side_behind class (Some word) = if is_word word (codes "class") then Some (class_side class) else None
+
+abbrev pub side_in : List ℕ → Option Side
+side_in text = option_and_then (λ class. side_behind class (arguments text)) (class_in text)
+
+-- behind a class's name: a selector, or `class` and a selector
+abbrev pub method_behind : List ℕ → List ℕ → Option (List ℕ) → Option (Side × List ℕ)
+method_behind class text None = option_map (λ selector. (instance_side class, selector)) (selector_in text)
+method_behind class text (Some others) =
+    if is_word (first_word text) (codes "class") then option_map (λ selector. (class_side class, selector)) (selector_in others) else None
+
+abbrev pub method_in : List ℕ → Option (Side × List ℕ)
+method_in text = option_and_then (λ class. option_and_then (λ others. method_behind class others (arguments others)) (arguments text)) (class_in text)
+
+-- in a line of a word and its arguments
+unfoldable pub ask_with : List ℕ → List ℕ → Option Ask
+ask_with word text =
+    if is_word word (codes "object") then option_map Object (pointer_in text) else
+    if is_word word (codes "methods") then option_map Methods (side_in text) else
+    if is_word word (codes "source") then option_map (λ m. Source m.0 m.1) (method_in text) else
+    if is_word word (codes "bytecodes") then option_map (λ m. Bytecodes m.0 m.1) (method_in text) else
+    if is_word word (codes "senders") then option_map Senders (selector_in text) else
+    None
+
+-- in a line of a word alone
+unfoldable pub ask_alone : List ℕ → Option Ask
+ask_alone word =
+    if is_word word (codes "display") then Some Display else
+    if is_word word (codes "classes") then Some Classes else
+    None
+
+abbrev pub ask_by_words : List ℕ → Option (List ℕ) → Option Ask
+ask_by_words word None = ask_alone word
+ask_by_words word (Some text) = ask_with word text
+
+unfoldable pub line_ask : List ℕ → Option Ask
+line_ask text = ask_by_words (first_word text) (arguments text)
 
 -- WHAT A LINE ASKS FOR
 
@@ -71,13 +131,17 @@ abbrev pub by_words : List ℕ → Option (List ℕ) → Option Request
 by_words word None = alone word
 by_words word (Some text) = with_arguments word text
 
+-- what a line asks for that is in the grammar
+abbrev pub in_grammar : List ℕ → Option Request
+in_grammar text = option_or (by_words (first_word text) (arguments text)) (option_map (λ ask. Browse) (line_ask text))
+
 -- What the line of this number asks for; nothing, where it is blank. One that isn't in the grammar, or has more bytes
 -- than a line may have, is wrong.
 unfoldable pub line_request : ℕ → List ℕ → Option Request
 line_request n text =
     if nat_lt most (length text) then Some (Wrong n) else
     if is_empty text then None else
-    Some (unwrap_or (by_words (first_word text) (arguments text)) (Wrong n))
+    Some (unwrap_or (in_grammar text) (Wrong n))
 
 -- without the carriage return before a line's end
 abbrev pub without_return : List ℕ → List ℕ

@@ -9,7 +9,8 @@ use Rattle.st_script.specs.declared.progress.Mode.{Mode}
 use Rattle.st_script.specs.declared.progress.Mode.TheVariants as modes
 use Rattle.st_script.specs.declared.progress.Progress.{Progress}
 use Rattle.st_script.specs.Headings.{heading_in}
-use Rattle.st_script.specs.Reading.{Place, InLine, Opened, InHeader, InMethods, Defined, CutOff, InBlanks, BehindBlanks, Over, Reading, Told}
+use Rattle.st_script.specs.Lines.{line_ask}
+use Rattle.st_script.specs.Reading.{Place, InLine, behind_line, Opened, InHeader, InMethods, Defined, CutOff, InBlanks, BehindBlanks, Over, Reading, Told}
 
 -- the header of the open group
 abbrev pub heading_of : Progress → Header
@@ -17,6 +18,7 @@ heading_of p = heading_in p.text p.class_length p.meta
 
 abbrev pub place_in : Mode → Progress → Place
 place_in modes.Line p = InLine p.text
+place_in modes.Behind p = behind_line (line_ask p.text)
 place_in modes.Opened p = Opened
 place_in modes.Header p = InHeader p.chunk
 place_in modes.Methods p = InMethods (heading_of p) p.chunk
@@ -36,6 +38,7 @@ Tells told new result = told ≡ (reading_of new, result)
 -- how far the chunk is read, that a header isn't too long, and that the class is a part of what is held
 abbrev pub KeptIn : Mode → Progress → Type 0
 KeptIn modes.Line p = p.chunk.phase ≡ Within
+KeptIn modes.Behind p = p.chunk.phase ≡ Within
 KeptIn modes.Opened p = p.chunk.phase ≡ Marked
 KeptIn modes.Header p = MayGoOn p.chunk.phase × (length p.chunk.bytes ≤ most)
 KeptIn modes.Methods p = MayGoOn p.chunk.phase × (p.class_length ≤ length p.text)

@@ -10,14 +10,16 @@ use Rattle.st_chunk.specs.Feeding.{State, fed, finished, carried_from, answer, l
 use Rattle.st_chunk.specs.Groups.{Header, header_of}
 use Rattle.st_script.specs.declared.request.Request.{Request}
 use Rattle.st_script.specs.declared.request.Request.TheVariants.{End, Define, Wrong}
-use Rattle.st_script.specs.Lines.{line_request, without_return}
+use Rattle.st_script.specs.Asks.{Ask}
+use Rattle.st_script.specs.Lines.{line_ask, line_request, without_return}
 
--- Where the next byte stands: in a line of which these bytes are read; behind the mark that opens a group; in its
--- header; in a method, or what closes the group; in the chunk behind a method, whose end was told by its first byte;
--- behind a method that ends with the script; in a chunk that has too many blanks and nothing else, or behind a mark
--- there; or behind the end, where nothing is read any more.
+-- Where the next byte stands: in a line of which these bytes are read; behind a line that asks to look at this; behind
+-- the mark that opens a group; in its header; in a method, or what closes the group; in the chunk behind a method, whose
+-- end was told by its first byte; behind a method that ends with the script; in a chunk that has too many blanks and
+-- nothing else, or behind a mark there; or behind the end, where nothing is read any more.
 pub data Place : Type 0 where
   InLine : List ℕ → Place
+  Browsed : Ask → Place
   Opened : Place
   InHeader : State → Place
   InMethods Defined CutOff : Header → State → Place
@@ -59,13 +61,22 @@ is_last (Some End) = true
 is_last (Some (Wrong n)) = true
 is_last (Some request) = false
 
-abbrev pub line_ended : Reading → Option Request → Told
-line_ended r request = if is_last request then (over r, request) else (line_from r.line, request)
+-- where a line begins, behind one that asks to look at this, if it does
+abbrev pub behind_line : Option Ask → Place
+behind_line None = InLine []
+behind_line (Some ask) = Browsed ask
+
+abbrev pub line_asking : Reading → Option Request → Option Ask → Told
+line_asking r request ask = if is_last request then (over r, request) else (record (line_from r.line) { place = behind_line ask }, request)
+
+-- a line has ended that has these bytes
+abbrev pub line_ended : Reading → List ℕ → Told
+line_ended r text = line_asking r (line_request r.start text) (line_ask text)
 
 -- A line has one byte more. It is kept where the line may still be short enough: the last one may be a carriage return.
 abbrev pub line_byte : Reading → List ℕ → ℕ → Told
 line_byte r text b =
-    if b == 10 then line_ended r (line_request r.start (without_return text)) else
+    if b == 10 then line_ended r (without_return text) else
     if (b == mark) && (length text == 0) then (record r { place = Opened }, None) else
     if nat_le (length text) most then (record r { place = InLine (text ++ b ∷ []) }, None) else
     wrong r r.start
@@ -136,6 +147,7 @@ method_byte r here h s b = method_told r here h s b (fed s b) (answer (fed s b).
 
 abbrev pub byte_in : Place → Reading → ℕ → ℕ → Told
 byte_in (InLine text) r here b = line_byte r text b
+byte_in (Browsed ask) r here b = line_byte r [] b
 byte_in Opened r here b = opened_byte r here b
 byte_in (InHeader s) r here b = header_byte r here s b
 byte_in (InMethods h s) r here b = method_byte r here h s b
@@ -171,7 +183,8 @@ method_at_end r h s answers.Chunk =
 method_at_end r h s other = cut_off r
 
 abbrev pub end_in : Place → Reading → Told
-end_in (InLine text) r = (over r, line_request r.start text)
+end_in (InLine text) r = line_ended r text
+end_in (Browsed ask) r = line_ended r []
 end_in Opened r = wrong r r.line
 end_in (InHeader s) r = header_at_end r s (last_answer s.phase)
 end_in (InMethods h s) r = method_at_end r h s (last_answer s.phase)

@@ -6,13 +6,24 @@ use Rattle.st_chunk.specs.Feeding.{State}
 use Rattle.st_chunk.specs.Groups.{begins, is_name, trimmed, Header, header_text}
 use Rattle.st_chunk.specs.Definitions.{Definition, IsDefinition, line_feed}
 use Rattle.st_script.specs.declared.request.Request.{Request}
-use Rattle.st_script.specs.declared.request.Request.TheVariants.{Define}
-use Rattle.st_script.specs.Lines.{line_request, without_return}
-use Rattle.st_script.specs.Reading.{Place, InHeader, InMethods, Defined, CutOff, Reading, line_from, line_behind, Told, line_ended, read, end_read}
+use Rattle.st_script.specs.declared.request.Request.TheVariants.{Browse, Define}
+use Rattle.st_script.specs.Asks.{Ask}
+use Rattle.st_script.specs.Lines.{without_return}
+use Rattle.st_script.specs.Reading.{Place, Browsed, InHeader, InMethods, Defined, CutOff, Reading, line_from, line_behind, Told, line_ended, read, end_read}
 
 -- the definition that a method's chunk is, below this header
 abbrev pub method_of : Header → State → Definition
 method_of h s = record { class = h.class; meta = h.meta; category = h.category; text = trimmed s.bytes }
+
+-- something was asked to be looked at last
+abbrev pub IsBrowsed : Place → Type 0
+IsBrowsed (Browsed ask) = Unit {0}
+IsBrowsed _ = ⊥
+
+-- it is this
+abbrev pub HasAsk : Place → Ask → Type 0
+HasAsk (Browsed ask) a = a ≡ ask
+HasAsk _ a = ⊥
 
 -- a definition was asked for last
 abbrev pub IsDefined : Place → Type 0
@@ -26,12 +37,14 @@ HasDefinition (Defined h s) d = d ≡ method_of h s
 HasDefinition (CutOff h s) d = d ≡ method_of h s
 HasDefinition _ d = ⊥
 
--- a request as a script has it: a line's, or a definition
+-- a request as a script has it: a line's, what is to be looked at, or a definition
 pub data Asked : Type 0 where
   Asks : Request → Asked
+  Browses : Ask → Asked
   Defines : Definition → Asked
 
 abbrev pub asked_at : Place → Request → Asked
+asked_at (Browsed ask) Browse = Browses ask
 asked_at (Defined h s) Define = Defines (method_of h s)
 asked_at (CutOff h s) Define = Defines (method_of h s)
 asked_at place request = Asks request
@@ -73,7 +86,7 @@ pub record IsWholeLine (text : List ℕ) : Type 0 where
 
 -- how far a script is read behind the line of this number, and what that asks for
 abbrev pub line_read : ℕ → List ℕ → Told
-line_read n text = line_ended (record (line_from n) { line = line_behind line_feed n }) (line_request n (without_return text))
+line_read n text = line_ended (record (line_from n) { line = line_behind line_feed n }) (without_return text)
 
 -- WHAT A DEFINITION MEETS
 

@@ -1,5 +1,6 @@
 // Bytes in memory that is taken at the beginning.
 ghost use Rattle.std.specs.Prelude.{◌≡◌, ◌≤◌, ◌++◌, ◌∷◌, [], length, IfOk};
+ghost use Rattle.st_script.specs.Lines.{without_return};
 
 use std::alloc::{AllocError, Global};
 use std::marker::Model;
@@ -40,6 +41,17 @@ impl Buffer {
         ensures { self.new ≡ self.old ++ byte ∷ [] }
     {
         self.bytes.push_reserved(byte);
+    }
+
+    /// Drops a carriage return at the end.
+    pub(crate) fn drop_return(&mut self)
+        ensures { self.new ≡ without_return self.old }
+    {
+        let bytes = self.bytes.as_slice();
+        if bytes.ends_with(&[13]) {
+            let length = bytes.len() - 1;
+            self.bytes.truncate(length);
+        }
     }
 
     /// No bytes again.

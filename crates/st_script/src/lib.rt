@@ -1,6 +1,8 @@
 //! The script of a session, read byte by byte: lines, and groups of methods between them.
 #![tactic(auto)]
 
+mod ask;
+mod browsing;
 mod buffer;
 mod chunk;
 mod heading;
@@ -10,6 +12,7 @@ mod progress;
 mod reader;
 mod request;
 
+pub use ask::{Ask, Side};
 pub use laws::lines_by_bytes;
 pub use reader::{Definition, Reader};
 pub use request::Request;

@@ -2,8 +2,9 @@
 ghost use Rattle.std.specs.Prelude.{◌≡◌, ◌≤◌, ◌==◌, not, take, drop, IfSome, Option};
 ghost use Rattle.std.specs.Option.{option_copied, option_map};
 ghost use Rattle.st_chunk.specs.Texts.{is_blank, is_empty};
-ghost use Rattle.st_script.specs.Lines.{number, word_end, first_word, arguments, mouse_at, with_arguments, alone, by_words, line_request, without_return};
+ghost use Rattle.st_script.specs.Lines.{number, word_end, first_word, arguments, mouse_at, with_arguments, alone, by_words, in_grammar, line_request};
 
+use crate::browsing::line_ask;
 use crate::request::Request;
 
 /// The most bytes of a line, without its end, and of a chunk.
@@ -25,7 +26,7 @@ pub(crate) fn is_empty(text: &[u8]) -> bool
 
 /// The number that a word of 1 to 10 decimal digits says, where it is at most the limit.
 #[tactic(auto, using(crate::proofs::Digits::digits), unfolding(crate::specs::Lines::number))]
-fn read_number(limit: u32, word: &[u8]) -> Option<u32>
+pub(crate) fn read_number(limit: u32, word: &[u8]) -> Option<u32>
     ensures value { result ≡ number limit word.now }
     ensures within { IfSome result (λ n. n ≤ limit) }
 {
@@ -46,14 +47,21 @@ fn read_number(limit: u32, word: &[u8]) -> Option<u32>
 }
 
 /// The length of the first word.
-fn word_end(text: &[u8]) -> usize
+pub(crate) fn word_end(text: &[u8]) -> usize
     ensures exact { result ≡ word_end text.now }
 {
     text.iter().take_while(|b| !(**b == b' ')).count()
 }
 
+/// The first word.
+pub(crate) fn first_word(text: &[u8]) -> &[u8]
+    ensures { result.now ≡ first_word text.now }
+{
+    &text[..word_end(text)]
+}
+
 /// What stands behind the space behind the first word, if one is there.
-fn arguments(text: &[u8]) -> Option<&[u8]>
+pub(crate) fn arguments(text: &[u8]) -> Option<&[u8]>
     ensures { option_map (λ x. x.now) result ≡ arguments text.now }
 {
     let end = word_end(text);
@@ -68,7 +76,7 @@ fn arguments(text: &[u8]) -> Option<&[u8]>
 fn mouse_at(text: &[u8]) -> Option<Request>
     ensures { result ≡ mouse_at text.now }
 {
-    let x = read_number(16_383, &text[..word_end(text)])?;
+    let x = read_number(16_383, first_word(text))?;
     let y = read_number(16_383, arguments(text)?)?;
     Some(Request::Mouse(x as u16, y as u16))
 }
@@ -116,15 +124,26 @@ fn alone(word: &[u8]) -> Option<Request>
     None
 }
 
-/// What a line asks for by its words, if it is in the grammar.
+/// What a line asks for by its words, but for what it asks to look at.
 fn by_words(text: &[u8]) -> Option<Request>
     ensures { result ≡ by_words (first_word text.now) (arguments text.now) }
 {
-    let word = &text[..word_end(text)];
+    let word = first_word(text);
     match arguments(text) {
         Some(others) => with_arguments(word, others),
         None => alone(word),
     }
+}
+
+/// What a line asks for, if it is in the grammar.
+fn in_grammar(text: &[u8]) -> Option<Request>
+    ensures { result ≡ in_grammar text.now }
+{
+    if let Some(request) = by_words(text) {
+        return Some(request);
+    }
+    let _ask = line_ask(text)?;
+    Some(Request::Browse)
 }
 
 /// What the line of this number asks for; nothing, where it is blank.
@@ -138,16 +157,5 @@ pub(crate) fn line_request(number: u64, text: &[u8]) -> Option<Request>
     if is_empty(text) {
         return None;
     }
-    Some(by_words(text).unwrap_or(Request::Wrong(number)))
-}
-
-/// A line without the carriage return before its end.
-pub(crate) fn without_return(text: &[u8]) -> &[u8]
-    ensures { result.now ≡ without_return text.now }
-{
-    if text.ends_with(&[13]) {
-        &text[..text.len() - 1]
-    } else {
-        text
-    }
+    Some(in_grammar(text).unwrap_or(Request::Wrong(number)))
 }

@@ -13,7 +13,7 @@ ghost use Rattle.st_script.specs.Lines.{line_request};
 use crate::buffer::Buffer;
 use crate::chunk::Chunk;
 use crate::heading::read_heading;
-use crate::line::{MOST, is_blank, line_request, without_return};
+use crate::line::{MOST, is_blank, line_request};
 use crate::request::Request;
 use st_chunk::Fed;
 
@@ -22,6 +22,8 @@ use st_chunk::Fed;
 pub(crate) enum Mode {
     /// In a line.
     Line,
+    /// Behind a line.
+    Behind,
     /// Behind the `!` that opens a group.
     Opened,
     /// In a group's header.
@@ -40,7 +42,8 @@ pub(crate) enum Mode {
     Over,
 }
 
-/// A script as far as it is read. In a line `text` has its bytes, and in a group the class's name and the category.
+/// A script as far as it is read. In a line and behind it `text` has its bytes, and in a group the class's name and the
+/// category.
 #[derive(Drop)]
 pub(crate) struct Progress {
     pub(crate) mode: Mode,
@@ -72,18 +75,18 @@ impl Progress {
         Some(Request::Wrong(line))
     }
 
-    /// A line has ended, and asks for this.
-    fn end_line(&mut self, request: Option<Request>) -> Option<Request>
+    /// The line has ended.
+    fn end_line(&mut self) -> Option<Request>
         requires { self.old.chunk.phase ≡ Within }
-        ensures tells { Tells (line_ended (reading_of self.old) request) self.new result }
+        ensures tells { Tells (line_ended (reading_of self.old) self.old.text) self.new result }
         ensures kept { IsKept self.new }
     {
+        let request = line_request(self.start, self.text.as_slice());
         if is_last(request) {
             self.mode = Mode::Over;
             return request;
         }
-        self.mode = Mode::Line;
-        self.text.clear();
+        self.mode = Mode::Behind;
         self.start = self.line;
         request
     }
@@ -95,8 +98,8 @@ impl Progress {
         ensures kept { IsKept self.new }
     {
         if byte == b'\n' {
-            let request = line_request(self.start, without_return(self.text.as_slice()));
-            return self.end_line(request);
+            self.text.drop_return();
+            return self.end_line();
         }
         if byte == b'!' && self.text.as_slice().is_empty() {
             let _told = self.chunk.feed(byte);
@@ -301,6 +304,10 @@ impl Progress {
     {
         match self.mode {
             Mode::Line => self.line_byte(byte),
+            Mode::Behind => {
+                self.text.clear();
+                self.line_byte(byte)
+            }
             Mode::Opened => self.opened_byte(here, byte),
             Mode::Header => self.header_byte(here, byte),
             Mode::Methods => self.method_byte(here, byte),
@@ -328,17 +335,6 @@ impl Progress {
         self.byte_in(here, byte)
     }
 
-    /// The end of the script comes in a line.
-    fn finish_line(&mut self) -> Option<Request>
-        ensures tells { Tells (over (reading_of self.old), line_request self.old.start self.old.text)
-            self.new result }
-        ensures kept { IsKept self.new }
-    {
-        let request = line_request(self.start, self.text.as_slice());
-        self.mode = Mode::Over;
-        request
-    }
-
     /// The end of the script.
     #[tactic(auto, unfolding(crate::specs::Reading::end_read))]
     pub(crate) fn finish(&mut self) -> Option<Request>
@@ -347,7 +343,11 @@ impl Progress {
         ensures kept { IsKept self.new }
     {
         match self.mode {
-            Mode::Line => self.finish_line(),
+            Mode::Line => self.end_line(),
+            Mode::Behind => {
+                self.text.clear();
+                self.end_line()
+            }
             Mode::Opened => self.stop(self.line),
             Mode::Header => self.finish_header(),
             Mode::Methods => self.finish_method(),

@@ -1,11 +1,13 @@
 // A script, byte by byte.
 ghost use Rattle.std.specs.Prelude.{◌≡◌, Some, IfOk, IfSome};
 ghost use Rattle.st_chunk.specs.Definitions.{IsDefinition};
-ghost use Rattle.st_script.specs.declared.request.Request.TheVariants.{Define as Defines};
+ghost use Rattle.st_script.specs.declared.request.Request.TheVariants.{Browse as Browses, Define as Defines};
 ghost use Rattle.st_script.specs.Lines.{IsInRange};
 ghost use Rattle.st_script.specs.Reading.{line_from, read, end_read};
-ghost use Rattle.st_script.specs.Scripts.{IsDefined, HasDefinition};
+ghost use Rattle.st_script.specs.Scripts.{IsBrowsed, HasAsk, IsDefined, HasDefinition};
 
+use crate::ask::Ask;
+use crate::browsing::line_ask;
 use crate::buffer::Buffer;
 use crate::chunk::Chunk;
 use crate::heading::trimmed;
@@ -46,6 +48,7 @@ impl Model for Reader {
 }
 
 impl Reader {
+    ghost use Rattle.st_script.specs.Asks.{ask_of};
     ghost use Rattle.st_script.specs.Definitions.{definition_of};
 
     /// The beginning of a script.
@@ -70,6 +73,7 @@ impl Reader {
     pub fn feed(&mut self, byte: u8) -> Option<Request>
         ensures read { self.new ≡ (read self.old byte).0 }
         ensures told { result ≡ (read self.old byte).1 }
+        ensures browsed { result ≡ Some Browses → IsBrowsed self.new.place }
         ensures defined { result ≡ Some Defines → IsDefined self.new.place }
         ensures range { IfSome result IsInRange }
     {
@@ -80,14 +84,23 @@ impl Reader {
     pub fn finish(&mut self) -> Option<Request>
         ensures read { self.new ≡ (end_read self.old).0 }
         ensures told { result ≡ (end_read self.old).1 }
+        ensures browsed { result ≡ Some Browses → IsBrowsed self.new.place }
         ensures defined { result ≡ Some Defines → IsDefined self.new.place }
         ensures range { IfSome result IsInRange }
     {
         self.progress.finish()
     }
 
+    /// What was asked to be looked at, until the next byte.
+    #[tactic(auto, using(crate::proofs::Held::held))]
+    pub fn ask(&self) -> Ask<'_>
+        requires { IsBrowsed self.now.place }
+        ensures { HasAsk self.now.place (ask_of result) }
+    {
+        line_ask(self.progress.text.as_slice()).unwrap()
+    }
+
     /// The definition that was asked for, until the next byte.
-    #[tactic(auto, using(crate::proofs::Places::reads))]
     pub fn definition(&self) -> Definition<'_>
         requires { IsDefined self.now.place }
         ensures is { HasDefinition self.now.place (definition_of result) }

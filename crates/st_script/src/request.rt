@@ -17,6 +17,8 @@ pub enum Request {
     Used,
     /// `snapshot`: the machine's image is to be kept.
     Snapshot,
+    /// A line that asks to look at something, which the reader tells.
+    Browse,
     /// `end`: the end of the session.
     End,
     /// A method of a group, to be accepted.

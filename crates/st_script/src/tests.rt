@@ -1,8 +1,8 @@
 ghost use Rattle.std.specs.Prelude.{◌≡◌};
-ghost use Rattle.st_script.specs.declared.request.Request.TheVariants.{Define as Defines};
-ghost use Rattle.st_script.specs.Scripts.{IsDefined};
+ghost use Rattle.st_script.specs.declared.request.Request.TheVariants.{Browse as Browses, Define as Defines};
+ghost use Rattle.st_script.specs.Scripts.{IsBrowsed, IsDefined};
 
-use crate::{Reader, Request};
+use crate::{Ask, Reader, Request, Side};
 use std::alloc::{AllocError, Global};
 use std::test::Fail;
 
@@ -18,23 +18,72 @@ fn add_bytes(told: &mut String, alloc: Global, bytes: &[u8]) -> Result<(), Alloc
     Ok(())
 }
 
-/// Adds what is asked for, and a definition's class, side, category and text.
+/// Adds a class's name and side.
+fn add_side(told: &mut String, alloc: Global, side: Side<'_>) -> Result<(), AllocError> {
+    add_bytes(told, alloc, side.class)?;
+    told.push_str(if side.meta { " class, " } else { ", " })
+}
+
+/// Adds a word, a class's name and side, and a selector.
+fn add_method(
+    told: &mut String,
+    alloc: Global,
+    word: &str,
+    side: Side<'_>,
+    selector: &[u8],
+) -> Result<(), AllocError> {
+    told.push_str(word)?;
+    add_side(told, alloc, side)?;
+    add_bytes(told, alloc, selector)
+}
+
+/// Adds what is asked to be looked at.
+fn add_ask(told: &mut String, alloc: Global, ask: Ask<'_>) -> Result<(), AllocError> {
+    match ask {
+        Ask::Object(pointer) => {
+            let name = format!(in alloc; "Object({pointer})")?;
+            told.push_str(&name)?;
+        }
+        Ask::Display => told.push_str("Display")?,
+        Ask::Classes => told.push_str("Classes")?,
+        Ask::Methods(side) => {
+            told.push_str("Methods ")?;
+            add_side(told, alloc, side)?;
+        }
+        Ask::Source(side, selector) => add_method(told, alloc, "Source ", side, selector)?,
+        Ask::Bytecodes(side, selector) => add_method(told, alloc, "Bytecodes ", side, selector)?,
+        Ask::Senders(selector) => {
+            told.push_str("Senders ")?;
+            add_bytes(told, alloc, selector)?;
+        }
+    }
+    told.push_str("; ")
+}
+
+/// Adds what is asked for: what is to be looked at, or a definition's class, side, category and text.
 fn add(
     told: &mut String,
     alloc: Global,
     reader: &Reader,
     request: Request,
 ) -> Result<(), AllocError>
-    requires { request ≡ Defines → IsDefined reader.now.place }
+    requires browsed { request ≡ Browses → IsBrowsed reader.now.place }
+    requires defined { request ≡ Defines → IsDefined reader.now.place }
 {
+    if request == Request::Browse {
+        return add_ask(told, alloc, reader.ask());
+    }
     let name = format!(in alloc; "{request:?}; ")?;
     if request != Request::Define {
         told.push_str(&name)?;
         return Ok(());
     }
     let definition = reader.definition();
-    add_bytes(told, alloc, definition.class)?;
-    told.push_str(if definition.meta { " class, " } else { ", " })?;
+    let side = Side {
+        class: definition.class,
+        meta: definition.meta,
+    };
+    add_side(told, alloc, side)?;
     add_bytes(told, alloc, definition.category)?;
     told.push_str(", ")?;
     add_bytes(told, alloc, definition.text)?;
@@ -60,7 +109,7 @@ fn asked(alloc: Global, script: &[u8]) -> Result<String, AllocError> {
 }
 
 /// Scripts, and what they ask for.
-const SCRIPTS: [(&[u8], &str); 26] = [
+const SCRIPTS: [(&[u8], &str); 27] = [
     (b"", ""),
     (
         b"state\r\nused\n\n \t\x0c\nend\nhop\n",
@@ -84,6 +133,14 @@ const SCRIPTS: [(&[u8], &str); 26] = [
     ),
     (b"!A methodsFor: ''! !\n!B methodsFor: ''!x! !", "B, , x; "),
     (b"used\n\nhop\nused\n", "Used; Wrong(3); "),
+    (
+        b"source A x\ndisplay\r\n\nused\nmethods A class\n!B methodsFor: ''! !senders x\r",
+        "Source A, x; Display; Used; Methods A class, ; Senders x\r; ",
+    ),
+    (
+        b"classes\n!P methodsFor: 'a'!\nx! !object 2\nend\nclasses",
+        "Classes; P, a, x; Object(2); End; ",
+    ),
     (b"snapshot\r\nused\nsnapshot", "Snapshot; Used; Snapshot; "),
     (b"snapshot 1\n", "Wrong(1); "),
     (b"\n snapshot\n", "Wrong(2); "),
@@ -93,7 +150,6 @@ const SCRIPTS: [(&[u8], &str); 26] = [
     (b"mouse 1 16384\n", "Wrong(1); "),
     (b"\ninput 65536\n", "Wrong(2); "),
     (b"tick 4294967296\n", "Wrong(1); "),
-    (b"\n\n\n object 2\n", "Wrong(4); "),
     (b"run  5\n", "Wrong(1); "),
     (b"!Point methodsFor: 'a'! ! used\n", "Wrong(1); "),
     (b"\n!!Point methodsFor: 'a'! !", "Wrong(2); "),
@@ -112,6 +168,66 @@ fn scripts_ask(rt: HostRuntime) -> Result<(), Fail> {
     for (script, expected) in SCRIPTS {
         let found = asked(rt.alloc(), script)?;
         assert_eq!(rt; found.as_str(), expected);
+    }
+    Ok(())
+}
+
+/// Lines, and what each asks to look at.
+const ASKS: [(&[u8], &str); 43] = [
+    (b"object 2", "Object(2); "),
+    (b"object 65534", "Object(65534); "),
+    (b"object 0000000060", "Object(60); "),
+    (b"object 0", "Wrong(1); "),
+    (b"object 1", "Wrong(1); "),
+    (b"object 61", "Wrong(1); "),
+    (b"object 65535", "Wrong(1); "),
+    (b"object 65536", "Wrong(1); "),
+    (b"object", "Wrong(1); "),
+    (b"object  60", "Wrong(1); "),
+    (b"object 60 ", "Wrong(1); "),
+    (b"object @60", "Wrong(1); "),
+    (b" object 60", "Wrong(1); "),
+    (b"display", "Display; "),
+    (b"display ", "Wrong(1); "),
+    (b"display 1", "Wrong(1); "),
+    (b"classes", "Classes; "),
+    (b"classes Point", "Wrong(1); "),
+    (b"methods Point", "Methods Point, ; "),
+    (b"methods A class", "Methods A class, ; "),
+    (b"methods class", "Methods class, ; "),
+    (b"methods", "Wrong(1); "),
+    (b"methods ", "Wrong(1); "),
+    (b"methods A klass", "Wrong(1); "),
+    (b"methods A  class", "Wrong(1); "),
+    (b"methods A class x", "Wrong(1); "),
+    (b"methods 1A", "Wrong(1); "),
+    (b"methods A_", "Wrong(1); "),
+    (b"source A x", "Source A, x; "),
+    (b"source A class", "Source A, class; "),
+    (b"source A class x", "Source A class, x; "),
+    (b"source A class class", "Source A class, class; "),
+    (b"source A", "Wrong(1); "),
+    (b"source A ", "Wrong(1); "),
+    (b"source A x y", "Wrong(1); "),
+    (b"source A class x y", "Wrong(1); "),
+    (b"bytecodes A at:put:", "Bytecodes A, at:put:; "),
+    (b"bytecodes A class //", "Bytecodes A class, //; "),
+    (b"bytecodes A class ", "Wrong(1); "),
+    (b"senders 12", "Senders 12; "),
+    (b"senders", "Wrong(1); "),
+    (b"senders ", "Wrong(1); "),
+    (b"senders x y", "Wrong(1); "),
+];
+
+#[test]
+fn lines_ask_to_look(rt: HostRuntime) -> Result<(), Fail> {
+    for (line, expected) in ASKS {
+        let last = asked(rt.alloc(), line)?;
+        assert_eq!(rt; last.as_str(), expected);
+        let mut script = line.to_vec(rt.alloc())?;
+        script.extend_from_slice(b"\r\n")?;
+        let ended = asked(rt.alloc(), &script)?;
+        assert_eq!(rt; ended.as_str(), expected);
     }
     Ok(())
 }
