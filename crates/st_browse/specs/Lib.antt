@@ -1,0 +1,9 @@
+pub mod Naming
+pub mod Fields
+pub mod Classes
+pub mod Methods
+pub mod Cutting
+pub mod Senders
+pub mod Replies
+pub mod Entries
+pub mod Listing

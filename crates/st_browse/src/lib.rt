@@ -1,0 +1,16 @@
+//! What is asked of an image: an object, the classes, a class's methods, a method's bytecodes, the senders of a selector. Each is
+//! answered from the memory alone, line by line, without memory of its own and without a change. The answers are defined in
+//! `specs/Replies.antt`.
+#![tactic(auto)]
+
+mod choice;
+mod classes;
+mod comparing;
+mod dictionary;
+mod fields;
+mod line;
+mod methods;
+mod named;
+mod names;
+mod places;
+
