@@ -36,7 +36,7 @@ fn push_escaped<H: Host>(out: &mut Output, host: &mut H, byte: u8) -> Result<(),
 
 /// Adds the bytes of an object of kind Bytes, escaped.
 #[tactic(auto, using(st_memory::proofs::Bodies::bodies))]
-fn push_bytes<H: Host, M: Memory>(
+pub fn push_bytes<H: Host, M: Memory>(
     out: &mut Output,
     host: &mut H,
     m: &M,
