@@ -1,3 +1,10 @@
 pub mod Ordered
 pub mod Bytewise
 pub mod Seeking
+pub mod Going
+pub mod Summing
+pub mod Parting
+pub mod Symbols
+pub mod Sides
+pub mod Found
+mod Rows

@@ -58,7 +58,7 @@ next_more t f n after left best new i some e next is name =
     record {
       within = omega (arith, below);
       is = is ∙ (ap (λ b. taken after (f i) b) (next.is ∙ ap (λ k. first (next_in_order after (named_from f n k))) up)
-      ∙ (sym (first_with after (f i) (named_from f n (i + 1))) ∙ ap (λ xs. first (next_in_order after xs)) (sym (place_more f n i below))));
+          ∙ (sym (first_with after (f i) (named_from f n (i + 1))) ∙ ap (λ xs. first (next_in_order after xs)) (sym (place_more f n i below))));
       name = name;
     }
 

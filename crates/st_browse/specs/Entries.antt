@@ -6,6 +6,7 @@ use Rattle.st_model.specs.Values.{Value, value}
 use Rattle.st_model.specs.Objects.{is_bytes, is_method}
 use Rattle.st_model.specs.Table.{Table}
 use Rattle.st_model.specs.View.{is_live, object_of}
+use Rattle.st_browse.specs.declared.codes.Body.{Body}
 use Rattle.st_browse.specs.declared.named.Named.{Named as NamedRead}
 use Rattle.st_browse.specs.declared.dictionary.Dictionary.{Dictionary as DictionaryRead}
 use Rattle.st_browse.specs.declared.line.Line.{Line}
@@ -61,3 +62,10 @@ IsLine t line.Class = Unit {0}
 IsLine t line.Method = Unit {0}
 IsLine t (line.Sender class meta) = IsName t (value class)
 
+-- a method is there, with so many fields and bytes
+pub record IsBody (t : Table) (b : Body) : Type 0 where
+  pub live : is_live t (value b.method) ≡ true
+  pub kind : is_method (object_of t (value b.method)).kind ≡ true
+  pub fields : b.fields ≡ length (object_of t (value b.method)).fields
+  pub units : b.units ≡ length (object_of t (value b.method)).units
+  pub few : 2 * b.fields + b.units ≤ 131066

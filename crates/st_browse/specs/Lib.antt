@@ -5,5 +5,7 @@ pub mod Methods
 pub mod Cutting
 pub mod Senders
 pub mod Replies
+pub mod Asked
 pub mod Entries
 pub mod Listing
+pub mod Founds

@@ -1,6 +1,6 @@
 -- Names one after the other, without a list of them.
 use Rattle.std.specs.Prelude.{ℕ, List, [], ◌∷◌, Option, Some, None, Bool, true, false, bytes_eq, codes, if◌then◌else◌}
-use Rattle.std.specs.List.{filter}
+use Rattle.std.specs.List.{filter, flat_map}
 use Rattle.std.specs.declared.cmp.Ordering.{Ordering}
 use Rattle.std.specs.declared.cmp.Ordering.TheVariants.{Less, Equal, Greater}
 use Rattle.st_model.specs.Table.{Table}
@@ -72,3 +72,6 @@ abbrev pub line_text : Table → Line → List ℕ → List ℕ
 line_text t line.Class name = name_line (codes "class ") name
 line_text t line.Method name = name_line (codes "method ") name
 line_text t (line.Sender class meta) name = sender_line (name_of t class) meta name
+
+abbrev pub lines_text : Table → Line → List Named → List ℕ
+lines_text t line ns = flat_map (λ n. line_text t line n.name) ns

@@ -1,6 +1,6 @@
 -- What is said of an image: of an object, the classes, a class's methods, a method's bytecodes, the senders of a selector.
 -- Each line ends with LF. Names are escaped.
-use Rattle.std.specs.Prelude.{codes, ℕ, ◌+◌, ◌/◌, ◌*◌, List, [], ◌∷◌, ◌++◌, length, Option, Some, None, Bool, true, false, option_map, option_and_then, sum, map}
+use Rattle.std.specs.Prelude.{codes, ℕ, ◌+◌, ◌/◌, ◌*◌, List, [], ◌∷◌, ◌++◌, length, Option, Some, None, Bool, true, false, option_map, sum_by}
 use Rattle.std.specs.Fmt.{decimal}
 use Rattle.std.specs.List.{flat_map}
 use Rattle.st_model.specs.Values.{Value, Small, Ref}
@@ -83,4 +83,4 @@ abbrev pub both_lines : Table → List ℕ → Named → List ℕ
 both_lines t selector class = senders_lines t selector class false ++ senders_lines t selector class true
 
 abbrev pub senders_text : Table → List ℕ → List Named → List ℕ
-senders_text t selector cs = count_text (codes "senders") (sum (map (senders_count t selector) cs)) ++ flat_map (both_lines t selector) cs
+senders_text t selector cs = count_text (codes "senders") (sum_by (senders_count t selector) cs) ++ flat_map (both_lines t selector) cs

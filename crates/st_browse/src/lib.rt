@@ -3,14 +3,23 @@
 //! `specs/Replies.antt`.
 #![tactic(auto)]
 
+mod ask;
 mod choice;
 mod classes;
+mod codes;
 mod comparing;
 mod dictionary;
 mod fields;
 mod line;
+mod listing;
 mod methods;
 mod named;
 mod names;
 mod places;
+mod saying;
+mod senders;
+mod sending;
+mod sought;
 
+pub use ask::{Ask, Side};
+pub use saying::browse;

@@ -1,0 +1,11 @@
+use Rattle.st_browse.specs.Entries.{named_of}
+use Rattle.st_browse.proofs.Sides.{class_tested}
+use Rattle.st_browse.proofs.senders.count_class.Goals as goal
+
+pub count_side-requires : goal.count_side-requires
+count_side-requires g c =
+    class_tested (g.M.Memory.view c.args.m.now).objects (named_of (g.M.Memory.view c.args.m.now).objects c.args.n) c.is_class.result c.is_class.ensures c.if-is_class.true
+
+pub count_side-requires-then-is_class : goal.count_side-requires-then-is_class
+count_side-requires-then-is_class g c =
+    class_tested (g.M.Memory.view c.args.m.now).objects (named_of (g.M.Memory.view c.args.m.now).objects c.args.n) c.is_class.result c.is_class.ensures c.if-is_class.true

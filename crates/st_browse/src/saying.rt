@@ -1,0 +1,146 @@
+//! The lines of what was found.
+
+ghost use Rattle.std.specs.Prelude.{◌≡◌, ◌≤◌, ◌++◌, [], is_some, unwrap_or, length, IfOk, OnOk};
+ghost use Rattle.std.specs.List.{filter};
+ghost use Rattle.st_model.specs.Values.{value};
+ghost use Rattle.st_model.specs.View.{object_of};
+ghost use Rattle.st_outside.specs.Counts.{HasCause};
+ghost use Rattle.st_outside.specs.Runs.{SaysAll};
+ghost use Rattle.st_outside.specs.Telling.{Says};
+ghost use Rattle.st_report.specs.Saying.{Pushes};
+ghost use Rattle.st_browse.specs.Naming.{in_order};
+ghost use Rattle.st_browse.specs.Classes.{is_class};
+ghost use Rattle.st_browse.specs.Listing.{lines_text, listed};
+ghost use Rattle.st_browse.specs.Replies.{bytecodes_text, count_text, senders_text};
+ghost use Rattle.st_browse.specs.Asked.{reply};
+ghost use Rattle.st_browse.specs.Entries.{IsBody, IsLine, count_of, names_in};
+ghost use Rattle.st_browse.specs.Founds.{IsSought, sought_text};
+
+use crate::ask::Ask;
+use crate::choice::Choice;
+use crate::codes::{Body, count_codes, push_codes};
+use crate::line::Line;
+use crate::listing::{count_listed, push_listed};
+use crate::names::Names;
+use crate::senders::{count_senders, push_senders};
+use crate::sought::{Sought, seek};
+use st_memory::Memory;
+use st_outside::{Host, SayFault};
+use st_report::{Output, push_long_line, push_object};
+
+/// Adds how many names are chosen, and the line of each.
+fn push_names<H: Host, M: Memory>(
+    out: &mut Output,
+    host: &mut H,
+    m: &M,
+    names: Names,
+    choice: Choice<'_>,
+    line: Line,
+    word: &[u8],
+) -> Result<(), SayFault>
+    requires few { count_of names ≤ 131066 }
+    requires class { IsLine (M.view m.now).objects line }
+    ensures { let t = (M.view m.now).objects in let ns = listed t names choice.entry in
+        let text = count_text word.now (length ns) ++ lines_text t line ns in
+        Pushes H.Host.own text host.old host.new out.old out.new result }
+{
+    push_long_line(out, host, word, u64::from(count_listed(m, names, choice)))?;
+    push_listed(out, host, m, names, choice, line)
+}
+
+/// Adds how many bytecodes a method has, and the line of each.
+fn push_bytecodes<H: Host, M: Memory>(
+    out: &mut Output,
+    host: &mut H,
+    m: &M,
+    body: Body,
+) -> Result<(), SayFault>
+    requires { IsBody (M.view m.now).objects body }
+    ensures { let text = bytecodes_text (object_of (M.view m.now).objects (value body.method)) in
+        Pushes H.Host.own text host.old host.new out.old out.new result }
+{
+    push_long_line(out, host, b"bytecodes", u64::from(count_codes(m, body)))?;
+    push_codes(out, host, m, body)
+}
+
+/// Adds how many senders a selector has, and the line of each.
+fn push_all_senders<H: Host, M: Memory>(
+    out: &mut Output,
+    host: &mut H,
+    m: &M,
+    globals: Names,
+    selector: &[u8],
+) -> Result<(), SayFault>
+    requires { count_of globals ≤ 131066 }
+    ensures { let t = (M.view m.now).objects in
+        let classes = filter (is_class t) (in_order (names_in t globals)) in
+        Pushes H.Host.own (senders_text t selector.now classes) host.old host.new out.old out.new result }
+{
+    push_long_line(out, host, b"senders", count_senders(m, globals, selector))?;
+    push_senders(out, host, m, globals, selector)
+}
+
+/// Adds the lines of what was found.
+fn push_sought<H: Host, M: Memory>(
+    out: &mut Output,
+    host: &mut H,
+    m: &M,
+    sought: Sought<'_>,
+) -> Result<(), SayFault>
+    requires { IsSought (M.view m.now).objects sought }
+    ensures { let text = sought_text (M.view m.now).objects sought.entry in
+        Pushes H.Host.own text host.old host.new out.old out.new result }
+{
+    match sought {
+        Sought::Object(o) => push_object(out, host, m, o),
+        Sought::Classes(names) => {
+            push_names(
+                out,
+                host,
+                m,
+                names,
+                Choice::Classes,
+                Line::Class,
+                b"classes",
+            )
+        }
+        Sought::Methods(names) => {
+            push_names(out, host, m, names, Choice::Every, Line::Method, b"methods")
+        }
+        Sought::Bytecodes(body) => push_bytecodes(out, host, m, body),
+        Sought::Senders(globals, selector) => push_all_senders(out, host, m, globals, selector),
+    }
+}
+
+/// Says what was found.
+fn say_sought<H: Host, M: Memory>(m: &M, sought: Sought<'_>, host: &mut H) -> Result<(), SayFault>
+    requires { IsSought (M.view m.now).objects sought }
+    ensures all { let text = sought_text (M.view m.now).objects sought.entry in
+        OnOk result (SaysAll H.Host.own text host.old host.new) }
+    ensures says { let text = sought_text (M.view m.now).objects sought.entry in
+        Says H.Host.own text host.old host.new }
+    ensures cause { HasCause (H.say_faults host.old) (H.say_faults host.new) result }
+{
+    let mut out = Output::new();
+    push_sought(&mut out, host, m, sought)?;
+    out.finish(host)
+}
+
+/// Says what an image answers to what is asked of it, and whether what is asked for is there: where it is missing, nothing is
+/// said. After an error some first bytes of the answer were said, or none or all.
+pub fn browse<H: Host, M: Memory>(m: &M, ask: &Ask, host: &mut H) -> Result<bool, SayFault>
+    ensures there { IfOk result (λ b. b ≡ is_some (reply (M.view m.now) ask.now)) }
+    ensures all { let text = unwrap_or (reply (M.view m.now) ask.now) [] in
+        OnOk result (SaysAll H.Host.own text host.old host.new) }
+    ensures says { let text = unwrap_or (reply (M.view m.now) ask.now) [] in
+        Says H.Host.own text host.old host.new }
+    ensures cause { HasCause (H.say_faults host.old) (H.say_faults host.new) result }
+{
+    match seek(m, ask) {
+        Some(sought) => {
+            say_sought(m, sought, host)?;
+            Ok(true)
+        }
+        None => Ok(false),
+    }
+}

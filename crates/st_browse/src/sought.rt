@@ -1,0 +1,108 @@
+//! What is asked for, found in an image.
+
+ghost use Rattle.std.specs.Prelude.{◌≡◌, IfSome, option_and_then, option_map};
+ghost use Rattle.st_model.specs.Values.{value};
+ghost use Rattle.st_names.specs.Texts.{found};
+ghost use Rattle.st_browse.specs.Replies.{methods_text, object_reply};
+ghost use Rattle.st_browse.specs.Asked.{bytecodes_in, class_of_side, reply};
+ghost use Rattle.st_browse.specs.Entries.{IsBody};
+ghost use Rattle.st_browse.specs.Founds.{IsSought, body_text, sought_text};
+
+use crate::ask::{Ask, Side};
+use crate::classes::{globals, is_class, on_side};
+use crate::codes::{Body, body_of};
+use crate::methods::methods_of;
+use crate::names::Names;
+use crate::places::first_named;
+use st_memory::Memory;
+use st_model::Oop;
+
+/// What is asked for, where it is in the image.
+#[derive(Clone, Copy)]
+pub enum Sought<'a> {
+    /// An object.
+    Object(Oop),
+    /// The classes among the globals.
+    Classes(Names),
+    /// The methods of a class.
+    Methods(Names),
+    /// The bytecodes of a method.
+    Bytecodes(Body),
+    /// The senders of a selector, in the classes among the globals.
+    Senders(Names, &'a [u8]),
+}
+
+/// The class that a side names.
+#[tactic(auto, using(crate::proofs::Sides::sides), unfolding(crate::specs::Classes::class_named))]
+fn class_of_side<M: Memory>(m: &M, side: &Side) -> Option<Oop>
+    ensures { let v = M.view m.now in found result ≡ class_of_side v side.now }
+{
+    let n = first_named(m, globals(m), &side.class)?;
+    if is_class(m, n) {
+        Some(on_side(m, n.value, side.meta))
+    } else {
+        None
+    }
+}
+
+/// The method of a class for a selector.
+#[tactic(auto, unfolding(crate::specs::Methods::method_named))]
+fn method_of<M: Memory>(m: &M, class: Oop, selector: &[u8]) -> Option<Body>
+    ensures method { let t = (M.view m.now).objects in
+        option_map (body_text t) result ≡ bytecodes_in t selector.now (value class) }
+    ensures body { IfSome result (λ b. IsBody (M.view m.now).objects b) }
+{
+    let n = first_named(m, methods_of(m, class), selector)?;
+    body_of(m, n.value)
+}
+
+/// Finds the methods of a class.
+fn seek_methods<'a, M: Memory>(m: &M, side: &Side) -> Option<Sought<'a>>
+    ensures sought { let v = M.view m.now in
+        option_map (sought_text v.objects) result ≡ option_map (methods_text v.objects) (class_of_side v side.now) }
+    ensures there { IfSome result (λ s. IsSought (M.view m.now).objects s) }
+{
+    let class = class_of_side(m, side)?;
+    Some(Sought::Methods(methods_of(m, class)))
+}
+
+/// Finds the bytecodes of a class's method for a selector.
+fn seek_bytecodes<'a, M: Memory>(m: &M, side: &Side, selector: &[u8]) -> Option<Sought<'a>>
+    ensures sought { let v = M.view m.now in
+        let found = class_of_side v side.now in
+        option_map (sought_text v.objects) result ≡ option_and_then (bytecodes_in v.objects selector.now) found }
+    ensures there { IfSome result (λ s. IsSought (M.view m.now).objects s) }
+{
+    let class = class_of_side(m, side)?;
+    let body = method_of(m, class, selector)?;
+    Some(Sought::Bytecodes(body))
+}
+
+/// Finds an object.
+fn seek_object<'a, M: Memory>(m: &M, o: Oop) -> Option<Sought<'a>>
+    ensures sought { let t = (M.view m.now).objects in
+        option_map (sought_text t) result ≡ object_reply t (value o) }
+    ensures there { IfSome result (λ s. IsSought (M.view m.now).objects s) }
+{
+    if m.live(o) {
+        Some(Sought::Object(o))
+    } else {
+        None
+    }
+}
+
+/// Finds what is asked for.
+#[tactic(auto, unfolding(crate::specs::Asked::reply))]
+pub fn seek<'a, M: Memory>(m: &M, ask: &'a Ask) -> Option<Sought<'a>>
+    ensures sought { let v = M.view m.now in
+        option_map (sought_text v.objects) result ≡ reply v ask.now }
+    ensures there { IfSome result (λ s. IsSought (M.view m.now).objects s) }
+{
+    match ask {
+        Ask::Object(o) => seek_object(m, *o),
+        Ask::Classes => Some(Sought::Classes(globals(m))),
+        Ask::Methods(side) => seek_methods(m, side),
+        Ask::Bytecodes(side, selector) => seek_bytecodes(m, side, selector),
+        Ask::Senders(selector) => Some(Sought::Senders(globals(m), selector)),
+    }
+}
