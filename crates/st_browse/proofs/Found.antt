@@ -1,5 +1,5 @@
 -- What is asked for, as it was found.
-use Rattle.std.proofs.Common.{◌≡◌, ℕ, ◌/◌, List, Option, Some, None, Bool, true, false, refl, sym, ap, ◌∙◌}
+use Rattle.std.proofs.Common.{◌≡◌, ℕ, ◌/◌, List, Option, Some, None, Bool, true, false, refl, ap, ◌∙◌}
 use Rattle.std.specs.Prelude.{codes, option_map, is_some, unwrap_or, if◌then◌else◌, ◌%◌, ◌==◌}
 use Rattle.std.specs.List.{filter}
 use Rattle.st_model.specs.Values.{Value, Small, Ref, value_of}
@@ -10,7 +10,7 @@ use Rattle.st_model.specs.View.{is_live, object_of, nothing}
 use Rattle.st_browse.specs.declared.names.Names.{Names}
 use Rattle.st_browse.specs.declared.choice.Choice.TheVariants.{Every, Classes}
 use Rattle.st_browse.specs.declared.line.Line.TheVariants.{Class, Method}
-use Rattle.st_browse.specs.Naming.{Named, in_order}
+use Rattle.st_browse.specs.Naming.{in_order}
 use Rattle.st_browse.specs.Classes.{is_class, classes, globals_in}
 use Rattle.st_browse.specs.Methods.{dictionary_of, methods, methods_in}
 use Rattle.st_browse.specs.Senders.{sends, senders}

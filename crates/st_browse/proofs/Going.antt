@@ -1,6 +1,6 @@
 -- Names one after the other: how many there are, and their lines.
 use Rattle.std.proofs.Common.{◌≡◌, ℕ, zero, suc, ◌+◌, ◌<◌, ◌≤◌, List, [], ◌∷◌, ◌++◌, length, Option, Some, None, Bool, true, false, refl, sym, ap, ◌∙◌, arith, append_assoc, append-nil, Ok, Err}
-use Rattle.std.specs.Prelude.{if◌then◌else◌, IfSome, Result, IsErr}
+use Rattle.std.specs.Prelude.{if◌then◌else◌, Result, IsErr}
 use Rattle.std.specs.List.{filter, filter_map, flat_map, range_with_len, cons_option}
 use Rattle.std.specs.declared.cmp.Ordering.{Ordering}
 use Rattle.std.specs.declared.cmp.Ordering.TheVariants.{Less, Equal, Greater}

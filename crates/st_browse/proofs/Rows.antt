@@ -1,5 +1,5 @@
 -- Worked rows: what is said of a small image, computed from the definitions. Its class Point has the methods y and x, in this order.
-use Rattle.std.proofs.Common.{◌≡◌, ℕ, List, [], ◌∷◌, Some, None, Option, true, false, refl}
+use Rattle.std.proofs.Common.{◌≡◌, ℕ, List, [], ◌∷◌, Some, None, Option, true, refl}
 use Rattle.std.specs.Prelude.{codes, ◌++◌}
 use Rattle.st_model.specs.declared.kind.Kind.TheVariants as kind
 use Rattle.st_model.specs.Values.{Value, Small, Ref}
@@ -8,8 +8,8 @@ use Rattle.st_model.specs.Table.{Table}
 use Rattle.st_model.specs.View.{is_live, object_of}
 use Rattle.st_names.specs.Texts.{text_at}
 use Rattle.st_browse.specs.Fields.{field_at, fields_in, named}
-use Rattle.st_browse.specs.Classes.{member, global_at, globals_in, is_class, classes, class_named, on_side}
-use Rattle.st_browse.specs.Methods.{formed, dictionary_of, if_method, method_at, methods_in, methods, method_named}
+use Rattle.st_browse.specs.Classes.{member, global_at, globals_in, is_class, classes, on_side}
+use Rattle.st_browse.specs.Methods.{formed, dictionary_of, if_method, method_at, methods_in, methods}
 use Rattle.st_browse.specs.Cutting.{codes_of}
 use Rattle.st_browse.specs.Senders.{is_symbol, is_sent, sends, senders}
 use Rattle.st_browse.specs.Replies.{count_text, classes_text, methods_text, code_line, bytecodes_text, senders_text}

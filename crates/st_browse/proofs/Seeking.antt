@@ -1,13 +1,13 @@
 -- What places name, from one on.
-use Rattle.std.proofs.Common.{◌≡◌, ℕ, zero, suc, ◌+◌, ◌-◌, ◌<◌, ◌≤◌, List, [], ◌∷◌, Option, Some, None, Bool, true, false, refl, sym, ap, ◌∙◌, subst, arith}
-use Rattle.std.specs.Prelude.{bytes_eq, if◌then◌else◌, IfSome, option_map}
-use Rattle.std.specs.List.{filter, filter_map, range_with_len, cons_option}
+use Rattle.std.proofs.Common.{◌≡◌, ℕ, zero, suc, ◌+◌, ◌-◌, ◌<◌, ◌≤◌, List, [], Option, Some, None, Bool, true, false, refl, sym, ap, ◌∙◌, arith}
+use Rattle.std.specs.Prelude.{bytes_eq, if◌then◌else◌, IfSome}
+use Rattle.std.specs.List.{filter_map, range_with_len, cons_option}
 use Rattle.st_model.specs.Values.{value}
 use Rattle.st_model.specs.Table.{Table}
 use Rattle.st_browse.specs.declared.named.Named.{Named as NamedRead}
-use Rattle.st_browse.specs.Naming.{Named, in_order, first_named}
-use Rattle.st_browse.specs.Listing.{first, next_in_order, those_left, taken, if_named}
-use Rattle.st_browse.specs.Entries.{IsName, named_if, named_of}
+use Rattle.st_browse.specs.Naming.{Named, first_named}
+use Rattle.st_browse.specs.Listing.{first, next_in_order, taken, if_named}
+use Rattle.st_browse.specs.Entries.{IsName, named_if}
 use Rattle.st_browse.proofs.Ordered.{first_with}
 
 -- of n places, those from one on

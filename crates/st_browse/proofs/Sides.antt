@@ -1,7 +1,6 @@
 -- Classes are there.
-use Rattle.std.proofs.Common.{◌≡◌, ◌≤◌, ℕ, length, Bool, true, false, refl, sym, ap, ◌∙◌}
+use Rattle.std.proofs.Common.{◌≡◌, length, Bool, true, false, refl, sym, ◌∙◌}
 use Rattle.std.specs.Prelude.{◌&&◌, nat_le, if◌then◌else◌}
-use Rattle.st_model.specs.Values.{Value}
 use Rattle.st_model.specs.Objects.{is_pointers}
 use Rattle.st_model.specs.Table.{Table}
 use Rattle.st_model.specs.View.{is_live, object_of}

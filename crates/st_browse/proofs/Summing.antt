@@ -1,8 +1,8 @@
 -- Numbers of names, one after the other, added up.
-use Rattle.std.proofs.Common.{◌≡◌, ℕ, ◌+◌, ◌*◌, ◌≤◌, List, [], ◌∷◌, length, Option, Some, None, Bool, true, false, refl, sym, ap, ◌∙◌, arith}
+use Rattle.std.proofs.Common.{◌≡◌, ℕ, ◌+◌, ◌*◌, ◌≤◌, List, [], ◌∷◌, length, Option, Some, None, Bool, true, false, refl, ap, ◌∙◌, arith}
 use Rattle.std.specs.Prelude.{if◌then◌else◌, sum_by}
 use Rattle.std.proofs.lemmas.List.Sums.{sum_by-cons}
-use Rattle.std.specs.List.{filter, filter_map, range_with_len}
+use Rattle.std.specs.List.{filter}
 use Rattle.st_model.specs.Table.{Table}
 use Rattle.st_browse.specs.Naming.{Named, in_order}
 use Rattle.st_browse.specs.Classes.{is_class}

@@ -1,9 +1,9 @@
 -- The classes of an image: they are named by its table of globals, and by themselves.
-use Rattle.std.specs.Prelude.{ℕ, List, [], Option, Some, None, Bool, true, false, ◌&&◌, option_and_then, option_map, nat_le, filter, if◌then◌else◌}
+use Rattle.std.specs.Prelude.{ℕ, List, [], Option, Some, None, Bool, true, false, ◌&&◌, option_and_then, nat_le, filter, if◌then◌else◌}
 use Rattle.std.specs.List.{filter_map, range_with_len}
 use Rattle.st_model.specs.Values.{Value, Ref}
 use Rattle.st_model.specs.Table.{Table}
-use Rattle.st_model.specs.View.{object_of, is_live}
+use Rattle.st_model.specs.View.{object_of}
 use Rattle.st_names.specs.Tables.{is_text}
 use Rattle.st_names.specs.Texts.{text_at}
 use Rattle.st_browse.specs.Naming.{Named, in_order, first_named}

@@ -1,6 +1,6 @@
 -- What structs of the code mean.
-use Rattle.std.specs.Prelude.{◌≡◌, ℕ, List, [], Option, Some, None, Bool, true, option_map, ◌+◌, ◌*◌, ◌≤◌, length}
-use Rattle.std.specs.List.{filter, filter_map, range_with_len}
+use Rattle.std.specs.Prelude.{◌≡◌, ℕ, List, Option, None, true, option_map, ◌+◌, ◌*◌, ◌≤◌, length}
+use Rattle.std.specs.List.{filter_map, range_with_len}
 use Rattle.st_model.specs.declared.oop.Oop.{Oop}
 use Rattle.st_model.specs.Values.{Value, value}
 use Rattle.st_model.specs.Objects.{is_bytes, is_method}
@@ -13,7 +13,7 @@ use Rattle.st_browse.specs.declared.line.Line.{Line}
 use Rattle.st_browse.specs.declared.line.Line.TheVariants as line
 use Rattle.st_browse.specs.declared.names.Names.{Names}
 use Rattle.st_browse.specs.declared.names.Names.TheVariants.{Nowhere, Globals, Methods}
-use Rattle.st_browse.specs.Naming.{Named, in_order}
+use Rattle.st_browse.specs.Naming.{Named}
 use Rattle.st_browse.specs.Classes.{global_at}
 use Rattle.st_browse.specs.Methods.{Dictionary, method_at}
 

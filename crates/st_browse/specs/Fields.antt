@@ -1,5 +1,5 @@
 -- What stands in an image's objects, or nothing where they haven't the form.
-use Rattle.std.specs.Prelude.{ℕ, List, Option, Some, None, ◌&&◌, option_map, length, slice_get, if◌then◌else◌}
+use Rattle.std.specs.Prelude.{ℕ, Option, Some, None, ◌&&◌, option_map, length, slice_get, if◌then◌else◌}
 use Rattle.st_model.specs.Values.{Value}
 use Rattle.st_model.specs.Objects.{is_pointers}
 use Rattle.st_model.specs.Table.{Table}

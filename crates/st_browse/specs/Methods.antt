@@ -1,6 +1,6 @@
 -- The methods of a class by their selectors. Of a class field 1 is the dictionary. Of a dictionary field 0 is the tally, field 1
 -- the Array of methods, and from field 2 on stand the selectors, each at the place of its method.
-use Rattle.std.specs.Prelude.{ℕ, ◌+◌, ◌-◌, List, [], Option, Some, None, Bool, true, false, ◌&&◌, option_and_then, nat_le, if◌then◌else◌}
+use Rattle.std.specs.Prelude.{ℕ, ◌+◌, ◌-◌, List, [], Option, Some, None, Bool, ◌&&◌, option_and_then, nat_le, if◌then◌else◌}
 use Rattle.std.specs.List.{filter_map, range_with_len}
 use Rattle.st_model.specs.Values.{Value, is_small}
 use Rattle.st_model.specs.Objects.{is_method}

@@ -1,16 +1,15 @@
 -- What is said of an image: of an object, the classes, a class's methods, a method's bytecodes, the senders of a selector.
 -- Each line ends with LF. Names are escaped.
-use Rattle.std.specs.Prelude.{codes, ℕ, ◌+◌, ◌/◌, ◌*◌, List, [], ◌∷◌, ◌++◌, length, Option, Some, None, Bool, true, false, option_map, sum_by}
+use Rattle.std.specs.Prelude.{codes, ℕ, ◌+◌, List, [], ◌∷◌, ◌++◌, length, Option, None, Bool, true, false, option_map, sum_by}
 use Rattle.std.specs.Fmt.{decimal}
 use Rattle.std.specs.List.{flat_map}
 use Rattle.st_model.specs.Values.{Value, Small, Ref}
 use Rattle.st_model.specs.Objects.{Object, first_unit}
 use Rattle.st_model.specs.Table.{Table, entry}
 use Rattle.st_model.specs.Text.{numbers_text, object_text, escaped}
-use Rattle.st_model.specs.View.{View, object_of}
 use Rattle.st_browse.specs.Naming.{Named}
 use Rattle.st_browse.specs.Classes.{classes, class_named, on_side}
-use Rattle.st_browse.specs.Methods.{methods, method_named}
+use Rattle.st_browse.specs.Methods.{methods}
 use Rattle.st_browse.specs.Cutting.{codes_of}
 use Rattle.st_browse.specs.Senders.{senders}
 

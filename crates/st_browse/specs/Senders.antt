@@ -1,5 +1,5 @@
 -- Which methods send a selector: it is one of their literals, or a bytecode names it.
-use Rattle.std.specs.Prelude.{ℕ, ◌+◌, ◌==◌, List, [], ◌∷◌, drop, Option, Some, None, Bool, true, false, ◌||◌, ◌&&◌, filter}
+use Rattle.std.specs.Prelude.{ℕ, ◌+◌, ◌==◌, List, [], ◌∷◌, drop, Option, Some, None, Bool, false, ◌||◌, ◌&&◌, filter}
 use Rattle.std.specs.List.{list_any}
 use Rattle.st_model.specs.Values.{Value}
 use Rattle.st_model.specs.declared.page.PageObject.TheVariants.{SymbolClass}

@@ -1,4 +1,4 @@
-use Rattle.std.proofs.Common.{◌≡◌, ◌≤◌, [], length, drop, ap, arith}
+use Rattle.std.proofs.Common.{◌≡◌, length, drop, ap, arith}
 use Rattle.st_model.specs.Values.{value}
 use Rattle.st_model.specs.View.{object_of}
 use Rattle.st_browse.specs.Cutting.{codes_of}

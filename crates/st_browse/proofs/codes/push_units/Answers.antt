@@ -1,4 +1,4 @@
-use Rattle.std.proofs.Common.{◌+◌, ◌++◌, take, drop, sym, ap}
+use Rattle.std.proofs.Common.{◌++◌, take, drop, ap}
 use Rattle.std.specs.Prelude.{codes}
 use Rattle.std.specs.Fmt.{decimal}
 use Rattle.st_model.specs.Values.{value}

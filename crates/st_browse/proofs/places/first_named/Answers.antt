@@ -1,7 +1,7 @@
 use Rattle.std.proofs.Common.{◌∙◌, sym, ap}
 use Rattle.st_browse.specs.Naming.{first_named}
-use Rattle.st_browse.specs.Entries.{count_of, name_at, names_in, named_of, named_if}
-use Rattle.st_browse.proofs.Seeking.{not_here, found_here, nowhere, from_first, in_count}
+use Rattle.st_browse.specs.Entries.{count_of, name_at, names_in, named_if}
+use Rattle.st_browse.proofs.Seeking.{not_here, in_count}
 use Rattle.st_browse.proofs.places.first_named.Goals as goal
 
 pub loop-i-preserved : goal.loop-i-preserved

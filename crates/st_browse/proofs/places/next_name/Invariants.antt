@@ -1,7 +1,5 @@
-use Rattle.std.proofs.Common.{◌≡◌, ◌-◌, ◌≤◌}
-use Rattle.st_browse.specs.Listing.{first, next_in_order}
-use Rattle.st_browse.specs.Entries.{count_of, name_at, name_if, named_if}
-use Rattle.st_browse.proofs.Seeking.{IsNext, named_from}
+use Rattle.st_browse.specs.Entries.{count_of, name_at, name_if}
+use Rattle.st_browse.proofs.Seeking.{IsNext}
 use Rattle.st_browse.proofs.places.next_name.Given as goal
 
 -- the first of those that the last places name

@@ -1,4 +1,4 @@
-use Rattle.std.proofs.Common.{◌∙◌, ◌+◌, ◌*◌, length, ap}
+use Rattle.std.proofs.Common.{◌∙◌, ◌+◌, ◌*◌, ap}
 use Rattle.std.specs.Prelude.{codes}
 use Rattle.st_model.specs.Values.{value}
 use Rattle.st_model.specs.View.{object_of}
