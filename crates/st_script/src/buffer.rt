@@ -8,9 +8,9 @@ use std::marker::Model;
 /// The bytes of a line, and a carriage return.
 const ROOM: usize = 65_537;
 
-/// At most 65,537 bytes: those of the line that is read, or of the open group's class and category.
+/// At most 65,537 bytes: those of a line that is read, or of a group's class and category.
 #[derive(Drop)]
-pub(crate) struct Buffer {
+pub struct Buffer {
     bytes: Vec<u8>,
 }
 
@@ -27,7 +27,7 @@ impl Model for Buffer {
 
 impl Buffer {
     /// No bytes.
-    pub(crate) fn new(alloc: Global) -> Result<Buffer, AllocError>
+    pub fn new(alloc: Global) -> Result<Buffer, AllocError>
         ensures { IfOk result (λ b. b ≡ []) }
     {
         Ok(Buffer {
@@ -36,7 +36,7 @@ impl Buffer {
     }
 
     /// One byte more.
-    pub(crate) fn push(&mut self, byte: u8)
+    pub fn push(&mut self, byte: u8)
         requires { length self.old ≤ 65536 }
         ensures { self.new ≡ self.old ++ byte ∷ [] }
     {
@@ -55,14 +55,14 @@ impl Buffer {
     }
 
     /// No bytes again.
-    pub(crate) fn clear(&mut self)
+    pub fn clear(&mut self)
         ensures { self.new ≡ [] }
     {
         self.bytes.clear();
     }
 
     /// The bytes.
-    pub(crate) fn as_slice(&self) -> &[u8]
+    pub fn as_slice(&self) -> &[u8]
         ensures { result.now ≡ self.now }
     {
         self.bytes.as_slice()

@@ -10,12 +10,13 @@ ghost use Rattle.st_script.specs.Headings.{before_blanks, FindsHeading, Unquotes
 use crate::buffer::Buffer;
 use crate::line::is_blank;
 
-/// Of what is held of a header: the length of the class's name, before the category, and whether its methods are those
-/// of the class side.
+/// A group's header, of which a buffer holds the class's name, and the category behind it.
 #[derive(Clone, Copy)]
-pub(crate) struct Heading {
-    pub(crate) class_length: usize,
-    pub(crate) meta: bool,
+pub struct Heading {
+    /// The length of the class's name.
+    pub class_length: usize,
+    /// Whether its methods are those of the class side.
+    pub meta: bool,
 }
 
 /// How many blanks stand at the front of a text.
@@ -28,7 +29,7 @@ fn blanks(text: &[u8]) -> usize
 
 /// A text without the blanks at its front.
 #[tactic(auto, using(crate::proofs::Blanks::blanks))]
-fn after_blanks(text: &[u8]) -> &[u8]
+pub fn after_blanks(text: &[u8]) -> &[u8]
     ensures { result.now ≡ after_blanks text.now }
 {
     &text[blanks(text)..]
@@ -50,7 +51,7 @@ fn before_blanks(text: &[u8]) -> &[u8]
 }
 
 /// A text without the blanks at both ends.
-pub(crate) fn trimmed(text: &[u8]) -> &[u8]
+pub fn trimmed(text: &[u8]) -> &[u8]
     ensures { result.now ≡ trimmed text.now }
 {
     before_blanks(after_blanks(text))
@@ -161,8 +162,8 @@ fn hold(bytes: &[u8], held: &mut Buffer)
     }
 }
 
-/// The header that a chunk is, whose class and category are then held; or none.
-pub(crate) fn read_heading(chunk: &[u8], held: &mut Buffer) -> Option<Heading>
+/// The header that a chunk of at most 65,536 bytes is, whose class and category are then held; or none.
+pub fn read_heading(chunk: &[u8], held: &mut Buffer) -> Option<Heading>
     requires { length chunk.now ≤ most }
     ensures { FindsHeading chunk.now held.new result }
 {

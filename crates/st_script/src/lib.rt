@@ -13,7 +13,10 @@ mod reader;
 mod request;
 
 pub use ask::{Ask, Side};
+pub use buffer::Buffer;
+pub use heading::{Heading, after_blanks, read_heading, trimmed};
 pub use laws::lines_by_bytes;
+pub use line::{is_blank, is_empty};
 pub use reader::{Definition, Reader};
 pub use request::Request;
 

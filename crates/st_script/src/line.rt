@@ -11,14 +11,14 @@ use crate::request::Request;
 pub(crate) const MOST: usize = 65_536;
 
 /// Whether a byte is a blank.
-pub(crate) fn is_blank(byte: u8) -> bool
+pub fn is_blank(byte: u8) -> bool
     ensures { result ≡ is_blank byte }
 {
     byte == 9 || byte == 10 || byte == 12 || byte == 13 || byte == 32
 }
 
 /// Whether there are blanks alone.
-pub(crate) fn is_empty(text: &[u8]) -> bool
+pub fn is_empty(text: &[u8]) -> bool
     ensures { result ≡ is_empty text.now }
 {
     text.iter().all(|b| is_blank(*b))
