@@ -1,0 +1,9 @@
+pub mod Words
+pub mod Parts
+pub mod Forms
+pub mod Known
+pub mod Texts
+pub mod Lists
+pub mod Views
+pub mod Reading
+pub mod States
