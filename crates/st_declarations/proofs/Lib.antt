@@ -1,3 +1,4 @@
 pub mod Splitting
 pub mod Listed
 pub mod Cutting
+mod Rows
