@@ -59,7 +59,8 @@ fn method_of<M: Memory>(m: &M, class: Oop, selector: &[u8]) -> Option<Body>
 /// Finds the methods of a class.
 fn seek_methods<'a, M: Memory>(m: &M, side: &Side) -> Option<Sought<'a>>
     ensures sought { let v = M.view m.now in
-        option_map (sought_text v.objects) result ≡ option_map (methods_text v.objects) (class_of_side v side.now) }
+        let found = class_of_side v side.now in
+        option_map (sought_text v.objects) result ≡ option_map (methods_text v.objects) found }
     ensures there { IfSome result (λ s. IsSought (M.view m.now).objects s) }
 {
     let class = class_of_side(m, side)?;
