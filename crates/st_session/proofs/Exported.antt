@@ -1,7 +1,6 @@
 -- How an export ends, from its parts: the store is opened, what it opens as is saved, its image is written, and a line is said.
-use Rattle.std.proofs.Common.{◌≡◌, ◌≢◌, ◌⊎◌, inl, inr, ℕ, ◌≤◌, List, [], ◌∷◌, ◌++◌, length, ◌∙◌, IsTrue, Option, refl, sym, ap, subst, arith, append-nil}
+use Rattle.std.proofs.Common.{◌≡◌, ◌≢◌, ◌⊎◌, inl, inr, ℕ, ◌≤◌, List, [], ◌∷◌, ◌++◌, ◌∙◌, IsTrue, Option, refl, sym, ap, subst, arith, append-nil}
 use Rattle.std.specs.Prelude.{Some, None, Result, Ok, Err, IfErr, All}
-use Rattle.st_outside.specs.Counts.{Rose}
 use Rattle.st_outside.specs.Files.{Files}
 use Rattle.st_outside.specs.Runs.{LeavesOnly, ReadsAlike, ReadsAndSays, Changes, Spares, IsAtRest}
 use Rattle.st_outside.specs.Stops.{SaidPart, WhileSaying}
@@ -33,8 +32,6 @@ use Rattle.st_recover.specs.declared.fault.OpenFault.TheVariants as opening
 use Rattle.st_recover.proofs.Determined.{same_commit}
 use Rattle.st_session.specs.Commands.{last_line, opening_status, SaysLastLine}
 use Rattle.st_session.specs.Ends.{IsCalm, status_in}
-use Rattle.st_session.specs.Keeping.{image_of}
-use Rattle.st_session.specs.Replies.{exported_text}
 use Rattle.st_session.specs.Telling.{Tells}
 use Rattle.st_session.specs.Exports.{Export, exporting, exporting_saved, written, IsOfExporting, IsOfExport, LeavesOthers, HasExported, HasImage, ExportHas, Stays}
 use Rattle.st_session.proofs.Commanded.{cause_between, opens_still}
@@ -178,9 +175,10 @@ module _ {D : Type 0} (host : Ghosts D) (store image : List ℕ) where
       → ReadsAlike host closed new → SaysLastLine host (status_in r) closed new → ExportHas host store image x old new (status_in r)
   export_has x (Ok u) old mid closed new told kind has same quiet low alike line =
       (has_image x.image old mid new (alike.same told image ∙ has.0) same, none_more (host.said closed) (host.said new) (line.part told) ∙ has.1 ∙ ap (λ (t : List ℕ). t ++ x.text) quiet)
-  export_has x (Err status.SayFault) old mid closed new told kind has same quiet low alike line =
-      (has_image x.image old mid new (alike.same told image ∙ has.0) same,
-      subst (SaidPart (host.said old) x.text) (sym (none_more (host.said closed) (host.said new) (line.part told))) (subst (λ (t : List ℕ). SaidPart t x.text (host.said closed)) quiet has.1))
+  export_has x (Err status.SayFault) old mid closed new told kind has same quiet low alike line = (
+    has_image x.image old mid new (alike.same told image ∙ has.0) same,
+    subst (SaidPart (host.said old) x.text) (sym (none_more (host.said closed) (host.said new) (line.part told))) (subst (λ (t : List ℕ). SaidPart t x.text (host.said closed)) quiet has.1),
+  )
   export_has x (Err status.DiskFault) old mid closed new told kind has same quiet low alike line = line_behind status.DiskFault old closed new (has ∙ quiet) low line
   export_has x (Err status.OutOfMemory) old mid closed new told kind has same quiet low alike line = line_behind status.OutOfMemory old closed new (has ∙ quiet) low line
   export_has x (Err status.Done) old mid closed new told kind has same quiet low alike line = absurd kind

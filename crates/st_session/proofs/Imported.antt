@@ -1,5 +1,5 @@
 -- How an import ends, from its parts: the image is read, the store is made, and a line is said.
-use Rattle.std.proofs.Common.{◌≡◌, ◌⊎◌, inl, inr, ⊎_elim, ℕ, ◌≤◌, List, [], ◌++◌, ◌∙◌, IsTrue, Option, refl, sym, ap, subst, arith}
+use Rattle.std.proofs.Common.{◌≡◌, ◌⊎◌, inl, inr, ⊎_elim, ℕ, ◌≤◌, List, ◌++◌, ◌∙◌, IsTrue, refl, sym, ap, subst, arith}
 use Rattle.st_outside.specs.Counts.{Rose}
 use Rattle.st_outside.specs.Files.{Files, bytes_of}
 use Rattle.st_outside.specs.Runs.{LeavesOnly, OnlyReads, ReadsAlike, ReadsAndSays, Spares, IsAtRest}
@@ -7,7 +7,7 @@ use Rattle.st_outside.specs.Stops.{Here, SaidPart, WhileSaying}
 use Rattle.st_outside.specs.Telling.{Says}
 use Rattle.st_outside.specs.declared.host.Host.{Ghosts}
 use Rattle.st_outside.proofs.Joining.{weaker, moments_join}
-use Rattle.st_outside.proofs.Rising.{rose_first, rose_second}
+use Rattle.st_outside.proofs.Rising.{rose_second}
 use Rattle.st_image.specs.declared.head.HeadValues.{HeadValues}
 use Rattle.st_image.specs.HeadValues.{head_over}
 use Rattle.st_model.specs.Start.{start_view}
@@ -21,7 +21,6 @@ use Rattle.st_store.specs.declared.fault.StoreFault.{StoreFault}
 use Rattle.st_store.specs.declared.fault.StoreFault.TheVariants as unmade
 use Rattle.st_course.specs.declared.status.Status.{Status}
 use Rattle.st_course.specs.declared.status.Status.TheVariants as status
-use Rattle.st_recover.specs.Archives.{store_of}
 use Rattle.st_recover.specs.Commits.{Commit, OpensAs, image_with, stored_of}
 use Rattle.st_recover.specs.Creating.{first_commit, IsMade, IsNoFirstFile, AreFirstFiles}
 use Rattle.st_session.specs.declared.image_refusal.ImageRefusal.{ImageRefusal}

@@ -1,9 +1,9 @@
 -- Worked words.
-use Rattle.std.proofs.Common.{◌≡◌, List, [], ◌∷◌, ℕ, refl}
+use Rattle.std.proofs.Common.{◌≡◌, [], ◌∷◌, refl}
 use Rattle.std.specs.Prelude.{codes, Some, None}
 use Rattle.st_image.specs.HeadValues.{no_values}
 use Rattle.st_session.specs.Arguments.{number_said}
-use Rattle.st_session.specs.Words.{command_of, Once, Import, Export, Session}
+use Rattle.st_session.specs.Words.{command_of, Once, Import, Export}
 
 once_of_four : command_of (codes "once" ∷ codes "B" ∷ codes "0000000004" ∷ []) ≡ Some (Once (codes "B") 4)
 unfolding number_said

@@ -1,6 +1,6 @@
 -- The words of the program, without its name: once IMAGE N, import IMAGE STORE with options, export STORE IMAGE, and
 -- session STORE.
-use Rattle.std.specs.Prelude.{ℕ, Bool, true, false, not, ◌||◌, List, [], ◌∷◌, codes, Option, Some, None, is_some, option_map, option_and_then, if◌then◌else◌}
+use Rattle.std.specs.Prelude.{ℕ, Bool, ◌||◌, List, [], ◌∷◌, codes, Option, Some, None, is_some, option_map, option_and_then, if◌then◌else◌}
 use Rattle.st_image.specs.declared.head.HeadValues.{HeadValues}
 use Rattle.st_session.specs.Arguments.{Arguments, arguments_of, spells, number_said}
 

@@ -10,7 +10,10 @@ use st_image::HeadValues;
 #[derive(Clone, Copy)]
 pub enum Command<'a> {
     /// The report of so many cycles of an image.
-    Once { image: &'a str, cycles: u32 },
+    Once {
+        image: &'a str,
+        cycles: u32,
+    },
     /// The making of a store of an image, with these values in place of those in its head.
     Import {
         image: &'a str,
@@ -18,9 +21,14 @@ pub enum Command<'a> {
         over: HeadValues,
     },
     /// The writing of an image of what a store holds.
-    Export { store: &'a str, image: &'a str },
+    Export {
+        store: &'a str,
+        image: &'a str,
+    },
     /// A session over a store.
-    Session { store: &'a str },
+    Session {
+        store: &'a str,
+    },
 }
 
 /// The most cycles that one run may have.

@@ -1,4 +1,4 @@
-use Rattle.std.proofs.Common.{◌≡◌, ◌≢◌, ◌≤◌, ◌⊎◌, List, ℕ, IsTrue, inl, inr, refl, sym, ap, subst, arith}
+use Rattle.std.proofs.Common.{◌≡◌, ◌≢◌, ◌⊎◌, IsTrue, inl, inr, sym, subst, arith}
 use Rattle.st_outside.specs.Counts.{Rose}
 use Rattle.st_outside.proofs.Touching.{spares_join, spares_fewer}
 use Rattle.st_store.specs.Names.{IsNoFileOf}
@@ -7,7 +7,7 @@ use Rattle.st_course.specs.declared.status.Status.TheVariants as status
 use Rattle.st_course.specs.Statuses.{StatusHasCause}
 use Rattle.st_session.specs.Commands.{SaysLastLine}
 use Rattle.st_session.specs.Ends.{status_in}
-use Rattle.st_session.specs.Exports.{export_of, IsOfExport, ExportHas, ExportEnds}
+use Rattle.st_session.specs.Exports.{export_of, IsOfExport, ExportEnds}
 use Rattle.st_session.proofs.Commanded.{cause_between, opening_cause, refused_line, refused_moments, refused_whole}
 use Rattle.st_session.proofs.Exported.{caused_in, done_or_full, kind_in, kind_unopened, export_has, exported_stays, refused_stays, names_said}
 use Rattle.st_session.proofs.exporting.export.Goals as goal

@@ -1,5 +1,4 @@
-use Rattle.std.proofs.Common.{◌≡◌, ◌∙◌, refl, sym, subst, arith}
-use Rattle.st_model.specs.Births.{Births}
+use Rattle.std.proofs.Common.{◌≡◌, ◌∙◌, sym, subst}
 use Rattle.st_model.specs.Machine.{State, empty_world}
 use Rattle.st_model.specs.Objects.{nil}
 use Rattle.st_model.specs.Show.{Shows}

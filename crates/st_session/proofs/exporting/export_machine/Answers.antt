@@ -1,4 +1,4 @@
-use Rattle.std.proofs.Common.{◌≡◌, IsTrue, refl, sym, subst}
+use Rattle.std.proofs.Common.{refl, subst}
 use Rattle.st_model.specs.Births.{births}
 use Rattle.std.specs.Prelude.{None}
 use Rattle.st_model.specs.Saving.{save}

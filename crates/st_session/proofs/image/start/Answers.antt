@@ -1,4 +1,4 @@
-use Rattle.std.proofs.Common.{IsTrue, List, ℕ, sym, subst}
+use Rattle.std.proofs.Common.{IsTrue, sym, subst}
 use Rattle.st_outside.specs.Files.{bytes_of}
 use Rattle.st_model.specs.Image.{image_head}
 use Rattle.st_model.specs.View.{View}

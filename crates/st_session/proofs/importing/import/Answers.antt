@@ -1,4 +1,4 @@
-use Rattle.std.proofs.Common.{◌≡◌, List, ℕ, ◌++◌, ◌∙◌, IsTrue, inl, Err, refl, sym, ap, subst}
+use Rattle.std.proofs.Common.{◌≡◌, List, ℕ, ◌++◌, ◌∙◌, IsTrue, inl, Err, refl, ap, subst}
 use Rattle.st_outside.specs.Counts.{Rose}
 use Rattle.st_outside.specs.Files.{bytes_of}
 use Rattle.st_outside.specs.Runs.{LeavesOnly, IsAtRest}
