@@ -7,7 +7,7 @@ use Rattle.st_outside.specs.Telling.{Says}
 use Rattle.st_model.specs.Table.{Table}
 use Rattle.st_store.specs.Stored.{StoreState}
 use Rattle.st_recover.specs.Commits.{Commit, OpensAs}
-use Rattle.st_recover.specs.Creating.{first_commit, IsMade, AreFirstFiles}
+use Rattle.st_recover.specs.Creating.{IsMade, AreFirstFiles}
 use Rattle.st_recover.proofs.Images.{image_readable}
 use Rattle.st_session.specs.Imports.{imported, imported_text, imported_line}
 use Rattle.st_session.proofs.Imported.{Tries, same_commit, kept_rests, quiet, say_same, done_moments, done_alone, is_imported, failed_moments, failed_alone, failed_has, failed_whole, refused_moments, refused_alone, refused_has, refused_whole, line_behind}
