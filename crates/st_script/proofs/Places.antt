@@ -1,6 +1,6 @@
 -- In a script that is read, headers and methods stay as `IsDefinition` asks, only a definition is asked for as one, and only
 -- a line that asks to look at something is asked for as that.
-use Rattle.std.proofs.Common.{◌≡◌, ℕ, ◌≤◌, Bool, true, false, List, [], ◌∷◌, ◌++◌, length, refl, sym, ap, subst, arith}
+use Rattle.std.proofs.Common.{◌≡◌, ℕ, ◌≤◌, Bool, true, false, List, [], ◌∷◌, ◌++◌, length, refl, ap, subst, arith}
 use Rattle.std.proofs.lemmas.Bool.Decides.{nat_tests}
 use Rattle.std.specs.Prelude.{IfSome, ◌==◌, ◌&&◌, not, nat_le, nat_lt, if◌then◌else◌, Option, Some, None, codes}
 use Rattle.std.specs.Option.{option_map, option_and_then, option_or, is_some, unwrap_or}
@@ -14,8 +14,8 @@ use Rattle.st_chunk.specs.Groups.{Header, header_of}
 use Rattle.st_script.specs.declared.request.Request.{Request}
 use Rattle.st_script.specs.declared.request.Request.TheVariants.{Run, Input, Mouse, Clock, Tick, State as ShowState, Used, Snapshot, Browse, End, Define, Wrong}
 use Rattle.st_script.specs.Asks.{Ask}
-use Rattle.st_script.specs.Lines.{IsInRange, digits_after, at_most, number, is_word, place_of, mouse_at, with_arguments, alone, by_words, first_word, arguments, line_ask, in_grammar, line_request, without_return}
-use Rattle.st_script.specs.Reading.{Place, InLine, Browsed, Opened, InHeader, InMethods, Defined, CutOff, InBlanks, BehindBlanks, Over, Reading, Told, line_behind, line_from, over, wrong, is_last, behind_line, line_asking, line_ended, line_byte, begun, opened_byte, start_with, too_long, blanks_byte, behind_blanks_byte, header_ended, header_told, method_ended, method_told, byte_in, read, header_at_end, last_header, method_at_end, end_in, end_read}
+use Rattle.st_script.specs.Lines.{IsInRange, digits_after, at_most, number, is_word, place_of, mouse_at, with_arguments, alone, by_words, first_word, arguments, line_ask, line_request, without_return}
+use Rattle.st_script.specs.Reading.{Place, InLine, Browsed, Opened, InHeader, InMethods, Defined, CutOff, InBlanks, BehindBlanks, Over, Reading, Told, line_behind, line_from, over, wrong, behind_line, line_asking, line_ended, line_byte, begun, opened_byte, start_with, too_long, blanks_byte, behind_blanks_byte, header_ended, header_told, method_ended, method_told, byte_in, read, header_at_end, last_header, method_at_end, end_in, end_read}
 use Rattle.st_script.specs.Scripts.{IsBrowsed, IsDefined, IsHeading, IsSound}
 use Rattle.st_script.proofs.Fed.{short_fed}
 use Rattle.st_script.proofs.Sound.{heading_sound, method_sound}

@@ -4,7 +4,7 @@ ghost use Rattle.st_chunk.specs.declared.cutting.Phase.TheVariants.{Within, Mark
 ghost use Rattle.st_chunk.specs.Texts.{most};
 ghost use Rattle.st_chunk.specs.Feeding.{MayGoOn, IsTold, last_answer};
 ghost use Rattle.st_chunk.specs.Groups.{header_of};
-ghost use Rattle.st_script.specs.Reading.{is_last, wrong, over, line_ended, line_byte, opened_byte, too_long, header_ended, header_byte};
+ghost use Rattle.st_script.specs.Reading.{is_last, wrong, line_ended, line_byte, opened_byte, too_long, header_ended, header_byte};
 ghost use Rattle.st_script.specs.Reading.{method_ended, method_byte, blanks_byte, behind_blanks_byte, header_at_end, method_at_end};
 ghost use Rattle.st_script.specs.Reading.{byte_in, read, end_read};
 ghost use Rattle.st_script.specs.Progress.{heading_of, place_in, reading_of, Tells, IsKept};
