@@ -3,7 +3,7 @@ use Rattle.std.proofs.Common.{◌≡◌, ℕ, false, List, [], ◌∷◌, refl}
 use Rattle.std.specs.Prelude.{codes, Option, Some, None}
 use Rattle.st_script.specs.declared.request.Request.{Request}
 use Rattle.st_script.specs.declared.request.Request.TheVariants.{Run, Input, Mouse, Clock, Tick, State, Used, Snapshot, Browse, End, Wrong}
-use Rattle.st_script.specs.Asks.{Object, Display, Classes, Methods, Source, Bytecodes, Senders, instance_side, class_side}
+use Rattle.st_script.specs.Asks.{Object, Classes, Methods, Bytecodes, Senders, instance_side, class_side}
 use Rattle.st_script.specs.Lines.{number, with_arguments, alone, ask_with, ask_alone, line_ask, line_request}
 use Rattle.st_script.specs.Reading.{read, end_read}
 use Rattle.st_script.specs.Scripts.{Asked, Asks, Browses, Defines, asked}
@@ -118,10 +118,6 @@ object_too_far : line_ask (codes "object 65536") ≡ None
 unfolding line_ask ask_with number
 object_too_far = refl
 
-display : line_ask (codes "display") ≡ Some Display
-unfolding line_ask ask_alone
-display = refl
-
 classes : line_ask (codes "classes") ≡ Some Classes
 unfolding line_ask ask_alone
 classes = refl
@@ -146,12 +142,8 @@ methods_alone : line_ask (codes "methods") ≡ None
 unfolding line_ask ask_alone
 methods_alone = refl
 
-source : line_ask (codes "source Point x") ≡ Some (Source (instance_side (codes "Point")) (codes "x"))
-unfolding line_ask ask_with
-source = refl
-
 -- the last word is the selector
-selector_class : line_ask (codes "source Point class") ≡ Some (Source (instance_side (codes "Point")) (codes "class"))
+selector_class : line_ask (codes "bytecodes Point class") ≡ Some (Bytecodes (instance_side (codes "Point")) (codes "class"))
 unfolding line_ask ask_with
 selector_class = refl
 
@@ -159,7 +151,7 @@ bytecodes : line_ask (codes "bytecodes Point class x:y:") ≡ Some (Bytecodes (c
 unfolding line_ask ask_with
 bytecodes = refl
 
-no_selector : line_ask (codes "source Point class ") ≡ None
+no_selector : line_ask (codes "bytecodes Point class ") ≡ None
 unfolding line_ask ask_with
 no_selector = refl
 
@@ -171,7 +163,7 @@ senders_of_two : line_ask (codes "senders x y") ≡ None
 unfolding line_ask ask_with
 senders_of_two = refl
 
-asks_to_look : line (codes "display") ≡ Some Browse
+asks_to_look : line (codes "classes") ≡ Some Browse
 unfolding line_request line_ask alone ask_alone
 asks_to_look = refl
 
@@ -183,8 +175,8 @@ unfolding read line_request line_ask with_arguments alone ask_with ask_alone num
 lines = refl
 
 -- the last line has no end
-asks : asked (codes "display\r\nused\nmethods A class\n!A methodsFor: 'a'! !source A x")
-    ≡ Browses Display ∷ Asks Used ∷ Browses (Methods (class_side (codes "A"))) ∷ Browses (Source (instance_side (codes "A")) (codes "x")) ∷ []
+asks : asked (codes "classes\r\nused\nmethods A class\n!A methodsFor: 'a'! !bytecodes A x")
+    ≡ Browses Classes ∷ Asks Used ∷ Browses (Methods (class_side (codes "A"))) ∷ Browses (Bytecodes (instance_side (codes "A")) (codes "x")) ∷ []
 unfolding read line_request line_ask with_arguments alone ask_with ask_alone number end_read
 asks = refl
 

@@ -12,14 +12,10 @@ pub struct Side<'a> {
 pub enum Ask<'a> {
     /// `object ID`: the object of this pointer, which is even and from 2 to 65534.
     Object(u16),
-    /// `display`: the form that is shown.
-    Display,
     /// `classes`: the names of all classes.
     Classes,
     /// `methods C`: the selectors of a class's methods.
     Methods(Side<'a>),
-    /// `source C S`: the text of a class's method of this selector.
-    Source(Side<'a>, &'a [u8]),
     /// `bytecodes C S`: the bytecodes of a class's method of this selector.
     Bytecodes(Side<'a>, &'a [u8]),
     /// `senders S`: the methods that send this selector.

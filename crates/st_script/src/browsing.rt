@@ -101,10 +101,6 @@ fn ask_with<'a>(word: &[u8], text: &'a [u8]) -> Option<Ask<'a>>
     if word == b"methods".as_slice() {
         return Some(Ask::Methods(side_in(text)?));
     }
-    if word == b"source".as_slice() {
-        let (side, selector) = method_in(text)?;
-        return Some(Ask::Source(side, selector));
-    }
     if word == b"bytecodes".as_slice() {
         let (side, selector) = method_in(text)?;
         return Some(Ask::Bytecodes(side, selector));
@@ -120,9 +116,6 @@ fn ask_with<'a>(word: &[u8], text: &'a [u8]) -> Option<Ask<'a>>
 fn ask_alone(word: &[u8]) -> Option<Ask<'_>>
     ensures { option_map ask_of result ≡ ask_alone word.now }
 {
-    if word == b"display".as_slice() {
-        return Some(Ask::Display);
-    }
     if word == b"classes".as_slice() {
         return Some(Ask::Classes);
     }

@@ -44,13 +44,11 @@ fn add_ask(told: &mut String, alloc: Global, ask: Ask<'_>) -> Result<(), AllocEr
             let name = format!(in alloc; "Object({pointer})")?;
             told.push_str(&name)?;
         }
-        Ask::Display => told.push_str("Display")?,
         Ask::Classes => told.push_str("Classes")?,
         Ask::Methods(side) => {
             told.push_str("Methods ")?;
             add_side(told, alloc, side)?;
         }
-        Ask::Source(side, selector) => add_method(told, alloc, "Source ", side, selector)?,
         Ask::Bytecodes(side, selector) => add_method(told, alloc, "Bytecodes ", side, selector)?,
         Ask::Senders(selector) => {
             told.push_str("Senders ")?;
@@ -134,8 +132,8 @@ const SCRIPTS: [(&[u8], &str); 27] = [
     (b"!A methodsFor: ''! !\n!B methodsFor: ''!x! !", "B, , x; "),
     (b"used\n\nhop\nused\n", "Used; Wrong(3); "),
     (
-        b"source A x\ndisplay\r\n\nused\nmethods A class\n!B methodsFor: ''! !senders x\r",
-        "Source A, x; Display; Used; Methods A class, ; Senders x\r; ",
+        b"bytecodes A x\nclasses\r\n\nused\nmethods A class\n!B methodsFor: ''! !senders x\r",
+        "Bytecodes A, x; Classes; Used; Methods A class, ; Senders x\r; ",
     ),
     (
         b"classes\n!P methodsFor: 'a'!\nx! !object 2\nend\nclasses",
@@ -173,7 +171,7 @@ fn scripts_ask(rt: HostRuntime) -> Result<(), Fail> {
 }
 
 /// Lines, and what each asks to look at.
-const ASKS: [(&[u8], &str); 43] = [
+const ASKS: [(&[u8], &str); 40] = [
     (b"object 2", "Object(2); "),
     (b"object 65534", "Object(65534); "),
     (b"object 0000000060", "Object(60); "),
@@ -187,10 +185,8 @@ const ASKS: [(&[u8], &str); 43] = [
     (b"object 60 ", "Wrong(1); "),
     (b"object @60", "Wrong(1); "),
     (b" object 60", "Wrong(1); "),
-    (b"display", "Display; "),
-    (b"display ", "Wrong(1); "),
-    (b"display 1", "Wrong(1); "),
     (b"classes", "Classes; "),
+    (b"classes ", "Wrong(1); "),
     (b"classes Point", "Wrong(1); "),
     (b"methods Point", "Methods Point, ; "),
     (b"methods A class", "Methods A class, ; "),
@@ -202,14 +198,13 @@ const ASKS: [(&[u8], &str); 43] = [
     (b"methods A class x", "Wrong(1); "),
     (b"methods 1A", "Wrong(1); "),
     (b"methods A_", "Wrong(1); "),
-    (b"source A x", "Source A, x; "),
-    (b"source A class", "Source A, class; "),
-    (b"source A class x", "Source A class, x; "),
-    (b"source A class class", "Source A class, class; "),
-    (b"source A", "Wrong(1); "),
-    (b"source A ", "Wrong(1); "),
-    (b"source A x y", "Wrong(1); "),
-    (b"source A class x y", "Wrong(1); "),
+    (b"bytecodes A class", "Bytecodes A, class; "),
+    (b"bytecodes A class x", "Bytecodes A class, x; "),
+    (b"bytecodes A class class", "Bytecodes A class, class; "),
+    (b"bytecodes A", "Wrong(1); "),
+    (b"bytecodes A ", "Wrong(1); "),
+    (b"bytecodes A x y", "Wrong(1); "),
+    (b"bytecodes A class x y", "Wrong(1); "),
     (b"bytecodes A at:put:", "Bytecodes A, at:put:; "),
     (b"bytecodes A class //", "Bytecodes A class, //; "),
     (b"bytecodes A class ", "Wrong(1); "),
