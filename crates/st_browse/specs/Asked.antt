@@ -1,11 +1,9 @@
 -- What an image answers to what is asked of it; nothing where what is asked for is missing.
 use Rattle.std.specs.Prelude.{ℕ, List, Option, Some, None, option_map, option_and_then, if◌then◌else◌}
-use Rattle.st_model.specs.Values.{Value, value}
+use Rattle.st_model.specs.Values.{Value, value_of}
 use Rattle.st_model.specs.Table.{Table}
 use Rattle.st_model.specs.View.{View, object_of}
-use Rattle.st_browse.specs.declared.ask.Side.{Side}
-use Rattle.st_browse.specs.declared.ask.Ask.{Ask}
-use Rattle.st_browse.specs.declared.ask.Ask.TheVariants as ask
+use Rattle.st_script.specs.Asks.{Side, Ask, Object, Classes, Methods, Bytecodes, Senders}
 use Rattle.st_browse.specs.Naming.{Named}
 use Rattle.st_browse.specs.Classes.{classes}
 use Rattle.st_browse.specs.Methods.{has_method, method_named}
@@ -13,7 +11,7 @@ use Rattle.st_browse.specs.Replies.{object_reply, classes_text, methods_text, si
 
 -- the class that a side names
 abbrev pub class_of_side : View → Side → Option Value
-class_of_side v side = side_named v.objects v.head.globals side.class.items side.meta
+class_of_side v side = side_named v.objects v.head.globals side.class side.meta
 
 abbrev pub bytecodes_of : Table → Named → Option (List ℕ)
 bytecodes_of t n = if has_method t n.value then Some (bytecodes_text (object_of t n.value)) else None
@@ -23,8 +21,8 @@ abbrev pub bytecodes_in : Table → List ℕ → Value → Option (List ℕ)
 bytecodes_in t selector class = option_and_then (bytecodes_of t) (method_named t class selector)
 
 unfoldable pub reply : View → Ask → Option (List ℕ)
-reply v (ask.Object o) = object_reply v.objects (value o)
-reply v ask.Classes = Some (classes_text v.objects v.head.globals)
-reply v (ask.Methods side) = option_map (methods_text v.objects) (class_of_side v side)
-reply v (ask.Bytecodes side selector) = option_and_then (bytecodes_in v.objects selector.items) (class_of_side v side)
-reply v (ask.Senders selector) = Some (senders_text v.objects selector.items (classes v.objects v.head.globals))
+reply v (Object pointer) = object_reply v.objects (value_of pointer)
+reply v Classes = Some (classes_text v.objects v.head.globals)
+reply v (Methods side) = option_map (methods_text v.objects) (class_of_side v side)
+reply v (Bytecodes side selector) = option_and_then (bytecodes_in v.objects selector) (class_of_side v side)
+reply v (Senders selector) = Some (senders_text v.objects selector (classes v.objects v.head.globals))

@@ -3,7 +3,6 @@
 //! `specs/Replies.antt`.
 #![tactic(auto)]
 
-mod ask;
 mod choice;
 mod classes;
 mod codes;
@@ -21,5 +20,4 @@ mod senders;
 mod sending;
 mod sought;
 
-pub use ask::{Ask, Side};
 pub use saying::browse;

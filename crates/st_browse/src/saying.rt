@@ -8,6 +8,7 @@ ghost use Rattle.st_outside.specs.Counts.{HasCause};
 ghost use Rattle.st_outside.specs.Runs.{SaysAll};
 ghost use Rattle.st_outside.specs.Telling.{Says};
 ghost use Rattle.st_report.specs.Saying.{Pushes};
+ghost use Rattle.st_script.specs.Asks.{ask_of};
 ghost use Rattle.st_browse.specs.Naming.{in_order};
 ghost use Rattle.st_browse.specs.Classes.{is_class};
 ghost use Rattle.st_browse.specs.Listing.{lines_text, listed};
@@ -16,7 +17,6 @@ ghost use Rattle.st_browse.specs.Asked.{reply};
 ghost use Rattle.st_browse.specs.Entries.{IsBody, IsLine, count_of, names_in};
 ghost use Rattle.st_browse.specs.Founds.{IsSought, sought_text};
 
-use crate::ask::Ask;
 use crate::choice::Choice;
 use crate::codes::{Body, count_codes, push_codes};
 use crate::line::Line;
@@ -27,6 +27,7 @@ use crate::sought::{Sought, seek};
 use st_memory::Memory;
 use st_outside::{Host, SayFault};
 use st_report::{Output, push_long_line, push_object};
+use st_script::Ask;
 
 /// Adds how many names are chosen, and the line of each.
 fn push_names<H: Host, M: Memory>(
@@ -128,11 +129,11 @@ fn say_sought<H: Host, M: Memory>(m: &M, sought: Sought<'_>, host: &mut H) -> Re
 
 /// Says what an image answers to what is asked of it, and whether what is asked for is there: where it is missing, nothing is
 /// said. After an error some first bytes of the answer were said, or none or all.
-pub fn browse<H: Host, M: Memory>(m: &M, ask: &Ask, host: &mut H) -> Result<bool, SayFault>
-    ensures there { IfOk result (λ b. b ≡ is_some (reply (M.view m.now) ask.now)) }
-    ensures all { let text = unwrap_or (reply (M.view m.now) ask.now) [] in
+pub fn browse<H: Host, M: Memory>(m: &M, ask: Ask<'_>, host: &mut H) -> Result<bool, SayFault>
+    ensures there { IfOk result (λ b. b ≡ is_some (reply (M.view m.now) (ask_of ask.entry))) }
+    ensures all { let text = unwrap_or (reply (M.view m.now) (ask_of ask.entry)) [] in
         OnOk result (SaysAll H.Host.own text host.old host.new) }
-    ensures says { let text = unwrap_or (reply (M.view m.now) ask.now) [] in
+    ensures says { let text = unwrap_or (reply (M.view m.now) (ask_of ask.entry)) [] in
         Says H.Host.own text host.old host.new }
     ensures cause { HasCause (H.say_faults host.old) (H.say_faults host.new) result }
 {

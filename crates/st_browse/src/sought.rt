@@ -3,12 +3,12 @@
 ghost use Rattle.std.specs.Prelude.{◌≡◌, IfSome, option_and_then, option_map};
 ghost use Rattle.st_model.specs.Values.{value};
 ghost use Rattle.st_names.specs.Texts.{found};
+ghost use Rattle.st_script.specs.Asks.{ask_of, side_of};
 ghost use Rattle.st_browse.specs.Replies.{methods_text, object_reply};
 ghost use Rattle.st_browse.specs.Asked.{bytecodes_in, class_of_side, reply};
 ghost use Rattle.st_browse.specs.Entries.{IsBody};
 ghost use Rattle.st_browse.specs.Founds.{IsSought, body_text, sought_text};
 
-use crate::ask::{Ask, Side};
 use crate::classes::{globals, is_class, on_side};
 use crate::codes::{Body, body_of};
 use crate::methods::methods_of;
@@ -16,6 +16,7 @@ use crate::names::Names;
 use crate::places::first_named;
 use st_memory::Memory;
 use st_model::Oop;
+use st_script::{Ask, Side};
 
 /// What is asked for, where it is in the image.
 #[derive(Clone, Copy)]
@@ -34,10 +35,10 @@ pub enum Sought<'a> {
 
 /// The class that a side names.
 #[tactic(auto, using(crate::proofs::Sides::sides), unfolding(crate::specs::Classes::class_named))]
-fn class_of_side<M: Memory>(m: &M, side: &Side) -> Option<Oop>
-    ensures { let v = M.view m.now in found result ≡ class_of_side v side.now }
+fn class_of_side<M: Memory>(m: &M, side: Side<'_>) -> Option<Oop>
+    ensures { let v = M.view m.now in found result ≡ class_of_side v (side_of side.entry) }
 {
-    let n = first_named(m, globals(m), &side.class)?;
+    let n = first_named(m, globals(m), side.class)?;
     if is_class(m, n) {
         Some(on_side(m, n.value, side.meta))
     } else {
@@ -57,9 +58,9 @@ fn method_of<M: Memory>(m: &M, class: Oop, selector: &[u8]) -> Option<Body>
 }
 
 /// Finds the methods of a class.
-fn seek_methods<'a, M: Memory>(m: &M, side: &Side) -> Option<Sought<'a>>
+fn seek_methods<'a, M: Memory>(m: &M, side: Side<'_>) -> Option<Sought<'a>>
     ensures sought { let v = M.view m.now in
-        let found = class_of_side v side.now in
+        let found = class_of_side v (side_of side.entry) in
         option_map (sought_text v.objects) result ≡ option_map (methods_text v.objects) found }
     ensures there { IfSome result (λ s. IsSought (M.view m.now).objects s) }
 {
@@ -68,9 +69,9 @@ fn seek_methods<'a, M: Memory>(m: &M, side: &Side) -> Option<Sought<'a>>
 }
 
 /// Finds the bytecodes of a class's method for a selector.
-fn seek_bytecodes<'a, M: Memory>(m: &M, side: &Side, selector: &[u8]) -> Option<Sought<'a>>
+fn seek_bytecodes<'a, M: Memory>(m: &M, side: Side<'_>, selector: &[u8]) -> Option<Sought<'a>>
     ensures sought { let v = M.view m.now in
-        let found = class_of_side v side.now in
+        let found = class_of_side v (side_of side.entry) in
         option_map (sought_text v.objects) result ≡ option_and_then (bytecodes_in v.objects selector.now) found }
     ensures there { IfSome result (λ s. IsSought (M.view m.now).objects s) }
 {
@@ -94,13 +95,13 @@ fn seek_object<'a, M: Memory>(m: &M, o: Oop) -> Option<Sought<'a>>
 
 /// Finds what is asked for.
 #[tactic(auto, unfolding(crate::specs::Asked::reply))]
-pub fn seek<'a, M: Memory>(m: &M, ask: &'a Ask) -> Option<Sought<'a>>
+pub fn seek<'a, M: Memory>(m: &M, ask: Ask<'a>) -> Option<Sought<'a>>
     ensures sought { let v = M.view m.now in
-        option_map (sought_text v.objects) result ≡ reply v ask.now }
+        option_map (sought_text v.objects) result ≡ reply v (ask_of ask.entry) }
     ensures there { IfSome result (λ s. IsSought (M.view m.now).objects s) }
 {
     match ask {
-        Ask::Object(o) => seek_object(m, *o),
+        Ask::Object(pointer) => seek_object(m, Oop(pointer)),
         Ask::Classes => Some(Sought::Classes(globals(m))),
         Ask::Methods(side) => seek_methods(m, side),
         Ask::Bytecodes(side, selector) => seek_bytecodes(m, side, selector),

@@ -1,4 +1,5 @@
-use Rattle.std.proofs.Common.{Some, ap, sym, ◌∙◌}
+use Rattle.std.proofs.Common.{Some, refl, ap, sym, ◌∙◌}
+use Rattle.st_script.specs.Asks.{ask_of}
 use Rattle.st_browse.specs.Asked.{reply}
 use Rattle.st_browse.proofs.Found.{classes_listed, classes_asked}
 use Rattle.st_browse.proofs.sought.seek.Goals as goal
@@ -7,11 +8,12 @@ pub returns-in-Classes-clause-sought : goal.returns-in-Classes-clause-sought
 unfolding reply
 returns-in-Classes-clause-sought g c =
     let v = g.M.Memory.view c.args.m.now in
-    ap Some (classes_listed v.objects c.globals.result v.head.globals c.globals.ensures.globals) ∙ ap (reply v) (sym c.in-Classes.is)
+    ap Some (classes_listed v.objects c.globals.result v.head.globals c.globals.ensures.globals) ∙ ap (λ a. reply v (ask_of a)) (sym c.in-Classes.is)
 
 pub returns-in-Senders-clause-sought : goal.returns-in-Senders-clause-sought
 unfolding reply
 returns-in-Senders-clause-sought g c =
     let v = g.M.Memory.view c.args.m.now in
-    ap Some (classes_asked v.objects c.deref-in-Senders.result.now c.in-Senders.selector.items c.globals-in-Senders.result v.head.globals c.globals-in-Senders.ensures.globals c.deref-in-Senders.ensures.value)
-    ∙ ap (reply v) (sym c.in-Senders.is)
+    let selector = c.in-Senders.selector.now in
+    ap Some (classes_asked v.objects selector selector c.globals-in-Senders.result v.head.globals c.globals-in-Senders.ensures.globals refl)
+    ∙ ap (λ a. reply v (ask_of a)) (sym c.in-Senders.is)
