@@ -25,6 +25,7 @@ use Rattle.st_course.specs.declared.status.Status.{Status}
 use Rattle.st_course.specs.declared.status.Status.TheVariants as status
 use Rattle.st_course.specs.Statuses.{StatusHasCause, EndHasCause, Counts}
 use Rattle.st_course.proofs.Counting.{front_of}
+use Rattle.st_recover.specs.Images.{IsReadable}
 use Rattle.st_recover.specs.Commits.{Commit, OpensAs, all_of, stored_of, image_with}
 use Rattle.st_recover.specs.Openings.{RefusesOpening, IsOfReopening}
 use Rattle.st_recover.specs.declared.fault.OpenFault.{OpenFault}
@@ -192,8 +193,8 @@ module _ {D : Type 0} (host : Ghosts D) (store image : List ℕ) where
   -- THE STORE STAYS
 
   -- a kept store opens from files of which its own are as a stop may leave them
-  kept_opens : (h : D) (s : StoreState) (slot : ℕ) (c : Commit) → s.name ≡ store → IsKept host h s (stored_of slot c) → IsNoFileOf store image → (f : Files) → ((n : List ℕ) → n ≢ image → host.may_leave h n (f n)) → OpensAs store c f
-  kept_opens h s slot c named kept apart f can = subst (λ (n : List ℕ). OpensAs n c f) named (record {
+  kept_opens : (h : D) (s : StoreState) (slot : ℕ) (c : Commit) → s.name ≡ store → IsReadable c.image → IsKept host h s (stored_of slot c) → IsNoFileOf store image → (f : Files) → ((n : List ℕ) → n ≢ image → host.may_leave h n (f n)) → OpensAs store c f
+  kept_opens h s slot c named readable kept apart f can = subst (λ (n : List ℕ). OpensAs n c f) named (record {
     slot = slot;
     opens = record {
       number = s.chosen;
@@ -202,6 +203,7 @@ module _ {D : Type 0} (host : Ghosts D) (store image : List ℕ) where
       image = kept.is.firm.image (f _) (can _ (λ e. apart.image slot (sym e ∙ ap (λ (n : List ℕ). image_file n slot) named)));
       changes = kept.is.firm.changes (f _) (can _ (λ e. apart.changes (sym e ∙ ap changes_file named)));
     };
+    readable = readable;
   })
 
   pub exported_stays : (c d : Commit) (s : StoreState) (slot : ℕ) (text : List ℕ) (old mid closed new : D) → IsNoFileOf store image → All IsDefinition (all_of c) → IsAtRest host (OpensAs store) c old
@@ -209,7 +211,7 @@ module _ {D : Type 0} (host : Ghosts D) (store image : List ℕ) where
       → IsTrue host.is_told → LeavesOnly host old mid (λ f t. (t ≡ host.said old) × IsOpening host old store f) → LeavesOthers host image mid closed → ReadsAndSays host text closed new → Stays host store c old new
   exported_stays c d s slot text old mid closed new apart good rest reads same_good opened named kept told moments others line =
       let one = same_commit store d c (host.files old) same_good good opened (rest.opens_as (host.files old) reads) in
-      let at : (f : Files) → ((n : List ℕ) → n ≢ image → host.may_leave mid n (f n)) → OpensAs store c f = λ f can. subst (λ (x : Commit). OpensAs store x f) one (kept_opens mid s slot d named kept apart f can) in
+      let at : (f : Files) → ((n : List ℕ) → n ≢ image → host.may_leave mid n (f n)) → OpensAs store c f = λ f can. subst (λ (x : Commit). OpensAs store x f) one (kept_opens mid s slot d named opened.readable kept apart f can) in
       record {
         moments = moments_join host old closed new (λ f t. OpensAs store c f) (WhileSaying (host.may_leave closed) (host.said closed) text)
             (moments_join host old mid closed (λ f t. OpensAs store c f) (Others host image mid)

@@ -21,6 +21,7 @@ use Rattle.st_store.specs.declared.fault.StoreFault.{StoreFault}
 use Rattle.st_store.specs.declared.fault.StoreFault.TheVariants as unmade
 use Rattle.st_course.specs.declared.status.Status.{Status}
 use Rattle.st_course.specs.declared.status.Status.TheVariants as status
+use Rattle.st_recover.specs.Images.{IsReadable}
 use Rattle.st_recover.specs.Commits.{Commit, OpensAs, image_with, stored_of}
 use Rattle.st_recover.specs.Creating.{first_commit, IsMade, IsNoFirstFile, AreFirstFiles}
 use Rattle.st_session.specs.declared.image_refusal.ImageRefusal.{ImageRefusal}
