@@ -376,7 +376,11 @@ fn a_fault_ends_a_session_between_commits(rt: HostRuntime) -> Result<(), Fail> {
 fn check_same(rt: &(impl Abort + AllocGlobal), host: MemHost, how: Leave) -> Result<(), Fail> {
     let mut left = host.after_stop(rt.alloc(), how)?;
     left.room_for(rt.alloc(), 4000, 100)?;
-    check_calls(rt, &mut left, &[(SESSION, "used", Status::Done, OPENINGS[0])])
+    check_calls(
+        rt,
+        &mut left,
+        &[(SESSION, "used", Status::Done, OPENINGS[0])],
+    )
 }
 
 /// A stop behind each call of an export, with all that it may leave.
