@@ -7,4 +7,6 @@ pub mod Parting
 pub mod Symbols
 pub mod Sides
 pub mod Found
+pub mod Forms
 mod Rows
+mod DisplayRows

@@ -5,6 +5,8 @@ pub mod Methods
 pub mod Cutting
 pub mod Senders
 pub mod Replies
+pub mod Display
+pub mod Shown
 pub mod Asked
 pub mod Entries
 pub mod Listing

@@ -8,6 +8,7 @@ mod classes;
 mod codes;
 mod comparing;
 mod dictionary;
+mod display;
 mod fields;
 mod line;
 mod listing;
