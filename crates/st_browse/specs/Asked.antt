@@ -3,10 +3,11 @@ use Rattle.std.specs.Prelude.{ℕ, List, Option, Some, None, option_map, option_
 use Rattle.st_model.specs.Values.{Value, value_of}
 use Rattle.st_model.specs.Table.{Table}
 use Rattle.st_model.specs.View.{View, object_of}
-use Rattle.st_script.specs.Asks.{Side, Ask, Object, Classes, Methods, Bytecodes, Senders}
+use Rattle.st_script.specs.Asks.{Side, Ask, Object, Display, Classes, Methods, Bytecodes, Senders}
 use Rattle.st_browse.specs.Naming.{Named}
 use Rattle.st_browse.specs.Classes.{classes}
 use Rattle.st_browse.specs.Methods.{has_method, method_named}
+use Rattle.st_browse.specs.Display.{display_reply}
 use Rattle.st_browse.specs.Replies.{object_reply, classes_text, methods_text, side_named, bytecodes_text, senders_text}
 
 -- the class that a side names
@@ -22,6 +23,7 @@ bytecodes_in t selector class = option_and_then (bytecodes_of t) (method_named t
 
 unfoldable pub reply : View → Ask → Option (List ℕ)
 reply v (Object pointer) = object_reply v.objects (value_of pointer)
+reply v Display = display_reply v
 reply v Classes = Some (classes_text v.objects v.head.globals)
 reply v (Methods side) = option_map (methods_text v.objects) (class_of_side v side)
 reply v (Bytecodes side selector) = option_and_then (bytecodes_in v.objects selector) (class_of_side v side)

@@ -19,6 +19,7 @@ ghost use Rattle.st_browse.specs.Founds.{IsSought, sought_text};
 
 use crate::choice::Choice;
 use crate::codes::{Body, count_codes, push_codes};
+use crate::display::push_form;
 use crate::line::Line;
 use crate::listing::{count_listed, push_listed};
 use crate::names::Names;
@@ -94,6 +95,7 @@ fn push_sought<H: Host, M: Memory>(
 {
     match sought {
         Sought::Object(o) => push_object(out, host, m, o),
+        Sought::Display(form) => push_form(out, host, m, form),
         Sought::Classes(names) => {
             push_names(
                 out,

@@ -4,6 +4,7 @@ ghost use Rattle.std.specs.Prelude.{◌≡◌, IfSome, option_and_then, option_m
 ghost use Rattle.st_model.specs.Values.{value};
 ghost use Rattle.st_names.specs.Texts.{found};
 ghost use Rattle.st_script.specs.Asks.{ask_of, side_of};
+ghost use Rattle.st_browse.specs.Display.{display_reply};
 ghost use Rattle.st_browse.specs.Replies.{methods_text, object_reply};
 ghost use Rattle.st_browse.specs.Asked.{bytecodes_in, class_of_side, reply};
 ghost use Rattle.st_browse.specs.Entries.{IsBody};
@@ -11,6 +12,7 @@ ghost use Rattle.st_browse.specs.Founds.{IsSought, body_text, sought_text};
 
 use crate::classes::{globals, is_class, on_side};
 use crate::codes::{Body, body_of};
+use crate::display::{Form, find_display};
 use crate::methods::methods_of;
 use crate::names::Names;
 use crate::places::first_named;
@@ -23,6 +25,8 @@ use st_script::{Ask, Side};
 pub enum Sought<'a> {
     /// An object.
     Object(Oop),
+    /// The Form that is held as the display.
+    Display(Form),
     /// The classes among the globals.
     Classes(Names),
     /// The methods of a class.
@@ -93,6 +97,15 @@ fn seek_object<'a, M: Memory>(m: &M, o: Oop) -> Option<Sought<'a>>
     }
 }
 
+/// Finds the display.
+#[tactic(auto, unfolding(crate::specs::Display::display_reply))]
+fn seek_display<'a, M: Memory>(m: &M) -> Option<Sought<'a>>
+    ensures sought { let v = M.view m.now in option_map (sought_text v.objects) result ≡ display_reply v }
+    ensures there { IfSome result (λ s. IsSought (M.view m.now).objects s) }
+{
+    Some(Sought::Display(find_display(m)?))
+}
+
 /// Finds what is asked for.
 #[tactic(auto, unfolding(crate::specs::Asked::reply))]
 pub fn seek<'a, M: Memory>(m: &M, ask: Ask<'a>) -> Option<Sought<'a>>
@@ -102,6 +115,7 @@ pub fn seek<'a, M: Memory>(m: &M, ask: Ask<'a>) -> Option<Sought<'a>>
 {
     match ask {
         Ask::Object(pointer) => seek_object(m, Oop(pointer)),
+        Ask::Display => seek_display(m),
         Ask::Classes => Some(Sought::Classes(globals(m))),
         Ask::Methods(side) => seek_methods(m, side),
         Ask::Bytecodes(side, selector) => seek_bytecodes(m, side, selector),

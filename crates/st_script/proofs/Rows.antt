@@ -3,7 +3,7 @@ use Rattle.std.proofs.Common.{◌≡◌, ℕ, false, List, [], ◌∷◌, refl}
 use Rattle.std.specs.Prelude.{codes, Option, Some, None}
 use Rattle.st_script.specs.declared.request.Request.{Request}
 use Rattle.st_script.specs.declared.request.Request.TheVariants.{Run, Input, Mouse, Clock, Tick, State, Used, Snapshot, Browse, End, Wrong}
-use Rattle.st_script.specs.Asks.{Object, Classes, Methods, Bytecodes, Senders, instance_side, class_side}
+use Rattle.st_script.specs.Asks.{Object, Display, Classes, Methods, Bytecodes, Senders, instance_side, class_side}
 use Rattle.st_script.specs.Lines.{number, with_arguments, alone, ask_with, ask_alone, line_ask, line_request}
 use Rattle.st_script.specs.Reading.{read, end_read}
 use Rattle.st_script.specs.Scripts.{Asked, Asks, Browses, Defines, asked}
@@ -118,6 +118,10 @@ object_too_far : line_ask (codes "object 65536") ≡ None
 unfolding line_ask ask_with number
 object_too_far = refl
 
+display : line_ask (codes "display") ≡ Some Display
+unfolding line_ask ask_alone
+display = refl
+
 classes : line_ask (codes "classes") ≡ Some Classes
 unfolding line_ask ask_alone
 classes = refl
@@ -163,7 +167,7 @@ senders_of_two : line_ask (codes "senders x y") ≡ None
 unfolding line_ask ask_with
 senders_of_two = refl
 
-asks_to_look : line (codes "classes") ≡ Some Browse
+asks_to_look : line (codes "display") ≡ Some Browse
 unfolding line_request line_ask alone ask_alone
 asks_to_look = refl
 
@@ -175,8 +179,8 @@ unfolding read line_request line_ask with_arguments alone ask_with ask_alone num
 lines = refl
 
 -- the last line has no end
-asks : asked (codes "classes\r\nused\nmethods A class\n!A methodsFor: 'a'! !bytecodes A x")
-    ≡ Browses Classes ∷ Asks Used ∷ Browses (Methods (class_side (codes "A"))) ∷ Browses (Bytecodes (instance_side (codes "A")) (codes "x")) ∷ []
+asks : asked (codes "display\r\nused\nmethods A class\n!A methodsFor: 'a'! !bytecodes A x")
+    ≡ Browses Display ∷ Asks Used ∷ Browses (Methods (class_side (codes "A"))) ∷ Browses (Bytecodes (instance_side (codes "A")) (codes "x")) ∷ []
 unfolding read line_request line_ask with_arguments alone ask_with ask_alone number end_read
 asks = refl
 

@@ -9,11 +9,11 @@ pub record Side : Type 0 where
   pub class : List ℕ
   pub meta : Bool
 
--- An object, by its pointer; the classes; the methods of a class; a method's bytecodes, by its selector; the methods that
+-- An object, by its pointer; the display; the classes; the methods of a class; a method's bytecodes, by its selector; the methods that
 -- send a selector.
 pub data Ask : Type 0 where
   Object : ℕ → Ask
-  Classes : Ask
+  Display Classes : Ask
   Methods : Side → Ask
   Bytecodes : Side → List ℕ → Ask
   Senders : List ℕ → Ask
@@ -30,6 +30,7 @@ side_of side = record { class = side.class.now; meta = side.meta }
 
 abbrev pub ask_of : DeclaredAsk → Ask
 ask_of (declared.Object n) = Object n
+ask_of declared.Display = Display
 ask_of declared.Classes = Classes
 ask_of (declared.Methods side) = Methods (side_of side)
 ask_of (declared.Bytecodes side selector) = Bytecodes (side_of side) selector.now

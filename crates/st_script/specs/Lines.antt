@@ -7,7 +7,7 @@ use Rattle.st_chunk.specs.Texts.{most, is_empty}
 use Rattle.st_chunk.specs.Groups.{is_name}
 use Rattle.st_script.specs.declared.request.Request.{Request}
 use Rattle.st_script.specs.declared.request.Request.TheVariants.{Run, Input, Mouse, Clock, Tick, State, Used, Snapshot, Browse, End, Wrong}
-use Rattle.st_script.specs.Asks.{Side, Ask, Object, Classes, Methods, Bytecodes, Senders, instance_side, class_side}
+use Rattle.st_script.specs.Asks.{Side, Ask, Object, Display, Classes, Methods, Bytecodes, Senders, instance_side, class_side}
 
 -- NUMBERS
 
@@ -86,6 +86,7 @@ ask_with word text =
 -- in a line of a word alone
 unfoldable pub ask_alone : List ℕ → Option Ask
 ask_alone word =
+    if is_word word (codes "display") then Some Display else
     if is_word word (codes "classes") then Some Classes else
     None
 

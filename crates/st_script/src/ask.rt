@@ -12,6 +12,8 @@ pub struct Side<'a> {
 pub enum Ask<'a> {
     /// `object ID`: the object of this pointer, which is even and from 2 to 65534.
     Object(u16),
+    /// `display`: the Form that is shown.
+    Display,
     /// `classes`: the names of all classes.
     Classes,
     /// `methods C`: the selectors of a class's methods.

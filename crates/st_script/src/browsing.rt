@@ -116,6 +116,9 @@ fn ask_with<'a>(word: &[u8], text: &'a [u8]) -> Option<Ask<'a>>
 fn ask_alone(word: &[u8]) -> Option<Ask<'_>>
     ensures { option_map ask_of result ≡ ask_alone word.now }
 {
+    if word == b"display".as_slice() {
+        return Some(Ask::Display);
+    }
     if word == b"classes".as_slice() {
         return Some(Ask::Classes);
     }

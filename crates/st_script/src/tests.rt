@@ -44,6 +44,7 @@ fn add_ask(told: &mut String, alloc: Global, ask: Ask<'_>) -> Result<(), AllocEr
             let name = format!(in alloc; "Object({pointer})")?;
             told.push_str(&name)?;
         }
+        Ask::Display => told.push_str("Display")?,
         Ask::Classes => told.push_str("Classes")?,
         Ask::Methods(side) => {
             told.push_str("Methods ")?;
@@ -132,8 +133,8 @@ const SCRIPTS: [(&[u8], &str); 27] = [
     (b"!A methodsFor: ''! !\n!B methodsFor: ''!x! !", "B, , x; "),
     (b"used\n\nhop\nused\n", "Used; Wrong(3); "),
     (
-        b"bytecodes A x\nclasses\r\n\nused\nmethods A class\n!B methodsFor: ''! !senders x\r",
-        "Bytecodes A, x; Classes; Used; Methods A class, ; Senders x\r; ",
+        b"bytecodes A x\ndisplay\r\n\nused\nmethods A class\n!B methodsFor: ''! !senders x\r",
+        "Bytecodes A, x; Display; Used; Methods A class, ; Senders x\r; ",
     ),
     (
         b"classes\n!P methodsFor: 'a'!\nx! !object 2\nend\nclasses",
@@ -171,7 +172,7 @@ fn scripts_ask(rt: HostRuntime) -> Result<(), Fail> {
 }
 
 /// Lines, and what each asks to look at.
-const ASKS: [(&[u8], &str); 40] = [
+const ASKS: [(&[u8], &str); 43] = [
     (b"object 2", "Object(2); "),
     (b"object 65534", "Object(65534); "),
     (b"object 0000000060", "Object(60); "),
@@ -185,6 +186,9 @@ const ASKS: [(&[u8], &str); 40] = [
     (b"object 60 ", "Wrong(1); "),
     (b"object @60", "Wrong(1); "),
     (b" object 60", "Wrong(1); "),
+    (b"display", "Display; "),
+    (b"display ", "Wrong(1); "),
+    (b"display 1", "Wrong(1); "),
     (b"classes", "Classes; "),
     (b"classes ", "Wrong(1); "),
     (b"classes Point", "Wrong(1); "),
