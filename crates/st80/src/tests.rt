@@ -442,7 +442,7 @@ fn check_sessions(
 
 #[test]
 fn a_script_is_followed_in_pieces_of_any_size(rt: HostRuntime) -> Result<(), Fail> {
-    let rows: [Session<'_>; 8] = [
+    let rows: [Session<'_>; 9] = [
         ("", 0, Status::Done, "opened 0 0\n"),
         ("used\r\nend", 0, Status::Done, "opened 0 0\nused 24 78\n"),
         (
@@ -452,6 +452,12 @@ fn a_script_is_followed_in_pieces_of_any_size(rt: HostRuntime) -> Result<(), Fai
             "opened 0 0\nran 4\nok\n",
         ),
         ("end\nhop\n", 0, Status::Done, "opened 0 0\n"),
+        (
+            "object 64\r\nsenders x\nmethods Point class\nclasses",
+            0,
+            Status::Done,
+            "opened 0 0\nobject 64 @34 m 128 : 118 119 104 163 251\nsenders 0\nnot found\nclasses 0\n",
+        ),
         (
             "!Point methodsFor: 'a'!\nx ^x! !\nclock 1",
             0,

@@ -16,9 +16,10 @@ use Rattle.st_model.specs.Show.{show}
 use Rattle.st_model.specs.Text.{ran_text, dead_text, space_text, quit_text, debugger_text, said_value, used_text}
 use Rattle.st_chunk.specs.Definitions.{Definition, IsDefinition}
 use Rattle.st_script.specs.declared.request.Request.{Request}
-use Rattle.st_script.specs.declared.request.Request.TheVariants.{Run, Input, Mouse, Clock, Tick, State as ShowState, Used, Snapshot, End, Define, Wrong}
+use Rattle.st_script.specs.declared.request.Request.TheVariants.{Run, Input, Mouse, Clock, Tick, State as ShowState, Used, Snapshot, Browse, End, Define, Wrong}
+use Rattle.st_script.specs.Asks.{Ask}
 use Rattle.st_script.specs.Reading.{Reading, line_from}
-use Rattle.st_script.specs.Scripts.{Asked, Asks, Defines, IsSound, asked_from, told_from}
+use Rattle.st_script.specs.Scripts.{Asked, Asks, Browses, Defines, IsSound, asked_from, told_from}
 use Rattle.st_script.proofs.Asking.{AreGood, IsGood, asked_good, told_good}
 use Rattle.st_course.specs.Acknowledged.{IsLines, AcknowledgesEach}
 use Rattle.st_course.proofs.Lawful.{IsLawful, lawful_preceded, lawful_then, law_of}
@@ -30,9 +31,11 @@ use Rattle.st_recover.specs.Commits.{Commit, fits, accepted_if}
 use Rattle.st_recover.specs.Replays.{Loss}
 use Rattle.st_session.specs.Points.{Being, Alive, Gone, Point, alive}
 use Rattle.st_session.specs.Keeping.{Keeping, image_of, saved, in_a_store}
+use Rattle.st_session.specs.Browsing.{asked_text, memory_of}
 use Rattle.st_session.specs.Replies.{ok_text, full_text, machine_text, accepted_text, refused_text, opening_text}
-use Rattle.st_session.specs.Answers.{dead_line, event_course, going_on, cycle_course, run_course, living_line, line_course, defined_course, definition_course, answer}
+use Rattle.st_session.specs.Answers.{dead_line, browse_course, event_course, going_on, cycle_course, run_course, living_line, line_course, defined_course, definition_course, answer}
 use Rattle.st_session.specs.Sessions.{longest, follow, follow_rest, follow_script, session, session_so_far}
+use Rattle.st_session.proofs.BrowsedLines.{asked_lines}
 use Rattle.st_session.proofs.WholeLines.{numbers_lines, dead_lines, machine_lines, said_value_lines, accepted_lines, refused_lines, opening_lines, snapshot_lines}
 
 -- COURSES
@@ -71,6 +74,10 @@ module _ {C : Type 0} where
   dead_lawful cause c (Wrong line) = tt
   dead_lawful cause c request = said (dead_text 0 cause) (dead_lines 0 cause)
 
+  browse_lawful : (b : Being) (c : C) (ask : Ask) → KeepsLaw (browse_course b c ask)
+  browse_lawful (Alive s) c ask = let m = memory_of (show s) in said (asked_text m ask) (asked_lines m ask)
+  browse_lawful (Gone cause) c ask = said (dead_text 0 cause) (dead_lines 0 cause)
+
   event_lawful : (s : State Births) (c : C) (o : Option (State Births)) → KeepsLaw (event_course s c o)
   event_lawful s c None = said full_text (record { whole = refl; count = refl })
   event_lawful s c (Some t) = said ok_text (record { whole = refl; count = refl })
@@ -103,6 +110,7 @@ module _ {C : Type 0} where
     living_lawful s c ShowState = said (machine_text (show s)) (machine_lines (show s))
     living_lawful s c Used = said (used_text (show s).memory) (numbers_lines 0 (codes "used") (total_used one (show s).memory ∷ total_used words_of (show s).memory ∷ []) refl refl)
     living_lawful s c Snapshot = laws.snapshot 0 s c
+    living_lawful s c Browse = (tt, tt)
     living_lawful s c End = tt
     living_lawful s c Define = (tt, tt)
     living_lawful s c (Wrong line) = tt
@@ -122,6 +130,7 @@ module _ {C : Type 0} where
 
       answer_lawful : (p : Point C) (a : Asked) → IsGood a → KeepsLaw (answer keeping install p a)
       answer_lawful p (Asks request) good = line_lawful p.being p.kept request
+      answer_lawful p (Browses ask) good = browse_lawful p.being p.kept ask
       answer_lawful p (Defines d) good = definition_lawful p.being p.kept d good
 
       follow_lawful : (p : Point C) (all : List Asked) → AreGood all → KeepsLaw (follow keeping install p all)

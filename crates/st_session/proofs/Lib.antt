@@ -1,4 +1,5 @@
 pub mod Accepting
+pub mod BrowsedLines
 pub mod Commanded
 pub mod Compiling
 pub mod Cycles
@@ -11,6 +12,7 @@ pub mod Imported
 pub mod LastLines
 pub mod Lawful
 pub mod Lines
+pub mod Looking
 pub mod Points
 pub mod Reported
 pub mod Responding

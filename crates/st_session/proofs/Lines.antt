@@ -1,5 +1,5 @@
 -- Lines that are answered.
-use Rattle.std.proofs.Common.{◌≡◌, ◌∙◌, ℕ, List, refl, sym, ap}
+use Rattle.std.proofs.Common.{◌≡◌, ◌⊎◌, ◌∙◌, inl, inr, ℕ, List, [], refl, sym, ap}
 use Rattle.std.specs.Prelude.{Option, Some, None, Result, Ok, Err}
 use Rattle.st_model.specs.declared.dead.Dead.{Dead}
 use Rattle.st_model.specs.declared.event.Event.TheVariants as event
@@ -16,10 +16,11 @@ use Rattle.st_report.specs.Saying.{Pushes}
 use Rattle.st_machine.specs.Asked.{TakenAs}
 use Rattle.st_script.specs.declared.request.Request.{Request}
 use Rattle.st_script.specs.declared.request.Request.TheVariants as request
-use Rattle.st_script.specs.Reading.{Place, Defined, CutOff}
-use Rattle.st_script.specs.Scripts.{Asks, Defines, IsDefined, HasDefinition, asked_at}
+use Rattle.st_script.specs.Asks.{Ask}
+use Rattle.st_script.specs.Reading.{Place, Browsed, Defined, CutOff}
+use Rattle.st_script.specs.Scripts.{Asks, Browses, Defines, IsBrowsed, HasAsk, IsDefined, HasDefinition, asked_at}
 use Rattle.st_chunk.specs.Definitions.{Definition}
-use Rattle.st_course.specs.Courses.{replies}
+use Rattle.st_course.specs.Courses.{Goes, replies}
 use Rattle.st_session.specs.Points.{Point, alive, gone}
 use Rattle.st_session.specs.Keeping.{Keeping}
 use Rattle.st_session.specs.Replies.{ok_text, full_text}
@@ -42,19 +43,20 @@ module _ {D C : Type 0} (host : Ghosts D) (at : Point C → Type 0) (s : State B
   full None f {result = result} taken stands run = course_replies host at full_text (alive s k) run (all_ok result stands)
   full (Some t) f taken stands run = absurd taken
 
--- what asks neither for a run, a snapshot, the end nor a definition, and isn't wrong, asks for lines
-pub says_lines : (r : Request) → ((n : ℕ) → r ≡ request.Run n → ⊥) → (r ≡ request.Snapshot → ⊥) → (r ≡ request.End → ⊥) → ((line : ℕ) → r ≡ request.Wrong line → ⊥) → (r ≡ request.Define → ⊥) → IsSaying r
-says_lines (request.Run n) u v e w d = u n refl
-says_lines (request.Input word) u v e w d = tt
-says_lines (request.Mouse x y) u v e w d = tt
-says_lines (request.Clock time) u v e w d = tt
-says_lines (request.Tick time) u v e w d = tt
-says_lines request.State u v e w d = tt
-says_lines request.Used u v e w d = tt
-says_lines request.Snapshot u v e w d = v refl
-says_lines request.End u v e w d = e refl
-says_lines request.Define u v e w d = d refl
-says_lines (request.Wrong line) u v e w d = w line refl
+-- what asks neither for a run, a snapshot, the end nor a definition, nor to look at something, and isn't wrong, asks for lines
+pub says_lines : (r : Request) → ((n : ℕ) → r ≡ request.Run n → ⊥) → (r ≡ request.Snapshot → ⊥) → (r ≡ request.End → ⊥) → ((line : ℕ) → r ≡ request.Wrong line → ⊥) → (r ≡ request.Define → ⊥) → (r ≡ request.Browse → ⊥) → IsSaying r
+says_lines (request.Run n) u v e w d b = u n refl
+says_lines (request.Input word) u v e w d b = tt
+says_lines (request.Mouse x y) u v e w d b = tt
+says_lines (request.Clock time) u v e w d b = tt
+says_lines (request.Tick time) u v e w d b = tt
+says_lines request.State u v e w d b = tt
+says_lines request.Used u v e w d b = tt
+says_lines request.Snapshot u v e w d b = v refl
+says_lines request.Browse u v e w d b = b refl
+says_lines request.End u v e w d b = e refl
+says_lines request.Define u v e w d b = d refl
+says_lines (request.Wrong line) u v e w d b = w line refl
 
 -- lines keep nothing
 module _ {C : Type 0} (keeping : Keeping C) (s : State Births) (k : C) where
@@ -71,17 +73,30 @@ module _ {C : Type 0} (keeping : Keeping C) (s : State Births) (k : C) where
   lines_keep request.State h = (refl, refl)
   lines_keep request.Used h = (refl, refl)
   lines_keep request.Snapshot h = absurd h
+  lines_keep request.Browse h = absurd h
   lines_keep request.End h = absurd h
   lines_keep request.Define h = absurd h
   lines_keep (request.Wrong line) h = absurd h
 
--- what is no definition is asked for by a line
-pub asked_line : (place : Place) (r : Request) → (r ≡ request.Define → ⊥) → asked_at place r ≡ Asks r
-asked_line (Defined h s) request.Define other = absurd (other refl)
-asked_line (Defined h s) r other = refl
-asked_line (CutOff h s) request.Define other = absurd (other refl)
-asked_line (CutOff h s) r other = refl
-asked_line place r other = refl
+  -- where a reader has what is asked for, the line alone asks for nothing
+  pub stays_alive : (r : Request) → (r ≡ request.Browse) ⊎ (r ≡ request.Define) → living_line keeping s k r ≡ Goes [] (alive s k)
+  stays_alive r (inl e) = rw e refl
+  stays_alive r (inr e) = rw e refl
+
+-- what is no definition, and isn't to be looked at, is asked for by a line
+pub asked_line : (place : Place) (r : Request) → (r ≡ request.Browse → ⊥) → (r ≡ request.Define → ⊥) → asked_at place r ≡ Asks r
+asked_line (Browsed ask) request.Browse look other = absurd (look refl)
+asked_line (Browsed ask) r look other = refl
+asked_line (Defined h s) request.Define look other = absurd (other refl)
+asked_line (Defined h s) r look other = refl
+asked_line (CutOff h s) request.Define look other = absurd (other refl)
+asked_line (CutOff h s) r look other = refl
+asked_line place r look other = refl
+
+-- what the reader was asked to look at
+pub asked_look : (place : Place) (ask : Ask) → IsBrowsed place → HasAsk place ask → asked_at place request.Browse ≡ Browses ask
+asked_look (Browsed a) ask there is = ap Browses (sym is)
+asked_look place ask there is = absurd there
 
 -- the definition that the reader has
 pub asked_definition : (place : Place) (d : Definition) → IsDefined place → HasDefinition place d → asked_at place request.Define ≡ Defines d

@@ -2,7 +2,7 @@
 use Rattle.std.proofs.Common.{◌≡◌, List, [], ◌∷◌, ℕ, refl}
 use Rattle.std.specs.Prelude.{codes}
 use Rattle.st_model.specs.declared.dead.Dead.TheVariants.{Sp}
-use Rattle.st_script.specs.Lines.{with_arguments, alone, number, line_request}
+use Rattle.st_script.specs.Lines.{with_arguments, alone, ask_with, ask_alone, number, line_ask, line_request}
 use Rattle.st_script.specs.Reading.{read, end_read}
 use Rattle.st_course.specs.declared.refusal.Refusal.TheVariants.{NoClass}
 use Rattle.st_course.specs.declared.status.Status.TheVariants.{Done, Script}
@@ -23,20 +23,20 @@ abbrev over_the_dead : List ℕ → Course (Unit {0}) (Point (Unit {0}))
 over_the_dead script = session keeps_nothing no_class 0 [] (gone Sp tt) script
 
 no_line : over_the_dead [] ≡ Ends (Reply (opening_text 0 []) ∷ []) Done
-unfolding session end_read line_request
+unfolding session end_read line_request line_ask ask_alone
 no_line = refl
 
 out_of_the_grammar : over_the_dead (codes "hop") ≡ Ends (Reply (opening_text 0 []) ∷ []) (Script 1)
-unfolding session read end_read line_request alone
+unfolding session read end_read line_request line_ask alone ask_alone
 out_of_the_grammar = refl
 
-the_dead_answer : over_the_dead (codes "used\n!Point methodsFor: 'a'!\nx ^x! !\nrun 5\nend\nhop")
-    ≡ Ends (Reply (opening_text 0 []) ∷ Reply (dead_text 0 Sp) ∷ Reply (dead_text 0 Sp) ∷ Reply (dead_text 0 Sp) ∷ []) Done
-unfolding session read end_read line_request alone with_arguments number
+the_dead_answer : over_the_dead (codes "used\n!Point methodsFor: 'a'!\nx ^x! !\nrun 5\nclasses\nend\nhop")
+    ≡ Ends (Reply (opening_text 0 []) ∷ Reply (dead_text 0 Sp) ∷ Reply (dead_text 0 Sp) ∷ Reply (dead_text 0 Sp) ∷ Reply (dead_text 0 Sp) ∷ []) Done
+unfolding session read end_read line_request line_ask alone with_arguments ask_alone ask_with number
 the_dead_answer = refl
 
 -- a method that ends with the script is answered, and the chunk that is cut off behind it starts in the third line
 cut_off : over_the_dead (codes "used\n!Point methodsFor: 'a'!\nx ^x!")
     ≡ Ends (Reply (opening_text 0 []) ∷ Reply (dead_text 0 Sp) ∷ Reply (dead_text 0 Sp) ∷ []) (Script 3)
-unfolding session read end_read line_request alone with_arguments number
+unfolding session read end_read line_request line_ask alone with_arguments ask_alone ask_with number
 cut_off = refl

@@ -10,7 +10,9 @@ use Rattle.st_outside.specs.Counts.{HasCause}
 use Rattle.st_outside.specs.Files.{Files}
 use Rattle.st_outside.specs.Runs.{SaysAll, IsAtRest}
 use Rattle.st_outside.specs.Telling.{Says}
+use Rattle.st_outside.proofs.Joining.{all_join}
 use Rattle.st_outside.proofs.Rising.{rose_second}
+use Rattle.st_outside.proofs.Telling.{says_then}
 use Rattle.st_report.specs.Saying.{Pushes}
 use Rattle.st_report.proofs.Pushing.{pushed_all, pushed_says, pushed_part}
 use Rattle.st_course.specs.declared.status.Status.{Status}
@@ -58,6 +60,22 @@ module _ {D : Type 0} (host : Ghosts D) where
   end_cause old mid new (Ok u) f le cause = tt
   end_cause old mid new (Err e) f le cause =
       subst (λ x. StatusHasCause host ⊥ old new x) (sym f) (rose_second (host.say_faults old) (host.say_faults mid) (host.say_faults new) le (subst (λ x. StatusHasCause host ⊥ mid new x) f cause))
+
+  -- behind a call that said nothing
+  pub tells_behind : (text : List ℕ) (old mid new : D) (result : Result Unit Status) → SaysAll host [] old mid → Says host [] old mid → Tells host text mid new result → Tells host text old new result
+  tells_behind text old mid new result all says end =
+      let whole = says_then says all end.says refl in
+      record {
+        all = over result end.all;
+        says = whole;
+        fault = end.fault;
+        counts = record { disk = omega (arith, whole.disk_count); say = whole.part.say; cause = end_cause old mid new result end.fault says.part.say end.counts.cause };
+        served = end.served;
+      }
+    where
+      over : (r : Result Unit Status) → OnOk r (SaysAll host text mid new) → OnOk r (SaysAll host text old new)
+      over (Ok u) rest = all_join host [] text old mid new all rest
+      over (Err e) rest = tt
 
   -- what was added to nothing, and then said, or not
   pub tells_pushed : (text p q : List ℕ) (old mid new : D) (result : Result Unit Status) → p ≡ [] → Pushes {E = SayFault} host text old mid p q (Ok tt) → Tells host q mid new result → Tells host text old new result

@@ -60,13 +60,13 @@ one_line n text l e = record {
   count = ap (acknowledged_from []) l.is ∙ (acknowledged_line [] l.word l.inside ∙ e);
 }
 
-no_text : IsLines 0 []
+pub no_text : IsLines 0 []
 no_text = record { whole = refl; count = refl }
 
-abbrev ends : IsLine (codes "\n")
+abbrev pub ends : IsLine (codes "\n")
 ends = record { word = []; inside = refl; is = refl }
 
-abbrev behind : (front text : List ℕ) → IsInLine front → IsLine text → IsLine (front ++ text)
+abbrev pub behind : (front text : List ℕ) → IsInLine front → IsLine text → IsLine (front ++ text)
 behind front text h l = record {
   word = front ++ l.word;
   inside = both_in_line front l.word h l.inside;
@@ -90,7 +90,7 @@ digits_in_line (suc k) n acc h =
     over true more e f = e
     over false more e f = f
 
-decimal_in_line : (n : ℕ) → IsInLine (decimal n)
+pub decimal_in_line : (n : ℕ) → IsInLine (decimal n)
 unfolding digits
 decimal_in_line n = digits_in_line 64 n [] refl
 
@@ -102,11 +102,11 @@ pub numbers_in_line : (ns : List ℕ) → IsInLine (numbers_text ns)
 numbers_in_line [] = refl
 numbers_in_line (n ∷ ns) = both_in_line (codes " " ++ decimal n) (numbers_text ns) (decimal_in_line n) (numbers_in_line ns)
 
-value_in_line : (v : Value) → IsInLine (value_text v)
+pub value_in_line : (v : Value) → IsInLine (value_text v)
 value_in_line (Small n) = signed_in_line (integer n)
 value_in_line (Ref n) = decimal_in_line (2 * n)
 
-values_in_line : (vs : List Value) → IsInLine (values_text vs)
+pub values_in_line : (vs : List Value) → IsInLine (values_text vs)
 values_in_line [] = refl
 values_in_line (v ∷ vs) = both_in_line (codes " " ++ value_text v) (values_text vs) (value_in_line v) (values_in_line vs)
 
@@ -167,7 +167,7 @@ escaped_byte_in_line b = over (nat_lt b 32) (nat_lt 126 b) (b == 92) refl
     over false false true e = escaped_pair b
     over false false false e = put b [] (printed b e) refl
 
-escaped_in_line : (bs : List ℕ) → IsInLine (escaped bs)
+pub escaped_in_line : (bs : List ℕ) → IsInLine (escaped bs)
 escaped_in_line [] = refl
 escaped_in_line (b ∷ bs) = both_in_line (escaped_byte b) (escaped bs) (escaped_byte_in_line b) (escaped_in_line bs)
 

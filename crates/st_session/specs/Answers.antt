@@ -12,13 +12,15 @@ use Rattle.st_model.specs.Show.{show}
 use Rattle.st_model.specs.Text.{ran_text, dead_text, space_text, quit_text, debugger_text, said_value, used_text}
 use Rattle.st_chunk.specs.Definitions.{Definition}
 use Rattle.st_script.specs.declared.request.Request.{Request}
-use Rattle.st_script.specs.declared.request.Request.TheVariants.{Run, Input, Mouse, Clock, Tick, State as ShowState, Used, Snapshot, End, Define, Wrong}
-use Rattle.st_script.specs.Scripts.{Asked, Asks, Defines}
+use Rattle.st_script.specs.declared.request.Request.TheVariants.{Run, Input, Mouse, Clock, Tick, State as ShowState, Used, Snapshot, Browse, End, Define, Wrong}
+use Rattle.st_script.specs.Asks.{Ask}
+use Rattle.st_script.specs.Scripts.{Asked, Asks, Browses, Defines}
 use Rattle.st_course.specs.declared.status.Status.TheVariants as status
 use Rattle.st_course.specs.Courses.{Course, Reply, Goes, Ends, preceded, and_then, replies}
 use Rattle.st_installer.specs.Installing.{Installed, Refused, Accepted, Install}
 use Rattle.st_session.specs.Points.{Being, Alive, Gone, Point, alive, gone}
 use Rattle.st_session.specs.Keeping.{Keeping}
+use Rattle.st_session.specs.Browsing.{asked_text, memory_of}
 use Rattle.st_session.specs.Replies.{ok_text, full_text, machine_text, accepted_text, refused_text}
 
 module _ {C : Type 0} where
@@ -27,6 +29,11 @@ module _ {C : Type 0} where
   dead_line cause c End = Ends [] status.Done
   dead_line cause c (Wrong line) = Ends [] (status.Script line)
   dead_line cause c request = replies (dead_text 0 cause) (gone cause c)
+
+  -- a line that asks to look at something
+  abbrev pub browse_course : Being → C → Ask → Course C (Point C)
+  browse_course (Alive s) c ask = replies (asked_text (memory_of (show s)) ask) (alive s c)
+  browse_course (Gone cause) c ask = replies (dead_text 0 cause) (gone cause c)
 
   -- an event, which none is where the input is full
   abbrev pub event_course : State Births → C → Option (State Births) → Course C (Point C)
@@ -64,6 +71,7 @@ module _ {C : Type 0} where
     living_line s c ShowState = replies (machine_text (show s)) (alive s c)
     living_line s c Used = replies (used_text (show s).memory) (alive s c)
     living_line s c Snapshot = keeping.snapshot 0 s c
+    living_line s c Browse = Goes [] (alive s c)
     living_line s c End = Ends [] status.Done
     living_line s c Define = Goes [] (alive s c)
     living_line s c (Wrong line) = Ends [] (status.Script line)
@@ -84,4 +92,5 @@ module _ {C : Type 0} where
 
       abbrev pub answer : Point C → Asked → Course C (Point C)
       answer p (Asks request) = line_course p.being p.kept request
+      answer p (Browses ask) = browse_course p.being p.kept ask
       answer p (Defines d) = definition_course p.being p.kept d

@@ -1,11 +1,12 @@
 -- What a line asks for.
 use Rattle.st_script.specs.declared.request.Request.{Request}
-use Rattle.st_script.specs.declared.request.Request.TheVariants.{Run, Snapshot, End, Define, Wrong}
+use Rattle.st_script.specs.declared.request.Request.TheVariants.{Run, Snapshot, Browse, End, Define, Wrong}
 
 -- lines are said, and nothing is kept
 abbrev pub IsSaying : Request → Type 0
 IsSaying (Run cycles) = ⊥
 IsSaying Snapshot = ⊥
+IsSaying Browse = ⊥
 IsSaying End = ⊥
 IsSaying Define = ⊥
 IsSaying (Wrong line) = ⊥

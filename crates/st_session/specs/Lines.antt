@@ -2,7 +2,8 @@
 use Rattle.std.specs.Prelude.{ℕ, List}
 use Rattle.st_model.specs.Text.{dead_text}
 use Rattle.st_session.specs.declared.replies.Reply.{Reply}
-use Rattle.st_session.specs.declared.replies.Reply.TheVariants.{Snapshot, Exported, Died, Accepted, Refused}
+use Rattle.st_session.specs.declared.replies.Reply.TheVariants.{Snapshot, Exported, Died, Accepted, Refused, Missing}
+use Rattle.st_session.specs.Browsing.{missing_text}
 use Rattle.st_session.specs.Replies.{snapshot_text, exported_text, accepted_line, refused_text}
 
 abbrev pub reply_text : Reply → List ℕ
@@ -11,3 +12,4 @@ reply_text (Exported length) = exported_text length
 reply_text (Died finished cause) = dead_text finished cause
 reply_text (Accepted class meta selector) = accepted_line class.now meta selector.now
 reply_text (Refused why) = refused_text why
+reply_text Missing = missing_text

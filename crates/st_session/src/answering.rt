@@ -88,8 +88,12 @@ fn push_answer<H: Host, M: Memory>(
         Request::Tick(time) => push_event(out, host, machine, Event::Tick(time)),
         Request::State => push_machine(out, host, machine),
         Request::Used => push_used(out, host, machine.memory()),
-        Request::Run(_) | Request::Snapshot | Request::End | Request::Define | Request::Wrong(_) =>
-            Ok(()),
+        Request::Run(_)
+        | Request::Snapshot
+        | Request::Browse
+        | Request::End
+        | Request::Define
+        | Request::Wrong(_) => Ok(()),
     }
 }
 
@@ -137,7 +141,7 @@ fn answer_living<H: Host, M: Memory>(
     match request {
         Request::End => Err(Status::Done),
         Request::Wrong(line) => Err(Status::Script { line }),
-        Request::Define => Ok(()),
+        Request::Browse | Request::Define => Ok(()),
         Request::Run(cycles) => run(host, machine, archive, cycles),
         Request::Snapshot => snapshot(host, machine, archive, 0),
         _ => say_answer(host, machine, archive, request),

@@ -6,6 +6,7 @@
 
 mod answering;
 mod arguments;
+mod browsing;
 mod command;
 mod compiler;
 mod exporting;

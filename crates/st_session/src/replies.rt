@@ -33,6 +33,8 @@ pub(crate) enum Reply<'a> {
     },
     /// A definition was refused.
     Refused(Refusal),
+    /// What was asked to be looked at is missing.
+    Missing,
 }
 
 /// Adds why a definition is refused.
@@ -107,6 +109,7 @@ fn push_reply<H: Host>(out: &mut Output, host: &mut H, reply: Reply<'_>) -> Resu
             selector,
         } => push_accepted(out, host, class, meta, selector),
         Reply::Refused(why) => push_refused(out, host, why),
+        Reply::Missing => out.push(host, b"not found\n"),
     }
 }
 

@@ -1,9 +1,9 @@
 ghost use Rattle.std.specs.Prelude.{◌≡◌, None, Some, OnOk, IfErr, IfSome};
 ghost use Rattle.st_chunk.specs.Definitions.{IsDefinition};
-ghost use Rattle.st_script.specs.declared.request.Request.TheVariants.{Define as Defining};
+ghost use Rattle.st_script.specs.declared.request.Request.TheVariants.{Browse as Browsing, Define as Defining};
 ghost use Rattle.st_script.specs.Definitions.{definition_of};
 ghost use Rattle.st_script.specs.Lines.{IsInRange};
-ghost use Rattle.st_script.specs.Scripts.{IsDefined, asked_at, asked_by};
+ghost use Rattle.st_script.specs.Scripts.{IsBrowsed, IsDefined, asked_at, asked_by};
 ghost use Rattle.st_course.specs.Statuses.{Counts};
 ghost use Rattle.st_definition.specs.Defining.{installed};
 ghost use Rattle.st_definition.specs.Prepareds.{IsPrepared};
@@ -14,6 +14,7 @@ ghost use Rattle.st_session.specs.Sessions.{follow};
 ghost use Rattle.st_session.specs.Standing.{MayGoOn, Follows};
 
 use crate::answering::answer_line;
+use crate::browsing::answer_ask;
 use crate::compiler::carry_out;
 use crate::replies::{Reply, say_reply};
 use st_course::Status;
@@ -122,6 +123,7 @@ fn answer_request<H: Host, M: Memory>(
     reader: &Reader,
     request: Request,
 ) -> Result<(), Status>
+    requires browsed { request ≡ Browsing → IsBrowsed reader.now.place }
     requires defined { request ≡ Defining → IsDefined reader.now.place }
     requires range { IsInRange request }
     requires go_on { MayGoOn M.view machine.old archive.old }
@@ -134,6 +136,7 @@ fn answer_request<H: Host, M: Memory>(
     ensures served { IfErr result IsOfServing }
 {
     match request {
+        Request::Browse => answer_ask(host, machine, archive, reader.ask()),
         Request::Define => {
             answer_definition(alloc, host, machine, archive, &reader.definition())
         }
@@ -150,6 +153,7 @@ pub(crate) fn answer_told<H: Host, M: Memory>(
     reader: &Reader,
     request: Option<Request>,
 ) -> Result<(), Status>
+    requires browsed { request ≡ Some Browsing → IsBrowsed reader.now.place }
     requires defined { request ≡ Some Defining → IsDefined reader.now.place }
     requires range { IfSome request IsInRange }
     requires go_on { MayGoOn M.view machine.old archive.old }

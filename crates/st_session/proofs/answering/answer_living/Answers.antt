@@ -1,12 +1,12 @@
-use Rattle.std.proofs.Common.{refl}
+use Rattle.std.proofs.Common.{refl, sym, subst}
 use Rattle.std.specs.Prelude.{Ok, Err}
 use Rattle.st_course.specs.declared.status.Status.TheVariants as status
 use Rattle.st_session.specs.Answers.{line_course}
 use Rattle.st_session.specs.Keeping.{in_a_store}
 use Rattle.st_session.specs.Points.{alive}
 use Rattle.st_session.proofs.Responding.{ends_now, stays_now}
-use Rattle.st_session.proofs.Lines.{says_lines}
-use Rattle.st_session.proofs.Points.{living_answers}
+use Rattle.st_session.proofs.Lines.{says_lines, stays_alive}
+use Rattle.st_session.proofs.Points.{GoesAs, living_answers}
 use Rattle.st_session.proofs.answering.answer_living.Goals as goal
 
 pub returns-in-End-clause-follows : goal.returns-in-End-clause-follows
@@ -25,13 +25,14 @@ returns-in-Wrong-clause-follows g c =
     living_answers g.M.Memory.view g.H.Host m a h m a h (λ being k. line_course in_a_store being k c.args.request) (Err (status.Script c.in-Wrong.line)) c.requires.alive
     (λ s k shows holds. rw c.in-Wrong.is (ends_now g.M.Memory.view g.H.Host m a k (status.Script c.in-Wrong.line) h (g.met.H.Host.only_now h) holds))
 
-pub returns-in-Define-clause-follows : goal.returns-in-Define-clause-follows
-returns-in-Define-clause-follows g c =
+pub returns-in-Browse-clause-follows : goal.returns-in-Browse-clause-follows
+returns-in-Browse-clause-follows g c =
     let m = c.args.machine.now in
     let a = c.args.archive.now in
     let h = c.args.host.now in
     living_answers g.M.Memory.view g.H.Host m a h m a h (λ being k. line_course in_a_store being k c.args.request) (Ok tt) c.requires.alive
-    (λ s k shows holds. rw c.in-Define.is (stays_now g.M.Memory.view g.H.Host m a k (alive s k) h (g.met.H.Host.only_now h) holds (c.requires.alive, shows) refl))
+    (λ s k shows holds. subst (λ course. GoesAs g.M.Memory.view g.H.Host a.name m a h h k course (Ok tt)) (sym (stays_alive in_a_store s k c.args.request c.in-Browse.is))
+    (stays_now g.M.Memory.view g.H.Host m a k (alive s k) h (g.met.H.Host.only_now h) holds (c.requires.alive, shows) refl))
 
 pub returns-in-Run-clause-follows : goal.returns-in-Run-clause-follows
 returns-in-Run-clause-follows g c =
@@ -44,4 +45,4 @@ returns-in-Snapshot-clause-follows g c =
     (λ s k shows holds. rw c.in-Snapshot.is (c.snapshot.ensures.follows (alive s k) (record { stands = (c.requires.alive, shows); holds = holds })))
 
 pub say_answer-requires-clause-saying : goal.say_answer-requires-clause-saying
-say_answer-requires-clause-saying g c = says_lines c.args.request c.in_default.not-Run c.in_default.not-Snapshot c.in_default.not-End c.in_default.not-Wrong c.in_default.not-Define
+say_answer-requires-clause-saying g c = says_lines c.args.request c.in_default.not-Run c.in_default.not-Snapshot c.in_default.not-End c.in_default.not-Wrong c.in_default.not-Define c.in_default.not-Browse

@@ -1,13 +1,21 @@
 use Rattle.std.proofs.Common.{sym, ap, subst}
 use Rattle.st_script.specs.declared.request.Request.TheVariants as request
+use Rattle.st_script.specs.Asks.{ask_of}
 use Rattle.st_script.specs.Definitions.{definition_of}
 use Rattle.st_script.specs.Scripts.{asked_at}
 use Rattle.st_definition.specs.Defining.{installed}
 use Rattle.st_session.specs.Answers.{answer}
 use Rattle.st_session.specs.Keeping.{in_a_store}
-use Rattle.st_session.proofs.Lines.{asked_line, asked_definition}
+use Rattle.st_session.proofs.Lines.{asked_line, asked_look, asked_definition}
 use Rattle.st_session.proofs.Points.{GoesAs}
 use Rattle.st_session.proofs.serving.answer_request.Goals as goal
+
+pub returns-in-Browse-clause-follows : goal.returns-in-Browse-clause-follows
+returns-in-Browse-clause-follows g c = λ p at.
+    let place = c.args.reader.now.place in
+    let called = c.answer_ask in
+    rw c.in-Browse.is (subst (λ x. GoesAs g.M.Memory.view g.H.Host c.args.archive.now.name c.args.machine.now c.args.archive.now c.args.host.now called.new.host p.kept (answer in_a_store installed p x) called.result)
+    (sym (asked_look place (ask_of c.ask.result) (c.requires.browsed c.in-Browse.is) c.ask.ensures)) (called.ensures.follows p at))
 
 pub returns-in-Define-clause-follows : goal.returns-in-Define-clause-follows
 returns-in-Define-clause-follows g c = λ p at.
@@ -22,4 +30,4 @@ returns-in_default-clause-follows g c = λ p at.
     let place = c.args.reader.now.place in
     let called = c.answer_line in
     subst (λ x. GoesAs g.M.Memory.view g.H.Host c.args.archive.now.name called.new.machine called.new.archive c.args.host.now called.new.host p.kept (answer in_a_store installed p x) called.result)
-    (sym (asked_line place c.args.request c.in_default.not-Define)) (called.ensures.follows p at)
+    (sym (asked_line place c.args.request c.in_default.not-Browse c.in_default.not-Define)) (called.ensures.follows p at)

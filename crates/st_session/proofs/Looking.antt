@@ -1,0 +1,51 @@
+-- What a session says of what it is asked to look at.
+use Rattle.std.proofs.Common.{◌≡◌, ◌≤◌, List, ℕ, [], Bool, true, false, refl, sym, arith}
+use Rattle.std.specs.Prelude.{Option, Some, None, is_some, unwrap_or, Result, Ok, Err, OnOk}
+use Rattle.st_model.specs.View.{View}
+use Rattle.st_world.specs.declared.world.World.{World}
+use Rattle.st_outside.specs.declared.host.Host.{Ghosts}
+use Rattle.st_outside.specs.declared.host.SayFault.{SayFault}
+use Rattle.st_outside.specs.Counts.{HasCause}
+use Rattle.st_outside.specs.Runs.{SaysAll}
+use Rattle.st_outside.specs.Telling.{Says}
+use Rattle.st_outside.proofs.Joining.{all_join}
+use Rattle.st_outside.proofs.Telling.{says_begun, says_then}
+use Rattle.st_frames.specs.declared.frame.Frame.{Frame}
+use Rattle.st_frames.specs.Shown.{IsReady, shown}
+use Rattle.st_course.specs.declared.status.Status.{Status}
+use Rattle.st_course.specs.declared.status.Status.TheVariants as status
+use Rattle.st_session.specs.Browsing.{memory_of}
+use Rattle.st_session.specs.Telling.{Tells}
+use Rattle.st_session.proofs.Saying.{tells_all, tells_part, tells_behind}
+
+-- a memory that is ready is as its machine's state has it
+pub memory_is : (v : View) (f : Frame) (w : World) → IsReady v f w → v ≡ memory_of (shown v f w)
+memory_is v f w ready = λ i. record {
+  objects = v.objects;
+  held = record {
+    active = sym ready.frame.active i;
+    home = sym ready.frame.home i;
+    method = sym ready.frame.method i;
+    receiver = sym ready.frame.receiver i;
+    devices = ready.devices i;
+  };
+  head = v.head;
+}
+
+module _ {D : Type 0} (host : Ghosts D) (missing : List ℕ) where
+  -- what is asked for is there, and was said
+  pub there_said : (o : Option (List ℕ)) (old new : D) → is_some o ≡ true → SaysAll host (unwrap_or o []) old new → Says host (unwrap_or o []) old new → Tells host (unwrap_or o missing) old new (Ok tt)
+  there_said None old new there all says = cc
+  there_said (Some text) old new there all says = tells_all host text old new all says
+
+  -- it is missing, and that was said
+  pub missing_said : (o : Option (List ℕ)) (old mid new : D) (result : Result Unit Status) → is_some o ≡ false → SaysAll host (unwrap_or o []) old mid → Says host (unwrap_or o []) old mid → Tells host missing mid new result
+      → Tells host (unwrap_or o missing) old new result
+  missing_said None old mid new result gone all says end = tells_behind host missing old mid new result all says end
+  missing_said (Some text) old mid new result gone all says end = cc
+
+  -- a fault came
+  pub fault_said : (o : Option (List ℕ)) (old new : D) (fault : SayFault) → Says host (unwrap_or o []) old new → HasCause {T = Bool} {E = SayFault} (host.say_faults old) (host.say_faults new) (Err fault)
+      → Tells host (unwrap_or o missing) old new (Err status.SayFault)
+  fault_said None old new fault says cause = tells_part host missing old new fault (says_begun missing says refl) (record { later = cause.later; rose = cause.rose })
+  fault_said (Some text) old new fault says cause = tells_part host text old new fault says (record { later = cause.later; rose = cause.rose })

@@ -1,0 +1,29 @@
+-- What a session says of what it is asked to look at.
+use Rattle.std.specs.Prelude.{ℕ, List, codes, unwrap_or}
+use Rattle.st_model.specs.Machine.{State}
+use Rattle.st_model.specs.Table.{Table}
+use Rattle.st_model.specs.View.{Held, View}
+use Rattle.st_world.specs.Naming.{filled}
+use Rattle.st_script.specs.Asks.{Ask}
+use Rattle.st_browse.specs.Asked.{reply}
+
+-- it is missing
+abbrev pub missing_text : List ℕ
+missing_text = codes "not found\n"
+
+-- what a memory shows of it, or that it is missing
+abbrev pub asked_text : View → Ask → List ℕ
+asked_text v ask = unwrap_or (reply v ask) missing_text
+
+-- a state as its memory has it: the registers and what the world names are held
+abbrev pub held_by : State Table → Held
+held_by s = record {
+  active = s.registers.active;
+  home = s.registers.home;
+  method = s.registers.method;
+  receiver = s.registers.receiver;
+  devices = filled s.world.devices;
+}
+
+abbrev pub memory_of : State Table → View
+memory_of s = record { objects = s.memory; held = held_by s; head = s.head }
