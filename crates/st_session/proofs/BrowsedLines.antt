@@ -1,27 +1,29 @@
 -- What is said of what a session is asked to look at are whole lines, which acknowledge nothing.
-use Rattle.std.proofs.Common.{◌≡◌, ℕ, ◌+◌, ◌*◌, Bool, true, false, List, [], ◌∷◌, ◌++◌, length, refl}
+use Rattle.std.proofs.Common.{◌≡◌, ℕ, ◌+◌, ◌*◌, ◌/◌, ◌%◌, Bool, true, false, List, [], ◌∷◌, ◌++◌, length, refl}
 use Rattle.std.specs.Prelude.{codes, Option, Some, None, option_map, option_and_then, unwrap_or, sum_by, if◌then◌else◌}
 use Rattle.std.specs.Fmt.{decimal}
-use Rattle.std.specs.List.{flat_map}
+use Rattle.std.specs.List.{flat_map, range_with_len}
 use Rattle.st_model.specs.declared.kind.Kind.{Kind}
 use Rattle.st_model.specs.declared.kind.Kind.TheVariants.{Pointers, Words, Bytes, Method}
 use Rattle.st_model.specs.Values.{Value, Small, Ref, value_of}
 use Rattle.st_model.specs.Objects.{Object, first_unit}
 use Rattle.st_model.specs.Table.{Table, entry}
-use Rattle.st_model.specs.Text.{value_text, values_text, numbers_text, kind_text, colon_text, object_text, escaped}
+use Rattle.st_model.specs.Text.{value_text, values_text, numbers_text, kind_text, colon_text, object_text, escaped, hexadecimal}
 use Rattle.st_model.specs.View.{View, object_of}
-use Rattle.st_script.specs.Asks.{Ask, Object as AsksObject, Classes, Methods, Bytecodes, Senders}
+use Rattle.st_model.specs.BitBlt.{Form}
+use Rattle.st_script.specs.Asks.{Ask, Object as AsksObject, Display, Classes, Methods, Bytecodes, Senders}
 use Rattle.st_browse.specs.Naming.{Named}
 use Rattle.st_browse.specs.Classes.{classes}
 use Rattle.st_browse.specs.Methods.{methods, has_method, method_named}
 use Rattle.st_browse.specs.Cutting.{codes_of}
+use Rattle.st_browse.specs.Display.{form_at, if_held, row_of, word_text, row_line, rows_text, form_text, display_reply}
 use Rattle.st_browse.specs.Replies.{count_text, object_reply, name_line, classes_text, methods_text, code_line, codes_text, bytecodes_text, side_text, sender_line, senders_lines, senders_on, senders_count, both_lines, senders_text}
 use Rattle.st_browse.specs.Asked.{class_of_side, bytecodes_of, bytecodes_in, reply}
 use Rattle.st_course.specs.Acknowledged.{counts, IsLines}
 use Rattle.st_course.proofs.Lawful.{lines_both}
 use Rattle.st_definition.proofs.Selectors.{IsInLine, both_in_line}
 use Rattle.st_session.specs.Browsing.{missing_text, asked_text}
-use Rattle.st_session.proofs.WholeLines.{IsLine, one_line, no_text, ends, behind, decimal_in_line, value_in_line, values_in_line, numbers_in_line, numbers_lines, escaped_in_line}
+use Rattle.st_session.proofs.WholeLines.{IsLine, one_line, no_text, put, hexadecimal_in_line, ends, behind, decimal_in_line, value_in_line, values_in_line, numbers_in_line, numbers_lines, escaped_in_line}
 
 -- LINES
 
@@ -76,6 +78,36 @@ object_lines n o =
 object_said : (t : Table) (v : Value) → IsLines 0 (unwrap_or (object_reply t v) missing_text)
 object_said t (Small n) = missing_lines
 object_said t (Ref n) = if_there (object_text n) (entry t n) (object_lines n)
+
+-- THE DISPLAY
+
+word_in_line : (w : ℕ) → IsInLine (word_text w)
+word_in_line w =
+    let last = hexadecimal (w % 16) ∷ [] in
+    let lower = hexadecimal (w / 16 % 16) ∷ last in
+    let upper = hexadecimal (w / 256 % 16) ∷ lower in
+    digit (w / 4096) upper (digit (w / 256 % 16) lower (digit (w / 16 % 16) last (digit (w % 16) [] refl)))
+  where
+    digit : (n : ℕ) (text : List ℕ) → IsInLine text → IsInLine (hexadecimal n ∷ text)
+    digit n text h = put (hexadecimal n) text (hexadecimal_in_line n) h
+
+words_in_line : (row : List ℕ) → IsInLine (flat_map word_text row)
+words_in_line [] = refl
+words_in_line (w ∷ row) = both_in_line (word_text w) (flat_map word_text row) (word_in_line w) (words_in_line row)
+
+row_lines : (row : List ℕ) → IsLines 0 (row_line row)
+row_lines row =
+    one_line 0 (row_line row) (behind (codes "row ") (flat_map word_text row ++ codes "\n") refl (behind (flat_map word_text row) (codes "\n") (words_in_line row) ends)) refl
+
+form_lines : (f : Form) → IsLines 0 (form_text f)
+form_lines f =
+    let size = f.width ∷ f.height ∷ [] in
+    lines_both 0 0 (codes "display" ++ (numbers_text size ++ codes "\n")) (rows_text f) (numbers_lines 0 (codes "display") size refl refl)
+    (all_lines (λ y. row_line (row_of f y)) (range_with_len 0 f.height) (λ y. row_lines (row_of f y)))
+
+display_said : (v : View) → IsLines 0 (unwrap_or (display_reply v) missing_text)
+unfolding display_reply
+display_said v = if_there form_text (option_and_then (form_at v.objects) (if_held v.held.devices.display)) form_lines
 
 -- NAMES
 
@@ -147,6 +179,7 @@ senders_said t selector cs =
 pub asked_lines : (v : View) (ask : Ask) → IsLines 0 (asked_text v ask)
 unfolding reply
 asked_lines v (AsksObject pointer) = object_said v.objects (value_of pointer)
+asked_lines v Display = display_said v
 asked_lines v Classes = classes_said v.objects v.head.globals
 asked_lines v (Methods side) = if_there (methods_text v.objects) (class_of_side v side) (methods_said v.objects)
 asked_lines v (Bytecodes side selector) = then_there (bytecodes_in v.objects selector) (class_of_side v side) (bytecodes_said v.objects selector)

@@ -31,7 +31,7 @@ is_false : (t : Bool) → not t ≡ true → t ≡ false
 is_false true e = absurd (cc)
 is_false false e = refl
 
-put : (b : ℕ) (w : List ℕ) → (b == 10) ≡ false → IsInLine w → IsInLine (b ∷ w)
+pub put : (b : ℕ) (w : List ℕ) → (b == 10) ≡ false → IsInLine w → IsInLine (b ∷ w)
 put b w e h = and_from _ _ (ap not e) h
 
 rest_of_line : (line w : List ℕ) → IsInLine w → rest_from line (w ++ 10 ∷ []) ≡ []
@@ -146,7 +146,7 @@ machine_lines s =
 
 -- BYTES THAT ARE SAID
 
-hexadecimal_in_line : (n : ℕ) → (hexadecimal n == 10) ≡ false
+pub hexadecimal_in_line : (n : ℕ) → (hexadecimal n == 10) ≡ false
 hexadecimal_in_line n = glyph (nat_lt n 10) n
 
 escaped_pair : (b : ℕ) → IsInLine (92 ∷ hexadecimal (b / 16) ∷ hexadecimal (b % 16) ∷ [])
