@@ -1,5 +1,5 @@
 -- Worked rows: what an image shows, computed from the definitions.
-use Rattle.std.proofs.Common.{◌≡◌, ℕ, List, [], ◌∷◌, Some, None, Option, refl}
+use Rattle.std.proofs.Common.{◌≡◌, List, [], ◌∷◌, Some, None, Option, refl}
 use Rattle.std.specs.Prelude.{codes, ◌++◌}
 use Rattle.st_model.specs.declared.kind.Kind.TheVariants as kind
 use Rattle.st_model.specs.declared.place.RootPlace.TheVariants as place

@@ -1,6 +1,6 @@
 -- What is read of a Form, step by step.
-use Rattle.std.proofs.Common.{◌≡◌, ◌≢◌, ℕ, suc, zero, ◌+◌, ◌*◌, ◌/◌, ◌<◌, ◌≤◌, List, [], ◌∷◌, take, length, Option, Some, None, Bool, true, false, refl, sym, ap, ◌∙◌, arith}
-use Rattle.std.specs.Prelude.{slice_get, is_some, unwrap_or, nat_lt, nat_le, ◌&&◌, ◌%◌, ◌==◌, option_map, option_and_then, get_or, if◌then◌else◌}
+use Rattle.std.proofs.Common.{◌≡◌, ◌≢◌, ℕ, ◌+◌, ◌*◌, ◌/◌, ◌<◌, ◌≤◌, List, take, length, Option, Some, None, Bool, true, false, refl, sym, ap, ◌∙◌, arith}
+use Rattle.std.specs.Prelude.{slice_get, is_some, unwrap_or, nat_lt, nat_le, ◌&&◌, ◌%◌, ◌==◌, option_map, option_and_then, if◌then◌else◌}
 use Rattle.std.specs.List.{range_with_len}
 use Rattle.std.proofs.lemmas.Bool.Decides.{nat_tests}
 use Rattle.st_model.specs.declared.dead.Dead.{Dead}
@@ -8,10 +8,8 @@ use Rattle.st_model.specs.declared.dead.Dead.TheVariants as dead
 use Rattle.std.proofs.lemmas.List.{take_all}
 use Rattle.std.proofs.lemmas.Option.{slice_get-get_or}
 use Rattle.std.proofs.lemmas.List.FromFn.{get_or-range_with_len, length-range_with_len}
-use Rattle.st_model.specs.declared.kind.Kind.{Kind}
-use Rattle.st_model.specs.declared.kind.Kind.TheVariants as kind
 use Rattle.st_model.specs.Values.{Value, Small, Ref, is_small, value_of}
-use Rattle.st_model.specs.Objects.{Object, is_pointers, is_words, size_of, nil}
+use Rattle.st_model.specs.Objects.{Object, is_pointers, is_words, nil}
 use Rattle.st_model.specs.Machine.{State, Transition, Died, Went, Step, answer, die, after, ◌>>=◌, ◌>>◌}
 use Rattle.st_model.specs.Table.{Table, table, entry}
 use Rattle.st_model.specs.Events.{is_held}
