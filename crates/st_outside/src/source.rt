@@ -9,7 +9,7 @@ pub struct ReadFault;
 /// Bytes that are read in, from first to last.
 ///
 /// A source that tells its bytes is one of which the clauses on them hold. Of every source the clauses on counts and
-/// lengths hold. What a call that fails takes is left open.
+/// lengths hold.
 pub trait Source {
     /// Whether sources of this type tell their bytes.
     ghost is_told: { Bool };
