@@ -14,7 +14,7 @@ use Rattle.st_memory.proofs.Bodies.{no_fields}
 
 -- lists
 
-set_first : (to : ℕ) (ws us : List ℕ) (x : ℕ) → to + length ws < length us → slice_set (laid to ws us) (to + length ws) x ≡ laid to (ws ++ (x ∷ [])) us
+pub set_first : (to : ℕ) (ws us : List ℕ) (x : ℕ) → to + length ws < length us → slice_set (laid to ws us) (to + length ws) x ≡ laid to (ws ++ (x ∷ [])) us
 set_first zero [] [] x l = absurd (omega (arith, l))
 set_first zero [] (u ∷ us) x l = refl
 set_first zero (w ∷ ws) [] x l = absurd (omega (arith, l))
@@ -31,13 +31,13 @@ set_last a ws [] x l = absurd (omega (arith, l))
 set_last zero ws (u ∷ us) x l = refl
 set_last (suc a) ws (u ∷ us) x l = ap (λ q. u ∷ q) (set_last a ws us x (omega (arith, l)))
 
-got_below : (to i : ℕ) (ws us : List ℕ) → i < to → slice_get (laid to ws us) i ≡ slice_get us i
+pub got_below : (to i : ℕ) (ws us : List ℕ) → i < to → slice_get (laid to ws us) i ≡ slice_get us i
 got_below zero i ws us l = absurd (omega (arith, l))
 got_below (suc to) i ws [] l = refl
 got_below (suc to) zero ws (u ∷ us) l = refl
 got_below (suc to) (suc i) ws (u ∷ us) l = got_below to i ws us (omega (arith, l))
 
-got_above : (to i : ℕ) (ws us : List ℕ) → to + length ws ≤ i → slice_get (laid to ws us) i ≡ slice_get us i
+pub got_above : (to i : ℕ) (ws us : List ℕ) → to + length ws ≤ i → slice_get (laid to ws us) i ≡ slice_get us i
 got_above zero i [] us l = refl
 got_above zero i (w ∷ ws) [] l = refl
 got_above zero zero (w ∷ ws) (u ∷ us) l = absurd (omega (arith, l))
@@ -46,14 +46,14 @@ got_above (suc to) i ws [] l = refl
 got_above (suc to) zero ws (u ∷ us) l = absurd (omega (arith, l))
 got_above (suc to) (suc i) ws (u ∷ us) l = got_above to i ws us (omega (arith, l))
 
-length-laid : (to : ℕ) (ws us : List ℕ) → length (laid to ws us) ≡ length us
+pub length-laid : (to : ℕ) (ws us : List ℕ) → length (laid to ws us) ≡ length us
 length-laid zero [] us = refl
 length-laid zero (w ∷ ws) [] = refl
 length-laid zero (w ∷ ws) (u ∷ us) = let q = length-laid zero ws us in omega (arith, q)
 length-laid (suc to) ws [] = refl
 length-laid (suc to) ws (u ∷ us) = let q = length-laid to ws us in omega (arith, q)
 
-taken_more : (vs : List ℕ) (from k x : ℕ) → slice_get vs (from + k) ≡ Some x → take (suc k) (drop from vs) ≡ take k (drop from vs) ++ (x ∷ [])
+pub taken_more : (vs : List ℕ) (from k x : ℕ) → slice_get vs (from + k) ≡ Some x → take (suc k) (drop from vs) ≡ take k (drop from vs) ++ (x ∷ [])
 taken_more [] from k x e = none from k e
   where
     none : (from k : ℕ) → slice_get {X = ℕ} [] (from + k) ≡ Some x → take (suc k) (drop from []) ≡ take k (drop from []) ++ (x ∷ [])
@@ -71,7 +71,7 @@ taken_before [] b m x e = cc
 taken_before (v ∷ vs) zero m x e = let q : v ≡ x = cc in ap (λ y. y ∷ take m vs) (sym q)
 taken_before (v ∷ vs) (suc b) m x e = taken_before vs b m x e
 
-length-taken : (vs : List ℕ) (from k : ℕ) → from + k ≤ length vs → length (take k (drop from vs)) ≡ k
+pub length-taken : (vs : List ℕ) (from k : ℕ) → from + k ≤ length vs → length (take k (drop from vs)) ≡ k
 length-taken vs from zero l = refl
 length-taken [] from (suc k) l = absurd (omega (arith, l))
 length-taken (v ∷ vs) zero (suc k) l = let q = length-taken vs zero k (omega (arith, l)) in omega (arith, q)

@@ -15,6 +15,7 @@ pub mod Renaming
 pub mod Replaying
 pub mod Sizes
 pub mod Storing
+pub mod Stretches
 mod Swapping
 pub mod Units
 mod Wide

@@ -1,4 +1,4 @@
--- Bytes of one object that become those of another.
+-- Stretches of the words or bytes of an object, and bytes of one object that become those of another.
 use Rattle.std.specs.Prelude.{◌≡◌, ℕ, zero, suc, ◌+◌, ◌≤◌, true, List, [], ◌∷◌, take, drop, length}
 use Rattle.st_model.specs.Values.{Value, Small, Ref}
 use Rattle.st_model.specs.Objects.{is_bytes, with_units}
@@ -11,7 +11,7 @@ pub record HasBytes (t : Table) (v : Value) (from n : ℕ) : Type 0 where
   pub kind : is_bytes (object_of t v).kind ≡ true
   pub bytes : from + n ≤ length (object_of t v).units
 
--- these in the place of the bytes from one on
+-- these in the place of those from one on
 abbrev pub laid : ℕ → List ℕ → List ℕ → List ℕ
 laid zero [] us = us
 laid zero (w ∷ ws) [] = []
@@ -24,7 +24,14 @@ unfoldable pub with_units_in : Table → Value → List ℕ → Table
 with_units_in t (Small n) us = t
 with_units_in t (Ref n) us = changed t n (with_units (object_of t (Ref n)) us)
 
+-- n words or bytes of an object, from one on
+abbrev pub units_from : Table → Value → ℕ → ℕ → List ℕ
+units_from t v from n = take n (drop from (object_of t v).units)
+
+-- the table with these in the place of the words or bytes of an object, from one on
+abbrev pub with_run : Table → Value → ℕ → List ℕ → Table
+with_run t v to ws = with_units_in t v (laid to ws (object_of t v).units)
+
 -- the table in which n bytes of one object, from one on, are copied to those of another, all as they were before
 abbrev pub with_bytes_of : Table → Value → ℕ → Value → ℕ → ℕ → Table
-with_bytes_of t source from target to n =
-    with_units_in t target (laid to (take n (drop from (object_of t source).units)) (object_of t target).units)
+with_bytes_of t source from target to n = with_run t target to (units_from t source from n)

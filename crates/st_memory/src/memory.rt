@@ -1,10 +1,11 @@
-ghost use Rattle.std.specs.Prelude.{◌≡◌, ◌<◌, ◌≤◌, ◌-◌, ◌/◌, length, slice_get, Some, true, false, IfSome, IfNone};
+ghost use Rattle.std.specs.Prelude.{◌≡◌, ◌<◌, ◌≤◌, ◌+◌, ◌-◌, ◌/◌, length, slice_get, Some, true, false, IfSome, IfNone};
 ghost use Rattle.st_model.specs.declared.oop.Oop.{Oop};
 ghost use Rattle.st_model.specs.Values.{value, Ref};
 ghost use Rattle.st_model.specs.Objects.{is_method, is_words, size_of, words_of, first_unit, one};
 ghost use Rattle.st_model.specs.Table.{total_used, first_free, placed};
 ghost use Rattle.st_model.specs.Formed.{IsHeader, IsMakeable, fresh};
 ghost use Rattle.st_model.specs.View.{View, IsKnown, is_live, object_of, IsWhole, IsPlace, held_at, with_held, with_stored, with_unit, with_exchanged, is_instance, table_of, SettlesTo, demand_of, fits};
+ghost use Rattle.st_memory.specs.Copied.{units_from, with_run};
 
 use st_model::{Demand, Kind, Oop, RootPlace};
 
@@ -91,6 +92,63 @@ pub trait Memory: Drop {
             (view self.new).objects ≡ with_unit (view self.old).objects (value o) (at - first) v }
         ensures held { (view self.new).held ≡ (view self.old).held }
         ensures head { (view self.new).head ≡ (view self.old).head };
+
+    /// Reads the words of an object of kind Words from `at` on, as many as there is room for.
+    fn read_words(&self, o: Oop, at: u32, into: &mut [u16])
+        requires live { is_live (view self.now).objects (value o) ≡ true }
+        requires kind { is_words (object_of (view self.now).objects (value o)).kind ≡ true }
+        requires range { at + length into.old ≤ size_of (object_of (view self.now).objects (value o)) }
+        ensures { into.new ≡ units_from (view self.now).objects (value o) at (length into.old) }
+    {
+        for i in 0..into.len() as u32 {
+            into[i as usize] = self.word(o, at + i);
+        }
+    }
+
+    /// Reads the bytes of an object of kind Bytes or Method from `at` on, as many as there is room for; of a Method from the
+    /// first bytecode on.
+    fn read_bytes(&self, o: Oop, at: u32, into: &mut [u8])
+        requires live { is_live (view self.now).objects (value o) ≡ true }
+        requires kind { is_words (object_of (view self.now).objects (value o)).kind ≡ false }
+        requires above { first_unit (object_of (view self.now).objects (value o)) ≤ at }
+        requires range { at + length into.old ≤ size_of (object_of (view self.now).objects (value o)) }
+        ensures { let first = first_unit (object_of (view self.now).objects (value o)) in
+            into.new ≡ units_from (view self.now).objects (value o) (at - first) (length into.old) }
+    {
+        for i in 0..into.len() as u32 {
+            into[i as usize] = self.byte(o, at + i);
+        }
+    }
+
+    /// Stores words in those of an object of kind Words from `at` on.
+    fn write_words(&mut self, o: Oop, at: u32, words: &[u16])
+        requires live { is_live (view self.old).objects (value o) ≡ true }
+        requires kind { is_words (object_of (view self.old).objects (value o)).kind ≡ true }
+        requires range { at + length words.now ≤ size_of (object_of (view self.old).objects (value o)) }
+        ensures objects { (view self.new).objects ≡ with_run (view self.old).objects (value o) at words.now }
+        ensures held { (view self.new).held ≡ (view self.old).held }
+        ensures head { (view self.new).head ≡ (view self.old).head }
+    {
+        for i in 0..words.len() as u32 {
+            self.set_word(o, at + i, words[i as usize]);
+        }
+    }
+
+    /// Stores bytes in those of an object of kind Bytes or Method from `at` on; of a Method from the first bytecode on.
+    fn write_bytes(&mut self, o: Oop, at: u32, bytes: &[u8])
+        requires live { is_live (view self.old).objects (value o) ≡ true }
+        requires kind { is_words (object_of (view self.old).objects (value o)).kind ≡ false }
+        requires above { first_unit (object_of (view self.old).objects (value o)) ≤ at }
+        requires range { at + length bytes.now ≤ size_of (object_of (view self.old).objects (value o)) }
+        ensures objects { let first = first_unit (object_of (view self.old).objects (value o)) in
+            (view self.new).objects ≡ with_run (view self.old).objects (value o) (at - first) bytes.now }
+        ensures held { (view self.new).held ≡ (view self.old).held }
+        ensures head { (view self.new).head ≡ (view self.old).head }
+    {
+        for i in 0..bytes.len() as u32 {
+            self.set_byte(o, at + i, bytes[i as usize]);
+        }
+    }
 
     /// Whether d fits within the capacities beside the objects that are kept, wherever free words lie.
     fn room(&self, d: Demand) -> bool
