@@ -1,8 +1,8 @@
 //! A region of words of 16 bits, seen as a list.
 #![tactic(auto)]
 
-ghost use Rattle.std.specs.Prelude.{◌≡◌, ℕ, ◌+◌, ◌<◌, ◌≤◌, length, replicate, slice_index, slice_set, IfOk};
-ghost use Rattle.st_cells.specs.Words.{slid};
+ghost use Rattle.std.specs.Prelude.{◌≡◌, ℕ, ◌+◌, ◌<◌, ◌≤◌, length, replicate, take, drop, slice_index, slice_set, IfOk};
+ghost use Rattle.st_cells.specs.Words.{slid, with_run};
 
 use std::alloc::{AllocError, Global};
 use std::marker::Model;
@@ -46,6 +46,25 @@ impl Cells {
         ensures { self.new ≡ slice_set self.old i w }
     {
         self.words[i as usize] = w;
+    }
+
+    /// Reads the words from a place on, as many as there is room for.
+    pub fn read(&self, at: u32, into: &mut [u16])
+        requires { at + length into.old ≤ length self.now }
+        ensures { into.new ≡ take (length into.old) (drop at self.now) }
+    {
+        let first = at as usize;
+        into.copy_from_slice(&self.words[first..first + into.len()]);
+    }
+
+    /// Writes words from a place on.
+    pub fn write(&mut self, at: u32, words: &[u16])
+        requires { at + length words.now ≤ length self.old }
+        ensures length { length self.new ≡ length self.old }
+        ensures words { self.new ≡ with_run self.old at words.now }
+    {
+        let first = at as usize;
+        self.words[first..first + words.len()].copy_from_slice(words);
     }
 
     /// Moves n words down, in rising order of places: those from `from` on come to `to`. All words outside of the n at

@@ -1,6 +1,7 @@
--- What bytes stand in an object while others are copied there one after the other.
+-- What bytes stand in an object while others are copied there piece by piece.
 use Rattle.std.proofs.Common.{◌≡◌, ◌≢◌, ℕ, zero, suc, ◌+◌, ◌-◌, ◌*◌, ◌<◌, ◌≤◌, true, false, List, [], ◌∷◌, ◌++◌, length, take, drop, refl, sym, ap, ◌∙◌, subst, arith, is_some, inl, inr}
 use Rattle.std.specs.Prelude.{slice_get, slice_set, unwrap_or, Some, None, if◌then◌else◌}
+use Rattle.std.proofs.Math.Seq.{take-add}
 use Rattle.st_model.specs.declared.kind.Kind.{Kind}
 use Rattle.st_model.specs.declared.kind.Kind.TheVariants as kind
 use Rattle.st_model.specs.Values.{Value, Small, Ref}
@@ -9,7 +10,7 @@ use Rattle.st_model.specs.Table.{Table, entry, changed}
 use Rattle.st_model.specs.View.{View, IsWhole, is_live, object_of, with_unit, nothing}
 use Rattle.st_model.proofs.TableLemmas.{changed-other}
 use Rattle.st_model.proofs.Transfers.{same_or_not}
-use Rattle.st_memory.specs.Copied.{HasBytes, laid, with_units_in, with_bytes_of}
+use Rattle.st_memory.specs.Copied.{HasBytes, laid, units_from, with_units_in, with_run, with_bytes_of}
 use Rattle.st_memory.proofs.Bodies.{no_fields}
 
 -- lists
@@ -26,25 +27,59 @@ set_first (suc to) ws (u ∷ us) x l =
     let e : suc to + length ws ≡ suc (to + length ws) = omega arith in
     ap (λ i. slice_set (u ∷ laid to ws us) i x) e ∙ ap (λ q. u ∷ q) (set_first to ws us x (omega (arith, l)))
 
-set_last : (a : ℕ) (ws us : List ℕ) (x : ℕ) → a < length us → slice_set (laid (suc a) ws us) a x ≡ laid a (x ∷ ws) us
-set_last a ws [] x l = absurd (omega (arith, l))
-set_last zero ws (u ∷ us) x l = refl
-set_last (suc a) ws (u ∷ us) x l = ap (λ q. u ∷ q) (set_last a ws us x (omega (arith, l)))
+drop_laid : (to i : ℕ) (ws us : List ℕ) → to + length ws ≤ i → drop i (laid to ws us) ≡ drop i us
+drop_laid zero i [] us l = refl
+drop_laid zero i (w ∷ ws) [] l = refl
+drop_laid zero zero (w ∷ ws) (u ∷ us) l = absurd (omega (arith, l))
+drop_laid zero (suc i) (w ∷ ws) (u ∷ us) l = drop_laid zero i ws us (omega (arith, l))
+drop_laid (suc to) i ws [] l = refl
+drop_laid (suc to) zero ws (u ∷ us) l = absurd (omega (arith, l))
+drop_laid (suc to) (suc i) ws (u ∷ us) l = drop_laid to i ws us (omega (arith, l))
 
-pub got_below : (to i : ℕ) (ws us : List ℕ) → i < to → slice_get (laid to ws us) i ≡ slice_get us i
-got_below zero i ws us l = absurd (omega (arith, l))
-got_below (suc to) i ws [] l = refl
-got_below (suc to) zero ws (u ∷ us) l = refl
-got_below (suc to) (suc i) ws (u ∷ us) l = got_below to i ws us (omega (arith, l))
+take_laid : (to i m : ℕ) (ws us : List ℕ) → i + m ≤ to → take m (drop i (laid to ws us)) ≡ take m (drop i us)
+take_laid to zero zero ws us l = refl
+take_laid zero zero (suc m) ws us l = absurd (omega (arith, l))
+take_laid (suc to) zero (suc m) ws [] l = refl
+take_laid (suc to) zero (suc m) ws (u ∷ us) l = ap (λ q. u ∷ q) (take_laid to zero m ws us (omega (arith, l)))
+take_laid zero (suc i) m ws us l = absurd (omega (arith, l))
+take_laid (suc to) (suc i) m ws [] l = refl
+take_laid (suc to) (suc i) m ws (u ∷ us) l = take_laid to i m ws us (omega (arith, l))
 
-pub got_above : (to i : ℕ) (ws us : List ℕ) → to + length ws ≤ i → slice_get (laid to ws us) i ≡ slice_get us i
-got_above zero i [] us l = refl
-got_above zero i (w ∷ ws) [] l = refl
-got_above zero zero (w ∷ ws) (u ∷ us) l = absurd (omega (arith, l))
-got_above zero (suc i) (w ∷ ws) (u ∷ us) l = got_above zero i ws us (omega (arith, l))
-got_above (suc to) i ws [] l = refl
-got_above (suc to) zero ws (u ∷ us) l = absurd (omega (arith, l))
-got_above (suc to) (suc i) ws (u ∷ us) l = got_above to i ws us (omega (arith, l))
+-- two stretches that follow each other, the second one behind the first
+laid_behind : (to : ℕ) (ws xs us : List ℕ) → laid (to + length ws) xs (laid to ws us) ≡ laid to (ws ++ xs) us
+laid_behind zero [] xs us = refl
+laid_behind zero (w ∷ ws) xs [] = ap (λ k. laid k xs []) len ∙ refl
+  where
+    len : 0 + suc (length ws) ≡ suc (length ws)
+    len = omega arith
+laid_behind zero (w ∷ ws) xs (u ∷ us) =
+    let e : 0 + suc (length ws) ≡ suc (0 + length ws) = omega arith in
+    ap (λ k. laid k xs (w ∷ laid 0 ws us)) e ∙ ap (λ q. w ∷ q) (laid_behind zero ws xs us)
+laid_behind (suc to) ws xs [] =
+    let e : suc to + length ws ≡ suc (to + length ws) = omega arith in
+    ap (λ k. laid k xs []) e
+laid_behind (suc to) ws xs (u ∷ us) =
+    let e : suc to + length ws ≡ suc (to + length ws) = omega arith in
+    ap (λ k. laid k xs (u ∷ laid to ws us)) e ∙ ap (λ q. u ∷ q) (laid_behind to ws xs us)
+
+-- and the first one before the second
+laid_before : (to : ℕ) (ws xs us : List ℕ) → laid to ws (laid (to + length ws) xs us) ≡ laid to (ws ++ xs) us
+laid_before zero [] xs us = nothing_before (laid (0 + 0) xs us)
+  where
+    nothing_before : (ys : List ℕ) → laid 0 [] ys ≡ ys
+    nothing_before ys = refl
+laid_before zero (w ∷ ws) xs [] =
+    let e : 0 + suc (length ws) ≡ suc (length ws) = omega arith in
+    ap (λ k. laid 0 (w ∷ ws) (laid k xs [])) e
+laid_before zero (w ∷ ws) xs (u ∷ us) =
+    let e : 0 + suc (length ws) ≡ suc (0 + length ws) = omega arith in
+    ap (λ k. laid 0 (w ∷ ws) (laid k xs (u ∷ us))) e ∙ ap (λ q. w ∷ q) (laid_before zero ws xs us)
+laid_before (suc to) ws xs [] =
+    let e : suc to + length ws ≡ suc (to + length ws) = omega arith in
+    ap (λ k. laid (suc to) ws (laid k xs [])) e
+laid_before (suc to) ws xs (u ∷ us) =
+    let e : suc to + length ws ≡ suc (to + length ws) = omega arith in
+    ap (λ k. laid (suc to) ws (laid k xs (u ∷ us))) e ∙ ap (λ q. u ∷ q) (laid_before to ws xs us)
 
 pub length-laid : (to : ℕ) (ws us : List ℕ) → length (laid to ws us) ≡ length us
 length-laid zero [] us = refl
@@ -66,10 +101,19 @@ taken_more (v ∷ vs) (suc from) k x e =
     let f : suc from + k ≡ suc (from + k) = omega arith in
     taken_more vs from k x (sym (ap (slice_get (v ∷ vs)) f) ∙ e)
 
-taken_before : (vs : List ℕ) (b m x : ℕ) → slice_get vs b ≡ Some x → x ∷ take m (drop (suc b) vs) ≡ take (suc m) (drop b vs)
-taken_before [] b m x e = cc
-taken_before (v ∷ vs) zero m x e = let q : v ≡ x = cc in ap (λ y. y ∷ take m vs) (sym q)
-taken_before (v ∷ vs) (suc b) m x e = taken_before vs b m x e
+drop_none : (k : ℕ) → drop {A = ℕ} k [] ≡ []
+drop_none zero = refl
+drop_none (suc k) = refl
+
+drop_more : (from k : ℕ) (vs : List ℕ) → drop k (drop from vs) ≡ drop (from + k) vs
+drop_more zero k vs = ap (λ j. drop j vs) (omega arith)
+drop_more (suc from) k [] = drop_none k ∙ sym (drop_none (suc from + k))
+drop_more (suc from) k (v ∷ vs) =
+    let e : suc from + k ≡ suc (from + k) = omega arith in
+    drop_more from k vs ∙ sym (ap (λ j. drop j (v ∷ vs)) e)
+
+taken_both : (vs : List ℕ) (from k m : ℕ) → take k (drop from vs) ++ take m (drop (from + k) vs) ≡ take (k + m) (drop from vs)
+taken_both vs from k m = ap (λ q. take k (drop from vs) ++ take m q) (sym (drop_more from k vs)) ∙ sym (take-add k m (drop from vs))
 
 pub length-taken : (vs : List ℕ) (from k : ℕ) → from + k ≤ length vs → length (take k (drop from vs)) ≡ k
 length-taken vs from zero l = refl
@@ -184,7 +228,7 @@ bytes_pointers kind.Words e = cc
 bytes_pointers kind.Bytes e = refl
 bytes_pointers kind.Method e = cc
 
-module _ {v : View} {x : Value} {i : ℕ} (whole : IsWhole v) (has : HasBytes v.objects x i 1) where
+module _ {v : View} {x : Value} {i n : ℕ} (whole : IsWhole v) (has : HasBytes v.objects x i n) where
   pub no_words : is_words (object_of v.objects x).kind ≡ false
   no_words = bytes_words (object_of v.objects x).kind has.kind
 
@@ -194,11 +238,11 @@ module _ {v : View} {x : Value} {i : ℕ} (whole : IsWhole v) (has : HasBytes v.
   pub above_first : first_unit (object_of v.objects x) ≤ i
   above_first = let f = first_is_none in omega (arith, f)
 
-  pub below_size : i < size_of (object_of v.objects x)
+  pub below_size : i + n ≤ size_of (object_of v.objects x)
   below_size =
       let o = object_of v.objects x in
       let b = has.bytes in
-      subst (λ p. i < (if p then length o.fields else 2 * length o.fields + length o.units)) (sym (bytes_pointers o.kind has.kind)) (omega (arith, b))
+      subst (λ p. i + n ≤ (if p then length o.fields else 2 * length o.fields + length o.units)) (sym (bytes_pointers o.kind has.kind)) (omega (arith, b))
 
 module _ (t u : Table) (s v : Value) (from to n : ℕ) (us : List ℕ) (source : HasBytes t s from n) (target : HasBytes t v to n) (same : length us ≡ length (object_of t v).units) (is : u ≡ with_units_in t v us) where
   live_of : (x : Value) → is_live t x ≡ true → is_live u x ≡ true
@@ -218,29 +262,25 @@ module _ (t u : Table) (s v : Value) (from to n : ℕ) (us : List ℕ) (source :
     | inr d ↦ ap (λ w. length (object_of w x).units) is ∙ ap (λ (o : Object). length o.units) (object_other t v us x d)
   ]
 
-  has_of : (x : Value) (at k : ℕ) → HasBytes t x at n → k < n → HasBytes u x (at + k) 1
-  has_of x at k has l = record {
+  has_of : (x : Value) (at k m : ℕ) → HasBytes t x at n → k + m ≤ n → HasBytes u x (at + k) m
+  has_of x at k m has l = record {
     live = live_of x has.live;
     kind = ap is_bytes (kind_of x) ∙ has.kind;
     bytes = let c = count_of x in let b = has.bytes in omega (arith, c, b, l);
   }
 
-  pub has_source : (k : ℕ) → k < n → HasBytes u s (from + k) 1
-  has_source k l = has_of s from k source l
+  pub has_source : (k m : ℕ) → k + m ≤ n → HasBytes u s (from + k) m
+  has_source k m l = has_of s from k m source l
 
-  pub has_target : (k : ℕ) → k < n → HasBytes u v (to + k) 1
-  has_target k l = has_of v to k target l
+  pub has_target : (k m : ℕ) → k + m ≤ n → HasBytes u v (to + k) m
+  has_target k m l = has_of v to k m target l
 
--- the bytes that are copied from an object
-abbrev pub bytes_from : Table → Value → ℕ → ℕ → List ℕ
-bytes_from t s from k = take k (drop from (object_of t s).units)
-
--- and those of the other one where they are
+-- the bytes of one object that are copied, where they are copied to
 abbrev pub bytes_with : Table → Value → ℕ → Value → ℕ → ℕ → List ℕ
-bytes_with t s from v to k = laid to (bytes_from t s from k) (object_of t v).units
+bytes_with t s from v to k = laid to (units_from t s from k) (object_of t v).units
 
 pub length-with : (t : Table) (s : Value) (from : ℕ) (v : Value) (to k : ℕ) → length (bytes_with t s from v to k) ≡ length (object_of t v).units
-length-with t s from v to k = length-laid to (bytes_from t s from k) (object_of t v).units
+length-with t s from v to k = length-laid to (units_from t s from k) (object_of t v).units
 
 pub none_laid : (t : Table) (s : Value) (from : ℕ) (v : Value) (to : ℕ) → is_live t v ≡ true → t ≡ with_bytes_of t s from v to 0
 none_laid t s from v to live = sym (ap (with_units_in t v) (nothing_laid to (object_of t v).units) ∙ units_none t v live)
@@ -250,56 +290,57 @@ none_laid t s from v to live = sym (ap (with_units_in t v) (nothing_laid to (obj
     nothing_laid (suc to) [] = refl
     nothing_laid (suc to) (u ∷ us) = ap (λ q. u ∷ q) (nothing_laid to us)
 
-module _ (t u w : Table) (s v : Value) (from to n k x : ℕ) (source : HasBytes t s from n) (target : HasBytes t v to n) (low : k < n) where
-  stored_is : (us : List ℕ) (first : ℕ) → u ≡ with_units_in t v us → first ≡ 0 → w ≡ with_unit u v (to + k - first) x → w ≡ with_units_in t v (slice_set us (to + k) x)
-  stored_is us first is none stored =
-      let e : to + k - first ≡ to + k = omega (arith, none) in
-      stored ∙ ap (λ i. with_unit u v i x) e ∙ ap (λ y. with_unit y v (to + k) x) is ∙ unit_again t v us (to + k) x target.live
-
-  read_is : (us : List ℕ) (first : ℕ) → u ≡ with_units_in t v us → first ≡ 0 → (s ≡ v → slice_get us (from + k) ≡ slice_get (object_of t v).units (from + k)) → slice_get (object_of u s).units (from + k - first) ≡ Some x
-      → slice_get (object_of t s).units (from + k) ≡ Some x
-  read_is us first is none old read =
-      let e : from + k - first ≡ from + k = omega (arith, none) in
-      let r = sym (ap (λ y. slice_get (object_of y s).units (from + k)) is) ∙ sym (ap (slice_get (object_of u s).units) e) ∙ read in
-      elim (same_or_not s v) [
+module _ (t u w : Table) (s v : Value) (from to n k m : ℕ) (source : HasBytes t s from n) (target : HasBytes t v to n) (low : k + m ≤ n) where
+  -- what is read of a table in which other bytes were copied
+  read_is : (us : List ℕ) (at : ℕ) → u ≡ with_units_in t v us → (s ≡ v → take m (drop at us) ≡ take m (drop at (object_of t v).units)) → units_from u s at m ≡ units_from t s at m
+  read_is us at is old =
+      ap (λ y. units_from y s at m) is ∙ elim (same_or_not s v) [
         | inl q ↦
-            ap (λ y. slice_get (object_of t y).units (from + k)) q ∙ sym (old q)
-            ∙ sym (ap (λ (o : Object). slice_get o.units (from + k)) (object_here t v us target.live))
-            ∙ ap (λ y. slice_get (object_of (with_units_in t v us) y).units (from + k)) (sym q) ∙ r
-        | inr d ↦ sym (ap (λ (o : Object). slice_get o.units (from + k)) (object_other t v us s d)) ∙ r
+            ap (λ y. units_from (with_units_in t v us) y at m) q
+            ∙ ap (λ (o : Object). take m (drop at o.units)) (object_here t v us target.live)
+            ∙ old q ∙ ap (λ y. units_from t y at m) (sym q)
+        | inr d ↦ ap (λ (o : Object). take m (drop at o.units)) (object_other t v us s d)
       ]
 
+  stored_is : (us ws : List ℕ) (at : ℕ) → u ≡ with_units_in t v us → w ≡ with_run u v at ws → w ≡ with_units_in t v (laid at ws us)
+  stored_is us ws at is stored =
+      stored ∙ ap (λ y. with_run y v at ws) is
+      ∙ ap (λ (o : Object). with_units_in (with_units_in t v us) v (laid at ws o.units)) (object_here t v us target.live)
+      ∙ units_again t v us (laid at ws us) target.live
+
   -- the lowest first
-  pub first_more : (a b : ℕ) → (s ≡ v → to ≤ from) → u ≡ with_bytes_of t s from v to k → a ≡ 0 → slice_get (object_of u s).units (from + k - a) ≡ Some x
-      → b ≡ 0 → w ≡ with_unit u v (to + k - b) x → w ≡ with_bytes_of t s from v to (suc k)
-  first_more a b down is first_s read first_v stored =
+  pub first_more : (s ≡ v → to ≤ from) → u ≡ with_bytes_of t s from v to k → w ≡ with_bytes_of u s (from + k) v (to + k) m → w ≡ with_bytes_of t s from v to (k + m)
+  first_more down is stored =
       let vs = (object_of t s).units in
       let us = (object_of t v).units in
       let c = source.bytes in
-      let d = target.bytes in
+      let xs = units_from t s from k in
       let long = length-taken vs from k (omega (arith, c, low)) in
-      let got = read_is (bytes_with t s from v to k) a is first_s (λ q. let l = down q in got_above to (from + k) (bytes_from t s from k) us (omega (arith, l, long))) read in
-      let at : to + k ≡ to + length (bytes_from t s from k) = omega (arith, long) in
-      stored_is (bytes_with t s from v to k) b is first_v stored
-      ∙ ap (λ i. with_units_in t v (slice_set (bytes_with t s from v to k) i x)) at
-      ∙ ap (with_units_in t v) (set_first to (bytes_from t s from k) us x (omega (arith, long, d, low)) ∙ ap (λ ws. laid to ws us) (sym (taken_more vs from k x got)))
+      let read = read_is (laid to xs us) (from + k) is (λ q. ap (take m) (drop_laid to (from + k) xs us (let l = down q in omega (arith, l, long)))) in
+      let at : to + k ≡ to + length xs = omega (arith, long) in
+      stored_is (laid to xs us) (units_from u s (from + k) m) (to + k) is stored
+      ∙ ap (λ ws. with_units_in t v (laid (to + k) ws (laid to xs us))) read
+      ∙ ap (λ j. with_units_in t v (laid j (units_from t s (from + k) m) (laid to xs us))) at
+      ∙ ap (with_units_in t v) (laid_behind to xs (units_from t s (from + k) m) us ∙ ap (λ ws. laid to ws us) (taken_both vs from k m))
 
   -- the highest first
-  pub last_more : (a b : ℕ) → (s ≡ v → from ≤ to) → u ≡ with_bytes_of t s (from + suc k) v (to + suc k) (n - suc k) → a ≡ 0 → slice_get (object_of u s).units (from + k - a) ≡ Some x
-      → b ≡ 0 → w ≡ with_unit u v (to + k - b) x → w ≡ with_bytes_of t s (from + k) v (to + k) (n - k)
-  last_more a b up is first_s read first_v stored =
+  pub last_more : (s ≡ v → from ≤ to) → u ≡ with_bytes_of t s (from + (k + m)) v (to + (k + m)) (n - (k + m)) → w ≡ with_bytes_of u s (from + k) v (to + k) m → w ≡ with_bytes_of t s (from + k) v (to + k) (n - k)
+  last_more up is stored =
       let vs = (object_of t s).units in
       let us = (object_of t v).units in
-      let d = target.bytes in
-      let ws = bytes_from t s (from + suc k) (n - suc k) in
-      let got = read_is (laid (to + suc k) ws us) a is first_s (λ q. let l = up q in got_below (to + suc k) (from + k) ws us (omega (arith, l))) read in
-      let e : to + suc k ≡ suc (to + k) = omega arith in
-      let f : from + suc k ≡ suc (from + k) = omega arith in
-      let m : suc (n - suc k) ≡ n - k = omega (arith, low) in
-      stored_is (laid (to + suc k) ws us) b is first_v stored
-      ∙ ap (λ j. with_units_in t v (slice_set (laid j ws us) (to + k) x)) e
+      let c = source.bytes in
+      let xs = units_from t s (from + k) m in
+      let ys = units_from t s (from + (k + m)) (n - (k + m)) in
+      let long = length-taken vs (from + k) m (omega (arith, c, low)) in
+      let read = read_is (laid (to + (k + m)) ys us) (from + k) is (λ q. take_laid (to + (k + m)) (from + k) m ys us (let l = up q in omega (arith, l))) in
+      let at : to + (k + m) ≡ to + k + length xs = omega (arith, long) in
+      let behind : from + (k + m) ≡ from + k + m = omega arith in
+      let rest : m + (n - (k + m)) ≡ n - k = omega (arith, low) in
+      stored_is (laid (to + (k + m)) ys us) (units_from u s (from + k) m) (to + k) is stored
+      ∙ ap (λ ws. with_units_in t v (laid (to + k) ws (laid (to + (k + m)) ys us))) read
+      ∙ ap (λ j. with_units_in t v (laid (to + k) xs (laid j ys us))) at
       ∙ ap (with_units_in t v)
-      (set_last (to + k) ws us x (omega (arith, d, low))
-      ∙ ap (λ j. laid (to + k) (x ∷ take (n - suc k) (drop j vs)) us) f
-      ∙ ap (λ q. laid (to + k) q us) (taken_before vs (from + k) (n - suc k) x got)
-      ∙ ap (λ j. laid (to + k) (take j (drop (from + k) vs)) us) m)
+      (laid_before (to + k) xs ys us
+      ∙ ap (λ j. laid (to + k) (xs ++ take (n - (k + m)) (drop j vs)) us) behind
+      ∙ ap (λ ws. laid (to + k) ws us) (taken_both vs (from + k) m (n - (k + m)))
+      ∙ ap (λ j. laid (to + k) (take j (drop (from + k) vs)) us) rest)

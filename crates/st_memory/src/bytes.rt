@@ -5,6 +5,25 @@ ghost use Rattle.st_memory.specs.Copied.{HasBytes, with_bytes_of};
 use crate::memory::Memory;
 use st_model::Oop;
 
+/// How many bytes are copied at once.
+const PIECE: u32 = 256;
+
+/// Copies n bytes of an object of kind Bytes into those of another, all of which are read before one is written.
+fn copy_piece<M: Memory>(m: &mut M, n: u32, source: Oop, from: u32, target: Oop, to: u32)
+    requires source { HasBytes (M.view m.old).objects (value source) from n }
+    requires target { HasBytes (M.view m.old).objects (value target) to n }
+    requires few { n ≤ 256 }
+    ensures objects { (M.view m.new).objects
+        ≡ with_bytes_of (M.view m.old).objects (value source) from (value target) to n }
+    ensures held { (M.view m.new).held ≡ (M.view m.old).held }
+    ensures head { (M.view m.new).head ≡ (M.view m.old).head }
+{
+    let mut buffer = [0u8; PIECE as usize];
+    let piece = &mut buffer[..n as usize];
+    m.read_bytes(source, from, piece);
+    m.write_bytes(target, to, piece);
+}
+
 /// Copies n bytes of an object of kind Bytes into those of another, the lowest first.
 fn copy_from_first<M: Memory>(m: &mut M, n: u32, source: Oop, from: u32, target: Oop, to: u32)
     requires source { HasBytes (M.view m.old).objects (value source) from n }
@@ -16,9 +35,11 @@ fn copy_from_first<M: Memory>(m: &mut M, n: u32, source: Oop, from: u32, target:
     ensures held { (M.view m.new).held ≡ (M.view m.old).held }
     ensures head { (M.view m.new).head ≡ (M.view m.old).head }
 {
-    for done in 0..n {
-        let byte = m.byte(source, from + done);
-        m.set_byte(target, to + done, byte);
+    let mut done = 0;
+    while done < n {
+        let count = (n - done).min(PIECE);
+        copy_piece(m, count, source, from + done, target, to + done);
+        done += count;
     }
 }
 
@@ -35,9 +56,9 @@ fn copy_from_last<M: Memory>(m: &mut M, n: u32, source: Oop, from: u32, target: 
 {
     let mut left = n;
     while left > 0 {
-        left -= 1;
-        let byte = m.byte(source, from + left);
-        m.set_byte(target, to + left, byte);
+        let count = left.min(PIECE);
+        left -= count;
+        copy_piece(m, count, source, from + left, target, to + left);
     }
 }
 

@@ -1,6 +1,5 @@
-use Rattle.std.proofs.Common.{◌≡◌, ◌-◌, take, drop}
+use Rattle.std.proofs.Common.{◌≡◌, take, drop}
 use Rattle.st_model.specs.Values.{value}
-use Rattle.st_model.specs.Objects.{first_unit}
 use Rattle.st_model.specs.View.{object_of}
 use Rattle.st_memory.proofs.memory.Memory.read_words.Given as goal
 

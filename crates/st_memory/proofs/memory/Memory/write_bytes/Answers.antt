@@ -1,4 +1,4 @@
-use Rattle.std.proofs.Common.{◌≡◌, ◌+◌, ◌-◌, ◌<◌, ◌≤◌, ◌∷◌, [], ◌++◌, suc, true, refl, length, take, get_or, sym, ap, ◌∙◌, arith, subst}
+use Rattle.std.proofs.Common.{◌≡◌, ◌+◌, ◌-◌, ◌<◌, ◌≤◌, suc, refl, length, take, get_or, sym, ap, ◌∙◌, arith, subst}
 use Rattle.std.proofs.lemmas.List.{take_all, length-take-le}
 use Rattle.std.proofs.Math.Seq.{take-suc}
 use Rattle.st_model.specs.Values.{value}
@@ -41,7 +41,7 @@ set_byte-requires-clause-above g c =
     let old = (g.Self.Memory.view c.args.self.now).objects in
     let now = (g.Self.Memory.view c.loop-i.self).objects in
     let same : first_unit (object_of now (value c.args.o)) ≡ first_unit (object_of old (value c.args.o)) =
-        first_run old now (value c.args.o) (c.args.at - first_unit (object_of (g.Self.Memory.view c.args.self.now).objects (value c.args.o))) (take c.loop-i.i c.args.bytes.now) c.requires.live c.loop-i.invariant.objects in
+    first_run old now (value c.args.o) (c.args.at - first_unit (object_of (g.Self.Memory.view c.args.self.now).objects (value c.args.o))) (take c.loop-i.i c.args.bytes.now) c.requires.live c.loop-i.invariant.objects in
     let a = c.requires.above in
     subst (λ n. n ≤ c.args.at + c.loop-i.i) (sym same) (omega (arith, a))
 
@@ -50,7 +50,7 @@ set_byte-requires-clause-range g c =
     let old = (g.Self.Memory.view c.args.self.now).objects in
     let now = (g.Self.Memory.view c.loop-i.self).objects in
     let same : size_of (object_of now (value c.args.o)) ≡ size_of (object_of old (value c.args.o)) =
-        size_run old now (value c.args.o) (c.args.at - first_unit (object_of (g.Self.Memory.view c.args.self.now).objects (value c.args.o))) (take c.loop-i.i c.args.bytes.now) c.requires.live c.loop-i.invariant.objects in
+    size_run old now (value c.args.o) (c.args.at - first_unit (object_of (g.Self.Memory.view c.args.self.now).objects (value c.args.o))) (take c.loop-i.i c.args.bytes.now) c.requires.live c.loop-i.invariant.objects in
     let l = c.requires.range in
     let t = c.loop-i-test.true in
     subst (λ n. c.args.at + c.loop-i.i < n) (sym same) (omega (arith, l, t))
@@ -67,9 +67,9 @@ loop-i-preserved g c =
     let first = first_unit (object_of old (value c.args.o)) in
     let a = c.requires.above in
     let same : first_unit (object_of now (value c.args.o)) ≡ first =
-        first_run old now (value c.args.o) (c.args.at - first) ws c.requires.live c.loop-i.invariant.objects in
+    first_run old now (value c.args.o) (c.args.at - first) ws c.requires.live c.loop-i.invariant.objects in
     let here : c.args.at + c.loop-i.i - first_unit (object_of now (value c.args.o)) ≡ c.args.at - first + length ws =
-        ap (λ k. c.args.at + c.loop-i.i - k) same ∙ omega (arith, a, n) in
+    ap (λ k. c.args.at + c.loop-i.i - k) same ∙ omega (arith, a, n) in
     let within = bytes_within (value c.args.o) (c.args.at - first + length ws) (g.met.Self.Memory.whole c.args.self.now) c.requires.live c.requires.kind (omega (arith, l, t, n, a)) in
     let e : c.loop-i.i + 1 ≡ suc c.loop-i.i = omega arith in
     record {

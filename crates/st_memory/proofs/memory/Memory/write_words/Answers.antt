@@ -1,4 +1,4 @@
-use Rattle.std.proofs.Common.{◌≡◌, ◌+◌, ◌<◌, ◌≤◌, ◌∷◌, [], ◌++◌, suc, true, refl, length, take, get_or, sym, ap, ◌∙◌, arith, subst}
+use Rattle.std.proofs.Common.{◌≡◌, ◌+◌, ◌<◌, suc, refl, length, take, get_or, sym, ap, ◌∙◌, arith, subst}
 use Rattle.std.proofs.lemmas.List.{take_all, length-take-le}
 use Rattle.std.proofs.Math.Seq.{take-suc}
 use Rattle.st_model.specs.Values.{value}
@@ -41,7 +41,7 @@ set_word-requires-clause-range g c =
     let old = (g.Self.Memory.view c.args.self.now).objects in
     let now = (g.Self.Memory.view c.loop-i.self).objects in
     let same : size_of (object_of now (value c.args.o)) ≡ size_of (object_of old (value c.args.o)) =
-        size_run old now (value c.args.o) c.args.at (take c.loop-i.i c.args.words.now) c.requires.live c.loop-i.invariant.objects in
+    size_run old now (value c.args.o) c.args.at (take c.loop-i.i c.args.words.now) c.requires.live c.loop-i.invariant.objects in
     let l = c.requires.range in
     let t = c.loop-i-test.true in
     subst (λ n. c.args.at + c.loop-i.i < n) (sym same) (omega (arith, l, t))
