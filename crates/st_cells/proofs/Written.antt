@@ -1,6 +1,6 @@
 -- Words that are written one behind the other.
-use Rattle.std.proofs.Common.{◌≡◌, ℕ, zero, suc, ◌+◌, ◌<◌, ◌≤◌, List, [], ◌∷◌, ◌++◌, length, take, drop, set, refl, sym, ap, ◌∙◌, arith, length-set}
-use Rattle.st_cells.specs.Words.{with_run}
+use Rattle.std.proofs.Common.{◌≡◌, ℕ, zero, suc, ◌+◌, ◌/◌, ◌<◌, ◌≤◌, List, [], ◌∷◌, ◌++◌, length, take, drop, get_or, set, refl, sym, ap, ◌∙◌, arith, length-set}
+use Rattle.st_cells.specs.Words.{with_run, with_byte, with_bytes}
 
 pub length-with_run : (us : List ℕ) (at : ℕ) (ws : List ℕ) → length (with_run us at ws) ≡ length us
 length-with_run us at [] = refl
@@ -23,3 +23,8 @@ run_is [] (suc at) ws l = absurd (omega (arith, l))
 run_is (u ∷ us) (suc at) ws l =
     let e : suc at + length ws ≡ suc (at + length ws) = omega arith in
     ap (λ n. u ∷ (take at us ++ (ws ++ drop n (u ∷ us)))) e ∙ ap (λ q. u ∷ q) (run_is us at ws (omega (arith, l))) ∙ sym (run_behind u us at ws)
+
+pub length-with_bytes : (us : List ℕ) (at i : ℕ) (bs : List ℕ) → length (with_bytes us at i bs) ≡ length us
+length-with_bytes us at i [] = refl
+length-with_bytes us at i (b ∷ bs) =
+    length-with_bytes (set us (at + i / 2) (with_byte (get_or us (at + i / 2) 0) i b)) at (suc i) bs ∙ length-set us (at + i / 2) (with_byte (get_or us (at + i / 2) 0) i b)

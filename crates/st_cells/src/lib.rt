@@ -1,8 +1,8 @@
 //! A region of words of 16 bits, seen as a list.
 #![tactic(auto)]
 
-ghost use Rattle.std.specs.Prelude.{◌≡◌, ℕ, ◌+◌, ◌<◌, ◌≤◌, length, replicate, take, drop, slice_index, slice_set, IfOk};
-ghost use Rattle.st_cells.specs.Words.{slid, with_run};
+ghost use Rattle.std.specs.Prelude.{◌≡◌, ℕ, ◌+◌, ◌<◌, ◌≤◌, ◌/◌, length, replicate, take, drop, slice_index, slice_set, IfOk};
+ghost use Rattle.st_cells.specs.Words.{slid, with_run, byte_of, with_byte, with_bytes};
 
 use std::alloc::{AllocError, Global};
 use std::marker::Model;
@@ -63,8 +63,34 @@ impl Cells {
         ensures length { length self.new ≡ length self.old }
         ensures words { self.new ≡ with_run self.old at words.now }
     {
-        let first = at as usize;
-        self.words[first..first + words.len()].copy_from_slice(words);
+        write_run(self.words.as_mut_slice(), at as usize, words);
+    }
+
+    /// Reads bytes from place `first` on, as many as there is room for. The words from `at` on have two each, the first one in
+    /// the upper half.
+    pub fn read_bytes(&self, at: u32, first: u32, into: &mut [u8])
+        requires { at + (first + length into.old + 1) / 2 ≤ length self.now }
+        ensures { (k : ℕ) → k < length into.old
+            → slice_index into.new k ≡ byte_of (slice_index self.now (at + (first + k) / 2)) (first + k) }
+    {
+        for k in 0..into.len() {
+            let place = first as usize + k;
+            into[k] = byte_of(self.words[at as usize + place / 2], place);
+        }
+    }
+
+    /// Writes bytes from place `first` on, where the words from `at` on have two each.
+    pub fn write_bytes(&mut self, at: u32, first: u32, bytes: &[u8])
+        requires { at + (first + length bytes.now + 1) / 2 ≤ length self.old }
+        ensures length { length self.new ≡ length self.old }
+        ensures words { self.new ≡ with_bytes self.old at first bytes.now }
+    {
+        write_bytes(
+            self.words.as_mut_slice(),
+            at as usize,
+            first as usize,
+            bytes,
+        );
     }
 
     /// Moves n words down, in rising order of places: those from `from` on come to `to`. All words outside of the n at
@@ -85,5 +111,51 @@ impl Cells {
         ensures { result ≡ length self.now }
     {
         self.words.len() as u32
+    }
+}
+
+/// Writes a run of words over those of a list from a place on.
+fn write_run(list: &mut [u16], at: usize, run: &[u16])
+    requires { at + length run.now ≤ length list.old }
+    ensures length { length list.new ≡ length list.old }
+    ensures words { list.new ≡ with_run list.old at run.now }
+{
+    list[at..at + run.len()].copy_from_slice(run);
+}
+
+/// The byte of a word for a place: the upper half for an even one.
+fn byte_of(word: u16, place: usize) -> u8
+    ensures { result ≡ byte_of word place }
+{
+    if place % 2 == 0 {
+        (word / 256) as u8
+    } else {
+        (word % 256) as u8
+    }
+}
+
+/// A word with another byte in the half for a place.
+fn with_byte(word: u16, place: usize, byte: u8) -> u16
+    ensures { result ≡ with_byte word place byte }
+{
+    let byte = u16::from(byte);
+    if place % 2 == 0 {
+        byte * 256 + word % 256
+    } else {
+        word / 256 * 256 + byte
+    }
+}
+
+/// Writes bytes from place `first` on, where the words of a list from `at` on have two each.
+fn write_bytes(list: &mut [u16], at: usize, first: usize, bytes: &[u8])
+    requires small { (at < 4294967296) × (first < 4294967296) }
+    requires within { at + (first + length bytes.now + 1) / 2 ≤ length list.old }
+    ensures length { length list.new ≡ length list.old }
+    ensures words { list.new ≡ with_bytes list.old at first bytes.now }
+{
+    for k in 0..bytes.len() {
+        let byte = first + k;
+        let place = at + byte / 2;
+        list[place] = with_byte(list[place], byte, bytes[k]);
     }
 }

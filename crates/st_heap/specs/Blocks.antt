@@ -49,6 +49,10 @@ pub record IsBlock (blocks : List Block) (at n : ℕ) : Type 0 where
 abbrev pub HoldsPlace : List Block → ℕ → Type 0
 HoldsPlace blocks at = (k : ℕ) × ((block blocks k).owner.0 ≢ 0) × ((block blocks k).at ≤ at) × (at < (block blocks k).at + (block blocks k).len)
 
+-- a block holds n words from the place on
+abbrev pub HoldsRun : List Block → ℕ → ℕ → Type 0
+HoldsRun blocks at n = (k : ℕ) × ((block blocks k).owner.0 ≢ 0) × ((block blocks k).at ≤ at) × (at + n ≤ (block blocks k).at + (block blocks k).len)
+
 -- blocks and holes share no word and end at the end; `free` words are in no block
 pub record IsLaid (words : List ℕ) (blocks : List Block) (end free : ℕ) : Type 0 where
   pub size : length words < 2 * length blocks

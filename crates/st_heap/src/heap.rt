@@ -1,6 +1,7 @@
-ghost use Rattle.std.specs.Prelude.{◌≡◌, ◌≢◌, ℕ, ◌+◌, ◌<◌, ◌≤◌, ◌/◌, ◌↔◌, length, replicate, slice_index, slice_set, IfOk, IfSome, IfNone, IsTrue};
+ghost use Rattle.std.specs.Prelude.{◌≡◌, ◌≢◌, ℕ, ◌+◌, ◌<◌, ◌≤◌, ◌/◌, ◌↔◌, length, replicate, take, drop, slice_index, slice_set, IfOk, IfSome, IfNone, IsTrue};
+ghost use Rattle.st_cells.specs.Words.{with_run, byte_of, with_bytes};
 ghost use Rattle.st_table.specs.Entries.{HasEntry, IsFree};
-ghost use Rattle.st_heap.specs.Blocks.{none, block, block_at, held, HoldsPlace, IsLaid, IsTied, IsClosedBelow, IsAbove, IsBlock, given_back, moved, exchanged_blocks, exchanged_entries};
+ghost use Rattle.st_heap.specs.Blocks.{none, block, block_at, held, HoldsPlace, HoldsRun, IsLaid, IsTied, IsClosedBelow, IsAbove, IsBlock, given_back, moved, exchanged_blocks, exchanged_entries};
 
 use crate::block::Block;
 use crate::holes::Holes;
@@ -67,6 +68,42 @@ impl Heap {
         ensures blocks { blocks_of self.new ≡ blocks_of self.old }
     {
         self.words.set(at, w);
+    }
+
+    /// Reads words that a block holds, from a place on, as many as there is room for.
+    pub fn read(&self, at: u32, into: &mut [u16])
+        requires { HoldsRun (blocks_of self.now) at (length into.old) }
+        ensures { into.new ≡ take (length into.old) (drop at (words_of self.now)) }
+    {
+        self.words.read(at, into);
+    }
+
+    /// Writes words that a block holds, from a place on.
+    pub fn write(&mut self, at: u32, words: &[u16])
+        requires { HoldsRun (blocks_of self.old) at (length words.now) }
+        ensures words { words_of self.new ≡ with_run (words_of self.old) at words.now }
+        ensures blocks { blocks_of self.new ≡ blocks_of self.old }
+    {
+        self.words.write(at, words);
+    }
+
+    /// Reads bytes from place `first` on, as many as there is room for, where the words that a block holds from `at` on have two
+    /// each, the first one in the upper half.
+    pub fn read_bytes(&self, at: u32, first: u32, into: &mut [u8])
+        requires { HoldsRun (blocks_of self.now) at ((first + length into.old + 1) / 2) }
+        ensures { (k : ℕ) → k < length into.old
+            → slice_index into.new k ≡ byte_of (slice_index (words_of self.now) (at + (first + k) / 2)) (first + k) }
+    {
+        self.words.read_bytes(at, first, into);
+    }
+
+    /// Writes bytes from place `first` on, where the words that a block holds from `at` on have two each.
+    pub fn write_bytes(&mut self, at: u32, first: u32, bytes: &[u8])
+        requires { HoldsRun (blocks_of self.old) at ((first + length bytes.now + 1) / 2) }
+        ensures words { words_of self.new ≡ with_bytes (words_of self.old) at first bytes.now }
+        ensures blocks { blocks_of self.new ≡ blocks_of self.old }
+    {
+        self.words.write_bytes(at, first, bytes);
     }
 
     /// Gives back the block of n words at a place.

@@ -8,7 +8,8 @@ use Rattle.st_model.specs.Values.{value_of}
 use Rattle.st_model.specs.Objects.{is_words, is_method, words_of, with_field, object_with_unit}
 use Rattle.st_model.specs.Formed.{literals_of}
 use Rattle.st_stored.specs.Stored.{Stored, run, with_cell}
-use Rattle.st_stored.specs.Forms.{cell, fields_in, field_count, units_in, unit_count, byte_of, unit_at, object_from, IsSound}
+use Rattle.st_cells.specs.Words.{byte_of}
+use Rattle.st_stored.specs.Forms.{cell, fields_in, field_count, units_in, unit_count, unit_at, object_from, IsSound}
 use Rattle.st_stored.proofs.Runs.{length-run, run_same, run_set}
 
 pub length-fields : (s : Stored) → length (object_from s).fields ≡ field_count s

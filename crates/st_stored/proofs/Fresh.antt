@@ -11,7 +11,8 @@ use Rattle.st_model.specs.Formed.{literals_of, IsMakeable, fresh}
 use Rattle.st_model.proofs.Pointers.{value_of-odd, value_of-pointer}
 use Rattle.st_stored.specs.declared.adding.Form.{Form}
 use Rattle.st_stored.specs.Stored.{Stored, run}
-use Rattle.st_stored.specs.Forms.{cell, field_count, unit_count, byte_of, unit_at, object_from, IsSound}
+use Rattle.st_cells.specs.Words.{byte_of}
+use Rattle.st_stored.specs.Forms.{cell, field_count, unit_count, unit_at, object_from, IsSound}
 use Rattle.st_stored.specs.Fresh.{new_cell, new_stored, IsForm}
 use Rattle.st_stored.proofs.Runs.{length-run, get_or-run}
 

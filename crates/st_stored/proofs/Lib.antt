@@ -1,6 +1,7 @@
 pub mod Tying
 pub mod Runs
 pub mod Storing
+pub mod Stretches
 pub mod Forming
 pub mod Fresh
 pub mod Living

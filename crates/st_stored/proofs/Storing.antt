@@ -84,6 +84,13 @@ module _ (ws : List ℕ) (bs : List Block) (end free : ℕ) (es : List (Option E
         | inr l ↦ let apart = laid.apart (f.at / 2) (e.at / 2) (omega (arith, l, differ)) some' some in omega (arith, apart, there, there', below, below', same)
       ]
 
+  pub stored_set : (k : ℕ) (e : Entry) (i w : ℕ) → get_or es k None ≡ Some e → i < (block_at bs e.at).len → stored_at (set ws (e.at + i) w) bs e ≡ with_cell (stored_at ws bs e) i w
+  stored_set k e i w is below =
+      let c = run_set (λ j. get_or ws (e.at + j) 0) (λ j. get_or (set ws (e.at + i) w) (e.at + j) 0) (block_at bs e.at).len i w below
+      (get_or-set_same ws (e.at + i) w 0 (within_words k e i is below))
+      (λ j l ne. get_or-set_other ws (e.at + i) (e.at + j) w 0 (λ z. ne (omega (arith, z)))) in
+      λ t. record { kind = e.kind; odd = e.odd; cells = c t }
+
   -- a word that is written in a block
   pub word_set : (k : ℕ) (e : Entry) (i w : ℕ) → get_or es k None ≡ Some e → i < (block_at bs e.at).len → stored_all (set ws (e.at + i) w) bs es ≡ set (stored_all ws bs es) k (Some (with_cell (stored_at ws bs e) i w))
   word_set k e i w is below =
@@ -91,13 +98,6 @@ module _ (ws : List ℕ) (bs : List Block) (end free : ℕ) (es : List (Option E
       (length-all (set ws (e.at + i) w) bs es ∙ sym (length-all ws bs es) ∙ sym (length-set (stored_all ws bs es) k (Some (with_cell (stored_at ws bs e) i w))))
       (λ q. at q (q == k) refl)
     where
-      cells : stored_at (set ws (e.at + i) w) bs e ≡ with_cell (stored_at ws bs e) i w
-      cells =
-          let c = run_set (λ j. get_or ws (e.at + j) 0) (λ j. get_or (set ws (e.at + i) w) (e.at + j) 0) (block_at bs e.at).len i w below
-          (get_or-set_same ws (e.at + i) w 0 (within_words k e i is below))
-          (λ j l ne. get_or-set_other ws (e.at + i) (e.at + j) w 0 (λ z. ne (omega (arith, z)))) in
-          λ t. record { kind = e.kind; odd = e.odd; cells = c t }
-
       other : (q : ℕ) → q ≢ k → (x : Option Entry) → get_or es q None ≡ x → option_map (stored_at (set ws (e.at + i) w) bs) x ≡ option_map (stored_at ws bs) x
       other q ne None is' = refl
       other q ne (Some f) is' = ap Some (stored_same ws (set ws (e.at + i) w) bs bs f f refl refl refl (λ j l. get_or-set_other ws (e.at + i) (f.at + j) w 0 (words_apart k q e f i j (λ z. ne (sym z)) is is' below l)))
@@ -107,7 +107,7 @@ module _ (ws : List ℕ) (bs : List Block) (end free : ℕ) (es : List (Option E
           let z : q ≡ k = grind (arith, m) in
           let inside = entry_inside es k e is in
           let long = length-all ws bs es in
-          slot-all (set ws (e.at + i) w) bs es q ∙ ap (λ n. option_map (stored_at (set ws (e.at + i) w) bs) (get_or es n None)) z ∙ ap (option_map (stored_at (set ws (e.at + i) w) bs)) is ∙ ap Some cells
+          slot-all (set ws (e.at + i) w) bs es q ∙ ap (λ n. option_map (stored_at (set ws (e.at + i) w) bs) (get_or es n None)) z ∙ ap (option_map (stored_at (set ws (e.at + i) w) bs)) is ∙ ap Some (stored_set k e i w is below)
           ∙ sym (get_or-set_same (stored_all ws bs es) k (Some (with_cell (stored_at ws bs e) i w)) None (omega (arith, inside, long)))
           ∙ ap (slot (set (stored_all ws bs es) k (Some (with_cell (stored_at ws bs e) i w)))) (sym z)
       at q false m =

@@ -8,6 +8,7 @@ use Rattle.st_model.specs.Values.{value_of}
 use Rattle.st_model.specs.Objects.{Object, is_words}
 use Rattle.st_model.specs.Formed.{literals_of}
 use Rattle.st_model.specs.Table.{Table}
+use Rattle.st_cells.specs.Words.{byte_of}
 use Rattle.st_stored.specs.Stored.{Stored, run, slot}
 
 abbrev pub cell : Stored → ℕ → ℕ
@@ -29,10 +30,6 @@ units_in kind odd n = if is_words kind then n else 2 * n - (if odd then 1 else 0
 
 abbrev pub unit_count : Stored → ℕ
 unit_count s = units_in s.kind s.odd (length s.cells - (2 + field_count s))
-
--- the upper half of a word for an even place, and the lower half for an odd one
-abbrev pub byte_of : ℕ → ℕ → ℕ
-byte_of w i = if i % 2 == 0 then w / 256 else w % 256
 
 -- word or byte i behind the fields
 abbrev pub unit_at : Stored → ℕ → ℕ

@@ -59,6 +59,10 @@ pub record IsLeastUnused (all : List (Option Stored)) (o : Oop) : Type 0 where
 abbrev pub with_cell : Stored → ℕ → ℕ → Stored
 with_cell s i w = record { kind = s.kind; odd = s.odd; cells = slice_set s.cells i w }
 
+-- with other words
+abbrev pub with_cells : Stored → List ℕ → Stored
+with_cells s cells = record { kind = s.kind; odd = s.odd; cells = cells }
+
 -- something of a kind and a mark with n words is stored at a place, whatever the words are
 pub record Takes (all all' : List (Option Stored)) (k : ℕ) (kind : Kind) (odd : Bool) (n : ℕ) : Type 0 where
   pub cells : List ℕ

@@ -8,7 +8,8 @@ ghost use Rattle.st_model.specs.View.{is_live, object_of, with_exchanged, with_s
 ghost use Rattle.st_table.specs.Entries.{place};
 ghost use Rattle.st_stored.specs.Stored.{stored, HasStored};
 ghost use Rattle.st_stored.specs.Stores.{stored_of};
-ghost use Rattle.st_stored.specs.Forms.{AllSound, field_count, byte_of};
+ghost use Rattle.st_cells.specs.Words.{byte_of};
+ghost use Rattle.st_stored.specs.Forms.{AllSound, field_count};
 
 use crate::adding::Form;
 use crate::store::Store;

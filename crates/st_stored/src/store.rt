@@ -1,9 +1,10 @@
-ghost use Rattle.std.specs.Prelude.{◌≡◌, ◌+◌, ◌≤◌, ◌<◌, ◌↔◌, ℕ, Some, None, true, is_some, length, slice_index, slice_index_or, slice_set, IfOk, IfSome, IfNone, IsTrue};
+ghost use Rattle.std.specs.Prelude.{◌≡◌, ◌+◌, ◌≤◌, ◌<◌, ◌/◌, ◌↔◌, ℕ, Some, None, true, is_some, length, take, drop, slice_index, slice_index_or, slice_set, IfOk, IfSome, IfNone, IsTrue};
 ghost use Rattle.st_model.specs.declared.oop.Oop.{Oop as Pointer};
+ghost use Rattle.st_cells.specs.Words.{byte_of, with_run, with_bytes};
 ghost use Rattle.st_table.specs.Entries.{place};
 ghost use Rattle.st_heap.specs.Blocks.{held};
 ghost use Rattle.st_heap.specs.Heaps.{words_of, blocks_of};
-ghost use Rattle.st_stored.specs.Stored.{slot, stored, stored_all, HasStored, IsUnused, IsLeastUnused, with_cell, Takes, exchanged_stored, used_of, AreTied};
+ghost use Rattle.st_stored.specs.Stored.{slot, stored, stored_all, HasStored, IsUnused, IsLeastUnused, with_cell, with_cells, Takes, exchanged_stored, used_of, AreTied};
 
 use st_heap::Heap;
 use st_model::{Demand, Kind, Oop};
@@ -89,6 +90,55 @@ impl Store {
     {
         let at = self.table.entry(o).at;
         self.heap.set_word(at + i, w);
+    }
+
+    /// Reads words of its block from word i on, as many as there is room for.
+    pub fn read(&self, o: Oop, i: u32, into: &mut [u16])
+        requires there { HasStored (stored_of self.now) o }
+        requires range { i + length into.old ≤ length (stored (stored_of self.now) (place o)).cells }
+        ensures { into.new ≡ take (length into.old) (drop i (stored (stored_of self.now) (place o)).cells) }
+    {
+        let at = self.table.entry(o).at;
+        self.heap.read(at + i, into);
+    }
+
+    /// Writes words of its block from word i on.
+    pub fn write(&mut self, o: Oop, i: u32, words: &[u16])
+        requires there { HasStored (stored_of self.old) o }
+        requires range { i + length words.now ≤ length (stored (stored_of self.old) (place o)).cells }
+        ensures stored { let all = stored_of self.old in let s = stored all (place o) in
+            stored_of self.new
+            ≡ slice_set all (place o) (Some (with_cells s (with_run s.cells i words.now))) }
+        ensures capacity { capacity_of self.new ≡ capacity_of self.old }
+    {
+        let at = self.table.entry(o).at;
+        self.heap.write(at + i, words);
+    }
+
+    /// Reads bytes from place `first` on, as many as there is room for, where the words behind the first two have two each.
+    pub fn read_bytes(&self, o: Oop, first: u32, into: &mut [u8])
+        requires there { HasStored (stored_of self.now) o }
+        requires range { 2 + (first + length into.old + 1) / 2
+            ≤ length (stored (stored_of self.now) (place o)).cells }
+        ensures { (k : ℕ) → k < length into.old → slice_index into.new k
+            ≡ byte_of (slice_index (stored (stored_of self.now) (place o)).cells (2 + (first + k) / 2)) (first + k) }
+    {
+        let at = self.table.entry(o).at;
+        self.heap.read_bytes(at + 2, first, into);
+    }
+
+    /// Writes bytes from place `first` on, where the words behind the first two have two each.
+    pub fn write_bytes(&mut self, o: Oop, first: u32, bytes: &[u8])
+        requires there { HasStored (stored_of self.old) o }
+        requires range { 2 + (first + length bytes.now + 1) / 2
+            ≤ length (stored (stored_of self.old) (place o)).cells }
+        ensures stored { let all = stored_of self.old in let s = stored all (place o) in
+            stored_of self.new
+            ≡ slice_set all (place o) (Some (with_cells s (with_bytes s.cells 2 first bytes.now))) }
+        ensures capacity { capacity_of self.new ≡ capacity_of self.old }
+    {
+        let at = self.table.entry(o).at;
+        self.heap.write_bytes(at + 2, first, bytes);
     }
 
     /// Stores something under an unused pointer, in n words; what the words are is not said.

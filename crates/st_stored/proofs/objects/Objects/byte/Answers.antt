@@ -2,7 +2,7 @@ use Rattle.std.proofs.Common.{◌≡◌, ◌≢◌, ℕ, ◌+◌, ◌-◌, ◌/�
 use Rattle.std.specs.Prelude.{slice_get, ◌==◌, if◌then◌else◌}
 use Rattle.st_model.specs.Objects.{Object, is_words, first_unit}
 use Rattle.st_stored.specs.Stored.{stored}
-use Rattle.st_stored.specs.Forms.{byte_of}
+use Rattle.st_cells.specs.Words.{byte_of}
 use Rattle.st_stored.specs.Stores.{stored_of}
 use Rattle.st_stored.proofs.Living.{live_stored, known, byte_stored, byte_stored_within}
 use Rattle.st_stored.proofs.objects.Objects.byte.Goals as goal

@@ -3,7 +3,8 @@ use Rattle.st_model.specs.Values.{value}
 use Rattle.st_model.specs.View.{with_unit}
 use Rattle.st_model.specs.Objects.{Object, is_words, first_unit}
 use Rattle.st_stored.specs.Stored.{Stored, stored, with_cell}
-use Rattle.st_stored.specs.Forms.{cell, field_count, byte_of, object_from, objects_in, AllSound}
+use Rattle.st_cells.specs.Words.{byte_of}
+use Rattle.st_stored.specs.Forms.{cell, field_count, object_from, objects_in, AllSound}
 use Rattle.st_stored.specs.Stores.{stored_of}
 use Rattle.st_stored.proofs.Forming.{object-byte, sound_cell}
 use Rattle.st_stored.proofs.Living.{live_stored, known, halved, even_before, same_half, byte_below, byte_stored_within}
