@@ -6,7 +6,7 @@ pub length-with_run : (us : List ℕ) (at : ℕ) (ws : List ℕ) → length (wit
 length-with_run us at [] = refl
 length-with_run us at (w ∷ ws) = length-with_run (set us at w) (suc at) ws ∙ length-set us at w
 
-run_behind : (u : ℕ) (us : List ℕ) (at : ℕ) (ws : List ℕ) → with_run (u ∷ us) (suc at) ws ≡ u ∷ with_run us at ws
+pub run_behind : (u : ℕ) (us : List ℕ) (at : ℕ) (ws : List ℕ) → with_run (u ∷ us) (suc at) ws ≡ u ∷ with_run us at ws
 run_behind u us at [] = refl
 run_behind u us at (w ∷ ws) = run_behind u (set us at w) (suc at) ws
 

@@ -4,6 +4,7 @@ mod Referring
 mod Rooting
 mod Sizes
 mod Storing
+mod Stretches
 mod Swept
 mod Taking
 mod TakingRows

@@ -71,6 +71,22 @@ impl Memory for CountedMemory {
         self.contents.objects.set_byte(o, at, v);
     }
 
+    fn read_words(&self, o: Oop, at: u32, into: &mut [u16]) {
+        self.contents.objects.read_words(o, at, into);
+    }
+
+    fn read_bytes(&self, o: Oop, at: u32, into: &mut [u8]) {
+        self.contents.objects.read_bytes(o, at, into);
+    }
+
+    fn write_words(&mut self, o: Oop, at: u32, words: &[u16]) {
+        self.contents.objects.write_words(o, at, words);
+    }
+
+    fn write_bytes(&mut self, o: Oop, at: u32, bytes: &[u8]) {
+        self.contents.objects.write_bytes(o, at, bytes);
+    }
+
     fn room(&self, d: Demand) -> bool {
         self.contents.room(d)
     }

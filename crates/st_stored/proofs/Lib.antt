@@ -9,3 +9,4 @@ pub mod Changing
 pub mod Placing
 pub mod Totals
 pub mod Swapping
+pub mod Written

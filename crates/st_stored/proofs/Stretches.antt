@@ -6,7 +6,7 @@ use Rattle.st_table.specs.declared.entry.Entry.{Entry}
 use Rattle.st_heap.specs.declared.block.Block.{Block}
 use Rattle.st_heap.specs.Blocks.{block_at, HoldsRun, IsLaid, IsTied}
 use Rattle.st_heap.proofs.Laying.{entered_owner}
-use Rattle.st_stored.specs.Stored.{Stored, run, stored_at, stored_all, slot, with_cell, with_cells}
+use Rattle.st_stored.specs.Stored.{Stored, stored_at, stored_all, slot, with_cell, with_cells}
 use Rattle.st_stored.proofs.Runs.{length-run, get_or-run}
 use Rattle.st_stored.proofs.Storing.{word_set, stored_set, slot_entry}
 

@@ -1,14 +1,14 @@
-ghost use Rattle.std.specs.Prelude.{◌≡◌, ◌≢◌, ◌<◌, ◌≤◌, ◌+◌, ◌-◌, ◌/◌, ◌%◌, ℕ, length, true, false, Some, None, IfSome, IfNone, IfOk, slice_get, slice_set};
+ghost use Rattle.std.specs.Prelude.{◌≡◌, ◌≢◌, ◌<◌, ◌≤◌, ◌+◌, ◌-◌, ◌/◌, ◌%◌, ℕ, length, take, drop, true, false, Some, None, IfSome, IfNone, IfOk, slice_get, slice_set};
 ghost use Rattle.st_model.specs.declared.oop.Oop.{Oop as Pointer};
 ghost use Rattle.st_model.specs.Values.{value, Ref, is_small};
-ghost use Rattle.st_model.specs.Objects.{first_unit, is_words, one, size_of, words_of};
-ghost use Rattle.st_model.specs.Table.{entry, total_used, first_free, placed};
+ghost use Rattle.st_model.specs.Objects.{first_unit, is_words, one, size_of, with_units, words_of};
+ghost use Rattle.st_model.specs.Table.{entry, changed, total_used, first_free, placed};
 ghost use Rattle.st_model.specs.Formed.{IsHeader, IsMakeable, fresh};
 ghost use Rattle.st_model.specs.View.{is_live, object_of, with_exchanged, with_stored, with_unit, with_object};
 ghost use Rattle.st_table.specs.Entries.{place};
 ghost use Rattle.st_stored.specs.Stored.{stored, HasStored};
 ghost use Rattle.st_stored.specs.Stores.{stored_of};
-ghost use Rattle.st_cells.specs.Words.{byte_of};
+ghost use Rattle.st_cells.specs.Words.{byte_of, with_run};
 ghost use Rattle.st_stored.specs.Forms.{AllSound, field_count};
 
 use crate::adding::Form;
@@ -170,6 +170,60 @@ impl Objects {
         let half = 2 + at / 2;
         let word = with_byte(self.store.word(o, half), at, u16::from(v));
         self.store.set_word(o, half, word);
+    }
+
+    /// Reads the words of an object of kind Words from `at` on, as many as there is room for.
+    pub fn read_words(&self, o: Oop, at: u32, into: &mut [u16])
+        requires live { is_live (objects_of self.now) (value o) ≡ true }
+        requires kind { is_words (object_of (objects_of self.now) (value o)).kind ≡ true }
+        requires range { at + length into.old ≤ size_of (object_of (objects_of self.now) (value o)) }
+        ensures { let object = object_of (objects_of self.now) (value o) in
+            into.new ≡ take (length into.old) (drop at object.units) }
+    {
+        self.store.read(o, 2 + at, into);
+    }
+
+    /// Stores words in those of an object of kind Words from `at` on.
+    pub fn write_words(&mut self, o: Oop, at: u32, words: &[u16])
+        requires live { is_live (objects_of self.old) (value o) ≡ true }
+        requires kind { is_words (object_of (objects_of self.old) (value o)).kind ≡ true }
+        requires range { at + length words.now ≤ size_of (object_of (objects_of self.old) (value o)) }
+        ensures objects { let object = object_of (objects_of self.old) (value o) in
+            let units = with_run object.units at words.now in
+            objects_of self.new ≡ changed (objects_of self.old) (place o) (with_units object units) }
+        ensures room { room_of self.new ≡ room_of self.old }
+    {
+        self.store.write(o, 2 + at, words);
+    }
+
+    /// Reads the bytes of an object of kind Bytes or Method from `at` on, as many as there is room for; of a Method, whose
+    /// header and literals count, from the first bytecode on.
+    pub fn read_bytes(&self, o: Oop, at: u32, into: &mut [u8])
+        requires live { is_live (objects_of self.now) (value o) ≡ true }
+        requires kind { is_words (object_of (objects_of self.now) (value o)).kind ≡ false }
+        requires above { first_unit (object_of (objects_of self.now) (value o)) ≤ at }
+        requires range { let object = object_of (objects_of self.now) (value o) in
+            at + length into.old ≤ first_unit object + length object.units }
+        ensures { let object = object_of (objects_of self.now) (value o) in
+            into.new ≡ take (length into.old) (drop (at - first_unit object) object.units) }
+    {
+        self.store.read_bytes(o, at, into);
+    }
+
+    /// Stores bytes in those of an object of kind Bytes or Method from `at` on; of a Method, whose header and literals count,
+    /// from the first bytecode on.
+    pub fn write_bytes(&mut self, o: Oop, at: u32, bytes: &[u8])
+        requires live { is_live (objects_of self.old) (value o) ≡ true }
+        requires kind { is_words (object_of (objects_of self.old) (value o)).kind ≡ false }
+        requires above { first_unit (object_of (objects_of self.old) (value o)) ≤ at }
+        requires range { let object = object_of (objects_of self.old) (value o) in
+            at + length bytes.now ≤ first_unit object + length object.units }
+        ensures objects { let object = object_of (objects_of self.old) (value o) in
+            let units = with_run object.units (at - first_unit object) bytes.now in
+            objects_of self.new ≡ changed (objects_of self.old) (place o) (with_units object units) }
+        ensures room { room_of self.new ≡ room_of self.old }
+    {
+        self.store.write_bytes(o, at, bytes);
     }
 
     /// Exchanges the objects of two pointers.

@@ -1,13 +1,10 @@
-use Rattle.std.proofs.Common.{◌≡◌, ◌+◌, ◌*◌, ◌/◌, ◌<◌, ◌≤◌, List, Some, length, get_or, set, sym, ap, ◌∙◌, subst, arith}
-use Rattle.st_heap.specs.declared.block.Block.{Block}
-use Rattle.st_heap.specs.Blocks.{block_at, held}
+use Rattle.std.proofs.Common.{◌+◌, ◌/◌, ◌≤◌, length, get_or, sym, ap, ◌∙◌, arith}
+use Rattle.st_heap.specs.Blocks.{block_at}
 use Rattle.st_heap.specs.Heaps.{words_of, blocks_of}
 use Rattle.st_cells.specs.Words.{byte_of}
-use Rattle.st_cells.proofs.Written.{length-with_run, length-with_bytes}
-use Rattle.st_stored.specs.Stored.{Stored, stored_at, stored_all, with_cells, used_of, AreTied}
-use Rattle.st_stored.proofs.Storing.{stored_entry, slot_entry, length_entry}
-use Rattle.st_stored.proofs.Stretches.{holds_run, run_within, run_read, byte_read, run_stored, bytes_stored}
-use Rattle.st_stored.proofs.Totals.{used_kept}
+use Rattle.st_stored.specs.Stored.{Stored}
+use Rattle.st_stored.proofs.Storing.{stored_entry, length_entry}
+use Rattle.st_stored.proofs.Stretches.{holds_run, run_within, byte_read}
 use Rattle.st_stored.proofs.Tying.{tied_of}
 use Rattle.st_stored.proofs.store.Store.read_bytes.Goals as goal
 

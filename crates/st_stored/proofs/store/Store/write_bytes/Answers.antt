@@ -1,12 +1,12 @@
-use Rattle.std.proofs.Common.{◌≡◌, ℕ, ◌+◌, ◌*◌, ◌/◌, ◌<◌, ◌≤◌, List, Some, length, set, sym, ap, ◌∙◌, subst, arith}
+use Rattle.std.proofs.Common.{◌≡◌, ℕ, ◌+◌, ◌/◌, ◌≤◌, List, Some, length, set, sym, ap, ◌∙◌, subst, arith}
 use Rattle.st_heap.specs.declared.block.Block.{Block}
 use Rattle.st_heap.specs.Blocks.{block_at, held}
 use Rattle.st_heap.specs.Heaps.{words_of, blocks_of}
-use Rattle.st_cells.specs.Words.{with_run, with_bytes}
-use Rattle.st_cells.proofs.Written.{length-with_run, length-with_bytes}
+use Rattle.st_cells.specs.Words.{with_bytes}
+use Rattle.st_cells.proofs.Written.{length-with_bytes}
 use Rattle.st_stored.specs.Stored.{Stored, stored_at, stored_all, with_cells, used_of, AreTied}
 use Rattle.st_stored.proofs.Storing.{stored_entry, slot_entry, length_entry}
-use Rattle.st_stored.proofs.Stretches.{holds_run, run_within, run_read, byte_read, run_stored, bytes_stored}
+use Rattle.st_stored.proofs.Stretches.{holds_run, run_within, bytes_stored}
 use Rattle.st_stored.proofs.Totals.{used_kept}
 use Rattle.st_stored.proofs.Tying.{tied_of}
 use Rattle.st_stored.proofs.store.Store.write_bytes.Goals as goal
@@ -54,7 +54,7 @@ invariant_of-self c =
     let long = length_entry ws bs s.table k e is in
     let below : 2 + (c.args.first + length c.args.bytes.now + 1) / 2 ≤ (block_at bs e.at).len = omega (arith, r, long) in
     let now : stored_all (words_of c.write_bytes.new.self) (blocks_of c.write_bytes.new.self) s.table ≡ set (stored_all ws bs s.table) k (Some (with_cells (stored_at ws bs e) (with_bytes (stored_at ws bs e).cells 2 c.args.first c.args.bytes.now))) =
-        (λ t. stored_all (c.write_bytes.ensures.words t) (c.write_bytes.ensures.blocks t) s.table) ∙ bytes_stored bs s.heap.end s.heap.free s.table tied k e is ws s.heap.laid c.args.first c.args.bytes.now below in
+    (λ t. stored_all (c.write_bytes.ensures.words t) (c.write_bytes.ensures.blocks t) s.table) ∙ bytes_stored bs s.heap.end s.heap.free s.table tied k e is ws s.heap.laid c.args.first c.args.bytes.now below in
     record {
       tied = subst (λ (b : List Block). AreTied s.table b) (sym c.write_bytes.ensures.blocks) s.tied;
       places = s.places;
@@ -75,7 +75,7 @@ returns-clause-stored c =
     let long = length_entry ws bs s.table k e is in
     let below : 2 + (c.args.first + length c.args.bytes.now + 1) / 2 ≤ (block_at bs e.at).len = omega (arith, r, long) in
     let now : stored_all (words_of c.write_bytes.new.self) (blocks_of c.write_bytes.new.self) s.table ≡ set (stored_all ws bs s.table) k (Some (with_cells (stored_at ws bs e) (with_bytes (stored_at ws bs e).cells 2 c.args.first c.args.bytes.now))) =
-        (λ t. stored_all (c.write_bytes.ensures.words t) (c.write_bytes.ensures.blocks t) s.table) ∙ bytes_stored bs s.heap.end s.heap.free s.table tied k e is ws s.heap.laid c.args.first c.args.bytes.now below in
+    (λ t. stored_all (c.write_bytes.ensures.words t) (c.write_bytes.ensures.blocks t) s.table) ∙ bytes_stored bs s.heap.end s.heap.free s.table tied k e is ws s.heap.laid c.args.first c.args.bytes.now below in
     now ∙ ap (λ (t : Stored). set (stored_all ws bs s.table) k (Some (with_cells t (with_bytes t.cells 2 c.args.first c.args.bytes.now)))) (sym (stored_entry ws bs s.table k e is))
 
 pub returns-clause-capacity : goal.returns-clause-capacity
