@@ -1,6 +1,7 @@
 pub mod Bits
 pub mod Words
 pub mod Parts
+pub mod Stretches
 pub mod RowLaws
 pub mod Readings
 pub mod Clipping

@@ -2,19 +2,19 @@
 use Rattle.std.proofs.Common.{◌≡◌, ◌≢◌, ℕ, zero, suc, ◌+◌, ◌^◌, ◌<◌, List, [], ◌∷◌, length, get_or, subst, Option, Some, None, is_some, true, false, refl, sym, ap, ◌∙◌, arith, inl, inr, set, get_or-set_same, get_or-set_other}
 use Rattle.std.proofs.lemmas.Bool.{cases_order}
 use Rattle.std.proofs.lemmas.Option.{get_or_from_slice_get}
-use Rattle.std.specs.Prelude.{slice_set, slice_get, unwrap_or}
+use Rattle.std.specs.Prelude.{slice_get, unwrap_or}
 use Rattle.st_model.specs.declared.kind.Kind.{Kind}
 use Rattle.st_model.specs.declared.kind.Kind.TheVariants as kind
 use Rattle.st_model.specs.Values.{Value, Small, Ref}
 use Rattle.st_model.specs.Objects.{Object, holds_fields, is_words, size_of, first_unit}
-use Rattle.st_model.specs.View.{View, IsWhole, nothing, is_live, object_of, with_unit}
+use Rattle.st_model.specs.View.{View, IsWhole, nothing, is_live, object_of}
 use Rattle.st_model.specs.Formed.{IsFormed, unit_limit}
 use Rattle.st_model.specs.Machine.{is_there}
 use Rattle.st_model.specs.Table.{Table, table, entry}
 use Rattle.st_model.specs.Pixels.{AllFit}
 use Rattle.st_model.proofs.Transfers.{same_or_not}
 use Rattle.st_memory.specs.Copied.{with_units_in}
-use Rattle.st_memory.proofs.Laying.{live_in, object_here, object_other, unit_again, units_again, units_none}
+use Rattle.st_memory.proofs.Laying.{live_in, object_here, object_other, units_again, units_none}
 use Rattle.st_memory.proofs.Bodies.{no_fields}
 use Rattle.st_bitblt.specs.Reading.{HasWordsIn}
 use Rattle.st_bitblt.specs.Words.{words, HasWords, with_words}
@@ -54,17 +54,6 @@ module _ (v : View) (o : Value) (us : List ℕ) (live : is_live v.objects o ≡ 
 -- an object with the words that it has
 pub words_same : (v : View) (o : Value) → is_live v.objects o ≡ true → v ≡ with_words v o (words v o)
 words_same v o live = ap (λ t. record { objects = t; held = v.held; head = v.head }) (sym (units_none v.objects o live))
-
--- the memory once a word is stored
-pub word_stored : (v w : View) (o : Value) (i x : ℕ) → is_live v.objects o ≡ true → w.objects ≡ with_unit v.objects o i x → w.held ≡ v.held → w.head ≡ v.head → w ≡ with_words v o (slice_set (words v o) i x)
-word_stored v w o i x live objects held head =
-    let e : with_unit v.objects o i x ≡ with_units_in v.objects o (slice_set (words v o) i x) =
-    ap (λ t. with_unit t o i x) (sym (units_none v.objects o live)) ∙ unit_again v.objects o (words v o) i x live
-    in
-    view_is w (objects ∙ e) held head
-  where
-    view_is : (w : View) → w.objects ≡ with_units_in v.objects o (slice_set (words v o) i x) → w.held ≡ v.held → w.head ≡ v.head → w ≡ with_words v o (slice_set (words v o) i x)
-    view_is w a b c = rw (← a, ← b, ← c) refl
 
 -- an object of kind Words has no fields, and so is as large as it has words
 pub size_of_words : (v : View) (o : Value) → IsWhole v → HasWords v o → size_of (object_of v.objects o) ≡ length (words v o)

@@ -34,10 +34,6 @@ abbrev pub HasSource : View → Source → Type 0
 HasSource v source.Ones = ⊤
 HasSource v (source.Words object n) = HasWords v (value object) × (n ≡ length (words v (value object)))
 
--- The bits of a word are sixteen pixels of the source, the first of which stands at place - 16.
-abbrev pub IsPiece : View → Option Value → ℕ → ℕ → Type 0
-IsPiece v source place w = (i : ℕ) → i < 16 → 16 ≤ place + i → bit_at w (15 - i) ≡ pixel_from v source (place + i - 16)
-
 -- the source's pixels from q on, where they go to those from p on through a word of the halftone
 abbrev pub shaded : ℕ → Option Value → View → ℕ → ℕ → ℕ → ℕ
 shaded tone source v p q i = min (pixel_from v source (q + i)) (bit_at tone (15 - (p + i) % 16))

@@ -5,3 +5,4 @@ pub mod Rows
 pub mod Rules
 pub mod Spans
 pub mod Words
+pub mod Stretches

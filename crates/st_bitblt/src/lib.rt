@@ -7,12 +7,12 @@ mod direction;
 mod form;
 mod numbers;
 mod paint;
-mod part;
 mod row;
 mod rows;
 mod rule;
 mod source;
 mod span;
+mod stretch;
 
 pub use bit_blt::{BitBlt, read_bit_blt};
 pub use copying::copy_bits;

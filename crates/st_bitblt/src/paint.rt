@@ -10,10 +10,9 @@ ghost use Rattle.st_bitblt.specs.Words.{with_words};
 
 use crate::bit_blt::BitBlt;
 use crate::form::{Form, row_words};
-use crate::row::Ends;
 use crate::rows::{Layout, Pen, copy_rows};
 use crate::rule::Rule;
-use crate::source::Source;
+use crate::source::{Ends, Source};
 use crate::span::{Span, lines_copied};
 use st_memory::{Memory, live_value};
 use st_model::{Oop, Word};

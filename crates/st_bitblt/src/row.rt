@@ -3,18 +3,10 @@ ghost use Rattle.st_model.specs.Values.{value};
 ghost use Rattle.st_bitblt.specs.Copied.{Copied, HasSource, object_of_source};
 ghost use Rattle.st_bitblt.specs.Words.{words, HasWords};
 
-use crate::part::put_part;
-use crate::rule::{Rule, joined};
-use crate::source::{Source, source_word, word_before};
+use crate::rule::Rule;
+use crate::source::{Ends, Source};
+use crate::stretch::{PIXELS, copy_stretch};
 use st_memory::Memory;
-use st_model::Oop;
-
-/// Where pixels come from, and the object of kind Words to which they go.
-#[derive(Clone, Copy)]
-pub struct Ends {
-    pub source: Source,
-    pub dest: Oop,
-}
 
 /// Copies n pixels from the left. Within one object the source must not begin before the destination.
 fn copy_up<M: Memory>(m: &mut M, rule: &Rule, tone: u16, ends: Ends, p: u32, q: u32, n: u32)
@@ -27,15 +19,10 @@ fn copy_up<M: Memory>(m: &mut M, rule: &Rule, tone: u16, ends: Ends, p: u32, q: 
     ensures { Copied rule.now tone (object_of_source ends.source) (value ends.dest)
         (M.view m.old) (M.view m.new) p q n }
 {
-    let mut left = word_before(m, ends.source, (q + 16 - p % 16) / 16);
     let mut done = 0;
     while done < n {
-        let place = q + done + 16 - (p + done) % 16;
-        let right = source_word(m, ends.source, place / 16);
-        let piece = joined(left, right, place % 16) & tone;
-        let count = (16 - (p + done) % 16).min(n - done);
-        put_part(m, rule, piece, ends.dest, p + done, count);
-        left = right;
+        let count = (n - done).min(PIXELS);
+        copy_stretch(m, rule, tone, ends, p + done, q + done, count);
         done += count;
     }
 }
@@ -51,20 +38,11 @@ fn copy_down<M: Memory>(m: &mut M, rule: &Rule, tone: u16, ends: Ends, p: u32, q
     ensures { Copied rule.now tone (object_of_source ends.source) (value ends.dest)
         (M.view m.old) (M.view m.new) p q n }
 {
-    if n == 0 {
-        return;
-    }
-    let last = q + n + 15 - (p + n - 1) % 16;
-    let mut right = source_word(m, ends.source, last / 16);
     let mut left = n;
     while left > 0 {
-        let count = ((p + left - 1) % 16 + 1).min(left);
+        let count = left.min(PIXELS);
         left -= count;
-        let place = q + left + 16 - (p + left) % 16;
-        let before = word_before(m, ends.source, place / 16);
-        let piece = joined(before, right, place % 16) & tone;
-        put_part(m, rule, piece, ends.dest, p + left, count);
-        right = before;
+        copy_stretch(m, rule, tone, ends, p + left, q + left, count);
     }
 }
 

@@ -4,8 +4,9 @@ ghost use Rattle.st_bitblt.specs.Copied.{HasSource, object_of_source};
 ghost use Rattle.st_bitblt.specs.Rows.{HasRoom, FitsPlaces, FromTop, RowsCopied, tone_of};
 ghost use Rattle.st_bitblt.specs.Words.{words, HasWords};
 
-use crate::row::{Ends, copy_row};
+use crate::row::copy_row;
 use crate::rule::Rule;
+use crate::source::Ends;
 use st_memory::Memory;
 
 /// How the rows of a copy are put down: by a rule, through a halftone of which word `first` modulo 16 is for the first row.

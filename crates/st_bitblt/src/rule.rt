@@ -57,23 +57,17 @@ impl Rule {
             | !source & dest & self.dest_alone
             | !source & !dest & self.neither
     }
+}
 
-    /// A destination's word of which n pixels from `first` on, counted from the left, are combined with those of a source's.
-    pub fn merged(&self, source: u16, dest: u16, first: u32, n: u32) -> u16
-        requires { first + n ≤ 16 }
-        ensures inside { (i : ℕ) → first ≤ i → i < first + n
-            → bit_at result (15 - i) ≡ combine self.now (bit_at source (15 - i)) (bit_at dest (15 - i)) }
-        ensures below { (i : ℕ) → i < first → bit_at result (15 - i) ≡ bit_at dest (15 - i) }
-        ensures above { (i : ℕ) → first + n ≤ i → i < 16
-            → bit_at result (15 - i) ≡ bit_at dest (15 - i) }
-    {
-        let combined = self.combined(source, dest);
-        if n == 16 {
-            return combined;
-        }
-        let mask = mask(first, n);
-        combined & mask | dest & !mask
-    }
+/// A word of which n pixels from `first` on, counted from the left, are a new one's, and all others an old one's.
+pub fn masked(new: u16, old: u16, first: u32, n: u32) -> u16
+    requires { first + n ≤ 16 }
+    ensures inside { (i : ℕ) → first ≤ i → i < first + n → bit_at result (15 - i) ≡ bit_at new (15 - i) }
+    ensures below { (i : ℕ) → i < first → bit_at result (15 - i) ≡ bit_at old (15 - i) }
+    ensures above { (i : ℕ) → first + n ≤ i → i < 16 → bit_at result (15 - i) ≡ bit_at old (15 - i) }
+{
+    let mask = mask(first, n);
+    new & mask | old & !mask
 }
 
 /// Ones at n pixels of a word from `first` on, counted from the left.

@@ -1,14 +1,12 @@
-use Rattle.std.proofs.Common.{◌-◌, ◌+◌, ◌*◌, ◌/◌, ◌%◌, ◌<◌, ◌≤◌}
+use Rattle.std.proofs.Common.{◌-◌, ◌+◌, ◌≤◌}
 use Rattle.st_model.specs.Values.{value}
-use Rattle.st_bitblt.specs.Copied.{Copied, IsPiece, object_of_source}
+use Rattle.st_bitblt.specs.Copied.{Copied, object_of_source}
 use Rattle.st_bitblt.proofs.row.copy_down.Given as goal
 
 abbrev pub invariant-loop-left : goal.invariant-loop-left
 invariant-loop-left g l = record {
   within : l.left ≤ l.n;
   copied : Copied l.rule l.tone (object_of_source l.ends.source) (value l.ends.dest) (g.M.Memory.view l.fn.m) (g.M.Memory.view l.m) (l.p + l.left) (l.q + l.left) (l.n - l.left);
-  right : 0 < l.left → 0 < (l.q + l.left + 15 - (l.p + l.left - 1) % 16) % 16
-      → IsPiece (g.M.Memory.view l.m) (object_of_source l.ends.source) (16 * ((l.q + l.left + 15 - (l.p + l.left - 1) % 16) / 16) + 16) l.right;
 }
 
 abbrev pub decreases-loop-left : goal.decreases-loop-left

@@ -1,13 +1,12 @@
-use Rattle.std.proofs.Common.{◌-◌, ◌+◌, ◌*◌, ◌/◌, ◌%◌, ◌<◌, ◌≤◌}
+use Rattle.std.proofs.Common.{◌-◌, ◌≤◌}
 use Rattle.st_model.specs.Values.{value}
-use Rattle.st_bitblt.specs.Copied.{Copied, IsPiece, object_of_source}
+use Rattle.st_bitblt.specs.Copied.{Copied, object_of_source}
 use Rattle.st_bitblt.proofs.row.copy_up.Given as goal
 
 abbrev pub invariant-loop-done : goal.invariant-loop-done
 invariant-loop-done g l = record {
   within : l.done ≤ l.n;
   copied : Copied l.rule l.tone (object_of_source l.ends.source) (value l.ends.dest) (g.M.Memory.view l.fn.m) (g.M.Memory.view l.m) l.p l.q l.done;
-  left : l.done < l.n → IsPiece (g.M.Memory.view l.m) (object_of_source l.ends.source) (16 * ((l.q + l.done + 16 - (l.p + l.done) % 16) / 16)) l.left;
 }
 
 abbrev pub decreases-loop-done : goal.decreases-loop-done
