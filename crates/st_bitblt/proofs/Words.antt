@@ -1,7 +1,5 @@
 -- What the words of an object are once one of them was changed.
-use Rattle.std.proofs.Common.{◌≡◌, ◌≢◌, ℕ, zero, suc, ◌+◌, ◌^◌, ◌<◌, List, [], ◌∷◌, length, get_or, subst, Option, Some, None, is_some, true, false, refl, sym, ap, ◌∙◌, arith, inl, inr, set, get_or-set_same, get_or-set_other}
-use Rattle.std.proofs.lemmas.Bool.{cases_order}
-use Rattle.std.proofs.lemmas.Option.{get_or_from_slice_get}
+use Rattle.std.proofs.Common.{◌≡◌, ◌≢◌, ℕ, zero, suc, ◌+◌, ◌^◌, ◌<◌, List, [], ◌∷◌, length, get_or, subst, Option, Some, None, is_some, true, false, refl, sym, ap, ◌∙◌, arith, inl, inr}
 use Rattle.std.specs.Prelude.{slice_get, unwrap_or}
 use Rattle.st_model.specs.declared.kind.Kind.{Kind}
 use Rattle.st_model.specs.declared.kind.Kind.TheVariants as kind
@@ -99,11 +97,3 @@ words_fit v o whole has k = at_most (words v o) k (λ u e. subst (λ n. u < n) (
     at_most [] k h = omega arith
     at_most (u ∷ us) zero h = let l = h u refl in omega (arith, l)
     at_most (u ∷ us) (suc k) h = at_most us k h
-
--- one word more of a list that is copied from the first on
-pub one_more : (ts us : List ℕ) (i w : ℕ) → i < length ts → slice_get us i ≡ Some w → ((k : ℕ) → k < i → get_or ts k 0 ≡ get_or us k 0) → (k : ℕ) → k < i + 1 → get_or (set ts i w) k 0 ≡ get_or us k 0
-one_more ts us i w l e h k lt =
-    elim (cases_order k i) [
-      | inl q ↦ rw q (get_or-set_same ts i w 0 l ∙ sym (get_or_from_slice_get us i w 0 e))
-      | inr s ↦ elim s [ inl b ↦ get_or-set_other ts i k w 0 (omega (arith, b)) ∙ h k b | inr b ↦ absurd (omega (arith, b, lt)) ]
-    ]

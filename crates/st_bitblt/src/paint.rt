@@ -55,9 +55,7 @@ fn tones_of<M: Memory>(m: &M, halftone: Option<Form>) -> [u16; 16]
     let mut tones = [0xFFFF; 16];
     if let Some(form) = halftone {
         let object = object_with_words(m, form.bits);
-        for i in 0..16 {
-            tones[i as usize] = m.word(object, i);
-        }
+        m.read_words(object, 0, &mut tones);
     }
     tones
 }
