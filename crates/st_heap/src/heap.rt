@@ -92,7 +92,8 @@ impl Heap {
     pub fn read_bytes(&self, at: u32, first: u32, into: &mut [u8])
         requires { HoldsRun (blocks_of self.now) at ((first + length into.old + 1) / 2) }
         ensures { (k : ℕ) → k < length into.old
-            → slice_index into.new k ≡ byte_of (slice_index (words_of self.now) (at + (first + k) / 2)) (first + k) }
+            → slice_index into.new k
+            ≡ byte_of (slice_index (words_of self.now) (at + (first + k) / 2)) (first + k) }
     {
         self.words.read_bytes(at, first, into);
     }

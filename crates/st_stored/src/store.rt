@@ -120,8 +120,8 @@ impl Store {
         requires there { HasStored (stored_of self.now) o }
         requires range { 2 + (first + length into.old + 1) / 2
             ≤ length (stored (stored_of self.now) (place o)).cells }
-        ensures { (k : ℕ) → k < length into.old → slice_index into.new k
-            ≡ byte_of (slice_index (stored (stored_of self.now) (place o)).cells (2 + (first + k) / 2)) (first + k) }
+        ensures { let cells = (stored (stored_of self.now) (place o)).cells in (k : ℕ) → k < length into.old
+            → slice_index into.new k ≡ byte_of (slice_index cells (2 + (first + k) / 2)) (first + k) }
     {
         let at = self.table.entry(o).at;
         self.heap.read_bytes(at + 2, first, into);
