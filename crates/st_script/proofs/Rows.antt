@@ -3,7 +3,7 @@ use Rattle.std.proofs.Common.{◌≡◌, ℕ, false, List, [], ◌∷◌, refl}
 use Rattle.std.specs.Prelude.{codes, Option, Some, None}
 use Rattle.st_script.specs.declared.request.Request.{Request}
 use Rattle.st_script.specs.declared.request.Request.TheVariants.{Run, Input, Mouse, Clock, Tick, State, Used, Snapshot, Browse, End, Wrong}
-use Rattle.st_script.specs.Asks.{Object, Display, Classes, Methods, Bytecodes, Senders, instance_side, class_side}
+use Rattle.st_script.specs.Asks.{Object, Display, Classes, Methods, Source, Bytecodes, Senders, instance_side, class_side}
 use Rattle.st_script.specs.Lines.{number, with_arguments, alone, ask_with, ask_alone, line_ask, line_request}
 use Rattle.st_script.specs.Reading.{read, end_read}
 use Rattle.st_script.specs.Scripts.{Asked, Asks, Browses, Defines, asked}
@@ -150,6 +150,10 @@ methods_alone = refl
 selector_class : line_ask (codes "bytecodes Point class") ≡ Some (Bytecodes (instance_side (codes "Point")) (codes "class"))
 unfolding line_ask ask_with
 selector_class = refl
+
+source : line_ask (codes "source Point class x:y:") ≡ Some (Source (class_side (codes "Point")) (codes "x:y:"))
+unfolding line_ask ask_with
+source = refl
 
 bytecodes : line_ask (codes "bytecodes Point class x:y:") ≡ Some (Bytecodes (class_side (codes "Point")) (codes "x:y:"))
 unfolding line_ask ask_with

@@ -9,13 +9,13 @@ pub record Side : Type 0 where
   pub class : List ℕ
   pub meta : Bool
 
--- An object, by its pointer; the display; the classes; the methods of a class; a method's bytecodes, by its selector; the methods that
--- send a selector.
+-- An object, by its pointer; the display; the classes; the methods of a class; a method's text, or its bytecodes, by its selector; the
+-- methods that send a selector.
 pub data Ask : Type 0 where
   Object : ℕ → Ask
   Display Classes : Ask
   Methods : Side → Ask
-  Bytecodes : Side → List ℕ → Ask
+  Source Bytecodes : Side → List ℕ → Ask
   Senders : List ℕ → Ask
 
 abbrev pub instance_side : List ℕ → Side
@@ -33,5 +33,6 @@ ask_of (declared.Object n) = Object n
 ask_of declared.Display = Display
 ask_of declared.Classes = Classes
 ask_of (declared.Methods side) = Methods (side_of side)
+ask_of (declared.Source side selector) = Source (side_of side) selector.now
 ask_of (declared.Bytecodes side selector) = Bytecodes (side_of side) selector.now
 ask_of (declared.Senders selector) = Senders selector.now

@@ -7,7 +7,7 @@ use Rattle.st_chunk.specs.Texts.{most, is_empty}
 use Rattle.st_chunk.specs.Groups.{is_name}
 use Rattle.st_script.specs.declared.request.Request.{Request}
 use Rattle.st_script.specs.declared.request.Request.TheVariants.{Run, Input, Mouse, Clock, Tick, State, Used, Snapshot, Browse, End, Wrong}
-use Rattle.st_script.specs.Asks.{Side, Ask, Object, Display, Classes, Methods, Bytecodes, Senders, instance_side, class_side}
+use Rattle.st_script.specs.Asks.{Side, Ask, Object, Display, Classes, Methods, Source, Bytecodes, Senders, instance_side, class_side}
 
 -- NUMBERS
 
@@ -79,6 +79,7 @@ unfoldable pub ask_with : List ℕ → List ℕ → Option Ask
 ask_with word text =
     if is_word word (codes "object") then option_map Object (pointer_in text) else
     if is_word word (codes "methods") then option_map Methods (side_in text) else
+    if is_word word (codes "source") then option_map (λ m. Source m.0 m.1) (method_in text) else
     if is_word word (codes "bytecodes") then option_map (λ m. Bytecodes m.0 m.1) (method_in text) else
     if is_word word (codes "senders") then option_map Senders (selector_in text) else
     None

@@ -18,6 +18,8 @@ pub enum Ask<'a> {
     Classes,
     /// `methods C`: the selectors of a class's methods.
     Methods(Side<'a>),
+    /// `source C S`: the text of a class's method of this selector.
+    Source(Side<'a>, &'a [u8]),
     /// `bytecodes C S`: the bytecodes of a class's method of this selector.
     Bytecodes(Side<'a>, &'a [u8]),
     /// `senders S`: the methods that send this selector.

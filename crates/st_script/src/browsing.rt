@@ -101,6 +101,10 @@ fn ask_with<'a>(word: &[u8], text: &'a [u8]) -> Option<Ask<'a>>
     if word == b"methods".as_slice() {
         return Some(Ask::Methods(side_in(text)?));
     }
+    if word == b"source".as_slice() {
+        let (side, selector) = method_in(text)?;
+        return Some(Ask::Source(side, selector));
+    }
     if word == b"bytecodes".as_slice() {
         let (side, selector) = method_in(text)?;
         return Some(Ask::Bytecodes(side, selector));

@@ -50,6 +50,7 @@ fn add_ask(told: &mut String, alloc: Global, ask: Ask<'_>) -> Result<(), AllocEr
             told.push_str("Methods ")?;
             add_side(told, alloc, side)?;
         }
+        Ask::Source(side, selector) => add_method(told, alloc, "Source ", side, selector)?,
         Ask::Bytecodes(side, selector) => add_method(told, alloc, "Bytecodes ", side, selector)?,
         Ask::Senders(selector) => {
             told.push_str("Senders ")?;
@@ -172,7 +173,7 @@ fn scripts_ask(rt: HostRuntime) -> Result<(), Fail> {
 }
 
 /// Lines, and what each asks to look at.
-const ASKS: [(&[u8], &str); 43] = [
+const ASKS: [(&[u8], &str); 46] = [
     (b"object 2", "Object(2); "),
     (b"object 65534", "Object(65534); "),
     (b"object 0000000060", "Object(60); "),
@@ -202,6 +203,9 @@ const ASKS: [(&[u8], &str); 43] = [
     (b"methods A class x", "Wrong(1); "),
     (b"methods 1A", "Wrong(1); "),
     (b"methods A_", "Wrong(1); "),
+    (b"source A class", "Source A, class; "),
+    (b"source A class x", "Source A class, x; "),
+    (b"source A", "Wrong(1); "),
     (b"bytecodes A class", "Bytecodes A, class; "),
     (b"bytecodes A class x", "Bytecodes A class, x; "),
     (b"bytecodes A class class", "Bytecodes A class, class; "),
