@@ -7,3 +7,4 @@ pub mod Growing
 pub mod Lasts
 pub mod Determined
 pub mod Places
+pub mod Texts

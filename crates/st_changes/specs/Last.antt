@@ -46,6 +46,16 @@ pub record IsLast (ds : List Definition) (class : List ℕ) (meta : Bool) (selec
   pub at : span.at ≡ length (entries before) + text_place last
   pub long : span.length ≡ length (doubled last.text)
 
+-- the text is that of the last of these definitions that is of this class, this side of it and this selector
+pub record IsLastText (ds : List Definition) (class : List ℕ) (meta : Bool) (selector text : List ℕ) : Type 0 where
+  pub before : List Definition
+  pub last : Definition
+  pub behind : List Definition
+  pub is : ds ≡ before ++ last ∷ behind
+  pub of : IsOf class meta selector last
+  pub none : IsNowhere behind class meta selector
+  pub text_is : text ≡ last.text
+
 -- this finds the last of these definitions
 abbrev pub Answers : List Definition → (List ℕ → Bool → List ℕ → Option Span) → Type 0
 Answers ds f = (class : List ℕ) (meta : Bool) (selector : List ℕ) → MatchOption (f class meta selector) (IsNowhere ds class meta selector) (IsLast ds class meta selector)

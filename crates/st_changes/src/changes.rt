@@ -1,6 +1,6 @@
 // The list of the definitions that a changes file keeps.
 use crate::Definition;
-use crate::counting::count_before;
+use crate::counting::{count_before, definition_at};
 use crate::noting::prepare;
 use crate::writing::{entry_length, entry_text};
 use st_index::{Index, Span};
@@ -27,12 +27,13 @@ pub struct Changes {
 }
 
 impl Model for Changes {
-    ghost use Rattle.std.specs.Prelude.{string_bytes};
+    ghost use Rattle.std.specs.Prelude.{All, string_bytes};
     ghost use Rattle.std.specs.Vec.{vec_len, vec_capacity};
     ghost use Rattle.st_changes.specs.Views.{definitions_of};
     ghost use Rattle.st_changes.specs.States.{ChangesState, IsTotal, HasRoom};
     ghost use Rattle.st_changes.specs.Readying.{reserved_of, IsReadyFor};
     ghost use Rattle.st_changes.specs.Last.{Answers};
+    ghost use Rattle.st_chunk.specs.Definitions.{IsDefinition};
     ghost use Rattle.st_index.specs.States.{found};
 
     ghost Value = { ChangesState };
@@ -46,7 +47,8 @@ impl Model for Changes {
     ghost invariant = { λ c. IsTotal c.length (definitions_of c.listed.items)
         × HasRoom (vec_len c.listed) (vec_capacity c.listed) c.ready
         × Answers (definitions_of c.listed.items) (found c.index)
-        × IsReadyFor c.index c.ready };
+        × IsReadyFor c.index c.ready
+        × All IsDefinition (definitions_of c.listed.items) };
 }
 
 /// The most bytes of a changes file.
@@ -58,7 +60,8 @@ impl Changes {
     ghost use Rattle.st_changes.specs.Views.{definition_of, definitions_of};
     ghost use Rattle.st_changes.specs.States.{FitsBehind};
     ghost use Rattle.st_changes.specs.Lists.{StandsAt};
-    ghost use Rattle.st_changes.specs.Last.{IsNowhere, IsLast};
+    ghost use Rattle.std.specs.Option.{option_map};
+    ghost use Rattle.st_changes.specs.Last.{IsNowhere, IsLast, IsLastText};
 
     /// The definitions, in order.
     pub fn definitions(&self) -> &[Definition]
@@ -93,6 +96,16 @@ impl Changes {
             (IsLast self.now.listed class.now meta selector.now) }
     {
         self.index.find(class, meta, selector)
+    }
+
+    /// The text of that definition, as it was defined.
+    pub fn last_text(&self, class: &[u8], meta: bool, selector: &[u8]) -> Option<&[u8]>
+        ensures { MatchOption (option_map (λ t. t.now) result)
+            (IsNowhere self.now.listed class.now meta selector.now)
+            (IsLastText self.now.listed class.now meta selector.now) }
+    {
+        let span = self.last(class, meta, selector)?;
+        Some(&definition_at(&self.listed, span.at).text)
     }
 
     /// Takes the memory that `append` needs for this definition. After an error what was ready before is so still.

@@ -1,8 +1,8 @@
-// How many definitions stand before a place of their changes file.
+// Definitions by places of their changes file: how many stand before one, and the one whose entry has it.
 ghost use Rattle.std.specs.Prelude.{◌≡◌, ◌≤◌, All, length, take};
-ghost use Rattle.st_chunk.specs.Definitions.{IsDefinition, entries};
-ghost use Rattle.st_changes.specs.Views.{definitions_of};
-ghost use Rattle.st_changes.specs.Lists.{StandsAt};
+ghost use Rattle.st_chunk.specs.Definitions.{Definition as Defined, IsDefinition, entries};
+ghost use Rattle.st_changes.specs.Views.{definition_of, definitions_of};
+ghost use Rattle.st_changes.specs.Lists.{StandsAt, IsAt};
 
 use crate::Definition;
 use crate::writing::entry_length;
@@ -22,4 +22,21 @@ pub(crate) fn count_before(listed: &[Definition], place: u64) -> usize
         at += entry_length(definition);
     }
     listed.len()
+}
+
+/// The one of these definitions whose entry has this place.
+pub(crate) fn definition_at(listed: &[Definition], place: u64) -> &Definition
+    requires good { All IsDefinition (definitions_of listed.now) }
+    requires there { (d : Defined) × IsAt (definitions_of listed.now) place d }
+    ensures { IsAt (definitions_of listed.now) place (definition_of result.now) }
+{
+    let mut left = place;
+    for definition in listed {
+        let length = entry_length(definition);
+        if left < length {
+            return definition;
+        }
+        left -= length;
+    }
+    unreachable!()
 }

@@ -1,17 +1,17 @@
 use Rattle.std.proofs.Common.{◌≡◌, ◌≤◌, ◌+◌, ◌^◌, length-append, ℕ, List, [], ◌∷◌, ◌++◌, length, sym, ap, ◌∙◌, subst, arith}
-use Rattle.std.specs.Prelude.{Option, Some, unwrap_or}
+use Rattle.std.specs.Prelude.{All, Option, Some, unwrap_or}
 use Rattle.std.proofs.lemmas.List.{map-append}
 use Rattle.st_store.specs.declared.root.Root.{Root}
 use Rattle.st_outside.proofs.Joining.{makes_then, makes_failed, makes_of}
 use Rattle.st_store.specs.Stored.{Opens, IsFirm}
-use Rattle.st_chunk.specs.Definitions.{Definition, entry, entries}
+use Rattle.st_chunk.specs.Definitions.{Definition, IsDefinition, entry, entries}
 use Rattle.st_changes.specs.Views.{definition_of, definitions_of}
 use Rattle.st_changes.specs.States.{ChangesState, grown}
 use Rattle.st_changes.specs.Readying.{reserved_of}
 use Rattle.st_index.specs.States.{found}
 use Rattle.st_changes.specs.Last.{Answers}
 use Rattle.st_changes.specs.declared.changes.Ready.{Ready}
-use Rattle.st_changes.proofs.ListTexts.{entries_more}
+use Rattle.st_changes.proofs.ListTexts.{entries_more, all_more}
 use Rattle.st_changes.proofs.Growing.{grown_root}
 use Rattle.st_changes.proofs.changes.Changes.append.Goals as goal
 
@@ -58,6 +58,7 @@ invariant_of-self-2 g c =
       λ y e. absurd (none y e),
       subst (λ (es : List Definition). Answers es (found c.note.new.index)) (sym more) answers,
       λ y e. absurd (none y e),
+      subst (λ (es : List Definition). All IsDefinition es) (sym more) (all_more ds (definition_of c.args.definition) c.self.invariant.4 c.requires.good),
     )
 
 pub returns-clause-makes : goal.returns-clause-makes

@@ -1,7 +1,7 @@
 use Rattle.std.proofs.Common.{◌≡◌, ℕ, List, length, sym, ap, subst, arith, Some}
-use Rattle.std.specs.Prelude.{Option, unwrap_or}
+use Rattle.std.specs.Prelude.{All, Option, unwrap_or}
 use Rattle.std.specs.Option.{option_map}
-use Rattle.st_chunk.specs.Definitions.{Definition}
+use Rattle.st_chunk.specs.Definitions.{Definition, IsDefinition}
 use Rattle.st_index.specs.States.{found}
 use Rattle.st_changes.specs.Views.{definition_of, definitions_of}
 use Rattle.st_changes.specs.States.{IsTotal}
@@ -23,6 +23,7 @@ invariant_of-self-in_err-selector c =
       λ r is. omega (arith, c.in_ok-reserve.ensures.ok, c.in_ok-reserve.ensures.len),
       subst (λ (ds : List Definition). Answers ds (found c.prepare.new.index)) (sym e) (answers_same (definitions_of old.listed.items) (found old.index) (found c.prepare.new.index) p.same inv.2),
       λ r is. ready_on old.index c.prepare.new.index r.entry.items (option_map (λ v. v.items) r.selector) p.keeps p.room (inv.3 r is),
+      subst (λ (ds : List Definition). All IsDefinition ds) (sym e) inv.4,
     )
 
 pub invariant_of-self-2 : goal.invariant_of-self-2
@@ -36,4 +37,5 @@ invariant_of-self-2 c =
       subst (λ (ds : List Definition). Answers ds (found c.prepare.new.index)) (sym e) (answers_same (definitions_of old.listed.items) (found old.index) (found c.prepare.new.index) p.same inv.2),
       λ r is. subst (λ (q : Ready). IsReady c.prepare.new.index q.entry.items (option_map (λ v. v.items) q.selector)) (some_same is)
           (ready_of c.prepare.new.index (definition_of c.args.definition.now) c.in_ok-entry.entry.items (option_map (λ v. v.items) c.in_ok-selector.selector) c.requires c.in_ok-entry.ensures p.prepared),
+      subst (λ (ds : List Definition). All IsDefinition ds) (sym e) inv.4,
     )
