@@ -8,5 +8,7 @@ pub mod Symbols
 pub mod Sides
 pub mod Found
 pub mod Forms
+pub mod Sourcing
+pub mod Texts
 mod Rows
 mod DisplayRows

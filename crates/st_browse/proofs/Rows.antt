@@ -9,9 +9,11 @@ use Rattle.st_model.specs.View.{is_live, object_of}
 use Rattle.st_names.specs.Texts.{text_at}
 use Rattle.st_browse.specs.Fields.{field_at, fields_in, named}
 use Rattle.st_browse.specs.Classes.{member, global_at, globals_in, is_class, classes, on_side}
-use Rattle.st_browse.specs.Methods.{formed, dictionary_of, if_method, method_at, methods_in, methods}
+use Rattle.st_browse.specs.Methods.{formed, dictionary_of, if_method, method_at, methods_in, method_named, methods}
 use Rattle.st_browse.specs.Cutting.{codes_of}
 use Rattle.st_browse.specs.Senders.{is_symbol, is_sent, sends, senders}
+use Rattle.st_browse.specs.Sources.{source_text}
+use Rattle.st_browse.specs.Asked.{source_in}
 use Rattle.st_browse.specs.Replies.{count_text, classes_text, methods_text, code_line, bytecodes_text, senders_text}
 
 pointers : ℕ → List Value → Option Object
@@ -72,6 +74,26 @@ bytecodes_are : bytecodes_text (object_of image (Ref 11))
     ≡ count_text (codes "bytecodes") 4 ++ (code_line 5 (16 ∷ []) ++ (code_line 6 (128 ∷ 5 ∷ []) ++ (code_line 8 (176 ∷ []) ++ (code_line 9 (132 ∷ 1 ∷ []) ++ []))))
 unfolding image pointers symbol method object_of
 bytecodes_are = refl
+
+-- TEXTS
+
+source_is : source_text (codes "a\r\n\n\\b") ≡ count_text (codes "source") 3 ++ codes "| a\\0d\n| \n| \\5cb\n"
+source_is = refl
+
+-- the class has the method, and there is a text
+source_there : source_in image (codes "x") (Some (codes "x ^x")) (Ref 6) ≡ Some (count_text (codes "source") 1 ++ codes "| x ^x\n")
+unfolding image pointers symbol method methods_in method_named dictionary_of formed method_at if_method named field_at fields_in text_at is_live object_of
+source_there = refl
+
+-- there is a text, and the class has no such method
+no_method : source_in image (codes "z") (Some (codes "z ^x")) (Ref 6) ≡ None
+unfolding image pointers symbol method methods_in method_named dictionary_of formed method_at if_method named field_at fields_in text_at is_live object_of
+no_method = refl
+
+-- the class has the method, and there is no text
+no_text : source_in image (codes "x") None (Ref 6) ≡ None
+unfolding image pointers symbol method methods_in method_named dictionary_of formed method_at if_method named field_at fields_in text_at is_live object_of
+no_text = refl
 
 -- SENDERS
 

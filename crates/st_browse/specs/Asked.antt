@@ -1,13 +1,20 @@
--- What an image answers to what is asked of it; nothing where what is asked for is missing.
-use Rattle.std.specs.Prelude.{ℕ, List, Option, Some, None, option_map, option_and_then, if◌then◌else◌}
+-- What an image answers to what is asked of it, with the text of the method's last definition where that is asked for; nothing where
+-- what is asked for is missing.
+use Rattle.std.specs.Prelude.{◌≡◌, ℕ, List, [], Option, Some, None, MatchOption, Bool, Result, IfOk, OnOk, is_some, unwrap_or, option_map, option_and_then, if◌then◌else◌, ⊤}
+use Rattle.st_outside.specs.Runs.{SaysAll}
+use Rattle.st_outside.specs.Telling.{Says}
+use Rattle.st_outside.specs.declared.host.Host.{Ghosts}
 use Rattle.st_model.specs.Values.{Value, value_of}
 use Rattle.st_model.specs.Table.{Table}
 use Rattle.st_model.specs.View.{View, object_of}
-use Rattle.st_script.specs.Asks.{Side, Ask, Object, Display, Classes, Methods, Bytecodes, Senders}
+use Rattle.st_script.specs.Asks.{Side, Ask, Object, Display, Classes, Methods, Source, Bytecodes, Senders}
+use Rattle.st_chunk.specs.Definitions.{Definition}
+use Rattle.st_changes.specs.Last.{IsNowhere, IsLastText}
 use Rattle.st_browse.specs.Naming.{Named}
 use Rattle.st_browse.specs.Classes.{classes}
 use Rattle.st_browse.specs.Methods.{has_method, method_named}
 use Rattle.st_browse.specs.Display.{display_reply}
+use Rattle.st_browse.specs.Sources.{source_text}
 use Rattle.st_browse.specs.Replies.{object_reply, classes_text, methods_text, side_named, bytecodes_text, senders_text}
 
 -- the class that a side names
@@ -21,10 +28,26 @@ bytecodes_of t n = if has_method t n.value then Some (bytecodes_text (object_of 
 abbrev pub bytecodes_in : Table → List ℕ → Value → Option (List ℕ)
 bytecodes_in t selector class = option_and_then (bytecodes_of t) (method_named t class selector)
 
-unfoldable pub reply : View → Ask → Option (List ℕ)
-reply v (Object pointer) = object_reply v.objects (value_of pointer)
-reply v Display = display_reply v
-reply v Classes = Some (classes_text v.objects v.head.globals)
-reply v (Methods side) = option_map (methods_text v.objects) (class_of_side v side)
-reply v (Bytecodes side selector) = option_and_then (bytecodes_in v.objects selector) (class_of_side v side)
-reply v (Senders selector) = Some (senders_text v.objects selector (classes v.objects v.head.globals))
+-- a text, where the class has the method and there is a text
+abbrev pub source_in : Table → List ℕ → Option (List ℕ) → Value → Option (List ℕ)
+source_in t selector text class = option_and_then (λ n. option_map source_text text) (method_named t class selector)
+
+unfoldable pub reply : View → Option (List ℕ) → Ask → Option (List ℕ)
+reply v text (Object pointer) = object_reply v.objects (value_of pointer)
+reply v text Display = display_reply v
+reply v text Classes = Some (classes_text v.objects v.head.globals)
+reply v text (Methods side) = option_map (methods_text v.objects) (class_of_side v side)
+reply v text (Source side selector) = option_and_then (source_in v.objects selector text) (class_of_side v side)
+reply v text (Bytecodes side selector) = option_and_then (bytecodes_in v.objects selector) (class_of_side v side)
+reply v text (Senders selector) = Some (senders_text v.objects selector (classes v.objects v.head.globals))
+
+-- Where a source is asked for: the text of the last of these definitions that is of this class, this side of it and this selector.
+abbrev pub IsTextFor : List Definition → Ask → Option (List ℕ) → Type 0
+IsTextFor ds (Source side selector) text = MatchOption text (IsNowhere ds side.class side.meta selector) (IsLastText ds side.class side.meta selector)
+IsTextFor ds ask text = ⊤
+
+-- A call that says what is answered, and whether it is there: where it is missing, nothing is said.
+pub record Answers {D E : Type 0} (host : Ghosts D) (answer : Option (List ℕ)) (old new : D) (result : Result Bool E) : Type 0 where
+  pub there : IfOk result (λ b. b ≡ is_some answer)
+  pub all : OnOk result (SaysAll host (unwrap_or answer []) old new)
+  pub says : Says host (unwrap_or answer []) old new

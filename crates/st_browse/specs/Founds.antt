@@ -18,6 +18,7 @@ use Rattle.st_browse.specs.Classes.{is_class}
 use Rattle.st_browse.specs.Listing.{listed, lines_text}
 use Rattle.st_browse.specs.Replies.{count_text, bytecodes_text, senders_text}
 use Rattle.st_browse.specs.Display.{form_text}
+use Rattle.st_browse.specs.Sources.{source_text}
 use Rattle.st_browse.specs.Shown.{IsForm, form_in}
 use Rattle.st_browse.specs.Entries.{IsBody, count_of, names_in}
 
@@ -33,6 +34,7 @@ sought_text t (sought.Object o) = object_text (o.0 / 2) (object_of t (value o))
 sought_text t (sought.Display form) = form_text (form_in t form)
 sought_text t (sought.Classes names) = listed_text t (codes "classes") names Classes Class
 sought_text t (sought.Methods names) = listed_text t (codes "methods") names Every Method
+sought_text t (sought.Source text) = source_text text.now
 sought_text t (sought.Bytecodes body) = body_text t body
 sought_text t (sought.Senders globals selector) = senders_text t selector.now (filter (is_class t) (in_order (names_in t globals)))
 
@@ -42,5 +44,6 @@ IsSought t (sought.Object o) = is_live t (value o) ≡ true
 IsSought t (sought.Display form) = IsForm t form
 IsSought t (sought.Classes names) = count_of names ≤ 131066
 IsSought t (sought.Methods names) = count_of names ≤ 131066
+IsSought t (sought.Source text) = Unit {0}
 IsSought t (sought.Bytecodes body) = IsBody t body
 IsSought t (sought.Senders globals selector) = count_of globals ≤ 131066

@@ -6,6 +6,7 @@ pub mod Cutting
 pub mod Senders
 pub mod Replies
 pub mod Display
+pub mod Sources
 pub mod Shown
 pub mod Asked
 pub mod Entries

@@ -1,6 +1,6 @@
-//! What is asked of an image: an object, the display, the classes, a class's methods, a method's bytecodes, the senders of a
-//! selector. Each is answered from the memory alone, line by line, without memory of its own and without a change. The answers are
-//! defined in `specs/Replies.antt` and `specs/Display.antt`.
+//! What is asked of an image: an object, the display, the classes, a class's methods, a method's text or bytecodes, the senders of a
+//! selector. Each is answered line by line, without memory of its own and without a change: a text from the definitions that a store
+//! keeps, and all else from the memory alone. The answers are defined in `specs/Replies.antt`, `Display.antt` and `Sources.antt`.
 #![tactic(auto)]
 
 mod choice;
@@ -20,5 +20,6 @@ mod saying;
 mod senders;
 mod sending;
 mod sought;
+mod source;
 
 pub use saying::browse;

@@ -1,6 +1,6 @@
 //! The lines of what was found.
 
-ghost use Rattle.std.specs.Prelude.{◌≡◌, ◌≤◌, ◌++◌, [], is_some, unwrap_or, length, IfOk, OnOk};
+ghost use Rattle.std.specs.Prelude.{◌≡◌, ◌≤◌, ◌++◌, ℕ, List, Option, option_map, length, OnOk};
 ghost use Rattle.std.specs.List.{filter};
 ghost use Rattle.st_model.specs.Values.{value};
 ghost use Rattle.st_model.specs.View.{object_of};
@@ -13,7 +13,7 @@ ghost use Rattle.st_browse.specs.Naming.{in_order};
 ghost use Rattle.st_browse.specs.Classes.{is_class};
 ghost use Rattle.st_browse.specs.Listing.{lines_text, listed};
 ghost use Rattle.st_browse.specs.Replies.{bytecodes_text, count_text, senders_text};
-ghost use Rattle.st_browse.specs.Asked.{reply};
+ghost use Rattle.st_browse.specs.Asked.{Answers, IsTextFor, reply};
 ghost use Rattle.st_browse.specs.Entries.{IsBody, IsLine, count_of, names_in};
 ghost use Rattle.st_browse.specs.Founds.{IsSought, sought_text};
 
@@ -25,6 +25,8 @@ use crate::listing::{count_listed, push_listed};
 use crate::names::Names;
 use crate::senders::{count_senders, push_senders};
 use crate::sought::{Sought, seek};
+use crate::source::push_source;
+use st_changes::Changes;
 use st_memory::Memory;
 use st_outside::{Host, SayFault};
 use st_report::{Output, push_long_line, push_object};
@@ -110,6 +112,7 @@ fn push_sought<H: Host, M: Memory>(
         Sought::Methods(names) => {
             push_names(out, host, m, names, Choice::Every, Line::Method, b"methods")
         }
+        Sought::Source(text) => push_source(out, host, text),
         Sought::Bytecodes(body) => push_bytecodes(out, host, m, body),
         Sought::Senders(globals, selector) => push_all_senders(out, host, m, globals, selector),
     }
@@ -129,17 +132,35 @@ fn say_sought<H: Host, M: Memory>(m: &M, sought: Sought<'_>, host: &mut H) -> Re
     out.finish(host)
 }
 
-/// Says what an image answers to what is asked of it, and whether what is asked for is there: where it is missing, nothing is
-/// said. After an error some first bytes of the answer were said, or none or all.
-pub fn browse<H: Host, M: Memory>(m: &M, ask: Ask<'_>, host: &mut H) -> Result<bool, SayFault>
-    ensures there { IfOk result (λ b. b ≡ is_some (reply (M.view m.now) (ask_of ask.entry))) }
-    ensures all { let text = unwrap_or (reply (M.view m.now) (ask_of ask.entry)) [] in
-        OnOk result (SaysAll H.Host.own text host.old host.new) }
-    ensures says { let text = unwrap_or (reply (M.view m.now) (ask_of ask.entry)) [] in
-        Says H.Host.own text host.old host.new }
+/// The text of the last definition of a class, a side of it and a selector, where a source is asked for.
+fn text_for<'a>(changes: &'a Changes, ask: Ask<'_>) -> Option<&'a [u8]>
+    ensures { IsTextFor changes.now.listed (ask_of ask.entry) (option_map (λ t. t.now) result) }
+{
+    match ask {
+        Ask::Source(side, selector) => changes.last_text(side.class, side.meta, selector),
+        Ask::Object(_)
+        | Ask::Display
+        | Ask::Classes
+        | Ask::Methods(_)
+        | Ask::Bytecodes(_, _)
+        | Ask::Senders(_) => None,
+    }
+}
+
+/// Says what an image, whose definitions are kept in this list, answers to what is asked of it, and whether what is asked for is
+/// there: where it is missing, nothing is said. After an error some first bytes of the answer were said, or none or all. It
+/// takes no memory, and reads no file.
+pub fn browse<H: Host, M: Memory>(
+    m: &M,
+    changes: &Changes,
+    ask: Ask<'_>,
+    host: &mut H,
+) -> Result<bool, SayFault>
+    ensures answers { (text : Option (List ℕ)) → IsTextFor changes.now.listed (ask_of ask.entry) text
+        → Answers H.Host.own (reply (M.view m.now) text (ask_of ask.entry)) host.old host.new result }
     ensures cause { HasCause (H.say_faults host.old) (H.say_faults host.new) result }
 {
-    match seek(m, ask) {
+    match seek(m, ask, text_for(changes, ask)) {
         Some(sought) => {
             say_sought(m, sought, host)?;
             Ok(true)

@@ -6,7 +6,7 @@ ghost use Rattle.st_names.specs.Texts.{found};
 ghost use Rattle.st_script.specs.Asks.{ask_of, side_of};
 ghost use Rattle.st_browse.specs.Display.{display_reply};
 ghost use Rattle.st_browse.specs.Replies.{methods_text, object_reply};
-ghost use Rattle.st_browse.specs.Asked.{bytecodes_in, class_of_side, reply};
+ghost use Rattle.st_browse.specs.Asked.{bytecodes_in, class_of_side, reply, source_in};
 ghost use Rattle.st_browse.specs.Entries.{IsBody};
 ghost use Rattle.st_browse.specs.Founds.{IsSought, body_text, sought_text};
 
@@ -31,6 +31,8 @@ pub enum Sought<'a> {
     Classes(Names),
     /// The methods of a class.
     Methods(Names),
+    /// The text of a method.
+    Source(&'a [u8]),
     /// The bytecodes of a method.
     Bytecodes(Body),
     /// The senders of a selector, in the classes among the globals.
@@ -72,6 +74,25 @@ fn seek_methods<'a, M: Memory>(m: &M, side: Side<'_>) -> Option<Sought<'a>>
     Some(Sought::Methods(methods_of(m, class)))
 }
 
+/// Finds a method of a class for a selector, of whose last definition this is the text, if there is one.
+#[tactic(auto, unfolding(crate::specs::Methods::method_named))]
+fn seek_source<'a, M: Memory>(
+    m: &M,
+    side: Side<'_>,
+    selector: &[u8],
+    text: Option<&'a [u8]>,
+) -> Option<Sought<'a>>
+    ensures sought { let v = M.view m.now in let text = option_map (λ t. t.now) text.entry in
+        let found = class_of_side v (side_of side.entry) in
+        option_map (sought_text v.objects) result
+        ≡ option_and_then (source_in v.objects selector.now text) found }
+    ensures there { IfSome result (λ s. IsSought (M.view m.now).objects s) }
+{
+    let class = class_of_side(m, side)?;
+    first_named(m, methods_of(m, class), selector)?;
+    Some(Sought::Source(text?))
+}
+
 /// Finds the bytecodes of a class's method for a selector.
 fn seek_bytecodes<'a, M: Memory>(m: &M, side: Side<'_>, selector: &[u8]) -> Option<Sought<'a>>
     ensures sought { let v = M.view m.now in
@@ -106,11 +127,11 @@ fn seek_display<'a, M: Memory>(m: &M) -> Option<Sought<'a>>
     Some(Sought::Display(find_display(m)?))
 }
 
-/// Finds what is asked for.
+/// Finds what is asked for, with the text of the last definition where a source is asked for.
 #[tactic(auto, unfolding(crate::specs::Asked::reply))]
-pub fn seek<'a, M: Memory>(m: &M, ask: Ask<'a>) -> Option<Sought<'a>>
-    ensures sought { let v = M.view m.now in
-        option_map (sought_text v.objects) result ≡ reply v (ask_of ask.entry) }
+pub fn seek<'a, M: Memory>(m: &M, ask: Ask<'a>, text: Option<&'a [u8]>) -> Option<Sought<'a>>
+    ensures sought { let v = M.view m.now in let text = option_map (λ t. t.now) text.entry in
+        option_map (sought_text v.objects) result ≡ reply v text (ask_of ask.entry) }
     ensures there { IfSome result (λ s. IsSought (M.view m.now).objects s) }
 {
     match ask {
@@ -118,6 +139,7 @@ pub fn seek<'a, M: Memory>(m: &M, ask: Ask<'a>) -> Option<Sought<'a>>
         Ask::Display => seek_display(m),
         Ask::Classes => Some(Sought::Classes(globals(m))),
         Ask::Methods(side) => seek_methods(m, side),
+        Ask::Source(side, selector) => seek_source(m, side, selector, text),
         Ask::Bytecodes(side, selector) => seek_bytecodes(m, side, selector),
         Ask::Senders(selector) => Some(Sought::Senders(globals(m), selector)),
     }

@@ -23,7 +23,7 @@ fn hexadecimal(digit: u8) -> u8
 }
 
 /// Adds a byte: those from 32 to 126 but the backslash for themselves, others as a backslash and two digits.
-fn push_escaped<H: Host>(out: &mut Output, host: &mut H, byte: u8) -> Result<(), SayFault>
+pub fn push_escaped<H: Host>(out: &mut Output, host: &mut H, byte: u8) -> Result<(), SayFault>
     ensures { Pushes H.Host.own (escaped_byte byte) host.old host.new out.old out.new result }
 {
     if byte < 32 || byte > 126 || byte == b'\\' {

@@ -1,4 +1,5 @@
 use Rattle.std.proofs.Common.{Some, refl, ap, sym, ◌∙◌}
+use Rattle.std.specs.Prelude.{option_map}
 use Rattle.st_script.specs.Asks.{ask_of}
 use Rattle.st_browse.specs.Asked.{reply}
 use Rattle.st_browse.proofs.Found.{classes_listed, classes_asked}
@@ -8,7 +9,7 @@ pub returns-in-Classes-clause-sought : goal.returns-in-Classes-clause-sought
 unfolding reply
 returns-in-Classes-clause-sought g c =
     let v = g.M.Memory.view c.args.m.now in
-    ap Some (classes_listed v.objects c.globals.result v.head.globals c.globals.ensures.globals) ∙ ap (λ a. reply v (ask_of a)) (sym c.in-Classes.is)
+    ap Some (classes_listed v.objects c.globals.result v.head.globals c.globals.ensures.globals) ∙ ap (λ a. reply v (option_map (λ t. t.now) c.args.text) (ask_of a)) (sym c.in-Classes.is)
 
 pub returns-in-Senders-clause-sought : goal.returns-in-Senders-clause-sought
 unfolding reply
@@ -16,4 +17,4 @@ returns-in-Senders-clause-sought g c =
     let v = g.M.Memory.view c.args.m.now in
     let selector = c.in-Senders.selector.now in
     ap Some (classes_asked v.objects selector selector c.globals-in-Senders.result v.head.globals c.globals-in-Senders.ensures.globals refl)
-    ∙ ap (λ a. reply v (ask_of a)) (sym c.in-Senders.is)
+    ∙ ap (λ a. reply v (option_map (λ t. t.now) c.args.text) (ask_of a)) (sym c.in-Senders.is)

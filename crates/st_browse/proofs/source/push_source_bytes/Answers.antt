@@ -1,0 +1,22 @@
+use Rattle.std.proofs.Common.{◌<◌, length, arith}
+use Rattle.std.proofs.lemmas.Option.{slice_get-get_or}
+use Rattle.st_report.proofs.Pushing.{push_none, push_next, push_stopped}
+use Rattle.st_browse.specs.Sources.{source_byte}
+use Rattle.st_browse.proofs.source.push_source_bytes.Goals as goal
+
+pub loop-byte-init : goal.loop-byte-init
+loop-byte-init g c = push_none g.H.Host c.args.host.now (g.met.H.Host.only_now c.args.host.now)
+
+pub returns-in_err-push_source_byte : goal.returns-in_err-push_source_byte
+returns-in_err-push_source_byte g c =
+    let xs = c.args.text.now in
+    let i = c.loop-byte.byte-index in
+    let below : i < length xs = omega arith in
+    push_stopped source_byte xs i c.from_residual.ensures.0 (slice_get-get_or xs i 0 below) c.loop-byte.invariant c.in_err-push_source_byte.ensures
+
+pub loop-byte-preserved : goal.loop-byte-preserved
+loop-byte-preserved g c =
+    let xs = c.args.text.now in
+    let i = c.loop-byte.byte-index in
+    let below : i < length xs = omega arith in
+    push_next source_byte xs i (slice_get-get_or xs i 0 below) c.loop-byte.invariant c.in_ok-push_source_byte.ensures
