@@ -75,6 +75,14 @@ impl Archive {
         }
     }
 
+    /// The list of the definitions that are kept.
+    pub fn changes(&self) -> &Changes
+        ensures named { result.now.name ≡ self.now.name }
+        ensures listed { result.now.listed ≡ self.now.listed }
+    {
+        &self.changes
+    }
+
     /// Keeps a definition: its entry stands in the changes file, synced. `TooLarge` comes where the entry would take the file
     /// past 2^30 bytes, and `OutOfMemory` where there is no memory: then nothing was done, since all memory is taken before the
     /// first write. After `DiskFault` the store has the definition or it hasn't, and is closed.
