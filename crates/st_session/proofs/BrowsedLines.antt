@@ -11,17 +11,20 @@ use Rattle.st_model.specs.Table.{Table, entry}
 use Rattle.st_model.specs.Text.{value_text, values_text, numbers_text, kind_text, colon_text, object_text, escaped, hexadecimal}
 use Rattle.st_model.specs.View.{View, object_of}
 use Rattle.st_model.specs.BitBlt.{Form}
-use Rattle.st_script.specs.Asks.{Ask, Object as AsksObject, Display, Classes, Methods, Bytecodes, Senders}
+use Rattle.st_script.specs.Asks.{Ask, Object as AsksObject, Display, Classes, Methods, Source, Bytecodes, Senders}
 use Rattle.st_browse.specs.Naming.{Named}
 use Rattle.st_browse.specs.Classes.{classes}
 use Rattle.st_browse.specs.Methods.{methods, has_method, method_named}
 use Rattle.st_browse.specs.Cutting.{codes_of}
 use Rattle.st_browse.specs.Display.{form_at, if_held, row_of, word_text, row_line, rows_text, form_text, display_reply}
 use Rattle.st_browse.specs.Replies.{count_text, object_reply, name_line, classes_text, methods_text, code_line, codes_text, bytecodes_text, side_text, sender_line, senders_lines, senders_on, senders_count, both_lines, senders_text}
-use Rattle.st_browse.specs.Asked.{class_of_side, bytecodes_of, bytecodes_in, reply}
+use Rattle.st_browse.specs.Sources.{lines_of, source_line, source_text}
+use Rattle.st_browse.specs.Asked.{class_of_side, bytecodes_of, bytecodes_in, source_in, reply}
 use Rattle.st_course.specs.Acknowledged.{counts, IsLines}
 use Rattle.st_course.proofs.Lawful.{lines_both}
 use Rattle.st_definition.proofs.Selectors.{IsInLine, both_in_line}
+use Rattle.st_chunk.specs.Definitions.{Definition}
+use Rattle.st_session.specs.Sources.{text_for}
 use Rattle.st_session.specs.Browsing.{missing_text, asked_text}
 use Rattle.st_session.proofs.WholeLines.{IsLine, one_line, no_text, put, hexadecimal_in_line, ends, behind, decimal_in_line, value_in_line, values_in_line, numbers_in_line, numbers_lines, escaped_in_line}
 
@@ -151,6 +154,20 @@ bytecodes_if t n = over (has_method t n.value)
 bytecodes_said : (t : Table) (selector : List ℕ) (class : Value) → IsLines 0 (unwrap_or (bytecodes_in t selector class) missing_text)
 bytecodes_said t selector class = then_there (bytecodes_of t) (method_named t class selector) (bytecodes_if t)
 
+-- TEXTS
+
+source_line_lines : (line : List ℕ) → IsLines 0 (source_line line)
+source_line_lines line =
+    one_line 0 (source_line line) (behind (codes "| ") (escaped line ++ codes "\n") refl (behind (escaped line) (codes "\n") (escaped_in_line line) ends)) refl
+
+source_lines : (text : List ℕ) → IsLines 0 (source_text text)
+source_lines text =
+    let lines = lines_of text in
+    lines_both 0 0 (count_text (codes "source") (length lines)) (flat_map source_line lines) (count_lines (codes "source") (length lines) refl refl) (all_lines source_line lines source_line_lines)
+
+source_said : (t : Table) (selector : List ℕ) (text : Option (List ℕ)) (class : Value) → IsLines 0 (unwrap_or (source_in t selector text class) missing_text)
+source_said t selector text class = then_there (λ n. option_map source_text text) (method_named t class selector) (λ n. if_there source_text text source_lines)
+
 -- SENDERS
 
 meta_in_line : (meta : Bool) → IsInLine (side_text meta)
@@ -176,11 +193,14 @@ senders_said t selector cs =
 
 -- WHAT IS ASKED FOR
 
-pub asked_lines : (v : View) (ask : Ask) → IsLines 0 (asked_text v ask)
+pub asked_lines : (v : View) (ds : List Definition) (ask : Ask) → IsLines 0 (asked_text v ds ask)
 unfolding reply
-asked_lines v (AsksObject pointer) = object_said v.objects (value_of pointer)
-asked_lines v Display = display_said v
-asked_lines v Classes = classes_said v.objects v.head.globals
-asked_lines v (Methods side) = if_there (methods_text v.objects) (class_of_side v side) (methods_said v.objects)
-asked_lines v (Bytecodes side selector) = then_there (bytecodes_in v.objects selector) (class_of_side v side) (bytecodes_said v.objects selector)
-asked_lines v (Senders selector) = senders_said v.objects selector (classes v.objects v.head.globals)
+asked_lines v ds (AsksObject pointer) = object_said v.objects (value_of pointer)
+asked_lines v ds Display = display_said v
+asked_lines v ds Classes = classes_said v.objects v.head.globals
+asked_lines v ds (Methods side) = if_there (methods_text v.objects) (class_of_side v side) (methods_said v.objects)
+asked_lines v ds (Source side selector) =
+    let text = text_for ds (Source side selector) in
+    then_there (source_in v.objects selector text) (class_of_side v side) (source_said v.objects selector text)
+asked_lines v ds (Bytecodes side selector) = then_there (bytecodes_in v.objects selector) (class_of_side v side) (bytecodes_said v.objects selector)
+asked_lines v ds (Senders selector) = senders_said v.objects selector (classes v.objects v.head.globals)

@@ -74,15 +74,15 @@ module _ {C : Type 0} where
   dead_lawful cause c (Wrong line) = tt
   dead_lawful cause c request = said (dead_text 0 cause) (dead_lines 0 cause)
 
-  browse_lawful : (b : Being) (c : C) (ask : Ask) → KeepsLaw (browse_course b c ask)
-  browse_lawful (Alive s) c ask = let m = memory_of (show s) in said (asked_text m ask) (asked_lines m ask)
-  browse_lawful (Gone cause) c ask = said (dead_text 0 cause) (dead_lines 0 cause)
-
   event_lawful : (s : State Births) (c : C) (o : Option (State Births)) → KeepsLaw (event_course s c o)
   event_lawful s c None = said full_text (record { whole = refl; count = refl })
   event_lawful s c (Some t) = said ok_text (record { whole = refl; count = refl })
 
   module _ (keeping : Keeping C) (laws : KeepsLawfully keeping) where
+    browse_lawful : (b : Being) (c : C) (ask : Ask) → KeepsLaw (browse_course keeping b c ask)
+    browse_lawful (Alive s) c ask = let m = memory_of (show s) in said (asked_text m (keeping.listed c) ask) (asked_lines m (keeping.listed c) ask)
+    browse_lawful (Gone cause) c ask = said (dead_text 0 cause) (dead_lines 0 cause)
+
     going_lawful : (f : State Births → C → Course C (Point C)) (b : Being) (c : C) → ((t : State Births) (d : C) → KeepsLaw (f t d)) → KeepsLaw (going_on keeping f b c)
     going_lawful f (Alive s) c h = h s c
     going_lawful f (Gone cause) c h = (tt, tt)

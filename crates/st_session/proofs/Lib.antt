@@ -19,6 +19,7 @@ pub mod Responding
 pub mod Rows
 pub mod Saying
 pub mod Snapshots
+pub mod Sources
 mod Spoken
 pub mod Started
 pub mod Stretches

@@ -30,17 +30,17 @@ module _ {C : Type 0} where
   dead_line cause c (Wrong line) = Ends [] (status.Script line)
   dead_line cause c request = replies (dead_text 0 cause) (gone cause c)
 
-  -- a line that asks to look at something
-  abbrev pub browse_course : Being → C → Ask → Course C (Point C)
-  browse_course (Alive s) c ask = replies (asked_text (memory_of (show s)) ask) (alive s c)
-  browse_course (Gone cause) c ask = replies (dead_text 0 cause) (gone cause c)
-
   -- an event, which none is where the input is full
   abbrev pub event_course : State Births → C → Option (State Births) → Course C (Point C)
   event_course s c None = replies full_text (alive s c)
   event_course s c (Some t) = replies ok_text (alive t c)
 
   module _ (keeping : Keeping C) where
+    -- a line that asks to look at something
+    abbrev pub browse_course : Being → C → Ask → Course C (Point C)
+    browse_course (Alive s) c ask = replies (asked_text (memory_of (show s)) (keeping.listed c) ask) (alive s c)
+    browse_course (Gone cause) c ask = replies (dead_text 0 cause) (gone cause c)
+
     -- where the machine is alive, the run goes on
     abbrev pub going_on : (State Births → C → Course C (Point C)) → Being → C → Course C (Point C)
     going_on f (Alive s) c = f s c

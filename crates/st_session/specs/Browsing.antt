@@ -4,16 +4,18 @@ use Rattle.st_model.specs.Machine.{State}
 use Rattle.st_model.specs.Table.{Table}
 use Rattle.st_model.specs.View.{Held, View}
 use Rattle.st_world.specs.Naming.{filled}
+use Rattle.st_chunk.specs.Definitions.{Definition}
 use Rattle.st_script.specs.Asks.{Ask}
 use Rattle.st_browse.specs.Asked.{reply}
+use Rattle.st_session.specs.Sources.{text_for}
 
 -- it is missing
 abbrev pub missing_text : List ℕ
 missing_text = codes "not found\n"
 
--- what a memory shows of it, or that it is missing
-abbrev pub asked_text : View → Ask → List ℕ
-asked_text v ask = unwrap_or (reply v ask) missing_text
+-- what a memory shows of it, and these definitions of a method's text, or that it is missing
+abbrev pub asked_text : View → List Definition → Ask → List ℕ
+asked_text v ds ask = unwrap_or (reply v (text_for ds ask) ask) missing_text
 
 -- a state as its memory has it: the registers and what the world names are held
 abbrev pub held_by : State Table → Held

@@ -7,11 +7,13 @@ use Rattle.st_model.specs.Show.{show}
 use Rattle.st_model.specs.Text.{dead_text}
 use Rattle.st_chunk.specs.Definitions.{Definition}
 use Rattle.st_course.specs.Courses.{Course, Reply, Keep, Goes, and_then, replies}
-use Rattle.st_recover.specs.Commits.{Commit, imaged, image_with, accepting}
+use Rattle.st_recover.specs.Commits.{Commit, all_of, imaged, image_with, accepting}
 use Rattle.st_session.specs.Points.{Point, alive, gone}
 use Rattle.st_session.specs.Replies.{snapshot_text}
 
 pub record Keeping (C : Type 0) : Type 0 where
+  -- the definitions that are kept, in order
+  pub listed : C → List Definition
   -- a definition that isn't refused is kept
   pub accepts : C → Definition → Course C C
   -- a bytecode asked for a snapshot, with which so many cycles of the line are finished
@@ -20,6 +22,7 @@ pub record Keeping (C : Type 0) : Type 0 where
 -- Where an image alone is run nothing is kept, and a snapshot is passed over.
 abbrev pub keeps_nothing : Keeping (Unit {0})
 keeps_nothing = record {
+  listed = λ c. [];
   accepts = λ c d. Goes [] c;
   snapshot = λ n s c. Goes [] (alive s c);
 }
@@ -40,6 +43,7 @@ saved n (Went u s) c = and_then (imaging c (image_of s)) (λ d. Goes [] (alive s
 -- In a store definitions and snapshots are kept.
 abbrev pub in_a_store : Keeping Commit
 in_a_store = record {
+  listed = all_of;
   accepts = accepting;
   snapshot = λ n s c. saved n (save births s) c;
 }

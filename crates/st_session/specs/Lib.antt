@@ -3,6 +3,7 @@ pub mod Runs
 pub mod Points
 pub mod Keeping
 pub mod Replies
+pub mod Sources
 pub mod Browsing
 pub mod Lines
 pub mod Telling

@@ -1,0 +1,81 @@
+-- The text that is defined as a method's last one is that of the last definition.
+use Rattle.std.proofs.Common.{◌≡◌, ℕ, zero, suc, ◌<◌, Bool, true, false, true≢false, List, [], ◌∷◌, length, refl, sym, ap, ◌∙◌, subst, arith}
+use Rattle.std.specs.Prelude.{◌&&◌, bytes_eq, Option, Some, None, MatchOption, Result, Ok, Err, All, if◌then◌else◌}
+use Rattle.std.specs.Bool.{beq}
+use Rattle.std.specs.Cmp.{booleans_Decides}
+use Rattle.std.specs.Cmp.Lexicographic.{bytes_decides}
+use Rattle.std.proofs.lemmas.Bool.{and_parts, and_from}
+use Rattle.st_tree.specs.declared.fault.Fault.{Fault}
+use Rattle.st_tree.specs.Views.{MethodView}
+use Rattle.st_chunk.specs.Definitions.{Definition}
+use Rattle.st_script.specs.Asks.{Side, Ask, Object, Display, Classes, Methods, Source, Bytecodes, Senders}
+use Rattle.st_changes.specs.Last.{HasSelector, IsOf, IsNowhere, IsLastText}
+use Rattle.st_browse.specs.Asked.{IsTextFor}
+use Rattle.st_definition.specs.Syntax.{IsSyntax, syntax}
+use Rattle.st_definition.proofs.Syntaxes.{is, only}
+use Rattle.st_session.specs.Sources.{selector_of, is_named, is_of, or_earlier, last_text, text_for}
+
+none_of : (P : Definition → Type 0) → All P []
+none_of P k x less = absurd (omega (arith, less))
+
+one_more : (P : Definition → Type 0) (d : Definition) (ds : List Definition) → P d → All P ds → All P (d ∷ ds)
+one_more P d ds h all zero x less = h
+one_more P d ds h all (suc k) x less = all k x (omega (arith, less))
+
+-- THE SELECTOR
+
+by_tree : (selector text : List ℕ) (r : Result MethodView Fault) → IsSyntax text r → is_named selector (selector_of r) ≡ true → HasSelector text selector
+by_tree selector text (Ok tree) means e = record { tree = tree; means = means; is = (bytes_decides tree.selector selector).0 e }
+by_tree selector text (Err f) first e = cc
+
+named : (selector text : List ℕ) → HasSelector text selector → is_named selector (selector_of (syntax text)) ≡ true
+named selector text h =
+    ap (λ (r : Result MethodView Fault). is_named selector (selector_of r)) (sym (only text (Ok h.tree) h.means)) ∙ (bytes_decides h.tree.selector selector).1 h.is
+
+-- ONE DEFINITION
+
+module _ (side : Side) (selector : List ℕ) (d : Definition) where
+  test : Bool
+  test = is_named selector (selector_of (syntax d.text))
+
+  meets : is_of side selector d ≡ true → IsOf side.class side.meta selector d
+  unfolding test
+  meets e =
+      let parts = and_parts (bytes_eq d.class side.class) (beq d.meta side.meta && test) e in
+      let rest = and_parts (beq d.meta side.meta) test parts.1 in
+      record {
+        class_is = (bytes_decides d.class side.class).0 parts.0;
+        side = (booleans_Decides d.meta side.meta).0 rest.0;
+        named = by_tree selector d.text (syntax d.text) (is d.text) rest.1;
+      }
+
+  fails : is_of side selector d ≡ false → IsOf side.class side.meta selector d → ⊥
+  unfolding test
+  fails e h =
+      let rest = and_from (beq d.meta side.meta) test ((booleans_Decides d.meta side.meta).1 h.side) (named selector d.text h.named) in
+      let all = and_from (bytes_eq d.class side.class) (beq d.meta side.meta && test) ((bytes_decides d.class side.class).1 h.class_is) rest in
+      true≢false (sym all ∙ e)
+
+-- THE LAST ONE
+
+module _ (side : Side) (selector : List ℕ) where
+  abbrev IsText : List Definition → Option (List ℕ) → Type 0
+  IsText ds o = MatchOption o (IsNowhere ds side.class side.meta selector) (IsLastText ds side.class side.meta selector)
+
+  with_one : (d : Definition) (ds : List Definition) (o : Option (List ℕ)) (t : Bool) → is_of side selector d ≡ t → IsText ds o → IsText (d ∷ ds) (or_earlier o (if t then Some d.text else None))
+  with_one d ds None true e h = record { before = []; last = d; behind = ds; is = refl; of = meets side selector d e; none = h; text_is = refl }
+  with_one d ds None false e h = one_more (λ x. IsOf side.class side.meta selector x → ⊥) d ds (fails side selector d e) h
+  with_one d ds (Some text) t e h = record { before = d ∷ h.before; last = h.last; behind = h.behind; is = ap (λ (x : List Definition). d ∷ x) h.is; of = h.of; none = h.none; text_is = h.text_is }
+
+  last_is : (ds : List Definition) → IsText ds (last_text side selector ds)
+  last_is [] = none_of (λ x. IsOf side.class side.meta selector x → ⊥)
+  last_is (d ∷ ds) = with_one d ds (last_text side selector ds) (is_of side selector d) refl (last_is ds)
+
+pub text_is : (ds : List Definition) (ask : Ask) → IsTextFor ds ask (text_for ds ask)
+text_is ds (Object pointer) = tt
+text_is ds Display = tt
+text_is ds Classes = tt
+text_is ds (Methods side) = tt
+text_is ds (Source side selector) = last_is side selector ds
+text_is ds (Bytecodes side selector) = tt
+text_is ds (Senders selector) = tt

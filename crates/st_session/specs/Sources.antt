@@ -1,0 +1,36 @@
+-- The text that a session shows of a method: that of its last definition among those that are kept.
+use Rattle.std.specs.Prelude.{ℕ, Bool, false, ◌&&◌, bytes_eq, List, [], ◌∷◌, Option, Some, None, Result, Ok, Err, if◌then◌else◌}
+use Rattle.std.specs.Bool.{beq}
+use Rattle.st_tree.specs.declared.fault.Fault.{Fault}
+use Rattle.st_tree.specs.Views.{MethodView}
+use Rattle.st_chunk.specs.Definitions.{Definition}
+use Rattle.st_script.specs.Asks.{Side, Ask, Source}
+use Rattle.st_definition.specs.Syntax.{syntax}
+
+-- the selector of a method's tree, if there is one
+abbrev pub selector_of : Result MethodView Fault → Option (List ℕ)
+selector_of (Ok tree) = Some tree.selector
+selector_of (Err fault) = None
+
+abbrev pub is_named : List ℕ → Option (List ℕ) → Bool
+is_named selector None = false
+is_named selector (Some name) = bytes_eq name selector
+
+-- a definition of this class, this side of it and this selector
+abbrev pub is_of : Side → List ℕ → Definition → Bool
+is_of side selector d = bytes_eq d.class side.class && (beq d.meta side.meta && is_named selector (selector_of (syntax d.text)))
+
+-- a later text takes the place of an earlier one
+abbrev pub or_earlier : Option (List ℕ) → Option (List ℕ) → Option (List ℕ)
+or_earlier None earlier = earlier
+or_earlier (Some text) earlier = Some text
+
+-- the text of the last of these definitions that is of this class, this side of it and this selector
+abbrev pub last_text : Side → List ℕ → List Definition → Option (List ℕ)
+last_text side selector [] = None
+last_text side selector (d ∷ ds) = or_earlier (last_text side selector ds) (if is_of side selector d then Some d.text else None)
+
+-- where a source is asked for
+abbrev pub text_for : List Definition → Ask → Option (List ℕ)
+text_for ds (Source side selector) = last_text side selector ds
+text_for ds ask = None
