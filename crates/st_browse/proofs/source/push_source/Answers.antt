@@ -1,4 +1,4 @@
-use Rattle.std.proofs.Common.{◌++◌, length, ap, sym, ◌∙◌}
+use Rattle.std.proofs.Common.{◌++◌, length, ap, sym}
 use Rattle.std.specs.Prelude.{codes}
 use Rattle.std.specs.List.{flat_map}
 use Rattle.st_report.proofs.Pushing.{push_then, push_begun, push_as}

@@ -1,4 +1,4 @@
-use Rattle.std.proofs.Common.{◌≡◌, ℕ, List, length, sym, ap, subst, arith, Some}
+use Rattle.std.proofs.Common.{◌≡◌, List, sym, ap, subst, arith, Some}
 use Rattle.std.specs.Prelude.{All, Option, unwrap_or}
 use Rattle.std.specs.Option.{option_map}
 use Rattle.st_chunk.specs.Definitions.{Definition, IsDefinition}
