@@ -1,0 +1,45 @@
+-- The first objects of a kernel text, and whether there is room for them.
+use Rattle.std.specs.Prelude.{ℕ, ◌+◌, suc, nat_le, ◌&&◌, Bool, true, List, [], ◌∷◌, length, replicate, Some, None}
+use Rattle.st_model.specs.Values.{Ref}
+use Rattle.st_model.specs.Objects.{words_of}
+use Rattle.st_model.specs.Machine.{Head}
+use Rattle.st_model.specs.Table.{Table}
+use Rattle.st_model.specs.View.{View, with_object, empty_view}
+use Rattle.st_declarations.specs.Parts.{Part}
+use Rattle.st_first_objects.specs.declared.thing.What.TheVariants as what
+use Rattle.st_first_objects.specs.Things.{Thing, only}
+use Rattle.st_first_objects.specs.Plans.{Plan, plan}
+use Rattle.st_first_objects.specs.Pointers.{place, place_in, object}
+
+-- the table with these things' objects too, of which the first is made as this one
+abbrev pub with_things : Plan → (i : ℕ) → List Thing → Table → Table
+with_things p i [] t = t
+with_things p i (x ∷ xs) t = with_things p (suc i) xs (with_object t (Ref (place i)) (object p x))
+
+-- the greatest capacities, the global Array, and the association of the symbol table
+abbrev pub head_in : List Thing → Head
+head_in things = record {
+  entries = 32767;
+  words = 1048576;
+  globals = Some (Ref (place_in things (only what.Globals)));
+  symbols = Some (Ref (place_in things (only what.Symbols)));
+}
+
+unfoldable pub view_of : Plan → View
+view_of p = record (empty_view (head_in p.order.things)) { objects = with_things p 0 p.order.things (replicate 32768 None) }
+
+-- each thing's object at its pointer, and nothing held
+abbrev pub first_view : List Part → View
+first_view ps = view_of (plan ps)
+
+-- beside so many words the objects of these things have room, each of at most 65,535 words
+abbrev pub fit_beside : Plan → (words : ℕ) → List Thing → Bool
+fit_beside p words [] = true
+fit_beside p words (x ∷ xs) =
+    nat_le (words_of (object p x)) 65535 && (nat_le (words + words_of (object p x)) 1048576 && fit_beside p (words + words_of (object p x)) xs)
+
+abbrev pub have_room : Plan → Bool
+have_room p = nat_le (length p.order.things) 32767 && fit_beside p 0 p.order.things
+
+abbrev pub has_room : List Part → Bool
+has_room ps = have_room (plan ps)
