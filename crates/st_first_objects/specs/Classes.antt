@@ -1,11 +1,11 @@
 -- The classes that a text declares.
-use Rattle.std.specs.Prelude.{ℕ, ◌+◌, suc, nat_le, nat_eq, bytes_eq, ◌&&◌, not, Bool, true, false, List, [], ◌∷◌, ◌++◌, length, codes, Option, Some, None, unwrap_or, if◌then◌else◌, option_map, is_some}
+use Rattle.std.specs.Prelude.{ℕ, ◌+◌, suc, nat_le, bytes_eq, ◌&&◌, not, Bool, true, false, List, [], ◌∷◌, ◌++◌, length, codes, Option, unwrap_or, if◌then◌else◌, is_some}
 use Rattle.std.specs.List.{list_any}
 use Rattle.std.specs.Map.{lookup}
 use Rattle.st_declarations.specs.declared.shape.Shape.{Shape}
 use Rattle.st_declarations.specs.declared.shape.Shape.TheVariants.{Fixed}
 use Rattle.st_declarations.specs.Words.{is_word}
-use Rattle.st_declarations.specs.Parts.{Class, Pool, Part, class, pool, global, opening, header, method, closing, start}
+use Rattle.st_declarations.specs.Parts.{Class, Part, class, pool}
 
 -- a class by the part that declares it: that part's number, the superclass's name, the shape and number of fields of its instances, and
 -- the names of its own variables

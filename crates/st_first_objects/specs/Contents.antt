@@ -1,10 +1,8 @@
 -- What is in each of the first objects.
-use Rattle.std.specs.Prelude.{ℕ, ◌+◌, ◌-◌, ◌*◌, ◌&&◌, bytes_eq, Bool, true, false, List, [], ◌∷◌, ◌++◌, length, take, filter, map, replicate, slice_get, codes, Option, Some, None, if◌then◌else◌}
-use Rattle.st_model.specs.declared.kind.Kind.{Kind}
-use Rattle.st_model.specs.declared.kind.Kind.TheVariants as kind
+use Rattle.std.specs.Prelude.{ℕ, zero, suc, ◌+◌, ◌&&◌, bytes_eq, Bool, List, [], ◌∷◌, filter, map, replicate, slice_get, codes, Option, Some, if◌then◌else◌}
 use Rattle.st_declarations.specs.declared.shape.Shape.{Shape}
 use Rattle.st_declarations.specs.declared.shape.Shape.TheVariants as shape
-use Rattle.st_declarations.specs.Parts.{Part, class, pool, global, opening, header, method, closing, start}
+use Rattle.st_declarations.specs.Parts.{Part, pool}
 use Rattle.st_first_objects.specs.declared.thing.What.{What}
 use Rattle.st_first_objects.specs.declared.thing.What.TheVariants as what
 use Rattle.st_first_objects.specs.Things.{Thing, only, named, numbered, within, is, symbol, class as class_thing}
@@ -18,19 +16,25 @@ pub data Field : Type 0 where
   Number : ℕ → Field
   To : Thing → Field
 
+-- fields, bytes, or no words
+pub data Body : Type 0 where
+  Fields : List Field → Body
+  Bytes : List ℕ → Body
+  NoWords : Body
+
 pub record Content : Type 0 where
   pub class : Thing
-  pub kind : Kind
-  pub fields : List Field
-  pub bytes : List ℕ
+  pub body : Body
 
--- an object of the class of this name, with fields
+-- an object of the class of this name
+abbrev pub of_class : (class : List ℕ) → Body → Content
+of_class name body = record { class = class_thing name; body = body }
+
 abbrev pub of_fields : (class : List ℕ) → List Field → Content
-of_fields name fields = record { class = class_thing name; kind = kind.Pointers; fields = fields; bytes = [] }
+of_fields name fields = of_class name (Fields fields)
 
--- an object of the class of this name, with bytes
 abbrev pub of_bytes : (class : List ℕ) → List ℕ → Content
-of_bytes name bytes = record { class = class_thing name; kind = kind.Bytes; fields = []; bytes = bytes }
+of_bytes name bytes = of_class name (Bytes bytes)
 
 abbrev pub all_of : List Thing → List Field
 all_of ts = map To ts
@@ -51,7 +55,7 @@ array fields = of_fields (codes "Array") fields
 abbrev pub instance : (class : List ℕ) → Shape → (fields : ℕ) → Content
 instance name shape.Fixed fields = of_fields name (replicate fields Empty)
 instance name shape.Indexed fields = of_fields name (replicate fields Empty)
-instance name shape.Words fields = record { class = class_thing name; kind = kind.Words; fields = []; bytes = [] }
+instance name shape.Words fields = of_class name NoWords
 instance name shape.Bytes fields = of_bytes name []
 
 abbrev pub instance_of : Plan → (class : List ℕ) → Content
@@ -100,7 +104,7 @@ metaclass_fields name d =
     ∷ []
 
 abbrev pub class_content : (name : List ℕ) → Declared → Content
-class_content name d = record { class = named what.Metaclass name; kind = kind.Pointers; fields = class_fields name d; bytes = [] }
+class_content name d = record { class = named what.Metaclass name; body = Fields (class_fields name d) }
 
 abbrev pub eight : List Field
 eight = replicate 8 Empty
@@ -124,7 +128,9 @@ is_shared_of p name t = is what.Shared t && bytes_eq name (sharing (slice_get p.
 
 -- this many places: the first members, and nil where there are no more
 abbrev pub padded : (places : ℕ) → List Field → List Field
-padded places fields = take places fields ++ replicate (places - length fields) Empty
+padded zero fields = []
+padded (suc places) [] = Empty ∷ padded places []
+padded (suc places) (field ∷ fields) = field ∷ padded places fields
 
 -- each special selector, and its number of arguments
 abbrev pub selector_fields : List (List ℕ × ℕ) → List Field

@@ -1,7 +1,10 @@
 pub mod Things
+pub mod Views
 pub mod Classes
 pub mod Orders
+pub mod Ordered
 pub mod Plans
 pub mod Contents
 pub mod Pointers
 pub mod First
+pub mod Placing

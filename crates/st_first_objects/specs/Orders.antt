@@ -1,8 +1,7 @@
 -- The order in which the first objects are made. Each is made once: one that is there already isn't made again.
-use Rattle.std.specs.Prelude.{ℕ, ◌+◌, ◌*◌, suc, nat_eq, bytes_eq, ◌&&◌, not, Bool, true, false, List, [], ◌∷◌, ◌++◌, map, codes, if◌then◌else◌}
+use Rattle.std.specs.Prelude.{ℕ, ◌+◌, ◌*◌, zero, suc, nat_eq, ◌&&◌, not, Bool, List, [], ◌∷◌, ◌++◌, map, codes, if◌then◌else◌}
 use Rattle.std.specs.List.{list_any}
-use Rattle.st_model.specs.Lists.{made}
-use Rattle.st_declarations.specs.Parts.{Class, Pool, Part, class, pool, global, opening, header, method, closing, start}
+use Rattle.st_declarations.specs.Parts.{Class, Pool, Part, class, pool, global}
 use Rattle.st_first_objects.specs.declared.thing.What.{What}
 use Rattle.st_first_objects.specs.declared.thing.What.TheVariants as what
 use Rattle.st_first_objects.specs.Things.{Thing, only, named, numbered, within, is, same, symbol, class as class_thing}
@@ -20,21 +19,18 @@ empty = record { things = []; symbols = 0; places = 16 }
 abbrev pub is_made : Order → Thing → Bool
 is_made o t = list_any (same t) o.things
 
-abbrev pub with_thing : Order → Thing → Order
-with_thing o t = record { things = o.things ++ t ∷ []; symbols = o.symbols; places = o.places }
+abbrev pub put : Order → Thing → Order
+put o t = if is_made o t then o else record { things = o.things ++ t ∷ []; symbols = o.symbols; places = o.places }
 
--- a Symbol that finds no place in the symbol table is followed by an Array of twice as many
-abbrev pub with_symbol : Order → Thing → Order
-with_symbol o t = if nat_eq o.symbols o.places
-    then record { things = (o.things ++ t ∷ []) ++ numbered what.SymbolTable (2 * o.places) ∷ []; symbols = o.symbols + 1; places = 2 * o.places }
-    else record { things = o.things ++ t ∷ []; symbols = o.symbols + 1; places = o.places }
-
-abbrev pub with_new : Order → Thing → Order
-with_new o t = if is what.Symbol t then with_symbol o t else with_thing o t
+-- a Symbol more: one that finds no place in the symbol table is followed by an Array of twice as many
+abbrev pub with_symbol : Order → Order
+with_symbol o = if nat_eq o.symbols o.places
+    then put (record { things = o.things; symbols = o.symbols + 1; places = 2 * o.places }) (numbered what.SymbolTable (2 * o.places))
+    else record { things = o.things; symbols = o.symbols + 1; places = o.places }
 
 -- a thing is wanted
-abbrev pub want : Order → Thing → Order
-want o t = if is_made o t then o else with_new o t
+unfoldable pub want : Order → Thing → Order
+want o t = if not (is_made o t) && is what.Symbol t then with_symbol (put o t) else put o t
 
 abbrev pub want_all : Order → List Thing → Order
 want_all o [] = o
@@ -43,7 +39,7 @@ want_all o (t ∷ ts) = want_all (want o t) ts
 -- BEFORE ALL PARTS
 
 -- the root page, in the order of its pointers
-abbrev pub page : List Thing
+unfoldable pub page : List Thing
 page =
     only what.Nil ∷ only what.False ∷ only what.True ∷ only what.SchedulerAssociation
     ∷ class_thing (codes "SmallInteger")
@@ -64,8 +60,13 @@ page =
     ∷ class_thing (codes "Symbol")
     ∷ []
 
-abbrev pub characters : List Thing
-characters = made (numbered what.Character) 256
+-- so many of what is numbered, from one on
+unfoldable pub numbered_from : What → (from count : ℕ) → List Thing
+numbered_from w from zero = []
+numbered_from w from (suc count) = numbered w from ∷ numbered_from w (suc from) count
+
+unfoldable pub characters : List Thing
+characters = numbered_from what.Character 0 256
 
 abbrev pub tables : List Thing
 tables = only what.Symbols ∷ numbered what.SymbolTable 16 ∷ only what.Globals ∷ []
@@ -105,10 +106,10 @@ want_parts all o number (p ∷ ps) = want_parts all (want_all o (wanted_by all n
 -- BEHIND ALL PARTS
 
 -- the special selectors, and how many arguments each has
-abbrev pub selectors : List (List ℕ × ℕ)
+unfoldable pub selectors : List (List ℕ × ℕ)
 selectors =
     (codes "+", 1) ∷ (codes "-", 1) ∷ (codes "<", 1) ∷ (codes ">", 1) ∷ (codes "<=", 1) ∷ (codes ">=", 1) ∷ (codes "=", 1) ∷ (codes "~=", 1)
-    ∷ (codes "*", 1) ∷ (codes "/", 1) ∷ (codes "\\", 1) ∷ (codes "@", 1) ∷ (codes "bitShift:", 1) ∷ (codes "//", 1) ∷ (codes "bitAnd:", 1) ∷ (codes "bitOr:", 1)
+    ∷ (codes "*", 1) ∷ (codes "/", 1) ∷ (codes "\\\\", 1) ∷ (codes "@", 1) ∷ (codes "bitShift:", 1) ∷ (codes "//", 1) ∷ (codes "bitAnd:", 1) ∷ (codes "bitOr:", 1)
     ∷ (codes "at:", 1) ∷ (codes "at:put:", 2) ∷ (codes "size", 0) ∷ (codes "next", 0) ∷ (codes "nextPut:", 1) ∷ (codes "atEnd", 0) ∷ (codes "==", 1) ∷ (codes "class", 0)
     ∷ (codes "blockCopy:", 1) ∷ (codes "value", 0) ∷ (codes "value:", 1) ∷ (codes "do:", 1) ∷ (codes "new", 0) ∷ (codes "new:", 1) ∷ (codes "x", 0) ∷ (codes "y", 0)
     ∷ []
@@ -116,19 +117,19 @@ selectors =
 abbrev pub selector_symbols : List (List ℕ × ℕ) → List Thing
 selector_symbols ss = map (λ s. symbol s.0) ss
 
-abbrev pub lists : List Thing
-lists = made (numbered what.List) 8
+unfoldable pub lists : List Thing
+lists = numbered_from what.List 0 8
 
 abbrev pub scheduling : List Thing
 scheduling = only what.Scheduler ∷ only what.Lists ∷ []
 
 -- ALL
 
-abbrev pub first_things : Order
-first_things = want_all (want_all (want_all empty page) characters) tables
+abbrev pub first_things : Order → Order
+first_things o = want_all (want_all (want_all o page) characters) tables
 
 abbrev pub last_things : Order → Order
 last_things o = want_all (want_all (want_all o (selector_symbols selectors)) scheduling) lists
 
 abbrev pub order : List Part → Order
-order ps = last_things (want_parts ps first_things 0 ps)
+order ps = last_things (want_parts ps (first_things empty) 0 ps)

@@ -1,11 +1,12 @@
 -- Where the first objects stand, and what their fields hold.
 use Rattle.std.specs.Prelude.{ℕ, ◌+◌, ◌%◌, nat_lt, List, [], ◌∷◌, map, slice_index, Option, Some, None, if◌then◌else◌}
 use Rattle.std.specs.List.{position}
+use Rattle.st_model.specs.declared.kind.Kind.TheVariants as kind
 use Rattle.st_model.specs.Values.{Value, Small, Ref}
 use Rattle.st_model.specs.Objects.{Object, nil}
 use Rattle.st_first_objects.specs.Things.{Thing, same}
 use Rattle.st_first_objects.specs.Plans.{Plan}
-use Rattle.st_first_objects.specs.Contents.{Field, Empty, Number, To, Content, content}
+use Rattle.st_first_objects.specs.Contents.{Field, Empty, Number, To, Body, Fields, Bytes, NoWords, Content, content}
 
 -- half of each pointer of the root page, and of the even ones between them
 abbrev pub first_places : List ℕ
@@ -32,8 +33,13 @@ value_in things Empty = nil
 value_in things (Number n) = Small (n % 32768)
 value_in things (To t) = Ref (place_in things t)
 
-abbrev pub object_by : List Thing → Content → Object
-object_by things c = record { class = place_in things c.class; kind = c.kind; fields = map (value_in things) c.fields; units = c.bytes }
+abbrev pub object_by : List Thing → (class : ℕ) → Body → Object
+object_by things class (Fields fields) = record { class = class; kind = kind.Pointers; fields = map (value_in things) fields; units = [] }
+object_by things class (Bytes bytes) = record { class = class; kind = kind.Bytes; fields = []; units = bytes }
+object_by things class NoWords = record { class = class; kind = kind.Words; fields = []; units = [] }
+
+abbrev pub object_in : List Thing → Content → Object
+object_in things c = object_by things (place_in things c.class) c.body
 
 unfoldable pub object : Plan → Thing → Object
-object p t = object_by p.order.things (content p t)
+object p t = object_in p.order.things (content p t)
