@@ -74,27 +74,37 @@ with_installed n (Accepted selector after) goes_on = goes_on after
 -- THE TEXT
 
 -- The chunks from the one of this number on, over the births that those before it left. Methods are of the side of a class that the
--- last header named. The first objects must have room where the first group opens. Where they have none, and no group opens, no
--- method is there to be found by the start.
-module _ (install : Install) (room : Bool) (cause : Option Cause) where
-  unfoldable pub built_from : (chunk : ℕ) → State Births → Side → List Part → Result Built Fault
-  built_from n s side [] = unfinished n cause
-  built_from n s side (class c ∷ parts) = built_from (suc n) s side parts
-  built_from n s side (pool p ∷ parts) = built_from (suc n) s side parts
-  built_from n s side (global name ∷ parts) = built_from (suc n) s side parts
-  built_from n s side (opening ∷ parts) = if room then built_from (suc n) s side parts else fault_at n 7
-  built_from n s side (header named ∷ parts) = built_from (suc n) s named parts
-  built_from n s side (method text ∷ parts) = with_installed n (install (definition_by side text) s) (λ t. built_from (suc n) t side parts)
-  built_from n s side (closing ∷ parts) = built_from (suc n) s side parts
-  built_from n s side (start first ∷ parts) = finished (suc n) cause (if room then begun_in n first (show s) else fault_at n 6)
+-- last header named.
+unfoldable pub built_from : Install → Option Cause → (chunk : ℕ) → State Births → Side → List Part → Result Built Fault
+built_from install cause n s side [] = unfinished n cause
+built_from install cause n s side (class c ∷ parts) = built_from install cause (suc n) s side parts
+built_from install cause n s side (pool p ∷ parts) = built_from install cause (suc n) s side parts
+built_from install cause n s side (global name ∷ parts) = built_from install cause (suc n) s side parts
+built_from install cause n s side (opening ∷ parts) = built_from install cause (suc n) s side parts
+built_from install cause n s side (header named ∷ parts) = built_from install cause (suc n) s named parts
+built_from install cause n s side (method text ∷ parts) =
+    with_installed n (install (definition_by side text) s) (λ t. built_from install cause (suc n) t side parts)
+built_from install cause n s side (closing ∷ parts) = built_from install cause (suc n) s side parts
+built_from install cause n s side (start first ∷ parts) = finished (suc n) cause (begun_in n first (show s))
 
 -- before the first header
 abbrev pub no_side : Side
 no_side = record { class = []; meta = false }
 
--- what declarations make are the first births
+-- The same where the first objects have no room. They are to have room where the first group opens. A text without a group has no
+-- method that its start could find.
+unfoldable pub without_room : Option Cause → (chunk : ℕ) → List Part → Result Built Fault
+without_room cause n [] = unfinished n cause
+without_room cause n (opening ∷ parts) = fault_at n 7
+without_room cause n (start first ∷ parts) = fault_at n 6
+without_room cause n (declaring ∷ parts) = without_room cause (suc n) parts
+
+-- the objects that the declarations make are the first births
 abbrev pub built_by : Install → Account → Result Built Fault
-built_by install a = built_from install (has_room a.parts) a.cause 1 (raised (idle_state (first_view a.parts))) no_side a.parts
+built_by install a =
+    if has_room a.parts
+    then built_from install a.cause 1 (raised (idle_state (first_view a.parts))) no_side a.parts
+    else without_room a.cause 1 a.parts
 
 abbrev pub built : Install → (text : List ℕ) → Result Built Fault
 built install text = built_by install (account text)

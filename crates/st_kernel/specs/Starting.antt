@@ -2,14 +2,13 @@
 -- is a step that dies where it isn't there.
 use Rattle.std.specs.Prelude.{ℕ, ◌+◌, ◌*◌, ◌==◌, List, codes, Bool, true, false, if◌then◌else◌}
 use Rattle.st_model.specs.declared.dead.Dead.TheVariants as dead
-use Rattle.st_model.specs.declared.page.PageObject.TheVariants.{NilObject, MethodContextClass}
+use Rattle.st_model.specs.declared.page.PageObject.TheVariants.{NilObject, SchedulerAssociation, MethodContextClass}
 use Rattle.st_model.specs.Values.{Value, Small}
 use Rattle.st_model.specs.Machine.{ObjectMemory, Head, Step, answer, ◌>>=◌, ◌>>◌}
 use Rattle.st_model.specs.Steps.{of_page, same_value, check, or_die, class_of, new_object, fetch_field, store_field}
 use Rattle.st_model.specs.Methods.{flag_of, temporary_count, literal_count, context_size, method_header, method_arguments}
 use Rattle.st_model.specs.Lookup.{find}
 use Rattle.st_model.specs.Storage.{check_not_method_class}
-use Rattle.st_model.specs.Processes.{scheduler}
 use Rattle.st_model.specs.Contexts.{fetch_scheduled_registers}
 use Rattle.st_model.specs.Table.{Table, table, bounded_table}
 use Rattle.st_names.specs.Tables.{member_named}
@@ -70,8 +69,9 @@ unfoldable pub schedule : {H : Type 0} → ObjectMemory H → (process context :
 schedule m process context = do
   store_field m process 1 context
   store_field m process 2 (Small 4)
-  s ← scheduler m
-  store_field m s 1 process
+  association ← of_page m SchedulerAssociation
+  scheduler ← fetch_field m association 1
+  store_field m scheduler 1 process
 
 unfoldable pub schedule_method : {H : Type 0} → ObjectMemory H → (process context method header receiver : Value) → Step H Bool
 schedule_method m process context method header receiver = do

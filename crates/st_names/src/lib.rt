@@ -22,4 +22,5 @@ pub use classes::{class_association, class_of_name};
 pub use fault::InstallFault;
 pub use naming::names;
 pub use reading::{class_of, count_fields, fetch_field, is_text};
+pub use tables::member_named;
 pub use unread::Unread;

@@ -1,0 +1,106 @@
+-- A text as far as it is followed: what each part does.
+use Rattle.std.proofs.Common.{◌≡◌, ◌∙◌, ℕ, suc, ◌+◌, List, ◌∷◌, [], refl, sym, ap, subst, arith}
+use Rattle.std.specs.Prelude.{Option, Result, Ok, Err, length}
+use Rattle.st_model.specs.Objects.{nil}
+use Rattle.st_model.specs.Values.{value_of}
+use Rattle.st_model.specs.Machine.{State, empty_world}
+use Rattle.st_model.specs.Births.{Births}
+use Rattle.st_model.specs.Table.{Table}
+use Rattle.st_model.specs.View.{View}
+use Rattle.st_model.specs.Show.{Shows}
+use Rattle.st_model.specs.Start.{idle_state}
+use Rattle.st_frames.specs.Shown.{IsReady, shown}
+use Rattle.st_declarations.specs.declared.cause.Cause.{Cause}
+use Rattle.st_declarations.specs.Parts.{Class, Pool, Side, Start, Part, class, pool, global, opening, header, method, closing, start}
+use Rattle.st_installer.specs.Installing.{Install, Installed, Refused, Accepted}
+use Rattle.st_installer.specs.Installations.{InstallsAs, Unchanged}
+use Rattle.st_installer.specs.declared.installation.Installation.{Installation}
+use Rattle.st_installer.specs.declared.installation.Installation.TheVariants as installation
+use Rattle.st_kernel.specs.declared.fault.KernelFault.TheVariants.{At}
+use Rattle.st_kernel.specs.Built.{Built, Fault, fault_at, definition_by, with_installed, unfinished, built_from, IsFaultOf}
+use Rattle.st_kernel.specs.Following.{idle_frame, IsUnderway}
+
+-- under registers that name nil, in an empty world
+pub shown_idle : (v : View) → shown v idle_frame (empty_world nil) ≡ idle_state v
+unfolding value_of
+shown_idle v = refl
+
+module _ (install : Install) (cause : Option Cause) (whole : Result Built Fault) (n : ℕ) (side : Side) (parts : List Part) (v : View) where
+  abbrev Here : List Part → Type 0
+  Here ps = IsUnderway install cause whole n side ps v
+
+  abbrev Behind : Side → Type 0
+  Behind after = IsUnderway install cause whole (n + 1) after parts v
+
+  -- a part that installs nothing leaves all as it is
+  passed : (part : Part) (after : Side) → ((s : State Births) → built_from install cause n s side (part ∷ parts) ≡ built_from install cause (suc n) s after parts)
+      → Here (part ∷ parts) → Behind after
+  passed part after same u = record {
+    state = u.state;
+    shows = u.shows;
+    ready = u.ready;
+    is =
+        let next : n + 1 ≡ suc n = omega arith in
+        ap (λ k. built_from install cause k u.state after parts) next ∙ sym (same u.state) ∙ u.is;
+  }
+
+  pub class_passed : (c : Class) → Here (class c ∷ parts) → Behind side
+  unfolding built_from
+  class_passed c u = passed (class c) side (λ s. refl) u
+
+  pub pool_passed : (p : Pool) → Here (pool p ∷ parts) → Behind side
+  unfolding built_from
+  pool_passed p u = passed (pool p) side (λ s. refl) u
+
+  pub global_passed : (name : List ℕ) → Here (global name ∷ parts) → Behind side
+  unfolding built_from
+  global_passed name u = passed (global name) side (λ s. refl) u
+
+  pub opening_passed : Here (opening ∷ parts) → Behind side
+  unfolding built_from
+  opening_passed u = passed opening side (λ s. refl) u
+
+  pub closing_passed : Here (closing ∷ parts) → Behind side
+  unfolding built_from
+  closing_passed u = passed closing side (λ s. refl) u
+
+  pub header_passed : (named : Side) → Here (header named ∷ parts) → Behind named
+  unfolding built_from
+  header_passed named u = passed (header named) named (λ s. refl) u
+
+  -- nothing is left, and there was no start
+  pub not_finished : IsUnderway install cause whole n side [] v → unfinished n cause ≡ whole
+  unfolding built_from
+  not_finished u = u.is
+
+built_method : (install : Install) (cause : Option Cause) (n : ℕ) (s : State Births) (side : Side) (text : List ℕ) (parts : List Part)
+    → built_from install cause n s side (method text ∷ parts) ≡ with_installed n (install (definition_by side text) s) (λ t. built_from install cause (suc n) t side parts)
+unfolding built_from
+built_method install cause n s side text parts = refl
+
+-- A method is installed, or refused.
+module _ (install : Install) (cause : Option Cause) (whole : Result Built Fault) (n : ℕ) (side : Side) (text : List ℕ) (parts : List Part) (old new : View)
+    (came : Installation) (installs : (s : State Births) → Shows (idle_state old) s → InstallsAs (install (definition_by side text) s) came (idle_state new))
+    (u : IsUnderway install cause whole n side (method text ∷ parts) old) where
+  comes : with_installed n (install (definition_by side text) u.state) (λ t. built_from install cause (suc n) t side parts) ≡ whole
+  comes = sym (built_method install cause n u.state side text parts) ∙ u.is
+
+  accepted_by : (it : Installed) (selector : _) → came ≡ installation.Accepted selector → InstallsAs it came (idle_state new)
+      → with_installed n it (λ t. built_from install cause (suc n) t side parts) ≡ whole → IsReady new idle_frame (empty_world nil)
+      → IsUnderway install cause whole (n + 1) side parts new
+  accepted_by (Refused why) selector e is q ready = absurd (subst (λ c. InstallsAs (Refused why) c (idle_state new)) e is)
+  accepted_by (Accepted name t) selector e is q ready =
+      let now = subst (λ c. InstallsAs (Accepted name t) c (idle_state new)) e is in
+      let next : n + 1 ≡ suc n = omega arith in
+      record { state = t; shows = now.1; ready = ready; is = ap (λ k. built_from install cause k t side parts) next ∙ q }
+
+  pub accepted : (selector : _) → came ≡ installation.Accepted selector → IsReady new idle_frame (empty_world nil) → IsUnderway install cause whole (n + 1) side parts new
+  accepted selector e ready = accepted_by (install (definition_by side text) u.state) selector e (installs u.state u.shows) comes ready
+
+  refused_by : (it : Installed) (why : _) → came ≡ installation.Refused why → InstallsAs it came (idle_state new)
+      → with_installed n it (λ t. built_from install cause (suc n) t side parts) ≡ whole → whole ≡ fault_at n 5
+  refused_by (Refused other) why e is q = sym q
+  refused_by (Accepted name t) why e is q = absurd (subst (λ c. InstallsAs (Accepted name t) c (idle_state new)) e is)
+
+  pub refused : (why : _) → came ≡ installation.Refused why → whole ≡ fault_at n 5
+  refused why e = refused_by (install (definition_by side text) u.state) why e (installs u.state u.shows) comes

@@ -1,0 +1,80 @@
+-- A kernel text as far as it is followed over a memory, in which nothing is held.
+use Rattle.std.specs.Prelude.{◌≡◌, ⊤, ℕ, ◌+◌, pos, List, [], ◌∷◌, Bool, true, false, Option, Result, Ok, Err}
+use Rattle.st_model.specs.declared.dead.Dead.{Dead}
+use Rattle.st_model.specs.Objects.{nil}
+use Rattle.st_model.specs.Machine.{State, Transition, Died, Went, empty_world}
+use Rattle.st_model.specs.Births.{Births}
+use Rattle.st_model.specs.Table.{Table}
+use Rattle.st_model.specs.View.{View}
+use Rattle.st_model.specs.Show.{Shows}
+use Rattle.st_model.specs.Start.{idle_state}
+use Rattle.st_frames.specs.declared.frame.Frame.{Frame}
+use Rattle.st_frames.specs.Shown.{IsReady}
+use Rattle.st_chunk.specs.Definitions.{IsDefinition}
+use Rattle.st_declarations.specs.declared.cause.Cause.{Cause}
+use Rattle.st_declarations.specs.Parts.{Side, Part, header, method, start}
+use Rattle.st_declarations.specs.Views.{start_of}
+use Rattle.st_installer.specs.Installing.{Install}
+use Rattle.st_kernel.specs.declared.fault.KernelFault.{KernelFault}
+use Rattle.st_kernel.specs.declared.part.Heading.{Heading}
+use Rattle.st_kernel.specs.declared.part.Next.{Next}
+use Rattle.st_kernel.specs.declared.part.Next.TheVariants.{On, Starts}
+use Rattle.st_kernel.specs.Built.{Built, Fault, definition_by, built_from, IsBuilt, IsFaultOf}
+
+-- the registers name nil
+abbrev pub idle_frame : Frame
+idle_frame = record {
+  active = record { 0 = 2 };
+  home = record { 0 = 2 };
+  method = record { 0 = 2 };
+  receiver = record { 0 = 2 };
+  ip = pos 0;
+  sp = 5;
+}
+
+abbrev pub side_in : Heading → Side
+side_in h = record { class = h.class.now; meta = h.meta }
+
+-- each of these methods, of which the first are of this side, has the form of a definition
+abbrev pub AreDefinitions : Side → List Part → Type 0
+AreDefinitions side [] = ⊤
+AreDefinitions side (header named ∷ parts) = AreDefinitions named parts
+AreDefinitions side (method text ∷ parts) = IsDefinition (definition_by side text) × AreDefinitions side parts
+AreDefinitions side (other ∷ parts) = AreDefinitions side parts
+
+-- the memory shows births over which the parts that are left come to what the whole text comes to
+pub record IsUnderway (install : Install) (cause : Option Cause) (whole : Result Built Fault) (n : ℕ) (side : Side) (parts : List Part)
+    (v : View) : Type 0 where
+  pub state : State Births
+  pub shows : Shows (idle_state v) state
+  pub ready : IsReady v idle_frame (empty_world nil)
+  pub is : built_from install cause n state side parts ≡ whole
+
+-- the text goes on behind a method, or its fault is the whole text's
+abbrev pub Installs : Install → Option Cause → Result Built Fault → (n : ℕ) → Side → List Part → Result (Unit {0}) KernelFault → View → Type 0
+Installs install cause whole n side parts (Ok done) v = IsUnderway install cause whole (n + 1) side parts v
+Installs install cause whole n side parts (Err fault) v = IsFaultOf whole fault
+
+-- the text goes on behind the part, or that is the start, or its fault is the whole text's
+abbrev pub GoesOn : Install → Option Cause → Result Built Fault → (n : ℕ) → Side → List Part → Result Next KernelFault → View → Type 0
+GoesOn install cause whole n side parts (Ok (On h)) v = IsUnderway install cause whole (n + 1) (side_in h) parts v
+GoesOn install cause whole n side parts (Ok (Starts s)) v = IsUnderway install cause whole n side (start (start_of s.now) ∷ parts) v
+GoesOn install cause whole n side parts (Err fault) v = IsFaultOf whole fault
+
+-- the methods that are left have the form of definitions, behind the part too
+abbrev pub StaysGood : Side → Part → Result Next KernelFault → Type 0
+StaysGood side part (Ok (On h)) = (parts : List Part) → AreDefinitions side (part ∷ parts) → AreDefinitions (side_in h) parts
+StaysGood side part (Ok (Starts s)) = ⊤
+StaysGood side part (Err fault) = ⊤
+
+-- the step died; or it answered this, and left what the memory contains
+abbrev pub Ends : Transition (State Table) Bool → Result Bool Dead → View → Type 0
+Ends (Died cause) (Ok made) v = ⊥
+Ends (Died cause) (Err dead) v = ⊤
+Ends (Went made c) (Ok answered) v = (made ≡ answered) × (c.memory ≡ v.objects) × (c.head ≡ v.head)
+Ends (Went made c) (Err dead) v = ⊥
+
+-- the image is what the whole text comes to, or the fault is
+abbrev pub Finishes : Result Built Fault → Result (Unit {0}) KernelFault → View → Type 0
+Finishes whole (Ok done) v = IsBuilt whole v
+Finishes whole (Err fault) v = IsFaultOf whole fault

@@ -1,0 +1,155 @@
+// The first process and its context.
+ghost use Rattle.std.specs.Prelude.{◌≡◌, ◌≢◌, ◌<◌, ◌≤◌, ◌+◌, IfOk};
+ghost use Rattle.st_model.specs.Values.{Ref, word};
+ghost use Rattle.st_model.specs.Objects.{place_of};
+ghost use Rattle.st_model.specs.declared.page.PageObject.TheVariants.{MethodClass};
+ghost use Rattle.st_model.specs.Storage.{check_not_method_class};
+ghost use Rattle.st_model.specs.Calls.{itself};
+ghost use Rattle.st_frames.specs.Rows.{RowReads, RowDoes, Takes};
+ghost use Rattle.st_kernel.specs.Starting.{first_words, fill_first_context, schedule, schedule_method, in_new_context, in_new_process};
+
+use st_frames::{Registers, page, small};
+use st_memory::Objects;
+use st_method::Header;
+use st_model::{Dead, PageObject, Word};
+
+/// What a first context runs: a method, and the receiver.
+#[derive(Clone, Copy)]
+pub(crate) struct Run {
+    pub(crate) method: Word,
+    pub(crate) receiver: Word,
+}
+
+/// How many words are on the stack of a new context, which are the temporary variables.
+fn first_words(header: Header) -> u32
+    ensures words { result ≡ first_words (word header.0) }
+    ensures small { result < 32 }
+{
+    if header.flag() == 6 {
+        0
+    } else {
+        header.temporaries()
+    }
+}
+
+/// Fills the first context of a method with this header.
+#[tactic(auto, using(st_frames::proofs::Doing::rows), unfolding(crate::specs::Starting::fill_first_context))]
+fn fill_first_context<O: Objects>(
+    m: &mut O,
+    r: &Registers,
+    context: Word,
+    header: Header,
+    run: Run,
+) -> Result<(), Dead>
+    requires room { 4 ≤ O.room m.old }
+    ensures does { RowDoes O.Objects.own
+        (fill_first_context O.names (word context) (word run.method) (word header.0) (word run.receiver))
+        itself m.old r.now result m.new r.now }
+    ensures takes { Takes O.Objects.own 4 m.old m.new }
+{
+    m.store_field(context, 1, small(2 * header.literals() + 3))?;
+    m.store_field(context, 2, small(first_words(header)))?;
+    m.store_field(context, 3, run.method)?;
+    m.store_field(context, 5, run.receiver)
+}
+
+/// Makes a process with this context the scheduler's active one.
+#[tactic(auto, using(st_frames::proofs::Doing::rows), unfolding(crate::specs::Starting::schedule))]
+fn schedule<O: Objects>(
+    m: &mut O,
+    r: &Registers,
+    process: Word,
+    context: Word,
+) -> Result<(), Dead>
+    requires room { 3 ≤ O.room m.old }
+    ensures does { RowDoes O.Objects.own (schedule O.names (word process) (word context))
+        itself m.old r.now result m.new r.now }
+    ensures takes { Takes O.Objects.own 3 m.old m.new }
+{
+    m.store_field(process, 1, context)?;
+    m.store_field(process, 2, small(4))?;
+    let association = page(m, PageObject::SchedulerAssociation);
+    let scheduler = m.fetch_field(association, 1)?;
+    m.store_field(scheduler, 1, process)
+}
+
+/// Fills the first context, and schedules it in its process.
+#[tactic(auto, using(st_frames::proofs::Doing::rows), unfolding(crate::specs::Starting::schedule_method))]
+fn schedule_method<O: Objects>(
+    m: &mut O,
+    r: &Registers,
+    process: Word,
+    context: Word,
+    header: Header,
+    run: Run,
+) -> Result<bool, Dead>
+    requires room { 7 ≤ O.room m.old }
+    ensures does { RowDoes O.Objects.own (schedule_method O.names
+        (word process) (word context) (word run.method) (word header.0) (word run.receiver))
+        itself m.old r.now result m.new r.now }
+    ensures takes { Takes O.Objects.own 7 m.old m.new }
+{
+    fill_first_context(m, r, context, header, run)?;
+    schedule(m, r, process, context)?;
+    Ok(true)
+}
+
+/// A context of the method in this process, where there is room for it.
+#[tactic(auto, using(st_frames::proofs::Doing::rows), unfolding(crate::specs::Starting::in_new_context))]
+fn in_new_context<O: Objects>(
+    m: &mut O,
+    r: &Registers,
+    process: Word,
+    run: Run,
+) -> Result<bool, Dead>
+    requires room { 8 ≤ O.room m.old }
+    ensures does { RowDoes O.Objects.own
+        (in_new_context O.names (word process) (word run.method) (word run.receiver))
+        itself m.old r.now result m.new r.now }
+    ensures takes { Takes O.Objects.own 8 m.old m.new }
+{
+    let header = Header(m.method_header(run.method)?);
+    let class = page(m, PageObject::MethodContextClass);
+    let context = m.new_object(class, header.context_size())?;
+    if context.same(page(m, PageObject::NilObject)) {
+        return Ok(false);
+    }
+    schedule_method(m, r, process, context, header, run)
+}
+
+/// Any class but CompiledMethod.
+#[tactic(auto, using(st_frames::proofs::Doing::rows, st_frames::proofs::Tries::tests, crate::proofs::Classes::classes), unfolding(st_model::specs::Storage::check_not_method_class))]
+fn check_not_method_class<O: Objects>(m: &O, r: &Registers, class: Word) -> Result<(), Dead>
+    ensures does { RowReads O.Objects.own (check_not_method_class O.names (word class))
+        itself m.now r.now result }
+    ensures other { IfOk result (λ u. word class ≢ Ref (place_of MethodClass)) }
+{
+    let methods = page(m, PageObject::MethodClass);
+    if class.same(methods) {
+        Err(Dead::Kind)
+    } else {
+        Ok(())
+    }
+}
+
+/// A process of this class with its context, where there is room for both.
+#[tactic(auto, using(st_frames::proofs::Doing::rows), unfolding(crate::specs::Starting::in_new_process))]
+pub(crate) fn in_new_process<O: Objects>(
+    m: &mut O,
+    r: &Registers,
+    class: Word,
+    run: Run,
+) -> Result<bool, Dead>
+    requires room { 9 ≤ O.room m.old }
+    ensures does { RowDoes O.Objects.own
+        (in_new_process O.names (word class) (word run.method) (word run.receiver))
+        itself m.old r.now result m.new r.now }
+    ensures takes { Takes O.Objects.own 9 m.old m.new }
+{
+    check_not_method_class(m, r, class)?;
+    let process = m.new_object(class, 4)?;
+    if process.same(page(m, PageObject::NilObject)) {
+        return Ok(false);
+    }
+    in_new_context(m, r, process, run)
+}
