@@ -1,3 +1,6 @@
 pub mod Tables
 pub mod Classes
 pub mod Underway
+pub mod Methods
+pub mod Begun
+pub mod Rests

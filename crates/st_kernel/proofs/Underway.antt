@@ -1,5 +1,5 @@
 -- A text as far as it is followed: what each part does.
-use Rattle.std.proofs.Common.{◌≡◌, ◌∙◌, ℕ, suc, ◌+◌, List, ◌∷◌, [], refl, sym, ap, subst, arith}
+use Rattle.std.proofs.Common.{◌≡◌, ◌∙◌, ℕ, ◌+◌, List, ◌∷◌, [], refl, sym, subst}
 use Rattle.std.specs.Prelude.{Option, Result, Ok, Err, length}
 use Rattle.st_model.specs.Objects.{nil}
 use Rattle.st_model.specs.Values.{value_of}
@@ -33,15 +33,13 @@ module _ (install : Install) (cause : Option Cause) (whole : Result Built Fault)
   Behind after = IsUnderway install cause whole (n + 1) after parts v
 
   -- a part that installs nothing leaves all as it is
-  passed : (part : Part) (after : Side) → ((s : State Births) → built_from install cause n s side (part ∷ parts) ≡ built_from install cause (suc n) s after parts)
+  passed : (part : Part) (after : Side) → ((s : State Births) → built_from install cause n s side (part ∷ parts) ≡ built_from install cause (n + 1) s after parts)
       → Here (part ∷ parts) → Behind after
   passed part after same u = record {
     state = u.state;
     shows = u.shows;
     ready = u.ready;
-    is =
-        let next : n + 1 ≡ suc n = omega arith in
-        ap (λ k. built_from install cause k u.state after parts) next ∙ sym (same u.state) ∙ u.is;
+    is = sym (same u.state) ∙ u.is;
   }
 
   pub class_passed : (c : Class) → Here (class c ∷ parts) → Behind side
@@ -74,7 +72,7 @@ module _ (install : Install) (cause : Option Cause) (whole : Result Built Fault)
   not_finished u = u.is
 
 built_method : (install : Install) (cause : Option Cause) (n : ℕ) (s : State Births) (side : Side) (text : List ℕ) (parts : List Part)
-    → built_from install cause n s side (method text ∷ parts) ≡ with_installed n (install (definition_by side text) s) (λ t. built_from install cause (suc n) t side parts)
+    → built_from install cause n s side (method text ∷ parts) ≡ with_installed n (install (definition_by side text) s) (λ t. built_from install cause (n + 1) t side parts)
 unfolding built_from
 built_method install cause n s side text parts = refl
 
@@ -82,23 +80,22 @@ built_method install cause n s side text parts = refl
 module _ (install : Install) (cause : Option Cause) (whole : Result Built Fault) (n : ℕ) (side : Side) (text : List ℕ) (parts : List Part) (old new : View)
     (came : Installation) (installs : (s : State Births) → Shows (idle_state old) s → InstallsAs (install (definition_by side text) s) came (idle_state new))
     (u : IsUnderway install cause whole n side (method text ∷ parts) old) where
-  comes : with_installed n (install (definition_by side text) u.state) (λ t. built_from install cause (suc n) t side parts) ≡ whole
+  comes : with_installed n (install (definition_by side text) u.state) (λ t. built_from install cause (n + 1) t side parts) ≡ whole
   comes = sym (built_method install cause n u.state side text parts) ∙ u.is
 
   accepted_by : (it : Installed) (selector : _) → came ≡ installation.Accepted selector → InstallsAs it came (idle_state new)
-      → with_installed n it (λ t. built_from install cause (suc n) t side parts) ≡ whole → IsReady new idle_frame (empty_world nil)
+      → with_installed n it (λ t. built_from install cause (n + 1) t side parts) ≡ whole → IsReady new idle_frame (empty_world nil)
       → IsUnderway install cause whole (n + 1) side parts new
   accepted_by (Refused why) selector e is q ready = absurd (subst (λ c. InstallsAs (Refused why) c (idle_state new)) e is)
   accepted_by (Accepted name t) selector e is q ready =
       let now = subst (λ c. InstallsAs (Accepted name t) c (idle_state new)) e is in
-      let next : n + 1 ≡ suc n = omega arith in
-      record { state = t; shows = now.1; ready = ready; is = ap (λ k. built_from install cause k t side parts) next ∙ q }
+      record { state = t; shows = now.1; ready = ready; is = q }
 
   pub accepted : (selector : _) → came ≡ installation.Accepted selector → IsReady new idle_frame (empty_world nil) → IsUnderway install cause whole (n + 1) side parts new
   accepted selector e ready = accepted_by (install (definition_by side text) u.state) selector e (installs u.state u.shows) comes ready
 
   refused_by : (it : Installed) (why : _) → came ≡ installation.Refused why → InstallsAs it came (idle_state new)
-      → with_installed n it (λ t. built_from install cause (suc n) t side parts) ≡ whole → whole ≡ fault_at n 5
+      → with_installed n it (λ t. built_from install cause (n + 1) t side parts) ≡ whole → whole ≡ fault_at n 5
   refused_by (Refused other) why e is q = sym q
   refused_by (Accepted name t) why e is q = absurd (subst (λ c. InstallsAs (Accepted name t) c (idle_state new)) e is)
 

@@ -1,5 +1,5 @@
 -- The image of a kernel text, or the first chunk at which it is wrong.
-use Rattle.std.specs.Prelude.{◌≡◌, ⊤, ℕ, suc, List, [], ◌∷◌, Bool, true, false, Option, Some, None, Result, Ok, Err, if◌then◌else◌}
+use Rattle.std.specs.Prelude.{◌≡◌, ⊤, ℕ, ◌+◌, List, [], ◌∷◌, Bool, true, false, Option, Some, None, Result, Ok, Err, if◌then◌else◌}
 use Rattle.st_model.specs.Machine.{Head, State, Transition, Died, Went}
 use Rattle.st_model.specs.Births.{Births}
 use Rattle.st_model.specs.Table.{Table}
@@ -77,15 +77,15 @@ with_installed n (Accepted selector after) goes_on = goes_on after
 -- last header named.
 unfoldable pub built_from : Install → Option Cause → (chunk : ℕ) → State Births → Side → List Part → Result Built Fault
 built_from install cause n s side [] = unfinished n cause
-built_from install cause n s side (class c ∷ parts) = built_from install cause (suc n) s side parts
-built_from install cause n s side (pool p ∷ parts) = built_from install cause (suc n) s side parts
-built_from install cause n s side (global name ∷ parts) = built_from install cause (suc n) s side parts
-built_from install cause n s side (opening ∷ parts) = built_from install cause (suc n) s side parts
-built_from install cause n s side (header named ∷ parts) = built_from install cause (suc n) s named parts
+built_from install cause n s side (class c ∷ parts) = built_from install cause (n + 1) s side parts
+built_from install cause n s side (pool p ∷ parts) = built_from install cause (n + 1) s side parts
+built_from install cause n s side (global name ∷ parts) = built_from install cause (n + 1) s side parts
+built_from install cause n s side (opening ∷ parts) = built_from install cause (n + 1) s side parts
+built_from install cause n s side (header named ∷ parts) = built_from install cause (n + 1) s named parts
 built_from install cause n s side (method text ∷ parts) =
-    with_installed n (install (definition_by side text) s) (λ t. built_from install cause (suc n) t side parts)
-built_from install cause n s side (closing ∷ parts) = built_from install cause (suc n) s side parts
-built_from install cause n s side (start first ∷ parts) = finished (suc n) cause (begun_in n first (show s))
+    with_installed n (install (definition_by side text) s) (λ t. built_from install cause (n + 1) t side parts)
+built_from install cause n s side (closing ∷ parts) = built_from install cause (n + 1) s side parts
+built_from install cause n s side (start first ∷ parts) = finished (n + 1) cause (begun_in n first (show s))
 
 -- before the first header
 abbrev pub no_side : Side
@@ -97,7 +97,7 @@ unfoldable pub without_room : Option Cause → (chunk : ℕ) → List Part → R
 without_room cause n [] = unfinished n cause
 without_room cause n (opening ∷ parts) = fault_at n 7
 without_room cause n (start first ∷ parts) = fault_at n 6
-without_room cause n (declaring ∷ parts) = without_room cause (suc n) parts
+without_room cause n (declaring ∷ parts) = without_room cause (n + 1) parts
 
 -- the objects that the declarations make are the first births
 abbrev pub built_by : Install → Account → Result Built Fault

@@ -62,7 +62,7 @@ fn symbol_of<M: Memory>(m: &M, text: &[u8]) -> Result<Oop, Dead>
 }
 
 /// The method without arguments for a selector in a class, or in the nearest superclass that has one.
-#[tactic(auto, using(st_model::proofs::Runs::runs), unfolding(crate::specs::Starting::unary_method))]
+#[tactic(auto, using(st_model::proofs::Runs::runs, crate::proofs::Methods::arguments), unfolding(crate::specs::Starting::unary_method))]
 fn unary_method<M: Memory>(m: &M, class: Oop, selector: Oop) -> Result<Oop, Dead>
     ensures { let t = (M.view m.now).objects in
         Reads (unary_method table (value class) (value selector)) value t result }
