@@ -4,3 +4,6 @@ pub mod Underway
 pub mod Methods
 pub mod Begun
 pub mod Rests
+pub mod Finishing
+pub mod Account
+pub mod Whole

@@ -9,7 +9,8 @@ use Rattle.st_model.specs.Table.{Table}
 use Rattle.st_model.specs.View.{View}
 use Rattle.st_model.specs.Show.{Shows}
 use Rattle.st_model.specs.Start.{idle_state}
-use Rattle.st_frames.specs.Shown.{IsReady, shown}
+use Rattle.st_frames.specs.Shown.{shown}
+use Rattle.st_chunk.specs.Definitions.{Definition}
 use Rattle.st_declarations.specs.declared.cause.Cause.{Cause}
 use Rattle.st_declarations.specs.Parts.{Class, Pool, Side, Start, Part, class, pool, global, opening, header, method, closing, start}
 use Rattle.st_installer.specs.Installing.{Install, Installed, Refused, Accepted}
@@ -19,6 +20,13 @@ use Rattle.st_installer.specs.declared.installation.Installation.TheVariants as 
 use Rattle.st_kernel.specs.declared.fault.KernelFault.TheVariants.{At}
 use Rattle.st_kernel.specs.Built.{Built, Fault, fault_at, definition_by, with_installed, unfinished, built_from, IsFaultOf}
 use Rattle.st_kernel.specs.Following.{idle_frame, IsUnderway}
+
+-- it installs nothing, and names no side
+abbrev pub IsPlain : Part → Type 0
+IsPlain (header named) = ⊥
+IsPlain (method text) = ⊥
+IsPlain (start s) = ⊥
+IsPlain _ = Unit {0}
 
 -- under registers that name nil, in an empty world
 pub shown_idle : (v : View) → shown v idle_frame (empty_world nil) ≡ idle_state v
@@ -38,7 +46,6 @@ module _ (install : Install) (cause : Option Cause) (whole : Result Built Fault)
   passed part after same u = record {
     state = u.state;
     shows = u.shows;
-    ready = u.ready;
     is = sym (same u.state) ∙ u.is;
   }
 
@@ -84,15 +91,15 @@ module _ (install : Install) (cause : Option Cause) (whole : Result Built Fault)
   comes = sym (built_method install cause n u.state side text parts) ∙ u.is
 
   accepted_by : (it : Installed) (selector : _) → came ≡ installation.Accepted selector → InstallsAs it came (idle_state new)
-      → with_installed n it (λ t. built_from install cause (n + 1) t side parts) ≡ whole → IsReady new idle_frame (empty_world nil)
+      → with_installed n it (λ t. built_from install cause (n + 1) t side parts) ≡ whole
       → IsUnderway install cause whole (n + 1) side parts new
-  accepted_by (Refused why) selector e is q ready = absurd (subst (λ c. InstallsAs (Refused why) c (idle_state new)) e is)
-  accepted_by (Accepted name t) selector e is q ready =
+  accepted_by (Refused why) selector e is q = absurd (subst (λ c. InstallsAs (Refused why) c (idle_state new)) e is)
+  accepted_by (Accepted name t) selector e is q =
       let now = subst (λ c. InstallsAs (Accepted name t) c (idle_state new)) e is in
-      record { state = t; shows = now.1; ready = ready; is = q }
+      record { state = t; shows = now.1; is = q }
 
-  pub accepted : (selector : _) → came ≡ installation.Accepted selector → IsReady new idle_frame (empty_world nil) → IsUnderway install cause whole (n + 1) side parts new
-  accepted selector e ready = accepted_by (install (definition_by side text) u.state) selector e (installs u.state u.shows) comes ready
+  pub accepted : (selector : _) → came ≡ installation.Accepted selector → IsUnderway install cause whole (n + 1) side parts new
+  accepted selector e = accepted_by (install (definition_by side text) u.state) selector e (installs u.state u.shows) comes
 
   refused_by : (it : Installed) (why : _) → came ≡ installation.Refused why → InstallsAs it came (idle_state new)
       → with_installed n it (λ t. built_from install cause (n + 1) t side parts) ≡ whole → whole ≡ fault_at n 5
@@ -101,3 +108,23 @@ module _ (install : Install) (cause : Option Cause) (whole : Result Built Fault)
 
   pub refused : (why : _) → came ≡ installation.Refused why → whole ≡ fault_at n 5
   refused why e = refused_by (install (definition_by side text) u.state) why e (installs u.state u.shows) comes
+
+-- any part of these kinds
+pub plain_passed : (install : Install) (cause : Option Cause) (whole : Result Built Fault) (n : ℕ) (side : Side) (parts : List Part) (v : View) (part : Part) → IsPlain part
+    → IsUnderway install cause whole n side (part ∷ parts) v → IsUnderway install cause whole (n + 1) side parts v
+plain_passed install cause whole n side parts v (class c) plain u = class_passed install cause whole n side parts v c u
+plain_passed install cause whole n side parts v (pool p) plain u = pool_passed install cause whole n side parts v p u
+plain_passed install cause whole n side parts v (global name) plain u = global_passed install cause whole n side parts v name u
+plain_passed install cause whole n side parts v opening plain u = opening_passed install cause whole n side parts v u
+plain_passed install cause whole n side parts v (header named) plain u = absurd plain
+plain_passed install cause whole n side parts v (method text) plain u = absurd plain
+plain_passed install cause whole n side parts v closing plain u = closing_passed install cause whole n side parts v u
+plain_passed install cause whole n side parts v (start s) plain u = absurd plain
+
+-- what an installer does of a definition, where nothing is held
+pub installs_idle : (install : Install) (lent d : Definition) → lent ≡ d → (came : Installation) (old new : View)
+    → ((s : State Births) → Shows (shown old idle_frame (empty_world nil)) s → InstallsAs (install lent s) came (shown new idle_frame (empty_world nil)))
+    → (s : State Births) → Shows (idle_state old) s → InstallsAs (install d s) came (idle_state new)
+installs_idle install lent d same came old new does s shows =
+    subst (λ c. InstallsAs (install d s) came c) (shown_idle new)
+    (subst (λ x. InstallsAs (install x s) came (shown new idle_frame (empty_world nil))) same (does s (subst (λ c. Shows c s) (sym (shown_idle old)) shows)))

@@ -32,6 +32,10 @@ idle_frame = record {
   sp = 5;
 }
 
+-- nothing is held
+abbrev pub IsQuiet : View → Type 0
+IsQuiet v = IsReady v idle_frame (empty_world nil)
+
 abbrev pub side_in : Heading → Side
 side_in h = record { class = h.class.now; meta = h.meta }
 
@@ -47,7 +51,6 @@ pub record IsUnderway (install : Install) (cause : Option Cause) (whole : Result
     (v : View) : Type 0 where
   pub state : State Births
   pub shows : Shows (idle_state v) state
-  pub ready : IsReady v idle_frame (empty_world nil)
   pub is : built_from install cause n state side parts ≡ whole
 
 -- the text goes on behind a method, or its fault is the whole text's

@@ -6,7 +6,7 @@ ghost use Rattle.st_declarations.specs.Views.{start_of, parts_of};
 ghost use Rattle.st_installer.specs.Installing.{Install};
 ghost use Rattle.st_declarations.specs.Parts.{Side as ASide};
 ghost use Rattle.st_kernel.specs.Built.{Built, Fault, no_side, IsFaultOf};
-ghost use Rattle.st_kernel.specs.Following.{side_in, AreDefinitions, IsUnderway, Finishes};
+ghost use Rattle.st_kernel.specs.Following.{side_in, AreDefinitions, IsUnderway, Finishes, IsQuiet};
 
 use crate::beginning::begin;
 use crate::fault::{KernelFault, cause_number, unfinished};
@@ -25,7 +25,8 @@ fn finish<M: Memory>(
     chunk: u32,
     cause: Option<Cause>,
 ) -> Result<(), KernelFault>
-    requires { chunk < 2 ^ 32 - 1 }
+    requires few { chunk < 2 ^ 32 - 1 }
+    requires quiet { IsQuiet (M.view m.old) }
     ensures finishes { (install : Install) (whole : Result Built Fault) (side : ASide) (parts : List APart)
         → IsUnderway install cause whole chunk side (start (start_of first.now) ∷ parts) (M.view m.old)
         → Finishes whole result (M.view m.new) }
@@ -53,6 +54,7 @@ pub(crate) fn follow<I: Installer, M: Memory>(
 ) -> Result<(), KernelFault>
     requires good { AreDefinitions no_side (parts_of kernel.now.parts.items) }
     requires short { length kernel.now.parts.items ≤ 2 ^ 32 - 2 }
+    requires quiet { IsQuiet (M.view m.old) }
     ensures follows { (whole : Result Built Fault)
         → IsUnderway I.install kernel.now.cause whole 1 no_side (parts_of kernel.now.parts.items) (M.view m.old)
         → Finishes whole result (M.view m.new) }

@@ -6,7 +6,7 @@ ghost use Rattle.st_declarations.specs.Parts.{Part as APart, method};
 ghost use Rattle.st_declarations.specs.Views.{part_of, side_of};
 ghost use Rattle.st_script.specs.Definitions.{definition_of};
 ghost use Rattle.st_kernel.specs.Built.{Built, Fault, definition_by};
-ghost use Rattle.st_kernel.specs.Following.{side_in, AreDefinitions, IsUnderway, Installs, GoesOn, StaysGood};
+ghost use Rattle.st_kernel.specs.Following.{side_in, AreDefinitions, IsUnderway, Installs, GoesOn, StaysGood, IsQuiet};
 
 use crate::fault::KernelFault;
 use st_declarations::{Part, Side, Start};
@@ -62,9 +62,11 @@ fn install_method<I: Installer, M: Memory>(
     chunk: u32,
 ) -> Result<(), KernelFault>
     requires good { IsDefinition (definition_by (side_in heading) text.now) }
+    requires quiet { IsQuiet (M.view m.old) }
     ensures installs { (cause : Option ACause) (whole : Result Built Fault) (parts : List APart)
         → IsUnderway I.install cause whole chunk (side_in heading.entry) (method text.now ∷ parts) (M.view m.old)
         → Installs I.install cause whole chunk (side_in heading.entry) parts result (M.view m.new) }
+    ensures quiet { IsQuiet (M.view m.new) }
 {
     match I::install(alloc, m, &definition_by(heading, text)) {
         Installation::Accepted(_selector) => Ok(()),
@@ -82,10 +84,12 @@ pub(crate) fn follow_part<'a, I: Installer, M: Memory>(
     part: &'a Part,
 ) -> Result<Next<'a>, KernelFault>
     requires good { AreDefinitions (side_in heading) (part_of part.now ∷ []) }
+    requires quiet { IsQuiet (M.view m.old) }
     ensures follows { (cause : Option ACause) (whole : Result Built Fault) (parts : List APart)
         → IsUnderway I.install cause whole chunk (side_in heading.entry) (part_of part.now ∷ parts) (M.view m.old)
         → GoesOn I.install cause whole chunk (side_in heading.entry) parts result (M.view m.new) }
     ensures good { StaysGood (side_in heading.entry) (part_of part.now) result }
+    ensures quiet { IsQuiet (M.view m.new) }
 {
     match part {
         Part::Header(side) => Ok(Next::On(heading_of(side))),
