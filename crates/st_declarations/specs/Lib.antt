@@ -7,3 +7,4 @@ pub mod Lists
 pub mod Views
 pub mod Reading
 pub mod States
+pub mod Definitions

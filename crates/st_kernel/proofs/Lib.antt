@@ -5,5 +5,4 @@ pub mod Methods
 pub mod Begun
 pub mod Rests
 pub mod Finishing
-pub mod Account
 pub mod Whole

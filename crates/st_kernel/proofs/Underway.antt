@@ -17,8 +17,9 @@ use Rattle.st_installer.specs.Installing.{Install, Installed, Refused, Accepted}
 use Rattle.st_installer.specs.Installations.{InstallsAs, Unchanged}
 use Rattle.st_installer.specs.declared.installation.Installation.{Installation}
 use Rattle.st_installer.specs.declared.installation.Installation.TheVariants as installation
+use Rattle.st_declarations.specs.Definitions.{definition_by}
 use Rattle.st_kernel.specs.declared.fault.KernelFault.TheVariants.{At}
-use Rattle.st_kernel.specs.Built.{Built, Fault, fault_at, definition_by, with_installed, unfinished, built_from, IsFaultOf}
+use Rattle.st_kernel.specs.Built.{Built, Fault, fault_at, with_installed, unfinished, built_from, IsFaultOf}
 use Rattle.st_kernel.specs.Following.{idle_frame, IsUnderway}
 
 -- it installs nothing, and names no side

@@ -6,10 +6,10 @@ use Rattle.st_model.specs.Table.{Table}
 use Rattle.st_model.specs.Show.{show, raised}
 use Rattle.st_model.specs.View.{View}
 use Rattle.st_model.specs.Start.{idle_state}
-use Rattle.st_chunk.specs.Definitions.{Definition}
 use Rattle.st_declarations.specs.declared.cause.Cause.{Cause}
 use Rattle.st_declarations.specs.declared.cause.Cause.TheVariants.{Form, Name, Variables, Missing}
 use Rattle.st_declarations.specs.Parts.{Side, Start, Part, class, pool, global, opening, header, method, closing, start}
+use Rattle.st_declarations.specs.Definitions.{definition_by}
 use Rattle.st_declarations.specs.Texts.{Account, account}
 use Rattle.st_first_objects.specs.First.{first_view, has_room}
 use Rattle.st_installer.specs.Installing.{Install, Installed, Refused, Accepted}
@@ -61,10 +61,6 @@ abbrev pub begun_in : (chunk : ℕ) → Start → State Table → Result Built F
 begun_in n s c = begun_as n ((begin_by c.head s).run c)
 
 -- METHODS
-
--- a method of a kernel text has no category
-abbrev pub definition_by : Side → (text : List ℕ) → Definition
-definition_by side text = record { class = side.class; meta = side.meta; category = []; text = text }
 
 -- the method is refused, or the text goes on over the births with it
 abbrev pub with_installed : (chunk : ℕ) → Installed → (State Births → Result Built Fault) → Result Built Fault

@@ -10,16 +10,16 @@ use Rattle.st_model.specs.Show.{Shows}
 use Rattle.st_model.specs.Start.{idle_state}
 use Rattle.st_frames.specs.declared.frame.Frame.{Frame}
 use Rattle.st_frames.specs.Shown.{IsReady}
-use Rattle.st_chunk.specs.Definitions.{IsDefinition}
 use Rattle.st_declarations.specs.declared.cause.Cause.{Cause}
-use Rattle.st_declarations.specs.Parts.{Side, Part, header, method, start}
+use Rattle.st_declarations.specs.Parts.{Side, Part, start}
+use Rattle.st_declarations.specs.Definitions.{AreDefinitions}
 use Rattle.st_declarations.specs.Views.{start_of}
 use Rattle.st_installer.specs.Installing.{Install}
 use Rattle.st_kernel.specs.declared.fault.KernelFault.{KernelFault}
 use Rattle.st_kernel.specs.declared.part.Heading.{Heading}
 use Rattle.st_kernel.specs.declared.part.Next.{Next}
 use Rattle.st_kernel.specs.declared.part.Next.TheVariants.{On, Starts}
-use Rattle.st_kernel.specs.Built.{Built, Fault, definition_by, built_from, IsBuilt, IsFaultOf}
+use Rattle.st_kernel.specs.Built.{Built, Fault, built_from, IsBuilt, IsFaultOf}
 
 -- the registers name nil
 abbrev pub idle_frame : Frame
@@ -38,13 +38,6 @@ IsQuiet v = IsReady v idle_frame (empty_world nil)
 
 abbrev pub side_in : Heading → Side
 side_in h = record { class = h.class.now; meta = h.meta }
-
--- each of these methods, of which the first are of this side, has the form of a definition
-abbrev pub AreDefinitions : Side → List Part → Type 0
-AreDefinitions side [] = ⊤
-AreDefinitions side (header named ∷ parts) = AreDefinitions named parts
-AreDefinitions side (method text ∷ parts) = IsDefinition (definition_by side text) × AreDefinitions side parts
-AreDefinitions side (other ∷ parts) = AreDefinitions side parts
 
 -- the memory shows births over which the parts that are left come to what the whole text comes to
 pub record IsUnderway (install : Install) (cause : Option Cause) (whole : Result Built Fault) (n : ℕ) (side : Side) (parts : List Part)

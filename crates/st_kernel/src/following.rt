@@ -5,8 +5,9 @@ ghost use Rattle.st_declarations.specs.Parts.{Part as APart, start};
 ghost use Rattle.st_declarations.specs.Views.{start_of, parts_of};
 ghost use Rattle.st_installer.specs.Installing.{Install};
 ghost use Rattle.st_declarations.specs.Parts.{Side as ASide};
+ghost use Rattle.st_declarations.specs.Definitions.{AreDefinitions};
 ghost use Rattle.st_kernel.specs.Built.{Built, Fault, no_side, IsFaultOf};
-ghost use Rattle.st_kernel.specs.Following.{side_in, AreDefinitions, IsUnderway, Finishes, IsQuiet};
+ghost use Rattle.st_kernel.specs.Following.{side_in, IsUnderway, Finishes, IsQuiet};
 
 use crate::beginning::begin;
 use crate::fault::{KernelFault, cause_number, unfinished};

@@ -5,8 +5,9 @@ ghost use Rattle.st_declarations.specs.declared.cause.Cause.{Cause as ACause};
 ghost use Rattle.st_declarations.specs.Parts.{Part as APart, method};
 ghost use Rattle.st_declarations.specs.Views.{part_of, side_of};
 ghost use Rattle.st_script.specs.Definitions.{definition_of};
-ghost use Rattle.st_kernel.specs.Built.{Built, Fault, definition_by};
-ghost use Rattle.st_kernel.specs.Following.{side_in, AreDefinitions, IsUnderway, Installs, GoesOn, StaysGood, IsQuiet};
+ghost use Rattle.st_declarations.specs.Definitions.{AreDefinitions, definition_by};
+ghost use Rattle.st_kernel.specs.Built.{Built, Fault};
+ghost use Rattle.st_kernel.specs.Following.{side_in, IsUnderway, Installs, GoesOn, StaysGood, IsQuiet};
 
 use crate::fault::KernelFault;
 use st_declarations::{Part, Side, Start};

@@ -1,11 +1,12 @@
-use Rattle.std.proofs.Common.{rules, ◌≡◌, ◌∙◌, ◌≤◌, Ok, Err, length, subst, sym, ap, arith}
+use Rattle.std.proofs.Common.{rules, ◌≡◌, ◌∙◌, ◌≤◌, true, false, Ok, Err, length, subst, sym, ap, arith}
 use Rattle.std.specs.Prelude.{IfErr}
 use Rattle.std.proofs.Math.ListN.{length-map}
+use Rattle.st_declarations.specs.Definitions.{AreDefinitions}
 use Rattle.st_declarations.specs.Texts.{Account}
-use Rattle.st_declarations.specs.Views.{account_of, part_of}
+use Rattle.st_declarations.specs.Views.{account_of, part_of, parts_of}
+use Rattle.st_declarations.proofs.Account.{few_parts, good_parts}
+use Rattle.st_first_objects.specs.First.{first_view, has_room}
 use Rattle.st_kernel.specs.Built.{built, no_side, IsBuilt, IsFaultOf}
-use Rattle.st_kernel.specs.Following.{AreDefinitions, Finishes}
-use Rattle.st_kernel.proofs.Account.{few_parts, good_parts}
 use Rattle.st_kernel.proofs.Whole.{first_quiet, first_underway, followed, with_room, roomless}
 use Rattle.st_kernel.proofs.building.build.Goals as goal
 
@@ -16,23 +17,45 @@ follow-requires-clause-good g c =
 pub follow-requires-clause-short : goal.follow-requires-clause-short
 follow-requires-clause-short g c =
     let same = ap (λ (a : Account). length a.parts) c.in_ok-kernel.ensures in
-    let long = length-map part_of c.in_ok-kernel.kernel.parts.items in
+    let long = length-map c.in_ok-kernel.kernel.parts.items part_of in
     omega (arith, same, long, few_parts c.args.text.now, c.requires.short)
 
 pub follow-requires-clause-quiet : goal.follow-requires-clause-quiet
-follow-requires-clause-quiet g c = first_quiet (g.L.Done.Memory.view c.in-Ok.m) (account_of c.in_ok-kernel.kernel).parts (c.in-Ok.ensures.view ∙ search rules)
+follow-requires-clause-quiet g c =
+    let a = account_of c.in_ok-kernel.kernel in
+    first_quiet (g.L.Done.Memory.view c.in-Ok.m) a.parts (c.in-Ok.ensures.view ∙ ap (λ ps. first_view (parts_of ps)) c.deref.ensures.value)
 
 pub returns-in_err-follow-in-Ok-clause-refused : goal.returns-in_err-follow-in-Ok-clause-refused
-returns-in_err-follow-in-Ok-clause-refused g c = ?
+returns-in_err-follow-in-Ok-clause-refused g c =
+    let install = g.I.Installer.install in
+    let a = account_of c.in_ok-kernel.kernel in
+    let v = g.L.Done.Memory.view c.in-Ok.m in
+    let view = c.in-Ok.ensures.view ∙ ap (λ ps. first_view (parts_of ps)) c.deref.ensures.value in
+    let room = sym (ap (λ ps. has_room (parts_of ps)) c.deref.ensures.value) ∙ c.in-Ok.ensures.room in
+    let e : c.from_residual-in_err-follow-in-Ok.result ≡ Err c.in_err-follow-in-Ok.field-0.0 = search rules in
+    let fault = c.in_err-follow-in-Ok.ensures.follows (followed install a) (first_underway install a v (g.met.L.Done.Memory.whole c.in-Ok.m) view) in
+    subst (λ r. IfErr r (IsFaultOf (built install c.args.text.now))) (sym e)
+    (subst (λ w. IsFaultOf w c.in_err-follow-in-Ok.field-0.0) (with_room install a c.args.text.now c.in_ok-kernel.ensures room) fault)
 
 pub returns-in-Ok-clause-built : goal.returns-in-Ok-clause-built
-returns-in-Ok-clause-built g c = ?
+returns-in-Ok-clause-built g c =
+    let install = g.I.Installer.install in
+    let a = account_of c.in_ok-kernel.kernel in
+    let v = g.L.Done.Memory.view c.in-Ok.m in
+    let view = c.in-Ok.ensures.view ∙ ap (λ ps. first_view (parts_of ps)) c.deref.ensures.value in
+    let room = sym (ap (λ ps. has_room (parts_of ps)) c.deref.ensures.value) ∙ c.in-Ok.ensures.room in
+    let image = c.in_ok-follow-in-Ok.ensures.follows (followed install a) (first_underway install a v (g.met.L.Done.Memory.whole c.in-Ok.m) view) in
+    subst (λ w. IsBuilt w (g.L.Done.Memory.view c.follow.new.m)) (with_room install a c.args.text.now c.in_ok-kernel.ensures room) image
 
 pub without_room-requires : goal.without_room-requires
 without_room-requires g c =
     let same = ap (λ (a : Account). length a.parts) c.in_ok-kernel.ensures in
-    let long = length-map part_of c.in_ok-kernel.kernel.parts.items in
+    let long = length-map c.in_ok-kernel.kernel.parts.items part_of in
     omega (arith, same, long, few_parts c.args.text.now, c.requires.short)
 
 pub returns-in-Err-NoRoom-clause-refused : goal.returns-in-Err-NoRoom-clause-refused
-returns-in-Err-NoRoom-clause-refused g c = ?
+returns-in-Err-NoRoom-clause-refused g c =
+    let install = g.I.Installer.install in
+    let a = account_of c.in_ok-kernel.kernel in
+    let none = sym (ap (λ ps. has_room (parts_of ps)) c.deref.ensures.value) ∙ c.in-Err-NoRoom.ensures.none c.in-Err-NoRoom.field-0-is in
+    subst (λ w. IsFaultOf w c.without_room.result) (roomless install a c.args.text.now c.in_ok-kernel.ensures none) c.without_room.ensures

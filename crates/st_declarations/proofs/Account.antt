@@ -20,8 +20,7 @@ use Rattle.st_declarations.specs.Parts.{Side, Part, class, pool, global, opening
 use Rattle.st_declarations.specs.Forms.{keyword_named, shape_named, class_with, class_by, class_in, pool_with, pool_in, global_in, start_in, start_by, declaration_by, by_words, side_of, part_at, formed_at, behind_part}
 use Rattle.st_declarations.specs.Known.{Known, nothing, known_behind}
 use Rattle.st_declarations.specs.Texts.{Account, read_part, behind, account_from, account}
-use Rattle.st_kernel.specs.Built.{definition_by}
-use Rattle.st_kernel.specs.Following.{AreDefinitions}
+use Rattle.st_declarations.specs.Definitions.{definition_by, AreDefinitions}
 
 -- HOW MANY PARTS
 
