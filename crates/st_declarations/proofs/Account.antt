@@ -1,11 +1,11 @@
 -- The account of a text: it has no more parts than bytes, and its methods have the form of definitions.
-use Rattle.std.proofs.Common.{◌≡◌, ◌≤◌, ◌+◌, ◌∙◌, ℕ, suc, List, [], ◌∷◌, ◌++◌, length, refl, sym, ap, subst, arith, length-append}
+use Rattle.std.proofs.Common.{◌≡◌, ◌≤◌, ◌+◌, ℕ, List, [], ◌∷◌, ◌++◌, length, refl, sym, ap, subst, arith, length-append}
 use Rattle.std.specs.Prelude.{Bool, true, false, ◌&&◌, ◌==◌, nat_le, Option, Some, None, option_map, Result, Ok, Err, if◌then◌else◌, codes}
 use Rattle.std.proofs.lemmas.Bool.Decides.{leb_tells}
-use Rattle.st_chunk.specs.Texts.{Cut, mark, most, cut_behind, behind_mark, cut, is_empty}
+use Rattle.st_chunk.specs.Texts.{mark, most, cut_behind, behind_mark, cut, is_empty}
 use Rattle.st_chunk.specs.Feeding.{start as fed_none}
 use Rattle.st_chunk.specs.Groups.{Header, header_of, header_text, side_text, quoted, quotes_doubled, trimmed, is_name}
-use Rattle.st_chunk.specs.Definitions.{Definition, IsDefinition}
+use Rattle.st_chunk.specs.Definitions.{IsDefinition}
 use Rattle.st_chunk.proofs.Cases.{by_test}
 use Rattle.st_script.specs.Scripts.{IsHeading}
 use Rattle.st_script.proofs.Sound.{heading_sound, method_sound}
@@ -17,7 +17,7 @@ use Rattle.st_declarations.specs.declared.keyword.Keyword.TheVariants.{Class, Po
 use Rattle.st_declarations.specs.declared.cause.Cause.{Cause}
 use Rattle.st_declarations.specs.Words.{words, is_word, names_in}
 use Rattle.st_declarations.specs.Parts.{Side, Part, class, pool, global, opening, header, method, closing, start}
-use Rattle.st_declarations.specs.Forms.{keyword_named, shape_named, class_with, class_by, class_in, pool_with, pool_in, global_in, start_in, start_by, declaration_by, by_words, side_of, part_at, formed_at, behind_part}
+use Rattle.st_declarations.specs.Forms.{keyword_named, shape_named, class_with, class_in, pool_with, pool_in, global_in, start_in, start_by, declaration_by, by_words, side_of, part_at, formed_at, behind_part}
 use Rattle.st_declarations.specs.Known.{Known, nothing, known_behind}
 use Rattle.st_declarations.specs.Texts.{Account, read_part, behind, account_from, account}
 use Rattle.st_declarations.specs.Definitions.{definition_by, AreDefinitions}

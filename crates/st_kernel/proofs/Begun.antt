@@ -1,12 +1,12 @@
 -- What the beginning of a machine comes to, call after call.
-use Rattle.std.proofs.Common.{◌≡◌, ◌∙◌, ℕ, List, true, false, Result, Ok, Err, Bool, refl, sym, ap, subst}
+use Rattle.std.proofs.Common.{◌≡◌, ◌∙◌, ℕ, List, true, false, Result, Ok, Err, Bool, refl, ap}
 use Rattle.std.specs.Prelude.{codes}
 use Rattle.st_model.specs.declared.dead.Dead.{Dead}
 use Rattle.st_model.specs.declared.oop.Oop.{Oop}
 use Rattle.st_model.specs.declared.word.Word.{Word}
 use Rattle.st_model.specs.Values.{Value, value, word, value_of}
 use Rattle.st_model.specs.Objects.{nil}
-use Rattle.st_model.specs.Machine.{State, Transition, Died, Went, World, empty_world, answer, ◌>>=◌, ◌>>◌}
+use Rattle.st_model.specs.Machine.{State, Transition, Died, Went, empty_world, ◌>>=◌}
 use Rattle.st_model.specs.Table.{Table, table, bounded_table}
 use Rattle.st_model.specs.Calls.{Reads, Does, itself, transition_of}
 use Rattle.st_model.specs.View.{View}

@@ -4,7 +4,6 @@ use Rattle.st_model.specs.declared.dead.Dead.{Dead}
 use Rattle.st_model.specs.Machine.{State, Transition, Died, Went}
 use Rattle.st_model.specs.Table.{Table}
 use Rattle.st_model.specs.View.{View}
-use Rattle.st_model.specs.Show.{show}
 use Rattle.st_model.specs.Start.{idle_state}
 use Rattle.st_model.proofs.Showing.{show_is}
 use Rattle.st_declarations.specs.declared.cause.Cause.{Cause}

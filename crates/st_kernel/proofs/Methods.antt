@@ -1,5 +1,5 @@
 -- Over a table that makes only what has room the arguments of a method are counted as over any.
-use Rattle.std.proofs.Common.{◌≡◌, ℕ, refl, sym, ap}
+use Rattle.std.proofs.Common.{◌≡◌, ℕ, sym, ap}
 use Rattle.std.specs.Prelude.{◌==◌, if◌then◌else◌, nat_lt}
 use Rattle.st_model.specs.Values.{Value}
 use Rattle.st_model.specs.Machine.{State, Step, answer, ◌>>=◌}

@@ -1,25 +1,23 @@
 -- A text as far as it is followed: what each part does.
 use Rattle.std.proofs.Common.{◌≡◌, ◌∙◌, ℕ, ◌+◌, List, ◌∷◌, [], refl, sym, subst}
-use Rattle.std.specs.Prelude.{Option, Result, Ok, Err, length}
+use Rattle.std.specs.Prelude.{Option, Result}
 use Rattle.st_model.specs.Objects.{nil}
 use Rattle.st_model.specs.Values.{value_of}
 use Rattle.st_model.specs.Machine.{State, empty_world}
 use Rattle.st_model.specs.Births.{Births}
-use Rattle.st_model.specs.Table.{Table}
 use Rattle.st_model.specs.View.{View}
 use Rattle.st_model.specs.Show.{Shows}
 use Rattle.st_model.specs.Start.{idle_state}
 use Rattle.st_frames.specs.Shown.{shown}
 use Rattle.st_chunk.specs.Definitions.{Definition}
 use Rattle.st_declarations.specs.declared.cause.Cause.{Cause}
-use Rattle.st_declarations.specs.Parts.{Class, Pool, Side, Start, Part, class, pool, global, opening, header, method, closing, start}
+use Rattle.st_declarations.specs.Parts.{Class, Pool, Side, Part, class, pool, global, opening, header, method, closing, start}
 use Rattle.st_installer.specs.Installing.{Install, Installed, Refused, Accepted}
-use Rattle.st_installer.specs.Installations.{InstallsAs, Unchanged}
+use Rattle.st_installer.specs.Installations.{InstallsAs}
 use Rattle.st_installer.specs.declared.installation.Installation.{Installation}
 use Rattle.st_installer.specs.declared.installation.Installation.TheVariants as installation
 use Rattle.st_declarations.specs.Definitions.{definition_by}
-use Rattle.st_kernel.specs.declared.fault.KernelFault.TheVariants.{At}
-use Rattle.st_kernel.specs.Built.{Built, Fault, fault_at, with_installed, unfinished, built_from, IsFaultOf}
+use Rattle.st_kernel.specs.Built.{Built, Fault, fault_at, with_installed, unfinished, built_from}
 use Rattle.st_kernel.specs.Following.{idle_frame, IsUnderway}
 
 -- it installs nothing, and names no side

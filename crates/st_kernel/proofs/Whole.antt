@@ -1,17 +1,13 @@
 -- The whole text, over the memory of its first objects.
-use Rattle.std.proofs.Common.{◌≡◌, ◌∙◌, ◌≤◌, List, length, true, false, Bool, refl, sym, ap, subst, arith}
-use Rattle.std.specs.Prelude.{◌≤ℤ◌, pos, negsuc, Result, if◌then◌else◌}
+use Rattle.std.proofs.Common.{◌≡◌, ◌∙◌, List, true, false, Bool, refl, sym, ap, arith}
+use Rattle.std.specs.Prelude.{Result, if◌then◌else◌}
 use Rattle.std.proofs.lemmas.Int.{ints}
-use Rattle.std.proofs.Math.ListN.{length-map}
-use Rattle.st_model.specs.Objects.{nil}
 use Rattle.st_model.specs.Values.{value_of}
-use Rattle.st_model.specs.Machine.{empty_world}
 use Rattle.st_model.specs.View.{View, IsWhole, empty_view, nothing_held, no_devices}
 use Rattle.st_model.specs.Show.{raised}
 use Rattle.st_model.specs.Start.{idle_state}
 use Rattle.st_model.proofs.Raised.{raised_shown}
 use Rattle.st_frames.proofs.Closed.{closed_idle}
-use Rattle.st_frames.specs.Shown.{IsReady, filled}
 use Rattle.st_declarations.specs.Parts.{Part}
 use Rattle.st_declarations.specs.Texts.{Account, account}
 use Rattle.st_first_objects.specs.First.{first_view, view_of, has_room}

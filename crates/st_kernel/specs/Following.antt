@@ -1,5 +1,5 @@
 -- A kernel text as far as it is followed over a memory, in which nothing is held.
-use Rattle.std.specs.Prelude.{◌≡◌, ⊤, ℕ, ◌+◌, pos, List, [], ◌∷◌, Bool, true, false, Option, Result, Ok, Err}
+use Rattle.std.specs.Prelude.{◌≡◌, ⊤, ℕ, ◌+◌, pos, List, ◌∷◌, Bool, Option, Result, Ok, Err}
 use Rattle.st_model.specs.declared.dead.Dead.{Dead}
 use Rattle.st_model.specs.Objects.{nil}
 use Rattle.st_model.specs.Machine.{State, Transition, Died, Went, empty_world}

@@ -55,12 +55,7 @@ fn fill_first_context<O: Objects>(
 
 /// Makes a process with this context the scheduler's active one.
 #[tactic(auto, using(st_frames::proofs::Doing::rows), unfolding(crate::specs::Starting::schedule))]
-fn schedule<O: Objects>(
-    m: &mut O,
-    r: &Registers,
-    process: Word,
-    context: Word,
-) -> Result<(), Dead>
+fn schedule<O: Objects>(m: &mut O, r: &Registers, process: Word, context: Word) -> Result<(), Dead>
     requires room { 3 ≤ O.room m.old }
     ensures does { RowDoes O.Objects.own (schedule O.names (word process) (word context))
         itself m.old r.now result m.new r.now }

@@ -1,17 +1,11 @@
-use Rattle.std.proofs.Common.{rules, ◌≡◌, ◌∙◌, true, false, Ok, Err, refl, sym, ap, subst, Result, Bool, codes}
-use Rattle.st_model.specs.declared.dead.Dead.{Dead}
-use Rattle.st_model.specs.Machine.{State, Transition, Died, Went, empty_world}
-use Rattle.st_model.specs.Values.{Value, value, word}
+use Rattle.std.proofs.Common.{rules, ◌≡◌, ◌∙◌, true, false, Ok, Err, refl, ap}
+use Rattle.st_model.specs.Machine.{Went, empty_world}
+use Rattle.st_model.specs.Values.{value}
 use Rattle.st_model.specs.Objects.{nil}
-use Rattle.st_model.specs.Calls.{Does, itself, transition_of}
 use Rattle.st_model.specs.Start.{idle_state}
-use Rattle.st_model.specs.Table.{Table, bounded_table}
-use Rattle.st_model.specs.View.{View}
-use Rattle.st_frames.specs.Rows.{row_state}
 use Rattle.st_frames.specs.Shown.{shown}
 use Rattle.st_declarations.specs.Views.{start_of}
-use Rattle.st_kernel.specs.Starting.{in_new_process}
-use Rattle.st_kernel.proofs.Begun.{died, went, row_idle, makes_row, no_receiver, no_method, no_class, no_process, no_room, no_registers, all_made, fetched_idle, lost_idle, starts_again}
+use Rattle.st_kernel.proofs.Begun.{died, went, makes_row, no_receiver, no_method, no_class, no_process, no_room, no_registers, all_made, fetched_idle, lost_idle, starts_again}
 use Rattle.st_kernel.proofs.beginning.begin.Goals as goal
 
 pub returns-in_err-receiver-clause-begins : goal.returns-in_err-receiver-clause-begins
@@ -59,8 +53,8 @@ returns-then-not-branch-clause-begins g c =
     let u = g.M.Memory.view c.in_new_process.new.m in
     let s = start_of c.args.start.now in
     let made = makes_row v u c.load-registers.result c.load-registers.ensures.registers (c.load-registers.ensures.world ∙ c.requires.world)
-        c.from-3.result c.from.result c.from-2.result (value c.in_ok-class.class) (value c.in_ok-method.method) (value c.in_ok-receiver.receiver) c.from-3.ensures c.from.ensures c.from-2.ensures
-        (Ok c.in_ok-in_new_process.field-0) c.in_ok-in_new_process.ensures.does.does in
+    c.from-3.result c.from.result c.from-2.result (value c.in_ok-class.class) (value c.in_ok-method.method) (value c.in_ok-receiver.receiver) c.from-3.ensures c.from.ensures c.from-2.ensures
+    (Ok c.in_ok-in_new_process.field-0) c.in_ok-in_new_process.ensures.does.does in
     let not_made : c.in_ok-in_new_process.field-0 ≡ false = search rules in
     went _ false (idle_state u) u
     (no_room v s c.deref.result.now c.deref.ensures.value c.in_ok-receiver.receiver c.in_ok-receiver.ensures.value c.deref-2.result.now c.deref-2.ensures.value
@@ -75,8 +69,8 @@ returns-in_err-fetch_scheduled-clause-begins g c =
     let s = start_of c.args.start.now in
     let e : c.from_residual-in_err-fetch_scheduled.result ≡ Err c.in_err-fetch_scheduled.field-0.0 = search rules in
     let made = makes_row v u c.load-registers.result c.load-registers.ensures.registers (c.load-registers.ensures.world ∙ c.requires.world)
-        c.from-3.result c.from.result c.from-2.result (value c.in_ok-class.class) (value c.in_ok-method.method) (value c.in_ok-receiver.receiver) c.from-3.ensures c.from.ensures c.from-2.ensures
-        (Ok c.in_ok-in_new_process.field-0) c.in_ok-in_new_process.ensures.does.does in
+    c.from-3.result c.from.result c.from-2.result (value c.in_ok-class.class) (value c.in_ok-method.method) (value c.in_ok-receiver.receiver) c.from-3.ensures c.from.ensures c.from-2.ensures
+    (Ok c.in_ok-in_new_process.field-0) c.in_ok-in_new_process.ensures.does.does in
     let is_made : c.in_ok-in_new_process.field-0 ≡ true = search rules in
     died _ c.in_err-fetch_scheduled.field-0.0 c.from_residual-in_err-fetch_scheduled.result w
     (no_registers v s c.deref.result.now c.deref.ensures.value c.in_ok-receiver.receiver c.in_ok-receiver.ensures.value c.deref-2.result.now c.deref-2.ensures.value
@@ -91,8 +85,8 @@ returns-clause-begins g c =
     let w = g.M.Memory.view c.fetch_scheduled.new.m in
     let s = start_of c.args.start.now in
     let made = makes_row v u c.load-registers.result c.load-registers.ensures.registers (c.load-registers.ensures.world ∙ c.requires.world)
-        c.from-3.result c.from.result c.from-2.result (value c.in_ok-class.class) (value c.in_ok-method.method) (value c.in_ok-receiver.receiver) c.from-3.ensures c.from.ensures c.from-2.ensures
-        (Ok c.in_ok-in_new_process.field-0) c.in_ok-in_new_process.ensures.does.does in
+    c.from-3.result c.from.result c.from-2.result (value c.in_ok-class.class) (value c.in_ok-method.method) (value c.in_ok-receiver.receiver) c.from-3.ensures c.from.ensures c.from-2.ensures
+    (Ok c.in_ok-in_new_process.field-0) c.in_ok-in_new_process.ensures.does.does in
     let is_made : c.in_ok-in_new_process.field-0 ≡ true = search rules in
     let last = shown w c.in_ok-fetch_scheduled.field-0 (empty_world nil) in
     went _ true last w
