@@ -51,7 +51,7 @@ module _ (v : View) (s : Start) where
         module _ (process : List ℕ) (same_process : process ≡ codes "Process") where
           pub no_class : (k : Dead) → Reads (global_value table v.head process) value v.objects (Err k) → begins ≡ Died k
           unfolding begin_by ◌>>=◌
-          no_class k h = rw (← same, ← same_selector, ← same_process) (simp (run-then, found (idle_state v) refl, has (idle_state v) refl, h (idle_state v) refl, after-went, after-died) refl)
+          no_class k h = rw (← same, ← same_selector, ← same_process) (simp (run-then, found (idle_state v) refl, has (idle_state v) refl, h (idle_state v) refl, after-died) refl)
 
           module _ (class : Oop) (named : Reads (global_value table v.head process) value v.objects (Ok class)) where
             abbrev makes : Transition (State Table) Bool
@@ -59,7 +59,7 @@ module _ (v : View) (s : Start) where
 
             pub no_process : (k : Dead) → makes ≡ Died k → begins ≡ Died k
             unfolding begin_by ◌>>=◌
-            no_process k e = rw (← same, ← same_selector, ← same_process) (simp (run-then, found (idle_state v) refl, has (idle_state v) refl, named (idle_state v) refl, e, after-went, after-died) refl)
+            no_process k e = rw (← same, ← same_selector, ← same_process) (simp (run-then, found (idle_state v) refl, has (idle_state v) refl, named (idle_state v) refl, e, after-died) refl)
 
             pub no_room : (t : State Table) → makes ≡ Went false t → begins ≡ Went false t
             unfolding begin_by fetch_if ◌>>=◌
@@ -67,7 +67,7 @@ module _ (v : View) (s : Start) where
 
             pub no_registers : (t : State Table) (k : Dead) → makes ≡ Went true t → (fetch_scheduled_registers table).run t ≡ Died k → begins ≡ Died k
             unfolding begin_by fetch_if ◌>>=◌
-            no_registers t k e h = rw (← same, ← same_selector, ← same_process) (simp (run-then, run-next, found (idle_state v) refl, has (idle_state v) refl, named (idle_state v) refl, e, h, after-went, after-died) refl)
+            no_registers t k e h = rw (← same, ← same_selector, ← same_process) (simp (run-then, run-next, found (idle_state v) refl, has (idle_state v) refl, named (idle_state v) refl, e, h, after-died) refl)
 
             pub all_made : (t u : State Table) → makes ≡ Went true t → (fetch_scheduled_registers table).run t ≡ Went tt u → begins ≡ Went true u
             unfolding begin_by fetch_if ◌>>=◌

@@ -6,3 +6,4 @@ pub mod Begun
 pub mod Rests
 pub mod Finishing
 pub mod Whole
+mod Rows
