@@ -32,6 +32,7 @@ module _ {C : Type 0} where
   between_over status.ReadFault a b before first now f h = f h
   between_over status.DiskFault a b before first now f h = f h
   between_over (status.Store s) a b before first now f h = f h
+  between_over (status.Kernel chunk cause) a b before first now f h = f h
   between_over status.TooLarge a b before first now f h = f h
   between_over status.OutOfMemory a b before first now f h = f h
 
@@ -44,6 +45,7 @@ module _ {C : Type 0} where
   first_between status.ReadFault ds before now h = h
   first_between status.DiskFault ds before now h = h
   first_between (status.Store s) ds before now h = h
+  first_between (status.Kernel chunk cause) ds before now h = h
   first_between status.TooLarge ds before now h = h
   first_between status.OutOfMemory ds before now h = h
 
@@ -57,6 +59,7 @@ module _ {C : Type 0} where
   between_first status.ReadFault ds before now n h = h
   between_first status.DiskFault ds before now n h = h
   between_first (status.Store s) ds before now n h = h
+  between_first (status.Kernel chunk cause) ds before now n h = h
   between_first status.TooLarge ds before now n h = h
   between_first status.OutOfMemory ds before now n h = h
 
@@ -89,6 +92,7 @@ module _ {D : Type 0} (host : Ghosts D) {C : Type 0} (opens : C → Files → Ty
   rests_from c ds status.SayFault new h = h
   rests_from c ds status.DiskFault new h = inl h
   rests_from c ds (status.Store s) new h = h
+  rests_from c ds (status.Kernel chunk cause) new h = h
   rests_from c ds status.TooLarge new h = h
   rests_from c ds status.OutOfMemory new h = h
 
@@ -101,6 +105,7 @@ module _ {D : Type 0} (host : Ghosts D) {C : Type 0} (opens : C → Files → Ty
   rests_over c d a b status.SayFault new f k h = f h
   rests_over c d a b status.DiskFault new f k h = ⊎_elim (λ x. inl (f x)) (λ x. inr (k x)) h
   rests_over c d a b (status.Store s) new f k h = f h
+  rests_over c d a b (status.Kernel chunk cause) new f k h = f h
   rests_over c d a b status.TooLarge new f k h = f h
   rests_over c d a b status.OutOfMemory new f k h = f h
 
@@ -114,6 +119,7 @@ module _ {D : Type 0} (host : Ghosts D) {C : Type 0} (opens : C → Files → Ty
   rests_between c ds status.SayFault new n h = h
   rests_between c ds status.DiskFault new n h = absurd (n refl)
   rests_between c ds (status.Store s) new n h = h
+  rests_between c ds (status.Kernel chunk cause) new n h = h
   rests_between c ds status.TooLarge new n h = h
   rests_between c ds status.OutOfMemory new n h = h
 
@@ -426,6 +432,7 @@ module _ {D : Type 0} (host : Ghosts D) (reads : Type 0) where
   status_behind o m n status.SayFault disk say h = rose_second (host.say_faults o) (host.say_faults m) (host.say_faults n) say h
   status_behind o m n status.DiskFault disk say h = rose_second (host.disk_faults o) (host.disk_faults m) (host.disk_faults n) disk h
   status_behind o m n (status.Store s) disk say h = tt
+  status_behind o m n (status.Kernel chunk cause) disk say h = tt
   status_behind o m n status.TooLarge disk say h = tt
   status_behind o m n status.OutOfMemory disk say h = tt
 
@@ -458,6 +465,7 @@ module _ {D : Type 0} (host : Ghosts D) (reads : Type 0) where
   status_wider old new status.SayFault h = h
   status_wider old new status.DiskFault h = h
   status_wider old new (status.Store s) h = tt
+  status_wider old new (status.Kernel chunk cause) h = tt
   status_wider old new status.TooLarge h = tt
   status_wider old new status.OutOfMemory h = tt
 

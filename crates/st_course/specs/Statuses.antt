@@ -3,7 +3,7 @@ use Rattle.std.specs.Prelude.{ℕ, ◌≤◌, ⊤, Result, Ok, Err}
 use Rattle.st_outside.specs.Counts.{Rose}
 use Rattle.st_outside.specs.declared.host.Host.{Ghosts}
 use Rattle.st_course.specs.declared.status.Status.{Status}
-use Rattle.st_course.specs.declared.status.Status.TheVariants.{Done, Usage, Image, Script, ReadFault, SayFault, DiskFault, Store, TooLarge, OutOfMemory}
+use Rattle.st_course.specs.declared.status.Status.TheVariants.{Done, Usage, Image, Script, ReadFault, SayFault, DiskFault, Store, Kernel, TooLarge, OutOfMemory}
 
 -- the exit status
 abbrev pub number_of : Status → ℕ
@@ -15,6 +15,7 @@ number_of ReadFault = 4
 number_of SayFault = 5
 number_of DiskFault = 6
 number_of (Store f) = 7
+number_of (Kernel chunk cause) = 8
 number_of TooLarge = 9
 number_of OutOfMemory = 10
 
@@ -28,6 +29,7 @@ IsFault ReadFault = ⊤
 IsFault SayFault = ⊤
 IsFault DiskFault = ⊤
 IsFault (Store f) = ⊥
+IsFault (Kernel chunk cause) = ⊥
 IsFault TooLarge = ⊥
 IsFault OutOfMemory = ⊤
 
@@ -43,6 +45,7 @@ module _ {D : Type 0} (host : Ghosts D) where
   StatusHasCause reads old new SayFault = Rose (host.say_faults old) (host.say_faults new)
   StatusHasCause reads old new DiskFault = Rose (host.disk_faults old) (host.disk_faults new)
   StatusHasCause reads old new (Store f) = ⊤
+  StatusHasCause reads old new (Kernel chunk cause) = ⊤
   StatusHasCause reads old new TooLarge = ⊤
   StatusHasCause reads old new OutOfMemory = ⊤
 

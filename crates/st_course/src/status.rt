@@ -24,7 +24,9 @@ pub enum Status {
     /// The store isn't there, is there already, or its files are damaged at this place. It carries only Missing, Exists and
     /// NotAStore.
     Store(StoreFault),
-    /// The image has more than 2^23 bytes, the changes would have more than 2^30, or the script more than 2^32.
+    /// This cause stands in the kernel text at this chunk, counted from 1, and none before it.
+    Kernel { chunk: u32, cause: u8 },
+    /// The image or the kernel text has more than 2^23 bytes, the changes would have more than 2^30, or the script more than 2^32.
     TooLarge,
     /// There was no memory.
     OutOfMemory,
@@ -44,6 +46,10 @@ impl Status {
             Status::SayFault => 5,
             Status::DiskFault => 6,
             Status::Store(_fault) => 7,
+            Status::Kernel {
+                chunk: _chunk,
+                cause: _cause,
+            } => 8,
             Status::TooLarge => 9,
             Status::OutOfMemory => 10,
         }

@@ -121,6 +121,7 @@ module _ {D : Type 0} (host : Ghosts D) (name : List ℕ) where
       over status.ReadFault lines line = kept status.ReadFault (λ e. cc) lines line
       over status.DiskFault lines line = kept status.DiskFault (λ e. cc) lines line
       over (status.Store f) lines line = kept (status.Store f) (λ e. cc) lines line
+      over (status.Kernel chunk cause) lines line = kept (status.Kernel chunk cause) (λ e. cc) lines line
       over status.TooLarge lines line = kept status.TooLarge (λ e. cc) lines line
       over status.OutOfMemory lines line = kept status.OutOfMemory (λ e. cc) lines line
 
@@ -182,6 +183,7 @@ module _ {D : Type 0} (host : Ghosts D) (reads : Type 0) where
   cause_between old mid closed new (status.Script n) low same say high disk h = h
   cause_between old mid closed new status.ReadFault low same say high disk h = h
   cause_between old mid closed new (status.Store f) low same say high disk h = h
+  cause_between old mid closed new (status.Kernel chunk cause) low same say high disk h = h
   cause_between old mid closed new status.TooLarge low same say high disk h = h
   cause_between old mid closed new status.OutOfMemory low same say high disk h = h
 
@@ -250,6 +252,7 @@ kind_served told name f status.ReadFault h = tt
 kind_served told name f status.SayFault h = tt
 kind_served told name f status.DiskFault h = tt
 kind_served told name f (status.Store x) h = absurd h
+kind_served told name f (status.Kernel chunk cause) h = absurd h
 kind_served told name f status.TooLarge h = tt
 kind_served told name f status.OutOfMemory h = tt
 

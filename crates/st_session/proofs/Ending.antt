@@ -107,6 +107,7 @@ module _ {D : Type 0} (host : Ghosts D) {C : Type 0} (opens : C → Files → Ty
     complete_at reads status.SayFault old new ends cause end calm = absurd (calm.say cause)
     complete_at reads status.DiskFault old new ends cause end calm = absurd (calm.disk cause)
     complete_at reads (status.Store f) old new ends cause end calm = inl (end_is course (status.Store f) status.Done (ends (λ x. x)) end)
+    complete_at reads (status.Kernel chunk number) old new ends cause end calm = inl (end_is course (status.Kernel chunk number) status.Done (ends (λ x. x)) end)
     complete_at reads status.TooLarge old new ends cause end calm = inl (end_is course status.TooLarge status.Done (ends (λ x. x)) end)
     complete_at reads status.OutOfMemory old new ends cause end calm = inr refl
 

@@ -130,6 +130,7 @@ kind_in told store f (Err (status.Image x)) kind = absurd kind
 kind_in told store f (Err (status.Script n)) kind = absurd kind
 kind_in told store f (Err status.ReadFault) kind = absurd kind
 kind_in told store f (Err (status.Store x)) kind = absurd kind
+kind_in told store f (Err (status.Kernel chunk cause)) kind = absurd kind
 kind_in told store f (Err status.TooLarge) kind = absurd kind
 
 pub kind_unopened : (told : Type 0) (store : List ℕ) (f : Files) (fault : OpenFault) → IsOfReopening fault → (told → RefusesOpening store f fault) → IsOfExport told store f (opening_status fault)
@@ -156,6 +157,7 @@ done_or_full host old new (Err (status.Image x)) kind h calm = absurd kind
 done_or_full host old new (Err (status.Script n)) kind h calm = absurd kind
 done_or_full host old new (Err status.ReadFault) kind h calm = absurd kind
 done_or_full host old new (Err (status.Store x)) kind h calm = absurd kind
+done_or_full host old new (Err (status.Kernel chunk cause)) kind h calm = absurd kind
 done_or_full host old new (Err status.TooLarge) kind h calm = absurd kind
 
 module _ {D : Type 0} (host : Ghosts D) (store image : List ℕ) where
@@ -188,6 +190,7 @@ module _ {D : Type 0} (host : Ghosts D) (store image : List ℕ) where
   export_has x (Err (status.Script n)) old mid closed new told kind has same quiet low alike line = absurd kind
   export_has x (Err status.ReadFault) old mid closed new told kind has same quiet low alike line = absurd kind
   export_has x (Err (status.Store f)) old mid closed new told kind has same quiet low alike line = absurd kind
+  export_has x (Err (status.Kernel chunk cause)) old mid closed new told kind has same quiet low alike line = absurd kind
   export_has x (Err status.TooLarge) old mid closed new told kind has same quiet low alike line = absurd kind
 
   -- THE STORE STAYS

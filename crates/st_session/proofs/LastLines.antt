@@ -1,10 +1,9 @@
--- Last lines acknowledge nothing, and none says that an image is imported.
+-- Last lines acknowledge nothing, and none says that a store is made.
 use Rattle.std.proofs.Common.{◌≡◌, ℕ, List, [], ◌∷◌, ◌++◌, refl, sym, ap, ◌∙◌, subst, append-nil, arith}
 use Rattle.std.specs.Prelude.{codes, decimal, slice_index}
 use Rattle.std.proofs.lemmas.List.{append_cancel_left}
 use Rattle.st_outside.specs.Stops.{SaidPart}
 use Rattle.st_model.specs.declared.fault.ImageFault.{ImageFault}
-use Rattle.st_model.specs.Table.{Table}
 use Rattle.st_model.specs.Text.{numbers_text}
 use Rattle.st_store.specs.declared.fault.StoreFault.{StoreFault}
 use Rattle.st_store.specs.declared.fault.StoreFault.TheVariants as store
@@ -15,8 +14,10 @@ use Rattle.st_course.specs.declared.status.Status.TheVariants as status
 use Rattle.st_course.specs.Acknowledged.{counts, acknowledged}
 use Rattle.st_course.proofs.Counting.{front_of}
 use Rattle.st_course.proofs.Underways.{nothing_of}
-use Rattle.st_session.specs.Commands.{fault_line, fault_numbers, script_line, place_line, store_line, last_line}
-use Rattle.st_session.specs.Imports.{imported_text}
+use Rattle.st_session.specs.Commands.{fault_line, fault_numbers, script_line, place_line, store_line, kernel_line, last_line}
+use Rattle.st_session.specs.declared.making.Origin.{Origin}
+use Rattle.st_session.specs.declared.making.Origin.TheVariants.{Image, Kernel}
+use Rattle.st_session.specs.Makings.{Contents, made_text}
 use Rattle.st_session.proofs.WholeLines.{IsLine, one_line, numbers_line}
 
 -- a word and one number
@@ -52,6 +53,9 @@ store_quiet (store.NotAStore place) = place_quiet place
 store_quiet store.Disk = refl
 store_quiet store.OutOfMemory = refl
 
+kernel_quiet : (chunk cause : ℕ) → acknowledged (kernel_line chunk cause) ≡ 0
+kernel_quiet chunk cause = quiet 107 101 _ (λ w. refl) (λ e. omega (arith, e)) (numbers_line (codes "kernel") (chunk ∷ cause ∷ []) refl)
+
 pub quiet_line : (e : Status) → acknowledged (last_line e) ≡ 0
 quiet_line status.Done = refl
 quiet_line status.Usage = refl
@@ -61,41 +65,65 @@ quiet_line status.ReadFault = refl
 quiet_line status.SayFault = refl
 quiet_line status.DiskFault = refl
 quiet_line (status.Store f) = store_quiet f
+quiet_line (status.Kernel chunk cause) = kernel_quiet chunk cause
 quiet_line status.TooLarge = refl
 quiet_line status.OutOfMemory = refl
 
--- IMPORTED
+-- MADE
+
+first : {a b : List ℕ} → a ≡ b → slice_index a 0 ≡ slice_index b 0
+first e = ap (λ (l : List ℕ). slice_index l 0) e
 
 third : {a b : List ℕ} → a ≡ b → slice_index a 2 ≡ slice_index b 2
 third e = ap (λ (l : List ℕ). slice_index l 2) e
 
-not_store : (t : Table) (f : StoreFault) (rest : List ℕ) → imported_text t ++ rest ≡ store_line f → ⊥
-not_store t store.Missing rest e = let x : 112 ≡ 111 = third e in omega (arith, x)
-not_store t store.Exists rest e = let x : 112 ≡ 111 = third e in omega (arith, x)
-not_store t (store.NotAStore (Roots at)) rest e = let x : 112 ≡ 111 = third e in omega (arith, x)
-not_store t (store.NotAStore (Changes at)) rest e = let x : 112 ≡ 111 = third e in omega (arith, x)
-not_store t store.Disk rest e = let x : 112 ≡ 115 = third e in omega (arith, x)
-not_store t store.OutOfMemory rest e = let x : 112 ≡ 116 = third e in omega (arith, x)
+store_not_imported : (c : Contents) (f : StoreFault) (rest : List ℕ) → made_text Image c ++ rest ≡ store_line f → ⊥
+store_not_imported c store.Missing rest e = let x : 112 ≡ 111 = third e in omega (arith, x)
+store_not_imported c store.Exists rest e = let x : 112 ≡ 111 = third e in omega (arith, x)
+store_not_imported c (store.NotAStore (Roots at)) rest e = let x : 112 ≡ 111 = third e in omega (arith, x)
+store_not_imported c (store.NotAStore (Changes at)) rest e = let x : 112 ≡ 111 = third e in omega (arith, x)
+store_not_imported c store.Disk rest e = let x : 112 ≡ 115 = third e in omega (arith, x)
+store_not_imported c store.OutOfMemory rest e = let x : 112 ≡ 116 = third e in omega (arith, x)
 
-not_imported : (t : Table) (e : Status) (rest : List ℕ) → imported_text t ++ rest ≡ last_line e → ⊥
-not_imported t status.Done rest e = let x : 112 ≡ 0 = third e in omega (arith, x)
-not_imported t status.Usage rest e = let x : 112 ≡ 97 = third e in omega (arith, x)
-not_imported t (status.Image f) rest e = let x : 112 ≡ 97 = third e in omega (arith, x)
-not_imported t (status.Script line) rest e = let x : 112 ≡ 114 = third e in omega (arith, x)
-not_imported t status.ReadFault rest e = let x : 112 ≡ 97 = third e in omega (arith, x)
-not_imported t status.SayFault rest e = let x : 112 ≡ 0 = third e in omega (arith, x)
-not_imported t status.DiskFault rest e = let x : 112 ≡ 115 = third e in omega (arith, x)
-not_imported t (status.Store f) rest e = not_store t f rest e
-not_imported t status.TooLarge rest e = let x : 112 ≡ 111 = third e in omega (arith, x)
-not_imported t status.OutOfMemory rest e = let x : 112 ≡ 116 = third e in omega (arith, x)
+store_not_built : (c : Contents) (f : StoreFault) (rest : List ℕ) → made_text Kernel c ++ rest ≡ store_line f → ⊥
+store_not_built c store.Missing rest e = let x : 98 ≡ 115 = first e in omega (arith, x)
+store_not_built c store.Exists rest e = let x : 98 ≡ 115 = first e in omega (arith, x)
+store_not_built c (store.NotAStore (Roots at)) rest e = let x : 98 ≡ 115 = first e in omega (arith, x)
+store_not_built c (store.NotAStore (Changes at)) rest e = let x : 98 ≡ 115 = first e in omega (arith, x)
+store_not_built c store.Disk rest e = let x : 98 ≡ 100 = first e in omega (arith, x)
+store_not_built c store.OutOfMemory rest e = let x : 98 ≡ 111 = first e in omega (arith, x)
+
+not_made : (o : Origin) (c : Contents) (e : Status) (rest : List ℕ) → made_text o c ++ rest ≡ last_line e → ⊥
+not_made Image c status.Done rest e = let x : 112 ≡ 0 = third e in omega (arith, x)
+not_made Image c status.Usage rest e = let x : 112 ≡ 97 = third e in omega (arith, x)
+not_made Image c (status.Image f) rest e = let x : 112 ≡ 97 = third e in omega (arith, x)
+not_made Image c (status.Script line) rest e = let x : 112 ≡ 114 = third e in omega (arith, x)
+not_made Image c status.ReadFault rest e = let x : 112 ≡ 97 = third e in omega (arith, x)
+not_made Image c status.SayFault rest e = let x : 112 ≡ 0 = third e in omega (arith, x)
+not_made Image c status.DiskFault rest e = let x : 112 ≡ 115 = third e in omega (arith, x)
+not_made Image c (status.Store f) rest e = store_not_imported c f rest e
+not_made Image c (status.Kernel chunk cause) rest e = let x : 112 ≡ 114 = third e in omega (arith, x)
+not_made Image c status.TooLarge rest e = let x : 112 ≡ 111 = third e in omega (arith, x)
+not_made Image c status.OutOfMemory rest e = let x : 112 ≡ 116 = third e in omega (arith, x)
+not_made Kernel c status.Done rest e = let x : 98 ≡ 0 = first e in omega (arith, x)
+not_made Kernel c status.Usage rest e = let x : 98 ≡ 117 = first e in omega (arith, x)
+not_made Kernel c (status.Image f) rest e = let x : 98 ≡ 105 = first e in omega (arith, x)
+not_made Kernel c (status.Script line) rest e = let x : 98 ≡ 115 = first e in omega (arith, x)
+not_made Kernel c status.ReadFault rest e = let x : 98 ≡ 114 = first e in omega (arith, x)
+not_made Kernel c status.SayFault rest e = let x : 98 ≡ 0 = first e in omega (arith, x)
+not_made Kernel c status.DiskFault rest e = let x : 98 ≡ 100 = first e in omega (arith, x)
+not_made Kernel c (status.Store f) rest e = store_not_built c f rest e
+not_made Kernel c (status.Kernel chunk cause) rest e = let x : 98 ≡ 107 = first e in omega (arith, x)
+not_made Kernel c status.TooLarge rest e = let x : 98 ≡ 116 = first e in omega (arith, x)
+not_made Kernel c status.OutOfMemory rest e = let x : 98 ≡ 111 = first e in omega (arith, x)
 
 -- no part of a last line
-pub part_not_imported : (t : Table) (e : Status) (said s : List ℕ) → SaidPart said (last_line e) s → s ≡ said ++ imported_text t → ⊥
-part_not_imported t e said s part whole =
+pub part_not_made : (o : Origin) (c : Contents) (e : Status) (said s : List ℕ) → SaidPart said (last_line e) s → s ≡ said ++ made_text o c → ⊥
+part_not_made o c e said s part whole =
     let front = front_of said (last_line e) s part in
-    let same : front.0 ≡ imported_text t = append_cancel_left said front.0 (imported_text t) (sym front.1 ∙ whole) in
-    not_imported t e (front.2).0 (subst (λ (w : List ℕ). w ++ (front.2).0 ≡ last_line e) same (front.2).1)
+    let same : front.0 ≡ made_text o c = append_cancel_left said front.0 (made_text o c) (sym front.1 ∙ whole) in
+    not_made o c e (front.2).0 (subst (λ (w : List ℕ). w ++ (front.2).0 ≡ last_line e) same (front.2).1)
 
 -- nor nothing
-pub none_not_imported : (t : Table) (said s : List ℕ) → s ≡ said → s ≡ said ++ imported_text t → ⊥
-none_not_imported t said s same whole = part_not_imported t status.Done said s (nothing_of said [] s same) whole
+pub none_not_made : (o : Origin) (c : Contents) (said s : List ℕ) → s ≡ said → s ≡ said ++ made_text o c → ⊥
+none_not_made o c said s same whole = part_not_made o c status.Done said s (nothing_of said [] s same) whole

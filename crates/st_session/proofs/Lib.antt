@@ -1,5 +1,6 @@
 pub mod Accepting
 pub mod BrowsedLines
+pub mod Built
 pub mod Commanded
 pub mod Compiling
 pub mod Cycles
@@ -8,11 +9,11 @@ pub mod Ending
 pub mod Exported
 pub mod Following
 pub mod Holding
-pub mod Imported
 pub mod LastLines
 pub mod Lawful
 pub mod Lines
 pub mod Looking
+pub mod Made
 pub mod Points
 pub mod Reported
 pub mod Responding

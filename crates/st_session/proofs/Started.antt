@@ -1,7 +1,9 @@
 -- What the reading of an image says of the file that its bytes come from.
-use Rattle.std.proofs.Common.{◌≡◌, ℕ, ◌≤◌, ◌^◌, List, length, refl, sym, subst}
+use Rattle.std.proofs.Common.{◌≡◌, ℕ, ◌≤◌, ◌^◌, List, length, refl, sym, subst, ◌∙◌, arith}
 use Rattle.std.specs.Prelude.{Result, Ok, Err, IfErr, IsErrAnd}
+use Rattle.st_outside.specs.declared.host.Host.{Ghosts}
 use Rattle.st_model.specs.Image.{image_head}
+use Rattle.st_model.specs.Start.{start_view}
 use Rattle.st_model.specs.Faults.{IsWellFormed, IsImageFault}
 use Rattle.st_model.specs.declared.fault.ImageFault.{ImageFault}
 use Rattle.st_model.specs.View.{View}
@@ -9,11 +11,17 @@ use Rattle.st_frames.specs.declared.frame.Frame.{Frame}
 use Rattle.st_image.specs.declared.head.HeadValues.{HeadValues}
 use Rattle.st_image.specs.HeadValues.{no_values, head_over}
 use Rattle.st_image.specs.Reading.{IsStart}
+use Rattle.st_course.specs.declared.status.Status.{Status}
+use Rattle.st_course.specs.declared.status.Status.TheVariants as status
+use Rattle.st_course.specs.Statuses.{StatusHasCause}
 use Rattle.st_recover.specs.Openings.{IsReadable, IsFaulty}
+use Rattle.st_session.specs.declared.file.FileRefusal.{FileRefusal}
+use Rattle.st_session.specs.declared.file.FileRefusal.TheVariants as file
 use Rattle.st_session.specs.declared.image_refusal.ImageRefusal.{ImageRefusal}
 use Rattle.st_session.specs.declared.image_refusal.ImageRefusal.TheVariants as refusal
-use Rattle.st_session.specs.Commands.{IsImageRefusal}
-use Rattle.st_session.specs.Imports.{IsReadableOver, IsFaultyOver}
+use Rattle.st_session.specs.Commands.{status_of, by_file, IsFileRefusal, IsImageRefusal, FileHasCause, RefusalHasCause}
+use Rattle.st_session.specs.Imports.{IsReadableOver, IsFaultyOver, ReadsAs, IsWrongImage}
+use Rattle.st_session.specs.Makings.{Contents, contents_in, IsUnread}
 
 module _ (over : HeadValues) (read bytes : List ℕ) (same : read ≡ bytes) where
   pub readable : length read ≤ 2 ^ 23 → IsWellFormed (head_over over read) read → IsReadableOver over bytes
@@ -26,16 +34,64 @@ module _ (over : HeadValues) (read bytes : List ℕ) (same : read ≡ bytes) whe
   faulty fault short is = subst (λ b. IsFaultyOver over b fault) same (record { short = short; fault = is })
 
 -- a file that isn't read, whatever the faults of images
-unread : (faulty : List ℕ → ImageFault → Type 0) (bytes : List ℕ) (e : ImageRefusal) → IsImageRefusal (λ b f. ⊥) bytes e → IsImageRefusal faulty bytes e
-unread faulty bytes (refusal.Image f) why = absurd why
-unread faulty bytes refusal.TooLarge why = why
-unread faulty bytes refusal.DiskFault why = tt
-unread faulty bytes refusal.OutOfMemory why = tt
+unread : (faulty : List ℕ → ImageFault → Type 0) (bytes : List ℕ) (e : FileRefusal) → IsFileRefusal bytes e → IsImageRefusal faulty bytes (by_file e)
+unread faulty bytes file.TooLarge why = why
+unread faulty bytes file.DiskFault why = tt
+unread faulty bytes file.OutOfMemory why = tt
 
-pub unread_in : {R : Type 0} (told : Type 0) (faulty : List ℕ → ImageFault → Type 0) (bytes : List ℕ) (e : ImageRefusal) (r : Result R ImageRefusal) → IsErrAnd r (λ x. x ≡ e) → (told → IsImageRefusal (λ b f. ⊥) bytes e)
+pub unread_in : {R : Type 0} (told : Type 0) (faulty : List ℕ → ImageFault → Type 0) (bytes : List ℕ) (e : FileRefusal) (r : Result R ImageRefusal) → IsErrAnd r (λ x. x ≡ by_file e) → (told → IsFileRefusal bytes e)
     → IfErr r (λ x. told → IsImageRefusal faulty bytes x)
 unread_in told faulty bytes e (Ok v) is why = absurd is
-unread_in told faulty bytes e (Err x) is why = λ t. unread faulty bytes x (subst (IsImageRefusal (λ b f. ⊥) bytes) (sym is) (why t))
+unread_in told faulty bytes e (Err x) is why = λ t. subst (IsImageRefusal faulty bytes) (sym is) (unread faulty bytes e (why t))
+
+unread_cause : {D : Type 0} (host : Ghosts D) (old new : D) (e : FileRefusal) → FileHasCause host old new e → RefusalHasCause host old new (by_file e)
+unread_cause host old new file.TooLarge cause = tt
+unread_cause host old new file.DiskFault cause = cause
+unread_cause host old new file.OutOfMemory cause = tt
+
+pub cause_in : {D R : Type 0} (host : Ghosts D) (old new : D) (e : FileRefusal) (r : Result R ImageRefusal) → IsErrAnd r (λ x. x ≡ by_file e) → FileHasCause host old new e → IfErr r (RefusalHasCause host old new)
+cause_in host old new e (Ok v) is cause = absurd is
+cause_in host old new e (Err x) is cause = subst (RefusalHasCause host old new) (sym is) (unread_cause host old new e cause)
+
+-- FOR AN IMPORT
+
+pub read_as : (over : HeadValues) (bytes : List ℕ) (v : View) (x : Contents) → IsReadableOver over bytes → v.objects ≡ (start_view (head_over over bytes) bytes).objects → v.head ≡ (start_view (head_over over bytes) bytes).head → x ≡ contents_in v → ReadsAs over bytes x
+read_as over bytes v x readable objects head is = record { readable = readable; is = is ∙ (λ i. record { objects = objects i; head = head i }) }
+
+pub read_is : (over : HeadValues) (bytes : List ℕ) (v : View) (x : Contents) → v.objects ≡ (start_view (head_over over bytes) bytes).objects → v.head ≡ (start_view (head_over over bytes) bytes).head → ReadsAs over bytes x → x ≡ contents_in v
+read_is over bytes v x objects head read = read.is ∙ sym (λ i. record { objects = objects i; head = head i })
+
+pub image_unread : (told : Type 0) (over : HeadValues) (bytes : List ℕ) (r : ImageRefusal) (e : Status) → e ≡ status_of r → (told → IsImageRefusal (IsFaultyOver over) bytes r) → IsUnread (IsWrongImage told over bytes) e
+image_unread told over bytes r e is why = subst (IsUnread (IsWrongImage told over bytes)) (sym is) (each r why)
+  where
+    each : (r : ImageRefusal) → (told → IsImageRefusal (IsFaultyOver over) bytes r) → IsUnread (IsWrongImage told over bytes) (status_of r)
+    each (refusal.Image f) why = why
+    each refusal.TooLarge why = why
+    each refusal.DiskFault why = tt
+    each refusal.OutOfMemory why = tt
+
+pub image_cause : {D : Type 0} (host : Ghosts D) (old new : D) (r : ImageRefusal) (e : Status) → e ≡ status_of r → RefusalHasCause host old new r → StatusHasCause host ⊥ old new e
+image_cause host old new r e is cause = subst (StatusHasCause host ⊥ old new) (sym is) (each r cause)
+  where
+    each : (r : ImageRefusal) → RefusalHasCause host old new r → StatusHasCause host ⊥ old new (status_of r)
+    each (refusal.Image f) cause = tt
+    each refusal.TooLarge cause = tt
+    each refusal.DiskFault cause = cause
+    each refusal.OutOfMemory cause = tt
+
+-- an image that can be read isn't wrong
+pub image_clash : (told : Type 0) (over : HeadValues) (bytes : List ℕ) (c : Contents) (e : Status) → told → ReadsAs over bytes c → IsWrongImage told over bytes e → ⊥
+image_clash told over bytes c (status.Image f) t is why = is.readable.formed f (why t).fault.fails
+image_clash told over bytes c status.TooLarge t is why = let short = is.readable.short in let long = why t in omega (arith, short, long)
+image_clash told over bytes c status.Done t is why = why
+image_clash told over bytes c status.Usage t is why = why
+image_clash told over bytes c (status.Script n) t is why = why
+image_clash told over bytes c status.ReadFault t is why = why
+image_clash told over bytes c status.SayFault t is why = why
+image_clash told over bytes c status.DiskFault t is why = why
+image_clash told over bytes c (status.Store f) t is why = why
+image_clash told over bytes c (status.Kernel chunk cause) t is why = why
+image_clash told over bytes c status.OutOfMemory t is why = why
 
 -- WITH ITS OWN HEAD
 

@@ -17,10 +17,12 @@ use Rattle.st_store.specs.declared.fault.StorePlace.TheVariants.{Roots, Changes}
 use Rattle.st_recover.specs.Openings.{IsReadable, IsFaulty}
 use Rattle.st_recover.specs.declared.fault.OpenFault.{OpenFault}
 use Rattle.st_recover.specs.declared.fault.OpenFault.TheVariants as opening
+use Rattle.st_session.specs.declared.file.FileRefusal.{FileRefusal}
+use Rattle.st_session.specs.declared.file.FileRefusal.TheVariants as file
 use Rattle.st_session.specs.declared.image_refusal.ImageRefusal.{ImageRefusal}
 use Rattle.st_session.specs.declared.image_refusal.ImageRefusal.TheVariants as refusal
 use Rattle.st_course.specs.declared.status.Status.{Status}
-use Rattle.st_course.specs.declared.status.Status.TheVariants.{Done, Usage, Image, Script, ReadFault, SayFault, DiskFault, Store, TooLarge, OutOfMemory}
+use Rattle.st_course.specs.declared.status.Status.TheVariants.{Done, Usage, Image, Script, ReadFault, SayFault, DiskFault, Store, Kernel, TooLarge, OutOfMemory}
 
 -- LAST LINES
 
@@ -57,6 +59,10 @@ store_line (store.NotAStore place) = place_line place
 store_line store.Disk = codes "disk fault\n"
 store_line store.OutOfMemory = codes "out of memory\n"
 
+-- the chunk of a kernel text that is wrong, and the cause
+abbrev pub kernel_line : ℕ → ℕ → List ℕ
+kernel_line chunk cause = codes "kernel" ++ (numbers_text (chunk ∷ cause ∷ []) ++ codes "\n")
+
 abbrev pub last_line : Status → List ℕ
 last_line Done = []
 last_line Usage = codes "usage\n"
@@ -66,10 +72,23 @@ last_line ReadFault = codes "read fault\n"
 last_line SayFault = []
 last_line DiskFault = codes "disk fault\n"
 last_line (Store f) = store_line f
+last_line (Kernel chunk cause) = kernel_line chunk cause
 last_line TooLarge = codes "too large\n"
 last_line OutOfMemory = codes "out of memory\n"
 
 -- REFUSALS
+
+-- the status after a file wasn't read
+abbrev pub file_status : FileRefusal → Status
+file_status file.TooLarge = TooLarge
+file_status file.DiskFault = DiskFault
+file_status file.OutOfMemory = OutOfMemory
+
+-- why an image isn't read whose file isn't
+abbrev pub by_file : FileRefusal → ImageRefusal
+by_file file.TooLarge = refusal.TooLarge
+by_file file.DiskFault = refusal.DiskFault
+by_file file.OutOfMemory = refusal.OutOfMemory
 
 -- the status after an image wasn't read
 abbrev pub status_of : ImageRefusal → Status
@@ -93,6 +112,12 @@ opening_status (opening.Image f) = Image f
 opening_status opening.TooLarge = TooLarge
 opening_status opening.Disk = DiskFault
 opening_status opening.OutOfMemory = OutOfMemory
+
+-- what a refusal says of a file's bytes
+abbrev pub IsFileRefusal : List ℕ → FileRefusal → Type 0
+IsFileRefusal bytes file.TooLarge = 2 ^ 23 < length bytes
+IsFileRefusal bytes file.DiskFault = ⊤
+IsFileRefusal bytes file.OutOfMemory = ⊤
 
 -- what a refusal says of the image's bytes, where this says which fault they have
 abbrev pub IsImageRefusal : (List ℕ → ImageFault → Type 0) → List ℕ → ImageRefusal → Type 0
@@ -134,11 +159,17 @@ module _ {D : Type 0} (host : Ghosts D) where
       × SaidPart (host.said old) text (host.said new)
   OnceEnds bytes n old new DiskFault = SaysLastLine DiskFault old new
   OnceEnds bytes n old new (Store f) = ⊥
+  OnceEnds bytes n old new (Kernel chunk cause) = ⊥
   OnceEnds bytes n old new TooLarge =
       (IsTrue host.is_told → 2 ^ 23 < length bytes) × SaysLastLine TooLarge old new
   OnceEnds bytes n old new OutOfMemory = SaysLastLine OutOfMemory old new
 
   -- a refusal for a fault comes only where its count rose in the call, or stands at the last value that it has
+  abbrev pub FileHasCause : D → D → FileRefusal → Type 0
+  FileHasCause old new file.TooLarge = Unit {0}
+  FileHasCause old new file.DiskFault = Rose (host.disk_faults old) (host.disk_faults new)
+  FileHasCause old new file.OutOfMemory = Unit {0}
+
   abbrev pub RefusalHasCause : D → D → ImageRefusal → Type 0
   RefusalHasCause old new (refusal.Image f) = Unit {0}
   RefusalHasCause old new refusal.TooLarge = Unit {0}

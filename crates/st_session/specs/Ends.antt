@@ -6,7 +6,7 @@ use Rattle.st_outside.specs.Runs.{LeavesOnly, SaysAll, Spares}
 use Rattle.st_outside.specs.Stops.{SaidPart}
 use Rattle.st_outside.specs.declared.host.Host.{Ghosts}
 use Rattle.st_course.specs.declared.status.Status.{Status}
-use Rattle.st_course.specs.declared.status.Status.TheVariants.{Done, Usage, Image, Script, ReadFault, SayFault, DiskFault, Store, TooLarge, OutOfMemory}
+use Rattle.st_course.specs.declared.status.Status.TheVariants.{Done, Usage, Image, Script, ReadFault, SayFault, DiskFault, Store, Kernel, TooLarge, OutOfMemory}
 use Rattle.st_course.specs.Courses.{Course, deeds_of, said_of, commits_of, IsEnd}
 use Rattle.st_course.specs.Acknowledged.{SaysLines, Promised}
 use Rattle.st_course.specs.Done.{Did, RestsAsOne}
@@ -27,6 +27,7 @@ IsOfServing ReadFault = ⊤
 IsOfServing SayFault = ⊤
 IsOfServing DiskFault = ⊤
 IsOfServing (Store fault) = ⊥
+IsOfServing (Kernel chunk cause) = ⊥
 IsOfServing TooLarge = ⊤
 IsOfServing OutOfMemory = ⊤
 

@@ -18,7 +18,9 @@ pub mod Arguments
 pub mod Words
 pub mod CommandViews
 pub mod Commands
+pub mod Makings
 pub mod Imports
+pub mod Builds
 pub mod StoreSessions
 pub mod Exports
 pub mod Calls

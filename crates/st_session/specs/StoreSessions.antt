@@ -10,7 +10,7 @@ use Rattle.st_store.specs.Names.{roots_file, IsNoFileOf}
 use Rattle.st_store.specs.Stored.{IsOpening}
 use Rattle.st_store.specs.declared.fault.StoreFault.TheVariants as store
 use Rattle.st_course.specs.declared.status.Status.{Status}
-use Rattle.st_course.specs.declared.status.Status.TheVariants.{Done, Usage, Image, Script, ReadFault, SayFault, DiskFault, Store, TooLarge, OutOfMemory}
+use Rattle.st_course.specs.declared.status.Status.TheVariants.{Done, Usage, Image, Script, ReadFault, SayFault, DiskFault, Store, Kernel, TooLarge, OutOfMemory}
 use Rattle.st_course.specs.Acknowledged.{Promised}
 use Rattle.st_course.specs.Courses.{Course, deeds_of, commits_of, IsEnd}
 use Rattle.st_course.specs.Done.{RestsAsOne}
@@ -50,6 +50,7 @@ IsOfSession told name f (Image fault) = told → RefusesOpening name f (opening.
 IsOfSession told name f (Store store.Missing) = told → RefusesOpening name f (opening.Store store.Missing)
 IsOfSession told name f (Store (store.NotAStore place)) = told → RefusesOpening name f (opening.Store (store.NotAStore place))
 IsOfSession told name f (Store _) = ⊥
+IsOfSession told name f (Kernel chunk cause) = ⊥
 IsOfSession told name f _ = ⊤
 
 module _ {D : Type 0} (host : Ghosts D) (name : List ℕ) where

@@ -1,4 +1,4 @@
-ghost use Rattle.std.specs.Prelude.{◌≡◌, ◌≤◌, ◌^◌, length, IsTrue, IfOk, IfErr, OnOk, None};
+ghost use Rattle.std.specs.Prelude.{◌≡◌, IsTrue, IfOk, IfErr, OnOk, None};
 ghost use Rattle.st_outside.specs.Files.{bytes_of};
 ghost use Rattle.st_outside.specs.Runs.{OnlyReads, ReadsAlike};
 ghost use Rattle.st_model.specs.Objects.{nil};
@@ -13,38 +13,15 @@ ghost use Rattle.st_recover.specs.Openings.{IsReadable, IsFaulty};
 ghost use Rattle.st_session.specs.Commands.{IsImageRefusal, RefusalHasCause};
 ghost use Rattle.st_session.specs.Imports.{IsReadableOver, IsFaultyOver};
 
+use crate::file::read_file;
 use crate::image_refusal::ImageRefusal;
 use st_frames::Loaded;
 use st_image::{HeadValues, ReadImage, read};
 use st_machine::Machine;
 use st_memory::Loader;
-use st_outside::{Host, file_length, read_from};
+use st_outside::Host;
 use st_world::World;
 use std::alloc::Global;
-
-/// The most bytes that an image file may have, 2^23.
-const LONGEST_IMAGE: u64 = 8_388_608;
-
-/// The bytes of a file of at most 2^23. An absent one is read as an empty one.
-fn read_file<H: Host>(alloc: Global, host: &mut H, name: &str) -> Result<Vec<u8>, ImageRefusal>
-    ensures bytes { IfOk result (λ v. IsTrue H.is_told →
-        v.items ≡ bytes_of (H.files host.old name.now)) }
-    ensures short { IfOk result (λ v. length v.items ≤ 2 ^ 23) }
-    ensures refused { IfErr result (λ e. IsTrue H.is_told →
-        IsImageRefusal (λ _ _. ⊥) (bytes_of (H.files host.old name.now)) e) }
-    ensures alike { OnOk result (ReadsAlike H.Host.own host.old host.new) }
-    ensures cause { IfErr result (RefusalHasCause H.Host.own host.old host.new) }
-    ensures reads { OnlyReads H.Host.own host.old host.new }
-{
-    let length = file_length(host, name)?.unwrap_or(0);
-    if length > LONGEST_IMAGE {
-        return Err(ImageRefusal::TooLarge);
-    }
-    let mut bytes = vec![in alloc; 0; length as usize]?;
-    let count = read_from(host, name, 0, &mut bytes)?;
-    bytes.truncate(count);
-    Ok(bytes)
-}
 
 /// The memory and registers of the image in a file, read with these values in place of those of its head, where that has at most
 /// 2^23 bytes and is well-formed with them. Nothing is held but by the registers. No file is changed.

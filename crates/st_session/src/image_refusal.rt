@@ -1,9 +1,9 @@
 ghost use Rattle.std.specs.Prelude.{◌≡◌};
 ghost use Rattle.st_session.specs.Commands.{status_of};
 
+use crate::file::FileRefusal;
 use st_course::Status;
 use st_model::ImageFault;
-use st_outside::HostFault;
 use std::alloc::AllocError;
 
 /// Why an image isn't read, or no machine started over it.
@@ -33,14 +33,18 @@ impl ImageRefusal {
     }
 }
 
-impl From<HostFault> for ImageRefusal {
+impl From<FileRefusal> for ImageRefusal {
     ghost use Rattle.std.specs.Prelude.{◌≡◌};
-    ghost use Rattle.st_session.specs.declared.image_refusal.ImageRefusal.TheVariants.{DiskFault};
+    ghost use Rattle.st_session.specs.Commands.{by_file};
 
-    ghost from_gives = { λ _ r. r ≡ DiskFault };
+    ghost from_gives = { λ refusal r. r ≡ by_file refusal };
 
-    fn from(_fault: HostFault) -> ImageRefusal {
-        ImageRefusal::DiskFault
+    fn from(refusal: FileRefusal) -> ImageRefusal {
+        match refusal {
+            FileRefusal::TooLarge => ImageRefusal::TooLarge,
+            FileRefusal::DiskFault => ImageRefusal::DiskFault,
+            FileRefusal::OutOfMemory => ImageRefusal::OutOfMemory,
+        }
     }
 }
 

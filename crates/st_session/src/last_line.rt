@@ -64,6 +64,9 @@ fn push_last_line<H: Host>(out: &mut Output, host: &mut H, status: Status) -> Re
         Status::ReadFault => push_line(out, host, b"read fault", &[]),
         Status::DiskFault => push_line(out, host, b"disk fault", &[]),
         Status::Store(fault) => push_store(out, host, fault),
+        Status::Kernel { chunk, cause } => {
+            push_line(out, host, b"kernel", &[chunk, u32::from(cause)])
+        }
         Status::TooLarge => push_line(out, host, b"too large", &[]),
         Status::OutOfMemory => push_line(out, host, b"out of memory", &[]),
     }

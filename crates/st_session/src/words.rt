@@ -1,6 +1,6 @@
 ghost use Rattle.std.specs.Prelude.{◌≡◌, map, option_map};
 ghost use Rattle.std.specs.String.{string_bytes};
-ghost use Rattle.st_session.specs.Words.{once_of, import_of, export_of, session_of, has_values, command_named, command_of};
+ghost use Rattle.st_session.specs.Words.{once_of, import_of, export_of, session_of, build_of, has_values, command_named, command_of};
 ghost use Rattle.st_session.specs.CommandViews.{operands_view, arguments_view, command_view};
 
 use crate::arguments::{Arguments, Operands, read_arguments, read_number};
@@ -27,6 +27,11 @@ pub enum Command<'a> {
     },
     /// A session over a store.
     Session {
+        store: &'a str,
+    },
+    /// The making of a store of the image that a kernel text builds.
+    Build {
+        kernel: &'a str,
         store: &'a str,
     },
 }
@@ -77,6 +82,16 @@ fn session(operands: Operands<'_>) -> Option<Command<'_>>
     }
 }
 
+/// The command of `KERNEL STORE`.
+fn build(operands: Operands<'_>) -> Option<Command<'_>>
+    ensures { option_map command_view result ≡ build_of (operands_view operands.entry) }
+{
+    match operands {
+        Operands::Two(kernel, store) => Some(Command::Build { kernel, store }),
+        Operands::Empty | Operands::One(_) => None,
+    }
+}
+
 /// Whether any value is there.
 fn has_values(values: HeadValues) -> bool
     ensures { result ≡ has_values values }
@@ -103,6 +118,8 @@ fn command_named<'a>(name: &str, arguments: Arguments<'a>) -> Option<Command<'a>
         export(arguments.operands)
     } else if name == "session" {
         session(arguments.operands)
+    } else if name == "build" {
+        build(arguments.operands)
     } else {
         None
     }

@@ -5,7 +5,7 @@ use Rattle.st_image.specs.Rows.{IsReadFault}
 use Rattle.st_image.specs.declared.error.ReadImage.{ReadImage}
 use Rattle.st_image.proofs.Saved.{read_starts}
 use Rattle.st_session.specs.Imports.{IsFaultyOver}
-use Rattle.st_session.proofs.Started.{readable, started, faulty, unread_in}
+use Rattle.st_session.proofs.Started.{readable, started, faulty, unread_in, cause_in}
 use Rattle.st_session.proofs.image.read_image.Goals as goal
 
 pub returns-in-Ok-clause-readable : goal.returns-in-Ok-clause-readable
@@ -22,6 +22,10 @@ returns-in-Ok-clause-start g c told =
 pub returns-in_err-bytes-clause-refused : goal.returns-in_err-bytes-clause-refused
 returns-in_err-bytes-clause-refused g c =
     unread_in (IsTrue g.H.Host.is_told) (IsFaultyOver c.args.over.now) (bytes_of (g.H.Host.files c.args.host.now c.args.name.now)) c.in_err-bytes.field-0.0 c.from_residual.result c.from_residual.ensures.1 c.in_err-bytes.ensures.refused
+
+pub returns-in_err-bytes-clause-cause : goal.returns-in_err-bytes-clause-cause
+returns-in_err-bytes-clause-cause g c =
+    cause_in g.H.Host c.args.host.now c.read_file.new.host c.in_err-bytes.field-0.0 c.from_residual.result c.from_residual.ensures.1 c.in_err-bytes.ensures.cause
 
 pub returns-in-Ok-clause-starts : goal.returns-in-Ok-clause-starts
 returns-in-Ok-clause-starts g c = read_starts _ _ _ _ c.in-Ok.ensures.start

@@ -1,0 +1,51 @@
+-- What the building of a kernel text says of the file that its bytes come from.
+use Rattle.std.proofs.Common.{◌≡◌, ℕ, List, ◌∙◌, sym, ap, subst, arith}
+use Rattle.std.specs.Prelude.{Result, Ok, Err}
+use Rattle.st_outside.specs.declared.host.Host.{Ghosts}
+use Rattle.st_course.specs.declared.status.Status.{Status}
+use Rattle.st_course.specs.declared.status.Status.TheVariants as status
+use Rattle.st_course.specs.Statuses.{StatusHasCause}
+use Rattle.st_kernel.specs.Built.{Built, Fault}
+use Rattle.st_session.specs.declared.file.FileRefusal.{FileRefusal}
+use Rattle.st_session.specs.declared.file.FileRefusal.TheVariants as file
+use Rattle.st_session.specs.Builds.{Builds, IsWrongKernel}
+use Rattle.st_session.specs.Commands.{file_status, IsFileRefusal, FileHasCause}
+use Rattle.st_session.specs.Makings.{Contents, IsUnread}
+
+-- one text builds one thing
+contents_of : Contents → Result Built Fault → Contents
+contents_of c (Ok b) = record { objects = b.objects; head = b.head }
+contents_of c (Err fault) = c
+
+pub built_as : (text : List ℕ) (c x : Contents) → Builds text c → x ≡ c → Builds text x
+built_as text c x is same = subst (Builds text) (sym same) is
+
+pub one_built : (text : List ℕ) (x c : Contents) → Builds text x → Builds text c → x ≡ c
+unfolding contents_of
+one_built text x c one two = ap (contents_of c) (sym one.is ∙ two.is)
+
+-- a text that is right isn't wrong
+pub kernel_clash : (told : Type 0) (text : List ℕ) (c : Contents) (e : Status) → told → Builds text c → IsWrongKernel told text e → ⊥
+kernel_clash told text c (status.Kernel chunk cause) t is why = let clash = sym is.is ∙ (why t).is in cc
+kernel_clash told text c status.TooLarge t is why = let short = is.short in let long = why t in omega (arith, short, long)
+kernel_clash told text c status.Done t is why = why
+kernel_clash told text c status.Usage t is why = why
+kernel_clash told text c (status.Image f) t is why = why
+kernel_clash told text c (status.Script n) t is why = why
+kernel_clash told text c status.ReadFault t is why = why
+kernel_clash told text c status.SayFault t is why = why
+kernel_clash told text c status.DiskFault t is why = why
+kernel_clash told text c (status.Store f) t is why = why
+kernel_clash told text c status.OutOfMemory t is why = why
+
+-- THE FILE ISN'T READ
+
+pub kernel_unread : (told : Type 0) (text : List ℕ) (r : FileRefusal) → (told → IsFileRefusal text r) → IsUnread (IsWrongKernel told text) (file_status r)
+kernel_unread told text file.TooLarge why = why
+kernel_unread told text file.DiskFault why = tt
+kernel_unread told text file.OutOfMemory why = tt
+
+pub kernel_cause : {D : Type 0} (host : Ghosts D) (old new : D) (r : FileRefusal) → FileHasCause host old new r → StatusHasCause host ⊥ old new (file_status r)
+kernel_cause host old new file.TooLarge cause = tt
+kernel_cause host old new file.DiskFault cause = cause
+kernel_cause host old new file.OutOfMemory cause = tt

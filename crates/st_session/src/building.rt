@@ -1,0 +1,64 @@
+//! The command `build`.
+
+ghost use Rattle.std.specs.Prelude.{IsTrue, IfOk, IfErr, OnOk};
+ghost use Rattle.st_outside.specs.Files.{bytes_of};
+ghost use Rattle.st_outside.specs.Runs.{OnlyReads, ReadsAlike};
+ghost use Rattle.st_image.specs.Back.{CanStart};
+ghost use Rattle.st_course.specs.Statuses.{StatusHasCause};
+ghost use Rattle.st_session.specs.Makings.{contents_in, IsUnread};
+ghost use Rattle.st_session.specs.Builds.{Builds, IsWrongKernel, BuildEnds};
+
+use crate::compiler::Compiler;
+use crate::file::read_file;
+use crate::last_line::refuse;
+use crate::making::{Origin, make};
+use st_course::Status;
+use st_kernel::KernelFault;
+use st_memory::{Loader, Memory};
+use st_outside::Host;
+use std::alloc::Global;
+
+/// The memory that the kernel text in a file builds, where that has at most 2^23 bytes and no cause stands in it; or the status
+/// of a call that ends so. No file is changed.
+fn build_memory<H: Host, L: Loader>(
+    alloc: Global,
+    host: &mut H,
+    name: &str,
+) -> Result<L::Done, Status>
+    ensures builds { IfOk result (λ m. IsTrue H.is_told →
+        Builds (bytes_of (H.files host.old name.now)) (contents_in (L.Done.view m))) }
+    ensures starts { IfOk result (λ m. CanStart (L.Done.view m)) }
+    ensures refused { let text = bytes_of (H.files host.old name.now) in
+        IfErr result (IsUnread (IsWrongKernel (IsTrue H.is_told) text)) }
+    ensures alike { OnOk result (ReadsAlike H.Host.own host.old host.new) }
+    ensures cause { IfErr result (StatusHasCause H.Host.own ⊥ host.old host.new) }
+    ensures reads { OnlyReads H.Host.own host.old host.new }
+{
+    let text = match read_file(alloc, host, name) {
+        Ok(text) => text,
+        Err(refusal) => return Err(refusal.status()),
+    };
+    match st_kernel::build::<Compiler, L>(alloc, &text) {
+        Ok(memory) => Ok(memory),
+        Err(KernelFault::At { chunk, cause }) => Err(Status::Kernel { chunk, cause }),
+        Err(KernelFault::OutOfMemory) => Err(Status::OutOfMemory),
+    }
+}
+
+/// The command `build`: builds the image of a kernel text, makes a store of it, and says how many objects and words it has. The
+/// text is read before the store is looked for, and an absent file as an empty text. A stop at any moment leaves what could be
+/// left before, or, where there was no store, files that are none's, or that open as the new store; once `built` was said they do
+/// that.
+pub fn build<H: Host, L: Loader>(alloc: Global, host: &mut H, kernel: &str, store: &str) -> Status
+    ensures ends { BuildEnds H.Host.own (bytes_of (H.files host.old kernel.now)) store.now
+        host.old host.new result }
+    ensures cause { StatusHasCause H.Host.own ⊥ host.old host.new result }
+{
+    match build_memory::<H, L>(alloc, host, kernel) {
+        Ok(memory) => make(alloc, host, Origin::Kernel, &memory, store),
+        Err(status) => {
+            refuse(host, status);
+            status
+        }
+    }
+}
