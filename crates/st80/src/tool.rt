@@ -7,17 +7,18 @@ ghost use Rattle.st_outside.specs.Runs.{ReadsAndSays};
 ghost use Rattle.st_image.specs.declared.head.HeadValues.{HeadValues};
 ghost use Rattle.st_course.specs.Statuses.{StatusHasCause, number_of};
 ghost use Rattle.st_course.specs.declared.status.Status.TheVariants.{Usage};
+ghost use Rattle.st_session.specs.Builds.{BuildEnds};
 ghost use Rattle.st_session.specs.Calls.{OnlySays, CallEnds};
 ghost use Rattle.st_session.specs.Commands.{OnceEnds, SaysLastLine};
 ghost use Rattle.st_session.specs.Exports.{ExportEnds};
 ghost use Rattle.st_session.specs.Imports.{ImportEnds};
 ghost use Rattle.st_session.specs.StoreSessions.{SessionCommandEnds};
-ghost use Rattle.st_session.specs.Words.{command_of, Once, Import, Export, Session};
+ghost use Rattle.st_session.specs.Words.{command_of, Once, Import, Export, Session, Build};
 
 use st_counted::CountedLoader;
 use st_course::Status;
 use st_outside::{Host, Source};
-use st_session::{Command, export, import, once, read_command, refuse, session};
+use st_session::{Command, build, export, import, once, read_command, refuse, session};
 use std::alloc::Global;
 use std::process::ExitCode;
 
@@ -26,7 +27,8 @@ use std::process::ExitCode;
 /// `once IMAGE N` reads the image file IMAGE, runs N cycles of its machine, and says the run's end and what the machine shows
 /// then. `import IMAGE STORE` makes a store of an image, with the values of options in place of those of its head. `export STORE
 /// IMAGE` writes an image of what a store holds. `session STORE` opens a store, and follows a script over what it holds, whose bytes
-/// are taken from the source. No file is changed but the store's, and the image's by `export`.
+/// are taken from the source. `build KERNEL STORE` makes a store of the image that a kernel text builds. No file is changed but the
+/// store's, and the image's by `export`.
 ///
 /// For every well-formed image, script and n, after n bytecodes the kept objects, display, input state and output are those of
 /// the book's interpreter over objects never reclaimed or moved. A halt for space comes exactly where the table or the heap
@@ -53,6 +55,9 @@ pub fn tool<H: Host, S: Source>(
         (store : List ℕ) → command_of (map string_bytes words.now) ≡ Some (Session store)
         → SessionCommandEnds H.Host.own store (IsTrue S.is_told) reads
         (S.remaining script.old) (S.remaining script.new) host.old host.new result }
+    ensures builds { (kernel store : List ℕ)
+        → command_of (map string_bytes words.now) ≡ Some (Build kernel store)
+        → BuildEnds H.Host.own (bytes_of (H.files host.old kernel)) store host.old host.new result }
     ensures cause { StatusHasCause H.Host.own (Rose (S.read_faults script.old) (S.read_faults script.new))
         host.old host.new result }
     ensures says { OnlySays (command_of (map string_bytes words.now))
@@ -70,6 +75,9 @@ pub fn tool<H: Host, S: Source>(
         }
         Some(Command::Session { store }) => {
             session::<H, CountedLoader, S>(alloc, host, script, store)
+        }
+        Some(Command::Build { kernel, store }) => {
+            build::<H, CountedLoader>(alloc, host, kernel, store)
         }
         None => {
             refuse(host, Status::Usage);

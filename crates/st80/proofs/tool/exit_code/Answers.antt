@@ -12,6 +12,7 @@ returns g c = record {
       imports = c.tool.ensures.imports;
       exports = c.tool.ensures.exports;
       session = c.tool.ensures.session;
+      builds = c.tool.ensures.builds;
       cause = c.tool.ensures.cause;
       says = c.tool.ensures.says;
     },
