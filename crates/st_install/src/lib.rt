@@ -27,5 +27,5 @@ pub use installing::install;
 pub use laws::{install_gains, install_shows_births};
 pub use plan::Ready;
 pub use readiness::ready;
-pub use symbols::symbol_named;
 pub use st_names::{InstallFault, class_of_name, names};
+pub use symbols::symbol_named;
