@@ -2,8 +2,11 @@ use Rattle.std.proofs.Common.{◌≡◌, ◌∙◌, ℕ, List, [], Option, Some,
 use Rattle.st_outside.specs.Files.{bytes_of}
 use Rattle.st_session.specs.declared.words.Command as declared
 use Rattle.st_session.specs.CommandViews.{command_view}
+use Rattle.st_image.specs.declared.head.HeadValues.{HeadValues}
+use Rattle.st_session.specs.Builds.{BuildEnds}
 use Rattle.st_session.specs.Commands.{OnceEnds}
-use Rattle.st_session.specs.Words.{Command, Once}
+use Rattle.st_session.specs.Imports.{ImportEnds}
+use Rattle.st_session.specs.Words.{Command, Once, Import, Build}
 use Rattle.st80.proofs.tool.tool.Goals as goal
 
 abbrev image_in : Option Command → List ℕ
@@ -29,3 +32,26 @@ returns-in-Some-Once-clause-once g c image n is =
     let result = c.once.result in
     subst (λ (m : ℕ). OnceEnds g.H.Host (bytes_of (g.H.Host.files old image)) m old new result) (same_cycles arm.image.now image arm.cycles n said)
     (subst (λ (i : List ℕ). OnceEnds g.H.Host (bytes_of (g.H.Host.files old i)) arm.cycles old new result) (same_image arm.image.now image arm.cycles n said) c.once.ensures.ends)
+
+-- what is so of an import's words, and of a build's
+abbrev OfImport : (List ℕ → List ℕ → HeadValues → Type 0) → Option Command → Type 0
+OfImport P (Some (Import image store over)) = P image store over
+OfImport P _ = ⊥
+
+abbrev OfBuild : (List ℕ → List ℕ → Type 0) → Option Command → Type 0
+OfBuild P (Some (Build kernel store)) = P kernel store
+OfBuild P _ = ⊥
+
+pub returns-in-Some-Import-clause-imports : goal.returns-in-Some-Import-clause-imports
+returns-in-Some-Import-clause-imports g c image store over is =
+    let arm = c.in-Some-Import in
+    let said : Some (Import arm.image.now arm.store.now arm.over) ≡ Some (Import image store over) = sym (ap (λ (x : declared.Command). Some (command_view x)) arm.field-0-is) ∙ (arm.ensures ∙ is) in
+    let old = c.args.host.now in
+    subst (OfImport (λ i s o. ImportEnds g.H.Host o (bytes_of (g.H.Host.files old i)) s old c.import.new.host c.import.result)) said c.import.ensures.ends
+
+pub returns-in-Some-Build-clause-builds : goal.returns-in-Some-Build-clause-builds
+returns-in-Some-Build-clause-builds g c kernel store is =
+    let arm = c.in-Some-Build in
+    let said : Some (Build arm.kernel.now arm.store.now) ≡ Some (Build kernel store) = sym (ap (λ (x : declared.Command). Some (command_view x)) arm.field-0-is) ∙ (arm.ensures ∙ is) in
+    let old = c.args.host.now in
+    subst (OfBuild (λ k s. BuildEnds g.H.Host (bytes_of (g.H.Host.files old k)) s old c.build.new.host c.build.result)) said c.build.ensures.ends
