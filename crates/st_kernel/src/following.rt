@@ -57,7 +57,8 @@ pub(crate) fn follow<I: Installer, M: Memory>(
     requires short { length kernel.now.parts.items ≤ 2 ^ 32 - 2 }
     requires quiet { IsQuiet (M.view m.old) }
     ensures follows { (whole : Result Built Fault)
-        → IsUnderway I.install kernel.now.cause whole 1 no_side (parts_of kernel.now.parts.items) (M.view m.old)
+        → IsUnderway I.install kernel.now.cause whole 1 no_side
+        (parts_of kernel.now.parts.items) (M.view m.old)
         → Finishes whole result (M.view m.new) }
     ensures starts { IfOk result (λ u. CanStart (M.view m.new)) }
 {

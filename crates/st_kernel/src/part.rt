@@ -65,7 +65,8 @@ fn install_method<I: Installer, M: Memory>(
     requires good { IsDefinition (definition_by (side_in heading) text.now) }
     requires quiet { IsQuiet (M.view m.old) }
     ensures installs { (cause : Option ACause) (whole : Result Built Fault) (parts : List APart)
-        → IsUnderway I.install cause whole chunk (side_in heading.entry) (method text.now ∷ parts) (M.view m.old)
+        → IsUnderway I.install cause whole chunk (side_in heading.entry)
+        (method text.now ∷ parts) (M.view m.old)
         → Installs I.install cause whole chunk (side_in heading.entry) parts result (M.view m.new) }
     ensures quiet { IsQuiet (M.view m.new) }
 {
@@ -87,7 +88,8 @@ pub(crate) fn follow_part<'a, I: Installer, M: Memory>(
     requires good { AreDefinitions (side_in heading) (part_of part.now ∷ []) }
     requires quiet { IsQuiet (M.view m.old) }
     ensures follows { (cause : Option ACause) (whole : Result Built Fault) (parts : List APart)
-        → IsUnderway I.install cause whole chunk (side_in heading.entry) (part_of part.now ∷ parts) (M.view m.old)
+        → IsUnderway I.install cause whole chunk (side_in heading.entry)
+        (part_of part.now ∷ parts) (M.view m.old)
         → GoesOn I.install cause whole chunk (side_in heading.entry) parts result (M.view m.new) }
     ensures good { StaysGood (side_in heading.entry) (part_of part.now) result }
     ensures quiet { IsQuiet (M.view m.new) }

@@ -23,14 +23,14 @@ follow-requires-clause-short g c =
 pub follow-requires-clause-quiet : goal.follow-requires-clause-quiet
 follow-requires-clause-quiet g c =
     let a = account_of c.in_ok-kernel.kernel in
-    first_quiet (g.L.Done.Memory.view c.in-Ok.m) a.parts (c.in-Ok.ensures.view ∙ ap (λ ps. first_view (parts_of ps)) c.deref.ensures.value)
+    first_quiet (g.L.Done.Memory.view c.in-Ok.m) a.parts (c.in-Ok.ensures.made ∙ ap (λ ps. first_view (parts_of ps)) c.deref.ensures.value)
 
 pub returns-in_err-follow-in-Ok-clause-refused : goal.returns-in_err-follow-in-Ok-clause-refused
 returns-in_err-follow-in-Ok-clause-refused g c =
     let install = g.I.Installer.install in
     let a = account_of c.in_ok-kernel.kernel in
     let v = g.L.Done.Memory.view c.in-Ok.m in
-    let view = c.in-Ok.ensures.view ∙ ap (λ ps. first_view (parts_of ps)) c.deref.ensures.value in
+    let view = c.in-Ok.ensures.made ∙ ap (λ ps. first_view (parts_of ps)) c.deref.ensures.value in
     let room = sym (ap (λ ps. has_room (parts_of ps)) c.deref.ensures.value) ∙ c.in-Ok.ensures.room in
     let e : c.from_residual-in_err-follow-in-Ok.result ≡ Err c.in_err-follow-in-Ok.field-0.0 = search rules in
     let fault = c.in_err-follow-in-Ok.ensures.follows (followed install a) (first_underway install a v (g.met.L.Done.Memory.whole c.in-Ok.m) view) in
@@ -42,7 +42,7 @@ returns-in-Ok-clause-built g c =
     let install = g.I.Installer.install in
     let a = account_of c.in_ok-kernel.kernel in
     let v = g.L.Done.Memory.view c.in-Ok.m in
-    let view = c.in-Ok.ensures.view ∙ ap (λ ps. first_view (parts_of ps)) c.deref.ensures.value in
+    let view = c.in-Ok.ensures.made ∙ ap (λ ps. first_view (parts_of ps)) c.deref.ensures.value in
     let room = sym (ap (λ ps. has_room (parts_of ps)) c.deref.ensures.value) ∙ c.in-Ok.ensures.room in
     let image = c.in_ok-follow-in-Ok.ensures.follows (followed install a) (first_underway install a v (g.met.L.Done.Memory.whole c.in-Ok.m) view) in
     subst (λ w. IsBuilt w (g.L.Done.Memory.view c.follow.new.m)) (with_room install a c.args.text.now c.in_ok-kernel.ensures room) image
@@ -57,5 +57,5 @@ pub returns-in-Err-NoRoom-clause-refused : goal.returns-in-Err-NoRoom-clause-ref
 returns-in-Err-NoRoom-clause-refused g c =
     let install = g.I.Installer.install in
     let a = account_of c.in_ok-kernel.kernel in
-    let none = sym (ap (λ ps. has_room (parts_of ps)) c.deref.ensures.value) ∙ c.in-Err-NoRoom.ensures.none c.in-Err-NoRoom.field-0-is in
+    let none = sym (ap (λ ps. has_room (parts_of ps)) c.deref.ensures.value) ∙ c.in-Err-NoRoom.ensures.refused c.in-Err-NoRoom.field-0-is in
     subst (λ w. IsFaultOf w c.without_room.result) (roomless install a c.args.text.now c.in_ok-kernel.ensures none) c.without_room.ensures
