@@ -120,7 +120,8 @@ fn variable_fields<'a>(
     number: usize,
     names: &'a [Text],
 ) -> Result<Vec<Field<'a>>, AllocError>
-    ensures { IfOk result (λ fields. fields_of fields.items ≡ all_of (map (within Variable number) (texts_of names.now))) }
+    ensures { let strings = map (within Variable number) (texts_of names.now) in
+        IfOk result (λ fields. fields_of fields.items ≡ all_of strings) }
 {
     let mut fields = Vec::new(alloc);
     for name in names {
@@ -248,7 +249,8 @@ impl<'a> Plan<'a> {
 
     /// The class variables of the class of this name, in the order of their making.
     fn shared(&self, alloc: Global, class: &[u8]) -> Result<Vec<Field<'a>>, AllocError>
-        ensures { IfOk result (λ fields. fields_of fields.items ≡ members self.now (is_shared_of self.now class.now)) }
+        ensures { let all = members self.now (is_shared_of self.now class.now) in
+            IfOk result (λ fields. fields_of fields.items ≡ all) }
     {
         let mut fields = Vec::new(alloc);
         for i in 0..self.order.count() {
@@ -262,7 +264,8 @@ impl<'a> Plan<'a> {
 
     /// So many places of the symbol table.
     fn table(&self, alloc: Global, places: usize) -> Result<Vec<Field<'a>>, AllocError>
-        ensures { IfOk result (λ fields. fields_of fields.items ≡ padded places (members self.now (is Symbol))) }
+        ensures { let symbols = members self.now (is Symbol) in
+            IfOk result (λ fields. fields_of fields.items ≡ padded places symbols) }
     {
         let members = self.members(alloc, What::Symbol)?;
         let mut fields = Vec::new(alloc);

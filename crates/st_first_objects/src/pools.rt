@@ -27,7 +27,7 @@ impl<'a> Model for Pools<'a> {
 
     ghost view = { λ p. parts_of p.parts.now };
 
-    ghost invariant = { λ p. (name : List ℕ) → is_listed p.classes.keys name ≡ has_pool (parts_of p.parts.now) name };
+    ghost invariant = { λ p. (n : List ℕ) → is_listed p.classes.keys n ≡ has_pool (parts_of p.parts.now) n };
 }
 
 /// A class more, if the part gives one class variables.
@@ -46,7 +46,7 @@ fn add<'a>(classes: &mut IndexSet<&'a [u8]>, part: &'a Part) -> Result<(), Alloc
 
 /// The names of the classes to which parts give class variables.
 fn classes_of<'a>(alloc: Global, parts: &'a [Part]) -> Result<IndexSet<&'a [u8]>, AllocError>
-    ensures { IfOk result (λ s. (name : List ℕ) → is_listed s.keys name ≡ has_pool (parts_of parts.now) name) }
+    ensures { IfOk result (λ s. (n : List ℕ) → is_listed s.keys n ≡ has_pool (parts_of parts.now) n) }
 {
     let mut classes = IndexSet::new(alloc);
     for part in parts {

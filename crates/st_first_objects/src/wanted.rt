@@ -35,7 +35,8 @@ fn want_variables<'a>(
     number: usize,
     names: &'a [Text],
 ) -> Result<(), AllocError>
-    ensures { OnOk result (order.new ≡ want_all order.old (map (within Variable number) (texts_of names.now))) }
+    ensures { let strings = map (within Variable number) (texts_of names.now) in
+        OnOk result (order.new ≡ want_all order.old strings) }
 {
     for name in names {
         order.want(Thing::within(What::Variable, number, name))?;

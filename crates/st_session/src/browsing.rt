@@ -43,7 +43,8 @@ pub(crate) fn answer_ask<H: Host, M: Memory>(
     ask: Ask<'_>,
 ) -> Result<(), Status>
     requires go_on { MayGoOn M.view machine.now archive.now }
-    ensures follows { Follows M.view H.Host.own (λ p. browse_course in_a_store p.being p.kept (ask_of ask.entry))
+    ensures follows { Follows M.view H.Host.own
+        (λ p. browse_course in_a_store p.being p.kept (ask_of ask.entry))
         machine.now archive.now host.old result machine.now archive.now host.new }
     ensures counts { Counts H.Host.own ⊥ host.old host.new result }
     ensures served { IfErr result IsOfServing }

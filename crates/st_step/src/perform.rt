@@ -3,7 +3,6 @@ ghost use Rattle.st_model.specs.Values.{word};
 ghost use Rattle.st_model.specs.Outcomes.{end_of};
 ghost use Rattle.st_model.specs.Deeds.{deed_of_end};
 ghost use Rattle.st_model.specs.Sends.{call_of};
-ghost use Rattle.st_model.specs.Methods.{extension_arguments, arguments_by_extension, arguments_by, method_arguments};
 ghost use Rattle.st_model.specs.Executing.{takes, execute_found, drop_selector, spread_array, perform, primitive_perform, spreading, primitive_perform_with, perform_or_activate};
 ghost use Rattle.st_model.specs.Calls.{itself};
 ghost use Rattle.st_lookup.specs.Places.{found_word};
@@ -15,44 +14,8 @@ use st_control::not_understood;
 use st_frames::{Registers, check_class, drop_words, set_stack_pointer, top, under};
 use st_lookup::look_up;
 use st_memory::Objects;
-use st_method::Header;
+use st_method::{Header, method_arguments};
 use st_model::{Call, Dead, PageObject, StepEnd, Word};
-
-/// The number of arguments that a header extension names.
-#[tactic(auto, using(st_method::proofs::Bits::arguments), unfolding(st_model::specs::Methods::extension_arguments))]
-fn extension_arguments<O: Objects>(m: &O, r: &Registers, extension: Word) -> Result<u32, Dead>
-    ensures does { RowReads O.Objects.own (extension_arguments (word extension))
-        itself m.now r.now result }
-{
-    if extension.is_small() {
-        Ok(extension.0 / 2 / 256 % 32)
-    } else {
-        Err(Dead::NotSmall)
-    }
-}
-
-/// How many arguments a method of this flag takes.
-#[tactic(auto, using(st_frames::proofs::Doing::rows), unfolding(st_model::specs::Methods::arguments_by, st_model::specs::Methods::arguments_by_extension))]
-fn arguments_by<O: Objects>(m: &O, r: &Registers, method: Word, flag: u32) -> Result<u32, Dead>
-    ensures does { RowReads O.Objects.own (arguments_by O.names (word method) flag)
-        itself m.now r.now result }
-{
-    if flag == 7 {
-        let extension = m.literal_from_last(method, 1)?;
-        return extension_arguments(m, r, extension);
-    }
-    if flag < 5 { Ok(flag) } else { Ok(0) }
-}
-
-/// How many arguments a method takes.
-#[tactic(auto, using(st_frames::proofs::Doing::rows), unfolding(st_model::specs::Methods::method_arguments))]
-fn method_arguments<O: Objects>(m: &O, r: &Registers, method: Word) -> Result<u32, Dead>
-    ensures does { RowReads O.Objects.own (method_arguments O.names (word method))
-        itself m.now r.now result }
-{
-    let header = Header(m.method_header(method)?);
-    arguments_by(m, r, method, header.flag())
-}
 
 /// Whether the method takes n arguments, where one was found; where none was, whatever is given is taken.
 #[tactic(auto, using(st_frames::proofs::Doing::rows), unfolding(st_model::specs::Executing::takes))]
@@ -62,7 +25,7 @@ fn takes<O: Objects>(m: &O, r: &Registers, n: u32, found: Option<Word>) -> Resul
     match found {
         None => Ok(true),
         Some(method) => {
-            let taken = method_arguments(m, r, method)?;
+            let taken = method_arguments(m, method)?;
             Ok(taken == n)
         }
     }
