@@ -1,77 +1,93 @@
-use Rattle.std.proofs.Common.{◌≡◌, ℕ, zero, suc, ◌+◌, ◌-◌, ◌*◌, ◌/◌, ◌%◌, ◌^◌, ◌<◌, ◌≤◌, min, max, bit_and, bit_or, arith, refl, sym, ◌∙◌, ap, List, get_or}
+use Rattle.std.proofs.Common.{◌≡◌, ℕ, zero, suc, ◌+◌, ◌-◌, ◌*◌, ◌/◌, ◌%◌, ◌^◌, ◌<◌, ◌≤◌, min, bit_and, bit_or, arith, refl, sym, ◌∙◌, ap, List, get_or}
 use Rattle.std.specs.Int.{bit_at, w16}
-use Rattle.std.proofs.lemmas.Nat.{shr-shr, one_shl, pow_pos}
-use Rattle.std.proofs.lemmas.Grind.{or_after_shift}
-use Rattle.std.proofs.lemmas.Nat.Bits.{bit_at_and, bit_at_or, bit_at_not, bit_at-lt, bit_at_ones, bit_at_cat_low, bit_at_cat_high, bit_at_mask_inside, bit_at_mask_below, bit_at_mask_above}
+use Rattle.std.specs.Int.Bits.{bit_xor}
+use Rattle.std.proofs.lemmas.Nat.{shr-shr, shr_split, one_shl, pow_pos}
+use Rattle.std.proofs.lemmas.Nat.Bits.{bit_at_and, bit_at_or, bit_at_xor, bit_at_not, bit_at-lt, bit_at-zero, bit_at_above, bit_at_ones, bit_at_cat_low, bit_at_cat_high, bit_at_mask_inside, bit_at_mask_below, bit_at_mask_above}
 use Rattle.std.proofs.Math.Pow.{pow_mono}
 use Rattle.st_model.specs.Pixels.{combine, pixel}
 use Rattle.st_bitblt.specs.Rules.{IsSpread, number_of_words}
 
 -- What the bits of words are that were combined, joined and masked.
--- The four terms of a rule, at one bit of each word.
+-- What is chosen by a bit: of two others, by the first where it is 1 and else by the second.
 weights : (f : ℕ → ℕ) (s d : ℕ) → s < 2 → d < 2 → ((k : ℕ) → f k < 2)
-    → max (max (max (min (min s d) (f 0)) (min (min s (1 - d)) (f 1))) (min (min (1 - s) d) (f 2))) (min (min (1 - s) (1 - d)) (f 3)) ≡ f (3 - (2 * s + d))
+    → (min d (((min s ((f 0 + f 2) % 2) + f 2) % 2 + (min s ((f 1 + f 3) % 2) + f 3) % 2) % 2) + (min s ((f 1 + f 3) % 2) + f 3) % 2) % 2 ≡ f (3 - (2 * s + d))
 weights f zero zero hs hd hf = let h : f 3 < 2 = hf 3 in omega arith
-weights f zero (suc zero) hs hd hf = let h : f 2 < 2 = hf 2 in omega arith
+weights f zero (suc zero) hs hd hf =
+    let h : f 2 < 2 = hf 2 in
+    let k : f 3 < 2 = hf 3 in
+    omega arith
 weights f zero (suc (suc d)) hs hd hf = omega arith
-weights f (suc zero) zero hs hd hf = let h : f 1 < 2 = hf 1 in omega arith
-weights f (suc zero) (suc zero) hs hd hf = let h : f 0 < 2 = hf 0 in omega arith
+weights f (suc zero) zero hs hd hf =
+    let h : f 1 < 2 = hf 1 in
+    let k : f 3 < 2 = hf 3 in
+    omega arith
+weights f (suc zero) (suc zero) hs hd hf =
+    let h : f 0 < 2 = hf 0 in
+    let i : f 1 < 2 = hf 1 in
+    let j : f 2 < 2 = hf 2 in
+    let k : f 3 < 2 = hf 3 in
+    omega arith
 weights f (suc zero) (suc (suc d)) hs hd hf = omega arith
 weights f (suc (suc s)) d hs hd hf = omega arith
 
 pub ones_bit : (j : ℕ) → j < 16 → bit_at 65535 j ≡ 1
 ones_bit j h = bit_at_ones 16 j h
 
-pub rule_words : (rule s d a b c e j : ℕ) → j < 16 → s < 2 ^ 16 → d < 2 ^ 16
+-- what a rule's four words make of two others
+abbrev combined : (s d a b c e : ℕ) → ℕ
+combined s d a b c e = bit_xor (bit_and d (bit_xor (bit_xor (bit_and s (bit_xor a c)) c) (bit_xor (bit_and s (bit_xor b e)) e))) (bit_xor (bit_and s (bit_xor b e)) e)
+
+rule_words : (rule s d a b c e j : ℕ)
     → bit_at a j ≡ bit_at rule 0 → bit_at b j ≡ bit_at rule 1 → bit_at c j ≡ bit_at rule 2 → bit_at e j ≡ bit_at rule 3
-    → bit_at (bit_or (bit_or (bit_or (bit_and (bit_and s d) a) (bit_and (bit_and s (65535 - d)) b)) (bit_and (bit_and (65535 - s) d) c)) (bit_and (bit_and (65535 - s) (65535 - d)) e)) j
-    ≡ combine rule (bit_at s j) (bit_at d j)
-rule_words rule s d a b c e j h hs hd ha hb hc he =
-    let ns : bit_at (65535 - s) j ≡ 1 - bit_at s j = bit_at_not w16 s j hs h in
-    let nd : bit_at (65535 - d) j ≡ 1 - bit_at d j = bit_at_not w16 d j hd h in
-    simp (bit_at_or, bit_at_and, ns, nd, ha, hb, hc, he) (weights (bit_at rule) (bit_at s j) (bit_at d j) (bit_at-lt s j) (bit_at-lt d j) (bit_at-lt rule))
+    → bit_at (combined s d a b c e) j ≡ combine rule (bit_at s j) (bit_at d j)
+rule_words rule s d a b c e j ha hb hc he =
+    simp (bit_at_xor, bit_at_and, ha, hb, hc, he) (weights (bit_at rule) (bit_at s j) (bit_at d j) (bit_at-lt s j) (bit_at-lt d j) (bit_at-lt rule))
 
 rule_bits : (x y z w : ℕ) → x < 2 → y < 2 → z < 2 → w < 2
     → (bit_at (x + 2 * y + 4 * z + 8 * w) 0 ≡ x) × (bit_at (x + 2 * y + 4 * z + 8 * w) 1 ≡ y) × (bit_at (x + 2 * y + 4 * z + 8 * w) 2 ≡ z) × (bit_at (x + 2 * y + 4 * z + 8 * w) 3 ≡ w)
 rule_bits x y z w hx hy hz hw = (omega arith, omega arith, omega arith, omega arith)
 
--- what a rule's four words make of two others
-pub combined_bit : (rule s d a b c e j : ℕ) → j < 16 → s < 2 ^ 16 → d < 2 ^ 16 → rule ≡ number_of_words a b c e → IsSpread a → IsSpread b → IsSpread c → IsSpread e
-    → bit_at (bit_or (bit_or (bit_or (bit_and (bit_and s d) a) (bit_and (bit_and s (65535 - d)) b)) (bit_and (bit_and (65535 - s) d) c)) (bit_and (bit_and (65535 - s) (65535 - d)) e)) j
-    ≡ combine rule (bit_at s j) (bit_at d j)
-combined_bit rule s d a b c e j h hs hd is sa sb sc se =
+pub combined_bit : (rule s d a b c e j : ℕ) → j < 16 → rule ≡ number_of_words a b c e → IsSpread a → IsSpread b → IsSpread c → IsSpread e
+    → bit_at (combined s d a b c e) j ≡ combine rule (bit_at s j) (bit_at d j)
+combined_bit rule s d a b c e j h is sa sb sc se =
     let r = rule_bits (bit_at a 0) (bit_at b 0) (bit_at c 0) (bit_at e 0) (bit_at-lt a 0) (bit_at-lt b 0) (bit_at-lt c 0) (bit_at-lt e 0) in
-    rule_words rule s d a b c e j h hs hd
+    rule_words rule s d a b c e j
     (sa j h ∙ sym (ap (λ x. bit_at x 0) is ∙ r.0)) (sb j h ∙ sym (ap (λ x. bit_at x 1) is ∙ r.1))
     (sc j h ∙ sym (ap (λ x. bit_at x 2) is ∙ r.2)) (se j h ∙ sym (ap (λ x. bit_at x 3) is ∙ r.3))
 
 shifted : (n k j : ℕ) → bit_at (n / 2 ^ k) j ≡ bit_at n (k + j)
 shifted n k j = ap (λ x. x % 2) (shr-shr n k j)
 
+-- the lowest sixteen bits of a word that was shifted up
+low_bits : (n j : ℕ) → j < 16 → bit_at (n % 65536) j ≡ bit_at n j
+low_bits n j h = sym (bit_at_cat_low (n / 2 ^ 16) 16 (n % 2 ^ 16) j h) ∙ ap (λ x. bit_at x j) (shr_split n 16)
+
+shifted_up : (l skip j : ℕ) → skip ≤ j → j < 16 → bit_at (l * 2 ^ skip % 65536) j ≡ bit_at l (j - skip)
+shifted_up l skip j le h =
+    let e : l * 2 ^ skip + 0 ≡ l * 2 ^ skip = omega arith in
+    low_bits (l * 2 ^ skip) j h ∙ sym (ap (λ x. bit_at x j) e) ∙ bit_at_cat_high l skip 0 j (pow_pos skip) le
+
+shifted_in : (l skip j : ℕ) → j < skip → j < 16 → bit_at (l * 2 ^ skip % 65536) j ≡ 0
+shifted_in l skip j lt h =
+    let e : l * 2 ^ skip + 0 ≡ l * 2 ^ skip = omega arith in
+    low_bits (l * 2 ^ skip) j h ∙ sym (ap (λ x. bit_at x j) e) ∙ bit_at_cat_low l skip 0 j lt ∙ bit_at-zero j
+
 -- Sixteen bits of two words side by side.
-pair_bit : (l r k j : ℕ) → l < 2 ^ 16 → r < 2 ^ 16 → j < 16 → bit_at (bit_and (bit_or (l * 65536 % 4294967296) r / 2 ^ k) 65535) j ≡ bit_at (l * 2 ^ 16 + r) (k + j)
-pair_bit l r k j hl hr hj =
-    let e : bit_or (l * 65536 % 4294967296) r ≡ l * 65536 + r = or_after_shift l 65536 4294967296 r refl (omega arith) (omega arith) in
-    let one : bit_at 65535 j ≡ 1 = ones_bit j hj in
-    let small : bit_at ((l * 65536 + r) / 2 ^ k) j < 2 = bit_at-lt ((l * 65536 + r) / 2 ^ k) j in
-    let s : bit_at ((l * 65536 + r) / 2 ^ k) j ≡ bit_at (l * 65536 + r) (k + j) = shifted (l * 65536 + r) k j in
-    rw (e, bit_at_and ((l * 65536 + r) / 2 ^ k) 65535 j, one) (omega arith)
+pub pair_left : (l r skip i : ℕ) → r < 2 ^ 16 → skip + i < 16
+    → bit_at (bit_or (l * 2 ^ skip % 65536) (r / 2 ^ (16 - skip))) (15 - i) ≡ bit_at l (15 - (skip + i))
+pair_left l r skip i hr h =
+    let e : 15 - i - skip ≡ 15 - (skip + i) = omega arith in
+    let a : bit_at (l * 2 ^ skip % 65536) (15 - i) ≡ bit_at l (15 - (skip + i)) = shifted_up l skip (15 - i) (omega arith) (omega arith) ∙ ap (bit_at l) e in
+    let b : bit_at (r / 2 ^ (16 - skip)) (15 - i) ≡ 0 = shifted r (16 - skip) (15 - i) ∙ bit_at_above r 16 (16 - skip + (15 - i)) hr (omega arith) in
+    simp (bit_at_or, a, b) (omega arith)
 
-pub pair_left : (l r skip i : ℕ) → l < 2 ^ 16 → r < 2 ^ 16 → skip + i < 16
-    → bit_at (bit_and (bit_or (l * 65536 % 4294967296) r / 2 ^ (16 - skip)) 65535) (15 - i) ≡ bit_at l (15 - (skip + i))
-pair_left l r skip i hl hr h =
-    let e : 16 - skip + (15 - i) - 16 ≡ 15 - (skip + i) = omega arith in
-    let a = pair_bit l r (16 - skip) (15 - i) hl hr (omega arith) in
-    let b = bit_at_cat_high l 16 r (16 - skip + (15 - i)) hr (omega arith) in
-    a ∙ b ∙ ap (bit_at l) e
-
-pub pair_right : (l r skip i : ℕ) → l < 2 ^ 16 → r < 2 ^ 16 → i < 16 → skip < 16 → 16 ≤ skip + i
-    → bit_at (bit_and (bit_or (l * 65536 % 4294967296) r / 2 ^ (16 - skip)) 65535) (15 - i) ≡ bit_at r (31 - (skip + i))
-pair_right l r skip i hl hr hi hs h =
+pub pair_right : (l r skip i : ℕ) → i < 16 → skip < 16 → 16 ≤ skip + i
+    → bit_at (bit_or (l * 2 ^ skip % 65536) (r / 2 ^ (16 - skip))) (15 - i) ≡ bit_at r (31 - (skip + i))
+pair_right l r skip i hi hs h =
     let e : 16 - skip + (15 - i) ≡ 31 - (skip + i) = omega arith in
-    let a = pair_bit l r (16 - skip) (15 - i) hl hr (omega arith) in
-    let b = bit_at_cat_low l 16 r (16 - skip + (15 - i)) (omega arith) in
-    a ∙ b ∙ ap (bit_at r) e
+    let a : bit_at (l * 2 ^ skip % 65536) (15 - i) ≡ 0 = shifted_in l skip (15 - i) (omega arith) (omega arith) in
+    let b : bit_at (r / 2 ^ (16 - skip)) (15 - i) ≡ bit_at r (31 - (skip + i)) = shifted r (16 - skip) (15 - i) ∙ ap (bit_at r) e in
+    simp (bit_at_or, a, b) (omega arith)
 
 pub one_bit : (k : ℕ) → k < 32 → 1 * 2 ^ k % 4294967296 ≡ 2 ^ k
 one_bit k h = one_shl k 32 h

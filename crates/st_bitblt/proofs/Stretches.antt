@@ -1,9 +1,9 @@
 -- Stretches of a row that are read, put together and written.
-use Rattle.std.proofs.Common.{◌≡◌, ◌≢◌, ℕ, zero, suc, ◌+◌, ◌-◌, ◌*◌, ◌/◌, ◌%◌, ◌<◌, ◌≤◌, min, bit_and, arith, refl, sym, ◌∙◌, ap, subst, List, [], ◌∷◌, ◌++◌, length, take, drop, replicate, get_or, set, ◌⊎◌, inl, inr, Option, Some, None}
+use Rattle.std.proofs.Common.{◌≡◌, ◌≢◌, ℕ, zero, suc, ◌+◌, ◌-◌, ◌*◌, ◌/◌, ◌%◌, ◌<◌, ◌≤◌, min, bit_and, arith, refl, sym, ◌∙◌, ap, subst, List, [], ◌∷◌, ◌++◌, length, take, drop, replicate, get_or, set, length-append, length-drop, ◌⊎◌, inl, inr, Option, Some, None}
 use Rattle.std.specs.Int.{bit_at}
 use Rattle.std.proofs.lemmas.Bool.{cases_lt}
 use Rattle.std.proofs.lemmas.Nat.Bits.{bit_at_and}
-use Rattle.std.proofs.lemmas.List.{get_or-take, get_or-drop, append-nil}
+use Rattle.std.proofs.lemmas.List.{get_or-take, get_or-drop, get_or_append_left, get_or-append_right, length-take-le}
 use Rattle.st_model.specs.declared.oop.Oop.{Oop}
 use Rattle.st_model.specs.Values.{Value, value}
 use Rattle.st_model.specs.View.{View}
@@ -62,6 +62,14 @@ one_combined rule tone source skip old now j g w s within left right made r = re
         ∙ (λ t. combine rule (bit_at_and g tone (15 - i) t) (was t))
         ∙ ap (λ b. combine rule (min b (bit_at tone (15 - i))) (pixel old k)) bit
 
+-- where source and destination lie alike
+pub one_alike : (rule tone : ℕ) (source old now : List ℕ) (j w : ℕ) → j < length now
+    → ((b : ℕ) → b < 16 → bit_at w b ≡ combine rule (bit_at (bit_and (get_or source j 0) tone) b) (bit_at (get_or now j 0) b))
+    → Combining rule tone source 0 old now j → Combining rule tone source 0 old (set now j w) (j + 1)
+one_alike rule tone source old now j w within made r =
+    one_combined rule tone source 0 old now j (get_or source j 0) w (omega arith) within
+    (λ i h. let e : 15 - (0 + i) ≡ 15 - i = omega arith in sym (ap (bit_at (get_or source j 0)) e)) (λ i h l. absurd (omega (arith, h, l))) made r
+
 pub none_combined : (rule tone : ℕ) (source : List ℕ) (skip : ℕ) (old : List ℕ) → Combining rule tone source skip old old 0
 none_combined rule tone source skip old = record { done = λ k h. absurd (omega (arith, h)); left = λ k h. refl }
 
@@ -91,13 +99,63 @@ word_restored old at word w first n within some inside below above = record {
         let f : (16 * at + i) % 16 ≡ i = omega (arith, h) in
         pixel_set old at w (16 * at + i) within e ∙ ap (λ m. bit_at w (15 - m)) f
 
+-- the first words of a list
+
+pub pixel_taken_first : (m k : ℕ) (us : List ℕ) → k < 16 * m → pixel (take m us) k ≡ pixel us k
+pixel_taken_first m k us h = pixel_is (take m us) k (k / 16) refl ∙ ap (λ w. bit_at w (15 - k % 16)) (get_or-take m us (k / 16) 0 (omega (arith, h))) ∙ sym (pixel_is us k (k / 16) refl)
+
+none_behind : (m i : ℕ) (us : List ℕ) → m ≤ i → get_or (take m us) i 0 ≡ 0
+none_behind zero i us h = refl
+none_behind (suc m) i [] h = refl
+none_behind (suc m) zero (u ∷ us) h = absurd (omega (arith, h))
+none_behind (suc m) (suc i) (u ∷ us) h = none_behind m i us (omega (arith, h))
+
+pixel_behind : (m k : ℕ) (us vs : List ℕ) → 16 * m ≤ k → pixel (take m vs) k ≡ pixel (take m us) k
+pixel_behind m k us vs h =
+    let le : m ≤ k / 16 = omega (arith, h) in
+    pixel_is (take m vs) k (k / 16) refl ∙ ap (λ w. bit_at w (15 - k % 16)) (none_behind m (k / 16) vs le ∙ sym (none_behind m (k / 16) us le)) ∙ sym (pixel_is (take m us) k (k / 16) refl)
+
+pub pixel_front : (us vs : List ℕ) (k : ℕ) → k < 16 * length us → pixel (us ++ vs) k ≡ pixel us k
+pixel_front us vs k h = pixel_is (us ++ vs) k (k / 16) refl ∙ ap (λ w. bit_at w (15 - k % 16)) (get_or_append_left us vs 0 (k / 16) (omega (arith, h))) ∙ sym (pixel_is us k (k / 16) refl)
+
+pub taken_twice : (m n : ℕ) (us : List ℕ) → m ≤ n → take m (take n us) ≡ take m us
+taken_twice zero n us h = refl
+taken_twice (suc m) zero us h = absurd (omega (arith, h))
+taken_twice (suc m) (suc n) [] h = refl
+taken_twice (suc m) (suc n) (u ∷ us) h = ap (λ (vs : List ℕ). u ∷ vs) (taken_twice m n us (omega (arith, h)))
+
+pub taken_fits : (m : ℕ) (us : List ℕ) → AllFit us → AllFit (take m us)
+taken_fits m us all k = elim (cases_lt k m) [ inl lt ↦ rw (get_or-take m us k 0 lt) (all k) | inr ge ↦ rw (none_behind m k us ge) (omega arith) ]
+
+pub taken_combined : (rule tone : ℕ) (source : List ℕ) (skip : ℕ) (old new : List ℕ) (m n : ℕ) → m ≤ n → Combined rule tone source skip old new 0 (16 * n) → Combined rule tone source skip (take m old) (take m new) 0 (16 * m)
+taken_combined rule tone source skip old new m n le r = record {
+  inside = λ k low h.
+      let l : k < 16 * m = omega (arith, h) in
+      pixel_taken_first m k new l ∙ r.inside k low (omega (arith, l, le))
+      ∙ ap (combine rule (min (pixel source (skip + k)) (bit_at tone (15 - k % 16)))) (sym (pixel_taken_first m k old l));
+  below = λ k h. absurd (omega (arith, h));
+  above = λ k h. pixel_behind m k old new (omega (arith, h));
+}
+
+pub taken_restored : (word : ℕ) (old new : List ℕ) (at first n m : ℕ) → at < m → first + n ≤ 16 → Restored word old new at first n → Restored word (take m old) (take m new) at first n
+taken_restored word old new at first n m within some r = record {
+  inside = λ i low h. pixel_taken_first m (16 * at + i) new (omega (arith, within, some, h)) ∙ r.inside i low h ∙ sym (pixel_taken_first m (16 * at + i) old (omega (arith, within, some, h)));
+  below = λ i h. pixel_taken_first m (16 * at + i) new (omega (arith, within, some, h)) ∙ r.below i h;
+  above = λ i low h. pixel_taken_first m (16 * at + i) new (omega (arith, within, h)) ∙ r.above i low h;
+  others = λ k ne. elim (cases_lt k (16 * m)) [
+    | inl lt ↦ pixel_taken_first m k new lt ∙ r.others k ne ∙ sym (pixel_taken_first m k old lt)
+    | inr ge ↦ pixel_behind m k old new ge
+  ];
+}
+
 -- whole words that were put together, of which the first and the last were given back what is beside a stretch
-module _ (rule tone : ℕ) (source : List ℕ) (skip : ℕ) (a b c d : List ℕ) (first n last : ℕ) (low : first < 16) (some : 0 < n) (end : first + n ≤ 16 * (last + 1)) (most : 16 * last < first + n)
-    (made : Combined rule tone source skip a b 0 (16 * (last + 1))) (front : Restored (get_or a 0 0) b c 0 first (16 - first)) (back : Restored (get_or a last 0) c d last 0 (first + n - 16 * last)) where
+module _ (rule tone : ℕ) (source : List ℕ) (skip : ℕ) (a b c d : List ℕ) (first n last w z : ℕ) (low : first < 16) (some : 0 < n) (end : first + n ≤ 16 * (last + 1)) (most : 16 * last < first + n)
+    (was_first : w ≡ get_or a 0 0) (was_last : z ≡ get_or a last 0)
+    (made : Combined rule tone source skip a b 0 (16 * (last + 1))) (front : Restored w b c 0 first (16 - first)) (back : Restored z c d last 0 (first + n - 16 * last)) where
   in_front : (k : ℕ) → k < first → pixel c k ≡ pixel a k
   in_front k h =
       let e : 16 * 0 + k ≡ k = omega arith in
-      sym (ap (pixel c) e) ∙ front.below k h ∙ sym (pixel_in a 0 k k (omega (arith, h, low)) (omega arith))
+      sym (ap (pixel c) e) ∙ front.below k h ∙ ap (λ x. bit_at x (15 - k)) was_first ∙ sym (pixel_in a 0 k k (omega (arith, h, low)) (omega arith))
 
   behind_front : (k : ℕ) → first ≤ k → pixel c k ≡ pixel b k
   behind_front k h = elim (cases_lt k 16) [
@@ -115,7 +173,7 @@ module _ (rule tone : ℕ) (source : List ℕ) (skip : ℕ) (a b c d : List ℕ)
   at_back k h = elim (cases_lt k (16 * (last + 1))) [
     | inl lt ↦
         let e : 16 * last + (k - 16 * last) ≡ k = omega (arith, h, most) in
-        sym (ap (pixel d) e) ∙ back.above (k - 16 * last) (omega (arith, h, most)) (omega (arith, lt, h, most)) ∙ sym (pixel_in a last (k - 16 * last) k (omega (arith, lt, h, most)) (omega (arith, h, most)))
+        sym (ap (pixel d) e) ∙ back.above (k - 16 * last) (omega (arith, h, most)) (omega (arith, lt, h, most)) ∙ ap (λ x. bit_at x (15 - (k - 16 * last))) was_last ∙ sym (pixel_in a last (k - 16 * last) k (omega (arith, lt, h, most)) (omega (arith, h, most)))
     | inr ge ↦ back.others k (λ z. omega (arith, z, ge)) ∙ behind_front k (omega (arith, h)) ∙ made.above k (omega (arith, ge))
   ]
 
@@ -161,13 +219,41 @@ stretch_of_ones v s at n e = subst (λ x. IsStretch v (object_of_source x) at (r
 pub stretch_of_words : (v : View) (s : Source) (o : Oop) (size at : ℕ) (ws : List ℕ) → s ≡ source.Words o size → (at ≡ 0 → ⊥) → ((k : ℕ) → k < length ws → get_or ws k 0 ≡ get_or (words v (value o)) (at - 1 + k) 0) → IsStretch v (object_of_source s) at ws
 stretch_of_words v s o size at ws e some read = subst (λ x. IsStretch v (object_of_source x) at ws) (sym e) (words_stretch v (value o) at ws (omega (arith, some)) read)
 
-pub stretch_of_first : (v : View) (s : Source) (o : Oop) (size at : ℕ) (ws : List ℕ) → s ≡ source.Words o size → at ≡ 0 → ((k : ℕ) → k < length ws → get_or ws k 0 ≡ get_or (words v (value o)) (0 + k) 0) → IsStretch v (object_of_source s) at (0 ∷ (ws ++ []))
+pub stretch_of_first : (v : View) (s : Source) (o : Oop) (size at : ℕ) (ws : List ℕ) → s ≡ source.Words o size → at ≡ 0 → ((k : ℕ) → k + 1 < length ws → get_or ws (k + 1) 0 ≡ get_or (words v (value o)) (0 + k) 0) → IsStretch v (object_of_source s) at ws
 stretch_of_first v s o size at ws e none read =
-    subst (λ x. IsStretch v (object_of_source x) at (0 ∷ (ws ++ []))) (sym e)
-    (subst (λ a. IsStretch v (Some (value o)) a (0 ∷ (ws ++ []))) (sym none)
-    (subst (λ (xs : List ℕ). IsStretch v (Some (value o)) 0 (0 ∷ xs)) (sym (append-nil ws)) (first_stretch v (value o) (0 ∷ ws) (λ k h.
-    let f : k + 1 ≡ suc k = omega arith in
-    ap (λ j. get_or (0 ∷ ws) j 0) f ∙ read k (omega (arith, h, f))))))
+    subst (λ x. IsStretch v (object_of_source x) at ws) (sym e)
+    (subst (λ a. IsStretch v (Some (value o)) a ws) (sym none) (first_stretch v (value o) ws read))
+
+-- words that were read behind the first one of a list
+pub read_behind_first : (xs new us : List ℕ) (k : ℕ) → 0 < length xs → length new ≡ length (take (length xs - 1) (drop 1 xs))
+    → ((j : ℕ) → j < length (take (length xs - 1) (drop 1 xs)) → get_or new j 0 ≡ get_or us (0 + j) 0)
+    → k + 1 < length (take 1 xs ++ (new ++ drop (length xs - 1) (drop 1 xs))) → get_or (take 1 xs ++ (new ++ drop (length xs - 1) (drop 1 xs))) (k + 1) 0 ≡ get_or us (0 + k) 0
+read_behind_first xs new us k some long read h =
+    let m : ℕ = length xs - 1 in
+    let behind : List ℕ = drop 1 xs in
+    let past : List ℕ = drop m behind in
+    let d : length behind ≡ m = length-drop 1 xs in
+    let t : length (take m behind) ≡ m = length-take-le m behind (omega (arith, d)) in
+    let f : length (take 1 xs) ≡ 1 = length-take-le 1 xs (omega (arith, some)) in
+    let p : length past ≡ length behind - m = length-drop m behind in
+    let a : length (take 1 xs ++ (new ++ past)) ≡ length (take 1 xs) + length (new ++ past) = length-append (take 1 xs) (new ++ past) in
+    let b : length (new ++ past) ≡ length new + length past = length-append new past in
+    let within : k < m = omega (arith, h, a, b, f, p, d, t, long) in
+    let e : k + 1 - 1 ≡ k = omega arith in
+    get_or-append_right (take 1 xs) (new ++ past) 1 (k + 1) 0 f (omega arith) ∙ ap (λ i. get_or (new ++ past) i 0) e
+    ∙ get_or_append_left new past 0 k (omega (arith, within, long, t)) ∙ read k (omega (arith, within, t))
+
+-- words that were read, and behind the last of an object zeros
+pub read_word : (n from k : ℕ) (us : List ℕ) → k < n → get_or (take n (drop from us)) k 0 ≡ get_or us (from + k) 0
+read_word n from k us h = get_or-take n (drop from us) k 0 h ∙ get_or-drop from us k 0
+
+pub none_past : (us : List ℕ) (i : ℕ) → length us ≤ i → get_or us i 0 ≡ 0
+none_past [] i h = refl
+none_past (u ∷ us) zero h = absurd (omega (arith, h))
+none_past (u ∷ us) (suc i) h = none_past us i (omega (arith, h))
+
+pub zero_past : (us : List ℕ) (size from n there k : ℕ) → size ≡ length us → there ≡ min (size - from) n → k < n → there ≤ k → 0 ≡ get_or us (from + k) 0
+zero_past us size from n there k e is h le = sym (none_past us (from + k) (omega (arith, e, is, h, le)))
 
 -- what stands in a list of words once some were written
 
@@ -232,8 +318,9 @@ view_is v w o us a b c = rw (← a, ← b, ← c) refl
 
 -- a stretch of the destination was written
 module _ (rule tone : ℕ) (source : Option Value) (dest : Value) (old new : View) (p q n : ℕ) (ws ds taken : List ℕ) (has : HasWords old dest) (some : 0 < n) (few : n ≤ 2032)
-    (long : length ds ≡ (p % 16 + n + 15) / 16) (room : p + n ≤ 16 * length (words old dest)) (wide : length ws ≡ 129)
-    (read : IsStretch old source ((q + 16 - p % 16) / 16) ws) (was : taken ≡ take (length ds) (drop (p / 16) (words old dest)))
+    (long : length ds ≡ (p % 16 + n + 15) / 16) (room : p + n ≤ 16 * length (words old dest))
+    (read : (k : ℕ) → k < 16 * (length ds + 1) → 16 ≤ 16 * ((q + 16 - p % 16) / 16) + k → pixel ws k ≡ pixel_from old source (16 * ((q + 16 - p % 16) / 16) + k - 16))
+    (was : taken ≡ take (length ds) (drop (p / 16) (words old dest)))
     (made : Combined rule tone ws ((q + 16 - p % 16) % 16) taken ds (p % 16) n) (fit : AllFit ds)
     (objects : new.objects ≡ with_units_in old.objects dest (laid (p / 16) ds (words old dest))) (held : new.held ≡ old.held) (head : new.head ≡ old.head) where
   abbrev at : ℕ
@@ -279,7 +366,7 @@ module _ (rule tone : ℕ) (source : Option Value) (dest : Value) (old new : Vie
       let skip : ℕ = (q + 16 - p % 16) % 16 in
       let low : 16 * at ≤ p + i = omega arith in
       let high : p + i < 16 * at + 16 * length ds = omega (arith, long, h) in
-      let s : pixel ws (skip + k) ≡ pixel_from old source (16 * ((q + 16 - p % 16) / 16) + (skip + k) - 16) = read (skip + k) (omega (arith, wide, h, few)) (omega arith) in
+      let s : pixel ws (skip + k) ≡ pixel_from old source (16 * ((q + 16 - p % 16) / 16) + (skip + k) - 16) = read (skip + k) (omega (arith, long, h)) (omega arith) in
       let e : 16 * ((q + 16 - p % 16) / 16) + (skip + k) - 16 ≡ q + i = omega arith in
       let f : k % 16 ≡ (p + i) % 16 = omega arith in
       written (p + i) low high ∙ made.inside k (omega arith) (omega (arith, h))

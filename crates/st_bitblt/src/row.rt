@@ -4,51 +4,79 @@ ghost use Rattle.st_bitblt.specs.Copied.{Copied, HasSource, object_of_source};
 ghost use Rattle.st_bitblt.specs.Words.{words, HasWords};
 
 use crate::rule::Rule;
-use crate::source::{Ends, Source};
+use crate::source::{Ends, Places, Source};
 use crate::stretch::{PIXELS, copy_stretch};
 use st_memory::Memory;
 
-/// Copies n pixels from the left. Within one object the source must not begin before the destination.
-fn copy_up<M: Memory>(m: &mut M, rule: &Rule, tone: u16, ends: Ends, p: u32, q: u32, n: u32)
-    requires source { HasSource (M.view m.old) ends.source }
-    requires dest { HasWords (M.view m.old) (value ends.dest) }
-    requires order { object_of_source ends.source ≡ Some (value ends.dest) → p ≤ q }
-    requires room { p + n ≤ 16 * length (words (M.view m.old) (value ends.dest)) }
-    requires p_fits { p + n < 2 ^ 32 }
-    requires q_fits { q + n + 16 < 2 ^ 32 }
-    ensures { Copied rule.now tone (object_of_source ends.source) (value ends.dest)
-        (M.view m.old) (M.view m.new) p q n }
+/// Copies pixels from the left. Within one object the source must not begin before the destination.
+fn copy_up<M: Memory>(
+    m: &mut M,
+    source: &mut [u16],
+    dest: &mut [u16],
+    rule: &Rule,
+    tone: u16,
+    ends: &Ends,
+    a: Places,
+)
+    requires buffers { (length source.old ≡ 129) × (length dest.old ≡ 128) }
+    requires source { HasSource (M.view m.old) ends.now.source }
+    requires dest { HasWords (M.view m.old) (value ends.now.dest) }
+    requires order { object_of_source ends.now.source ≡ Some (value ends.now.dest) → a.p ≤ a.q }
+    requires room { a.p + a.n ≤ 16 * length (words (M.view m.old) (value ends.now.dest)) }
+    requires p_fits { a.p + a.n < 2 ^ 32 }
+    requires q_fits { a.q + a.n + 16 < 2 ^ 32 }
+    ensures { Copied rule.now tone (object_of_source ends.now.source) (value ends.now.dest)
+        (M.view m.old) (M.view m.new) a.p a.q a.n }
 {
     let mut done = 0;
-    while done < n {
-        let count = (n - done).min(PIXELS);
-        copy_stretch(m, rule, tone, ends, p + done, q + done, count);
+    while done < a.n {
+        let count = (a.n - done).min(PIXELS);
+        let stretch = Places {
+            p: a.p + done,
+            q: a.q + done,
+            n: count,
+        };
+        copy_stretch(m, source, dest, rule, tone, ends, stretch);
         done += count;
     }
 }
 
-/// Copies n pixels from the right. Within one object the source must not begin after the destination.
-fn copy_down<M: Memory>(m: &mut M, rule: &Rule, tone: u16, ends: Ends, p: u32, q: u32, n: u32)
-    requires source { HasSource (M.view m.old) ends.source }
-    requires dest { HasWords (M.view m.old) (value ends.dest) }
-    requires order { object_of_source ends.source ≡ Some (value ends.dest) → q ≤ p }
-    requires room { p + n ≤ 16 * length (words (M.view m.old) (value ends.dest)) }
-    requires p_fits { p + n < 2 ^ 32 }
-    requires q_fits { q + n + 16 < 2 ^ 32 }
-    ensures { Copied rule.now tone (object_of_source ends.source) (value ends.dest)
-        (M.view m.old) (M.view m.new) p q n }
+/// Copies pixels from the right. Within one object the source must not begin after the destination.
+fn copy_down<M: Memory>(
+    m: &mut M,
+    source: &mut [u16],
+    dest: &mut [u16],
+    rule: &Rule,
+    tone: u16,
+    ends: &Ends,
+    a: Places,
+)
+    requires buffers { (length source.old ≡ 129) × (length dest.old ≡ 128) }
+    requires source { HasSource (M.view m.old) ends.now.source }
+    requires dest { HasWords (M.view m.old) (value ends.now.dest) }
+    requires order { object_of_source ends.now.source ≡ Some (value ends.now.dest) → a.q ≤ a.p }
+    requires room { a.p + a.n ≤ 16 * length (words (M.view m.old) (value ends.now.dest)) }
+    requires p_fits { a.p + a.n < 2 ^ 32 }
+    requires q_fits { a.q + a.n + 16 < 2 ^ 32 }
+    ensures { Copied rule.now tone (object_of_source ends.now.source) (value ends.now.dest)
+        (M.view m.old) (M.view m.new) a.p a.q a.n }
 {
-    let mut left = n;
+    let mut left = a.n;
     while left > 0 {
         let count = left.min(PIXELS);
         left -= count;
-        copy_stretch(m, rule, tone, ends, p + left, q + left, count);
+        let stretch = Places {
+            p: a.p + left,
+            q: a.q + left,
+            n: count,
+        };
+        copy_stretch(m, source, dest, rule, tone, ends, stretch);
     }
 }
 
 /// Whether the source begins before the destination, in the same object.
-fn begins_before(ends: Ends, p: u32, q: u32) -> bool
-    ensures { IsTrue result ↔ ((object_of_source ends.source ≡ Some (value ends.dest)) × (q < p)) }
+fn begins_before(ends: &Ends, p: u32, q: u32) -> bool
+    ensures { IsTrue result ↔ ((object_of_source ends.now.source ≡ Some (value ends.now.dest)) × (q < p)) }
 {
     match ends.source {
         Source::Words { object, .. } => {
@@ -61,19 +89,55 @@ fn begins_before(ends: Ends, p: u32, q: u32) -> bool
     }
 }
 
-/// Copies n pixels, in the direction in which no pixel of the source is read once it was changed.
-pub fn copy_row<M: Memory>(m: &mut M, rule: &Rule, tone: u16, ends: Ends, p: u32, q: u32, n: u32)
-    requires source { HasSource (M.view m.old) ends.source }
-    requires dest { HasWords (M.view m.old) (value ends.dest) }
-    requires room { p + n ≤ 16 * length (words (M.view m.old) (value ends.dest)) }
-    requires p_fits { p + n < 2 ^ 32 }
-    requires q_fits { q + n + 16 < 2 ^ 32 }
-    ensures { Copied rule.now tone (object_of_source ends.source) (value ends.dest)
-        (M.view m.old) (M.view m.new) p q n }
+/// Copies pixels by stretches, in the direction in which no pixel of the source is read once it was changed.
+#[inline(never)]
+fn copy_stretches<M: Memory>(
+    m: &mut M,
+    source: &mut [u16],
+    dest: &mut [u16],
+    rule: &Rule,
+    tone: u16,
+    ends: &Ends,
+    a: Places,
+)
+    requires buffers { (length source.old ≡ 129) × (length dest.old ≡ 128) }
+    requires source { HasSource (M.view m.old) ends.now.source }
+    requires dest { HasWords (M.view m.old) (value ends.now.dest) }
+    requires room { a.p + a.n ≤ 16 * length (words (M.view m.old) (value ends.now.dest)) }
+    requires p_fits { a.p + a.n < 2 ^ 32 }
+    requires q_fits { a.q + a.n + 16 < 2 ^ 32 }
+    ensures { Copied rule.now tone (object_of_source ends.now.source) (value ends.now.dest)
+        (M.view m.old) (M.view m.new) a.p a.q a.n }
 {
-    if begins_before(ends, p, q) {
-        copy_down(m, rule, tone, ends, p, q, n);
+    if begins_before(ends, a.p, a.q) {
+        copy_down(m, source, dest, rule, tone, ends, a);
     } else {
-        copy_up(m, rule, tone, ends, p, q, n);
+        copy_up(m, source, dest, rule, tone, ends, a);
+    }
+}
+
+/// Copies pixels: at once where they are no more than a stretch, and else by stretches.
+#[inline(always)]
+pub fn copy_row<M: Memory>(
+    m: &mut M,
+    source: &mut [u16],
+    dest: &mut [u16],
+    rule: &Rule,
+    tone: u16,
+    ends: &Ends,
+    a: Places,
+)
+    requires buffers { (length source.old ≡ 129) × (length dest.old ≡ 128) }
+    requires source { HasSource (M.view m.old) ends.now.source }
+    requires dest { HasWords (M.view m.old) (value ends.now.dest) }
+    requires room { a.p + a.n ≤ 16 * length (words (M.view m.old) (value ends.now.dest)) }
+    requires p_fits { a.p + a.n < 2 ^ 32 }
+    requires q_fits { a.q + a.n + 16 < 2 ^ 32 }
+    ensures { Copied rule.now tone (object_of_source ends.now.source) (value ends.now.dest)
+        (M.view m.old) (M.view m.new) a.p a.q a.n }
+{
+    match a.n {
+        1..=PIXELS => copy_stretch(m, source, dest, rule, tone, ends, a),
+        _ => copy_stretches(m, source, dest, rule, tone, ends, a),
     }
 }

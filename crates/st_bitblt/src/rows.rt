@@ -6,7 +6,8 @@ ghost use Rattle.st_bitblt.specs.Words.{words, HasWords};
 
 use crate::row::copy_row;
 use crate::rule::Rule;
-use crate::source::Ends;
+use crate::source::{Ends, Places};
+use crate::stretch::WORDS;
 use st_memory::Memory;
 
 /// How the rows of a copy are put down: by a rule, through a halftone of which word `first` modulo 16 is for the first row.
@@ -49,21 +50,30 @@ fn place(start: u32, step: u32, row: u32, height: u32) -> u32
 }
 
 /// Copies, from the top, the rows whose source does not begin before their destination.
-fn copy_from_top<M: Memory>(m: &mut M, pen: &Pen, ends: Ends, a: Layout)
-    requires source { HasSource (M.view m.old) ends.source }
-    requires dest { HasWords (M.view m.old) (value ends.dest) }
+fn copy_from_top<M: Memory>(
+    m: &mut M,
+    source: &mut [u16],
+    dest: &mut [u16],
+    pen: &Pen,
+    ends: &Ends,
+    a: Layout,
+)
+    requires buffers { (length source.old ≡ 129) × (length dest.old ≡ 128) }
+    requires source { HasSource (M.view m.old) ends.now.source }
+    requires dest { HasWords (M.view m.old) (value ends.now.dest) }
     requires wide { a.n ≤ a.along }
-    requires room { HasRoom a (length (words (M.view m.old) (value ends.dest))) }
+    requires room { HasRoom a (length (words (M.view m.old) (value ends.now.dest))) }
     requires fits { FitsPlaces a }
     requires first { pen.now.first + a.height < 2 ^ 32 }
-    ensures { RowsCopied pen.now (object_of_source ends.source) (value ends.dest)
+    ensures { RowsCopied pen.now (object_of_source ends.now.source) (value ends.now.dest)
         (M.view m.old) (M.view m.new) a (FromTop a a.height) }
 {
     for j in 0..a.height {
         let p = place(a.p, a.along, j, a.height);
         let q = place(a.q, a.across, j, a.height);
         if p <= q {
-            copy_row(m, &pen.rule, pen.tone(j), ends, p, q, a.n);
+            let row = Places { p, q, n: a.n };
+            copy_row(m, source, dest, &pen.rule, pen.tone(j), ends, row);
         }
     }
 }
@@ -81,12 +91,23 @@ pub fn copy_rows<M: Memory>(m: &mut M, pen: &Pen, ends: Ends, a: Layout)
     ensures { RowsCopied pen.now (object_of_source ends.source) (value ends.dest)
         (M.view m.old) (M.view m.new) a (λ j. j < a.height) }
 {
-    copy_from_top(m, pen, ends, a);
+    let mut source = [0; WORDS + 1];
+    let mut dest = [0; WORDS];
+    copy_from_top(m, &mut source, &mut dest, pen, &ends, a);
     for j in (0..a.height).rev() {
         let p = place(a.p, a.along, j, a.height);
         let q = place(a.q, a.across, j, a.height);
         if q < p {
-            copy_row(m, &pen.rule, pen.tone(j), ends, p, q, a.n);
+            let row = Places { p, q, n: a.n };
+            copy_row(
+                m,
+                &mut source,
+                &mut dest,
+                &pen.rule,
+                pen.tone(j),
+                &ends,
+                row,
+            );
         }
     }
 }

@@ -47,15 +47,15 @@ impl Rule {
         }
     }
 
-    /// What it makes of each bit of a source's word and of a destination's.
+    /// What it makes of each bit of a source's word and of a destination's: where that is 1 by two of its words, and else by the
+    /// other two.
     pub fn combined(&self, source: u16, dest: u16) -> u16
         ensures { (j : ℕ) → j < 16
             → bit_at result j ≡ combine self.now (bit_at source j) (bit_at dest j) }
     {
-        source & dest & self.both
-            | source & !dest & self.source_alone
-            | !source & dest & self.dest_alone
-            | !source & !dest & self.neither
+        let on_ones = source & (self.both ^ self.dest_alone) ^ self.dest_alone;
+        let on_zeros = source & (self.source_alone ^ self.neither) ^ self.neither;
+        dest & (on_ones ^ on_zeros) ^ on_zeros
     }
 }
 
@@ -81,13 +81,13 @@ fn mask(first: u32, n: u32) -> u16
     ((1u32 << high) - (1u32 << (high - n))) as u16
 }
 
-/// Sixteen pixels of two neighbouring words, without the first `skip`.
+/// Sixteen pixels of two neighbouring words, without the first `skip`, of which there is one.
 pub fn joined(left: u16, right: u16, skip: u32) -> u16
-    requires { skip < 16 }
+    requires some { 0 < skip }
+    requires skip { skip < 16 }
     ensures left { (i : ℕ) → skip + i < 16 → bit_at result (15 - i) ≡ bit_at left (15 - (skip + i)) }
     ensures right { (i : ℕ) → i < 16 → 16 ≤ skip + i
         → bit_at result (15 - i) ≡ bit_at right (31 - (skip + i)) }
 {
-    let pair = (left as u32) << 16 | right as u32;
-    (pair >> (16 - skip) & 0xFFFF) as u16
+    left << skip | right >> (16 - skip)
 }

@@ -15,3 +15,11 @@ pub struct Ends {
     pub source: Source,
     pub dest: Oop,
 }
+
+/// Which pixels are copied: n, to the destination's from place p on, from the source's from place q on.
+#[derive(Clone, Copy)]
+pub struct Places {
+    pub p: u32,
+    pub q: u32,
+    pub n: u32,
+}

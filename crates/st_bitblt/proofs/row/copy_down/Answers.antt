@@ -18,7 +18,7 @@ loop-left-preserved g c =
     let k = c.loop-left.left - c.min-count.result in
     record {
       within = omega (arith, f);
-      copied = copied_down_at _ _ _ _ old mid new (c.args.p + k) (c.args.q + k) c.min-count.result (c.args.n - c.loop-left.left) (c.args.p + c.loop-left.left) (c.args.q + c.loop-left.left) (c.args.n - k) c.requires.dest
+      copied = copied_down_at _ _ _ _ old mid new (c.args.a.p + k) (c.args.a.q + k) c.min-count.result (c.args.a.n - c.loop-left.left) (c.args.a.p + c.loop-left.left) (c.args.a.q + c.loop-left.left) (c.args.a.n - k) c.requires.dest
           (omega (arith, count)) (omega (arith, count)) (omega (arith, count, f))
           (λ s. let d = c.requires.order s in omega (arith, d)) c.loop-left.invariant.copied c.copy_stretch.ensures;
     }

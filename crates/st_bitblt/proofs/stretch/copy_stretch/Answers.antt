@@ -1,23 +1,37 @@
-use Rattle.std.proofs.Common.{◌≡◌, ◌+◌, ◌/◌, ◌%◌, ◌≤◌, ℕ, List, length, take, replicate, sym, ap, ◌∙◌, arith}
-use Rattle.std.proofs.lemmas.List.{length-take-le}
+use Rattle.std.proofs.Common.{◌≡◌, ◌+◌, ◌*◌, ◌/◌, ◌%◌, ◌≤◌, ◌++◌, ℕ, List, length, take, drop, length-append, length-drop, sym, ap, ◌∙◌, arith}
+use Rattle.std.proofs.lemmas.List.{length-take-le, take-append-le, take_at}
 use Rattle.st_model.specs.Values.{value}
-use Rattle.st_memory.specs.Copied.{units_from}
+use Rattle.st_memory.specs.Copied.{laid, units_from, with_units_in}
 use Rattle.st_bitblt.specs.Copied.{object_of_source}
-use Rattle.st_bitblt.proofs.Stretches.{stretch_copied}
+use Rattle.st_bitblt.specs.Words.{words}
+use Rattle.st_bitblt.proofs.Stretches.{stretch_copied, pixel_taken_first, pixel_front, taken_twice, taken_fits}
 use Rattle.st_bitblt.proofs.stretch.copy_stretch.Goals as goal
 
 pub returns : goal.returns
 returns g c =
     let old = g.M.Memory.view c.args.m.now in
-    let dest = value c.args.ends.dest in
-    let zeros : List ℕ = replicate 128 0 in
-    let count : ℕ = (c.args.p % 16 + c.args.n + 15) / 16 in
+    let dest = value c.args.ends.now.dest in
     let few = c.requires.few in
-    let low : count ≤ 128 = omega (arith, few) in
-    let room : length (take count zeros) ≡ count = length-take-le count zeros low in
-    let taken : length c.read_words.new.into ≡ count = c.read_words.auto.into ∙ room in
-    let long : length c.combine_pixels.new.dest ≡ count = c.combine_pixels.auto.dest ∙ taken in
-    stretch_copied c.args.rule.now c.args.tone (object_of_source c.args.ends.source) dest old (g.M.Memory.view c.write_words.new.self) c.args.p c.args.q c.args.n
-    c.read_source-source.result c.combine_pixels.new.dest c.read_words.new.into c.requires.dest c.requires.some few long c.requires.room c.read_source-source.ensures.length c.read_source-source.ensures.words
-    (c.read_words.ensures ∙ ap (units_from old.objects dest (c.args.p / 16)) (room ∙ sym long))
-    c.combine_pixels.ensures.pixels c.combine_pixels.ensures.fits c.write_words.ensures.objects c.write_words.ensures.held c.write_words.ensures.head
+    let room = c.requires.buffers in
+    let count : ℕ = (c.args.a.p % 16 + c.args.a.n + 15) / 16 in
+    let whole : ℕ = (count + 15) / 16 * 16 in
+    let read = c.read_source.new.into in
+    let was = c.read_words.new.into in
+    let made = c.combine_pixels.new.dest in
+    let within : whole ≤ 128 = omega (arith, few) in
+    let enough : count ≤ whole = omega arith in
+    let taken : length (take count c.args.dest.now) ≡ count = length-take-le count c.args.dest.now (omega (arith, within, enough, room.1)) in
+    let long_was : length was ≡ count = c.read_words.auto.into ∙ taken in
+    let long_read : length read ≡ count + 1 = c.read_source.auto.into ∙ length-take-le (count + 1) c.args.source.now (omega (arith, within, enough, room.0)) in
+    let sum = length-append was (drop count c.args.dest.now) in
+    let past = length-drop count c.args.dest.now in
+    let long_made : length made ≡ whole = c.combine_pixels.auto.dest ∙ length-take-le whole (was ++ drop count c.args.dest.now) (omega (arith, sum, past, long_was, within, room.1)) in
+    let long : length (take count made) ≡ count = length-take-le count made (omega (arith, long_made, enough)) in
+    let kept : take count (take whole (was ++ drop count c.args.dest.now)) ≡ was = taken_twice count whole _ enough ∙ take_at was (drop count c.args.dest.now) count long_was in
+    stretch_copied c.args.rule.now c.args.tone (object_of_source c.args.ends.now.source) dest old (g.M.Memory.view c.write_words.new.self) c.args.a.p c.args.a.q c.args.a.n
+    _ (take count made) _ c.requires.dest c.requires.some few long c.requires.room
+    (λ k h le. pixel_taken_first (whole + 1) k _ (omega (arith, h, long, enough)) ∙ pixel_front read _ k (omega (arith, h, long, long_read)) ∙ c.read_source.ensures k (omega (arith, h, long, long_read)) le)
+    (kept ∙ c.read_words.ensures ∙ ap (units_from old.objects dest (c.args.a.p / 16)) (taken ∙ sym long))
+    c.combine_pixels.ensures.pixels (taken_fits count made c.combine_pixels.ensures.fits)
+    (c.write_words.ensures.objects ∙ ap (λ (us : List ℕ). with_units_in old.objects dest (laid (c.args.a.p / 16) us (words old dest))) (take-append-le count made _ (omega (arith, long_made, enough))))
+    c.write_words.ensures.held c.write_words.ensures.head

@@ -1,6 +1,6 @@
 use Rattle.std.proofs.Common.{length, arith}
 use Rattle.st_bitblt.proofs.Stretches.{one_combined, none_combined, all_combined}
-use Rattle.st_bitblt.proofs.stretch.combine_words.Goals as goal
+use Rattle.st_bitblt.proofs.stretch.combine_shifted.Goals as goal
 
 pub loop-j-init : goal.loop-j-init
 loop-j-init c = record { combined = none_combined c.args.rule.now c.args.tone c.args.source.now c.args.skip c.args.dest.now }
