@@ -9,6 +9,8 @@ mod image;
 #[cfg(test)]
 mod machines;
 #[cfg(test)]
+mod near;
+#[cfg(test)]
 mod pixels;
 #[cfg(test)]
 mod rows;

@@ -1,0 +1,4 @@
+mod Keeping
+mod Direct
+mod Settled
+pub mod Fixed

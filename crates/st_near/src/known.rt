@@ -1,0 +1,58 @@
+use st_model::Word;
+
+/// What is known of a context. Nothing is where it has 0 fields.
+#[derive(Clone, Copy)]
+pub struct Fields {
+    /// The context's word.
+    pub object: Word,
+    /// How many fields it has.
+    pub number: u32,
+}
+
+impl Fields {
+    /// Nothing.
+    pub const NONE: Fields = Fields {
+        object: Word::NIL,
+        number: 0,
+    };
+}
+
+/// What is known of a method. Nothing is where it has neither literals nor bytecodes.
+#[derive(Clone, Copy)]
+pub struct Code {
+    /// The method's word.
+    pub method: Word,
+    /// How many literals it has.
+    pub literals: u32,
+    /// The number, from 0, of its first bytecode.
+    pub first: i32,
+    /// The number behind that of its last bytecode, at most 16382.
+    pub end: i32,
+}
+
+impl Code {
+    /// Nothing.
+    pub const NONE: Code = Code {
+        method: Word::NIL,
+        literals: 0,
+        first: 0,
+        end: 0,
+    };
+}
+
+/// What is known of the active context, its home and its method.
+#[derive(Clone, Copy)]
+pub struct Known {
+    pub active: Fields,
+    pub home: Fields,
+    pub code: Code,
+}
+
+impl Known {
+    /// Nothing.
+    pub const NONE: Known = Known {
+        active: Fields::NONE,
+        home: Fields::NONE,
+        code: Code::NONE,
+    };
+}
