@@ -10,13 +10,15 @@ use Rattle.st_model.specs.Machine.{State, World, Transition, Died, Went, used, i
 use Rattle.st_model.specs.Table.{Table, table, apart, bounded_table}
 use Rattle.st_model.specs.Bytecodes.{step}
 use Rattle.st_model.specs.Settled.{reclaim}
+use Rattle.st_model.specs.declared.deed.Deed.{Deed}
+use Rattle.st_model.specs.Deeds.{deed_done, world_done, with_deed}
 use Rattle.st_model.specs.Objects.{nil}
 use Rattle.st_model.specs.Cycles.{made_between, free_space, less, capacity_of, check_process_switch, warned, warned_if_low}
 use Rattle.st_model.specs.Foreseen.{foreseen, foreseen_from, foreseen_cycle, done, done_if_room}
 use Rattle.st_model.specs.View.{View, Held, fits}
 use Rattle.st_control.specs.Foreseen.{IsForeseen}
 use Rattle.st_quick.specs.AtOnce.{IsDoneAtOnce}
-use Rattle.st_machine.specs.Cycling.{GoesAtOnce}
+use Rattle.st_machine.specs.Cycling.{GoesAtOnce, GoesBy, Finishes, foreseen_step}
 use Rattle.st_step.specs.Planned.{Plans, plus}
 use Rattle.st_frames.specs.declared.frame.Frame.{Frame}
 use Rattle.st_frames.specs.Shown.{shown, registers_of, IsFrame}
@@ -75,6 +77,10 @@ module _ (c : State Table) where
   pub dies_at_once : (cause : Dead) → (step apart).run c ≡ Died cause → foreseen c ((step apart).run c) ≡ Died cause
   dies_at_once cause e = ap (foreseen c) e
 
+-- what is still to be done of the cycle of a bytecode that was done at once
+pub goes_by : (c d : State Table) → IsForeseen c × ((step bounded_table).run c ≡ Went outcome.Went d) → GoesBy (foreseen_step c) (Finishes d)
+goes_by c d h e w = cycle_at_once c d e h.0 h.1 w
+
 -- how a bytecode goes that was tried at once
 pub went_at_once : (c d x : State Table) (r : Result Bool Dead) → IsDoneAtOnce c r d → r ≡ Ok true → warned table (reclaim table d) ≡ x → GoesAtOnce c (Ok true) x
 went_at_once c d x r h e w = let k : IsDoneAtOnce c (Ok true) d = subst (λ y. IsDoneAtOnce c y d) e h in cycle_at_once c d x k.0 k.1 w
@@ -99,6 +105,10 @@ switch_dies s cause e = ap foreseen_from e
 pub warned_same : (v z : View) (f : Frame) (w x : World) → x ≡ warned_if_low nil (less (capacity_of v.head) (used table v.objects)) w → z.objects ≡ v.objects → z.head ≡ v.head
     → warned table (shown v f w) ≡ shown z f x
 warned_same v z f w x world objects head = λ i. record { memory = sym objects i; registers = registers_of f; world = sym world i; head = sym head i }
+
+-- the deed that is left is done
+pub left_shown : (u z : View) (f : Frame) (w x : World) (d : Deed) → z.objects ≡ deed_done d u.objects → z.head ≡ u.head → x ≡ world_done d u.objects w → with_deed d (shown u f w) ≡ shown z f x
+left_shown u z f w x d objects head changed = λ i. record { memory = sym objects i; registers = registers_of f; world = sym changed i; head = sym head i }
 
 module _ (v : View) (d : Demand) where
   pub not_over : fits v d ≡ true → is_over (plus (used table v.objects) d) v.head ≡ false

@@ -1,5 +1,7 @@
 pub mod Settled
 mod Endings
 mod Foreseeing
+mod Calm
 mod Runs
+mod Strides
 mod Asked

@@ -7,7 +7,7 @@ ghost use Rattle.st_world.specs.Naming.{IsNaming, naming};
 ghost use Rattle.st_model.specs.Foreseen.{foreseen_cycle};
 ghost use Rattle.st_model.specs.Calls.{transition_of};
 ghost use Rattle.st_frames.specs.Shown.{IsFrame, IsReady, shown};
-ghost use Rattle.st_machine.specs.Cycling.{Finishes, GoesAtOnce, foreseen_step};
+ghost use Rattle.st_machine.specs.Cycling.{Finishes, GoesAtOnce, foreseen_step, warns};
 ghost use Rattle.st_machine.specs.Runs.{ending_of};
 
 use st_frames::Frame;
@@ -47,8 +47,16 @@ fn is_low(free: Demand, w: &World) -> bool
     free.entries < w.low_entries() || free.words < w.low_words()
 }
 
+/// Whether it is to be told that space is low: it is, and there are a semaphore and room for its signal.
+#[inline(always)]
+pub fn needs_warning<M: Memory>(m: &M, w: &World) -> bool
+    ensures { result ≡ warns (less (capacity_of (M.view m.now).head) (used table (M.view m.now).objects)) w.now }
+{
+    w.holds(Device::LowSpace) && is_low(free_space(m), w) && w.has_signal_room()
+}
+
 /// Where space is low, has the low-space semaphore's signal pending, and lets the semaphore go.
-fn warn<M: Memory>(m: &mut M, w: &mut World)
+pub fn warn<M: Memory>(m: &mut M, w: &mut World)
     requires named { IsNaming (M.view m.old).held w.old }
     ensures world { let free = less (capacity_of (M.view m.old).head) (used table (M.view m.old).objects) in
         w.new ≡ warned_if_low nil free w.old }
@@ -56,14 +64,14 @@ fn warn<M: Memory>(m: &mut M, w: &mut World)
     ensures objects { (M.view m.new).objects ≡ (M.view m.old).objects }
     ensures head { (M.view m.new).head ≡ (M.view m.old).head }
 {
-    if w.holds(Device::LowSpace) && is_low(free_space(m), w) && w.has_signal_room() {
+    if needs_warning(m, w) {
         signal_once(m, w, Device::LowSpace);
     }
 }
 
 /// What comes after a bytecode that was done: what nothing supports any more is dropped, and where space is low that is told.
 #[inline(always)]
-fn finish<M: Memory>(m: &mut M, f: &Frame, w: &mut World)
+pub fn finish<M: Memory>(m: &mut M, f: &Frame, w: &mut World)
     requires ready { IsReady (M.view m.old) f.now w.old }
     ensures state { Finishes (shown (M.view m.old) f.now w.old) (shown (M.view m.new) f.now w.new) }
     ensures ready { IsReady (M.view m.new) f.now w.new }
@@ -74,7 +82,7 @@ fn finish<M: Memory>(m: &mut M, f: &Frame, w: &mut World)
 
 /// The next bytecode is foreseen, and done where there is room for what it makes; and then what comes after it. For want of
 /// room nothing is changed.
-fn foresee<M: Memory>(m: &mut M, f: &mut Frame, w: &mut World) -> Result<CycleEnd, Dead>
+pub fn foresee<M: Memory>(m: &mut M, f: &mut Frame, w: &mut World) -> Result<CycleEnd, Dead>
     requires ready { IsReady (M.view m.old) f.old w.old }
     ensures step { foreseen_step (shown (M.view m.old) f.old w.old)
         ≡ transition_of ending_of result (shown (M.view m.new) f.new w.new) }
@@ -105,7 +113,7 @@ fn do_at_once<M: Memory>(m: &mut M, f: &mut Frame, w: &mut World) -> Result<bool
 }
 
 /// The next bytecode is done at once, or else foreseen; and then what comes after it.
-fn do_next<M: Memory>(m: &mut M, f: &mut Frame, w: &mut World) -> Result<CycleEnd, Dead>
+pub fn do_next<M: Memory>(m: &mut M, f: &mut Frame, w: &mut World) -> Result<CycleEnd, Dead>
     requires ready { IsReady (M.view m.old) f.old w.old }
     ensures step { foreseen_step (shown (M.view m.old) f.old w.old)
         ≡ transition_of ending_of result (shown (M.view m.new) f.new w.new) }

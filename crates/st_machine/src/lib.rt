@@ -7,6 +7,8 @@ mod ending;
 mod machine;
 mod running;
 mod saving;
+mod stretch;
+mod stride;
 
 pub use ending::RunEnd;
 pub use machine::Machine;

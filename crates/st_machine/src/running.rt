@@ -2,8 +2,9 @@ ghost use Rattle.std.specs.Prelude.{◌≡◌, ◌<◌, None};
 ghost use Rattle.st_frames.specs.Shown.{IsReady, shown};
 ghost use Rattle.st_machine.specs.Runs.{EndsFrom, CountsCycles, run_end, death_of};
 
-use crate::cycling::{CycleEnd, cycle};
+use crate::cycling::CycleEnd;
 use crate::ending::RunEnd;
+use crate::stride::advance;
 use st_frames::Frame;
 use st_memory::Memory;
 use st_model::{Dead, Outcome};
@@ -43,10 +44,14 @@ pub fn run<M: Memory>(m: &mut M, f: &mut Frame, w: &mut World, n: u32) -> RunEnd
     ensures ready { death_of result ≡ None → IsReady (M.view m.new) f.new w.new }
     ensures counts { CountsCycles n result }
 {
-    for done in 0..n {
-        if let Some(end) = run_end(cycle(m, f, w), done) {
+    let mut done = 0;
+    'cycles: while done < n {
+        let next = advance(m, f, w, n - done);
+        let before = done + next.before;
+        if let Some(end) = run_end(next.end, before) {
             return end;
         }
+        done = before + 1;
     }
     RunEnd::Ran
 }

@@ -1,4 +1,4 @@
-ghost use Rattle.std.specs.Prelude.{◌≡◌, ◌≤◌, ◌+◌};
+ghost use Rattle.std.specs.Prelude.{◌≡◌, ◌≤◌, ◌+◌, false, IfOk};
 ghost use Rattle.st_model.specs.Processes.{processes};
 ghost use Rattle.st_model.specs.Input.{input};
 ghost use Rattle.st_model.specs.Deeds.{is_done, deed_of_trial};
@@ -31,7 +31,8 @@ fn process_takes(primitive: u32, arguments: u32) -> bool
     }
 }
 
-/// Tries the primitive on processes of this number. It fails where it takes another number of arguments, and where there is none.
+/// Tries the primitive on processes of this number. It fails where it takes another number of arguments, and where there is none,
+/// and then nothing is changed.
 #[tactic(auto, using(crate::proofs::ByNumber::processes_by))]
 pub fn try_process<O: Objects>(
     m: &mut O,
@@ -43,6 +44,7 @@ pub fn try_process<O: Objects>(
     ensures does { RowLeaves O.Objects.own (processes O.names primitive arguments)
         is_done deed_of_trial m.old r.old result m.new r.new }
     ensures takes { Takes O.Objects.own (tried_changes process_changes result) m.old m.new }
+    ensures still { IfOk result (λ t. is_done t ≡ false → m.new ≡ m.old) }
 {
     if !process_takes(primitive, arguments) {
         return Ok(Tried::Failed);

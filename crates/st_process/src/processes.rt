@@ -1,4 +1,4 @@
-ghost use Rattle.std.specs.Prelude.{◌≡◌, ◌≤◌, ◌+◌, ◌≤ℤ◌, pos, negsuc, IfOk};
+ghost use Rattle.std.specs.Prelude.{◌≡◌, ◌≤◌, ◌+◌, ◌≤ℤ◌, pos, negsuc, true, false, IfOk};
 ghost use Rattle.st_model.specs.Values.{word};
 ghost use Rattle.st_model.specs.Processes.{check_fields, signal_and_answer, primitive_signal, excess_of, wait_and_answer, primitive_wait, resume_and_answer, primitive_resume, check_active, suspend_and_answer, primitive_suspend};
 ghost use Rattle.st_model.specs.Calls.{itself};
@@ -32,6 +32,7 @@ fn answer_signal<O: Objects>(m: &mut O, r: &mut Registers, semaphore: Word) -> R
     ensures does { RowLeaves O.Objects.own
         (succeed_by O.names 0 (signal_and_answer O.names (word semaphore)))
         is_done deed_of_trial m.old r.old result m.new r.new }
+    ensures done { IfOk result (λ t. is_done t ≡ true) }
     ensures takes { Takes O.Objects.own 7 m.old m.new }
 {
     let deed = signal(m, r, semaphore)?;
@@ -46,6 +47,7 @@ pub fn primitive_signal<O: Objects>(m: &mut O, r: &mut Registers) -> Result<Trie
     ensures does { RowLeaves O.Objects.own (primitive_signal O.names)
         is_done deed_of_trial m.old r.old result m.new r.new }
     ensures takes { Takes O.Objects.own (tried_changes process_changes result) m.old m.new }
+    ensures still { IfOk result (λ t. is_done t ≡ false → m.new ≡ m.old) }
 {
     let receiver = top(m, r)?;
     match check_fields(m, r, receiver, 3) {
@@ -78,6 +80,7 @@ fn answer_wait<O: Objects>(
     ensures does { RowLeaves O.Objects.own
         (succeed_by O.names 0 (wait_and_answer O.names (word semaphore) excess))
         is_done deed_of_trial m.old r.old result m.new r.new }
+    ensures done { IfOk result (λ t. is_done t ≡ true) }
     ensures takes { Takes O.Objects.own 7 m.old m.new }
 {
     let deed = take_excess(m, r, semaphore, excess)?;
@@ -92,6 +95,7 @@ pub fn primitive_wait<O: Objects>(m: &mut O, r: &mut Registers) -> Result<Tried,
     ensures does { RowLeaves O.Objects.own (primitive_wait O.names)
         is_done deed_of_trial m.old r.old result m.new r.new }
     ensures takes { Takes O.Objects.own (tried_changes process_changes result) m.old m.new }
+    ensures still { IfOk result (λ t. is_done t ≡ false → m.new ≡ m.old) }
 {
     let receiver = top(m, r)?;
     match excess_of(m, r, receiver) {
@@ -107,6 +111,7 @@ fn answer_resume<O: Objects>(m: &mut O, r: &mut Registers, process: Word) -> Res
     ensures does { RowLeaves O.Objects.own
         (succeed_by O.names 0 (resume_and_answer O.names (word process)))
         is_done deed_of_trial m.old r.old result m.new r.new }
+    ensures done { IfOk result (λ t. is_done t ≡ true) }
     ensures takes { Takes O.Objects.own 4 m.old m.new }
 {
     let deed = resume(m, r, process)?;
@@ -121,6 +126,7 @@ pub fn primitive_resume<O: Objects>(m: &mut O, r: &mut Registers) -> Result<Trie
     ensures does { RowLeaves O.Objects.own (primitive_resume O.names)
         is_done deed_of_trial m.old r.old result m.new r.new }
     ensures takes { Takes O.Objects.own (tried_changes process_changes result) m.old m.new }
+    ensures still { IfOk result (λ t. is_done t ≡ false → m.new ≡ m.old) }
 {
     let receiver = top(m, r)?;
     match check_fields(m, r, receiver, 4) {
@@ -148,6 +154,7 @@ fn answer_suspend<O: Objects>(m: &mut O, r: &mut Registers) -> Result<Tried, Dea
     requires room { 4 ≤ O.room m.old }
     ensures does { RowLeaves O.Objects.own (succeed_by O.names 0 (suspend_and_answer O.names))
         is_done deed_of_trial m.old r.old result m.new r.new }
+    ensures done { IfOk result (λ t. is_done t ≡ true) }
     ensures takes { Takes O.Objects.own 4 m.old m.new }
 {
     let deed = suspend(m, r)?;
@@ -162,6 +169,7 @@ pub fn primitive_suspend<O: Objects>(m: &mut O, r: &mut Registers) -> Result<Tri
     ensures does { RowLeaves O.Objects.own (primitive_suspend O.names)
         is_done deed_of_trial m.old r.old result m.new r.new }
     ensures takes { Takes O.Objects.own (tried_changes process_changes result) m.old m.new }
+    ensures still { IfOk result (λ t. is_done t ≡ false → m.new ≡ m.old) }
 {
     let receiver = top(m, r)?;
     match check_active(m, r, receiver) {

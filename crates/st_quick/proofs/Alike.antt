@@ -130,7 +130,7 @@ module _ {m : ObjectMemory Table} (h : IsTabular m) where
   unfolding answer_with
   answer_with-as n v = rw (fun_ext pop_words-as, push-is) refl
 
-  answer_with-is : answer_with m ≡ answer_with table
+  pub answer_with-is : answer_with m ≡ answer_with table
   answer_with-is = fun_ext (λ n. fun_ext (λ v. answer_with-as n v))
 
   truth-as : (b : Bool) → truth m b ≡ truth table b
@@ -180,7 +180,7 @@ module _ {m : ObjectMemory Table} (h : IsTabular m) where
   unfolding fetch_integer
   integer-as v i = rw field-is refl
 
-  integer-is : fetch_integer m ≡ fetch_integer table
+  pub integer-is : fetch_integer m ≡ fetch_integer table
   integer-is = fun_ext (λ v. fun_ext (λ i. integer-as v i))
 
   home_by-as : (c v : Value) → home_by m c v ≡ home_by table c v
@@ -199,7 +199,7 @@ module _ {m : ObjectMemory Table} (h : IsTabular m) where
   stack_place-is : stack_place m ≡ stack_place table
   stack_place-is = fun_ext (λ c. fun_ext (λ n. stack_place-as c n))
 
-  is_there-as : (t : Table) (v : Value) → is_there m t v ≡ is_there table t v
+  pub is_there-as : (t : Table) (v : Value) → is_there m t v ≡ is_there table t v
   is_there-as t (Small n) = refl
   is_there-as t (Ref n) = rw h.read refl
 

@@ -1,5 +1,6 @@
 -- What is done at once is the bytecode: it dies of the same cause, or goes on to the same state.
-use Rattle.std.proofs.Common.{◌≡◌, ℕ, Bool, true, false, Option, Some, None, refl}
+use Rattle.std.proofs.Common.{◌≡◌, ℕ, Bool, true, false, Option, Some, None, refl, sym, subst, arith}
+use Rattle.std.proofs.lemmas.Bool.Decides.{nat_tests}
 use Rattle.std.specs.Prelude.{◌==◌, if◌then◌else◌, ℤ, pos, ◌+◌, ◌*◌}
 use Rattle.st_model.specs.declared.dead.Dead.{Dead}
 use Rattle.st_model.specs.declared.bytecode.Bytecode.{Bytecode}
@@ -19,13 +20,14 @@ use Rattle.st_model.specs.Contexts.{activate}
 use Rattle.st_model.specs.Returns.{calls_nothing, return_into, return_to_context, return_to, return_to_sender, return_to_caller, jump_on}
 use Rattle.st_model.specs.Primitives.{succeed, primitive}
 use Rattle.st_model.specs.Arithmetic.{arithmetic, arithmetic_number, integer_answer, value_of_answer}
-use Rattle.st_model.specs.Executing.{goes_on, execute_by, execute, executed, execute_if_any, executed_if_any}
+use Rattle.st_model.specs.Processes.{processes}
+use Rattle.st_model.specs.Executing.{goes_on, or_activate, respond, respond_by_extension, respond_or_perform, execute_by, execute, executed, execute_if_any, executed_if_any}
 use Rattle.st_model.specs.Bytecodes.{send_literal, or_send, arithmetic_by, arithmetic_send, primitive_send, return_receiver, return_constant, return_top_to_sender, return_top_to_caller, short_jump_on_false, long_jump_on_true, long_jump_on_false, bytecode, step}
 use Rattle.st_model.specs.Table.{Table}
 use Rattle.st_model.proofs.Runs.{run-tried_went, run-tried_died}
 use Rattle.st_control.specs.AtOnce.{at_once, enter_context, context_space, activate_at_once, jump_at_once, return_to_context_at_once, return_at_once, return_to_sender_at_once, return_to_caller_at_once}
 use Rattle.st_frames.proofs.Doing.{rows}
-use Rattle.st_quick.specs.AtOnce.{execute_at_once_by, execute_at_once, found_at_once, send_from_at_once, send_at_once, literal_send_at_once, answered_at_once, arithmetic_at_once_by, arithmetic_at_once, primitive_at_once, long_jump_at_once, return_receiver_at_once, return_constant_at_once, return_top_to_sender_at_once, return_top_to_caller_at_once, bytecode_at_once, step_at_once}
+use Rattle.st_quick.specs.AtOnce.{respond_at_once, execute_at_once_by, execute_at_once, found_at_once, send_from_at_once, send_at_once, literal_send_at_once, answered_at_once, arithmetic_at_once_by, arithmetic_at_once, primitive_at_once, long_jump_at_once, return_receiver_at_once, return_constant_at_once, return_top_to_sender_at_once, return_top_to_caller_at_once, unsent_at_once, bytecode_at_once, step_at_once}
 
 -- a primitive on SmallIntegers that is tried
 
@@ -72,6 +74,10 @@ if-as : {A : Type 0} (x : A) (b : Bool) (p q : Step Table Bool) (u v : Step Tabl
 if-as x true p q u v h k = h
 if-as x false p q u v h k = k
 
+either-as : {A : Type 0} (x : A) (b : Bool) (p q : Step Table Bool) (r : Step Table A) → (b ≡ true → IsAs x p r) → IsAs x q r → IsAs x (if b then p else q) r
+either-as x true p q r h k = h refl
+either-as x false p q r h k = k
+
 not-as : {A : Type 0} (x : A) (q : Step Table A) → IsAs x (answer false) q
 unfolding answer
 not-as x q s = tt
@@ -111,17 +117,21 @@ executed-as : (m : ObjectMemory Table) (p : Step Table Bool) (q : Step Table (Op
 unfolding executed_if_any ◌>>=◌
 executed-as m p q h s = executed-on m (p.run s) (q.run s) (h s)
 
-sent-on : (m : ObjectMemory Table) (k : ℕ) (e : Step Table Outcome) (o r : Transition (State Table) Bool) → As true o r
+tried-on : (e : Step Table Outcome) (o r : Transition (State Table) Bool) → As true o r
     → As outcome.Went o (after r (λ b t. (if b then answer outcome.Went else e).run t))
 unfolding after answer
-sent-on m k e (Died cause) r h = rw h refl
-sent-on m k e (Went true t) r h = rw h refl
-sent-on m k e (Went false t) r h = tt
+tried-on e (Died cause) r h = rw h refl
+tried-on e (Went true t) r h = rw h refl
+tried-on e (Went false t) r h = tt
 
 -- a primitive that succeeded
 or_send-as : (m : ObjectMemory Table) (k : ℕ) (p q : Step Table Bool) → IsAs true p q → IsAs outcome.Went p (or_send m k q)
 unfolding or_send ◌>>=◌
-or_send-as m k p q h s = sent-on m k _ (p.run s) (q.run s) (h s)
+or_send-as m k p q h s = tried-on _ (p.run s) (q.run s) (h s)
+
+or_activate-as : (m : ObjectMemory Table) (call : Call) (header : Value) (p : Step Table Bool) → IsAs outcome.Went p (or_activate m call header p)
+unfolding or_activate ◌>>=◌
+or_activate-as m call header p s = tried-on _ (p.run s) (p.run s) (self-as (p.run s))
 
 both-as : {A : Type 0} (x : A) (b : Bool) (p : Step Table Bool) (q : Step Table A) → IsAs x p q → IsAs x (if b then p else answer false) q
 both-as x true p q h = h
@@ -168,12 +178,32 @@ module _ (m : ObjectMemory Table) where
   unfolding answer
   went-as s = refl
 
+  -- a method responds by its primitive, where that is one on processes
+
+  module _ (call : Call) (header : Value) where
+    numbered-as : (p k : ℕ) (q : Step Table Bool) → respond_or_perform m call header k ≡ or_activate m call header q → (p == k) ≡ true → IsAs outcome.Went q (respond_or_perform m call header p)
+    numbered-as p k q h e =
+        let same : p ≡ k = grind (arith, nat_tests, e) in
+        subst (λ i. IsAs outcome.Went q (respond_or_perform m call header i)) (sym same) (subst (λ r. IsAs outcome.Went q r) (sym h) (or_activate-as m call header q))
+
+    processes-as : (p : ℕ) → IsAs outcome.Went (processes m p call.arguments) (respond_or_perform m call header p)
+    unfolding processes respond_or_perform respond
+    processes-as p =
+        either-as _ (p == 85) _ _ _ (numbered-as p 85 _ refl)
+        (either-as _ (p == 86) _ _ _ (numbered-as p 86 _ refl)
+        (either-as _ (p == 87) _ _ _ (numbered-as p 87 _ refl)
+        (either-as _ (p == 88) _ _ _ (numbered-as p 88 _ refl) (not-as _ _))))
+
+    respond-as : IsAs outcome.Went (respond_at_once m call.method call.arguments) (respond_by_extension m (respond_or_perform m call header) call)
+    unfolding respond_at_once respond_by_extension
+    respond-as = then-as _ _ _ _ processes-as
+
   execute-as : (method : Value) (n : ℕ) → IsAs outcome.Went (execute_at_once m method n) (execute m (record { method = method; arguments = n }))
   unfolding execute_at_once execute_at_once_by execute execute_by
   execute-as method n =
       then-as _ _ _ _ (λ header. if-as _ (flag_of header == 5) _ _ _ _ went-as
       (if-as _ (flag_of header == 6) _ _ _ _ (goes_on-as _)
-      (if-as _ (flag_of header == 7) _ _ _ _ (not-as _ _) (activate-as method header n))))
+      (if-as _ (flag_of header == 7) _ _ _ _ (respond-as (record { method = method; arguments = n }) header) (activate-as method header n))))
 
   found-as : (class selector : Value) (n : ℕ) (method : Option Value) → IsAs outcome.Went (found_at_once m n method) (executed m (call_found m class selector n method))
   unfolding found_at_once call_found
@@ -234,36 +264,41 @@ module _ (m : ObjectMemory Table) where
   unfolding long_jump_at_once
   long_jump-as wanted other i = then-as _ _ _ _ (λ b. jump_on-as wanted other (pos (i * 256 + b)))
 
+  unsent-as : (b : Bytecode) → IsAs outcome.Went (unsent_at_once m b) (bytecode m b)
+  unfolding unsent_at_once bytecode return_receiver_at_once return_constant_at_once return_top_to_sender_at_once return_top_to_caller_at_once return_receiver return_constant return_top_to_sender return_top_to_caller short_jump_on_false long_jump_on_true long_jump_on_false
+  unsent-as (code.Push operand) = goes_on-as _
+  unsent-as (code.StoreAndPop operand) = goes_on-as _
+  unsent-as code.PushReceiver = goes_on-as _
+  unsent-as (code.PushConstant c) = goes_on-as _
+  unsent-as code.ReturnReceiver = executed-as m _ _ (then-as _ _ _ _ return_to_sender-as)
+  unsent-as (code.ReturnConstant c) = executed-as m _ _ (then-as _ _ _ _ return_to_sender-as)
+  unsent-as code.ReturnTopToSender = executed-as m _ _ (then-as _ _ _ _ return_to_sender-as)
+  unsent-as code.ReturnTopToCaller = executed-as m _ _ (then-as _ _ _ _ return_to_caller-as)
+  unsent-as code.Unused = not-as _ _
+  unsent-as code.ExtendedPush = goes_on-as _
+  unsent-as code.ExtendedStore = goes_on-as _
+  unsent-as code.ExtendedStoreAndPop = goes_on-as _
+  unsent-as code.ExtendedSend = not-as _ _
+  unsent-as code.DoubleExtendedSend = not-as _ _
+  unsent-as code.ExtendedSuperSend = not-as _ _
+  unsent-as code.DoubleExtendedSuperSend = not-as _ _
+  unsent-as code.PopStack = goes_on-as _
+  unsent-as code.DuplicateTop = goes_on-as _
+  unsent-as code.PushActiveContext = goes_on-as _
+  unsent-as (code.ShortUnconditionalJump i) = goes_on-as _
+  unsent-as (code.ShortJumpOnFalse i) = executed-as m _ _ (jump_on-as FalseObject TrueObject (pos (i + 1)))
+  unsent-as (code.LongUnconditionalJump i) = goes_on-as _
+  unsent-as (code.LongJumpOnTrue i) = executed-as m _ _ (long_jump-as TrueObject FalseObject i)
+  unsent-as (code.LongJumpOnFalse i) = executed-as m _ _ (long_jump-as FalseObject TrueObject i)
+  unsent-as (code.ArithmeticSend k) = arithmetic-as k
+  unsent-as (code.SpecialSend k) = not-as _ _
+  unsent-as (code.PrimitiveSend k) = primitive-as k
+  unsent-as (code.LiteralSend i n) = not-as _ _
+
   bytecode-as : (b : Bytecode) → IsAs outcome.Went (bytecode_at_once m b) (bytecode m b)
-  unfolding bytecode_at_once bytecode return_receiver_at_once return_constant_at_once return_top_to_sender_at_once return_top_to_caller_at_once return_receiver return_constant return_top_to_sender return_top_to_caller short_jump_on_false long_jump_on_true long_jump_on_false
-  bytecode-as (code.Push operand) = goes_on-as _
-  bytecode-as (code.StoreAndPop operand) = goes_on-as _
-  bytecode-as code.PushReceiver = goes_on-as _
-  bytecode-as (code.PushConstant c) = goes_on-as _
-  bytecode-as code.ReturnReceiver = executed-as m _ _ (then-as _ _ _ _ return_to_sender-as)
-  bytecode-as (code.ReturnConstant c) = executed-as m _ _ (then-as _ _ _ _ return_to_sender-as)
-  bytecode-as code.ReturnTopToSender = executed-as m _ _ (then-as _ _ _ _ return_to_sender-as)
-  bytecode-as code.ReturnTopToCaller = executed-as m _ _ (then-as _ _ _ _ return_to_caller-as)
-  bytecode-as code.Unused = not-as _ _
-  bytecode-as code.ExtendedPush = goes_on-as _
-  bytecode-as code.ExtendedStore = goes_on-as _
-  bytecode-as code.ExtendedStoreAndPop = goes_on-as _
-  bytecode-as code.ExtendedSend = not-as _ _
-  bytecode-as code.DoubleExtendedSend = not-as _ _
-  bytecode-as code.ExtendedSuperSend = not-as _ _
-  bytecode-as code.DoubleExtendedSuperSend = not-as _ _
-  bytecode-as code.PopStack = goes_on-as _
-  bytecode-as code.DuplicateTop = goes_on-as _
-  bytecode-as code.PushActiveContext = goes_on-as _
-  bytecode-as (code.ShortUnconditionalJump i) = goes_on-as _
-  bytecode-as (code.ShortJumpOnFalse i) = executed-as m _ _ (jump_on-as FalseObject TrueObject (pos (i + 1)))
-  bytecode-as (code.LongUnconditionalJump i) = goes_on-as _
-  bytecode-as (code.LongJumpOnTrue i) = executed-as m _ _ (long_jump-as TrueObject FalseObject i)
-  bytecode-as (code.LongJumpOnFalse i) = executed-as m _ _ (long_jump-as FalseObject TrueObject i)
-  bytecode-as (code.ArithmeticSend k) = arithmetic-as k
-  bytecode-as (code.SpecialSend k) = not-as _ _
-  bytecode-as (code.PrimitiveSend k) = primitive-as k
+  unfolding bytecode_at_once bytecode
   bytecode-as (code.LiteralSend i n) = literal_send-as i n
+  bytecode-as b = unsent-as b
 
   pub step-as : IsAs outcome.Went (step_at_once m) (step m)
   unfolding step_at_once step

@@ -20,6 +20,7 @@ use Rattle.st_model.proofs.Tabular.{method_header-as}
 use Rattle.st_memory.specs.Tabular.{bounded_tabular}
 use Rattle.st_control.specs.AtOnce.{at_once, enter_context, context_space, activate_at_once}
 use Rattle.st_quick.specs.AtOnce.{execute_at_once_by, execute_at_once, found_at_once, send_from_at_once, send_at_once}
+use Rattle.st_quick.proofs.AlikeProcesses.{respond-is}
 use Rattle.st_quick.proofs.Alike.{page-is, class-is, field-is, count-is, store-is, transfer-is, top-is, under-is, pop-is, push-is, switch-is}
 
 -- the search for a method
@@ -182,7 +183,7 @@ answer_field-is = fun_ext answer_field-as
 
 execute-as : (method : Value) (n : ℕ) → execute_at_once bounded_table method n ≡ execute_at_once table method n
 unfolding execute_at_once execute_at_once_by
-execute-as method n = rw (header-is, answer_field-is, activate-is) refl
+execute-as method n = rw (header-is, answer_field-is, respond-is bounded_tabular, activate-is) refl
 
 found-as : (n : ℕ) (method : Option Value) → found_at_once bounded_table n method ≡ found_at_once table n method
 unfolding found_at_once

@@ -1,5 +1,6 @@
 pub mod AtOnce
 pub mod Alike
+pub mod AlikeProcesses
 pub mod Entered
 pub mod AlikeRows
 pub mod Linked

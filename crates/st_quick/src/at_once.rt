@@ -4,22 +4,24 @@ ghost use Rattle.st_model.specs.Calls.{itself};
 ghost use Rattle.st_model.specs.Decoded.{IsNumbered};
 ghost use Rattle.st_ints.specs.Answers.{IsOfSmall};
 ghost use Rattle.st_model.specs.declared.page.PageObject.TheVariants.{FalseObject, TrueObject};
-ghost use Rattle.st_control.specs.AtOnce.{IsStill, at_once, jump_at_once, return_to_sender_at_once};
-ghost use Rattle.st_quick.specs.AtOnce.{execute_at_once_by, execute_at_once, found_at_once, send_from_at_once, send_at_once, literal_send_at_once, answered_at_once, arithmetic_at_once_by, arithmetic_at_once, primitive_at_once, long_jump_at_once, return_receiver_at_once, return_constant_at_once, return_top_to_sender_at_once, return_top_to_caller_at_once, bytecode_at_once, step_at_once};
+ghost use Rattle.st_control.specs.AtOnce.{IsStill, at_once, activate_at_once, jump_at_once, return_to_sender_at_once};
+ghost use Rattle.st_quick.specs.AtOnce.{was_done, deed_left, StillToForesee, respond_at_once, execute_at_once_by, execute_at_once, found_at_once, send_from_at_once, send_at_once, literal_send_at_once, answered_at_once, arithmetic_at_once_by, arithmetic_at_once, primitive_at_once, long_jump_at_once, return_receiver_at_once, return_constant_at_once, return_top_to_sender_at_once, return_top_to_caller_at_once, unsent_at_once, bytecode_at_once, step_at_once};
 ghost use Rattle.st_model.specs.Methods.{flag_of};
 ghost use Rattle.st_lookup.specs.Places.{found_word};
-ghost use Rattle.st_frames.specs.Rows.{RowMoves, RowDoes, Takes, activation_changes};
+ghost use Rattle.st_frames.specs.Rows.{RowMoves, RowDoes, RowLeaves, Takes, activation_changes};
 
+use crate::ending::RowEnd;
 use st_control::{
-    activate_at_once, jump_at_once, return_to_caller_at_once, return_to_sender_at_once,
-    value_at_once,
+    activate_at_once, jump_at_once, method_primitive, return_to_caller_at_once,
+    return_to_sender_at_once, value_at_once,
 };
 use st_frames::{Registers, next_byte, page, pop, under};
 use st_ints::IntAnswer;
 use st_lookup::look_up;
 use st_memory::Objects;
 use st_method::Header;
-use st_model::{Bytecode, Constant, Dead, PageObject, Word, decode};
+use st_model::{Bytecode, Constant, Dead, PageObject, Tried, Word, decode};
+use st_process::try_process;
 use st_rows::{
     answer_field, answer_pair, arithmetic_number, constant_value, duplicate_top, equivalence,
     extended_push, extended_store, extended_store_and_pop, fetch_literal_constant, integer_answer,
@@ -215,7 +217,52 @@ fn return_top_to_caller_at_once<O: Objects>(m: &mut O, r: &mut Registers) -> Res
     return_to_caller_at_once(m, r, x)
 }
 
-/// Executes a method by its header's flag, unless it has a primitive. Answers whether it did.
+/// A new context of the method becomes the active one, where there is room for it.
+#[tactic(auto, using(st_frames::proofs::Doing::rows))]
+fn activated_at_once<O: Objects>(
+    m: &mut O,
+    r: &mut Registers,
+    method: Word,
+    header: Header,
+    n: u32,
+) -> Result<RowEnd, Dead>
+    requires few { n < 16384 }
+    requires room { activation_changes ≤ O.room m.old }
+    ensures does { RowLeaves O.Objects.own (activate_at_once O.names (word method) (word header.0) n)
+        was_done deed_left m.old r.old result m.new r.new }
+    ensures takes { Takes O.Objects.own activation_changes m.old m.new }
+    ensures still { StillToForesee m.old result m.new }
+{
+    if activate_at_once(m, r, method, header, n)? {
+        Ok(RowEnd::Done)
+    } else {
+        Ok(RowEnd::ToForesee)
+    }
+}
+
+/// Does a method's primitive, where that is one on processes and doesn't fail.
+#[tactic(auto, using(st_frames::proofs::Doing::rows), unfolding(crate::specs::AtOnce::respond_at_once))]
+fn respond_at_once<O: Objects>(
+    m: &mut O,
+    r: &mut Registers,
+    method: Word,
+    n: u32,
+) -> Result<RowEnd, Dead>
+    requires room { activation_changes ≤ O.room m.old }
+    ensures does { RowLeaves O.Objects.own (respond_at_once O.names (word method) n)
+        was_done deed_left m.old r.old result m.new r.new }
+    ensures takes { Takes O.Objects.own activation_changes m.old m.new }
+    ensures still { StillToForesee m.old result m.new }
+{
+    let primitive = method_primitive(m, r, method)?;
+    match try_process(m, r, primitive, n)? {
+        Tried::Done(deed) => Ok(RowEnd::Leaves(deed)),
+        Tried::Failed => Ok(RowEnd::ToForesee),
+    }
+}
+
+/// Executes a method by its header's flag: one that answers the receiver or a field, responds by a primitive on processes, or is
+/// activated.
 #[tactic(auto, using(st_frames::proofs::Doing::rows), unfolding(crate::specs::AtOnce::execute_at_once_by, st_control::specs::AtOnce::at_once))]
 fn execute_at_once_by<O: Objects>(
     m: &mut O,
@@ -223,67 +270,67 @@ fn execute_at_once_by<O: Objects>(
     method: Word,
     header: Header,
     n: u32,
-) -> Result<bool, Dead>
+) -> Result<RowEnd, Dead>
     requires few { n < 16384 }
     requires room { activation_changes ≤ O.room m.old }
-    ensures does { RowDoes O.Objects.own
+    ensures does { RowLeaves O.Objects.own
         (execute_at_once_by O.names (word method) (word header.0) n (flag_of (word header.0)))
-        itself m.old r.old result m.new r.new }
+        was_done deed_left m.old r.old result m.new r.new }
     ensures takes { Takes O.Objects.own activation_changes m.old m.new }
-    ensures still { IsStill m.old result m.new }
+    ensures still { StillToForesee m.old result m.new }
 {
     match header.flag() {
-        5 => Ok(true),
+        5 => Ok(RowEnd::Done),
         6 => {
             answer_field(m, r, header.temporaries())?;
-            Ok(true)
+            Ok(RowEnd::Done)
         }
-        7 => Ok(false),
-        _ => activate_at_once(m, r, method, header, n),
+        7 => respond_at_once(m, r, method, n),
+        _ => activated_at_once(m, r, method, header, n),
     }
 }
 
-/// Executes a method with n arguments, unless it has a primitive. Answers whether it did.
+/// Executes a method with n arguments.
 #[tactic(auto, using(st_frames::proofs::Doing::rows), unfolding(crate::specs::AtOnce::execute_at_once))]
 fn execute_at_once<O: Objects>(
     m: &mut O,
     r: &mut Registers,
     method: Word,
     n: u32,
-) -> Result<bool, Dead>
+) -> Result<RowEnd, Dead>
     requires few { n < 16384 }
     requires room { activation_changes ≤ O.room m.old }
-    ensures does { RowDoes O.Objects.own (execute_at_once O.names (word method) n)
-        itself m.old r.old result m.new r.new }
+    ensures does { RowLeaves O.Objects.own (execute_at_once O.names (word method) n)
+        was_done deed_left m.old r.old result m.new r.new }
     ensures takes { Takes O.Objects.own activation_changes m.old m.new }
-    ensures still { IsStill m.old result m.new }
+    ensures still { StillToForesee m.old result m.new }
 {
     let header = Header(m.method_header(method)?);
     execute_at_once_by(m, r, method, header, n)
 }
 
-/// Executes the method that was found, if one was, with n arguments. Answers whether it did.
+/// Executes the method that was found, if one was, with n arguments.
 #[tactic(auto, using(st_frames::proofs::Doing::rows), unfolding(crate::specs::AtOnce::found_at_once))]
 fn found_at_once<O: Objects>(
     m: &mut O,
     r: &mut Registers,
     n: u32,
     method: Option<Word>,
-) -> Result<bool, Dead>
+) -> Result<RowEnd, Dead>
     requires few { n < 16384 }
     requires room { activation_changes ≤ O.room m.old }
-    ensures does { RowDoes O.Objects.own (found_at_once O.names n (found_word method))
-        itself m.old r.old result m.new r.new }
+    ensures does { RowLeaves O.Objects.own (found_at_once O.names n (found_word method))
+        was_done deed_left m.old r.old result m.new r.new }
     ensures takes { Takes O.Objects.own activation_changes m.old m.new }
-    ensures still { IsStill m.old result m.new }
+    ensures still { StillToForesee m.old result m.new }
 {
     match method {
         Some(method) => execute_at_once(m, r, method, n),
-        None => Ok(false),
+        None => Ok(RowEnd::ToForesee),
     }
 }
 
-/// Sends the selector with n arguments, where the search begins in this class. Answers whether it did.
+/// Sends the selector with n arguments, where the search begins in this class.
 #[tactic(auto, using(st_frames::proofs::Doing::rows), unfolding(crate::specs::AtOnce::send_from_at_once))]
 fn send_from_at_once<O: Objects>(
     m: &mut O,
@@ -291,63 +338,64 @@ fn send_from_at_once<O: Objects>(
     class: Word,
     selector: Word,
     n: u32,
-) -> Result<bool, Dead>
+) -> Result<RowEnd, Dead>
     requires few { n < 16384 }
     requires room { activation_changes ≤ O.room m.old }
-    ensures does { RowDoes O.Objects.own (send_from_at_once O.names (word class) (word selector) n)
-        itself m.old r.old result m.new r.new }
+    ensures does { RowLeaves O.Objects.own (send_from_at_once O.names (word class) (word selector) n)
+        was_done deed_left m.old r.old result m.new r.new }
     ensures takes { Takes O.Objects.own activation_changes m.old m.new }
-    ensures still { IsStill m.old result m.new }
+    ensures still { StillToForesee m.old result m.new }
 {
     let method = look_up(m, class, selector)?;
     found_at_once(m, r, n, method)
 }
 
-/// Sends the selector with n arguments to the word n words below the top. Answers whether it did.
+/// Sends the selector with n arguments to the word n words below the top.
 #[tactic(auto, using(st_frames::proofs::Doing::rows), unfolding(crate::specs::AtOnce::send_at_once))]
 fn send_at_once<O: Objects>(
     m: &mut O,
     r: &mut Registers,
     selector: Word,
     n: u32,
-) -> Result<bool, Dead>
+) -> Result<RowEnd, Dead>
     requires few { n < 16384 }
     requires room { activation_changes ≤ O.room m.old }
-    ensures does { RowDoes O.Objects.own (send_at_once O.names (word selector) n)
-        itself m.old r.old result m.new r.new }
+    ensures does { RowLeaves O.Objects.own (send_at_once O.names (word selector) n)
+        was_done deed_left m.old r.old result m.new r.new }
     ensures takes { Takes O.Objects.own activation_changes m.old m.new }
-    ensures still { IsStill m.old result m.new }
+    ensures still { StillToForesee m.old result m.new }
 {
     let receiver = under(m, r, n)?;
     let class = m.fetch_class(receiver)?;
     send_from_at_once(m, r, class, selector, n)
 }
 
-/// Sends literal i with n arguments. Answers whether it did.
+/// Sends literal i with n arguments.
 #[tactic(auto, using(st_frames::proofs::Doing::rows), unfolding(crate::specs::AtOnce::literal_send_at_once))]
 fn literal_send_at_once<O: Objects>(
     m: &mut O,
     r: &mut Registers,
     i: u32,
     n: u32,
-) -> Result<bool, Dead>
+) -> Result<RowEnd, Dead>
     requires few { n < 16384 }
     requires room { activation_changes ≤ O.room m.old }
-    ensures does { RowDoes O.Objects.own (literal_send_at_once O.names i n)
-        itself m.old r.old result m.new r.new }
+    ensures does { RowLeaves O.Objects.own (literal_send_at_once O.names i n)
+        was_done deed_left m.old r.old result m.new r.new }
     ensures takes { Takes O.Objects.own activation_changes m.old m.new }
-    ensures still { IsStill m.old result m.new }
+    ensures still { StillToForesee m.old result m.new }
 {
     let selector = fetch_literal_constant(m, r, i)?;
     send_at_once(m, r, selector, n)
 }
 
-/// Does the row of a bytecode, where that is done at once. Answers whether that is so.
-#[tactic(auto, using(st_frames::proofs::Doing::rows), unfolding(crate::specs::AtOnce::bytecode_at_once, st_control::specs::AtOnce::at_once))]
-fn bytecode_at_once<O: Objects>(m: &mut O, r: &mut Registers, code: Bytecode) -> Result<bool, Dead>
+/// Does the row of a bytecode that is no send by 208 to 255, where that is done at once. Answers whether that is so.
+#[inline(always)]
+#[tactic(auto, using(st_frames::proofs::Doing::rows), unfolding(crate::specs::AtOnce::unsent_at_once, st_control::specs::AtOnce::at_once))]
+fn unsent_at_once<O: Objects>(m: &mut O, r: &mut Registers, code: Bytecode) -> Result<bool, Dead>
     requires numbered { IsNumbered code }
     requires room { activation_changes ≤ O.room m.old }
-    ensures does { RowDoes O.Objects.own (bytecode_at_once O.names code)
+    ensures does { RowDoes O.Objects.own (unsent_at_once O.names code)
         itself m.old r.old result m.new r.new }
     ensures takes { Takes O.Objects.own activation_changes m.old m.new }
     ensures still { IsStill m.old result m.new }
@@ -374,26 +422,51 @@ fn bytecode_at_once<O: Objects>(m: &mut O, r: &mut Registers, code: Bytecode) ->
         Bytecode::LongJumpOnTrue(i) => return jump_on_true_at_once(m, r, i),
         Bytecode::ArithmeticSend(k) => return arithmetic_at_once(m, r, u32::from(k)),
         Bytecode::PrimitiveSend(k) => return primitive_at_once(m, r, u32::from(k)),
-        Bytecode::LiteralSend { literal, arguments } => {
-            return literal_send_at_once(m, r, u32::from(literal), u32::from(arguments));
-        }
         Bytecode::Unused
         | Bytecode::ExtendedSend
         | Bytecode::DoubleExtendedSend
         | Bytecode::ExtendedSuperSend
         | Bytecode::DoubleExtendedSuperSend
-        | Bytecode::SpecialSend(_) => return Ok(false),
+        | Bytecode::SpecialSend(_)
+        | Bytecode::LiteralSend { .. } => return Ok(false),
     }
     Ok(true)
 }
 
-/// Does the next bytecode, where that is done at once. Answers whether that is so.
-#[tactic(auto, using(st_frames::proofs::Doing::rows), unfolding(crate::specs::AtOnce::step_at_once))]
-pub fn row_at_once<O: Objects>(m: &mut O, r: &mut Registers) -> Result<bool, Dead>
+/// Does the row of a bytecode, where that is done at once.
+#[inline(always)]
+#[tactic(auto, using(st_frames::proofs::Doing::rows), unfolding(crate::specs::AtOnce::bytecode_at_once))]
+fn bytecode_at_once<O: Objects>(
+    m: &mut O,
+    r: &mut Registers,
+    code: Bytecode,
+) -> Result<RowEnd, Dead>
+    requires numbered { IsNumbered code }
     requires room { activation_changes ≤ O.room m.old }
-    ensures does { RowDoes O.Objects.own (step_at_once O.names) itself m.old r.old result m.new r.new }
+    ensures does { RowLeaves O.Objects.own (bytecode_at_once O.names code)
+        was_done deed_left m.old r.old result m.new r.new }
     ensures takes { Takes O.Objects.own activation_changes m.old m.new }
-    ensures still { IsStill m.old result m.new }
+    ensures still { StillToForesee m.old result m.new }
+{
+    if let Bytecode::LiteralSend { literal, arguments } = code {
+        return literal_send_at_once(m, r, u32::from(literal), u32::from(arguments));
+    }
+    if unsent_at_once(m, r, code)? {
+        Ok(RowEnd::Done)
+    } else {
+        Ok(RowEnd::ToForesee)
+    }
+}
+
+/// Does the next bytecode, where that is done at once.
+#[inline(always)]
+#[tactic(auto, using(st_frames::proofs::Doing::rows), unfolding(crate::specs::AtOnce::step_at_once))]
+pub fn row_at_once<O: Objects>(m: &mut O, r: &mut Registers) -> Result<RowEnd, Dead>
+    requires room { activation_changes ≤ O.room m.old }
+    ensures does { RowLeaves O.Objects.own (step_at_once O.names)
+        was_done deed_left m.old r.old result m.new r.new }
+    ensures takes { Takes O.Objects.own activation_changes m.old m.new }
+    ensures still { StillToForesee m.old result m.new }
 {
     let byte = next_byte(m, r)?;
     bytecode_at_once(m, r, decode(byte))

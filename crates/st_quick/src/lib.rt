@@ -1,8 +1,11 @@
 //! Bytecodes that are done at once, without being foreseen (chapter 28): pushes, stores, jumps and returns, arithmetic on
-//! SmallIntegers, and sends by 208 to 255 that activate a method where there is room for its context. `st_step` has all bytecodes.
+//! SmallIntegers, and sends by 208 to 255 that activate a method where there is room for its context, or do a primitive on
+//! processes. `st_step` has all bytecodes.
 #![tactic(auto)]
 
 mod at_once;
+mod ending;
 mod quick;
 
-pub use quick::step_at_once;
+pub use ending::RowEnd;
+pub use quick::{step_at_once, step_from};

@@ -1,68 +1,64 @@
 ghost use Rattle.std.specs.Prelude.{◌≡◌, true, IfOk};
-ghost use Rattle.st_model.specs.Values.{value, word};
-ghost use Rattle.st_model.specs.Table.{table};
-ghost use Rattle.st_model.specs.Steps.{are_there};
 ghost use Rattle.st_frames.specs.Rows.{registers_in};
-ghost use Rattle.st_frames.specs.Shown.{IsFrame, IsReady, StaysFrame, registers_of, shown};
-ghost use Rattle.st_quick.specs.AtOnce.{IsDoneAtOnce};
+ghost use Rattle.st_frames.specs.Shown.{IsReady, registers_of, shown};
+ghost use Rattle.st_quick.specs.AtOnce.{was_done, IsDoneBut, IsDoneAtOnce};
 
 use crate::at_once::row_at_once;
-use st_frames::{Frame, Registers, hold, load};
+use crate::ending::RowEnd;
+use st_deeds::carry_out;
+use st_frames::{Frame, Registers, load};
 use st_memory::Memory;
-use st_model::{Dead, Oop, Word};
+use st_model::Dead;
+use st_near::Near;
 use st_world::World;
 
-/// Whether a word is a pointer.
-fn is_pointer(w: Word, o: Oop) -> bool
-    ensures { result ≡ true → word w ≡ value o }
+/// Does the next bytecode at once, from registers that are those of the frame, or answers that it is to be foreseen, and then
+/// objects and frame are as they were. Where it was done, the registers are again those of the frame, and a deed may be left to
+/// be done; else the registers are of no more use. What a machine that dies leaves isn't said.
+#[inline(always)]
+pub fn step_from<M: Memory>(
+    near: &mut Near<M>,
+    f: &mut Frame,
+    r: &mut Registers,
+) -> Result<RowEnd, Dead>
+    requires same { registers_in r.old ≡ registers_of f.old }
+    requires ready { IsReady (M.view near.old.memory.now) f.old r.old.world.now }
+    ensures done { IsDoneBut (shown (M.view near.old.memory.now) f.old r.old.world.now) result
+        (shown (M.view near.new.memory.now) f.new r.old.world.now) }
+    ensures ready { IfOk result (λ end. IsReady (M.view near.new.memory.now) f.new r.old.world.now) }
+    ensures same { IfOk result (λ end. was_done end ≡ true → registers_in r.new ≡ registers_of f.new) }
+    ensures world { r.new.world.now ≡ r.old.world.now }
+    ensures same_memory { near.new.memory.ghost_name ≡ near.old.memory.ghost_name }
 {
-    w.0 == u32::from(o.0)
-}
-
-/// Whether the registers name what they named.
-fn names_same(r: &Registers, f: &Frame) -> bool
-    ensures active { result ≡ true → word r.now.active ≡ value f.now.active }
-    ensures home { result ≡ true → word r.now.home ≡ value f.now.home }
-    ensures method { result ≡ true → word r.now.method ≡ value f.now.method }
-    ensures receiver { result ≡ true → word r.now.receiver ≡ value f.now.receiver }
-{
-    is_pointer(r.active, f.active)
-        && is_pointer(r.home, f.home)
-        && is_pointer(r.method, f.method)
-        && is_pointer(r.receiver, f.receiver)
-}
-
-/// Keeps the registers that a row leaves, all of which are there. Where they name what they named, that is held already; else
-/// they are held at their places.
-fn hold_again<M: Memory>(m: &mut M, f: &mut Frame, r: &Registers)
-    requires there { are_there table (M.view m.old).objects (registers_in r.now) ≡ true }
-    requires frame { IsFrame (M.view m.old) f.old }
-    ensures same { registers_of f.new ≡ registers_in r.now }
-    ensures objects { (M.view m.new).objects ≡ (M.view m.old).objects }
-    ensures head { (M.view m.new).head ≡ (M.view m.old).head }
-    ensures frame { StaysFrame (M.view m.old) (M.view m.new) f.new }
-{
-    if names_same(r, f) {
-        f.ip = r.ip;
-        f.sp = r.sp;
-    } else {
-        *f = hold(m, r);
+    match row_at_once(near, r)? {
+        RowEnd::ToForesee => Ok(RowEnd::ToForesee),
+        RowEnd::Done => {
+            near.hold_again(f, r);
+            Ok(RowEnd::Done)
+        }
+        RowEnd::Leaves(deed) => {
+            near.hold_again(f, r);
+            Ok(RowEnd::Leaves(deed))
+        }
     }
 }
 
-/// Does the next bytecode at once, or answers that it is to be foreseen, and then nothing is changed.
-/// What a machine that dies leaves isn't said.
-pub fn step_at_once<M: Memory>(m: &mut M, f: &mut Frame, w: &World) -> Result<bool, Dead>
-    requires ready { IsReady (M.view m.old) f.old w.now }
-    ensures done { IsDoneAtOnce (shown (M.view m.old) f.old w.now) result
-        (shown (M.view m.new) f.new w.now) }
-    ensures ready { IfOk result (λ done. IsReady (M.view m.new) f.new w.now) }
+/// Does the next bytecode at once, and what it leaves to be done, or answers that it is to be foreseen, and then nothing is
+/// changed. What a machine that dies leaves isn't said.
+pub fn step_at_once<M: Memory>(m: &mut M, f: &mut Frame, w: &mut World) -> Result<bool, Dead>
+    requires ready { IsReady (M.view m.old) f.old w.old }
+    ensures done { IsDoneAtOnce (shown (M.view m.old) f.old w.old) result
+        (shown (M.view m.new) f.new w.new) }
+    ensures ready { IfOk result (λ done. IsReady (M.view m.new) f.new w.new) }
 {
     let mut r = load(m, f, w);
-    if row_at_once(m, &mut r)? {
-        hold_again(m, f, &r);
-        Ok(true)
-    } else {
-        Ok(false)
+    let mut near = Near::new(m, f);
+    match step_from(&mut near, f, &mut r)? {
+        RowEnd::ToForesee => Ok(false),
+        RowEnd::Done => Ok(true),
+        RowEnd::Leaves(deed) => {
+            carry_out(m, w, deed);
+            Ok(true)
+        }
     }
 }

@@ -6,9 +6,10 @@ ghost use Rattle.st_model.specs.Sends.{call_of, call_if_any};
 ghost use Rattle.st_model.specs.Executing.{respond_or_perform, execute, execute_if_any};
 ghost use Rattle.st_frames.specs.Rows.{RowLeaves, Takes, execution_changes};
 
-use crate::flags::{by_flag, method_primitive};
+use crate::flags::by_flag;
 use crate::perform::{perform_or_activate, primitive_perform_with};
 use crate::respond::{is_with, respond};
+use st_control::method_primitive;
 use st_frames::Registers;
 use st_memory::Objects;
 use st_method::Header;

@@ -1,41 +1,19 @@
-ghost use Rattle.std.specs.Prelude.{◌≡◌, ◌≤◌, ◌+◌, ◌<◌};
+ghost use Rattle.std.specs.Prelude.{◌≤◌, ◌+◌};
 ghost use Rattle.st_model.specs.Values.{word};
 ghost use Rattle.st_model.specs.Outcomes.{end_of};
 ghost use Rattle.st_model.specs.Deeds.{deed_of_end};
 ghost use Rattle.st_model.specs.Sends.{call_of};
 ghost use Rattle.st_model.specs.Executing.{execute_performed};
-ghost use Rattle.st_model.specs.Methods.{primitive_number, method_primitive};
-ghost use Rattle.st_model.specs.Calls.{itself};
 ghost use Rattle.st_step.specs.Responding.{by_flag};
-ghost use Rattle.st_frames.specs.Rows.{RowReads, RowDoes, RowLeaves, Takes, activation_changes, response_changes};
+ghost use Rattle.st_frames.specs.Rows.{RowLeaves, Takes, activation_changes, response_changes};
 
 use crate::respond::{activated, respond};
+use st_control::method_primitive;
 use st_frames::Registers;
 use st_memory::Objects;
 use st_method::Header;
-use st_model::{Call, Dead, Deed, StepEnd, Word};
+use st_model::{Call, Dead, Deed, StepEnd};
 use st_rows::answer_field;
-
-/// The primitive that a header extension names.
-#[tactic(auto, using(st_method::proofs::Bits::primitives), unfolding(st_model::specs::Methods::primitive_number))]
-fn primitive_number<O: Objects>(m: &O, r: &Registers, extension: Word) -> Result<u32, Dead>
-    ensures does { RowReads O.Objects.own (primitive_number (word extension)) itself m.now r.now result }
-{
-    if extension.is_small() {
-        Ok(extension.0 / 2 % 256)
-    } else {
-        Err(Dead::NotSmall)
-    }
-}
-
-/// The primitive of a method.
-#[tactic(auto, using(st_frames::proofs::Doing::rows), unfolding(st_model::specs::Methods::method_primitive))]
-pub fn method_primitive<O: Objects>(m: &O, r: &Registers, method: Word) -> Result<u32, Dead>
-    ensures does { RowReads O.Objects.own (method_primitive O.names (word method)) itself m.now r.now result }
-{
-    let extension = m.literal_from_last(method, 1)?;
-    primitive_number(m, r, extension)
-}
 
 /// A method that has no header extension is executed by its flag.
 #[tactic(auto, using(st_frames::proofs::Doing::rows), unfolding(crate::specs::Responding::by_flag, st_model::specs::Executing::goes_on))]

@@ -1,0 +1,98 @@
+ghost use Rattle.std.specs.Prelude.{◌≡◌, ◌≤◌, Ok, None, IfOk, OnOk};
+ghost use Rattle.st_frames.specs.Rows.{registers_in};
+ghost use Rattle.st_frames.specs.Shown.{IsReady, registers_of, shown};
+ghost use Rattle.st_machine.specs.Cycling.{GoesCalmly, IsCalm};
+ghost use Rattle.st_machine.specs.Strides.{GoesOn};
+
+use crate::cycling::needs_warning;
+use st_frames::{Frame, Registers, load};
+use st_memory::Memory;
+use st_model::{Dead, Deed};
+use st_near::Near;
+use st_quick::{RowEnd, step_from};
+use st_world::World;
+
+/// Why a stretch ended before as many cycles were done as were asked for.
+#[derive(Clone, Copy)]
+pub enum StretchEnd {
+    /// The next bytecode is to be foreseen.
+    ToForesee,
+    /// The next bytecode was done but for this, which is left to be done; and then what comes after it.
+    Leaves(Deed),
+    /// The next bytecode was done, and what nothing supports was dropped; that space is low is to be told.
+    Warns,
+}
+
+/// A stretch of cycles whose bytecodes were done at once.
+#[derive(Clone, Copy)]
+pub struct Stretch {
+    /// How many there were.
+    pub done: u32,
+    /// Why there were no more, if as many were asked for; or what the machine died of in the next one.
+    pub end: Result<Option<StretchEnd>, Dead>,
+}
+
+/// The next bytecode is done at once, and then what comes after it where the world is calm: what nothing supports any more is
+/// dropped. Or the stretch ends here. While it goes on, the registers are those of the frame; else they are of no more use.
+#[inline(always)]
+fn do_calmly<M: Memory>(
+    near: &mut Near<M>,
+    f: &mut Frame,
+    r: &mut Registers,
+) -> Result<Option<StretchEnd>, Dead>
+    requires same { registers_in r.old ≡ registers_of f.old }
+    requires ready { IsReady (M.view near.old.memory.now) f.old r.old.world.now }
+    ensures step { GoesCalmly (shown (M.view near.old.memory.now) f.old r.old.world.now) result
+        (shown (M.view near.new.memory.now) f.new r.old.world.now) }
+    ensures ready { IfOk result (λ end. IsReady (M.view near.new.memory.now) f.new r.old.world.now) }
+    ensures same { result ≡ Ok None → registers_in r.new ≡ registers_of f.new }
+    ensures world { r.new.world.now ≡ r.old.world.now }
+    ensures same_memory { near.new.memory.ghost_name ≡ near.old.memory.ghost_name }
+{
+    match step_from(near, f, r)? {
+        RowEnd::ToForesee => Ok(Some(StretchEnd::ToForesee)),
+        RowEnd::Leaves(deed) => Ok(Some(StretchEnd::Leaves(deed))),
+        RowEnd::Done => {
+            near.settle();
+            if needs_warning(near.memory, r.world) {
+                Ok(Some(StretchEnd::Warns))
+            } else {
+                Ok(None)
+            }
+        }
+    }
+}
+
+/// Does cycles in a calm world, at most n of them, up to the first whose bytecode isn't done at once, leaves a deed or leaves little
+/// space, or of which the machine dies. They go as those of the book's machine do from each state over births that is shown.
+pub fn go_on<M: Memory>(m: &mut M, f: &mut Frame, w: &World, n: u32) -> Stretch
+    requires ready { IsReady (M.view m.old) f.old w.now }
+    requires calm { IsCalm w.now }
+    ensures goes { GoesOn (shown (M.view m.old) f.old w.now) result (shown (M.view m.new) f.new w.now) }
+    ensures ready { OnOk result.end (IsReady (M.view m.new) f.new w.now) }
+    ensures most { result.done ≤ n }
+{
+    let mut r = load(m, f, w);
+    let mut near = Near::new(m, f);
+    for done in 0..n {
+        match do_calmly(&mut near, f, &mut r) {
+            Ok(None) => {}
+            Ok(Some(end)) => {
+                return Stretch {
+                    done,
+                    end: Ok(Some(end)),
+                };
+            }
+            Err(cause) => {
+                return Stretch {
+                    done,
+                    end: Err(cause),
+                };
+            }
+        }
+    }
+    Stretch {
+        done: n,
+        end: Ok(None),
+    }
+}
