@@ -9,3 +9,7 @@ mod Swept
 mod Taking
 mod TakingRows
 mod Tallying
+pub mod Beginning
+mod Holding
+pub mod Instances
+mod Nothing

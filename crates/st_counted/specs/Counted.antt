@@ -1,7 +1,7 @@
 -- What the parts of a memory contain.
 use Rattle.std.specs.Prelude.{◌≡◌, ℕ, List, Option, []}
 use Rattle.st_model.specs.View.{View, head_of}
-use Rattle.st_lists.specs.Held.{held_of}
+use Rattle.st_counted.specs.Held.{held_of}
 use Rattle.st_stored.specs.Tables.{objects_of, room_of}
 use Rattle.st_counts.specs.Contents.{counts_of}
 use Rattle.st_counted.specs.declared.contents.Contents.{Contents}

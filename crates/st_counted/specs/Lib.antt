@@ -1,3 +1,5 @@
 pub mod Counted
 pub mod References
 pub mod Taking
+pub mod Held
+pub mod Words

@@ -1,4 +1,3 @@
-mod Beginning
 mod Closed
 mod Counting
 mod Exchanging

@@ -11,7 +11,7 @@ use Rattle.st_model.specs.Table.{Table}
 use Rattle.st_model.specs.View.{with_object}
 use Rattle.st_model.proofs.Pointers.{value_of-even}
 use Rattle.st_lists.specs.declared.entry.Entry.{Entry}
-use Rattle.st_lists.specs.Words.{nil_word}
+use Rattle.st_counted.specs.Words.{nil_word}
 use Rattle.st_lists.specs.Lists.{entry_object, listed_table, slot, new_entry, words_for, IsApart, IsPlaced, AllPlaced, AllApart, IsLaidOut, IsFull, cleared}
 
 -- runs before a place are the same in lists that are the same up to it

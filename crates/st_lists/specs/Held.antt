@@ -1,34 +1,9 @@
--- What is held, by the words.
-use Rattle.std.specs.Prelude.{ℕ, ◌==◌, Bool, List, [], ◌∷◌, map, ⊤}
-use Rattle.st_model.specs.declared.oop.Oop.{Oop}
-use Rattle.st_model.specs.declared.place.RootPlace.{RootPlace}
-use Rattle.st_model.specs.declared.place.RootPlace.TheVariants as place
-use Rattle.st_model.specs.Values.{Value, value}
+-- What is held, by name.
+use Rattle.std.specs.Prelude.{ℕ, ◌==◌, Bool, List, [], ◌∷◌}
+use Rattle.st_model.specs.Values.{Value}
 use Rattle.st_model.specs.Machine.{device_roots}
 use Rattle.st_model.specs.Settled.{or, any_names}
 use Rattle.st_model.specs.View.{Held}
-use Rattle.st_lists.specs.declared.roots.Places.{Places}
-use Rattle.st_lists.specs.declared.roots.Roots.{Roots}
-
-abbrev pub held_words : Places → List Oop → Held
-held_words p pending = record {
-  active = value p.active;
-  home = value p.home;
-  method = value p.method;
-  receiver = value p.receiver;
-  devices = record {
-    new_process = value p.new_process;
-    display = value p.display;
-    cursor = value p.cursor;
-    input_semaphore = value p.input_semaphore;
-    timer = value p.timer;
-    low_space = value p.low_space;
-    pending = map value pending;
-  };
-}
-
-abbrev pub held_of : Roots → Held
-held_of r = held_words r.places r.pending.items
 
 abbrev pub register_roots : Held → List Value
 register_roots h = h.active ∷ h.home ∷ h.method ∷ h.receiver ∷ []
@@ -36,17 +11,3 @@ register_roots h = h.active ∷ h.home ∷ h.method ∷ h.receiver ∷ []
 -- the name is nil's, or that of what is held
 abbrev pub names_held : Held → ℕ → Bool
 names_held h n = or (any_names (register_roots h) n) (or (any_names (device_roots h.devices) n) (n == 1))
-
--- not one of the pending signals
-abbrev pub IsSinglePlace : RootPlace → Type 0
-IsSinglePlace place.Active = ⊤
-IsSinglePlace place.Home = ⊤
-IsSinglePlace place.Method = ⊤
-IsSinglePlace place.Receiver = ⊤
-IsSinglePlace place.NewProcess = ⊤
-IsSinglePlace place.Display = ⊤
-IsSinglePlace place.Cursor = ⊤
-IsSinglePlace place.InputSemaphore = ⊤
-IsSinglePlace place.Timer = ⊤
-IsSinglePlace place.LowSpace = ⊤
-IsSinglePlace (place.Pending k) = ⊥

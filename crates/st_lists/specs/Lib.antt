@@ -2,4 +2,3 @@ pub mod Held
 pub mod Lists
 pub mod Marked
 pub mod Plain
-pub mod Words

@@ -14,4 +14,4 @@ mod runs;
 pub use adding::{fields_of, units_of};
 pub use marks::Marks;
 pub use objects::Objects;
-pub use roots::Roots;
+pub use roots::mark_roots;

@@ -1,4 +1,2 @@
-pub mod Beginning
-pub mod Instances
 pub mod Needing
 pub mod Room

@@ -6,7 +6,8 @@ ghost use Rattle.st_model.specs.Table.{total_used, settled_table, first_free, pl
 ghost use Rattle.st_model.specs.Settled.{is_marked};
 ghost use Rattle.st_model.specs.View.{empty_view, head_of, fits, IsWhole};
 
-use st_lists::{Marks, Objects, Roots, fields_of, units_of};
+use st_counted::Roots;
+use st_lists::{Marks, Objects, fields_of, mark_roots, units_of};
 use st_model::{Demand, Kind, Oop};
 use std::alloc::{AllocError, Global};
 use std::mem::swap;
@@ -73,7 +74,7 @@ impl Contents {
         self.marks.mark_page();
         self.marks.mark_table(self.head.globals);
         self.marks.mark_table(self.head.symbols);
-        self.roots.mark(&mut self.marks);
+        mark_roots(&self.roots, &mut self.marks);
         self.objects.mark_references(&mut self.marks);
     }
 

@@ -1,7 +1,7 @@
 use Rattle.std.proofs.Common.{◌≡◌, ◌∙◌, ap, ◌/◌, [], ◌∷◌, refl, sym, subst, arith}
 use Rattle.std.proofs.lemmas.Bool.{eqb-true}
 use Rattle.st_model.specs.View.{with_held}
-use Rattle.st_lists.specs.Held.{held_of}
+use Rattle.st_counted.specs.Held.{held_of}
 use Rattle.st_model.specs.Values.{Value, value, value_of}
 use Rattle.st_counts.specs.Contents.{counts_of}
 use Rattle.st_counted.specs.References.{all_roots, references, IsCounted}

@@ -1,7 +1,7 @@
 use Rattle.st_model.specs.View.{head_of}
-use Rattle.st_lists.specs.Held.{held_of}
+use Rattle.st_counted.specs.Held.{held_of}
 use Rattle.st_stored.specs.Tables.{objects_of}
-use Rattle.st_plain.proofs.Beginning.{empty_is}
+use Rattle.st_counted.proofs.Beginning.{empty_is}
 use Rattle.st_counted.proofs.contents.Contents.new.Goals as goal
 
 pub returns-clause-empty : goal.returns-clause-empty

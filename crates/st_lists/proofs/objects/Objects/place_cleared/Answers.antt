@@ -1,7 +1,7 @@
 use Rattle.std.proofs.Common.{◌≡◌, ◌/◌, set, ap, ◌∙◌, take, drop, replicate, arith}
 use Rattle.std.specs.Prelude.{Some}
 use Rattle.std.proofs.lemmas.Grind.{common_steps}
-use Rattle.st_lists.specs.Words.{nil_word}
+use Rattle.st_counted.specs.Words.{nil_word}
 use Rattle.st_lists.specs.Lists.{slot, cleared}
 use Rattle.st_lists.specs.Plain.{Extent, objects_of}
 use Rattle.st_lists.proofs.Placing.{cleared_object, set_object}

@@ -15,7 +15,7 @@ returns-clause-marked c = λ n below.
     let globals = any_names (table_root v.head.globals) n in
     let symbols = any_names (table_root v.head.symbols) n in
     c.mark_references.ensures n
-    ∙ ap (or (is_referred v.objects n)) (c.mark.ensures n
+    ∙ ap (or (is_referred v.objects n)) (c.mark_roots.ensures n
     ∙ ap (or (names_held v.held n)) (c.mark_table-2.ensures n
     ∙ ap (or symbols) (c.mark_table.ensures n
     ∙ ap (or globals) (c.mark_page.ensures n ∙ ap (or (is_of_page n)) (c.clear.ensures.cleared n below) ∙ or_false (is_of_page n)))))

@@ -6,7 +6,7 @@ use Rattle.st_model.specs.Values.{Value, value, value_of}
 use Rattle.st_model.specs.Table.{Table}
 use Rattle.st_model.specs.View.{is_live, object_of, is_instance}
 use Rattle.st_plain.specs.Plain.{plain_view}
-use Rattle.st_plain.proofs.Instances.{gone_instance, live_instance, other_instance, same_word}
+use Rattle.st_counted.proofs.Instances.{gone_instance, live_instance, other_instance, same_word}
 use Rattle.st_plain.proofs.memory.PlainMemoryMemory.next_of.Goals as goal
 
 pub returns-then-eq-clause-found : goal.returns-then-eq-clause-found

@@ -1,5 +1,0 @@
-use Rattle.st_lists.proofs.Beginning.{nothing_words}
-use Rattle.st_lists.proofs.roots.Roots.new.Goals as goal
-
-pub returns : goal.returns
-returns c = nothing_words c.in_ok-pending.pending.items c.in_ok-pending.ensures.len c.in_ok-pending.ensures.nil
