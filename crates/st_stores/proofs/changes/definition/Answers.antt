@@ -1,5 +1,5 @@
 use Rattle.std.proofs.Common.{List, ℕ, refl, sym, subst, codes, false, lit≤}
-use Rattle.st_chunk.specs.Definitions.{Definition, IsDefinition}
+use Rattle.st_chunk.specs.Definitions.{IsDefinition}
 use Rattle.st_stores.proofs.changes.definition.Goals as goal
 
 good : IsDefinition (record { class = codes "Point"; meta = false; category = codes "it's!"; text = codes "x ^'!'" })
