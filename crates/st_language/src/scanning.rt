@@ -1,4 +1,7 @@
-use crate::{scan, tokens};
+//! Texts that are scanned: their tokens, or the scanner's first fault.
+
+use crate::parsing::repeated;
+use st_scan::{scan, tokens};
 use st_tree::{Cause, Fault, Sort, Token};
 use std::alloc::{AllocError, Global};
 use std::process::Abort;
@@ -221,18 +224,28 @@ const PLACES: [(&[u8], &[u8], &str); 12] = [
 fn every_byte_has_its_place(rt: HostRuntime) -> Result<(), Fail> {
     for byte in [0, 11, 255] {
         for (before, behind, expected) in PLACES {
-            let mut text = before.to_vec(rt.alloc())?;
-            text.push(byte)?;
-            text.extend_from_slice(behind)?;
-            let shown = shown(&rt, rt.alloc(), &text)?;
-            assert_eq!(rt; shown.as_str(), expected, "at {text:?}");
+            let text = repeated(rt.alloc(), before, &[byte], 1, behind)?;
+            let found = shown(&rt, rt.alloc(), &text)?;
+            assert_eq!(rt; found.as_str(), expected, "at {text:?}");
         }
-        let character = shown(&rt, rt.alloc(), &[b'$', byte])?;
-        let expected = format!(in rt.alloc(); "character {byte} 0 2")?;
-        assert_eq!(rt; character, expected);
     }
-    let blanks = shown(&rt, rt.alloc(), b"\t\n\x0c\r a")?;
-    assert_eq!(rt; blanks.as_str(), "name 5 6");
+    Ok(())
+}
+
+/// Bytes behind a `$`, of which each is a character, and bytes before a name, of which each is a blank.
+const CHARACTERS: [(&[u8], &str); 4] = [
+    (b"$\x00", "character 0 0 2"),
+    (b"$\x0b", "character 11 0 2"),
+    (b"$\xff", "character 255 0 2"),
+    (b"\t\n\x0c\r a", "name 5 6"),
+];
+
+#[test]
+fn characters_and_blanks_are_of_any_byte(rt: HostRuntime) -> Result<(), Fail> {
+    for (text, expected) in CHARACTERS {
+        let found = shown(&rt, rt.alloc(), text)?;
+        assert_eq!(rt; found.as_str(), expected, "at {text:?}");
+    }
     Ok(())
 }
 

@@ -1,4 +1,6 @@
-use crate::{Expression, Message, Name};
+//! Trees that are as deep as a text can make them.
+
+use st_tree::{Expression, Message, Name};
 use std::alloc::{AllocError, Global};
 use std::test::Fail;
 

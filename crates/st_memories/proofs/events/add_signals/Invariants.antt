@@ -1,5 +1,5 @@
 use Rattle.st_world.specs.Naming.{IsNaming}
-use Rattle.st_memories.proofs.events.signals_are_added.Given as goal
+use Rattle.st_memories.proofs.events.add_signals.Given as goal
 
 -- the memory holds what the world names
 abbrev pub invariant-loop : goal.invariant-loop
