@@ -45,11 +45,17 @@ pub(crate) enum Place {
     Unguarded,
 }
 
+/// A roots file that is locked as long as it is open, and what told it from all others as it was opened.
+#[derive(Drop)]
+struct Held {
+    _file: File,
+    metadata: Metadata,
+}
+
 /// Locks the roots file of a store.
 #[derive(Drop)]
 pub(crate) struct Guard {
-    // The roots file that is locked.
-    held: Option<File>,
+    held: Option<Held>,
     // A call has found no roots file. Then one that is there later is another process's.
     was_absent: bool,
     // It stays. What is refused once is refused for good.
@@ -80,7 +86,7 @@ impl Guard {
         }
         match &self.held {
             Some(held) => match fs::metadata(rt, name) {
-                Ok(found) if are_same(&held.metadata()?, &found) => Ok(Place::Held),
+                Ok(found) if are_same(&held.metadata, &found) => Ok(Place::Held),
                 _ => Err(self.refuse(Refusal::Replaced)),
             },
             None => self.find_roots(rt, name),
@@ -129,9 +135,13 @@ impl Guard {
 
     // Doesn't wait for another process.
     fn lock(&mut self, file: File) -> io::Result<()> {
+        let metadata = file.metadata()?;
         match file.try_lock() {
             Ok(()) => {
-                self.held = Some(file);
+                self.held = Some(Held {
+                    _file: file,
+                    metadata,
+                });
                 Ok(())
             }
             Err(TryLockError::WouldBlock) => Err(self.refuse(Refusal::InUse)),
