@@ -9,8 +9,8 @@ mod tests;
 mod tool;
 
 use crate::tool::exit_code;
+use st_call::{Command, read_command};
 use st_host::{DirHost, StdinSource};
-use st_session::{Command, read_command};
 use std::io;
 use std::process::ExitCode;
 
