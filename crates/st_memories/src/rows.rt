@@ -329,12 +329,16 @@ fn carry_out<M: Memory>(rt: &impl Abort, m: &mut M, call: Call) {
     }
 }
 
+fn carry_out_all<M: Memory>(rt: &impl Abort, m: &mut M, calls: &[Call]) {
+    for next in calls {
+        carry_out(rt, m, *next);
+    }
+}
+
 fn rows_hold<L: Loader>(rt: &(impl Abort + AllocGlobal)) -> Result<(), Fail> {
     for (plan, entries, words, calls) in ROWS {
         let mut m = image::<L>(rt.alloc(), &plan, entries, words)?;
-        for next in calls {
-            carry_out(rt, &mut m, *next);
-        }
+        carry_out_all(rt, &mut m, calls);
     }
     Ok(())
 }
