@@ -9,17 +9,27 @@ mod tests;
 mod tool;
 
 use crate::tool::exit_code;
+use st_call::{Command, read_command};
 use st_host::{DirHost, StdinSource};
 use std::io;
 use std::process::ExitCode;
 
 fn main(rt: HostRuntime) -> io::Result<ExitCode> {
     let alloc = rt.alloc();
+    let errors = rt.stderr();
     let mut words = Vec::new(alloc);
     for word in std::env::args(&rt)?.skip(1) {
         words.push(word)?;
     }
     let mut script = StdinSource::new(&rt);
     let mut host = DirHost::new(rt);
-    Ok(exit_code(alloc, words.as_slice(), &mut host, &mut script))
+    if let Some(Command::Export { store, image }) = read_command(words.as_slice()) {
+        host.keep_stores_from(store, image)?;
+    }
+    let code = exit_code(alloc, words.as_slice(), &mut host, &mut script);
+    if let Some(refusal) = host.refusal() {
+        // The status says it too, where this can't be said.
+        errors.println(format_args!("st80: {refusal}")).ok();
+    }
+    Ok(code)
 }

@@ -9,16 +9,18 @@ ghost use Rattle.st_course.specs.Statuses.{StatusHasCause, number_of};
 ghost use Rattle.st_course.specs.declared.status.Status.TheVariants.{Usage};
 ghost use Rattle.st_session.specs.Builds.{BuildEnds};
 ghost use Rattle.st_session.specs.Calls.{OnlySays, CallEnds};
-ghost use Rattle.st_session.specs.Commands.{OnceEnds, SaysLastLine};
+ghost use Rattle.st_session.specs.Commands.{OnceEnds};
+ghost use Rattle.st_call.specs.LastLines.{SaysLastLine};
 ghost use Rattle.st_session.specs.Exports.{ExportEnds};
 ghost use Rattle.st_session.specs.Imports.{ImportEnds};
 ghost use Rattle.st_session.specs.StoreSessions.{SessionCommandEnds};
-ghost use Rattle.st_session.specs.Words.{command_of, Once, Import, Export, Session, Build};
+ghost use Rattle.st_call.specs.Words.{command_of, Once, Import, Export, Session, Build};
 
+use st_call::{Command, read_command, refuse};
 use st_counted::CountedLoader;
 use st_course::Status;
 use st_outside::{Host, Source};
-use st_session::{Command, build, export, import, once, read_command, refuse, session};
+use st_session::{build, export, import, once, session};
 use std::alloc::Global;
 use std::process::ExitCode;
 

@@ -20,6 +20,3 @@ pub use definition::Definition;
 pub use laws::{one_damage, one_list};
 pub use loading::load;
 pub use st_index::Span;
-
-#[cfg(test)]
-mod tests;

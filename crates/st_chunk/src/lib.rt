@@ -8,6 +8,3 @@ mod laws;
 pub use cutting::{Chunks, Fed};
 pub use doubling::doubled;
 pub use laws::{chunks_by_bytes, entries_read_back, method_read_back, whole_text};
-
-#[cfg(test)]
-mod tests;

@@ -211,18 +211,10 @@ fn put(bytes: &mut Text, code: Code) -> Result<(), AllocError>
     ensures { OnOk result (bytes.new.items ≡ bytes.old.items ++ code_view code) }
 {
     match code {
-        Code::One(a) => bytes.push(a)?,
-        Code::Two(a, b) => {
-            bytes.push(a)?;
-            bytes.push(b)?;
-        }
-        Code::Three(a, b, c) => {
-            bytes.push(a)?;
-            bytes.push(b)?;
-            bytes.push(c)?;
-        }
+        Code::One(a) => bytes.extend_from_slice(&[a]),
+        Code::Two(a, b) => bytes.extend_from_slice(&[a, b]),
+        Code::Three(a, b, c) => bytes.extend_from_slice(&[a, b, c]),
     }
-    Ok(())
 }
 
 /// The bytes of instructions that all come to their places.

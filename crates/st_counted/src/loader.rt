@@ -61,6 +61,3 @@ impl Loader for CountedLoader {
         CountedMemory::new(contents)
     }
 }
-
-#[cfg(test)]
-mod tests;

@@ -18,6 +18,3 @@ pub use cause::Cause;
 pub use part::{Class, Part, Pool, Side, Start, Text};
 pub use reading::{Kernel, read};
 pub use shape::Shape;
-
-#[cfg(test)]
-mod tests;

@@ -14,62 +14,63 @@ pub fn sum(a: usize, b: usize) -> Result<usize, AllocError>
     a.checked_add(b).ok_or(AllocError)
 }
 
-/// The block arguments in expressions.
+/// The block arguments in expressions, counted on from `start`.
 #[cycle(counting)]
-fn names_in_all(es: &[Expression]) -> Result<usize, AllocError>
-    ensures { IfOk result (λ n. n ≡ names_in_all (expressions_view es.now)) }
+fn names_in_all(start: usize, es: &[Expression]) -> Result<usize, AllocError>
+    ensures { IfOk result (λ n. n ≡ start + names_in_all (expressions_view es.now)) }
 {
-    let mut total = 0;
+    let mut total = start;
     for e in es {
-        total = sum(total, names_in(e)?)?;
+        total = names_in(total, e)?;
     }
     Ok(total)
 }
 
-/// The block arguments in messages.
+/// The block arguments in messages, counted on from `start`.
 #[cycle(counting)]
-fn names_in_messages(messages: &[Message]) -> Result<usize, AllocError>
-    ensures { IfOk result (λ n. n ≡ names_in_messages (messages_view messages.now)) }
+fn names_in_messages(start: usize, messages: &[Message]) -> Result<usize, AllocError>
+    ensures { IfOk result (λ n. n ≡ start + names_in_messages (messages_view messages.now)) }
 {
-    let mut total = 0;
+    let mut total = start;
     for m in messages {
-        total = sum(total, names_in_all(&m.arguments)?)?;
+        total = names_in_all(total, &m.arguments)?;
     }
     Ok(total)
 }
 
-/// The block arguments in an expression. It goes down the receivers and the assigned values by a loop.
+/// The block arguments in an expression, counted on from `start`. It goes down the receivers and the assigned values by
+/// a loop.
 #[cycle(counting)]
 #[tactic(auto, using(st_tree::proofs::Views::views))]
-fn names_in(e: &Expression) -> Result<usize, AllocError>
-    ensures { IfOk result (λ n. n ≡ names_in (expression_view e.now)) }
+fn names_in(start: usize, e: &Expression) -> Result<usize, AllocError>
+    ensures { IfOk result (λ n. n ≡ start + names_in (expression_view e.now)) }
 {
-    let mut total = 0;
+    let mut total = start;
     let mut inner = e;
     'down: loop {
         match inner {
             Expression::Variable(_) | Expression::Literal(_) => return Ok(total),
             Expression::Block { names, body } => {
-                let inside = sum(names.len(), names_in_statements(body)?)?;
-                return sum(total, inside);
+                let inside = sum(total, names.len())?;
+                return names_in_statements(inside, body);
             }
             Expression::Assign { value, .. } => inner = value,
             Expression::Send { receiver, messages } => {
-                total = sum(total, names_in_messages(messages)?)?;
+                total = names_in_messages(total, messages)?;
                 inner = receiver;
             }
         }
     }
 }
 
-/// The block arguments in statements, up to one after `^`.
+/// The block arguments in statements, up to one after `^`, counted on from `start`.
 #[cycle(counting)]
-pub fn names_in_statements(statements: &[Statement]) -> Result<usize, AllocError>
-    ensures { IfOk result (λ n. n ≡ names_in_statements (statements_view statements.now)) }
+pub fn names_in_statements(start: usize, statements: &[Statement]) -> Result<usize, AllocError>
+    ensures { IfOk result (λ n. n ≡ start + names_in_statements (statements_view statements.now)) }
 {
-    let mut total = 0;
+    let mut total = start;
     for s in statements {
-        total = sum(total, names_in(&s.value)?)?;
+        total = names_in(total, &s.value)?;
         if s.returns {
             return Ok(total);
         }

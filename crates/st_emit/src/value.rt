@@ -164,7 +164,7 @@ fn sent(
     match shape_of(m) {
         Shape::Plain => message(alloc, draft, around, Lookup::InClass, m),
         Shape::One(side, a) => {
-            let behind = sum(around.next, names_in_statements(a)?)?;
+            let behind = names_in_statements(around.next, a)?;
             let form = Choice {
                 on: passes_on(side),
                 first: a,
@@ -174,7 +174,7 @@ fn sent(
             choice(alloc, draft, around, form)
         }
         Shape::Two(TwoSided::TrueFirst, a, b) => {
-            let behind = sum(around.next, names_in_statements(a)?)?;
+            let behind = names_in_statements(around.next, a)?;
             let form = Choice {
                 on: false,
                 first: a,
@@ -184,7 +184,7 @@ fn sent(
             choice(alloc, draft, around, form)
         }
         Shape::Two(TwoSided::FalseFirst, a, b) => {
-            let behind = sum(around.next, names_in_statements(a)?)?;
+            let behind = names_in_statements(around.next, a)?;
             let form = Choice {
                 on: false,
                 first: b,
@@ -196,7 +196,7 @@ fn sent(
                 ..around
             };
             choice(alloc, draft, second, form)?;
-            sum(behind, names_in_statements(b)?)
+            names_in_statements(behind, b)
         }
     }
 }

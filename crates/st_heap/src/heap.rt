@@ -10,9 +10,6 @@ use st_model::Oop;
 use st_table::{Entry, Table};
 use std::alloc::{AllocError, Global};
 
-#[cfg(test)]
-mod tests;
-
 /// A heap. Clauses see its words (`words_of`) and its blocks by half of their place (`blocks_of`).
 #[derive(Drop)]
 pub struct Heap {

@@ -3,17 +3,21 @@ ghost use Rattle.std.specs.Prelude.{◌≡◌, ◌≤◌, false, None, [], lengt
 ghost use Rattle.st_outside.specs.Counts.{HasCause};
 ghost use Rattle.st_host.specs.Untold.{untold, CountsOnce};
 
+use crate::guard::{Guard, Place, Refusal};
 use st_outside::{Host, HostFault, SayFault};
-use std::fs::{OpenFile, OpenOptions};
+use std::alloc::AllocError;
+use std::fs::{File, OpenOptions};
 use std::io::{self, ErrorKind, Read, Seek, SeekFrom, Write};
 use std::rt::Files;
 
 /// Files of the current folder by their names, and standard output.
 ///
-/// Each error raises its count, up to the last value of 64 bits.
+/// Each error raises its count, up to the last value of 64 bits. A roots file of a store, whose name ends with `.roots`, is locked
+/// from the first call that finds or makes it until the host is dropped, and calls fail as `refusal` tells.
 #[derive(Drop)]
-pub struct DirHost<R: Files + Print + Drop> {
+pub struct DirHost<R: Files<File = File> + Print + AllocGlobal + Drop> {
     rt: R,
+    guard: Guard,
     // A file was made in the current folder, or in another, whose name may not be on disk yet.
     made_here: bool,
     made_elsewhere: bool,
@@ -21,7 +25,7 @@ pub struct DirHost<R: Files + Print + Drop> {
     say_faults: u64,
 }
 
-impl<R: Files + Print + Drop> DirHost<R> {
+impl<R: Files<File = File> + Print + AllocGlobal + Drop> DirHost<R> {
     ghost use Rattle.st_host.specs.Untold.{KeepsCounts};
 
     /// A host over this runtime, of which no call has failed.
@@ -31,6 +35,7 @@ impl<R: Files + Print + Drop> DirHost<R> {
     {
         DirHost {
             rt,
+            guard: Guard::new(),
             made_here: false,
             made_elsewhere: false,
             disk_faults: 0,
@@ -38,29 +43,45 @@ impl<R: Files + Print + Drop> DirHost<R> {
         }
     }
 
+    /// From now on each call on a file fails, where an image that is exported from this store would be written over a file of a
+    /// store.
+    pub fn keep_stores_from(&mut self, store: &str, image: &str) -> Result<(), AllocError>
+        ensures { KeepsCounts self.old.disk_faults self.old.say_faults
+            self.new.disk_faults self.new.say_faults }
+    {
+        self.guard.keep_stores_from(&self.rt, store, image)
+    }
+
+    /// Why calls on files fail that the files themselves would allow.
+    pub fn refusal(&self) -> Option<Refusal> {
+        self.guard.refusal()
+    }
+
     // None where there is no such file.
-    fn open(&self, name: &str) -> io::Result<Option<R::File>> {
-        match OpenOptions::new().read(true).open(&self.rt, name) {
-            Ok(file) => Ok(Some(file)),
-            Err(error) => {
-                if error.kind() == ErrorKind::NotFound {
-                    Ok(None)
-                } else {
-                    Err(error)
-                }
-            }
+    fn open(&mut self, name: &str) -> io::Result<Option<File>>
+        ensures { KeepsCounts self.old.disk_faults self.old.say_faults
+            self.new.disk_faults self.new.say_faults }
+    {
+        match self.guard.admit(&self.rt, name)? {
+            Place::Absent => Ok(None),
+            Place::Held | Place::Unguarded => open_to_read(&self.rt, name),
         }
     }
 
-    fn file_length(&self, name: &str) -> io::Result<Option<u64>> {
+    fn file_length(&mut self, name: &str) -> io::Result<Option<u64>>
+        ensures { KeepsCounts self.old.disk_faults self.old.say_faults
+            self.new.disk_faults self.new.say_faults }
+    {
         match self.open(name)? {
             Some(file) => Ok(Some(file.metadata()?.len())),
             None => Ok(None),
         }
     }
 
-    fn read(&self, name: &str, at: u64, into: &mut [u8]) -> io::Result<usize>
-        ensures { IfOk result (λ k. k ≤ length into.old) }
+    fn read(&mut self, name: &str, at: u64, into: &mut [u8]) -> io::Result<usize>
+        ensures within { IfOk result (λ k. k ≤ length into.old) }
+        ensures counts { KeepsCounts self.old.disk_faults self.old.say_faults
+            self.new.disk_faults self.new.say_faults }
     {
         match self.open(name)? {
             Some(mut file) => {
@@ -90,20 +111,37 @@ impl<R: Files + Print + Drop> DirHost<R> {
     }
 
     // The file is made where there is none.
-    fn open_to_write(&mut self, name: &str) -> io::Result<R::File>
+    fn open_to_write(&mut self, name: &str) -> io::Result<File>
         ensures { KeepsCounts self.old.disk_faults self.old.say_faults
             self.new.disk_faults self.new.say_faults }
     {
-        if self.open(name)?.is_none() {
-            match name.rsplit_once('/') {
-                Some(_) => self.made_elsewhere = true,
-                None => self.made_here = true,
+        match self.guard.admit(&self.rt, name)? {
+            Place::Held => {}
+            Place::Absent => {
+                self.note_made(name);
+                self.guard.make_roots(&self.rt, name)?;
+            }
+            Place::Unguarded => {
+                if open_to_read(&self.rt, name)?.is_none() {
+                    self.note_made(name);
+                }
             }
         }
         OpenOptions::new()
             .write(true)
             .create(true)
             .open(&self.rt, name)
+    }
+
+    // Notes that a file is made.
+    fn note_made(&mut self, name: &str)
+        ensures { KeepsCounts self.old.disk_faults self.old.say_faults
+            self.new.disk_faults self.new.say_faults }
+    {
+        match name.rsplit_once('/') {
+            Some(_) => self.made_elsewhere = true,
+            None => self.made_here = true,
+        }
     }
 
     // The folder of a file that this host has made since is synced behind it. No clause says so.
@@ -128,14 +166,28 @@ impl<R: Files + Print + Drop> DirHost<R> {
 
     fn sync_folder(&self, folder: &str) -> io::Result<()> {
         let path = if folder.is_empty() { "/" } else { folder };
-        match self.open(path)? {
+        match open_to_read(&self.rt, path)? {
             Some(file) => file.sync_all(),
             None => Ok(()),
         }
     }
 }
 
-impl<R: Files + Print + Drop> Host for DirHost<R> {
+// None where there is no such file.
+fn open_to_read<R: Files<File = File>>(rt: &R, name: &str) -> io::Result<Option<File>> {
+    match OpenOptions::new().read(true).open(rt, name) {
+        Ok(file) => Ok(Some(file)),
+        Err(error) => {
+            if error.kind() == ErrorKind::NotFound {
+                Ok(None)
+            } else {
+                Err(error)
+            }
+        }
+    }
+}
+
+impl<R: Files<File = File> + Print + AllocGlobal + Drop> Host for DirHost<R> {
     ghost is_told = { false };
 
     ghost files = { λ _ _. None };

@@ -2,6 +2,7 @@
 #![tactic(auto)]
 
 mod dir;
+mod guard;
 mod log;
 mod memory;
 mod memory_source;
@@ -9,10 +10,13 @@ mod replay;
 mod stdin;
 
 pub use dir::DirHost;
+pub use guard::Refusal;
 pub use memory::MemHost;
 pub use memory_source::MemSource;
 pub use replay::Leave;
 pub use stdin::StdinSource;
 
+#[cfg(test)]
+mod guard_tests;
 #[cfg(test)]
 mod tests;

@@ -21,6 +21,3 @@ pub use laws::{
 };
 pub use reading::read;
 pub use st_writer::write;
-
-#[cfg(test)]
-mod tests;

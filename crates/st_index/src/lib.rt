@@ -6,6 +6,3 @@ mod span;
 
 pub use index::Index;
 pub use span::Span;
-
-#[cfg(test)]
-mod tests;

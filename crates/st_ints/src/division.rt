@@ -22,7 +22,6 @@ fn floor_quotient(a: i32, b: i32) -> i32
 }
 
 /// The quotient, where nothing remains (primitive 10).
-#[tactic(auto, using(std::proofs::lemmas::Int::ints), unfolding(st_model::specs::Integers::exact_quotient))]
 pub fn exact_quotient(a: i16, b: i16) -> Option<IntAnswer>
     ensures answer { result ≡ exact_quotient a b }
     ensures small { IfSome result IsOfSmall }
@@ -40,7 +39,6 @@ pub fn exact_quotient(a: i16, b: i16) -> Option<IntAnswer>
 }
 
 /// What remains of a where b is taken from it so often.
-#[tactic(auto, using(std::proofs::lemmas::Int::ints, crate::proofs::Products::products))]
 fn remainder(a: i32, b: i32, times: i32) -> i32
     requires dividend { unsigned_abs a ≤ 16384 }
     requires divisor { unsigned_abs b ≤ 16384 }
@@ -51,7 +49,6 @@ fn remainder(a: i32, b: i32, times: i32) -> i32
 }
 
 /// The remainder of the division toward minus infinity (primitive 11).
-#[tactic(auto, using(std::proofs::lemmas::Int::ints), unfolding(st_model::specs::Integers::modulo))]
 pub fn modulo(a: i16, b: i16) -> Option<IntAnswer>
     requires dividend { unsigned_abs a ≤ 16384 }
     requires divisor { unsigned_abs b ≤ 16384 }
@@ -67,7 +64,6 @@ pub fn modulo(a: i16, b: i16) -> Option<IntAnswer>
 }
 
 /// The quotient toward minus infinity (primitive 12).
-#[tactic(auto, using(std::proofs::lemmas::Int::ints), unfolding(st_model::specs::Integers::quotient_down))]
 pub fn quotient_down(a: i16, b: i16) -> Option<IntAnswer>
     requires dividend { unsigned_abs a ≤ 16384 }
     requires divisor { unsigned_abs b ≤ 16384 }
@@ -81,7 +77,6 @@ pub fn quotient_down(a: i16, b: i16) -> Option<IntAnswer>
 }
 
 /// The quotient toward 0 (primitive 13).
-#[tactic(auto, using(std::proofs::lemmas::Int::ints), unfolding(st_model::specs::Integers::quotient))]
 pub fn quotient(a: i16, b: i16) -> Option<IntAnswer>
     ensures answer { result ≡ quotient a b }
     ensures small { IfSome result IsOfSmall }

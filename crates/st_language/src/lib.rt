@@ -1,6 +1,9 @@
-//! The crates of method texts together. There is nothing here but tests: of texts that are parsed, printed and compiled.
+//! The crates of method texts together. There is nothing here but tests: of texts that are scanned, parsed, printed and
+//! compiled.
 #![tactic(auto)]
 
+#[cfg(test)]
+mod chains;
 #[cfg(test)]
 mod checker;
 #[cfg(test)]
@@ -17,5 +20,7 @@ mod generator;
 mod parsing;
 #[cfg(test)]
 mod printing;
+#[cfg(test)]
+mod scanning;
 #[cfg(test)]
 mod shape;

@@ -1,4 +1,5 @@
-ghost use Rattle.std.specs.Prelude.{◌≡◌};
+//! Events, as tables.
+
 ghost use Rattle.st_world.specs.Naming.{IsNaming};
 
 use crate::image::quiet_b;
@@ -14,7 +15,89 @@ use std::test::Fail;
 /// What can be signalled; no test looks into it.
 const SEMAPHORE: Oop = Oop(58);
 
-/// So many input words come, and each is taken in.
+/// A call of a world, or what it and its memory answer then.
+#[derive(Clone, Copy)]
+enum Call {
+    /// So many input words come, and each is taken in.
+    Words(u32),
+    /// An input word or a time of the millisecond clock comes, and whether it is taken in.
+    Word(u16, Result<(), InputFull>),
+    Tick(u32, Result<(), InputFull>),
+    /// The mouse is here, and a time of the second clock comes; both are taken in.
+    Mouse(u16, u16),
+    Clock(u32),
+    /// A device holds the semaphore from now on.
+    Hold(Device),
+    /// The timer is due then.
+    Due(u32),
+    /// So many signals of the semaphore are added.
+    AddSignals(u32),
+    /// The newest signal is taken, and is one of the semaphore.
+    TakeSignal,
+    /// How many words wait, and how many signals are pending.
+    Counts(u32, u32),
+    Oldest(Option<u16>),
+    /// What is held for the timer, and for a pending signal.
+    Timer(Oop),
+    Pending(u16, Oop),
+    MouseIs(u16, u16),
+    /// The second clock and the millisecond clock.
+    Clocks(u32, u32),
+}
+
+/// 256 words are taken in where none is signalled, and no more.
+const MANY_WORDS: &[Call] = &[
+    Call::Words(256),
+    Call::Counts(256, 0),
+    Call::Word(1, Err(InputFull)),
+    Call::Counts(256, 0),
+];
+
+/// A word is signalled where a semaphore is held for it.
+const SIGNALLED_WORD: &[Call] = &[
+    Call::Hold(Device::InputSemaphore),
+    Call::Word(4660, Ok(())),
+    Call::Counts(1, 1),
+    Call::Oldest(Some(4660)),
+    Call::Pending(0, SEMAPHORE),
+    Call::TakeSignal,
+    Call::Pending(0, Oop::NIL),
+    Call::Counts(1, 0),
+];
+
+/// A timer that is due waits for room for its signal.
+const WAITING_TIMER: &[Call] = &[
+    Call::Hold(Device::Timer),
+    Call::Due(500),
+    Call::AddSignals(4096),
+    Call::Tick(500, Err(InputFull)),
+    Call::Clocks(0, 0),
+    Call::Timer(SEMAPHORE),
+    Call::Counts(0, 4096),
+    Call::Tick(499, Ok(())),
+    Call::Clocks(0, 499),
+    Call::Timer(SEMAPHORE),
+    Call::Counts(0, 4096),
+    Call::TakeSignal,
+    Call::Tick(500, Ok(())),
+    Call::Clocks(0, 500),
+    Call::Timer(Oop::NIL),
+    Call::Counts(0, 4096),
+    Call::Tick(501, Ok(())),
+    Call::Clocks(0, 501),
+    Call::Timer(Oop::NIL),
+    Call::Counts(0, 4096),
+    Call::Pending(4095, SEMAPHORE),
+];
+
+/// Mouse and second clock are what came last.
+const PLACE_AND_TIME: &[Call] = &[
+    Call::Mouse(16383, 7),
+    Call::Clock(4294967295),
+    Call::MouseIs(16383, 7),
+    Call::Clocks(4294967295, 0),
+];
+
 fn words_come<M: Memory>(rt: &impl Abort, m: &mut M, w: &mut World, count: u32)
     requires { IsNaming (M.view m.old).held w.old }
     ensures { IsNaming (M.view m.new).held w.new }
@@ -24,8 +107,23 @@ fn words_come<M: Memory>(rt: &impl Abort, m: &mut M, w: &mut World, count: u32)
     }
 }
 
-/// So many signals are added.
-fn signals_are_added<M: Memory>(rt: &impl Abort, m: &mut M, w: &mut World, count: u32)
+fn mouse_comes<M: Memory>(rt: &impl Abort, m: &mut M, w: &mut World, x: u16, y: u16)
+    requires { IsNaming (M.view m.old).held w.old }
+    ensures { IsNaming (M.view m.new).held w.new }
+{
+    assert!(rt; x <= 16383 && y <= 16383);
+    assert_eq!(rt; w.event(m, Event::Mouse(x, y)), Ok(()));
+}
+
+fn hold_semaphore<M: Memory>(rt: &impl Abort, m: &mut M, w: &mut World, device: Device)
+    requires { IsNaming (M.view m.old).held w.old }
+    ensures { IsNaming (M.view m.new).held w.new }
+{
+    assert!(rt; m.live(SEMAPHORE));
+    hold(m, w, device, SEMAPHORE);
+}
+
+fn add_signals<M: Memory>(rt: &impl Abort, m: &mut M, w: &mut World, count: u32)
     requires { IsNaming (M.view m.old).held w.old }
     ensures { IsNaming (M.view m.new).held w.new }
 {
@@ -36,140 +134,57 @@ fn signals_are_added<M: Memory>(rt: &impl Abort, m: &mut M, w: &mut World, count
     }
 }
 
-/// A device holds the semaphore from now on.
-fn holds_semaphore<M: Memory>(rt: &impl Abort, m: &mut M, w: &mut World, device: Device)
-    requires { IsNaming (M.view m.old).held w.old }
-    ensures { IsNaming (M.view m.new).held w.new }
-{
-    assert!(rt; m.live(SEMAPHORE));
-    hold(m, w, device, SEMAPHORE);
+fn pending_is<M: Memory>(rt: &impl Abort, m: &M, place: u16, signal: Oop) {
+    assert!(rt; place < 4096);
+    assert_eq!(rt; m.held(RootPlace::Pending(place)), signal, "at {place}");
 }
 
 /// How many words wait, and how many signals are pending.
-pub fn counts(rt: &impl Abort, w: &World, words: u32, signals: u32) {
-    assert_eq!(rt; w.waiting_count(), words);
-    assert_eq!(rt; w.pending_count(), signals);
+pub fn counts_are(rt: &impl Abort, w: &World, words: u32, signals: u32) {
+    assert_eq!(rt; (w.waiting_count(), w.pending_count()), (words, signals));
 }
 
-/// 256 words are taken in where none is signalled, and no more.
-fn takes_256_words<M: Memory>(rt: &impl Abort, m: &mut M, w: &mut World)
-    requires { IsNaming (M.view m.old).held w.old }
-{
-    words_come(rt, m, w, 256);
-    counts(rt, w, 256, 0);
-    assert_eq!(rt; w.event(m, Event::Word(1)), Err(InputFull));
-    counts(rt, w, 256, 0);
-}
-
-/// A word is signalled where a semaphore is held for it.
-fn signals_a_word<M: Memory>(rt: &impl Abort, m: &mut M, w: &mut World)
-    requires { IsNaming (M.view m.old).held w.old }
-{
-    holds_semaphore(rt, m, w, Device::InputSemaphore);
-    assert_eq!(rt; w.event(m, Event::Word(4660)), Ok(()));
-    counts(rt, w, 1, 1);
-    assert_eq!(rt; w.oldest_word(), Some(4660));
-    assert_eq!(rt; m.held(RootPlace::Pending(0)), SEMAPHORE);
-    assert_eq!(rt; take_newest_signal(m, w), Some(SEMAPHORE));
-    assert_eq!(rt; m.held(RootPlace::Pending(0)), Oop::NIL);
-    counts(rt, w, 1, 0);
-}
-
-/// A time of the millisecond clock, and what it comes to: whether it is taken in, the clock, and the timer.
-#[derive(Clone, Copy)]
-struct Time {
-    time: u32,
-    taken: Result<(), InputFull>,
-    clock: u32,
-    timer: Oop,
-}
-
-/// Times come one after the other; after each 4096 signals are pending.
-fn times_come<M: Memory>(rt: &impl Abort, m: &mut M, w: &mut World, rows: &[Time])
+/// Calls a world, and compares what it answers with what is wanted.
+fn carry_out<M: Memory>(rt: &impl Abort, m: &mut M, w: &mut World, call: Call)
     requires { IsNaming (M.view m.old).held w.old }
     ensures { IsNaming (M.view m.new).held w.new }
 {
-    for row in rows {
-        let time = row.time;
-        assert_eq!(rt; w.event(m, Event::Tick(time)), row.taken, "at {time}");
-        assert_eq!(rt; w.millisecond_clock(), row.clock, "at {time}");
-        assert_eq!(rt; m.held(RootPlace::Timer), row.timer, "at {time}");
-        counts(rt, w, 0, 4096);
+    match call {
+        Call::Words(count) => words_come(rt, m, w, count),
+        Call::Word(word, taken) => assert_eq!(rt; w.event(m, Event::Word(word)), taken),
+        Call::Tick(time, taken) => assert_eq!(rt;
+            w.event(m, Event::Tick(time)),
+            taken,
+            "at {time}"
+        ),
+        Call::Mouse(x, y) => mouse_comes(rt, m, w, x, y),
+        Call::Clock(time) => assert_eq!(rt; w.event(m, Event::Clock(time)), Ok(())),
+        Call::Hold(device) => hold_semaphore(rt, m, w, device),
+        Call::Due(time) => w.set_due(time),
+        Call::AddSignals(count) => add_signals(rt, m, w, count),
+        Call::TakeSignal => assert_eq!(rt; take_newest_signal(m, w), Some(SEMAPHORE)),
+        Call::Counts(words, signals) => counts_are(rt, w, words, signals),
+        Call::Oldest(word) => assert_eq!(rt; w.oldest_word(), word),
+        Call::Timer(held) => assert_eq!(rt; m.held(RootPlace::Timer), held),
+        Call::Pending(place, signal) => pending_is(rt, m, place, signal),
+        Call::MouseIs(x, y) => assert_eq!(rt; (w.mouse_x(), w.mouse_y()), (x, y)),
+        Call::Clocks(seconds, milliseconds) => assert_eq!(rt;
+            (w.second_clock(), w.millisecond_clock()),
+            (seconds, milliseconds)
+        ),
     }
 }
 
-/// A timer that is due waits for room for its signal.
-fn times_want_room<M: Memory>(rt: &impl Abort, m: &mut M, w: &mut World)
-    requires { IsNaming (M.view m.old).held w.old }
-{
-    holds_semaphore(rt, m, w, Device::Timer);
-    w.set_due(500);
-    signals_are_added(rt, m, w, 4096);
-    let (held, full) = (SEMAPHORE, Err(InputFull));
-    times_come(
-        rt,
-        m,
-        w,
-        &[
-            Time {
-                time: 500,
-                taken: full,
-                clock: 0,
-                timer: held,
-            },
-            Time {
-                time: 499,
-                taken: Ok(()),
-                clock: 499,
-                timer: held,
-            },
-        ],
-    );
-    assert_eq!(rt; take_newest_signal(m, w), Some(held));
-    times_come(
-        rt,
-        m,
-        w,
-        &[
-            Time {
-                time: 500,
-                taken: Ok(()),
-                clock: 500,
-                timer: Oop::NIL,
-            },
-            Time {
-                time: 501,
-                taken: Ok(()),
-                clock: 501,
-                timer: Oop::NIL,
-            },
-        ],
-    );
-    assert_eq!(rt; m.held(RootPlace::Pending(4095)), held);
-}
-
-/// Mouse and second clock are what came last.
-fn takes_places_and_times<M: Memory>(rt: &impl Abort, m: &mut M, w: &mut World)
-    requires { IsNaming (M.view m.old).held w.old }
-{
-    assert_eq!(rt; w.event(m, Event::Mouse(16383, 7)), Ok(()));
-    assert_eq!(rt; w.event(m, Event::Clock(4294967295)), Ok(()));
-    assert_eq!(rt; w.mouse_x(), 16383);
-    assert_eq!(rt; w.mouse_y(), 7);
-    assert_eq!(rt; w.second_clock(), 4294967295);
-    assert_eq!(rt; w.millisecond_clock(), 0);
-}
-
 /// Each of these begins with a memory that holds nothing and a new world.
+const ROWS: [&[Call]; 4] = [MANY_WORDS, SIGNALLED_WORD, WAITING_TIMER, PLACE_AND_TIME];
+
 fn events_come<L: Loader>(rt: &(impl Abort + AllocGlobal)) -> Result<(), Fail> {
-    let (mut m, mut w) = quiet_b::<L>(rt.alloc())?;
-    takes_256_words(rt, &mut m, &mut w);
-    let (mut m, mut w) = quiet_b::<L>(rt.alloc())?;
-    signals_a_word(rt, &mut m, &mut w);
-    let (mut m, mut w) = quiet_b::<L>(rt.alloc())?;
-    times_want_room(rt, &mut m, &mut w);
-    let (mut m, mut w) = quiet_b::<L>(rt.alloc())?;
-    takes_places_and_times(rt, &mut m, &mut w);
+    for calls in ROWS {
+        let (mut m, mut w) = quiet_b::<L>(rt.alloc())?;
+        for next in calls {
+            carry_out(rt, &mut m, &mut w, *next);
+        }
+    }
     Ok(())
 }
 

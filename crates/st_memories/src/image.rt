@@ -14,20 +14,82 @@ use std::alloc::{AllocError, Global};
 use std::process::Abort;
 use std::test::Fail;
 
-/// The objects of image B, word by word: 20 of the root page, an association, a scheduler with one process, its context,
-/// and a method without literals and with five bytes. An object of two words follows.
-const OBJECTS: [u16; 80] = [
+/// The objects of image B, word by word: 20 of the root page, an association, a scheduler with one process, its context at
+/// word 52, and at word 72 a method without literals and with five bytes.
+const OBJECTS_OF_B: [u16; 78] = [
     2, 12, 2, 12, 2, 12, 4, 12, 2, 58, 2, 12, 2, 12, 2, 12, 2, 12, 2, 12, 2, 12, 2, 12, 2, 12, 2,
     12, 2, 12, 2, 12, 2, 12, 2, 12, 2, 12, 2, 12, 2, 12, 4, 12, 2, 60, 6, 12, 2, 62, 9, 2, 20, 22,
-    2, 7, 3, 64, 2, 2, 2, 2, 2, 2, 2, 2, 2, 2, 2, 2, 2, 2, 6, 34, 257, 30327, 26787, 64256, 2, 12,
+    2, 7, 3, 64, 2, 2, 2, 2, 2, 2, 2, 2, 2, 2, 2, 2, 2, 2, 6, 34, 257, 30327, 26787, 64256,
 ];
 
-/// Its table, two words an entry; pointer 10 is free.
-const TABLE: [u16; 66] = [
+/// Its table, two words an entry. The pointers 10, 18, 20, 30, 36, 38, 46 and 54 are free.
+const TABLE_OF_B: [u16; 66] = [
     32, 0, 64, 0, 64, 2, 64, 4, 64, 6, 32, 0, 64, 10, 64, 12, 64, 14, 32, 0, 32, 0, 64, 16, 64, 18,
     64, 20, 64, 22, 32, 0, 64, 24, 64, 26, 32, 0, 32, 0, 64, 28, 64, 30, 64, 32, 32, 0, 64, 34, 64,
     36, 64, 38, 32, 0, 64, 40, 64, 42, 64, 46, 64, 52, 128, 72,
 ];
+
+/// The objects of image C: SmallInteger has a superclass and a dictionary with one method, the special selectors one symbol and
+/// its number of arguments, and the context a method with one literal.
+const OBJECTS_OF_C: [u16; 98] = [
+    2, 12, 2, 12, 2, 12, 4, 12, 2, 58, 5, 12, 2, 68, 1, 2, 12, 2, 12, 2, 12, 2, 12, 2, 12, 2, 12,
+    2, 12, 2, 12, 2, 12, 2, 12, 2, 12, 4, 12, 66, 3, 2, 12, 2, 12, 2, 12, 4, 12, 2, 60, 6, 12, 2,
+    62, 9, 2, 20, 22, 2, 11, 1, 64, 2, 2, 2, 2, 2, 2, 2, 2, 2, 2, 2, 2, 2, 2, 6, 34, 3, 32767,
+    8310, 45056, 3, 56, 11008, 5, 12, 3, 70, 66, 3, 16, 72, 4, 34, 8449, 30720,
+];
+
+const TABLE_OF_C: [u16; 74] = [
+    32, 0, 64, 0, 64, 2, 64, 4, 64, 6, 32, 0, 64, 10, 64, 15, 64, 17, 32, 0, 32, 0, 64, 19, 64, 21,
+    64, 23, 64, 25, 32, 0, 64, 27, 64, 29, 32, 0, 32, 0, 64, 31, 64, 33, 64, 35, 32, 0, 64, 37, 64,
+    41, 64, 43, 32, 0, 64, 45, 64, 47, 64, 51, 64, 57, 128, 77, 128, 83, 64, 86, 64, 91, 128, 94,
+];
+
+/// What an image is made of.
+#[derive(Clone, Copy)]
+pub struct Plan<'a> {
+    /// Its objects, word by word.
+    pub objects: &'a [u16],
+    /// Their table.
+    pub table: &'a [u16],
+    /// The words of a further object, which stands behind them.
+    pub further: &'a [u16],
+    /// The marks in its table entry.
+    pub mark: u16,
+    /// How many such objects there are.
+    pub count: u16,
+}
+
+/// Image B.
+pub const B: Plan<'static> = Plan {
+    objects: &OBJECTS_OF_B,
+    table: &TABLE_OF_B,
+    further: &[],
+    mark: 0,
+    count: 0,
+};
+
+/// Image C.
+pub const C: Plan<'static> = Plan {
+    objects: &OBJECTS_OF_C,
+    table: &TABLE_OF_C,
+    ..B
+};
+
+/// Image B with an object under pointer 66 that nothing names.
+pub const UNNAMED: Plan<'static> = Plan {
+    further: &[2, 12],
+    mark: 64,
+    count: 1,
+    ..B
+};
+
+/// Image B with an object of three words under pointer 66 that nothing names.
+pub const WORDS: Plan<'static> = Plan {
+    further: &[5, 16, 0, 0, 65535],
+    mark: 16,
+    count: 1,
+    ..B
+};
 
 fn push_words(bytes: &mut Vec<u8>, words: &[u16]) -> Result<(), AllocError> {
     for word in words {
@@ -44,46 +106,100 @@ fn pad(bytes: &mut Vec<u8>, length: usize) -> Result<(), AllocError> {
     Ok(())
 }
 
-/// Image B, where pointer 10 names an object if its table entry is not free.
-fn bytes_of_b(alloc: Global, entry_of_10: [u16; 2]) -> Result<Vec<u8>, AllocError> {
+/// How many words there are, 65535 at most.
+fn count_words(words: &[u16]) -> u32 {
+    words.len().min(65535) as u32
+}
+
+/// The first words of a file, with the greatest capacities and no tables of names.
+fn head_of(plan: &Plan<'_>) -> [u16; 12] {
+    let count = u32::from(plan.count);
+    let further = count.wrapping_mul(count_words(plan.further));
+    let space = further.wrapping_add(count_words(plan.objects));
+    let table = count.wrapping_mul(2).wrapping_add(count_words(plan.table));
+    [
+        (space >> 16) as u16,
+        (space & 65535) as u16,
+        (table >> 16) as u16,
+        (table & 65535) as u16,
+        0x5354,
+        0x3830,
+        0,
+        1,
+        0,
+        32767,
+        16,
+        0,
+    ]
+}
+
+/// The words of the objects, and behind them zeros up to the table.
+fn push_objects(bytes: &mut Vec<u8>, plan: &Plan<'_>) -> Result<(), AllocError> {
+    push_words(bytes, plan.objects)?;
+    for _ in 0..plan.count {
+        push_words(bytes, plan.further)?;
+    }
+    let end = bytes.len().div_ceil(512).wrapping_mul(512);
+    pad(bytes, end)
+}
+
+fn push_table(bytes: &mut Vec<u8>, plan: &Plan<'_>) -> Result<(), AllocError> {
+    push_words(bytes, plan.table)?;
+    let mut at = count_words(plan.objects);
+    for _ in 0..plan.count {
+        push_words(bytes, &[plan.mark | (at >> 16) as u16, (at & 65535) as u16])?;
+        at = at.wrapping_add(count_words(plan.further));
+    }
+    Ok(())
+}
+
+/// The file of an image, with the greatest capacities and no tables of names.
+pub fn file_of(alloc: Global, plan: &Plan<'_>) -> Result<Vec<u8>, AllocError> {
     let mut bytes = Vec::new(alloc);
-    push_words(&mut bytes, &[0, 80, 0, 66, 0x5354, 0x3830, 0, 1])?;
-    push_words(&mut bytes, &[0, 32767, 16, 0, 0, 0, 0, 0])?;
+    push_words(&mut bytes, &head_of(plan))?;
     pad(&mut bytes, 512)?;
-    push_words(&mut bytes, &OBJECTS)?;
-    pad(&mut bytes, 1024)?;
-    push_words(&mut bytes, &TABLE[..10])?;
-    push_words(&mut bytes, &entry_of_10)?;
-    push_words(&mut bytes, &TABLE[12..])?;
+    push_objects(&mut bytes, plan)?;
+    push_table(&mut bytes, plan)?;
     Ok(bytes)
 }
 
-fn loaded<L: Loader>(alloc: Global, bytes: &[u8], words: u32) -> Result<Loaded<L::Done>, Fail>
+/// The memory of an image with such capacities, and its registers. It holds these alone.
+fn loaded<L: Loader>(
+    alloc: Global,
+    plan: &Plan<'_>,
+    entries: u32,
+    words: u32,
+) -> Result<Loaded<L::Done>, Fail>
     ensures frame { IfOk result (λ l. IsFrame (L.Done.view l.memory) l.frame) }
     ensures quiet { IfOk result (λ l. (L.Done.view l.memory).held.devices ≡ no_devices) }
 {
+    let bytes = file_of(alloc, plan)?;
     let over = HeadValues {
+        entries: Some(entries),
         words: Some(words),
         ..HeadValues::NONE
     };
-    match read::<L>(alloc, bytes, &over) {
+    match read::<L>(alloc, &bytes, &over) {
         Ok(loaded) => Ok(loaded),
         Err(ReadImage::Fault(_)) | Err(ReadImage::OutOfMemory) => Err(AllocError.into()),
     }
 }
 
-/// Image B with so many words.
-pub fn image_b<L: Loader>(alloc: Global, words: u32) -> Result<L::Done, Fail> {
-    let bytes = bytes_of_b(alloc, [32, 0])?;
-    Ok(loaded::<L>(alloc, &bytes, words)?.memory)
+/// The memory of an image with such capacities.
+pub fn image<L: Loader>(
+    alloc: Global,
+    plan: &Plan<'_>,
+    entries: u32,
+    words: u32,
+) -> Result<L::Done, Fail> {
+    Ok(loaded::<L>(alloc, plan, entries, words)?.memory)
 }
 
 /// Image B with its registers, and a new world. The memory holds these alone.
 pub fn ready_b<L: Loader>(alloc: Global) -> Result<(Loaded<L::Done>, World), Fail>
     ensures { IfOk result (λ p. IsReady (L.Done.view p.0.memory) p.0.frame p.1) }
 {
-    let bytes = bytes_of_b(alloc, [32, 0])?;
-    let loaded = loaded::<L>(alloc, &bytes, 1048576)?;
+    let loaded = loaded::<L>(alloc, &B, 32767, 1048576)?;
     let world = World::new(alloc)?;
     Ok((loaded, world))
 }
@@ -94,12 +210,6 @@ pub fn quiet_b<L: Loader>(alloc: Global) -> Result<(L::Done, World), Fail>
 {
     let (loaded, world) = ready_b::<L>(alloc)?;
     Ok((loaded.memory, world))
-}
-
-/// Image B with an object under pointer 10 that nothing names.
-pub fn image_with_unnamed<L: Loader>(alloc: Global) -> Result<L::Done, Fail> {
-    let bytes = bytes_of_b(alloc, [64, 78])?;
-    Ok(loaded::<L>(alloc, &bytes, 1048576)?.memory)
 }
 
 /// Whether there can be such an object without literals; it asks for a small one.
@@ -179,9 +289,4 @@ pub fn first_are<M: Memory>(rt: &impl Abort, m: &M, o: u16, values: &[u16]) {
 
 pub fn used<M: Memory>(rt: &impl Abort, m: &M, entries: u32, words: u32) {
     assert_eq!(rt; m.used(), Demand { entries, words });
-}
-
-/// Whether one entry and so many words fit.
-pub fn rooms<M: Memory>(rt: &impl Abort, m: &M, words: u32, fits: bool) {
-    assert_eq!(rt; m.room(Demand { entries: 1, words }), fits, "{words} words");
 }

@@ -1,9 +1,15 @@
-//! Tests of the memory over a heap, alone and beside the plain one, and of events, copies of pixels
-//! and machines over both. No crate uses it.
+//! Tests of both memories, alone and beside each other, of the heap below one, and of images, drafts, events, copies of pixels
+//! and machines over them. No crate uses it.
 #![tactic(auto)]
 
 #[cfg(test)]
+mod draft;
+#[cfg(test)]
 mod events;
+#[cfg(test)]
+mod faults;
+#[cfg(test)]
+mod heap;
 #[cfg(test)]
 mod image;
 #[cfg(test)]
@@ -12,6 +18,8 @@ mod machines;
 mod near;
 #[cfg(test)]
 mod pixels;
+#[cfg(test)]
+mod reads;
 #[cfg(test)]
 mod rows;
 #[cfg(test)]

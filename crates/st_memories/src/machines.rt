@@ -1,7 +1,9 @@
+//! Machines over both memories, as tables.
+
 ghost use Rattle.std.specs.Prelude.{◌≡◌, IfOk, None};
 ghost use Rattle.st_frames.specs.Shown.{IsReady};
 
-use crate::events::counts;
+use crate::events::counts_are;
 use crate::image::{first_are, make, ready_b, used, write, write_first};
 use st_counted::CountedLoader;
 use st_frames::{Frame, Loaded};
@@ -14,11 +16,6 @@ use std::alloc::AllocGlobal;
 use std::process::Abort;
 use std::test::Fail;
 
-/// The word of a SmallInteger.
-fn small(n: u8) -> u16 {
-    2 * u16::from(n) + 1
-}
-
 /// The registers in a context of image B's method, whose receiver is nil.
 fn registers(context: u16, ip: i32, sp: u32) -> Frame {
     Frame {
@@ -29,19 +26,6 @@ fn registers(context: u16, ip: i32, sp: u32) -> Frame {
         ip,
         sp,
     }
-}
-
-/// The machine of image B, where this is the scheduler's active process.
-fn machine_of<L: Loader>(
-    rt: &(impl Abort + AllocGlobal),
-    process: u16,
-) -> Result<Machine<L::Done>, Fail>
-    ensures ready { IfOk result (λ m. IsReady (L.Done.view m.memory) m.frame m.world) }
-    ensures alive { IfOk result (λ m. m.death ≡ None) }
-{
-    let (mut loaded, world) = ready_b::<L>(rt.alloc())?;
-    write(rt, &mut loaded.memory, 58, 1, process);
-    Ok(Machine::boot(loaded, world))
 }
 
 /// Makes the scheduler's lists, of which 18 is that for priority 4; a process of priority 6, which waits first on the
@@ -62,9 +46,9 @@ fn fill_process<M: Memory>(rt: &impl Abort, m: &mut M)
 {
     write_first(rt, m, 58, &[10, 60]);
     write_first(rt, m, 10, &[2, 2, 2, 18]);
-    write_first(rt, m, 20, &[2, 36, small(6), 30]);
-    write_first(rt, m, 30, &[20, 20, small(0)]);
-    write_first(rt, m, 36, &[2, small(3), small(1), 64]);
+    write_first(rt, m, 20, &[2, 36, 13, 30]);
+    write_first(rt, m, 30, &[20, 20, 1]);
+    write_first(rt, m, 36, &[2, 7, 3, 64]);
 }
 
 /// A device holds this from the start.
@@ -83,123 +67,193 @@ fn hold_first<M: Memory>(
     hold(&mut loaded.memory, w, device, object);
 }
 
-/// The machine of image B with a second process, where a device holds this.
-fn machine_of_two<L: Loader>(
+/// How a machine of image B begins.
+#[derive(Clone, Copy)]
+enum Start {
+    /// This is the scheduler's active process.
+    Active(u16),
+    /// There is a second process, and a device holds this.
+    Two(Device, u16),
+}
+
+fn begin<M: Memory>(rt: &impl Abort, loaded: &mut Loaded<M>, w: &mut World, start: Start)
+    requires { IsReady (M.view loaded.old.memory) loaded.old.frame w.old }
+    ensures { IsReady (M.view loaded.new.memory) loaded.new.frame w.new }
+{
+    match start {
+        Start::Active(process) => write(rt, &mut loaded.memory, 58, 1, process),
+        Start::Two(device, object) => {
+            make_process(rt, &mut loaded.memory);
+            fill_process(rt, &mut loaded.memory);
+            hold_first(rt, loaded, w, device, object);
+        }
+    }
+}
+
+fn machine_of<L: Loader>(
     rt: &(impl Abort + AllocGlobal),
-    device: Device,
-    object: u16,
+    start: Start,
 ) -> Result<Machine<L::Done>, Fail>
-    ensures ready { IfOk result (λ m. IsReady (L.Done.view m.memory) m.frame m.world) }
-    ensures alive { IfOk result (λ m. m.death ≡ None) }
+    ensures { IfOk result (λ m. m.death ≡ None
+        → IsReady (L.Done.view m.memory) m.frame m.world) }
 {
     let (mut loaded, mut world) = ready_b::<L>(rt.alloc())?;
-    make_process(rt, &mut loaded.memory);
-    fill_process(rt, &mut loaded.memory);
-    hold_first(rt, &mut loaded, &mut world, device, object);
+    begin(rt, &mut loaded, &mut world, start);
     Ok(Machine::boot(loaded, world))
 }
 
-/// The first process is last in list 4, the second one is active, and its context has these fields first.
-fn second_is_active<M: Memory>(rt: &impl Abort, m: &M, context: &[u16]) {
-    first_are(rt, m, 58, &[10, 20]);
-    first_are(rt, m, 18, &[60, 60]);
-    first_are(rt, m, 60, &[2, 62, small(4), 18]);
-    first_are(rt, m, 62, &[2, small(3), small(1), 64]);
-    first_are(rt, m, 20, &[2, 36, small(6), 30]);
-    first_are(rt, m, 30, &[2, 2, small(0)]);
-    first_are(rt, m, 36, context);
-    used(rt, m, 29, 123);
+/// A call of a machine, or what it, its world and its memory answer then.
+#[derive(Clone, Copy)]
+enum Call {
+    /// An input word comes and is taken in.
+    Word(u16),
+    Run(u32, RunEnd),
+    Save(Result<(), Dead>),
+    Death(Option<Dead>),
+    /// It is in a context of image B's method, whose receiver is nil, with these instruction and stack pointers.
+    Frame(u16, i32, u32),
+    /// How many words wait, and how many signals are pending.
+    Counts(u32, u32),
+    Oldest(Option<u16>),
+    /// A device holds nothing.
+    Free(Device),
+    /// So many entries and words are used.
+    Used(u32, u32),
+    /// The first fields of an object, whose further ones are nil.
+    First(u16, &'static [u16]),
 }
 
 /// A word wakes the process that waits for it, which comes before the active one. The one bytecode is its own, and its
-/// registers are stored where the machine is saved.
-fn wakes_a_process<L: Loader>(rt: &(impl Abort + AllocGlobal)) -> Result<(), Fail> {
-    let mut machine = machine_of_two::<L>(rt, Device::InputSemaphore, 30)?;
-    assert_eq!(rt; machine.event(Event::Word(4660)), Ok(()));
-    counts(rt, machine.world(), 1, 1);
-    assert_eq!(rt; machine.run(1), RunEnd::Ran);
-    counts(rt, machine.world(), 1, 0);
-    assert_eq!(rt; machine.world().oldest_word(), Some(4660));
-    assert_eq!(rt; machine.frame(), registers(36, 3, 7));
-    let pushed = [2, small(3), small(1), 64, 2, 2, 2, small(1)];
-    second_is_active(rt, machine.memory(), &pushed);
-    assert_eq!(rt; machine.save(), Ok(()));
-    let stored = [2, small(4), small(2), 64, 2, 2, 2, small(1)];
-    second_is_active(rt, machine.memory(), &stored);
-    assert_eq!(rt; machine.frame(), registers(36, 3, 7));
-    Ok(())
-}
+/// registers are stored where the machine is saved. The first process is last in list 4 then.
+const WOKEN: &[Call] = &[
+    Call::Word(4660),
+    Call::Counts(1, 1),
+    Call::Run(1, RunEnd::Ran),
+    Call::Counts(1, 0),
+    Call::Oldest(Some(4660)),
+    Call::Frame(36, 3, 7),
+    Call::First(58, &[10, 20]),
+    Call::First(18, &[60, 60]),
+    Call::First(60, &[2, 62, 9, 18]),
+    Call::First(62, &[2, 7, 3, 64]),
+    Call::First(20, &[2, 36, 13, 30]),
+    Call::First(30, &[2, 2, 1]),
+    Call::First(36, &[2, 7, 3, 64, 2, 2, 2, 3]),
+    Call::Used(29, 123),
+    Call::Save(Ok(())),
+    Call::First(58, &[10, 20]),
+    Call::First(18, &[60, 60]),
+    Call::First(60, &[2, 62, 9, 18]),
+    Call::First(62, &[2, 7, 3, 64]),
+    Call::First(20, &[2, 36, 13, 30]),
+    Call::First(30, &[2, 2, 1]),
+    Call::First(36, &[2, 9, 5, 64, 2, 2, 2, 3]),
+    Call::Used(29, 123),
+    Call::Frame(36, 3, 7),
+];
 
 /// A signal stays pending while the machine is saved.
-fn saves_before_a_signal<L: Loader>(rt: &(impl Abort + AllocGlobal)) -> Result<(), Fail> {
-    let mut machine = machine_of_two::<L>(rt, Device::InputSemaphore, 30)?;
-    assert_eq!(rt; machine.event(Event::Word(4660)), Ok(()));
-    assert_eq!(rt; machine.save(), Ok(()));
-    counts(rt, machine.world(), 1, 1);
-    first_are(rt, machine.memory(), 58, &[10, 60]);
-    assert_eq!(rt; machine.frame(), registers(62, 2, 6));
-    assert_eq!(rt; machine.run(1), RunEnd::Ran);
-    assert_eq!(rt; machine.frame(), registers(36, 3, 7));
-    Ok(())
-}
+const SAVED_BEFORE_A_SIGNAL: &[Call] = &[
+    Call::Word(4660),
+    Call::Save(Ok(())),
+    Call::Counts(1, 1),
+    Call::First(58, &[10, 60]),
+    Call::Frame(62, 2, 6),
+    Call::Run(1, RunEnd::Ran),
+    Call::Frame(36, 3, 7),
+];
 
 /// A process switch that waits is carried out where the machine is saved. No list has the first process, which goes with
 /// its context.
-fn saves_after_a_switch<L: Loader>(rt: &(impl Abort + AllocGlobal)) -> Result<(), Fail> {
-    let mut machine = machine_of_two::<L>(rt, Device::NewProcess, 20)?;
-    assert_eq!(rt; machine.save(), Ok(()));
-    assert_eq!(rt; machine.frame(), registers(36, 2, 6));
-    assert!(rt; !machine.world().holds(Device::NewProcess));
-    first_are(rt, machine.memory(), 58, &[10, 20]);
-    first_are(rt, machine.memory(), 20, &[2, 36, small(6), 30]);
-    used(rt, machine.memory(), 27, 97);
-    Ok(())
-}
+const SAVED_AFTER_A_SWITCH: &[Call] = &[
+    Call::Save(Ok(())),
+    Call::Frame(36, 2, 6),
+    Call::Free(Device::NewProcess),
+    Call::First(58, &[10, 20]),
+    Call::First(20, &[2, 36, 13, 30]),
+    Call::Used(27, 97),
+];
 
 /// The registers are stored where the machine is saved, and not before.
-fn saves_registers<L: Loader>(rt: &(impl Abort + AllocGlobal)) -> Result<(), Fail> {
-    let mut machine = machine_of::<L>(rt, 60)?;
-    assert_eq!(rt; machine.run(1), RunEnd::Ran);
-    let pushed = [2, small(3), small(1), 64, 2, 2, 2, small(1)];
-    first_are(rt, machine.memory(), 62, &pushed);
-    assert_eq!(rt; machine.save(), Ok(()));
-    let stored = [2, small(4), small(2), 64, 2, 2, 2, small(1)];
-    first_are(rt, machine.memory(), 62, &stored);
-    first_are(rt, machine.memory(), 60, &[2, 62, small(4)]);
-    assert_eq!(rt; machine.frame(), registers(62, 3, 7));
-    used(rt, machine.memory(), 24, 78);
-    Ok(())
-}
+const SAVED_REGISTERS: &[Call] = &[
+    Call::Run(1, RunEnd::Ran),
+    Call::First(62, &[2, 7, 3, 64, 2, 2, 2, 3]),
+    Call::Save(Ok(())),
+    Call::First(62, &[2, 9, 5, 64, 2, 2, 2, 3]),
+    Call::First(60, &[2, 62, 9]),
+    Call::Frame(62, 3, 7),
+    Call::Used(24, 78),
+];
 
-/// A dead machine answers the cause of its death, and stays as it is.
-fn stays_dead<M: Memory>(rt: &impl Abort, machine: &mut Machine<M>, cause: Dead)
-    requires { machine.old.death ≡ None
-        → IsReady (M.view machine.old.memory) machine.old.frame machine.old.world }
-{
-    assert_eq!(rt; machine.death(), Some(cause));
-    assert_eq!(rt; machine.run(1), RunEnd::Dead { done: 0, cause });
-    assert_eq!(rt; machine.save(), Err(cause));
-    assert_eq!(rt; machine.run(0), RunEnd::Dead { done: 0, cause });
-    assert_eq!(rt; machine.death(), Some(cause));
-}
+const ENDED: RunEnd = RunEnd::Dead {
+    done: 0,
+    cause: Dead::Small,
+};
 
 /// Where the scheduler names itself as its process, the context is stored in that field; the process is then the context,
-/// which has a SmallInteger where a process has its context.
-fn dies_of_saving<L: Loader>(rt: &(impl Abort + AllocGlobal)) -> Result<(), Fail> {
-    let mut machine = machine_of::<L>(rt, 58)?;
-    assert_eq!(rt; machine.death(), None);
-    assert_eq!(rt; machine.save(), Err(Dead::Small));
-    stays_dead(rt, &mut machine, Dead::Small);
-    Ok(())
+/// which has a SmallInteger where a process has its context. A dead machine answers the cause of its death, and stays as
+/// it is.
+const DEAD_OF_SAVING: &[Call] = &[
+    Call::Death(None),
+    Call::Save(Err(Dead::Small)),
+    Call::Death(Some(Dead::Small)),
+    Call::Run(1, ENDED),
+    Call::Save(Err(Dead::Small)),
+    Call::Run(0, ENDED),
+    Call::Death(Some(Dead::Small)),
+];
+
+/// An input word comes to a machine that is alive.
+fn word_comes<M: Memory>(rt: &impl Abort, machine: &mut Machine<M>, word: u16)
+    requires { machine.old.death ≡ None
+        → IsReady (M.view machine.old.memory) machine.old.frame machine.old.world }
+    ensures { machine.new.death ≡ None
+        → IsReady (M.view machine.new.memory) machine.new.frame machine.new.world }
+{
+    assert!(rt; machine.death().is_none());
+    assert_eq!(rt; machine.event(Event::Word(word)), Ok(()));
 }
 
-/// Each of these begins with a machine of its own.
+/// Calls a machine, and compares what it answers with what is wanted.
+fn carry_out<M: Memory>(rt: &impl Abort, machine: &mut Machine<M>, call: Call)
+    requires { machine.old.death ≡ None
+        → IsReady (M.view machine.old.memory) machine.old.frame machine.old.world }
+    ensures { machine.new.death ≡ None
+        → IsReady (M.view machine.new.memory) machine.new.frame machine.new.world }
+{
+    match call {
+        Call::Word(word) => word_comes(rt, machine, word),
+        Call::Run(count, end) => assert_eq!(rt; machine.run(count), end),
+        Call::Save(saved) => assert_eq!(rt; machine.save(), saved),
+        Call::Death(cause) => assert_eq!(rt; machine.death(), cause),
+        Call::Frame(context, ip, sp) => assert_eq!(rt; machine.frame(), registers(context, ip, sp)),
+        Call::Counts(words, signals) => counts_are(rt, machine.world(), words, signals),
+        Call::Oldest(word) => assert_eq!(rt; machine.world().oldest_word(), word),
+        Call::Free(device) => assert!(rt; !machine.world().holds(device)),
+        Call::Used(entries, words) => used(rt, machine.memory(), entries, words),
+        Call::First(object, fields) => first_are(rt, machine.memory(), object, fields),
+    }
+}
+
+const ROWS: [(Start, &[Call]); 5] = [
+    (Start::Two(Device::InputSemaphore, 30), WOKEN),
+    (
+        Start::Two(Device::InputSemaphore, 30),
+        SAVED_BEFORE_A_SIGNAL,
+    ),
+    (Start::Two(Device::NewProcess, 20), SAVED_AFTER_A_SWITCH),
+    (Start::Active(60), SAVED_REGISTERS),
+    (Start::Active(58), DEAD_OF_SAVING),
+];
+
 fn machines_are_called<L: Loader>(rt: &(impl Abort + AllocGlobal)) -> Result<(), Fail> {
-    wakes_a_process::<L>(rt)?;
-    saves_before_a_signal::<L>(rt)?;
-    saves_after_a_switch::<L>(rt)?;
-    saves_registers::<L>(rt)?;
-    dies_of_saving::<L>(rt)
+    for (start, calls) in ROWS {
+        let mut machine = machine_of::<L>(rt, start)?;
+        for next in calls {
+            carry_out(rt, &mut machine, *next);
+        }
+    }
+    Ok(())
 }
 
 #[test]

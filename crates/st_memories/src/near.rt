@@ -1,6 +1,7 @@
 ghost use Rattle.st_frames.specs.Shown.{IsFrame};
 
 use crate::image::{first_are, ready_b};
+use crate::reads::{bytes_are, counts_are, fields_are};
 use st_counted::CountedLoader;
 use st_frames::Frame;
 use st_memory::{Loader, Memory, Objects};
@@ -16,18 +17,27 @@ const CONTEXT: Word = Word(62);
 
 const METHOD: Word = Word(64);
 
-/// Of context and method the same is read near at hand as by a memory, and no more than they have.
+/// What is read of context and method, and no more than they have.
+const FIELDS: [(Word, u32, Result<Word, Dead>); 4] = [
+    (CONTEXT, 3, Ok(METHOD)),
+    (CONTEXT, 17, Ok(Word::NIL)),
+    (CONTEXT, 18, Err(Dead::Field)),
+    (METHOD, 0, Err(Dead::Kind)),
+];
+
+const BYTES: [(Word, i32, Result<u8, Dead>); 5] = [
+    (METHOD, 1, Err(Dead::Ip)),
+    (METHOD, 2, Ok(118)),
+    (METHOD, 6, Ok(251)),
+    (METHOD, 7, Err(Dead::Ip)),
+    (METHOD, -1, Err(Dead::Ip)),
+];
+
+/// Of context and method the same is read near at hand as by a memory.
 fn reads_near<O: Objects>(rt: &impl Abort, m: &O) {
-    assert_eq!(rt; m.count_fields(CONTEXT), Ok(18));
-    assert_eq!(rt; m.fetch_field(CONTEXT, 3), Ok(METHOD));
-    assert_eq!(rt; m.fetch_field(CONTEXT, 17), Ok(Word::NIL));
-    assert_eq!(rt; m.fetch_field(CONTEXT, 18), Err(Dead::Field));
-    assert_eq!(rt; m.fetch_field(METHOD, 0), Err(Dead::Kind));
-    assert_eq!(rt; m.byte_at(METHOD, 1), Err(Dead::Ip));
-    assert_eq!(rt; m.byte_at(METHOD, 2), Ok(118));
-    assert_eq!(rt; m.byte_at(METHOD, 6), Ok(251));
-    assert_eq!(rt; m.byte_at(METHOD, 7), Err(Dead::Ip));
-    assert_eq!(rt; m.byte_at(METHOD, -1), Err(Dead::Ip));
+    fields_are(rt, m, &FIELDS);
+    bytes_are(rt, m, &BYTES);
+    counts_are(rt, m, &[(CONTEXT, Ok(18))]);
     assert_eq!(rt; m.literal(METHOD, 0), Err(Dead::Field));
 }
 
@@ -36,15 +46,19 @@ fn changes_near<M: Memory>(rt: &impl Abort, m: &mut M, f: &Frame)
     requires { IsFrame (M.view m.old) f.now }
 {
     let mut near = Near::new(m, f);
+    let other = Word(60);
     reads_near(rt, &near);
     assert_eq!(rt; near.store_field(CONTEXT, 17, Word(7)), Ok(()));
-    assert_eq!(rt; near.fetch_field(CONTEXT, 17), Ok(Word(7)));
+    fields_are(rt, &near, &[(CONTEXT, 17, Ok(Word(7)))]);
     near.settle();
-    assert_eq!(rt; near.fetch_field(CONTEXT, 17), Ok(Word(7)));
-    assert_eq!(rt; near.exchange(CONTEXT, Word(60)), Ok(()));
-    assert_eq!(rt; near.count_fields(CONTEXT), Ok(4));
-    assert_eq!(rt; near.fetch_field(CONTEXT, 17), Err(Dead::Field));
-    assert_eq!(rt; near.fetch_field(Word(60), 17), Ok(Word(7)));
+    fields_are(rt, &near, &[(CONTEXT, 17, Ok(Word(7)))]);
+    assert_eq!(rt; near.exchange(CONTEXT, other), Ok(()));
+    counts_are(rt, &near, &[(CONTEXT, Ok(4))]);
+    fields_are(
+        rt,
+        &near,
+        &[(CONTEXT, 17, Err(Dead::Field)), (other, 17, Ok(Word(7)))],
+    );
 }
 
 /// What was stored near at hand stands in the memory.

@@ -1,6 +1,6 @@
 ghost use Rattle.std.specs.Prelude.{◌<◌};
 
-use crate::image::{image_b, make, write};
+use crate::image::{B, image, make, write};
 use st_bitblt::copy_bits;
 use st_counted::CountedLoader;
 use st_memory::Memory;
@@ -357,7 +357,7 @@ fn copies<M: Memory>(
 
 #[test]
 fn copies_are_those_of_a_plain_loop(rt: HostRuntime) -> Result<(), Fail> {
-    let mut m = image_b::<CountedLoader>(rt.alloc(), 20000)?;
+    let mut m = image::<CountedLoader>(rt.alloc(), &B, 32767, 20000)?;
     let objects = made_objects(&rt, &mut m);
     let mut choices = Choices { state: 1 };
     for copy in 0..2000 {
@@ -368,7 +368,7 @@ fn copies_are_those_of_a_plain_loop(rt: HostRuntime) -> Result<(), Fail> {
 
 #[test]
 fn copies_in_the_plain_memory(rt: HostRuntime) -> Result<(), Fail> {
-    let mut m = image_b::<PlainLoader>(rt.alloc(), 20000)?;
+    let mut m = image::<PlainLoader>(rt.alloc(), &B, 32767, 20000)?;
     let objects = made_objects(&rt, &mut m);
     let mut choices = Choices { state: 2 };
     for copy in 0..200 {

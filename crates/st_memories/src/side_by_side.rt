@@ -1,4 +1,4 @@
-use crate::image::{image_b, is_makeable, words_for};
+use crate::image::{B, image, is_makeable, words_for};
 use st_counted::CountedLoader;
 use st_memory::Memory;
 use st_model::{Demand, Kind, Oop, RootPlace};
@@ -97,8 +97,8 @@ fn compare<M: Memory, N: Memory>(rt: &impl Abort, m: &M, n: &N) {
 
 #[test]
 fn both_do_the_same(rt: HostRuntime) -> Result<(), Fail> {
-    let mut counted = image_b::<CountedLoader>(rt.alloc(), 20000)?;
-    let mut plain = image_b::<PlainLoader>(rt.alloc(), 20000)?;
+    let mut counted = image::<CountedLoader>(rt.alloc(), &B, 32767, 20000)?;
+    let mut plain = image::<PlainLoader>(rt.alloc(), &B, 32767, 20000)?;
     let mut one = Numbers { state: 1 };
     let mut two = Numbers { state: 1 };
     for _ in 0..THOUSANDS {

@@ -10,6 +10,3 @@ pub use arguments::method_arguments;
 pub use extension::primitive;
 pub use fields::{first_byte, flag, large, literals, temporaries};
 pub use header::Header;
-
-#[cfg(test)]
-mod tests;

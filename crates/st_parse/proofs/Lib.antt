@@ -1,2 +1,4 @@
 pub mod Parsing
 pub mod Assigning
+pub mod Patterns
+pub mod Statements

@@ -1,5 +1,5 @@
 -- What a reader answers: what it read, seen as a part of a tree, and the leaves behind it; or the first fault.
-use Rattle.std.specs.Prelude.{◌≡◌, ℕ, Bool, List, [], ◌∷◌, ◌++◌, Result}
+use Rattle.std.specs.Prelude.{◌≡◌, ℕ, Bool, List, ◌++◌, Result}
 use Rattle.std.specs.Borrow.{Bor}
 use Rattle.std.specs.Global.{Vec}
 use Rattle.st_tree.specs.declared.tree.Name.{Name}
@@ -12,7 +12,7 @@ use Rattle.st_tree.specs.Views as views
 use Rattle.st_grammar.specs.declared.leaf.Leaf.{Leaf}
 use Rattle.st_grammar.specs.declared.read.ReadError.{ReadError}
 use Rattle.st_grammar.specs.Trees.{bytes, sent, sent_if}
-use Rattle.st_grammar.specs.Reading.{Stop, Read, Gives, PartsView, BodyView, PatternView, array_at, bracket_at}
+use Rattle.st_grammar.specs.Reading.{Read, Gives, PartsView, BodyView, PatternView, array_at, bracket_at}
 use Rattle.st_parse.specs.declared.sends.Parts.{Parts}
 use Rattle.st_parse.specs.declared.bodies.Body.{Body}
 use Rattle.st_parse.specs.declared.method.Pattern.{Pattern}

@@ -1,7 +1,9 @@
 -- What the parts of an expression are while they are read, without where they lie in memory.
-use Rattle.std.specs.Prelude.{◌≡◌, true, false, List, ◌∷◌}
+use Rattle.std.specs.Prelude.{◌≡◌, Bool, true, false, List, [], ◌∷◌, if◌then◌else◌}
 use Rattle.st_tree.specs.Views.{expressions_view, statements_view}
 use Rattle.st_grammar.specs.declared.leaf.Leaf.{Leaf}
+use Rattle.st_grammar.specs.declared.leaf.Kind.TheVariants.{Return}
+use Rattle.st_grammar.specs.Leaves.{among}
 use Rattle.st_parse.specs.declared.sends.Parts.{Parts}
 use Rattle.st_parse.specs.declared.bodies.Body.{Body}
 use Rattle.st_grammar.specs.Reading.{PartsView, BodyView, is_target}
@@ -11,6 +13,11 @@ parts_view p = record { selector = p.selector.items; arguments = expressions_vie
 
 abbrev pub body_view : Body → BodyView
 body_view b = record { statements = statements_view b.statements.items; goes_on = b.goes_on }
+
+-- whether a caret stands first, and what is behind it
+abbrev pub caret_at : List Leaf → Bool × List Leaf
+caret_at [] = (false, [])
+caret_at (x ∷ ts) = if among (Return ∷ []) x then (true, ts) else (false, x ∷ ts)
 
 -- no name with an assignment stands first
 abbrev pub NoTarget : List Leaf → Type 0

@@ -1,15 +1,15 @@
 //! Statements so far, and how they end.
 
-ghost use Rattle.std.specs.Prelude.{◌≡◌, true, false, IfOk};
+ghost use Rattle.std.specs.Prelude.{◌≡◌, ◌&&◌, true, not, IfOk};
 ghost use Rattle.st_tree.specs.Views.{expression_view, statements_view, no_statements};
 ghost use Rattle.st_grammar.specs.Reading.{first, period_at, statement_looks};
-ghost use Rattle.st_parse.specs.Phrases.{body_view};
+ghost use Rattle.st_parse.specs.Phrases.{body_view, caret_at};
 ghost use Rattle.st_parse.specs.Answers.{IsBody};
 
 use crate::kinds::STATEMENT_STARTS;
 use st_grammar::leaf::{Kind, Leaf};
 use st_grammar::read::is_among;
-use st_tree::{Expression, Statement, StatementList};
+use st_tree::{Statement, StatementList};
 use std::alloc::{AllocError, Global};
 
 /// Statements so far, and whether another one may follow.
@@ -29,37 +29,34 @@ pub fn no_statements(alloc: Global) -> Body
     }
 }
 
-/// One more statement, which returns its value; none may follow it.
+/// One more statement. Another one may follow it behind a period, but none where its value is returned.
 #[tactic(auto, using(st_tree::proofs::Views::views))]
-pub fn with_return(statements: StatementList, value: Expression) -> Result<Body, AllocError>
-    ensures { IfOk result (IsBody (statements_view statements.items) true (expression_view value) false) }
+pub fn with_statement(
+    statements: StatementList,
+    statement: Statement,
+    period: bool,
+) -> Result<Body, AllocError>
+    ensures { let goes_on = not statement.returns && period in
+        let value = expression_view statement.value in
+        IfOk result (IsBody (statements_view statements.items) statement.returns value goes_on) }
 {
+    let goes_on = !statement.returns && period;
     let mut statements = statements;
-    let returns = true;
-    statements.push(Statement { returns, value })?;
-    let goes_on = false;
+    statements.push(statement)?;
     Ok(Body {
         statements,
         goes_on,
     })
 }
 
-/// One more statement, and whether another one may follow it.
-#[tactic(auto, using(st_tree::proofs::Views::views))]
-pub fn with_value(
-    statements: StatementList,
-    value: Expression,
-    goes_on: bool,
-) -> Result<Body, AllocError>
-    ensures { IfOk result (IsBody (statements_view statements.items) false (expression_view value) goes_on) }
+/// Whether a caret stands first, and what is behind it.
+pub fn caret(leaves: &[Leaf]) -> (bool, &[Leaf])
+    ensures { (result.0, result.1.now) ≡ caret_at leaves.now }
 {
-    let mut statements = statements;
-    let returns = false;
-    statements.push(Statement { returns, value })?;
-    Ok(Body {
-        statements,
-        goes_on,
-    })
+    match leaves {
+        [leaf, rest @ ..] if is_among(&[Kind::Return], *leaf) => (true, rest),
+        _ => (false, leaves),
+    }
 }
 
 /// Whether a period stands first, and what is behind it.

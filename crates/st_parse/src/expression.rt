@@ -11,7 +11,7 @@ ghost use Rattle.st_grammar.specs.Reading.{block_at, first};
 ghost use Rattle.st_parse.specs.Phrases.{parts_view, body_view};
 ghost use Rattle.st_parse.specs.Answers.{Reads, ReadsParts, ReadsBody, ReadsStatements, within};
 
-use crate::bodies::{Body, goes_on, no_statements, period, with_return, with_value};
+use crate::bodies::{Body, caret, goes_on, no_statements, period, with_statement};
 use crate::kinds::{KEYWORDS, NAMES, OPERATORS};
 use crate::literal::{constant_element, nested};
 use crate::names::{assigned, name_of, parameter, parameters, targets};
@@ -21,7 +21,7 @@ use crate::sends::{
 };
 use st_grammar::leaf::{Kind, Leaf};
 use st_grammar::read::{ReadError, starts, token};
-use st_tree::{Expression, NameList, StatementList};
+use st_tree::{Expression, NameList, Statement, StatementList};
 use std::alloc::Global;
 
 const CONSTANTS: [Kind; 2] = [Kind::Number, Kind::Constant];
@@ -340,7 +340,6 @@ fn expression<'a>(
 
 /// Statements with one more, and the period behind it.
 #[cycle(reading)]
-#[tactic(auto, unfolding(st_grammar::specs::Reading::statement_step, st_grammar::specs::Reading::returned_at, st_grammar::specs::Reading::plain_at), using(st_tree::proofs::Views::views))]
 fn statement<'a>(
     alloc: Global,
     text: &[u8],
@@ -350,16 +349,11 @@ fn statement<'a>(
 ) -> Result<(Body, &'a [Leaf]), ReadError>
     ensures { ReadsBody result (within statement_step text.now room (body_view body) leaves.now) }
 {
-    if starts(&[Kind::Return], leaves) {
-        let (_return, rest) = token(&[Kind::Return], leaves)?;
-        let (value, rest) = expression(alloc, text, room, rest)?;
-        let (_period, rest) = period(rest);
-        Ok((with_return(body.statements, value)?, rest))
-    } else {
-        let (value, rest) = expression(alloc, text, room, leaves)?;
-        let (goes_on, rest) = period(rest);
-        Ok((with_value(body.statements, value, goes_on)?, rest))
-    }
+    let (returns, rest) = caret(leaves);
+    let (value, rest) = expression(alloc, text, room, rest)?;
+    let (period, rest) = period(rest);
+    let statement = Statement { returns, value };
+    Ok((with_statement(body.statements, statement, period)?, rest))
 }
 
 /// Statements with all that follow.

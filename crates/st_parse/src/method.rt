@@ -6,14 +6,14 @@ ghost use Rattle.st_grammar.specs.Faults.{most};
 ghost use Rattle.st_grammar.specs.Trees.{number_of};
 ghost use Rattle.st_grammar.specs.Reading.{Gives, pattern_step, keyword_names_at, pattern_at};
 ghost use Rattle.st_grammar.specs.Reading.{unary_pattern_at, binary_pattern_at, keyword_pattern_at};
-ghost use Rattle.st_grammar.specs.Reading.{name_step, name_list_at, temporaries_at, primitive_at, options_at};
+ghost use Rattle.st_grammar.specs.Reading.{name_list_at, temporaries_at, primitive_at, options_at};
 ghost use Rattle.st_grammar.specs.Reading.{temporaries_first_at, primitive_first_at, method_at, whole_at};
 ghost use Rattle.st_parse.specs.Parsed.{pattern_view, options_view};
 ghost use Rattle.st_parse.specs.Answers.{ReadsNames, ReadsPattern};
 
 use crate::expression::statements;
 use crate::kinds::{KEYWORDS, NAMES, OPERATORS};
-use crate::names::name_of;
+use crate::names::one_name;
 use st_grammar::leaf::{Kind, Leaf, bytes_of};
 use st_grammar::read::{ReadError, starts, token};
 use st_tree::{Cause, MethodTree, NameList, Signed, Sort, Text};
@@ -37,7 +37,7 @@ struct Options {
 }
 
 /// A pattern with one more keyword and the name of its argument.
-#[tactic(auto, unfolding(st_grammar::specs::Reading::pattern_step))]
+#[tactic(auto, using(crate::proofs::Patterns::pattern_by_names))]
 fn keyword_name<'a>(
     alloc: Global,
     text: &[u8],
@@ -47,11 +47,9 @@ fn keyword_name<'a>(
     ensures { ReadsPattern result (pattern_step text.now (pattern_view pattern) leaves.now) }
 {
     let (keyword, rest) = token(&KEYWORDS, leaves)?;
-    let (leaf, rest) = token(&NAMES, rest)?;
+    let (arguments, rest) = one_name(alloc, text, pattern.arguments, rest)?;
     let mut selector = pattern.selector;
-    let mut arguments = pattern.arguments;
     selector.extend_from_slice(bytes_of(text, keyword.token))?;
-    arguments.push(name_of(alloc, text, leaf)?)?;
     let pattern = Pattern {
         selector,
         arguments,
@@ -99,7 +97,7 @@ fn unary_pattern<'a>(
 }
 
 /// A pattern of an operator and a name.
-#[tactic(auto, unfolding(st_grammar::specs::Reading::binary_pattern_at))]
+#[tactic(auto, using(crate::proofs::Patterns::binary_by_names))]
 fn binary_pattern<'a>(
     alloc: Global,
     text: &[u8],
@@ -108,10 +106,8 @@ fn binary_pattern<'a>(
     ensures { ReadsPattern result (binary_pattern_at text.now leaves.now) }
 {
     let (operator, rest) = token(&OPERATORS, leaves)?;
-    let (leaf, rest) = token(&NAMES, rest)?;
+    let (arguments, rest) = one_name(alloc, text, Vec::new(alloc), rest)?;
     let selector = bytes_of(text, operator.token).to_vec(alloc)?;
-    let mut arguments = Vec::new(alloc);
-    arguments.push(name_of(alloc, text, leaf)?)?;
     let pattern = Pattern {
         selector,
         arguments,
@@ -152,21 +148,6 @@ fn any_pattern<'a>(
     } else {
         keyword_pattern(alloc, text, leaves)
     }
-}
-
-/// Names with one more.
-#[tactic(auto, unfolding(st_grammar::specs::Reading::name_step))]
-fn one_name<'a>(
-    alloc: Global,
-    text: &[u8],
-    mut names: NameList,
-    leaves: &'a [Leaf],
-) -> Result<(NameList, &'a [Leaf]), ReadError>
-    ensures { ReadsNames result (name_step text.now (names_view names.items) leaves.now) }
-{
-    let (leaf, rest) = token(&NAMES, leaves)?;
-    names.push(name_of(alloc, text, leaf)?)?;
-    Ok((names, rest))
 }
 
 /// Names with all that follow.

@@ -3,7 +3,7 @@
 ghost use Rattle.std.specs.Prelude.{◌≡◌, IfOk, MatchOption};
 ghost use Rattle.st_tree.specs.Views.{name_view, names_view, expression_view};
 ghost use Rattle.st_grammar.specs.Trees.{name_at};
-ghost use Rattle.st_grammar.specs.Reading.{assigned_to, targets_at, parameters_step, parameters_at};
+ghost use Rattle.st_grammar.specs.Reading.{assigned_to, targets_at, name_step, parameters_step, parameters_at};
 ghost use Rattle.st_parse.specs.Phrases.{NoTarget, BeginsWithTarget};
 ghost use Rattle.st_parse.specs.Answers.{ReadsNames, Makes};
 
@@ -63,20 +63,33 @@ pub fn assigned(alloc: Global, names: NameList, value: Expression) -> Result<Exp
     Ok(value)
 }
 
-/// A block's arguments with one more.
-#[tactic(auto, unfolding(st_grammar::specs::Reading::parameters_step))]
-pub fn parameter<'a>(
+/// Names with one more.
+#[tactic(auto, unfolding(st_grammar::specs::Reading::name_step))]
+pub fn one_name<'a>(
     alloc: Global,
     text: &[u8],
     mut names: NameList,
     leaves: &'a [Leaf],
 ) -> Result<(NameList, &'a [Leaf]), ReadError>
+    ensures { ReadsNames result (name_step text.now (names_view names.items) leaves.now) }
+{
+    let (leaf, rest) = token(&NAMES, leaves)?;
+    names.push(name_of(alloc, text, leaf)?)?;
+    Ok((names, rest))
+}
+
+/// A block's arguments with one more.
+#[tactic(auto, unfolding(st_grammar::specs::Reading::parameters_step, st_grammar::specs::Reading::name_step))]
+pub fn parameter<'a>(
+    alloc: Global,
+    text: &[u8],
+    names: NameList,
+    leaves: &'a [Leaf],
+) -> Result<(NameList, &'a [Leaf]), ReadError>
     ensures { ReadsNames result (parameters_step text.now (names_view names.items) leaves.now) }
 {
     let (_colon, rest) = token(&[Kind::Colon], leaves)?;
-    let (leaf, rest) = token(&NAMES, rest)?;
-    names.push(name_of(alloc, text, leaf)?)?;
-    Ok((names, rest))
+    one_name(alloc, text, names, rest)
 }
 
 /// A block's arguments with all that follow.

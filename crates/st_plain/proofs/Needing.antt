@@ -36,7 +36,7 @@ below_some (suc n) k f l h = elim (last_case k n l) [
     last_case : (k n : ℕ) → k < suc n → (k ≡ n) ⊎ (k < n)
     last_case k n l = grind arith
 
-pub is_referred-of : (t : Table) (m : ℕ) (o : Object) (n : ℕ) → entry t m ≡ Some o → Refers o n → IsTrue (is_referred t n)
+is_referred-of : (t : Table) (m : ℕ) (o : Object) (n : ℕ) → entry t m ≡ Some o → Refers o n → IsTrue (is_referred t n)
 unfolding is_referred
 is_referred-of t m o n e r = below_some (length t) m (λ j. object_names (entry t j) n) (table_finite_in t m (is_some-of (entry t m) o e)) (is_object (entry t m) o n e r)
 

@@ -60,6 +60,3 @@ impl Loader for PlainLoader {
         PlainMemory::new(self.contents)
     }
 }
-
-#[cfg(test)]
-pub mod tests;

@@ -137,6 +137,3 @@ impl Memory for PlainMemory {
 
     ghost whole = { λ m. m.whole };
 }
-
-#[cfg(test)]
-mod tests;

@@ -28,8 +28,7 @@ fn before_link(out: &mut Text, wanted: Rank, link: Link<'_>) -> Result<(), Alloc
     match link {
         Link::Assign(target) => {
             put(out, &target.text)?;
-            put(out, b"_")?;
-            Ok(())
+            put(out, b"_")
         }
         Link::Send(_) => Ok(()),
     }
@@ -70,8 +69,7 @@ fn parameters(out: &mut Text, names: &[Name]) -> Result<(), AllocError>
         return Ok(());
     }
     each_parameter(out, names)?;
-    put(out, b"|")?;
-    Ok(())
+    put(out, b"|")
 }
 
 /// How many bytes stand before the first colon.
@@ -111,8 +109,7 @@ pub fn expression(
         Expression::Assign { .. } => {}
         Expression::Send { .. } => {}
     }
-    behind_links(alloc, out, wanted, &chain.links)?;
-    Ok(())
+    behind_links(alloc, out, wanted, &chain.links)
 }
 
 /// Puts what stands behind an expression for all links, from the innermost on.
@@ -167,8 +164,7 @@ fn block(
     put(out, b"[")?;
     parameters(out, names)?;
     statements(alloc, out, body)?;
-    put(out, b"]")?;
-    Ok(())
+    put(out, b"]")
 }
 
 /// Puts a statement.
@@ -180,8 +176,7 @@ fn statement(alloc: Global, out: &mut Text, s: &Statement) -> Result<(), AllocEr
     if s.returns {
         put(out, b"^")?;
     }
-    expression(alloc, out, Rank::Any, &s.value)?;
-    Ok(())
+    expression(alloc, out, Rank::Any, &s.value)
 }
 
 /// Puts statements.
@@ -194,8 +189,7 @@ pub fn statements(alloc: Global, out: &mut Text, body: &[Statement]) -> Result<(
         return Ok(());
     }
     statement(alloc, out, &body[0])?;
-    next_statements(alloc, out, &body[1..])?;
-    Ok(())
+    next_statements(alloc, out, &body[1..])
 }
 
 /// Puts statements behind others, each with a period before it.
@@ -221,8 +215,7 @@ fn messages(alloc: Global, out: &mut Text, sent: &[Message]) -> Result<(), Alloc
         return Ok(());
     }
     message(alloc, out, &sent[0])?;
-    next_messages(alloc, out, &sent[1..])?;
-    Ok(())
+    next_messages(alloc, out, &sent[1..])
 }
 
 /// Puts messages behind others, each with a semicolon before it.
@@ -245,16 +238,13 @@ fn message(alloc: Global, out: &mut Text, m: &Message) -> Result<(), AllocError>
     ensures { OnOk result (IsPut (sent_words m.now) out.old out.new) }
 {
     let [first, ..] = m.arguments.as_slice() else {
-        put(out, &m.selector)?;
-        return Ok(());
+        return put(out, &m.selector);
     };
     if is_word(&m.selector) {
-        keywords(alloc, out, &m.selector, &m.arguments)?;
-        Ok(())
+        keywords(alloc, out, &m.selector, &m.arguments)
     } else {
         put(out, &m.selector)?;
-        expression(alloc, out, Rank::Unary, first)?;
-        Ok(())
+        expression(alloc, out, Rank::Unary, first)
     }
 }
 

@@ -35,8 +35,7 @@ fn array(out: &mut Text, elements: &[Element]) -> Result<(), AllocError>
 {
     put(out, b"#(")?;
     all_elements(out, elements)?;
-    put(out, b")")?;
-    Ok(())
+    put(out, b")")
 }
 
 /// Puts elements.

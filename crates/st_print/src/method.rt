@@ -36,16 +36,13 @@ fn pattern(out: &mut Text, selector: &[u8], names: &[Name]) -> Result<(), AllocE
     ensures { OnOk result (IsPut (pattern_words selector.now (names_view names.now)) out.old out.new) }
 {
     let [first, ..] = names else {
-        put(out, selector)?;
-        return Ok(());
+        return put(out, selector);
     };
     if is_word(selector) {
-        keyword_pattern(out, selector, names)?;
-        Ok(())
+        keyword_pattern(out, selector, names)
     } else {
         put(out, selector)?;
-        put(out, &first.text)?;
-        Ok(())
+        put(out, &first.text)
     }
 }
 
@@ -70,8 +67,7 @@ fn temporaries(out: &mut Text, names: &[Name]) -> Result<(), AllocError>
     }
     put(out, b"|")?;
     all_names(out, names)?;
-    put(out, b"|")?;
-    Ok(())
+    put(out, b"|")
 }
 
 /// Puts a primitive.
@@ -85,8 +81,7 @@ fn primitive(out: &mut Text, number: Option<Signed>) -> Result<(), AllocError>
     put(out, b"<")?;
     put(out, b"primitive:")?;
     put_number(out, number)?;
-    put(out, b">")?;
-    Ok(())
+    put(out, b">")
 }
 
 /// The number with a sign that a literal is.
@@ -143,8 +138,7 @@ fn signed_body(alloc: Global, body: &[Statement]) -> Result<Option<Signed>, Allo
     if statement.returns {
         return Ok(None);
     }
-    let number = first_signed(alloc, &statement.value)?;
-    Ok(number)
+    first_signed(alloc, &statement.value)
 }
 
 /// Puts statements directly behind a pattern.
@@ -153,8 +147,7 @@ fn statements_apart(alloc: Global, out: &mut Text, body: &[Statement]) -> Result
     ensures { OnOk result (IsPut (apart_words body.now) out.old out.new) }
 {
     let Some(number) = signed_body(alloc, body)? else {
-        statements(alloc, out, body)?;
-        return Ok(());
+        return statements(alloc, out, body);
     };
     let mut first = Vec::new(alloc);
     put_number(&mut first, number)?;
@@ -176,11 +169,9 @@ fn behind_pattern(alloc: Global, out: &mut Text, t: &MethodTree) -> Result<(), A
     temporaries(out, &t.temporaries)?;
     primitive(out, t.primitive)?;
     if out.len() == pattern {
-        statements_apart(alloc, out, &t.body)?;
-        Ok(())
+        statements_apart(alloc, out, &t.body)
     } else {
-        statements(alloc, out, &t.body)?;
-        Ok(())
+        statements(alloc, out, &t.body)
     }
 }
 
@@ -203,6 +194,5 @@ pub fn print(alloc: Global, t: &MethodTree) -> Result<Text, AllocError>
     let mut out = Vec::new(alloc);
     pattern(&mut out, &t.selector, &t.arguments)?;
     behind_pattern(alloc, &mut out, t)?;
-    let text = behind_first(alloc, &out)?;
-    Ok(text)
+    behind_first(alloc, &out)
 }

@@ -14,8 +14,7 @@ pub fn put(out: &mut Text, word: &[u8]) -> Result<(), AllocError>
     ensures { OnOk result (out.new.items ≡ out.old.items ++ byte " " ∷ word.now) }
 {
     out.push(b' ')?;
-    out.extend_from_slice(word)?;
-    Ok(())
+    out.extend_from_slice(word)
 }
 
 /// Puts a number in decimal.
@@ -28,8 +27,7 @@ pub fn put_number(out: &mut Text, number: Signed) -> Result<(), AllocError>
     } else {
         put(out, b"")?;
     }
-    out.extend_from_slice(buffer.format(number.size).as_bytes())?;
-    Ok(())
+    out.extend_from_slice(buffer.format(number.size).as_bytes())
 }
 
 /// Adds bytes with each quote doubled.
@@ -60,6 +58,5 @@ pub fn put_symbol(out: &mut Text, text: &[u8]) -> Result<(), AllocError>
     ensures { OnOk result (out.new.items ≡ out.old.items ++ byte " " ∷ byte "#" ∷ text.now) }
 {
     put(out, b"#")?;
-    out.extend_from_slice(text)?;
-    Ok(())
+    out.extend_from_slice(text)
 }

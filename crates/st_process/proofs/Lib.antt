@@ -1,3 +1,4 @@
+pub mod Chained
 pub mod Worlds
 pub mod Changing
 pub mod Numbering

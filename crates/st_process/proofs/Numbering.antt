@@ -13,18 +13,6 @@ use Rattle.st_model.specs.Steps.{check, store_field}
 use Rattle.st_model.specs.Processes.{list_number, sleep, let_wait, resume_over, wait_in, take_excess}
 use Rattle.st_model.proofs.Runs.{run-passed, run-failed}
 
-lt_true : (a b : ℤ) → a <ℤ b → int_lt a b ≡ true
-lt_true (pos a) (pos b) l = grind (arith, ints, l)
-lt_true (pos a) (negsuc b) l = grind (arith, ints, l)
-lt_true (negsuc a) (pos b) l = grind (arith, ints, l)
-lt_true (negsuc a) (negsuc b) l = grind (arith, ints, l)
-
-lt_false : (a b : ℤ) → b ≤ℤ a → int_lt a b ≡ false
-lt_false (pos a) (pos b) l = grind (arith, ints, l)
-lt_false (pos a) (negsuc b) l = grind (arith, ints, l)
-lt_false (negsuc a) (pos b) l = grind (arith, ints, l)
-lt_false (negsuc a) (negsuc b) l = grind (arith, ints, l)
-
 le_true : (a b : ℤ) → a ≤ℤ b → int_le a b ≡ true
 le_true (pos a) (pos b) l = grind (arith, ints, l)
 le_true (pos a) (negsuc b) l = grind (arith, ints, l)
@@ -61,16 +49,15 @@ number-is (negsuc n) s l h = absurd (grind (arith, ints, l))
 
 pub ruleset numbers = (number-none, number-is)
 
--- a priority that is greater, and one that is not
-pub over-greater : (m : ObjectMemory Table) (p a : Value) (x y : ℤ) (s : State Table) → x <ℤ y → (resume_over m p a (int_lt x y)).run s ≡ (sleep m a >> let_wait m p).run s
-unfolding resume_over
-over-greater m p a x y s l = rw (lt_true x y l) refl
+-- a priority that is greater, and one that is not, which were passed as they are
+module _ (m : ObjectMemory Table) (p a : Value) (x y : ℤ) (s : State Table) (first : to_z w32 (of_z w32 x) ≡ x) (second : to_z w32 (of_z w32 y) ≡ y) where
+  pub passed-greater : int_lt (to_z w32 (of_z w32 x)) (to_z w32 (of_z w32 y)) ≡ true → (resume_over m p a (int_lt x y)).run s ≡ (sleep m a >> let_wait m p).run s
+  unfolding resume_over
+  passed-greater e = let h : int_lt x y ≡ true = rw (first, second) at e in rw h refl
 
-pub over-not : (m : ObjectMemory Table) (p a : Value) (x y : ℤ) (s : State Table) → y ≤ℤ x → (resume_over m p a (int_lt x y)).run s ≡ (sleep m p).run s
-unfolding resume_over
-over-not m p a x y s l = rw (lt_false x y l) refl
-
-pub ruleset compares = (over-greater, over-not)
+  pub passed-not : int_lt (to_z w32 (of_z w32 x)) (to_z w32 (of_z w32 y)) ≡ false → (resume_over m p a (int_lt x y)).run s ≡ (sleep m p).run s
+  unfolding resume_over
+  passed-not e = let h : int_lt x y ≡ false = rw (first, second) at e in rw h refl
 
 pub limit-within : (k : Dead) (a b : ℤ) (s : State Table) → a ≤ℤ b → (check k (int_le a b)).run s ≡ Went tt s
 limit-within k a b s l = run-passed k (int_le a b) s (le_true a b l)

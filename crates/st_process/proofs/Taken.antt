@@ -1,5 +1,5 @@
 -- What a primitive takes whose effect and answer are done by one call: that call hasn't failed.
-use Rattle.std.proofs.Common.{◌≡◌, ◌≤◌, ◌+◌, ℕ, Bool, true, false, sym, arith}
+use Rattle.std.proofs.Common.{◌≡◌, ◌≤◌, ℕ, Bool, true, false, sym, arith}
 use Rattle.std.specs.Prelude.{Result, Ok, Err}
 use Rattle.st_model.specs.declared.dead.Dead.{Dead}
 use Rattle.st_model.specs.declared.tried.Tried.{Tried}

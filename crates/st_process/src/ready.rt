@@ -46,7 +46,6 @@ pub fn sleep<O: Objects>(m: &mut O, r: &Registers, process: Word) -> Result<(), 
 }
 
 /// A process goes on in place of the active one where its priority is greater, which is left to be done, and else it is ready.
-#[tactic(auto, using(st_frames::proofs::Doing::rows, crate::proofs::Numbering::compares), unfolding(st_model::specs::Processes::resume, st_model::specs::Processes::resume_over, st_model::specs::Processes::let_wait))]
 pub fn resume<O: Objects>(m: &mut O, r: &Registers, process: Word) -> Result<Deed, Dead>
     requires room { 3 ≤ O.room m.old }
     ensures does { RowLeaves O.Objects.own (resume O.names (word process))

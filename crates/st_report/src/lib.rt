@@ -12,6 +12,6 @@ mod words;
 pub use lines::{push_line, push_long_line};
 pub use objects::{push_object, push_objects};
 pub use output::Output;
-pub use said::{push_bytes, push_escaped, push_said};
+pub use said::{push_bytes, push_escaped, say_at_once};
 pub use state::{push_held, push_input, push_registers, push_state, push_used};
 pub use words::push_number;

@@ -39,7 +39,7 @@ impl Output {
     }
 
     /// Says the bytes that are held back.
-    fn flush<H: Host>(&mut self, host: &mut H) -> Result<(), SayFault>
+    pub(crate) fn flush<H: Host>(&mut self, host: &mut H) -> Result<(), SayFault>
         ensures pushes { Pushes H.Host.own [] host.old host.new self.old self.new result }
         ensures empty { OnOk result (self.new ≡ []) }
     {

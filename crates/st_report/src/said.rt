@@ -1,4 +1,4 @@
-ghost use Rattle.std.specs.Prelude.{◌≡◌, ◌<◌, true};
+ghost use Rattle.std.specs.Prelude.{◌≡◌, ◌<◌, [], true, OnOk};
 ghost use Rattle.st_model.specs.Values.{value};
 ghost use Rattle.st_model.specs.Objects.{is_bytes};
 ghost use Rattle.st_model.specs.View.{is_live, object_of};
@@ -72,7 +72,7 @@ fn push_say<H: Host, M: Memory>(
 }
 
 /// Adds the line that says the bytes of an object, where one of kind Bytes is there.
-pub fn push_said<H: Host, M: Memory>(
+fn push_said<H: Host, M: Memory>(
     out: &mut Output,
     host: &mut H,
     m: &M,
@@ -88,4 +88,20 @@ pub fn push_said<H: Host, M: Memory>(
         Kind::Bytes => push_say(out, host, m, o),
         Kind::Pointers | Kind::Words | Kind::Method => Ok(()),
     }
+}
+
+/// Adds the line that says the bytes of an object, where one of kind Bytes is there, and says it at once, behind all that was held
+/// back.
+pub fn say_at_once<H: Host, M: Memory>(
+    out: &mut Output,
+    host: &mut H,
+    m: &M,
+    o: Oop,
+) -> Result<(), SayFault>
+    ensures says { let text = said_in (M.view m.now).objects (value o) in
+        Pushes H.Host.own text host.old host.new out.old out.new result }
+    ensures at_once { OnOk result (out.new ≡ []) }
+{
+    push_said(out, host, m, o)?;
+    out.flush(host)
 }

@@ -11,6 +11,3 @@ mod word;
 
 pub use laws::{joined_pieces, one_scan, spaced_pieces, token_spans};
 pub use scanner::{Scanned, scan, tokens};
-
-#[cfg(test)]
-mod tests;

@@ -19,6 +19,3 @@ pub use laws::lines_by_bytes;
 pub use line::{is_blank, is_empty};
 pub use reader::{Definition, Reader};
 pub use request::Request;
-
-#[cfg(test)]
-mod tests;

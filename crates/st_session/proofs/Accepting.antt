@@ -23,9 +23,9 @@ use Rattle.st_recover.specs.Commits.{Commit, OpensAs, accepting}
 use Rattle.st_session.specs.Points.{Point, alive}
 use Rattle.st_session.specs.Keeping.{in_a_store}
 use Rattle.st_session.specs.Answers.{defined_course}
-use Rattle.st_session.specs.Replies.{accepted_line, accepted_text, refused_text}
+use Rattle.st_call.specs.Replies.{accepted_line, accepted_text, refused_text}
 use Rattle.st_session.specs.Standing.{shown_by, IsAt}
-use Rattle.st_session.specs.Telling.{Tells}
+use Rattle.st_call.specs.Telling.{Tells}
 use Rattle.st_session.proofs.Holding.{holds_said, holds_rest}
 use Rattle.st_session.proofs.Points.{GoesAs}
 use Rattle.st_session.proofs.Responding.{line_said}

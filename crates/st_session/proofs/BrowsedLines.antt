@@ -25,7 +25,8 @@ use Rattle.st_course.proofs.Lawful.{lines_both}
 use Rattle.st_definition.proofs.Selectors.{IsInLine, both_in_line}
 use Rattle.st_chunk.specs.Definitions.{Definition}
 use Rattle.st_session.specs.Sources.{text_for}
-use Rattle.st_session.specs.Browsing.{missing_text, asked_text}
+use Rattle.st_call.specs.Replies.{missing_text}
+use Rattle.st_session.specs.Browsing.{asked_text}
 use Rattle.st_session.proofs.WholeLines.{one_line, no_text, put, hexadecimal_in_line, ends, behind, decimal_in_line, value_in_line, values_in_line, numbers_in_line, numbers_lines, escaped_in_line}
 
 -- LINES

@@ -6,10 +6,10 @@ use Rattle.st_course.specs.declared.status.Status.{Status}
 use Rattle.st_course.specs.declared.status.Status.TheVariants as status
 use Rattle.st_course.specs.Statuses.{StatusHasCause}
 use Rattle.st_kernel.specs.Built.{Built, Fault}
-use Rattle.st_session.specs.declared.file.FileRefusal.{FileRefusal}
-use Rattle.st_session.specs.declared.file.FileRefusal.TheVariants as file
+use Rattle.st_call.specs.declared.file.FileRefusal.{FileRefusal}
+use Rattle.st_call.specs.declared.file.FileRefusal.TheVariants as file
 use Rattle.st_session.specs.Builds.{Builds, IsWrongKernel}
-use Rattle.st_session.specs.Commands.{file_status, IsFileRefusal, FileHasCause}
+use Rattle.st_call.specs.Refusals.{file_status, IsFileRefusal, FileHasCause}
 use Rattle.st_session.specs.Makings.{Contents, IsUnread}
 
 -- one text builds one thing

@@ -40,8 +40,11 @@ use Rattle.st_recover.specs.Replays.{Loss, Replayed, replay}
 use Rattle.st_recover.specs.declared.opened.Opened.{Opened}
 use Rattle.st_recover.specs.declared.fault.OpenFault.{OpenFault}
 use Rattle.st_recover.specs.declared.fault.OpenFault.TheVariants as opening
-use Rattle.st_session.specs.Commands.{last_line, store_status, opening_status, SaysLastLine}
-use Rattle.st_session.specs.Ends.{IsCalm, IsOfServing, SessionEnds}
+use Rattle.st_call.specs.LastLines.{last_line, SaysLastLine}
+use Rattle.st_call.specs.Refusals.{store_status}
+use Rattle.st_session.specs.Commands.{opening_status}
+use Rattle.st_session.specs.Ends.{IsCalm, SessionEnds}
+use Rattle.st_call.specs.Telling.{IsOfServing}
 use Rattle.st_session.specs.StoreSessions.{course_over, IsOfSession, KeepsPromise}
 use Rattle.st_session.specs.Opening.{IsOpen, session_over, session_so_far_over}
 use Rattle.st_session.proofs.LastLines.{quiet_line}

@@ -20,10 +20,11 @@ use Rattle.st_installer.specs.Installing.{Install}
 use Rattle.st_recover.specs.Replays.{Loss}
 use Rattle.st_session.specs.Points.{Point}
 use Rattle.st_session.specs.Keeping.{Keeping}
-use Rattle.st_session.specs.Replies.{opening_text}
+use Rattle.st_session.specs.FirstLines.{opening_text}
 use Rattle.st_session.specs.Sessions.{follow, follow_rest, follow_script, longest, session}
-use Rattle.st_session.specs.Telling.{Tells}
-use Rattle.st_session.specs.Ends.{status_in, IsOfServing, IsCalm, DidTold, SessionEnds}
+use Rattle.st_call.specs.Telling.{Tells}
+use Rattle.st_session.specs.Ends.{status_in, IsCalm, DidTold, SessionEnds}
+use Rattle.st_call.specs.Telling.{IsOfServing}
 
 abbrev pub IsEnded : {C X : Type 0} → Course C X → Type 0
 IsEnded (Goes ds x) = ⊥

@@ -31,9 +31,10 @@ use Rattle.st_recover.specs.Openings.{RefusesOpening, IsOfReopening}
 use Rattle.st_recover.specs.declared.fault.OpenFault.{OpenFault}
 use Rattle.st_recover.specs.declared.fault.OpenFault.TheVariants as opening
 use Rattle.st_recover.proofs.Determined.{same_commit}
-use Rattle.st_session.specs.Commands.{last_line, opening_status, SaysLastLine}
+use Rattle.st_call.specs.LastLines.{last_line, SaysLastLine}
+use Rattle.st_session.specs.Commands.{opening_status}
 use Rattle.st_session.specs.Ends.{IsCalm, status_in}
-use Rattle.st_session.specs.Telling.{Tells}
+use Rattle.st_call.specs.Telling.{Tells}
 use Rattle.st_session.specs.Exports.{Export, exporting, exporting_saved, written, IsOfExporting, IsOfExport, LeavesOthers, HasExported, HasImage, ExportHas, Stays}
 use Rattle.st_session.proofs.Commanded.{cause_between, opens_still}
 use Rattle.st_session.proofs.Snapshots.{image_shown}

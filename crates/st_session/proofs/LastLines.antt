@@ -14,7 +14,7 @@ use Rattle.st_course.specs.declared.status.Status.TheVariants as status
 use Rattle.st_course.specs.Acknowledged.{counts, acknowledged}
 use Rattle.st_course.proofs.Counting.{front_of}
 use Rattle.st_course.proofs.Underways.{nothing_of}
-use Rattle.st_session.specs.Commands.{fault_line, fault_numbers, script_line, place_line, store_line, kernel_line, last_line}
+use Rattle.st_call.specs.LastLines.{fault_line, fault_numbers, script_line, place_line, store_line, kernel_line, last_line}
 use Rattle.st_session.specs.declared.making.Origin.{Origin}
 use Rattle.st_session.specs.declared.making.Origin.TheVariants.{Image, Kernel}
 use Rattle.st_session.specs.Makings.{Contents, made_text}

@@ -32,7 +32,8 @@ use Rattle.st_recover.specs.Replays.{Loss}
 use Rattle.st_session.specs.Points.{Being, Alive, Gone, Point, alive}
 use Rattle.st_session.specs.Keeping.{Keeping, image_of, saved, in_a_store}
 use Rattle.st_session.specs.Browsing.{asked_text, memory_of}
-use Rattle.st_session.specs.Replies.{ok_text, full_text, machine_text, accepted_text, refused_text, opening_text}
+use Rattle.st_call.specs.Replies.{ok_text, full_text, machine_text, accepted_text, refused_text}
+use Rattle.st_session.specs.FirstLines.{opening_text}
 use Rattle.st_session.specs.Answers.{dead_line, browse_course, event_course, going_on, cycle_course, run_course, living_line, line_course, defined_course, definition_course, answer}
 use Rattle.st_session.specs.Sessions.{longest, follow, follow_rest, follow_script, session, session_so_far}
 use Rattle.st_session.proofs.BrowsedLines.{asked_lines}

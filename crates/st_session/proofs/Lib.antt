@@ -4,7 +4,6 @@ pub mod Built
 pub mod Commanded
 pub mod Compiling
 pub mod Cycles
-pub mod Digits
 pub mod Ending
 pub mod Exported
 pub mod Following
@@ -21,7 +20,6 @@ pub mod Rows
 pub mod Saying
 pub mod Snapshots
 pub mod Sources
-mod Spoken
 pub mod Started
 pub mod Stretches
 pub mod WholeLines

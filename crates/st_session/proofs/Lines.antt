@@ -23,7 +23,7 @@ use Rattle.st_chunk.specs.Definitions.{Definition}
 use Rattle.st_course.specs.Courses.{Goes, replies}
 use Rattle.st_session.specs.Points.{Point, alive, gone}
 use Rattle.st_session.specs.Keeping.{Keeping}
-use Rattle.st_session.specs.Replies.{ok_text, full_text}
+use Rattle.st_call.specs.Replies.{ok_text, full_text}
 use Rattle.st_session.specs.Answers.{dead_line, event_course, living_line}
 use Rattle.st_session.specs.Asking.{IsSaying}
 use Rattle.st_session.specs.Pushing.{PushesCourse}

@@ -15,8 +15,9 @@ use Rattle.st_frames.specs.Shown.{IsReady, shown}
 use Rattle.st_course.specs.declared.status.Status.{Status}
 use Rattle.st_course.specs.declared.status.Status.TheVariants as status
 use Rattle.st_session.specs.Browsing.{memory_of}
-use Rattle.st_session.specs.Telling.{Tells}
-use Rattle.st_session.proofs.Saying.{tells_all, tells_part, tells_behind}
+use Rattle.st_call.specs.Telling.{Tells}
+use Rattle.st_call.proofs.Saying.{tells_all, tells_part}
+use Rattle.st_session.proofs.Saying.{tells_behind}
 
 -- a memory that is ready is as its machine's state has it
 pub memory_is : (v : View) (f : Frame) (w : World) → IsReady v f w → v ≡ memory_of (shown v f w)

@@ -21,7 +21,9 @@ use Rattle.st_recover.specs.Images.{IsReadable}
 use Rattle.st_recover.specs.Commits.{Commit, OpensAs, stored_of}
 use Rattle.st_recover.specs.Creating.{IsMade, IsNoFirstFile, AreFirstFiles}
 use Rattle.st_session.specs.declared.making.Origin.{Origin}
-use Rattle.st_session.specs.Commands.{last_line, store_status, SaysLastLine, LeavesAlone}
+use Rattle.st_call.specs.LastLines.{last_line, SaysLastLine}
+use Rattle.st_call.specs.Refusals.{store_status}
+use Rattle.st_session.specs.Commands.{LeavesAlone}
 use Rattle.st_session.specs.Makings.{Contents, commit_of, made_text, IsThere, IsUnread, IsMadeOf, MakingHas, IsMaking, MakingEnds}
 use Rattle.st_session.proofs.LastLines.{part_not_made, none_not_made}
 

@@ -20,7 +20,7 @@ use Rattle.st_recover.specs.Commits.{Commit, OpensAs}
 use Rattle.st_session.specs.Points.{Point, gone}
 use Rattle.st_session.specs.Pushing.{PushesCourse}
 use Rattle.st_session.specs.Standing.{IsAt, StandsAt}
-use Rattle.st_session.specs.Telling.{Tells}
+use Rattle.st_call.specs.Telling.{Tells}
 use Rattle.st_session.proofs.Holding.{holds_said, holds_rest}
 use Rattle.st_session.proofs.Points.{GoesAs}
 use Rattle.st_session.proofs.Saying.{KeepsNone, tells_pushed, tells_cut, obeys_said, obeys_tells, when_ok}

@@ -11,7 +11,7 @@ use Rattle.st_installer.specs.Installing.{Install, Refused}
 use Rattle.st_session.specs.Points.{Point, gone}
 use Rattle.st_session.specs.Keeping.{keeps_nothing}
 use Rattle.st_model.specs.Text.{dead_text}
-use Rattle.st_session.specs.Replies.{opening_text}
+use Rattle.st_session.specs.FirstLines.{opening_text}
 use Rattle.st_session.specs.Sessions.{session}
 
 -- without any class

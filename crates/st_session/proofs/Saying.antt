@@ -22,7 +22,7 @@ use Rattle.st_course.specs.Statuses.{StatusHasCause, EndHasCause}
 use Rattle.st_course.specs.Obeying.{Obeys}
 use Rattle.st_course.proofs.Courses.{last_unkept}
 use Rattle.st_course.proofs.Joins.{said_did, said_began, obeys_reply, obeys_unsaid, obeys_began}
-use Rattle.st_session.specs.Telling.{IsSayFault, Tells}
+use Rattle.st_call.specs.Telling.{IsSayFault, Tells}
 use Rattle.st_session.specs.Pushing.{LeadsTo, PushesCourse}
 use Rattle.st_session.specs.Stretches.{StopsAs, Stretch, words_of, went, PushesStretch, SaysStretch}
 
@@ -36,26 +36,6 @@ when_ok (Ok u) a = a
 when_ok (Err e) a = tt
 
 module _ {D : Type 0} (host : Ghosts D) where
-  -- all of it was said
-  pub tells_all : (text : List ℕ) (old new : D) → SaysAll host text old new → Says host text old new → Tells host text old new (Ok tt)
-  tells_all text old new all says = record {
-    all = all;
-    says = says;
-    fault = tt;
-    counts = record { disk = omega (arith, says.disk_count); say = says.part.say; cause = tt };
-    served = tt;
-  }
-
-  -- or not
-  pub tells_part : (text : List ℕ) (old new : D) (fault : SayFault) → Says host text old new → HasCause {T = Unit {0}} {E = SayFault} (host.say_faults old) (host.say_faults new) (Err fault) → Tells host text old new (Err status.SayFault)
-  tells_part text old new fault says cause = record {
-    all = tt;
-    says = says;
-    fault = refl;
-    counts = record { disk = omega (arith, says.disk_count); say = says.part.say; cause = cause.rose refl };
-    served = tt;
-  }
-
   end_cause : (old mid new : D) (result : Result Unit Status) → IsSayFault result → host.say_faults old ≤ host.say_faults mid → EndHasCause host ⊥ mid new result → EndHasCause host ⊥ old new result
   end_cause old mid new (Ok u) f le cause = tt
   end_cause old mid new (Err e) f le cause =

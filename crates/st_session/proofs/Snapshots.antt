@@ -30,10 +30,10 @@ use Rattle.st_recover.specs.Commits.{Commit, OpensAs, imaged, image_with}
 use Rattle.st_session.specs.Points.{Being, Alive, Gone, Point, alive, gone}
 use Rattle.st_session.specs.Keeping.{in_a_store, imaging, image_of, saved}
 use Rattle.st_session.specs.Answers.{going_on, run_course}
-use Rattle.st_session.specs.Replies.{snapshot_text}
+use Rattle.st_call.specs.Replies.{snapshot_text}
 use Rattle.st_session.specs.Standing.{IsBeing, shown_by, IsAt}
 use Rattle.st_session.specs.Stretches.{Stretch, words_of, stretch, StopsAs, went, SaysStretch}
-use Rattle.st_session.specs.Telling.{Tells}
+use Rattle.st_call.specs.Telling.{Tells}
 use Rattle.st_session.proofs.Holding.{holds_said, holds_rest}
 use Rattle.st_session.proofs.Points.{GoesAs}
 use Rattle.st_session.proofs.Saying.{obeys_tells, when_ok}

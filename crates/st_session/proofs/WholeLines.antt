@@ -23,7 +23,8 @@ use Rattle.st_course.specs.Acknowledged.{counts, acknowledged_from, rest_from, I
 use Rattle.st_course.proofs.Lawful.{lines_both}
 use Rattle.st_definition.proofs.Selectors.{IsInLine, both_in_line, all_passing}
 use Rattle.st_recover.specs.Replays.{Loss}
-use Rattle.st_session.specs.Replies.{machine_text, side_text, accepted_text, why_text, refused_text, lost_text, opened_text, opening_text, snapshot_text}
+use Rattle.st_call.specs.Replies.{machine_text, side_text, accepted_text, why_text, refused_text, snapshot_text}
+use Rattle.st_session.specs.FirstLines.{lost_text, opened_text, opening_text}
 
 -- LINES
 

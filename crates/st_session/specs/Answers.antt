@@ -21,7 +21,7 @@ use Rattle.st_installer.specs.Installing.{Installed, Refused, Accepted, Install}
 use Rattle.st_session.specs.Points.{Being, Alive, Gone, Point, alive, gone}
 use Rattle.st_session.specs.Keeping.{Keeping}
 use Rattle.st_session.specs.Browsing.{asked_text, memory_of}
-use Rattle.st_session.specs.Replies.{ok_text, full_text, machine_text, accepted_text, refused_text}
+use Rattle.st_call.specs.Replies.{ok_text, full_text, machine_text, accepted_text, refused_text}
 
 module _ {C : Type 0} where
   -- a dead machine shows nothing but its cause

@@ -1,5 +1,5 @@
 -- What a session says of what it is asked to look at.
-use Rattle.std.specs.Prelude.{ℕ, List, codes, unwrap_or}
+use Rattle.std.specs.Prelude.{ℕ, List, unwrap_or}
 use Rattle.st_model.specs.Machine.{State}
 use Rattle.st_model.specs.Table.{Table}
 use Rattle.st_model.specs.View.{Held, View}
@@ -7,11 +7,8 @@ use Rattle.st_world.specs.Naming.{filled}
 use Rattle.st_chunk.specs.Definitions.{Definition}
 use Rattle.st_script.specs.Asks.{Ask}
 use Rattle.st_browse.specs.Asked.{reply}
+use Rattle.st_call.specs.Replies.{missing_text}
 use Rattle.st_session.specs.Sources.{text_for}
-
--- it is missing
-abbrev pub missing_text : List ℕ
-missing_text = codes "not found\n"
 
 -- what a memory shows of it, and these definitions of a method's text, or that it is missing
 abbrev pub asked_text : View → List Definition → Ask → List ℕ

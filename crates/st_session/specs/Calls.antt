@@ -8,11 +8,12 @@ use Rattle.st_course.specs.declared.status.Status.{Status}
 use Rattle.st_course.specs.declared.status.Status.TheVariants as status
 use Rattle.st_course.specs.Statuses.{StatusHasCause}
 use Rattle.st_session.specs.Builds.{BuildEnds}
-use Rattle.st_session.specs.Commands.{SaysLastLine, OnceEnds}
+use Rattle.st_call.specs.LastLines.{SaysLastLine}
+use Rattle.st_session.specs.Commands.{OnceEnds}
 use Rattle.st_session.specs.Exports.{ExportEnds}
 use Rattle.st_session.specs.Imports.{ImportEnds}
 use Rattle.st_session.specs.StoreSessions.{SessionCommandEnds}
-use Rattle.st_session.specs.Words.{Command, command_of, Once, Import, Export, Session, Build}
+use Rattle.st_call.specs.Words.{Command, command_of, Once, Import, Export, Session, Build}
 
 -- a command that writes no file, or no command
 abbrev pub OnlySays : Option Command → Type 0

@@ -1,12 +1,12 @@
 -- How a session ends.
-use Rattle.std.specs.Prelude.{◌≡◌, ℕ, ◌≤◌, List, ◌∷◌, ◌++◌, IsTrue, Result, Ok, Err, ⊤}
+use Rattle.std.specs.Prelude.{◌≡◌, ℕ, ◌≤◌, List, ◌∷◌, ◌++◌, IsTrue, Result, Ok, Err}
 use Rattle.st_outside.specs.Counts.{Rose}
 use Rattle.st_outside.specs.Files.{Files}
 use Rattle.st_outside.specs.Runs.{LeavesOnly, SaysAll, Spares}
 use Rattle.st_outside.specs.Stops.{SaidPart}
 use Rattle.st_outside.specs.declared.host.Host.{Ghosts}
 use Rattle.st_course.specs.declared.status.Status.{Status}
-use Rattle.st_course.specs.declared.status.Status.TheVariants.{Done, Usage, Image, Script, ReadFault, SayFault, DiskFault, Store, Kernel, TooLarge, OutOfMemory}
+use Rattle.st_course.specs.declared.status.Status.TheVariants.{Done, ReadFault, SayFault, DiskFault}
 use Rattle.st_course.specs.Courses.{Course, deeds_of, said_of, commits_of, IsEnd}
 use Rattle.st_course.specs.Acknowledged.{SaysLines, Promised}
 use Rattle.st_course.specs.Done.{Did, RestsAsOne}
@@ -16,20 +16,6 @@ use Rattle.st_course.specs.Statuses.{IsFault}
 abbrev pub status_in : Result Unit Status → Status
 status_in (Ok u) = Done
 status_in (Err status) = status
-
--- the statuses in which the following of a script can end, over any machine
-abbrev pub IsOfServing : Status → Type 0
-IsOfServing Done = ⊤
-IsOfServing Usage = ⊥
-IsOfServing (Image f) = ⊥
-IsOfServing (Script line) = ⊤
-IsOfServing ReadFault = ⊤
-IsOfServing SayFault = ⊤
-IsOfServing DiskFault = ⊤
-IsOfServing (Store fault) = ⊥
-IsOfServing (Kernel chunk cause) = ⊥
-IsOfServing TooLarge = ⊤
-IsOfServing OutOfMemory = ⊤
 
 module _ {D : Type 0} (host : Ghosts D) where
   -- no count of a fault fell

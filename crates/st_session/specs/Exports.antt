@@ -16,10 +16,10 @@ use Rattle.st_definition.specs.Defining.{installed}
 use Rattle.st_recover.specs.Commits.{Commit, OpensAs, all_of}
 use Rattle.st_recover.specs.Openings.{Reopens}
 use Rattle.st_recover.specs.Replays.{Replayed}
-use Rattle.st_session.specs.Commands.{SaysLastLine}
+use Rattle.st_call.specs.LastLines.{SaysLastLine}
 use Rattle.st_session.specs.Ends.{IsCalm}
 use Rattle.st_session.specs.Keeping.{image_of}
-use Rattle.st_session.specs.Replies.{exported_text}
+use Rattle.st_call.specs.Replies.{exported_text}
 use Rattle.st_session.specs.StoreSessions.{IsRefused, IsOfSession}
 
 -- WHAT IS EXPORTED

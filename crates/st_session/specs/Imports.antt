@@ -1,25 +1,14 @@
 -- How the import of an image into a store ends.
-use Rattle.std.specs.Prelude.{◌≡◌, ℕ, ◌<◌, ◌≤◌, ◌^◌, List, length, IsTrue}
+use Rattle.std.specs.Prelude.{◌≡◌, ℕ, ◌<◌, ◌^◌, List, length, IsTrue}
 use Rattle.st_outside.specs.declared.host.Host.{Ghosts}
-use Rattle.st_model.specs.declared.fault.ImageFault.{ImageFault}
-use Rattle.st_model.specs.Faults.{IsWellFormed, IsImageFault}
 use Rattle.st_model.specs.Start.{start_view}
 use Rattle.st_image.specs.declared.head.HeadValues.{HeadValues}
 use Rattle.st_image.specs.HeadValues.{head_over}
 use Rattle.st_course.specs.declared.status.Status.{Status}
 use Rattle.st_course.specs.declared.status.Status.TheVariants.{Image, TooLarge}
+use Rattle.st_call.specs.Refusals.{IsReadableOver, IsFaultyOver}
 use Rattle.st_session.specs.declared.making.Origin.TheVariants as origin
 use Rattle.st_session.specs.Makings.{Contents, contents_in, MakingEnds}
-
--- An image that is read with these values in place of those of its head: it has at most 2^23 bytes, and is well-formed with them.
-pub record IsReadableOver (over : HeadValues) (image : List ℕ) : Type 0 where
-  pub short : length image ≤ 2 ^ 23
-  pub formed : IsWellFormed (head_over over image) image
-
--- one that is refused for the fault that it has with them
-pub record IsFaultyOver (over : HeadValues) (image : List ℕ) (f : ImageFault) : Type 0 where
-  pub short : length image ≤ 2 ^ 23
-  pub fault : IsImageFault (head_over over image) image f
 
 -- it can be read, and this is what is read
 pub record ReadsAs (over : HeadValues) (image : List ℕ) (c : Contents) : Type 0 where

@@ -9,7 +9,7 @@ use Rattle.st_chunk.specs.Definitions.{Definition}
 use Rattle.st_course.specs.Courses.{Course, Reply, Keep, Goes, and_then, replies}
 use Rattle.st_recover.specs.Commits.{Commit, all_of, imaged, image_with, accepting}
 use Rattle.st_session.specs.Points.{Point, alive, gone}
-use Rattle.st_session.specs.Replies.{snapshot_text}
+use Rattle.st_call.specs.Replies.{snapshot_text}
 
 pub record Keeping (C : Type 0) : Type 0 where
   -- the definitions that are kept, in order

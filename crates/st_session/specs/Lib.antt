@@ -2,11 +2,9 @@ pub mod Pushing
 pub mod Runs
 pub mod Points
 pub mod Keeping
-pub mod Replies
+pub mod FirstLines
 pub mod Sources
 pub mod Browsing
-pub mod Lines
-pub mod Telling
 pub mod Asking
 pub mod Answers
 pub mod Sessions
@@ -14,9 +12,6 @@ pub mod Ends
 pub mod Standing
 pub mod Stretches
 pub mod Opening
-pub mod Arguments
-pub mod Words
-pub mod CommandViews
 pub mod Commands
 pub mod Makings
 pub mod Imports

@@ -20,7 +20,8 @@ use Rattle.st_recover.specs.Commits.{Commit, OpensAs, image_with}
 use Rattle.st_recover.specs.Creating.{first_commit, IsNoFirstFile, AreFirstFiles}
 use Rattle.st_session.specs.declared.making.Origin.{Origin}
 use Rattle.st_session.specs.declared.making.Origin.TheVariants.{Image, Kernel}
-use Rattle.st_session.specs.Commands.{SaysLastLine, LeavesAlone}
+use Rattle.st_call.specs.LastLines.{SaysLastLine}
+use Rattle.st_session.specs.Commands.{LeavesAlone}
 
 -- What a store is made of: the objects of an image, under its head.
 pub record Contents : Type 0 where

@@ -8,7 +8,7 @@ use Rattle.st_installer.specs.Installing.{Install}
 use Rattle.st_session.specs.Points.{Point}
 use Rattle.st_session.specs.Keeping.{Keeping}
 use Rattle.st_recover.specs.Replays.{Loss}
-use Rattle.st_session.specs.Replies.{opening_text}
+use Rattle.st_session.specs.FirstLines.{opening_text}
 use Rattle.st_session.specs.Answers.{answer}
 
 -- the most bytes of a script

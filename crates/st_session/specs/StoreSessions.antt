@@ -20,7 +20,8 @@ use Rattle.st_recover.specs.Openings.{Reopens, RefusesOpening}
 use Rattle.st_recover.specs.Replays.{Replayed}
 use Rattle.st_recover.specs.declared.fault.OpenFault.{OpenFault}
 use Rattle.st_recover.specs.declared.fault.OpenFault.TheVariants as opening
-use Rattle.st_session.specs.Commands.{last_line, opening_status, SaysLastLine}
+use Rattle.st_call.specs.LastLines.{last_line, SaysLastLine}
+use Rattle.st_session.specs.Commands.{opening_status}
 use Rattle.st_session.specs.Ends.{IsCalm, NoCountFell, SessionEnds}
 use Rattle.st_session.specs.Opening.{session_over, session_so_far_over}
 use Rattle.st_session.specs.Points.{Point}

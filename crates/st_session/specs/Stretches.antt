@@ -14,7 +14,7 @@ use Rattle.st_model.specs.Text.{ran_text, dead_text, space_text, quit_text, debu
 use Rattle.st_report.specs.Saying.{Pushes}
 use Rattle.st_session.specs.Points.{Being, Alive, Gone}
 use Rattle.st_session.specs.Standing.{IsBeing}
-use Rattle.st_session.specs.Telling.{Tells}
+use Rattle.st_call.specs.Telling.{Tells}
 use Rattle.st_course.specs.declared.status.Status.{Status}
 
 -- The run is over, and the machine is this; or a bytecode asked for a snapshot, with which so many cycles of the line are

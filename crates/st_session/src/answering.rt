@@ -12,14 +12,14 @@ ghost use Rattle.st_course.specs.Statuses.{Counts};
 ghost use Rattle.st_recover.specs.Commits.{Commit};
 ghost use Rattle.st_session.specs.Answers.{event_course, line_course, living_line};
 ghost use Rattle.st_session.specs.Asking.{IsSaying};
-ghost use Rattle.st_session.specs.Ends.{IsOfServing};
+ghost use Rattle.st_call.specs.Telling.{IsOfServing};
 ghost use Rattle.st_session.specs.Keeping.{in_a_store};
 ghost use Rattle.st_session.specs.Pushing.{PushesCourse};
-ghost use Rattle.st_session.specs.Replies.{machine_text};
+ghost use Rattle.st_call.specs.Replies.{machine_text};
 ghost use Rattle.st_session.specs.Standing.{MayRun, MayGoOn, Follows, StandsAt, shown_by};
 
-use crate::replies::{Reply, finish, say_reply};
 use crate::saving::{run, snapshot};
+use st_call::{Reply, finish, say_reply};
 use st_course::Status;
 use st_machine::Machine;
 use st_memory::Memory;

@@ -3,13 +3,13 @@ ghost use Rattle.st_script.specs.Asks.{ask_of};
 ghost use Rattle.st_course.specs.Statuses.{Counts};
 ghost use Rattle.st_session.specs.Answers.{browse_course};
 ghost use Rattle.st_session.specs.Browsing.{asked_text};
-ghost use Rattle.st_session.specs.Ends.{IsOfServing};
+ghost use Rattle.st_call.specs.Telling.{IsOfServing};
 ghost use Rattle.st_session.specs.Keeping.{in_a_store};
 ghost use Rattle.st_session.specs.Standing.{MayGoOn, Follows};
-ghost use Rattle.st_session.specs.Telling.{Tells};
+ghost use Rattle.st_call.specs.Telling.{Tells};
 
-use crate::replies::{Reply, say_reply};
 use st_browse::browse;
+use st_call::{Reply, say_reply};
 use st_changes::Changes;
 use st_course::Status;
 use st_machine::Machine;

@@ -9,9 +9,8 @@ ghost use Rattle.st_session.specs.Makings.{contents_in, IsUnread};
 ghost use Rattle.st_session.specs.Builds.{Builds, IsWrongKernel, BuildEnds};
 
 use crate::compiler::Compiler;
-use crate::file::read_file;
-use crate::last_line::refuse;
 use crate::making::{Origin, make};
+use st_call::{read_file, refuse};
 use st_course::Status;
 use st_kernel::KernelFault;
 use st_memory::{Loader, Memory};

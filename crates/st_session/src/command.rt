@@ -13,11 +13,11 @@ ghost use Rattle.st_session.specs.Commands.{OnceEnds};
 ghost use Rattle.st_session.specs.StoreSessions.{SessionCommandEnds};
 
 use crate::compiler::Compiler;
-use crate::image::start;
-use crate::last_line::refuse;
+use crate::opening_refusal::opening_status;
 use crate::reading::serve;
 use crate::report::push_report;
-use crate::store_refusal::opening_status;
+use crate::starting::start;
+use st_call::refuse;
 use st_course::Status;
 use st_machine::Machine;
 use st_memory::{Loader, Memory};

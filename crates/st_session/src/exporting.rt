@@ -15,10 +15,9 @@ ghost use Rattle.st_session.specs.Exports.{IsOfExporting, ExportEnds};
 ghost use Rattle.st_session.specs.Standing.{shown_by};
 
 use crate::compiler::Compiler;
-use crate::last_line::refuse;
+use crate::opening_refusal::opening_status;
 use crate::reading::status_of;
-use crate::replies::{Reply, say_reply};
-use crate::store_refusal::opening_status;
+use st_call::{Reply, refuse, say_reply};
 use st_course::Status;
 use st_frames::Loaded;
 use st_image::write;

@@ -4,9 +4,8 @@ ghost use Rattle.st_outside.specs.Files.{bytes_of};
 ghost use Rattle.st_course.specs.Statuses.{StatusHasCause};
 ghost use Rattle.st_session.specs.Imports.{ImportEnds};
 
-use crate::image::read_image;
-use crate::last_line::refuse;
 use crate::making::{Origin, make};
+use st_call::{read_image, refuse};
 use st_course::Status;
 use st_image::HeadValues;
 use st_memory::Loader;

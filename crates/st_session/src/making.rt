@@ -9,8 +9,7 @@ ghost use Rattle.st_report.specs.Saying.{Pushes};
 ghost use Rattle.st_course.specs.Statuses.{StatusHasCause};
 ghost use Rattle.st_session.specs.Makings.{contents_in, made_word, made_text, MakingEnds};
 
-use crate::last_line::refuse;
-use crate::store_refusal::store_status;
+use st_call::{refuse, store_status};
 use st_course::Status;
 use st_memory::Memory;
 use st_outside::{Host, SayFault};

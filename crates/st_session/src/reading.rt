@@ -15,13 +15,14 @@ ghost use Rattle.st_course.specs.Statuses.{Counts, StatusHasCause};
 ghost use Rattle.st_recover.specs.Commits.{Commit, OpensAs};
 ghost use Rattle.st_recover.specs.Replays.{losses_of};
 ghost use Rattle.st_definition.specs.Defining.{installed};
-ghost use Rattle.st_session.specs.Ends.{IsCalm, NoCountFell, IsOfServing, SessionEnds, status_in};
+ghost use Rattle.st_session.specs.Ends.{IsCalm, NoCountFell, SessionEnds, status_in};
+ghost use Rattle.st_call.specs.Telling.{IsOfServing};
 ghost use Rattle.st_session.specs.Keeping.{in_a_store};
 ghost use Rattle.st_session.specs.Sessions.{follow, follow_script, session, session_so_far, follow_told};
 ghost use Rattle.st_session.specs.Standing.{MayGoOn, Follows, FollowsTold};
 ghost use Rattle.st_session.specs.Opening.{IsOpen, session_over, session_so_far_over};
 
-use crate::replies::say_opening;
+use crate::first_lines::say_opening;
 use crate::serving::answer_told;
 use st_course::Status;
 use st_machine::Machine;

@@ -14,7 +14,7 @@ ghost use Rattle.st_session.specs.Stretches.{PushesStretch, stretch};
 use st_machine::{Machine, RunEnd};
 use st_memory::Memory;
 use st_outside::{Host, SayFault};
-use st_report::{Output, push_line, push_said};
+use st_report::{Output, push_line, say_at_once};
 
 /// Adds the line of a run's end, where so many cycles are finished in all. A snapshot has none, and what is said
 /// neither.
@@ -52,8 +52,8 @@ fn push_end<H: Host>(
     }
 }
 
-/// Runs on, where so many of a line's cycles are finished, and adds what is said of it: each line of bytes at its place, and
-/// the run's end. Where a bytecode asks for a snapshot it stops, and answers how many are finished with it.
+/// Runs on, where so many of a line's cycles are finished, and adds what is said of it: each line of bytes at its place, which is
+/// said before the next cycle, and the run's end. Where a bytecode asks for a snapshot it stops, and answers how many are finished with it.
 pub(crate) fn push_stretch<H: Host, M: Memory>(
     out: &mut Output,
     host: &mut H,
@@ -79,7 +79,7 @@ pub(crate) fn push_stretch<H: Host, M: Memory>(
         finished += end.finished(left);
         match end {
             RunEnd::Snapshot { .. } => return Ok(Some(finished)),
-            RunEnd::Say { object, .. } => match push_said(out, host, machine.memory(), object) {
+            RunEnd::Say { object, .. } => match say_at_once(out, host, machine.memory(), object) {
                 Ok(()) => {}
                 Err(SayFault) => return Err(SayFault),
             },

@@ -11,13 +11,13 @@ ghost use Rattle.st_course.specs.Statuses.{Counts};
 ghost use Rattle.st_recover.specs.Archives.{Holds};
 ghost use Rattle.st_recover.specs.Commits.{Commit, OpensAs, image_with};
 ghost use Rattle.st_session.specs.Answers.{run_course, going_on};
-ghost use Rattle.st_session.specs.Ends.{IsOfServing};
+ghost use Rattle.st_call.specs.Telling.{IsOfServing};
 ghost use Rattle.st_session.specs.Keeping.{in_a_store, imaging};
 ghost use Rattle.st_session.specs.Standing.{MayRun, MayGoOn, Follows, shown_by};
 ghost use Rattle.st_session.specs.Stretches.{SaysStretch, stretch, went};
 
-use crate::replies::{Reply, finish, say_reply};
 use crate::running::push_stretch;
+use st_call::{Reply, finish, say_reply};
 use st_course::Status;
 use st_machine::Machine;
 use st_memory::Memory;

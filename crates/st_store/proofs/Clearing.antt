@@ -1,6 +1,6 @@
 -- What a stop leaves while a name is cleared.
-use Rattle.std.proofs.Common.{◌≡◌, ◌≢◌, ◌⊎◌, inl, inr, ⊎_elim, ℕ, zero, suc, ◌+◌, ◌<◌, ◌≤◌, List, [], ◌∷◌, length, take, drop, slice_index, codes, Option, IsTrue, refl, sym, subst, ◌∙◌, ap, arith, length-take}
-use Rattle.std.specs.Prelude.{Some, None}
+use Rattle.std.proofs.Common.{◌≡◌, ◌≢◌, ◌⊎◌, inl, inr, ⊎_elim, ℕ, zero, suc, ◌+◌, ◌<◌, ◌≤◌, List, [], ◌∷◌, length, take, drop, slice_index, codes, Option, Bool, true, false, IsTrue, refl, sym, subst, ◌∙◌, ap, arith, length-take}
+use Rattle.std.specs.Prelude.{◌↔◌, Some, None, MatchOption, is_some, not}
 use Rattle.std.proofs.lemmas.List.{get_or-take, get_or-drop, get_or_past}
 use Rattle.std.proofs.lemmas.Bool.{cases_lt, cases_eq}
 use Rattle.st_outside.specs.Files.{Files, bytes_of, IsRead, IsCut}
@@ -24,11 +24,19 @@ module _ (file : List ℕ) (k : ℕ) (into : List ℕ) (long : length into ≡ 8
       (λ past. get_or_past (take k into) i 0 (omega (arith, length-take k into, read.count)) ∙ sym (get_or_past file i 0 (omega (arith, read.count))))
       (cases_lt i k)
 
-  pub letters_read : HasLetters (take k into) → HasLetters file
+  letters_read : HasLetters (take k into) → HasLetters file
   letters_read letters i low = sym (same i low) ∙ letters i low
 
-  pub wrong_read : (at : ℕ) → IsWrongLetter (take k into) at → HasLetters file → ⊥
+  wrong_read : (at : ℕ) → IsWrongLetter (take k into) at → HasLetters file → ⊥
   wrong_read at wrong letters = wrong.wrong (same at wrong.below ∙ letters at wrong.below)
+
+  -- whether the file has the letters, as the bytes read tell
+  pub letters_found : (wrong : Option ℕ) (there : Bool) → MatchOption wrong (HasLetters (take k into)) (IsWrongLetter (take k into)) → is_some wrong ≡ not there
+      → IsTrue there ↔ HasLetters file
+  letters_found None true letters is = (λ so. letters_read letters, λ has. refl)
+  letters_found None false letters is = (λ so. cc, λ has. cc)
+  letters_found (Some at) true wrong is = (λ so. cc, λ has. refl)
+  letters_found (Some at) false wrong is = (λ so. cc, λ has. absurd (wrong_read at wrong has))
 
 -- no letter is 0
 pub letter_is : (i : ℕ) → i < 8 → 0 ≢ slice_index (codes "ST80ROOT") i

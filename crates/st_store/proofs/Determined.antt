@@ -1,11 +1,11 @@
 -- A refusal of the roots file is determined.
-use Rattle.std.proofs.Common.{◌≡◌, ℕ, ◌+◌, ◌^◌, ◌<◌, ◌≤◌, List, length, sym, ap, ◌∙◌, subst, arith, inl, inr, ◌⊎◌, ⊎_elim, true≢false}
+use Rattle.std.proofs.Common.{◌≡◌, ℕ, ◌^◌, ◌<◌, ◌≤◌, List, length, sym, ap, ◌∙◌, subst, arith, inl, inr, ◌⊎◌, ⊎_elim, true≢false}
 use Rattle.std.specs.Prelude.{Option, Some, None, IsSome}
 use Rattle.std.proofs.lemmas.Bool.{cases_lt}
 use Rattle.st_outside.specs.Files.{Files, bytes_of}
 use Rattle.st_store.specs.Names.{roots_file, changes_file, image_file}
-use Rattle.st_store.specs.Roots.{place, root_at, HasLetters, IsWhole, chosen_number, Chooses}
-use Rattle.st_store.specs.Refusals.{IsWrongLetter, EndsEarly, IsWrongSlot, IsWrongFront, IsWrongRoots, IsWrongNumber, NamesTooMuch}
+use Rattle.st_store.specs.Roots.{place, root_at, HasLetters, Chooses}
+use Rattle.st_store.specs.Refusals.{IsWrongLetter, IsWrongFront, IsWrongRoots, IsWrongNumber, NamesTooMuch}
 use Rattle.st_store.specs.Stored.{Stored, Opens}
 use Rattle.st_store.specs.declared.root.Root.{Root}
 

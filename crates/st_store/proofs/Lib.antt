@@ -2,6 +2,8 @@ pub mod Bytes
 pub mod Others
 pub mod Turning
 pub mod Fronts
+pub mod Causes
+pub mod Looking
 pub mod Opening
 pub mod Clearing
 pub mod Founding

@@ -122,13 +122,18 @@ module _ {D : Type 0} (host : Ghosts D) (name : List ℕ) where
   pub only_looked : (a c : D) → IsTrue host.is_told → Narrows host a c → LeavesOnly host a c (λ f s. (s ≡ host.said a) × IsOpening host a name f)
   only_looked a c told narrows = weaker host a c (λ f s. (s ≡ host.said a) × IsOpening host a name f) (Here (host.may_leave a) (host.said a)) (narrows.moments told) (λ f s here. (here.1, inl here.0))
 
+  -- what was read opens
+  pub read_opens : (a m : D) (c : Stored) (k : ℕ) → IsTrue host.is_told → ReadsAlike host a m → ((n : List ℕ) → host.may_leave m n (host.files m n)) → IsChosen host m name k c
+      → Opens name c (host.files a)
+  read_opens a m c k told alike reads chosen = subst (λ (g : Files). Opens name c g) (λ i n. alike.same told n i) (rests host name m k c (host.files m) chosen reads)
+
   -- all the moments of an opening
   pub opened : {R E : Type 0} (a m d : D) (c : Stored) (k : ℕ) (result : Result R E) → IsTrue host.is_told → Narrows host a m → ReadsAlike host a m
       → ((n : List ℕ) → host.may_leave m n (host.files m n)) → IsChosen host m name k c
       → Makes host (Opens name) c c m d result
       → LeavesOnly host a d (λ f s. (s ≡ host.said a) × IsOpening host a name f)
   opened a m d c k result told narrows alike reads chosen makes =
-      let read : Opens name c (host.files a) = subst (λ (g : Files). Opens name c g) (λ i n. alike.same told n i) (rests host name m k c (host.files m) chosen reads) in
+      let read = read_opens a m c k told alike reads chosen in
       moments_join host a m d (λ f s. (s ≡ host.said a) × IsOpening host a name f) (λ f s. (s ≡ host.said m) × (Opens name c f ⊎ Opens name c f))
       (only_looked a m told narrows)
       makes.moments

@@ -42,7 +42,6 @@ impl NewStore {
 }
 
 /// Syncs the roots file, and tells whether it begins with the letters.
-#[tactic(auto, using(st_outside::proofs::Joining::reads_narrow, st_outside::proofs::Joining::narrows_join, st_outside::proofs::Joining::alike_join, st_outside::proofs::Joining::synced_on, st_outside::proofs::Touching::sync_changes, st_outside::proofs::Touching::changes_join))]
 fn find_store<H: Host>(host: &mut H, roots: &str) -> Result<bool, HostFault>
     ensures found { IfOk result (λ there. IsTrue H.is_told
         → IsTrue there ↔ HasLetters (bytes_of (H.files host.old roots.now))) }

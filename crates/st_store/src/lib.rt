@@ -17,6 +17,3 @@ pub use laws::one_refusal;
 pub use open::open_store;
 pub use root::Root;
 pub use store::Store;
-
-#[cfg(test)]
-mod tests;

@@ -25,7 +25,6 @@ fn damaged(at: u64) -> StoreFault
 }
 
 /// Syncs the roots file, and reads the root that it chooses.
-#[tactic(auto, using(st_outside::proofs::Joining::reads_narrow, st_outside::proofs::Joining::narrows_join, st_outside::proofs::Joining::alike_join, st_outside::proofs::Touching::sync_changes, st_outside::proofs::Touching::changes_join))]
 fn look<H: Host>(host: &mut H, roots: &str) -> Result<Chosen, StoreFault>
     ensures number { IfOk result (λ r. r.number ≤ 1) }
     ensures slot { IfOk result (λ r. r.root.slot ≤ 1) }
@@ -73,7 +72,6 @@ fn find_wrong_number(chosen: &Chosen, image: u64, changes: u64) -> Option<u64>
 }
 
 /// Syncs the files that a root names, and tests it against their lengths.
-#[tactic(auto, using(st_outside::proofs::Joining::reads_narrow, st_outside::proofs::Joining::narrows_join, st_outside::proofs::Joining::alike_join, st_outside::proofs::Joining::synced_on))]
 fn make_firm<H: Host>(
     host: &mut H,
     image: &str,

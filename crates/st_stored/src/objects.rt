@@ -16,9 +16,6 @@ use crate::store::Store;
 use st_model::{Demand, Kind, Oop, literals};
 use std::alloc::{AllocError, Global};
 
-#[cfg(test)]
-mod tests;
-
 /// Objects in a heap. Place k of the table is that of pointer 2k.
 #[derive(Drop)]
 pub struct Objects {

@@ -14,6 +14,3 @@ pub use tree::{
     Content, Element, ElementList, Expression, ExpressionList, Message, MessageList, MethodTree,
     Name, NameList, Statement, StatementList, Text,
 };
-
-#[cfg(test)]
-mod tests;

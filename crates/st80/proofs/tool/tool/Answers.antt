@@ -1,12 +1,12 @@
 use Rattle.std.proofs.Common.{◌≡◌, ◌∙◌, ℕ, List, [], Option, Some, sym, ap, subst}
 use Rattle.st_outside.specs.Files.{bytes_of}
-use Rattle.st_session.specs.declared.words.Command as declared
-use Rattle.st_session.specs.CommandViews.{command_view}
+use Rattle.st_call.specs.declared.words.Command as declared
+use Rattle.st_call.specs.CommandViews.{command_view}
 use Rattle.st_image.specs.declared.head.HeadValues.{HeadValues}
 use Rattle.st_session.specs.Builds.{BuildEnds}
 use Rattle.st_session.specs.Commands.{OnceEnds}
 use Rattle.st_session.specs.Imports.{ImportEnds}
-use Rattle.st_session.specs.Words.{Command, Once, Import, Build}
+use Rattle.st_call.specs.Words.{Command, Once, Import, Build}
 use Rattle.st80.proofs.tool.tool.Goals as goal
 
 abbrev image_in : Option Command → List ℕ

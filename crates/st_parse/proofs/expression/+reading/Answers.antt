@@ -1,8 +1,20 @@
-use Rattle.std.proofs.Common.{sym, ◌∙◌}
+use Rattle.std.proofs.Common.{Ok, sym, ap, ◌∙◌}
 use Rattle.std.proofs.lemmas.Result.{err_from_is_err_and}
+use Rattle.st_grammar.specs.Reading.{BodyView}
 use Rattle.st_grammar.proofs.Loops.{go_on, go_wrong, end}
 use Rattle.st_grammar.proofs.Shorter.{operations_shorter, parts_shorter, cascade_shorter, statement_shorter}
+use Rattle.st_parse.proofs.Statements.{fails_behind, statement_parts}
 use Rattle.st_parse.proofs.expression.+reading.Goals as goal
+
+pub statement-returns-in_err-value : goal.statement-returns-in_err-value
+statement-returns-in_err-value t c =
+    let p = err_from_is_err_and c.from_residual.result c.from_residual.ensures.1 in
+    rw (p.1, p.2, statement_parts, sym c.caret-returns.ensures) (fails_behind c.in_err-value.field-0.0 _ _ c.in_err-value.ensures)
+
+pub statement-returns : goal.statement-returns
+statement-returns t c =
+    rw (statement_parts, sym c.caret-returns.ensures, c.in_ok-value.ensures, sym c.period-period.ensures)
+    (ap (λ (b : BodyView). Ok (b, c.period-period.result.1.now)) (sym c.in_ok-with_statement.ensures))
 
 pub binary_messages-returns-in_err-sent : goal.binary_messages-returns-in_err-sent
 binary_messages-returns-in_err-sent t c =

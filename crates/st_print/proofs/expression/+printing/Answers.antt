@@ -1,4 +1,5 @@
 use Rattle.std.proofs.Common.{◌≡◌, ℕ, ◌+◌, Bool, true, List, [], ◌∷◌, ◌++◌, drop, sym, ap, ◌∙◌, subst, append_assoc, append-nil, arith, Vec, Global}
+use Rattle.std.proofs.lemmas.Result.{on_ok_weaker}
 use Rattle.std.specs.Str.{byte}
 use Rattle.st_tree.specs.declared.tree.Expression.{Expression, size-Expression}
 use Rattle.st_tree.specs.declared.tree.Statement.{Statement}
@@ -70,18 +71,22 @@ statements-returns t c =
     let out = c.args.out.now.items in
     let ss = c.args.body.now in
     let s = c.index-body-0.result in
-    let rest = c.in_ok-next_statements.ensures ∙ ap (λ (xs : List Statement). c.statement.new.out.items ++ spaced (next_statements (statements_view xs))) (take_rest ss 1) in
-    put_then out c.statement.new.out.items c.next_statements.new.out.items (return_words s.returns ++ expression_words (expression_view s.value)) (next_statements (statements_view (drop 1 ss))) c.in_ok-statement.ensures rest
-    ∙ ap (λ (ws : List Word). out ++ spaced ws) (sym (some_statements ss s c.if-is_empty.ensures c.index-body-0.is))
+    on_ok_weaker c.next_statements.result
+    (λ last. put_then out c.statement.new.out.items c.next_statements.new.out.items (return_words s.returns ++ expression_words (expression_view s.value)) (next_statements (statements_view (drop 1 ss))) c.in_ok-statement.ensures
+    (last ∙ ap (λ (xs : List Statement). c.statement.new.out.items ++ spaced (next_statements (statements_view xs))) (take_rest ss 1))
+    ∙ ap (λ (ws : List Word). out ++ spaced ws) (sym (some_statements ss s c.if-is_empty.ensures c.index-body-0.is)))
+    c.next_statements.ensures
 
 pub messages-returns : goal.messages-returns
 messages-returns t c =
     let out = c.args.out.now.items in
     let ms = c.args.sent.now in
     let m = c.index-sent-0.result in
-    let rest = c.in_ok-next_messages.ensures ∙ ap (λ (xs : List Message). c.message.new.out.items ++ spaced (next_messages (messages_view xs))) (take_rest ms 1) in
-    put_then out c.message.new.out.items c.next_messages.new.out.items (message_words m.selector.items (expressions_view m.arguments.items)) (next_messages (messages_view (drop 1 ms))) c.in_ok-message.ensures rest
-    ∙ ap (λ (ws : List Word). out ++ spaced ws) (sym (some_messages ms m c.if-is_empty.ensures c.index-sent-0.is))
+    on_ok_weaker c.next_messages.result
+    (λ last. put_then out c.message.new.out.items c.next_messages.new.out.items (message_words m.selector.items (expressions_view m.arguments.items)) (next_messages (messages_view (drop 1 ms))) c.in_ok-message.ensures
+    (last ∙ ap (λ (xs : List Message). c.message.new.out.items ++ spaced (next_messages (messages_view xs))) (take_rest ms 1))
+    ∙ ap (λ (ws : List Word). out ++ spaced ws) (sym (some_messages ms m c.if-is_empty.ensures c.index-sent-0.is)))
+    c.next_messages.ensures
 
 pub block-returns : goal.block-returns
 block-returns t c =
@@ -93,8 +98,10 @@ block-returns t c =
     let first = put_word out c.put.new.out.items bracket c.in_ok-put.ensures in
     let second = put_then out c.put.new.out.items c.parameters.new.out.items (bracket ∷ []) ps first c.in_ok-parameters.ensures in
     let third = put_then out c.parameters.new.out.items c.statements.new.out.items (bracket ∷ ps) ss second c.in_ok-statements.ensures in
-    put_then out c.statements.new.out.items c.put-2.new.out.items ((bracket ∷ ps) ++ ss) (close ∷ []) third (put_word c.statements.new.out.items c.put-2.new.out.items close c.in_ok-put-2.ensures)
-    ∙ ap (λ (ws : List Word). out ++ spaced ws) (append_assoc (bracket ∷ ps) ss (close ∷ []))
+    on_ok_weaker c.put-2.result
+    (λ last. put_then out c.statements.new.out.items c.put-2.new.out.items ((bracket ∷ ps) ++ ss) (close ∷ []) third (put_word c.statements.new.out.items c.put-2.new.out.items close last)
+    ∙ ap (λ (ws : List Word). out ++ spaced ws) (append_assoc (bracket ∷ ps) ss (close ∷ [])))
+    c.put-2.ensures
 
 pub behind_links-behind_link-requires : goal.behind_links-behind_link-requires
 behind_links-behind_link-requires t c =
@@ -157,7 +164,9 @@ expression-returns t c =
       | expression-in-Assign w ↦ absurd (subst (λ (x : Expression). IsStart (expression_view x)) w.in-Assign.is c.in_ok-chain.ensures.start)
       | expression-in-Send w ↦ absurd (subst (λ (x : Expression). IsStart (expression_view x)) w.in-Send.is c.in_ok-chain.ensures.start)
     ] in
-    let behind : c.behind_links.new.out.items ≡ c.match-chain.out.items ++ spaced (behind_links wanted (links_view ls)) = c.in_ok-behind_links.ensures ∙ ap (λ (x : List Link). c.match-chain.out.items ++ spaced (behind_links wanted (links_view x))) c.deref-2.ensures.value in
-    put_then out c.match-chain.out.items c.behind_links.new.out.items (before_links wanted (links_view ls) ++ expression_words (expression_view e)) (behind_links wanted (links_view ls))
-    (put_then out c.before_links.new.out.items c.match-chain.out.items (before_links wanted (links_view ls)) (expression_words (expression_view e)) before start) behind
-    ∙ ap (λ (ws : List Word). out ++ spaced ws) (sym (chained wanted (expression_view e) (expression_view c.args.e.now) (links_view ls) c.in_ok-chain.ensures.start c.in_ok-chain.ensures.whole))
+    on_ok_weaker c.behind_links.result
+    (λ last. put_then out c.match-chain.out.items c.behind_links.new.out.items (before_links wanted (links_view ls) ++ expression_words (expression_view e)) (behind_links wanted (links_view ls))
+    (put_then out c.before_links.new.out.items c.match-chain.out.items (before_links wanted (links_view ls)) (expression_words (expression_view e)) before start)
+    (last ∙ ap (λ (x : List Link). c.match-chain.out.items ++ spaced (behind_links wanted (links_view x))) c.deref-2.ensures.value)
+    ∙ ap (λ (ws : List Word). out ++ spaced ws) (sym (chained wanted (expression_view e) (expression_view c.args.e.now) (links_view ls) c.in_ok-chain.ensures.start c.in_ok-chain.ensures.whole)))
+    c.behind_links.ensures

@@ -1,4 +1,5 @@
 use Rattle.std.proofs.Common.{◌+◌, List, [], ◌∷◌, drop, ap}
+use Rattle.std.proofs.lemmas.Result.{on_ok_weaker}
 use Rattle.std.specs.Str.{byte}
 use Rattle.st_tree.specs.declared.tree.Element.{Element}
 use Rattle.st_tree.specs.Views.{content_view, elements_view}
@@ -19,6 +20,8 @@ pub array-returns : goal.array-returns
 array-returns t c =
     let out = c.args.out.now.items in
     let inside = elements_words (elements_view c.args.elements.now) in
-    put_then out c.all_elements.new.out.items c.put-2.new.out.items (opening ∷ inside) (mark (byte ")") ∷ [])
+    on_ok_weaker c.put-2.result
+    (λ last. put_then out c.all_elements.new.out.items c.put-2.new.out.items (opening ∷ inside) (mark (byte ")") ∷ [])
     (put_then out c.put.new.out.items c.all_elements.new.out.items (opening ∷ []) inside (put_word out c.put.new.out.items opening c.in_ok-put.ensures) c.in_ok-all_elements.ensures)
-    (put_word c.all_elements.new.out.items c.put-2.new.out.items (mark (byte ")")) c.in_ok-put-2.ensures)
+    (put_word c.all_elements.new.out.items c.put-2.new.out.items (mark (byte ")")) last))
+    c.put-2.ensures

@@ -1,4 +1,5 @@
 use Rattle.std.proofs.Common.{◌≡◌, false, List, ◌++◌, length, sym, ap, ◌∙◌}
+use Rattle.std.proofs.lemmas.Result.{on_ok_weaker}
 use Rattle.std.specs.Prelude.{◌==◌}
 use Rattle.std.proofs.lemmas.Bool.{ne_eqb}
 use Rattle.st_tree.specs.declared.tree.Name.{Name}
@@ -10,8 +11,8 @@ use Rattle.st_print.proofs.Turning.{put_then}
 use Rattle.st_print.proofs.Signed.{some_options}
 use Rattle.st_print.proofs.method.behind_pattern.Goals as goal
 
-pub returns-in_ok-statements : goal.returns-in_ok-statements
-returns-in_ok-statements c =
+pub returns-else-len-pattern : goal.returns-else-len-pattern
+returns-else-len-pattern c =
     let out = c.args.out.now.items in
     let tree = c.args.t.now in
     let ts = temporaries_words (names_view tree.temporaries.items) in
@@ -23,5 +24,7 @@ returns-in_ok-statements c =
     put_then out c.temporaries.new.out.items middle ts ps (c.in_ok-temporaries.ensures ∙ ap (λ (ns : List Name). out ++ spaced (temporaries_words (names_view ns))) c.deref.ensures.value) c.in_ok-primitive.ensures in
     let longer : false ≡ (length middle == length out) =
     sym (ne_eqb (length middle) (length out) (λ same. c.if-len-pattern.false (c.len.ensures ∙ c.primitive.new.out.ok.0 ∙ same ∙ sym (c.len-pattern.ensures ∙ c.args.out.now.ok.0)))) in
-    put_then out middle c.statements.new.out.items os ss options (c.in_ok-statements.ensures ∙ ap (λ (xs : List Statement). middle ++ spaced (statements_words (statements_view xs))) c.deref-else-len-pattern.ensures.value)
-    ∙ ap (λ (ws : List Word). out ++ spaced ws) (sym (some_options out middle os ss options longer))
+    on_ok_weaker c.statements.result
+    (λ last. put_then out middle c.statements.new.out.items os ss options (last ∙ ap (λ (xs : List Statement). middle ++ spaced (statements_words (statements_view xs))) c.deref-else-len-pattern.ensures.value)
+    ∙ ap (λ (ws : List Word). out ++ spaced ws) (sym (some_options out middle os ss options longer)))
+    c.statements.ensures

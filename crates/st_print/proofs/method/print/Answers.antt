@@ -1,4 +1,5 @@
 use Rattle.std.proofs.Common.{◌≡◌, ℕ, List, [], ◌++◌, drop, sym, ap, ◌∙◌}
+use Rattle.std.proofs.lemmas.Result.{IfOk-weaker}
 use Rattle.st_tree.specs.declared.tree.Name.{Name}
 use Rattle.st_tree.specs.Views.{names_view, statements_view, method_view}
 use Rattle.st_print.specs.Words.{spaced}
@@ -17,6 +18,8 @@ returns c =
     ∙ ap (λ (x : List ℕ). x ++ spaced (pattern_words c.deref.result.now (names_view c.deref-2.result.now))) c.new-out.ensures.items
     ∙ ap (λ (x : List ℕ). [] ++ spaced (pattern_words x (names_view c.deref-2.result.now))) c.deref.ensures.value
     ∙ ap (λ (ns : List Name). [] ++ spaced (pattern_words tree.selector.items (names_view ns))) c.deref-2.ensures.value in
-    c.in_ok-text.ensures
+    IfOk-weaker c.behind_first.result _ _
+    (λ text is. is
     ∙ ap (drop 1) (c.deref-3.ensures.value ∙ put_then [] c.pattern.new.out.items c.behind_pattern.new.out.items ps bs pattern c.in_ok-behind_pattern.ensures)
-    ∙ sym (text_behind (method_words (method_view tree)))
+    ∙ sym (text_behind (method_words (method_view tree))))
+    c.behind_first.ensures

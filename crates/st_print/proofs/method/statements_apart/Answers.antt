@@ -17,7 +17,7 @@ returns c =
     put_apart out c.put.new.out.items c.extend_from_slice.new.self.items three c.extend_from_slice-2.new.self.items first all ws n c.min.result
     (sym c.in-Some.is ∙ c.in_ok-number.ensures)
     (c.in_ok-put_number.ensures ∙ ap (λ (x : List ℕ). x ++ byte " " ∷ number_text n) c.new-first.ensures.items)
-    (c.in_ok-statements-2.ensures ∙ ap (λ (x : List ℕ). x ++ spaced ws) c.new-all.ensures.items)
+    (c.in_ok-statements.ensures ∙ ap (λ (x : List ℕ). x ++ spaced ws) c.new-all.ensures.items)
     c.in_ok-put.ensures
     (c.in_ok-extend_from_slice.ensures.items ∙ ap (λ (x : List ℕ). c.put.new.out.items ++ x) c.deref.ensures.value)
     c.in_ok-put-2.ensures

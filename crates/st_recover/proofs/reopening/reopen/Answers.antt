@@ -1,4 +1,5 @@
 use Rattle.std.proofs.Common.{◌≡◌, ℕ, List, refl, subst}
+use Rattle.std.proofs.lemmas.Result.{err_from_is_err_and}
 use Rattle.st_outside.specs.Files.{Files}
 use Rattle.st_model.specs.Objects.{nil}
 use Rattle.st_model.specs.Machine.{empty_world}
@@ -9,57 +10,96 @@ use Rattle.st_recover.proofs.Fetching.{left_now}
 use Rattle.st_recover.proofs.Restoring.{ready_empty, quiet_empty, commit_at, reopened}
 use Rattle.st_recover.proofs.reopening.reopen.Goals as goal
 
-pub returns-clause-opened : goal.returns-clause-opened
-returns-clause-opened g c told =
+pub returns-in_err-loaded : goal.returns-in_err-loaded
+returns-in_err-loaded g c =
     let H = g.H.Host in
+    let a = c.args.host.now in
+    let d = c.fetch.new.host in
+    let fetch = c.fetch.ensures in
+    let P : Files → List ℕ → Type 0 = λ f s. (s ≡ H.said a) × IsOpening H a c.args.name.now f in
+    let failed = c.in_err-loaded.ensures in
+    let p = err_from_is_err_and c.from_residual.result c.from_residual.ensures.1 in
+    rw (p.1, p.2) (record {
+      opened = tt;
+      named = tt;
+      listed = tt;
+      whole = tt;
+      frame = tt;
+      quiet = tt;
+      few = tt;
+      refused = failed.refused;
+      kind = failed.kind;
+      writes_nothing = failed.writes_nothing;
+      moments = fetch.moments;
+      leaves = λ told f can. (left_now H P a d (λ f s le here. g.met.H.Host.counts_now d (H.moment a) f s told le here) (fetch.moments told) f (H.said d) (can, refl)).1;
+      only = fetch.only;
+      spares = fetch.spares;
+      cause = failed.cause;
+    })
+
+pub returns-in_err-count : goal.returns-in_err-count
+returns-in_err-count g c =
+    let H = g.H.Host in
+    let a = c.args.host.now in
+    let d = c.fetch.new.host in
+    let fetch = c.fetch.ensures in
+    let P : Files → List ℕ → Type 0 = λ f s. (s ≡ H.said a) × IsOpening H a c.args.name.now f in
+    let p = err_from_is_err_and c.from_residual-in_err-count.result c.from_residual-in_err-count.ensures.1 in
+    rw (p.1, p.2) (record {
+      opened = tt;
+      named = tt;
+      listed = tt;
+      whole = tt;
+      frame = tt;
+      quiet = tt;
+      few = tt;
+      refused = λ told. tt;
+      kind = tt;
+      writes_nothing = λ roots. absurd roots;
+      moments = fetch.moments;
+      leaves = λ told f can. (left_now H P a d (λ f s le here. g.met.H.Host.counts_now d (H.moment a) f s told le here) (fetch.moments told) f (H.said d) (can, refl)).1;
+      only = fetch.only;
+      spares = fetch.spares;
+      cause = tt;
+    })
+
+pub returns : goal.returns
+returns g c =
+    let H = g.H.Host in
+    let a = c.args.host.now in
+    let d = c.fetch.new.host in
+    let fetch = c.fetch.ensures in
+    let P : Files → List ℕ → Type 0 = λ f s. (s ≡ H.said a) × IsOpening H a c.args.name.now f in
     let install = g.I.Installer.install in
     let view = g.L.Done.Memory.view in
-    let a = c.args.host.now in
     let name = c.args.name.now in
+    let fetched = c.in_ok-loaded.ensures in
     let p = c.in_ok-loaded.field-0 in
     let answered = c.in_ok-count.field-0 in
     let was = view p.loaded.memory in
-    let fetched = c.in_ok-loaded.ensures.fetched told in
-    let from : ReplaysFrom install p.changes.listed p.store.root.base was (view c.install_again.new.m) answered =
-    subst (λ (r : Root). ReplaysFrom install p.changes.listed r.base was (view c.install_again.new.m) answered) c.root-base.ensures c.in_ok-count.ensures.replays in (
-      commit_at (stored_in name (H.files a) p.store.root).image p.changes.listed from.before,
-      reopened H install view name a c.fetch.new.host
-          (record { loaded = record { memory = c.install_again.new.m; frame = p.loaded.frame }; store = p.store; changes = p.changes; replayed = answered.count; lost = answered.lost })
-          was fetched.opens fetched.kept fetched.readable fetched.start fetched.lists c.in_ok-loaded.ensures.whole c.in_ok-loaded.ensures.quiet from,
-    )
-
-pub returns-clause-frame : goal.returns-clause-frame
-returns-clause-frame g c =
-    let p = c.in_ok-loaded.field-0 in
-    let ready = ready_empty (g.L.Done.Memory.view p.loaded.memory) p.loaded.frame c.in_ok-loaded.ensures.frame c.in_ok-loaded.ensures.quiet in
-    (c.install_again.ensures.ready p.loaded.frame (empty_world nil) ready).frame
-
-pub returns-clause-quiet : goal.returns-clause-quiet
-returns-clause-quiet g c =
-    let p = c.in_ok-loaded.field-0 in
-    let ready = ready_empty (g.L.Done.Memory.view p.loaded.memory) p.loaded.frame c.in_ok-loaded.ensures.frame c.in_ok-loaded.ensures.quiet in
-    quiet_empty (g.L.Done.Memory.view c.install_again.new.m) p.loaded.frame (c.install_again.ensures.ready p.loaded.frame (empty_world nil) ready)
-
-pub returns-in_err-loaded-clause-leaves : goal.returns-in_err-loaded-clause-leaves
-returns-in_err-loaded-clause-leaves g c told f can =
-    let H = g.H.Host in
-    let a = c.args.host.now in
-    let d = c.fetch.new.host in
-    let P : Files → List ℕ → Type 0 = λ f s. (s ≡ H.said a) × IsOpening H a c.args.name.now f in
-    (left_now H P a d (λ f s le here. g.met.H.Host.counts_now d (H.moment a) f s told le here) (c.fetch.ensures.moments told) f (H.said d) (can, refl)).1
-
-pub returns-in_err-count-clause-leaves : goal.returns-in_err-count-clause-leaves
-returns-in_err-count-clause-leaves g c told f can =
-    let H = g.H.Host in
-    let a = c.args.host.now in
-    let d = c.fetch.new.host in
-    let P : Files → List ℕ → Type 0 = λ f s. (s ≡ H.said a) × IsOpening H a c.args.name.now f in
-    (left_now H P a d (λ f s le here. g.met.H.Host.counts_now d (H.moment a) f s told le here) (c.fetch.ensures.moments told) f (H.said d) (can, refl)).1
-
-pub returns-clause-leaves : goal.returns-clause-leaves
-returns-clause-leaves g c told f can =
-    let H = g.H.Host in
-    let a = c.args.host.now in
-    let d = c.fetch.new.host in
-    let P : Files → List ℕ → Type 0 = λ f s. (s ≡ H.said a) × IsOpening H a c.args.name.now f in
-    (left_now H P a d (λ f s le here. g.met.H.Host.counts_now d (H.moment a) f s told le here) (c.fetch.ensures.moments told) f (H.said d) (can, refl)).1
+    let now = view c.install_again.new.m in
+    let ready = c.install_again.ensures.ready p.loaded.frame (empty_world nil) (ready_empty was p.loaded.frame fetched.frame fetched.quiet) in
+    let from : ReplaysFrom install p.changes.listed p.store.root.base was now answered =
+    subst (λ (r : Root). ReplaysFrom install p.changes.listed r.base was now answered) c.root-base.ensures c.in_ok-count.ensures.replays in
+    record {
+      opened = λ told. (
+        commit_at (stored_in name (H.files a) p.store.root).image p.changes.listed from.before,
+        reopened H install view name a d
+            (record { loaded = record { memory = c.install_again.new.m; frame = p.loaded.frame }; store = p.store; changes = p.changes; replayed = answered.count; lost = answered.lost })
+            was (fetched.fetched told).opens (fetched.fetched told).kept (fetched.fetched told).readable (fetched.fetched told).start (fetched.fetched told).lists fetched.whole fetched.quiet from,
+      );
+      named = fetched.named;
+      listed = fetched.listed;
+      whole = fetched.whole;
+      frame = ready.frame;
+      quiet = quiet_empty now p.loaded.frame ready;
+      few = c.in_ok-count.ensures.few;
+      refused = tt;
+      kind = tt;
+      writes_nothing = tt;
+      moments = fetch.moments;
+      leaves = λ told f can. (left_now H P a d (λ f s le here. g.met.H.Host.counts_now d (H.moment a) f s told le here) (fetch.moments told) f (H.said d) (can, refl)).1;
+      only = fetch.only;
+      spares = fetch.spares;
+      cause = tt;
+    }

@@ -6,7 +6,7 @@ use Rattle.st_model.specs.Show.{show}
 use Rattle.st_model.proofs.Showing.{show_is}
 use Rattle.st_report.proofs.Pushing.{push_as}
 use Rattle.st_session.specs.Points.{alive}
-use Rattle.st_session.specs.Replies.{machine_text}
+use Rattle.st_call.specs.Replies.{machine_text}
 use Rattle.st_session.specs.Standing.{shown_by, StandsAt}
 use Rattle.st_session.proofs.Stretches.{all_ok, course_replies}
 use Rattle.st_session.proofs.answering.push_answer.Goals as goal

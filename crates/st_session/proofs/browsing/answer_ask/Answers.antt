@@ -10,7 +10,7 @@ use Rattle.st_session.specs.Browsing.{asked_text, memory_of}
 use Rattle.st_session.specs.Keeping.{in_a_store}
 use Rattle.st_session.specs.Points.{alive, gone}
 use Rattle.st_session.specs.Standing.{shown_by}
-use Rattle.st_session.specs.Telling.{Tells}
+use Rattle.st_call.specs.Telling.{Tells}
 use Rattle.st_session.proofs.Looking.{memory_is}
 use Rattle.st_session.proofs.Points.{dead_answers, living_answers}
 use Rattle.st_session.proofs.Responding.{line_said}

@@ -1,7 +1,7 @@
 use Rattle.std.proofs.Common.{sym, ◌∙◌}
 use Rattle.st_script.specs.Asks.{ask_of}
 use Rattle.st_browse.specs.Asked.{reply}
-use Rattle.st_session.specs.Browsing.{missing_text}
+use Rattle.st_call.specs.Replies.{missing_text}
 use Rattle.st_session.specs.Sources.{text_for}
 use Rattle.st_session.proofs.Looking.{there_said, missing_said, fault_said}
 use Rattle.st_session.proofs.Sources.{text_is}

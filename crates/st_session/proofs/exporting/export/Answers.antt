@@ -5,7 +5,7 @@ use Rattle.st_store.specs.Names.{IsNoFileOf}
 use Rattle.st_course.specs.declared.status.Status.{Status}
 use Rattle.st_course.specs.declared.status.Status.TheVariants as status
 use Rattle.st_course.specs.Statuses.{StatusHasCause}
-use Rattle.st_session.specs.Commands.{SaysLastLine}
+use Rattle.st_call.specs.LastLines.{SaysLastLine}
 use Rattle.st_session.specs.Ends.{status_in}
 use Rattle.st_session.specs.Exports.{export_of, IsOfExport, ExportEnds}
 use Rattle.st_session.proofs.Commanded.{cause_between, opening_cause, refused_line, refused_moments, refused_whole}

@@ -2,8 +2,8 @@ use Rattle.std.proofs.Common.{List, ℕ, refl, subst, arith}
 use Rattle.st_outside.proofs.Touching.{above_changes}
 use Rattle.st_recover.proofs.Images.{image_is}
 use Rattle.st_session.specs.Exports.{exporting, HasExported}
-use Rattle.st_session.specs.Replies.{exported_text}
-use Rattle.st_session.specs.Telling.{Tells}
+use Rattle.st_call.specs.Replies.{exported_text}
+use Rattle.st_call.specs.Telling.{Tells}
 use Rattle.st_session.proofs.Exported.{others_changed, others_said, counts_behind, told_kind, has_told}
 use Rattle.st_session.proofs.exporting.export_image.Goals as goal
 

@@ -8,7 +8,7 @@ use Rattle.st_recover.specs.Commits.{Commit, OpensAs}
 use Rattle.st_recover.specs.Replays.{losses_of}
 use Rattle.st_session.specs.Keeping.{in_a_store}
 use Rattle.st_session.specs.Points.{Point}
-use Rattle.st_session.specs.Replies.{opening_text}
+use Rattle.st_session.specs.FirstLines.{opening_text}
 use Rattle.st_session.specs.Sessions.{follow_script, follow_told, session}
 use Rattle.st_session.specs.Standing.{IsAt}
 use Rattle.st_session.proofs.Ending.{did_reply, unsaid_before, told_behind}

@@ -17,7 +17,8 @@ use Rattle.st_definition.specs.Defining.{installed}
 use Rattle.st_recover.specs.Archives.{ArchiveState, Holds}
 use Rattle.st_recover.specs.Commits.{Commit, OpensAs}
 use Rattle.st_recover.specs.Replays.{Loss, losses_of}
-use Rattle.st_session.specs.Ends.{IsOfServing, SessionEnds, status_in}
+use Rattle.st_call.specs.Telling.{IsOfServing}
+use Rattle.st_session.specs.Ends.{SessionEnds, status_in}
 use Rattle.st_session.specs.Keeping.{in_a_store}
 use Rattle.st_session.specs.Opening.{IsOpen, session_over, session_so_far_over}
 use Rattle.st_session.specs.Points.{Point, alive}

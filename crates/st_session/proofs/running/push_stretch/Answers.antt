@@ -51,8 +51,8 @@ cycles-preserved g c =
       said = λ s h.
           let far = c.cycles.invariant.said s h in
           let ends = c.run-end.ensures.ends alive far.state far.shows in
-          let line = push_as c.in-Ok.ensures (ap (λ m. said_in (g.M.Memory.view m).objects (value c.in-Say.object)) c.memory.ensures) in
-          subst (λ k. SaidSoFar g.H.Host n c.args.finished s (c.cycles.finished + k) d c.args.host.now c.push_said.new.host c.args.out.now c.push_said.new.out) (sym count) (said_on far e d ends _ c.in-Say.object c.in-Say.is line);
+          let line = push_as c.in-Ok.ensures.says (ap (λ m. said_in (g.M.Memory.view m).objects (value c.in-Say.object)) c.memory.ensures) in
+          subst (λ k. SaidSoFar g.H.Host n c.args.finished s (c.cycles.finished + k) d c.args.host.now c.say_at_once.new.host c.args.out.now c.say_at_once.new.out) (sym count) (said_on far e d ends _ c.in-Say.object c.in-Say.is line);
     }
 
 pub returns-in-Err-clause-pushes : goal.returns-in-Err-clause-pushes
@@ -62,7 +62,7 @@ returns-in-Err-clause-pushes g c = λ s h.
     let d = shown_by g.M.Memory.view new in
     let far = c.cycles.invariant.said s h in
     let ends = c.run-end.ensures.ends c.cycles.invariant.alive far.state far.shows in
-    cut_short far e d ends _ c.in-Say.object c.in-Say.is new.death (push_as c.in-Err.ensures (ap (λ m. said_in (g.M.Memory.view m).objects (value c.in-Say.object)) c.memory.ensures))
+    cut_short far e d ends _ c.in-Say.object c.in-Say.is new.death (push_as c.in-Err.ensures.says (ap (λ m. said_in (g.M.Memory.view m).objects (value c.in-Say.object)) c.memory.ensures))
 
 pub returns-in-Ok-push_end-clause-pushes : goal.returns-in-Ok-push_end-clause-pushes
 returns-in-Ok-push_end-clause-pushes g c = λ s h.

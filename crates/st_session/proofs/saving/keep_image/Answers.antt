@@ -3,8 +3,8 @@ use Rattle.std.specs.Prelude.{length}
 use Rattle.st_store.specs.Names.{IsNoFileOf}
 use Rattle.st_recover.specs.Archives.{Holds}
 use Rattle.st_recover.specs.Commits.{OpensAs, imaged, image_with}
-use Rattle.st_session.specs.Replies.{snapshot_text}
-use Rattle.st_session.specs.Telling.{Tells}
+use Rattle.st_call.specs.Replies.{snapshot_text}
+use Rattle.st_call.specs.Telling.{Tells}
 use Rattle.st_session.proofs.Holding.{holds_said}
 use Rattle.st_session.proofs.Saying.{when_ok}
 use Rattle.st_session.proofs.Snapshots.{image_said, image_unkept}

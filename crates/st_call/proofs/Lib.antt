@@ -1,0 +1,4 @@
+pub mod Digits
+pub mod Saying
+mod Spoken
+pub mod Started

@@ -1,0 +1,134 @@
+ghost use Rattle.std.specs.Prelude.{◌≡◌, map, option_map};
+ghost use Rattle.std.specs.String.{string_bytes};
+ghost use Rattle.st_call.specs.Words.{once_of, import_of, export_of, session_of, build_of, has_values, command_named, command_of};
+ghost use Rattle.st_call.specs.CommandViews.{operands_view, arguments_view, command_view};
+
+use crate::arguments::{Arguments, Operands, read_arguments, read_number};
+use st_image::HeadValues;
+
+/// A command of the program.
+#[derive(Clone, Copy)]
+pub enum Command<'a> {
+    /// The report of so many cycles of an image.
+    Once {
+        image: &'a str,
+        cycles: u32,
+    },
+    /// The making of a store of an image, with these values in place of those in its head.
+    Import {
+        image: &'a str,
+        store: &'a str,
+        over: HeadValues,
+    },
+    /// The writing of an image of what a store holds.
+    Export {
+        store: &'a str,
+        image: &'a str,
+    },
+    /// A session over a store.
+    Session {
+        store: &'a str,
+    },
+    /// The making of a store of the image that a kernel text builds.
+    Build {
+        kernel: &'a str,
+        store: &'a str,
+    },
+}
+
+/// The most cycles that one run may have.
+const MOST_CYCLES: u32 = 1_000_000_000;
+
+/// The command of `IMAGE N`.
+fn once(operands: Operands<'_>) -> Option<Command<'_>>
+    ensures { option_map command_view result ≡ once_of (operands_view operands.entry) }
+{
+    match operands {
+        Operands::Two(image, number) => {
+            let cycles = read_number(number.as_bytes(), MOST_CYCLES)?;
+            Some(Command::Once { image, cycles })
+        }
+        Operands::Empty | Operands::One(_) => None,
+    }
+}
+
+/// The command of `IMAGE STORE`.
+fn import(over: HeadValues, operands: Operands<'_>) -> Option<Command<'_>>
+    ensures { option_map command_view result ≡ import_of over (operands_view operands.entry) }
+{
+    match operands {
+        Operands::Two(image, store) => Some(Command::Import { image, store, over }),
+        Operands::Empty | Operands::One(_) => None,
+    }
+}
+
+/// The command of `STORE IMAGE`.
+fn export(operands: Operands<'_>) -> Option<Command<'_>>
+    ensures { option_map command_view result ≡ export_of (operands_view operands.entry) }
+{
+    match operands {
+        Operands::Two(store, image) => Some(Command::Export { store, image }),
+        Operands::Empty | Operands::One(_) => None,
+    }
+}
+
+/// The command of `STORE`.
+fn session(operands: Operands<'_>) -> Option<Command<'_>>
+    ensures { option_map command_view result ≡ session_of (operands_view operands.entry) }
+{
+    match operands {
+        Operands::One(store) => Some(Command::Session { store }),
+        Operands::Empty | Operands::Two(_, _) => None,
+    }
+}
+
+/// The command of `KERNEL STORE`.
+fn build(operands: Operands<'_>) -> Option<Command<'_>>
+    ensures { option_map command_view result ≡ build_of (operands_view operands.entry) }
+{
+    match operands {
+        Operands::Two(kernel, store) => Some(Command::Build { kernel, store }),
+        Operands::Empty | Operands::One(_) => None,
+    }
+}
+
+/// Whether any value is there.
+fn has_values(values: HeadValues) -> bool
+    ensures { result ≡ has_values values }
+{
+    values.entries.is_some()
+        || values.words.is_some()
+        || values.globals.is_some()
+        || values.symbols.is_some()
+}
+
+/// The command of this name; only `import` has options.
+fn command_named<'a>(name: &str, arguments: Arguments<'a>) -> Option<Command<'a>>
+    ensures { option_map command_view result ≡ command_named name.now (arguments_view arguments.entry) }
+{
+    if name == "import" {
+        return import(arguments.options, arguments.operands);
+    }
+    if has_values(arguments.options) {
+        return None;
+    }
+    if name == "once" {
+        once(arguments.operands)
+    } else if name == "export" {
+        export(arguments.operands)
+    } else if name == "session" {
+        session(arguments.operands)
+    } else if name == "build" {
+        build(arguments.operands)
+    } else {
+        None
+    }
+}
+
+/// The command that the words say, without the program's name; none of words that say no command.
+pub fn read_command(words: &[String]) -> Option<Command<'_>>
+    ensures { option_map command_view result ≡ command_of (map string_bytes words.now) }
+{
+    let (name, others) = words.split_first()?;
+    command_named(name.as_str(), read_arguments(others)?)
+}

@@ -1,8 +1,0 @@
-use Rattle.st_report.proofs.Pushing.{push_then, push_begun}
-use Rattle.st_session.proofs.replies.push_refused.Goals as goal
-
-pub returns-in_err-push : goal.returns-in_err-push
-returns-in_err-push g c = push_begun _ c.from_residual.ensures.0 c.in_err-push.ensures
-
-pub returns : goal.returns
-returns g c = push_then c.in_ok-push.ensures c.push_why.ensures

@@ -1,0 +1,32 @@
+//! Hosts in memory, and what their files have.
+
+use st_host::MemHost;
+use st_outside::{file_length, read_from};
+use std::alloc::{AllocError, Global};
+use std::process::Abort;
+use std::test::Fail;
+
+/// A host with a store's roots file and changes file, and with room for calls.
+pub fn host_with(alloc: Global, roots: &[u8], changes: &[u8]) -> Result<MemHost, AllocError> {
+    let mut host = MemHost::new(alloc)?;
+    host.put(alloc, "s.roots", roots)?;
+    host.put(alloc, "s.changes", changes)?;
+    host.room_for(alloc, 1000, 100)?;
+    Ok(host)
+}
+
+/// A file has these bytes, and no others.
+pub fn check_file(
+    rt: &impl Abort,
+    alloc: Global,
+    host: &mut MemHost,
+    name: &str,
+    wanted: &[u8],
+) -> Result<(), Fail> {
+    let length = file_length(host, name)?;
+    assert!(rt; length == Some(wanted.len() as u64), "of {name}");
+    let mut bytes = vec![in alloc; 0; wanted.len()]?;
+    read_from(host, name, 0, &mut bytes)?;
+    assert!(rt; bytes.as_slice() == wanted, "in {name}");
+    Ok(())
+}
