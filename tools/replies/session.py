@@ -51,7 +51,8 @@ class Session:
         self.complaints = tempfile.TemporaryFile()
         command = [*program_words(), "session", str(store)]
         pipes = {"stdin": subprocess.PIPE, "stdout": subprocess.PIPE, "stderr": self.complaints}
-        self.process = subprocess.Popen(command, **pipes)
+        # (in a session of its own: a Ctrl-C is for who asks)
+        self.process = subprocess.Popen(command, start_new_session=True, **pipes)
         try:
             self.opened = self.next_line()
             self.lost = [self.next_line() for _ in range(int(self.opened.split()[2]))]
