@@ -1,0 +1,98 @@
+"""The objects of an image file, and what of them classes and methods are, as docs/FORMATS.md has them."""
+
+import pathlib
+import struct
+
+NIL, METHODS = 2, 34
+SHORT, FAR = 512, 1 << 30
+
+
+class Wrong(Exception):
+    """What is read is no image or store, with a sentence on why."""
+
+
+def word_at(data, at):
+    return int.from_bytes(data[at : at + 2].ljust(2, b"\0"), "big")
+
+
+def long_at(data, at):
+    return int.from_bytes(data[at : at + 4].ljust(4, b"\0"), "big")
+
+
+def is_small(word):
+    return word % 2 == 1
+
+
+def integer(word):
+    """The number of a SmallInteger's word."""
+    return (word >> 1) - (32768 if word & 0x8000 else 0)
+
+
+class Object:
+    """An object: its class, its kind as a report's letter, its fields, and its units."""
+
+    def __init__(self, of_class, kind, fields, units):
+        self.of_class, self.kind, self.fields, self.units = of_class, kind, fields, units
+
+
+class Image:
+    """An image's objects by their pointers, and the pointers of its tables of names."""
+
+    def __init__(self, data):
+        if len(data) < SHORT or len(data) < self.end_of(data):
+            raise Wrong("too short for an image")
+        lettered = data[8:12] == b"ST80"
+        self.globals = long_at(data, 24) if lettered else 0
+        self.symbols = long_at(data, 28) if lettered else 0
+        table = self.table_of(data)
+        self.objects = {}
+        for pointer in range(2, long_at(data, 4), 2):
+            marks, location = word_at(data, table + 2 * pointer), word_at(data, table + 2 * pointer + 2)
+            if not marks & 32:
+                self.objects[pointer] = self.object_at(data, marks, SHORT + 2 * ((marks & 15) * 65536 + location))
+
+    @staticmethod
+    def table_of(data):
+        return SHORT + -(-2 * long_at(data, 0) // SHORT) * SHORT
+
+    @classmethod
+    def end_of(cls, data):
+        return cls.table_of(data) + 2 * long_at(data, 4)
+
+    def object_at(self, data, marks, at):
+        size, of_class = word_at(data, at), word_at(data, at + 2)
+        body = data[at + 4 : at + 2 * size]
+        words = list(struct.unpack(">%dH" % (len(body) // 2), body[: len(body) // 2 * 2]))
+        if marks & 64:
+            return Object(of_class, "p", words, b"")
+        if of_class == METHODS:
+            # bits 9 to 14 of the header, where bit 0 is the highest
+            literals = words[0] >> 1 & 63 if words else 0
+            rest = body[2 + 2 * literals :]
+            return Object(of_class, "m", words[: 1 + literals], rest[: len(rest) - (marks >> 7 & 1)])
+        if marks & 16:
+            return Object(of_class, "w", [], words)
+        return Object(of_class, "b", [], body[: len(body) - (marks >> 7 & 1)])
+
+    def get(self, pointer):
+        return None if is_small(pointer) else self.objects.get(pointer)
+
+    def bytes_of(self, pointer):
+        """The bytes of a String or Symbol, or none."""
+        found = self.get(pointer)
+        return bytes(found.units) if found and found.kind == "b" else b""
+
+    def elements_of(self, pointer):
+        """The fields of an object of kind Pointers, or none."""
+        found = self.get(pointer)
+        return found.fields if found and found.kind == "p" else []
+
+
+def current_image(store):
+    """The bytes of a store's current image: the file that the chosen root names, up to the length that it says."""
+    roots = pathlib.Path(f"{store}.roots").read_bytes()
+    if len(roots) < 80 or roots[:8] != b"ST80ROOT":
+        raise Wrong(f"{store}.roots is no roots file")
+    at = 16 + 32 * (roots[8] & 1)
+    slot, length = (int.from_bytes(roots[at + 8 * k : at + 8 * k + 8], "big") for k in (0, 1))
+    return pathlib.Path(f"{store}.{'ab'[slot & 1]}").read_bytes()[:length]
