@@ -73,13 +73,13 @@ table_is w k e more = let f = ne_eqb w 0 (λ z. absurd (omega arith)) in rw (f, 
 pub begun_is : (ts : List Thing) (g s : Oop) (x y : Thing) → length ts ≤ 32767
     → value_of g.0 ≡ Ref (place_in ts x) → g.0 ≡ 2 * place_in ts x → x ≡ only what.Globals
     → value_of s.0 ≡ Ref (place_in ts y) → s.0 ≡ 2 * place_in ts y → y ≡ only what.Symbols
-    → empty_view (head_of (record { entries = 32767; words = 1048576 }) g s) ≡ empty_view (head_in ts)
+    → empty_view (head_of (record { entries = 32767; words = 16777216 }) g s) ≡ empty_view (head_in ts)
 begun_is ts g s x y few gv gh gx sv sh sy =
     let gp = in_place ts x few in
     let sp = in_place ts y few in
     let globals = table_is g.0 (place_in ts x) gv (omega arith) ∙ ap (λ t. Some (Ref (place_in ts t))) gx in
     let symbols = table_is s.0 (place_in ts y) sv (omega arith) ∙ ap (λ t. Some (Ref (place_in ts t))) sy in
-    ap empty_view (λ i. record { entries = 32767; words = 1048576; globals = globals i; symbols = symbols i })
+    ap empty_view (λ i. record { entries = 32767; words = 16777216; globals = globals i; symbols = symbols i })
 
 pub empty_head : (h : Head) → (empty_view h).head ≡ h
 unfolding empty_view

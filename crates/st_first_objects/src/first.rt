@@ -18,14 +18,14 @@ use std::alloc::Global;
 const MOST_OF_ONE: usize = 65535;
 
 /// The most words of all objects.
-const MOST_WORDS: u32 = 1_048_576;
+const MOST_WORDS: u32 = 16_777_216;
 
 /// The most objects.
 const MOST_ENTRIES: u32 = 32767;
 
 /// How many words are used with so many more, if there is room for an object that takes them.
 fn used_beside(used: u32, words: usize) -> Result<u32, Unmade>
-    requires { used ≤ 1048576 }
+    requires { used ≤ 16777216 }
     ensures { HasWords used words result }
 {
     if words > MOST_OF_ONE || words > (MOST_WORDS - used) as usize {

@@ -1,5 +1,5 @@
-ghost use Rattle.std.specs.Prelude.{◌≡◌, length};
-ghost use Rattle.st_model.specs.Image.{entries_of, is_used};
+ghost use Rattle.std.specs.Prelude.{◌≡◌, ◌≤◌, length};
+ghost use Rattle.st_model.specs.Image.{form_of, entries_of, is_used};
 ghost use Rattle.st_model.specs.Faults.{short_fails, lengths_fail, used_below, capacity_fails};
 
 use crate::image::Image;
@@ -15,12 +15,38 @@ pub fn is_short(head: ImageHead, bytes: &[u8]) -> bool
     length < 512 || length < table_start + 2 * u64::from(head.table)
 }
 
-/// Whether a head has lengths out of range, or another version than 1.
+/// The most words of an object space.
+#[tactic(auto, unfolding(st_model::specs::Image::form_of))]
+fn most_words(head: ImageHead) -> u32
+    ensures { result ≡ (form_of head).most }
+{
+    if head.version == 2 {
+        16_777_216
+    } else {
+        1_048_576
+    }
+}
+
+/// How many words an entry of the table has.
+#[tactic(auto, unfolding(st_model::specs::Image::form_of))]
+fn entry_width(head: ImageHead) -> u32
+    ensures width { result ≡ (form_of head).width }
+    ensures some { 2 ≤ result }
+    ensures few { result ≤ 3 }
+{
+    if head.version == 2 { 3 } else { 2 }
+}
+
+/// Whether a head has lengths out of range, or another version than 1 and 2.
 #[tactic(auto, unfolding(st_model::specs::Faults::lengths_fail))]
 pub fn has_bad_lengths(head: ImageHead) -> bool
     ensures { result ≡ lengths_fail head }
 {
-    head.table % 2 == 1 || head.table > 65536 || head.space > 1_048_576 || head.version != 1
+    let width = entry_width(head);
+    !(head.version == 1 || head.version == 2)
+        || head.table % width != 0
+        || head.table > 32768 * width
+        || head.space > most_words(head)
 }
 
 /// How many entries are in use.
@@ -44,6 +70,6 @@ pub fn has_bad_capacity(image: &Image<'_>) -> bool
     let head = image.head;
     head.entries > 32767
         || head.entries < count_used(image)
-        || head.words > 1_048_576
+        || head.words > most_words(head)
         || head.words < head.space
 }

@@ -149,7 +149,7 @@ module _ (es : List (Option Entry)) (size_fields size_units end nf nu : ℕ) (la
 no_entry : (es : List (Option Entry)) (i : ℕ) (e : Entry) → slot es i ≡ None → slice_get es i ≡ Some (Some e) → ⊥
 no_entry es i e none there = let h = ap (λ x. unwrap_or x None) there in cc
 
-pub none_laid_out : (es : List (Option Entry)) (size_fields size_units : ℕ) → length es ≡ 32768 → ((k : ℕ) → slot es k ≡ None) → size_fields ≤ 1048576 → size_units ≤ 2097152 → IsLaidOut es size_fields size_units 0 0 0
+pub none_laid_out : (es : List (Option Entry)) (size_fields size_units : ℕ) → length es ≡ 32768 → ((k : ℕ) → slot es k ≡ None) → size_fields ≤ 16777216 → size_units ≤ 33554432 → IsLaidOut es size_fields size_units 0 0 0
 none_laid_out es size_fields size_units places none few_fields few_units = record {
   places = places;
   within = omega arith;

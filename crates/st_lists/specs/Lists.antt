@@ -70,8 +70,8 @@ pub record IsLaidOut (entries : List (Option Entry)) (fields units table_end nex
   pub apart : AllApart entries
   pub fields_end : next_field ≤ fields
   pub units_end : next_unit ≤ units
-  pub few_fields : fields ≤ 1048576
-  pub few_units : units ≤ 2097152
+  pub few_fields : fields ≤ 16777216
+  pub few_units : units ≤ 33554432
 
 -- no place from 1 up to this one is empty
 abbrev pub IsFull : List (Option Entry) → ℕ → Type 0

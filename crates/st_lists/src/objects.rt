@@ -43,7 +43,7 @@ impl Objects {
 
     /// No objects, and room for the fields and units of so many words.
     pub fn new(alloc: Global, words: u32) -> Result<Objects, AllocError>
-        requires { words ≤ 1048576 }
+        requires { words ≤ 16777216 }
         ensures places { IfOk result (λ o. length (objects_of o) ≡ 32768) }
         ensures empty { IfOk result (λ o. (k : ℕ) → entry (objects_of o) k ≡ None) }
         ensures extent { IfOk result (λ o. extent_of o ≡ unused words) }

@@ -25,7 +25,7 @@ pub trait Loader: Sized + Drop {
         symbols: Oop,
     ) -> Result<Self, AllocError>
         requires entries { capacity.entries ≤ 32767 }
-        requires words { capacity.words ≤ 1048576 }
+        requires words { capacity.words ≤ 16777216 }
         ensures { IfOk result (λ l. loaded l ≡ empty_view (head_of capacity globals symbols)) };
 
     /// A new object at a free pointer, with fields of nil, words and bytes of 0, and a method's literal count.

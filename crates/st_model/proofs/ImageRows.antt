@@ -6,7 +6,7 @@ use Rattle.st_model.specs.declared.kind.Kind.TheVariants as kind
 use Rattle.st_model.specs.declared.dead.Dead.TheVariants as dead
 use Rattle.st_model.specs.declared.fault.ImageFault.TheVariants.{Size, Overlap, Class, Field, Method, Root}
 use Rattle.st_model.specs.declared.head.ImageHead.{ImageHead}
-use Rattle.st_model.specs.Image.{number16, number32, has_letters, image_head, flags, location, is_used, place, size, class, body, names}
+use Rattle.st_model.specs.Image.{number16, number32, has_letters, image_head, flags, form_of, entries_of, entry_start, place, is_used, size, class, body, names}
 use Rattle.st_model.specs.Faults.{Fails, short_fails, lengths_fail, capacity_fails, size_fails, class_fails, is_field, field_fails, method_fails, root_fails, roots}
 use Rattle.st_model.specs.Values.{Value, Small, Ref, value_of}
 use Rattle.st_model.specs.Objects.{Object, nil}
@@ -19,7 +19,7 @@ use Rattle.st_model.specs.Start.{is_word_class, has_words, kind_in, fields_in, u
 
 -- opens the reading of images, and the rows of faults
 opened : Unit {0}
-unfolding number16 number32 has_letters image_head flags location is_used size class body names short_fails lengths_fail capacity_fails size_fails class_fails is_field field_fails method_fails root_fails
+unfolding number16 number32 has_letters image_head form_of entries_of entry_start flags place is_used size class body names short_fails lengths_fail capacity_fails size_fails class_fails is_field field_fails method_fails root_fails
 opened = tt
 
 bytes_of : List ℕ → List ℕ

@@ -174,7 +174,7 @@ unfolding nothing_held no_devices
 held_nothing (place.Pending k) = nil_at 4096 k
 held_nothing p = refl
 
-pub loading_empty : (head : Head) → head.entries ≤ 32767 → head.words ≤ 1048576 → IsLoading (empty_view head)
+pub loading_empty : (head : Head) → head.entries ≤ 32767 → head.words ≤ 16777216 → IsLoading (empty_view head)
 unfolding empty_view nothing_held no_devices
 loading_empty head entries words = record {
   places = length-none 32768;

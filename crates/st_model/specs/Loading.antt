@@ -16,4 +16,4 @@ pub record IsLoading (v : View) : Type 0 where
   pub entries : total_used one v.objects ≤ v.head.entries
   pub words : total_used words_of v.objects ≤ v.head.words
   pub most_entries : v.head.entries ≤ 32767
-  pub most_words : v.head.words ≤ 1048576
+  pub most_words : v.head.words ≤ 16777216

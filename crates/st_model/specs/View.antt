@@ -171,7 +171,7 @@ pub record IsWhole (v : View) : Type 0 where
   pub entries : total_used one v.objects ≤ v.head.entries
   pub words : total_used words_of v.objects ≤ v.head.words
   pub most_entries : v.head.entries ≤ 32767
-  pub most_words : v.head.words ≤ 1048576
+  pub most_words : v.head.words ≤ 16777216
 
 -- w is v with nothing kept but the largest set that supports itself
 pub record SettlesTo (v w : View) : Type 0 where

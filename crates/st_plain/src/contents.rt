@@ -43,7 +43,7 @@ impl Contents {
 
     /// No objects under a head, and nothing held.
     pub fn new(alloc: Global, head: Head) -> Result<Contents, AllocError>
-        requires { head.capacity.words ≤ 1048576 }
+        requires { head.capacity.words ≤ 16777216 }
         ensures empty { let said = head_of head.capacity head.globals head.symbols in
             IfOk result (λ c. plain_view c ≡ empty_view said) }
         ensures extent { IfOk result (λ c. extent_of c.objects ≡ unused head.capacity.words) }

@@ -16,5 +16,5 @@ image_is v = refl
 pub image_readable : (v : View) → IsWhole v → CanStart v → IsReadable (image_with v.objects v.head)
 image_readable v whole can =
     let small = image_small v whole in
-    let short : length (image_of v) ≤ 2 ^ 23 = omega arith in
+    let short : length (image_of v) ≤ 2 ^ 27 = omega arith in
     readable (image_of v) (image_with v.objects v.head) (image_is v) short (formed v whole can)

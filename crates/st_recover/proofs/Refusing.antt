@@ -83,7 +83,7 @@ module _ (name : List ℕ) (f : Files) (store : StoreState) (opens : Opens name 
   pub image_refuses : (e : OpenFault) → RefusesImage store read e → RefusesOpening name f e
   image_refuses (opening.Store fault) why = absurd why
   image_refuses (opening.Image fault) why = (stored_in name f store.root, opens, subst (λ b. IsFaulty b fault) same why)
-  image_refuses opening.TooLarge why = (stored_in name f store.root, opens, subst (λ n. 2 ^ 23 < n) (sym image_long) why)
+  image_refuses opening.TooLarge why = (stored_in name f store.root, opens, subst (λ n. 2 ^ 27 < n) (sym image_long) why)
   image_refuses opening.Disk why = tt
   image_refuses opening.OutOfMemory why = tt
 

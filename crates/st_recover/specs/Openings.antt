@@ -37,7 +37,7 @@ image_in store f = take store.root.image_length (bytes_of (f (image_file store.n
 abbrev pub RefusesImage : StoreState → List ℕ → OpenFault → Type 0
 RefusesImage store image (opening.Store fault) = ⊥
 RefusesImage store image (opening.Image fault) = IsFaulty image fault
-RefusesImage store image opening.TooLarge = 2 ^ 23 < store.root.image_length
+RefusesImage store image opening.TooLarge = 2 ^ 27 < store.root.image_length
 RefusesImage store image opening.Disk = ⊤
 RefusesImage store image opening.OutOfMemory = ⊤
 
@@ -87,7 +87,7 @@ RefusesOpening name f (opening.Store (NotAStore (Changes at))) =
     (c : Stored) × Opens name c f × IsReadable c.image × RefusesChanges c.changes c.root (NotAStore (Changes at))
 RefusesOpening name f (opening.Store fault) = Refuses name f fault
 RefusesOpening name f (opening.Image fault) = (c : Stored) × Opens name c f × IsFaulty c.image fault
-RefusesOpening name f opening.TooLarge = (c : Stored) × Opens name c f × (2 ^ 23 < length c.image)
+RefusesOpening name f opening.TooLarge = (c : Stored) × Opens name c f × (2 ^ 27 < length c.image)
 RefusesOpening name f opening.Disk = ⊤
 RefusesOpening name f opening.OutOfMemory = ⊤
 

@@ -24,22 +24,22 @@ use Rattle.st_session.specs.Imports.{IsReadableOver, IsFaultyOver, ReadsAs, IsWr
 use Rattle.st_session.specs.Makings.{Contents, contents_in, IsUnread}
 
 module _ (over : HeadValues) (read bytes : List ℕ) (same : read ≡ bytes) where
-  pub readable : length read ≤ 2 ^ 23 → IsWellFormed (head_over over read) read → IsReadableOver over bytes
+  pub readable : length read ≤ 2 ^ 27 → IsWellFormed (head_over over read) read → IsReadableOver over bytes
   readable short formed = subst (IsReadableOver over) same (record { short = short; formed = formed })
 
   pub started : (v : View) (f : Frame) → IsStart (head_over over read) read v f → IsStart (head_over over bytes) bytes v f
   started v f start = subst (λ b. IsStart (head_over over b) b v f) same start
 
-  pub faulty : (fault : ImageFault) → length read ≤ 2 ^ 23 → IsImageFault (head_over over read) read fault → IsFaultyOver over bytes fault
+  pub faulty : (fault : ImageFault) → length read ≤ 2 ^ 27 → IsImageFault (head_over over read) read fault → IsFaultyOver over bytes fault
   faulty fault short is = subst (λ b. IsFaultyOver over b fault) same (record { short = short; fault = is })
 
 -- a file that isn't read, whatever the faults of images
-unread : (faulty : List ℕ → ImageFault → Type 0) (bytes : List ℕ) (e : FileRefusal) → IsFileRefusal bytes e → IsImageRefusal faulty bytes (by_file e)
+unread : (faulty : List ℕ → ImageFault → Type 0) (bytes : List ℕ) (e : FileRefusal) → IsFileRefusal (2 ^ 27) bytes e → IsImageRefusal faulty bytes (by_file e)
 unread faulty bytes file.TooLarge why = why
 unread faulty bytes file.DiskFault why = tt
 unread faulty bytes file.OutOfMemory why = tt
 
-pub unread_in : {R : Type 0} (told : Type 0) (faulty : List ℕ → ImageFault → Type 0) (bytes : List ℕ) (e : FileRefusal) (r : Result R ImageRefusal) → IsErrAnd r (λ x. x ≡ by_file e) → (told → IsFileRefusal bytes e)
+pub unread_in : {R : Type 0} (told : Type 0) (faulty : List ℕ → ImageFault → Type 0) (bytes : List ℕ) (e : FileRefusal) (r : Result R ImageRefusal) → IsErrAnd r (λ x. x ≡ by_file e) → (told → IsFileRefusal (2 ^ 27) bytes e)
     → IfErr r (λ x. told → IsImageRefusal faulty bytes x)
 unread_in told faulty bytes e (Ok v) is why = absurd is
 unread_in told faulty bytes e (Err x) is why = λ t. subst (IsImageRefusal faulty bytes) (sym is) (unread faulty bytes e (why t))

@@ -113,16 +113,16 @@ opening_status opening.TooLarge = TooLarge
 opening_status opening.Disk = DiskFault
 opening_status opening.OutOfMemory = OutOfMemory
 
--- what a refusal says of a file's bytes
-abbrev pub IsFileRefusal : List ℕ → FileRefusal → Type 0
-IsFileRefusal bytes file.TooLarge = 2 ^ 23 < length bytes
-IsFileRefusal bytes file.DiskFault = ⊤
-IsFileRefusal bytes file.OutOfMemory = ⊤
+-- what a refusal says of the bytes of a file that may have so many
+abbrev pub IsFileRefusal : ℕ → List ℕ → FileRefusal → Type 0
+IsFileRefusal longest bytes file.TooLarge = longest < length bytes
+IsFileRefusal longest bytes file.DiskFault = ⊤
+IsFileRefusal longest bytes file.OutOfMemory = ⊤
 
 -- what a refusal says of the image's bytes, where this says which fault they have
 abbrev pub IsImageRefusal : (List ℕ → ImageFault → Type 0) → List ℕ → ImageRefusal → Type 0
 IsImageRefusal faulty bytes (refusal.Image f) = faulty bytes f
-IsImageRefusal faulty bytes refusal.TooLarge = 2 ^ 23 < length bytes
+IsImageRefusal faulty bytes refusal.TooLarge = 2 ^ 27 < length bytes
 IsImageRefusal faulty bytes refusal.DiskFault = ⊤
 IsImageRefusal faulty bytes refusal.OutOfMemory = ⊤
 
@@ -161,7 +161,7 @@ module _ {D : Type 0} (host : Ghosts D) where
   OnceEnds bytes n old new (Store f) = ⊥
   OnceEnds bytes n old new (Kernel chunk cause) = ⊥
   OnceEnds bytes n old new TooLarge =
-      (IsTrue host.is_told → 2 ^ 23 < length bytes) × SaysLastLine TooLarge old new
+      (IsTrue host.is_told → 2 ^ 27 < length bytes) × SaysLastLine TooLarge old new
   OnceEnds bytes n old new OutOfMemory = SaysLastLine OutOfMemory old new
 
   -- a refusal for a fault comes only where its count rose in the call, or stands at the last value that it has

@@ -11,14 +11,14 @@ use Rattle.st_course.specs.declared.status.Status.TheVariants.{Image, TooLarge}
 use Rattle.st_session.specs.declared.making.Origin.TheVariants as origin
 use Rattle.st_session.specs.Makings.{Contents, contents_in, MakingEnds}
 
--- An image that is read with these values in place of those of its head: it has at most 2^23 bytes, and is well-formed with them.
+-- An image that is read with these values in place of those of its head: it has at most 2^27 bytes, and is well-formed with them.
 pub record IsReadableOver (over : HeadValues) (image : List ℕ) : Type 0 where
-  pub short : length image ≤ 2 ^ 23
+  pub short : length image ≤ 2 ^ 27
   pub formed : IsWellFormed (head_over over image) image
 
 -- one that is refused for the fault that it has with them
 pub record IsFaultyOver (over : HeadValues) (image : List ℕ) (f : ImageFault) : Type 0 where
-  pub short : length image ≤ 2 ^ 23
+  pub short : length image ≤ 2 ^ 27
   pub fault : IsImageFault (head_over over image) image f
 
 -- it can be read, and this is what is read
@@ -29,7 +29,7 @@ pub record ReadsAs (over : HeadValues) (image : List ℕ) (c : Contents) : Type 
 -- the statuses in which it can't be read
 abbrev pub IsWrongImage : Type 0 → HeadValues → List ℕ → Status → Type 0
 IsWrongImage told over image (Image f) = told → IsFaultyOver over image f
-IsWrongImage told over image TooLarge = told → 2 ^ 23 < length image
+IsWrongImage told over image TooLarge = told → 2 ^ 27 < length image
 IsWrongImage told over image _ = ⊥
 
 -- How the command import ends, over the bytes of its image and the values of its options. An absent image is read as an empty one.

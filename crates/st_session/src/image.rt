@@ -23,8 +23,11 @@ use st_outside::Host;
 use st_world::World;
 use std::alloc::Global;
 
+/// The most bytes that an image may have, 2^27.
+const LONGEST_IMAGE: u64 = 134_217_728;
+
 /// The memory and registers of the image in a file, read with these values in place of those of its head, where that has at most
-/// 2^23 bytes and is well-formed with them. Nothing is held but by the registers. No file is changed.
+/// 2^27 bytes and is well-formed with them. Nothing is held but by the registers. No file is changed.
 pub fn read_image<H: Host, L: Loader>(
     alloc: Global,
     host: &mut H,
@@ -45,7 +48,7 @@ pub fn read_image<H: Host, L: Loader>(
     ensures cause { IfErr result (RefusalHasCause H.Host.own host.old host.new) }
     ensures reads { OnlyReads H.Host.own host.old host.new }
 {
-    let bytes = read_file(alloc, host, name)?;
+    let bytes = read_file(alloc, host, name, LONGEST_IMAGE)?;
     match read::<L>(alloc, &bytes, over) {
         Ok(loaded) => Ok(loaded),
         Err(ReadImage::Fault(fault)) => Err(ImageRefusal::Image(fault)),
@@ -53,7 +56,7 @@ pub fn read_image<H: Host, L: Loader>(
     }
 }
 
-/// A machine at the start of the image in a file, where that has at most 2^23 bytes and is well-formed.
+/// A machine at the start of the image in a file, where that has at most 2^27 bytes and is well-formed.
 pub fn start<H: Host, L: Loader>(
     alloc: Global,
     host: &mut H,

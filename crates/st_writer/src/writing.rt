@@ -12,7 +12,7 @@ use st_outside::{Host, HostFault, Piece};
 
 /// How many bytes are missing from so many words to a multiple of 512 bytes.
 fn padding(words: u32) -> usize
-    requires { words ≤ 1048576 }
+    requires { words ≤ 16777216 }
     ensures padding { result ≡ padding words }
     ensures few { result ≤ 512 }
 {
