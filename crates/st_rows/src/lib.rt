@@ -7,10 +7,12 @@ mod jump;
 mod operands;
 mod receivers;
 mod stack;
+mod wide;
 
 pub use arithmetic::{answer_integers, answer_pair, arithmetic_number, integer_answer, word_of};
 pub use jump::{long_unconditional_jump, short_unconditional_jump};
 pub use operands::{constant_value, fetch_literal_constant};
+pub use wide::{large_arithmetic, shift_large};
 pub use receivers::{answer_field, equivalence, flush_cache, receiver_class};
 pub use stack::{
     duplicate_top, extended_push, extended_store, extended_store_and_pop, pop_stack,
