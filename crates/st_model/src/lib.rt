@@ -41,7 +41,7 @@ pub use event::{Event, InputFull};
 pub use fault::ImageFault;
 pub use head::ImageHead;
 pub use header::literals;
-pub use integers::IntAnswer;
+pub use integers::{IntAnswer, LargeAnswer};
 pub use kind::Kind;
 pub use oop::Oop;
 pub use outcome::{Outcome, StepEnd};
