@@ -1,9 +1,9 @@
 -- Worked rows of the primitives on integers from 0 up, computed from the definitions.
-use Rattle.std.proofs.Common.{◌≡◌, ℕ, List, [], ◌∷◌, Option, None, Bool, true, false, refl}
+use Rattle.std.proofs.Common.{◌≡◌, ℕ, List, [], ◌∷◌, Option, None, Bool, refl}
 use Rattle.std.specs.Prelude.{length, replicate, ◌++◌}
 use Rattle.st_model.specs.Values.{Value, Small, Ref}
-use Rattle.st_model.specs.Objects.{Object, nil}
-use Rattle.st_model.specs.Machine.{State, Transition, Went}
+use Rattle.st_model.specs.Objects.{Object}
+use Rattle.st_model.specs.Machine.{State, Transition}
 use Rattle.st_model.specs.Table.{Table, table}
 use Rattle.st_model.specs.Arithmetic.{large_arithmetic, shift_large}
 use Rattle.st_model.proofs.Opened.{opened}

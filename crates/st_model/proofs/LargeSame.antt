@@ -1,11 +1,10 @@
 -- The first search for the primitives on integers from 0 up: births and tables do the same.
-use Rattle.std.proofs.Common.{◌≡◌, ℕ}
+use Rattle.std.proofs.Common.{ℕ}
 use Rattle.st_model.specs.declared.integers.LargeAnswer.{LargeAnswer}
 use Rattle.st_model.specs.declared.integers.LargeAnswer.TheVariants as wide
-use Rattle.st_model.specs.Values.{Value}
 use Rattle.st_model.specs.Machine.{ObjectMemory}
 use Rattle.st_model.specs.Arithmetic.{large_under, large_answer, value_of_large, large_arithmetic, shift_answer, shift_large}
-use Rattle.st_model.proofs.Same.{Simulation, strict, SameAnswer, SameValue, steps_same}
+use Rattle.st_model.proofs.Same.{Simulation, strict, SameAnswer, SameValue}
 use Rattle.st_model.proofs.StepsSame.{parts_same}
 use Rattle.st_model.proofs.PrimitivesSame.{integer_under-same, primitive-same, truth-same}
 use Rattle.st_model.proofs.StorageSame.{positive_value-same, number-same}
