@@ -28,6 +28,16 @@ numbers : (computing 29 (Ref 31 ∷ Ref 31 ∷ []) (large (255 ∷ 255 ∷ []) �
 unfolding opened computing done made state objects pointers class large bytes
 numbers = (refl, refl, refl)
 
+-- the greatest number, as a sum and as a product of 2^64 + 1 and 2^64 - 1; and a product one above it, which fails
+edges : (computing 21 (Ref 31 ∷ Small 1 ∷ []) (large (254 ∷ replicate 15 255) ∷ [])
+    ≡ made (large (replicate 16 255)) (Ref 5 ∷ Small 1 ∷ []) (large (254 ∷ replicate 15 255) ∷ []))
+    × (computing 29 (Ref 31 ∷ Ref 32 ∷ []) (large (1 ∷ replicate 7 0 ++ 1 ∷ []) ∷ large (replicate 8 255) ∷ [])
+    ≡ made (large (replicate 16 255)) (Ref 5 ∷ Ref 32 ∷ []) (large (1 ∷ replicate 7 0 ++ 1 ∷ []) ∷ large (replicate 8 255) ∷ []))
+    × (computing 29 (Ref 31 ∷ Ref 31 ∷ []) (large (replicate 8 0 ++ 1 ∷ []) ∷ [])
+    ≡ failed (Ref 31 ∷ Ref 31 ∷ []) (large (replicate 8 0 ++ 1 ∷ []) ∷ []))
+unfolding opened computing made failed state objects pointers class large bytes
+edges = (refl, refl, refl)
+
 -- a sum past 2^128 - 1, a quotient that isn't exact, by 0, of 17 bytes, of no bytes, of a String, and of a number below 0
 failing : (computing 21 (Ref 31 ∷ Small 1 ∷ []) (large (replicate 16 255) ∷ []) ≡ failed (Ref 31 ∷ Small 1 ∷ []) (large (replicate 16 255) ∷ []))
     × (computing 30 (Ref 31 ∷ Small 3 ∷ []) (large (0 ∷ 0 ∷ 1 ∷ []) ∷ []) ≡ failed (Ref 31 ∷ Small 3 ∷ []) (large (0 ∷ 0 ∷ 1 ∷ []) ∷ []))

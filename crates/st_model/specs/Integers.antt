@@ -1,4 +1,5 @@
--- What the primitives on SmallIntegers compute (chapter 29), as operations on integers.
+-- What the primitives on SmallIntegers, and those on two integers from 0 up of at most 128 bits, compute (chapter 29), as
+-- operations on integers.
 use Rattle.std.specs.Prelude.{ℕ, suc, ◌+◌, ◌-◌, ◌*◌, ◌/◌, ◌%◌, ◌==◌, ◌^◌, nat_lt, nat_le, bit_and, bit_or, bit_xor, Option, Some, None, Bool, false, not, if◌then◌else◌, ℤ, pos, negsuc, neg_ℤ, ◌+ℤ◌, ◌-ℤ◌, ◌*ℤ◌, int_lt, int_le, int_div, int_rem}
 use Rattle.std.specs.Ordering.{int_eq}
 use Rattle.std.specs.Int.{w16, int_div_euclid, int_bit_and, int_bit_or, int_bit_xor}
@@ -64,7 +65,7 @@ binary n a b =
     if n == 17 then within_range (shifted a b) else
     if n == 18 then Some (Point a b) else None
 
--- the number, where it has at most 128 bits
+-- The number, where it has at most 128 bits: so far the primitives 21 to 37 go, whose operands and answers are from 0 up.
 unfoldable pub within_bits : ℕ → Option ℕ
 within_bits n = if nat_lt n (2 ^ 128) then Some n else None
 
