@@ -42,7 +42,7 @@ pub use event::{Event, InputFull};
 pub use fault::ImageFault;
 pub use head::ImageHead;
 pub use header::literals;
-pub use integers::IntAnswer;
+pub use integers::{IntAnswer, LargeAnswer};
 pub use kind::Kind;
 pub use limits::{LONGEST_IMAGE, MOST_WORDS};
 pub use oop::Oop;
