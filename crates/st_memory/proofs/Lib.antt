@@ -20,3 +20,4 @@ mod Swapping
 pub mod Units
 mod Wide
 pub mod Writing
+pub mod Unbounded

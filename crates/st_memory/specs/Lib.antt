@@ -4,3 +4,4 @@ pub mod Drafts
 pub mod Making
 pub mod Noted
 pub mod Tabular
+pub mod Searched
