@@ -83,7 +83,7 @@ module _ {m : ObjectMemory Table} (h : IsTabular m) where
     find_within-same zero class = end_at_nil-same class (die dead.Chain)
     find_within-same (suc left) class = rw (fun_ext (find_within-same left), look_in_class-same class (find_within table x left)) (end_at_nil-same class _)
 
-    pub find-same : (class : Value) → find m class x ≡ find table class x
+    find-same : (class : Value) → find m class x ≡ find table class x
     unfolding find
     find-same class = find_within-same 32767 class
 
@@ -111,12 +111,16 @@ half_apart (Ref n) b = ap (λ (f : Table → ℕ). record { run = λ s. Went (f 
     by_entry s None = refl
     by_entry s (Some o) = low_half s n b
 
+-- a search over a bounded table is the search over a table
+pub search_bounded : (class x : Value) → find bounded_table class x ≡ find table class x
+search_bounded class x = find-same bounded_tabular x (half_bounded x) class
+
 -- what is found over one is found over the other
 pub finds_bounded : (t : Table) (class x m : Value) → Finds t class x m → Reads (find bounded_table class x) itself t (Ok (Some m))
-finds_bounded t class x m h s e = ap (λ (q : Step Table (Option Value)). q.run s) (find-same bounded_tabular x (half_bounded x) class) ∙ h s e
+finds_bounded t class x m h s e = ap (λ (q : Step Table (Option Value)). q.run s) (search_bounded class x) ∙ h s e
 
 pub bounded_finds : (t : Table) (class x m : Value) → Reads (find bounded_table class x) itself t (Ok (Some m)) → Finds t class x m
-bounded_finds t class x m h s e = ap (λ (q : Step Table (Option Value)). q.run s) (sym (find-same bounded_tabular x (half_bounded x) class)) ∙ h s e
+bounded_finds t class x m h s e = ap (λ (q : Step Table (Option Value)). q.run s) (sym (search_bounded class x)) ∙ h s e
 
 pub finds_apart : (t : Table) (class x m : Value) → IsBefore x → Finds t class x m → Reads (find apart class x) itself t (Ok (Some m))
 finds_apart t class x m b h s e = ap (λ (q : Step Table (Option Value)). q.run s) (find-same apart_tabular x (half_apart x b) class) ∙ h s e

@@ -3,5 +3,5 @@ pub mod Copied
 pub mod Drafts
 pub mod Making
 pub mod Noted
-pub mod Tabular
 pub mod Searched
+pub mod Tabular

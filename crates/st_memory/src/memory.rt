@@ -245,8 +245,7 @@ pub trait Memory: Drop {
     fn remember(&mut self, _class: Oop, _selector: Oop, _method: Oop)
         requires { Finds (view self.old).objects (value _class) (value _selector) (value _method) }
         ensures { view self.new ≡ view self.old }
-    {
-    }
+    {}
 
     /// What stands in an object or is held is a SmallInteger or live, each object is what its kind says, and all is
     /// within the capacities.

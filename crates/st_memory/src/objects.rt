@@ -179,8 +179,7 @@ pub trait Objects {
         ensures head { head self.new ≡ head self.old }
         ensures room { room self.new ≡ room self.old }
         ensures fixed { fixed self.new ≡ fixed self.old }
-    {
-    }
+    {}
 
     /// It reads and changes objects as a table does.
     ghost tabular: { IsTabular names };

@@ -7,5 +7,5 @@ pub returns-in-Some-remembered : goal.returns-in-Some-remembered
 returns-in-Some-remembered g c =
     let t = (g.M.Memory.view c.args.self.now).objects in
     let f : Finds t (word c.args.class) (word c.args.selector) (value c.in-Some-remembered.method) =
-        rw (c.in-Ok.ensures.same, c.in-Some.ensures.same) at c.in-Some-remembered.ensures in
+    rw (c.in-Ok.ensures.same, c.in-Some.ensures.same) at c.in-Some-remembered.ensures in
     rw c.from.ensures (finds_bounded t (word c.args.class) (word c.args.selector) (value c.in-Some-remembered.method) f)
