@@ -8,6 +8,7 @@ pub mod SendsSame
 pub mod PrimitivesSame
 mod BitBltSame
 mod StorageSame
+mod LargeSame
 pub mod ProcessesSame
 pub mod InputSame
 mod BlocksSame
@@ -78,7 +79,8 @@ pub mod Opened
 mod Rows
 mod SendRows
 mod ArithmeticRows
-mod StorageRows
+pub mod StorageRows
+mod LargeRows
 mod StorageBounds
 mod BitBltRows
 mod ProcessRows

@@ -1,8 +1,9 @@
 -- How a call of the program ends: its status, and what it says and does.
-use Rattle.std.specs.Prelude.{◌≡◌, ℕ, ◌<◌, ◌^◌, List, length, ◌++◌, IsTrue, Option}
+use Rattle.std.specs.Prelude.{◌≡◌, ℕ, ◌<◌, List, length, ◌++◌, IsTrue, Option}
 use Rattle.st_outside.specs.Counts.{Rose}
 use Rattle.st_outside.specs.Stops.{SaidPart}
 use Rattle.st_outside.specs.declared.host.Host.{Ghosts}
+use Rattle.st_model.specs.Limits.{longest_image}
 use Rattle.st_model.specs.Machine.{State, Went}
 use Rattle.st_model.specs.Image.{image_head}
 use Rattle.st_model.specs.Births.{Births}
@@ -52,7 +53,7 @@ module _ {D : Type 0} (host : Ghosts D) where
   OnceEnds bytes n old new (Store f) = ⊥
   OnceEnds bytes n old new (Kernel chunk cause) = ⊥
   OnceEnds bytes n old new TooLarge =
-      (IsTrue host.is_told → 2 ^ 23 < length bytes) × SaysLastLine host TooLarge old new
+      (IsTrue host.is_told → longest_image < length bytes) × SaysLastLine host TooLarge old new
   OnceEnds bytes n old new OutOfMemory = SaysLastLine host OutOfMemory old new
 
   -- A run of calls that leaves the files of these names alone: a stop may leave of each just what it could leave before, and
