@@ -171,20 +171,20 @@ pub ruleset bytes = (gone_stays, byte_here, byte_elsewhere, byte_before, byte_pa
 
 -- the bytes of a number
 
-module _ (t u : Table) (v : Value) (place left : ℕ) (few : place < 4) where
-  within : bytes_within (4 - place) left ≡ (if nat_lt left 256 then left ∷ [] else left % 256 ∷ bytes_within (4 - suc place) (left / 256))
-  within = let e : 4 - place ≡ suc (4 - suc place) = omega (arith, few) in ap (λ n. bytes_within n left) e
+module _ (t u : Table) (v : Value) (place left : ℕ) (few : place < 16) where
+  within : bytes_within (16 - place) left ≡ (if nat_lt left 256 then left ∷ [] else left % 256 ∷ bytes_within (16 - suc place) (left / 256))
+  within = let e : 16 - place ≡ suc (16 - suc place) = omega (arith, few) in ap (λ n. bytes_within n left) e
 
-  pub last_byte : left < 256 → u ≡ changed_by (byte_stored place left) t v → u ≡ changed_by (bytes_stored place (bytes_within (4 - place) left)) t v
+  pub last_byte : left < 256 → u ≡ changed_by (byte_stored place left) t v → u ≡ changed_by (bytes_stored place (bytes_within (16 - place) left)) t v
   last_byte l e =
       let r : nat_lt left 256 ≡ true = grind (arith, nat_tests) in
-      e ∙ ap (λ bs. changed_by (bytes_stored place bs) t v) (sym (within ∙ ap (λ b. if b then left ∷ [] else left % 256 ∷ bytes_within (4 - suc place) (left / 256)) r))
+      e ∙ ap (λ bs. changed_by (bytes_stored place bs) t v) (sym (within ∙ ap (λ b. if b then left ∷ [] else left % 256 ∷ bytes_within (16 - suc place) (left / 256)) r))
 
   pub next_byte : 256 ≤ left → u ≡ changed_by (byte_stored place (left % 256)) t v
-      → changed_by (bytes_stored (suc place) (bytes_within (4 - suc place) (left / 256))) u v ≡ changed_by (bytes_stored place (bytes_within (4 - place) left)) t v
+      → changed_by (bytes_stored (suc place) (bytes_within (16 - suc place) (left / 256))) u v ≡ changed_by (bytes_stored place (bytes_within (16 - place) left)) t v
   next_byte l e =
       let r : nat_lt left 256 ≡ false = grind (arith, nat_tests) in
-      let rest = bytes_within (4 - suc place) (left / 256) in
+      let rest = bytes_within (16 - suc place) (left / 256) in
       ap (λ w. changed_by (bytes_stored (suc place) rest) w v) e ∙ by_both (byte_stored place (left % 256)) (bytes_stored (suc place) rest) t v
       ∙ ap (λ bs. changed_by (bytes_stored place bs) t v) (sym (within ∙ ap (λ b. if b then left ∷ [] else left % 256 ∷ rest) r))
 

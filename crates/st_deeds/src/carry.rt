@@ -43,7 +43,7 @@ fn change_objects<M: Memory>(m: &mut M, deed: Deed)
             value,
         } => store_literal(m, method, number, value),
         Deed::StoreTime { object, time } => store_time(m, object, time),
-        Deed::TakeWord { object, number } => store_number(m, object, number),
+        Deed::TakeWord { object, number } => store_number(m, object, u128::from(number)),
         Deed::CopyBits { bit_blt } => copy_pixels(m, bit_blt),
         Deed::Nothing
         | Deed::Hold { .. }

@@ -74,14 +74,14 @@ pub fn store_byte<M: Memory>(m: &mut M, object: Word, place: u32, byte: u8)
 }
 
 /// Stores the bytes of a number, the low one first, from the first place of an object on.
-pub fn store_number<M: Memory>(m: &mut M, object: Word, number: u32)
+pub fn store_number<M: Memory>(m: &mut M, object: Word, number: u128)
     ensures objects { (M.view m.new).objects
         ≡ changed_by (bytes_stored 0 (bytes_of_number number)) (M.view m.old).objects (word object) }
     ensures held { (M.view m.new).held ≡ (M.view m.old).held }
     ensures head { (M.view m.new).head ≡ (M.view m.old).head }
 {
     let mut left = number;
-    for place in 0..4 {
+    for place in 0..16 {
         if left < 256 {
             store_byte(m, object, place, left as u8);
             return;

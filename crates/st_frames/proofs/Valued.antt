@@ -1,7 +1,7 @@
 -- The values of numbers, by their bytes.
-use Rattle.std.proofs.Common.{◌≡◌, ◌≢◌, ℕ, zero, suc, ◌+◌, ◌*◌, ◌^◌, ◌<◌, ◌≤◌, List, [], ◌∷◌, Bool, true, false, refl, sym, arith, lit≤}
+use Rattle.std.proofs.Common.{◌≡◌, ◌≢◌, ℕ, zero, suc, ◌+◌, ◌*◌, ◌^◌, ◌<◌, ◌≤◌, List, [], ◌∷◌, Bool, true, false, refl, sym, arith, lit<}
 use Rattle.std.specs.Prelude.{◌-◌, ◌/◌, ◌%◌, length, if◌then◌else◌, nat_lt}
-use Rattle.std.proofs.lemmas.Bool.Decides.{nat_tests}
+use Rattle.std.proofs.Math.Nat.{pow-le-pow_right}
 use Rattle.st_model.specs.Values.{Value, Small, Ref, is_small}
 use Rattle.st_model.specs.Machine.{ObjectMemory, State, Transition, Died, Went, answer, after, ◌>>=◌}
 use Rattle.st_model.specs.Table.{Table}
@@ -10,17 +10,15 @@ use Rattle.st_model.specs.Primitives.{positive_small, large_value, positive_valu
 use Rattle.st_frames.specs.Answering.{number_read}
 use Rattle.st_frames.proofs.Doing.{rows}
 
-pub value-small : (m : ObjectMemory Table) (v : Value) (s : State Table) → is_small v ≡ true → (positive_value m v).run s ≡ (positive_small v).run s
+pub value-small : (m : ObjectMemory Table) (most : ℕ) (v : Value) (s : State Table) → is_small v ≡ true → (positive_value m most v).run s ≡ (positive_small v).run s
 unfolding positive_value
-value-small m (Small n) s e = refl
-value-small m (Ref n) s e = cc
+value-small m most (Small n) s e = refl
+value-small m most (Ref n) s e = cc
 
-pub value-large : (m : ObjectMemory Table) (v : Value) (s : State Table) → is_small v ≡ false → (positive_value m v).run s ≡ (large_value m v).run s
+pub value-large : (m : ObjectMemory Table) (most : ℕ) (v : Value) (s : State Table) → is_small v ≡ false → (positive_value m most v).run s ≡ (large_value m most v).run s
 unfolding positive_value
-value-large m (Small n) s e = cc
-value-large m (Ref n) s e = refl
-
-pub ruleset values = (value-small, value-large)
+value-large m most (Small n) s e = cc
+value-large m most (Ref n) s e = refl
 
 pub reads-none : (m : ObjectMemory Table) (v : Value) (from n : ℕ) (s : State Table) → n ≡ 0 → (number_read m v from n).run s ≡ Went 0 s
 unfolding number_read fetch_bytes ◌>>=◌ after answer
@@ -56,63 +54,25 @@ more_bytes b k (suc n) l d e =
     let g : k < 256 ^ n = rw f at e in
     omega (arith, g)
 
--- at most 4 of them
-four_bytes : (n : ℕ) → n ≤ 4 → 256 ^ n ≤ 2 ^ 32
-four_bytes zero l = lit≤ tt
-four_bytes (suc zero) l = lit≤ tt
-four_bytes (suc (suc zero)) l = lit≤ tt
-four_bytes (suc (suc (suc zero))) l = lit≤ tt
-four_bytes (suc (suc (suc (suc zero)))) l = lit≤ tt
-four_bytes (suc (suc (suc (suc (suc n))))) l = absurd (omega arith)
+pub power_within : (i j : ℕ) → i ≤ j → 256 ^ i ≤ 256 ^ j
+power_within i j l = pow-le-pow_right (lit< tt) l
 
-within_four : (k n : ℕ) → k < 256 ^ n → n ≤ 4 → k < 2 ^ 32
-within_four k n e l = let f = four_bytes n l in omega (arith, f)
+-- at most 16 of them
+within_sixteen : (k n : ℕ) → k < 256 ^ n → n ≤ 16 → k < 2 ^ 128
+within_sixteen k n e l = let f = power_within n 16 l in omega (arith, f, e)
 
-pub next_byte : (b k n : ℕ) → b < 256 → n ≢ 0 → n ≤ 4 → k < 256 ^ (n - 1) → (b + 256 * k < 256 ^ n) × (b + 256 * k < 2 ^ 32)
-next_byte b k n l d f e = let g = more_bytes b k n l d e in (g, within_four (b + 256 * k) n g f)
+pub next_byte : (b k n : ℕ) → b < 256 → n ≢ 0 → n ≤ 16 → k < 256 ^ (n - 1) → (b + 256 * k < 256 ^ n) × (b + 256 * k < 2 ^ 128)
+next_byte b k n l d f e = let g = more_bytes b k n l d e in (g, within_sixteen (b + 256 * k) n g f)
+
+-- a number of fewer bytes
+pub fewer_bytes : (k n most : ℕ) → n ≤ most → k < 256 ^ n → k < 256 ^ most
+fewer_bytes k n most l e = let f = power_within n most l in omega (arith, e, f)
+
+pub small_within : (k most : ℕ) → 2 ≤ most → k < 16384 → k < 256 ^ most
+small_within k most l e = let f = power_within 2 most l in omega (arith, e, f)
 
 pub ruleset reads = (rows, reads-none, reads-more)
 
--- how many bytes a number has
-two_bytes : (k : ℕ) → nat_lt k 256 ≡ false → nat_lt (k / 256) 256 ≡ true → length (bytes_of_number k) ≡ 2
-two_bytes k e f = rw (e, f) refl
+pub ruleset values = (value-small, value-large, small_within)
 
-three_bytes : (k : ℕ) → nat_lt k 256 ≡ false → nat_lt (k / 256) 256 ≡ false → nat_lt (k / 256 / 256) 256 ≡ true → length (bytes_of_number k) ≡ 3
-three_bytes k e f g = rw (e, f, g) refl
-
-all_bytes : (k : ℕ) → nat_lt k 256 ≡ false → nat_lt (k / 256) 256 ≡ false → nat_lt (k / 256 / 256) 256 ≡ false → length (bytes_of_number k) ≡ 4
-all_bytes k e f g = rw (e, f, g) (last (nat_lt (k / 256 / 256 / 256) 256) (k / 256 / 256 / 256) (k / 256 / 256 / 256 % 256))
-  where
-    last : (b : Bool) (x y : ℕ) → length (k % 256 ∷ k / 256 % 256 ∷ k / 256 / 256 % 256 ∷ (if b then x ∷ [] else y ∷ [])) ≡ 4
-    last true x y = refl
-    last false x y = refl
-
-pub length-one : (k : ℕ) → k < 256 → 1 ≡ length (bytes_of_number k)
-length-one k l = let e : nat_lt k 256 ≡ true = grind (arith, nat_tests) in rw e refl
-
-pub length-two : (k : ℕ) → 256 ≤ k → k < 65536 → 2 ≡ length (bytes_of_number k)
-length-two k a b =
-    let e : nat_lt k 256 ≡ false = grind (arith, nat_tests) in
-    let l : k / 256 < 256 = omega arith in
-    let f : nat_lt (k / 256) 256 ≡ true = grind (arith, nat_tests) in
-    sym (two_bytes k e f)
-
-pub length-three : (k : ℕ) → 65536 ≤ k → k < 16777216 → 3 ≡ length (bytes_of_number k)
-length-three k a b =
-    let e : nat_lt k 256 ≡ false = grind (arith, nat_tests) in
-    let l : 256 ≤ k / 256 = omega arith in
-    let f : nat_lt (k / 256) 256 ≡ false = grind (arith, nat_tests) in
-    let h : k / 256 / 256 < 256 = omega arith in
-    let g : nat_lt (k / 256 / 256) 256 ≡ true = grind (arith, nat_tests) in
-    sym (three_bytes k e f g)
-
-pub length-four : (k : ℕ) → 16777216 ≤ k → 4 ≡ length (bytes_of_number k)
-length-four k a =
-    let e : nat_lt k 256 ≡ false = grind (arith, nat_tests) in
-    let l : 256 ≤ k / 256 = omega arith in
-    let f : nat_lt (k / 256) 256 ≡ false = grind (arith, nat_tests) in
-    let h : 256 ≤ k / 256 / 256 = omega arith in
-    let g : nat_lt (k / 256 / 256) 256 ≡ false = grind (arith, nat_tests) in
-    sym (all_bytes k e f g)
-
-pub ruleset lengths = (length-one, length-two, length-three, length-four)
+pub ruleset sizes = (fewer_bytes)

@@ -13,21 +13,20 @@ use st_memory::Objects;
 use st_model::{Dead, Deed, Kind, PageObject, Word};
 
 /// How many bytes a number has, one at least.
-#[tactic(auto, using(crate::proofs::Valued::lengths))]
-fn count_bytes(n: u32) -> u32
+#[tactic(auto, using(crate::proofs::Counted::counts))]
+fn count_bytes(n: u128) -> u32
     ensures count { result ≡ length (bytes_of_number n) }
     ensures some { 1 ≤ result }
-    ensures few { result ≤ 4 }
+    ensures few { result ≤ 16 }
 {
-    if n < 256 {
-        1
-    } else if n < 65536 {
-        2
-    } else if n < 16_777_216 {
-        3
-    } else {
-        4
+    let mut left = n;
+    for count in 1..16 {
+        if left < 256 {
+            return count;
+        }
+        left /= 256;
     }
+    16
 }
 
 /// Whether n bytes of an object, one at least, can be stored from a place on.
@@ -49,7 +48,7 @@ pub fn find_bytes<O: Objects>(m: &O, r: &Registers, v: Word, i: u32, n: u32) -> 
 
 /// A new LargePositiveInteger, whose bytes are left to be stored. Where there is no room for it, nil has no such bytes.
 #[tactic(auto, using(crate::proofs::Doing::rows), unfolding(st_model::specs::Primitives::new_large))]
-fn new_large<O: Objects>(m: &mut O, r: &Registers, n: u32) -> Result<Answer, Dead>
+fn new_large<O: Objects>(m: &mut O, r: &Registers, n: u128) -> Result<Answer, Dead>
     requires room { 1 ≤ O.room m.old }
     ensures does { RowLeaves O.Objects.own (new_large O.names (bytes_of_number n))
         answer_word answer_deed m.old r.now result m.new r.now }
@@ -70,7 +69,7 @@ fn new_large<O: Objects>(m: &mut O, r: &Registers, n: u32) -> Result<Answer, Dea
 
 /// The SmallInteger of a number, or a new LargePositiveInteger, whose bytes are left to be stored.
 #[tactic(auto, using(crate::proofs::Doing::rows), unfolding(st_model::specs::Primitives::number))]
-pub fn number<O: Objects>(m: &mut O, r: &Registers, n: u32) -> Result<Answer, Dead>
+pub fn number<O: Objects>(m: &mut O, r: &Registers, n: u128) -> Result<Answer, Dead>
     requires room { 1 ≤ O.room m.old }
     ensures does { RowLeaves O.Objects.own (number O.names n)
         answer_word answer_deed m.old r.now result m.new r.now }
@@ -79,7 +78,7 @@ pub fn number<O: Objects>(m: &mut O, r: &Registers, n: u32) -> Result<Answer, De
     ensures plain { IfOk result (λ a. copies_pixels a.deed ≡ false) }
 {
     if n < 16384 {
-        let word = small(n);
+        let word = small(n as u32);
         Ok(Answer {
             word,
             deed: Deed::StoreNumber {

@@ -29,6 +29,7 @@ pub use holding::{fetch, fetch_scheduled, hold, load};
 pub use large::{find_bytes, number};
 pub use numbers::{
     bits_or_die, check_bytes, check_class, number_read, positive_small, positive_value,
+    value_within,
 };
 pub use registers::Registers;
 pub use stack::{drop_words, jump, look_at_words, pop, push, set_stack_pointer, top, under};

@@ -68,26 +68,27 @@ pub fn number_read<O: Objects>(
     v: Word,
     from: u32,
     n: u32,
-) -> Result<u64, Dead>
-    requires few { from + n ≤ 4 }
+) -> Result<u128, Dead>
+    requires few { from + n ≤ 16 }
     ensures does { RowReads O.Objects.own (number_read O.names (word v) from n)
         itself m.now r.now result }
     ensures small { IfOk result (λ k. k < 256 ^ n) }
-    ensures below { IfOk result (λ k. k < 2 ^ 32) }
+    ensures below { IfOk result (λ k. k < 2 ^ 128) }
 {
     if n == 0 {
         return Ok(0);
     }
     let low = m.fetch_byte(v, from)?;
     let high = number_read(m, r, v, from + 1, n - 1)?;
-    Ok(u64::from(low) + 256 * high)
+    Ok(u128::from(low) + 256 * high)
 }
 
-/// The value of a LargePositiveInteger of 1 to 4 bytes.
-#[tactic(auto, using(crate::proofs::Doing::checks), unfolding(st_model::specs::Primitives::large_value, crate::specs::Answering::number_read))]
-fn large_value<O: Objects>(m: &O, r: &Registers, v: Word) -> Result<u64, Dead>
-    ensures does { RowReads O.Objects.own (large_value O.names (word v)) itself m.now r.now result }
-    ensures small { IfOk result (λ k. k < 2 ^ 32) }
+/// The value of a LargePositiveInteger of 1 byte and so many at most.
+#[tactic(auto, using(crate::proofs::Doing::checks, crate::proofs::Valued::sizes), unfolding(st_model::specs::Primitives::large_value, crate::specs::Answering::number_read))]
+fn large_value<O: Objects>(m: &O, r: &Registers, most: u32, v: Word) -> Result<u128, Dead>
+    requires few { most ≤ 16 }
+    ensures does { RowReads O.Objects.own (large_value O.names most (word v)) itself m.now r.now result }
+    ensures small { IfOk result (λ k. k < 256 ^ most) }
 {
     check_class(m, r, v, PageObject::LargeClass)?;
     check_bytes(m, r, v)?;
@@ -95,22 +96,34 @@ fn large_value<O: Objects>(m: &O, r: &Registers, v: Word) -> Result<u64, Dead>
     if n < 1 {
         return Err(Dead::Field);
     }
-    if 4 < n {
+    if most < n {
         return Err(Dead::Field);
     }
-    number_read(m, r, v, 0, n)
+    let k = number_read(m, r, v, 0, n)?;
+    Ok(k)
 }
 
-/// The value of a SmallInteger of at least 0, or of a LargePositiveInteger.
+/// The value of a SmallInteger of at least 0, or of a LargePositiveInteger of so many bytes at most.
 #[tactic(auto, using(crate::proofs::Valued::values))]
-pub fn positive_value<O: Objects>(m: &O, r: &Registers, v: Word) -> Result<u64, Dead>
-    ensures does { RowReads O.Objects.own (positive_value O.names (word v)) itself m.now r.now result }
-    ensures small { IfOk result (λ k. k < 2 ^ 32) }
+pub fn value_within<O: Objects>(m: &O, r: &Registers, most: u32, v: Word) -> Result<u128, Dead>
+    requires some { 2 ≤ most }
+    requires few { most ≤ 16 }
+    ensures does { RowReads O.Objects.own (positive_value O.names most (word v)) itself m.now r.now result }
+    ensures small { IfOk result (λ k. k < 256 ^ most) }
 {
     if v.is_small() {
         let n = positive_small(m, r, v)?;
-        Ok(u64::from(n))
+        Ok(u128::from(n))
     } else {
-        large_value(m, r, v)
+        large_value(m, r, most, v)
     }
+}
+
+/// The value of a SmallInteger of at least 0, or of a LargePositiveInteger of 4 bytes at most.
+pub fn positive_value<O: Objects>(m: &O, r: &Registers, v: Word) -> Result<u64, Dead>
+    ensures does { RowReads O.Objects.own (positive_value O.names 4 (word v)) itself m.now r.now result }
+    ensures small { IfOk result (λ k. k < 2 ^ 32) }
+{
+    let k = value_within(m, r, 4, v)?;
+    Ok(k as u64)
 }

@@ -1,3 +1,4 @@
 pub mod Shifts
 pub mod Products
 pub mod Quotients
+pub mod WideShifts

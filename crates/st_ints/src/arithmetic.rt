@@ -3,7 +3,7 @@ ghost use Rattle.st_model.specs.Integers.{binary};
 ghost use Rattle.st_ints.specs.Answers.{IsOfSmall};
 
 use crate::division::{exact_quotient, modulo, quotient, quotient_down};
-use crate::shift::shift;
+use crate::small_shift::small_shift;
 use crate::sums::{difference, product, sum, within_range};
 use st_model::IntAnswer;
 
@@ -37,7 +37,7 @@ pub fn binary(n: u8, a: i16, b: i16) -> Option<IntAnswer>
         14 => within_range(i32::from(a & b)),
         15 => within_range(i32::from(a | b)),
         16 => within_range(i32::from(a ^ b)),
-        17 => shift(a, b),
+        17 => small_shift(a, b),
         _ => Some(IntAnswer::Point(a, b)),
     }
 }

@@ -116,8 +116,8 @@ unfolding opened responds answered called state in_sender objects active plain p
 always = refl
 
 -- the first and the last of each run of numbers that fail always
-failing : map (responds 1 (Small 5) (Small 6)) (19 ∷ 20 ∷ 21 ∷ 37 ∷ 38 ∷ 39 ∷ 40 ∷ 54 ∷ 55 ∷ 59 ∷ 103 ∷ 104 ∷ 106 ∷ 109 ∷ 117 ∷ 127 ∷ 129 ∷ 255 ∷ [])
-    ≡ replicate 18 (responds 1 (Small 5) (Small 6) 0)
+failing : map (responds 1 (Small 5) (Small 6)) (19 ∷ 20 ∷ 38 ∷ 39 ∷ 40 ∷ 54 ∷ 55 ∷ 59 ∷ 103 ∷ 104 ∷ 106 ∷ 109 ∷ 117 ∷ 127 ∷ 129 ∷ 255 ∷ [])
+    ≡ replicate 16 (responds 1 (Small 5) (Small 6) 0)
 unfolding opened responds called state in_sender objects active plain pointers method
 failing = refl
 

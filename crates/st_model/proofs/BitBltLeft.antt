@@ -1,21 +1,21 @@
 -- 96 as the code does it: where the copy can be read, objects and registers stay, and a deed is left that copies the bits.
-use Rattle.std.proofs.Common.{◌≡◌, ℕ, Some, None, Bool, true, false, refl, sym, ◌∙◌, ap, subst}
+use Rattle.std.proofs.Common.{◌≡◌, true, false, refl, sym, ◌∙◌, ap}
 use Rattle.std.specs.Prelude.{nat_le, Ok}
 use Rattle.st_model.specs.declared.dead.Dead.{Dead}
 use Rattle.st_model.specs.declared.dead.Dead.TheVariants as dead
 use Rattle.st_model.specs.declared.word.Word.{Word}
 use Rattle.st_model.specs.declared.deed.Deed.TheVariants.{CopyBits}
 use Rattle.st_model.specs.Values.{Value, Ref, word}
-use Rattle.st_model.specs.Machine.{ObjectMemory, World, State, Transition, Died, Went, Step, is_there, answer, after, tried, ◌>>=◌, ◌>>◌}
+use Rattle.st_model.specs.Machine.{ObjectMemory, World, State, Transition, Died, Went, is_there, answer, after, tried, ◌>>=◌, ◌>>◌}
 use Rattle.st_model.specs.Table.{Table, table, IsTabular}
 use Rattle.st_model.specs.Calls.{Reads, itself}
 use Rattle.st_model.specs.Steps.{top}
 use Rattle.st_model.specs.Primitives.{answer_with, succeed, primitive}
-use Rattle.st_model.specs.Deeds.{changed_by, over, over_both, with_deed}
+use Rattle.st_model.specs.Deeds.{changed_by, over_both, with_deed}
 use Rattle.st_model.specs.BitBlt.{Copy, painted, read_copy, store_painted, paint_and_answer, primitive_copy_bits}
 use Rattle.st_model.proofs.Tabular.{read_copy-as, store_painted-as}
-use Rattle.st_model.proofs.CopyingBits.{read_copy-looks, from_each, store_painted-does, table-painted, words_painted}
-use Rattle.st_model.proofs.Deeds.{Commutes, moved, answer_with-commutes, kept_leaves, words_replaced, words_keep, painting, painted-by}
+use Rattle.st_model.proofs.CopyingBits.{read_copy-looks, from_each, store_painted-does, table-painted}
+use Rattle.st_model.proofs.Deeds.{moved, answer_with-commutes, kept_leaves, words_replaced, words_keep, painting, painted-by}
 use Rattle.st_model.proofs.Resting.{receiver-answered, receiver-not_answered, field_there}
 
 module _ (m : ObjectMemory Table) (tabular : IsTabular m) (r : Word) (c : Copy) (s : State Table) (on : (top m).run s ≡ Went (word r) s) (read : (read_copy m (word r)).run s ≡ Went c s) where

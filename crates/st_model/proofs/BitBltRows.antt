@@ -1,10 +1,10 @@
 -- Worked rows of 96, computed from the definitions: a BitBlt at place 31, its destination at 32 and that Form's words at 33, and from
 -- 34 on other objects.
-use Rattle.std.proofs.Common.{◌≡◌, ℕ, List, [], ◌∷◌, Some, None, Option, Bool, true, false, refl}
+use Rattle.std.proofs.Common.{◌≡◌, ℕ, List, [], ◌∷◌, None, Option, refl}
 use Rattle.std.specs.Prelude.{◌++◌, replicate}
 use Rattle.st_model.specs.Values.{Value, Small, Ref}
 use Rattle.st_model.specs.Objects.{Object, nil}
-use Rattle.st_model.specs.Machine.{Transition, Died, Went}
+use Rattle.st_model.specs.Machine.{Went}
 use Rattle.st_model.specs.Outcomes as outcome
 use Rattle.st_model.specs.Table.{table}
 use Rattle.st_model.specs.Executing.{respond}

@@ -2,8 +2,8 @@
 use Rattle.std.proofs.Common.{◌≡◌, ℕ, Bool, true, false}
 use Rattle.st_model.specs.Values.{Value}
 use Rattle.st_model.specs.Machine.{ObjectMemory}
-use Rattle.st_model.specs.BitBlt.{Copy, fetch_words, fetch_positive, read_form, read_unless, read_form_if_any, fetch_form, fetch_destination, fetch_halftone, fetch_rule, fetch_axis, read_copy, store_painted, copy_bits, paint_and_answer, primitive_copy_bits}
-use Rattle.st_model.proofs.Same.{Simulation, ValueSame, SameValue, SameAnswer, strict, steps_same}
+use Rattle.st_model.specs.BitBlt.{Copy, fetch_words, fetch_positive, read_form, read_unless, read_form_if_any, fetch_form, fetch_destination, fetch_halftone, fetch_rule, fetch_axis, read_copy, store_painted, paint_and_answer, primitive_copy_bits}
+use Rattle.st_model.proofs.Same.{Simulation, ValueSame, SameValue, SameAnswer, steps_same}
 use Rattle.st_model.proofs.StepsSame.{parts_same}
 use Rattle.st_model.proofs.PrimitivesSame.{positive_small-same, primitive-same}
 

@@ -1,19 +1,19 @@
 -- What copying bits does to a table: where the BitBlt and its Forms are as they should be, the words of the destination's bits
 -- become those that are painted, and nothing else changes; else nothing does.
-use Rattle.std.proofs.Common.{◌≡◌, ℕ, List, length, Option, Some, None, Bool, true, false, refl, sym, ◌∙◌, ap, subst, arith}
-use Rattle.std.specs.Prelude.{Result, Ok, Err, ◌==◌, ◌&&◌, if◌then◌else◌}
+use Rattle.std.proofs.Common.{◌≡◌, ℕ, List, length, Some, Bool, true, false, refl, sym, ◌∙◌, ap, subst, arith}
+use Rattle.std.specs.Prelude.{Result, Ok, Err, ◌==◌}
 use Rattle.std.proofs.lemmas.Bool.Decides.{nat_tests}
 use Rattle.st_model.specs.declared.dead.Dead.{Dead}
 use Rattle.st_model.specs.Values.{Value, Ref}
 use Rattle.st_model.specs.Objects.{Object, is_words, with_units}
-use Rattle.st_model.specs.Machine.{State, Transition, Died, Went, answer, after, ◌>>=◌, ◌>>◌}
+use Rattle.st_model.specs.Machine.{State, Transition, Went, after, ◌>>=◌}
 use Rattle.st_model.specs.Table.{Table, table, entry, changed}
 use Rattle.st_model.specs.Calls.{Reads, transition_of, itself}
 use Rattle.st_model.specs.Steps.{object, check, fetch_field, units_set, set_units_at, set_units}
-use Rattle.st_model.specs.Deeds.{over, over_table, table_left, table_after}
+use Rattle.st_model.specs.Deeds.{over, over_table, table_after}
 use Rattle.st_model.specs.BitBlt.{Form, Copy, painted, fetch_words, fetch_positive, read_form, read_unless, read_form_if_any, fetch_form, fetch_destination, fetch_halftone, fetch_rule, fetch_axis, read_copy, store_painted, copy_bits}
 use Rattle.st_model.proofs.Made.{length-made}
-use Rattle.st_model.proofs.Looking.{Looks, looking, fetch_field-looks, fetch_integer-looks, positive_small-looks, object-looks, comes_to, stays, then-went, next-went, passed, answered, object-went}
+use Rattle.st_model.proofs.Looking.{Looks, looking, fetch_field-looks, fetch_integer-looks, positive_small-looks, object-looks, comes_to, then-went, next-went, passed, answered, object-went}
 
 -- what is read of a BitBlt
 

@@ -8,6 +8,7 @@ use Rattle.st_model.specs.Sends.{Call}
 use Rattle.st_model.specs.Executing.{goes_on, answer_field, or_activate, say_or_activate, asks, respond_last, respond, respond_by_extension, execute_by, execute_performed, takes, execute_found, drop_selector, spread_array, perform_if, perform, primitive_perform, spreading, perform_with, primitive_perform_with, perform_or_activate, respond_or_perform, execute, executed, execute_if_any, executed_if_any}
 use Rattle.st_model.proofs.StepsSame.{parts_same}
 use Rattle.st_model.proofs.Same.{Simulation, ValueSame, OptionalSame, CallSame, AnyCallSame, SameAnswer, SameCall, SameAnyCall, SameEnd, renamed_call, answer-same, then_unit-same, steps_same}
+use Rattle.st_model.proofs.LargeSame.{large_arithmetic-same, shift_large-same}
 use Rattle.st_model.proofs.StorageSame.{check_class-same, say-same, storage-same}
 use Rattle.st_model.proofs.BlocksSame.{blocks-same}
 use Rattle.st_model.proofs.ProcessesSame.{processes-same}
@@ -71,7 +72,7 @@ module _ {H K : Type 0} {M : ObjectMemory H} {N : ObjectMemory K} (sim : Simulat
   unfolding respond_last
   respond_last-same c v w n h k = search (steps_same, goes_on-same, activate-same, say_or_activate-same, snapshot-same, quit-same, debugger-same) depth 24 fits 4000
 
-  ruleset primitives_same = (arithmetic-same, equivalence-same, receiver_class-same, flush_cache-same, storage-same, blocks-same, processes-same, input-same)
+  ruleset primitives_same = (arithmetic-same, large_arithmetic-same, shift_large-same, equivalence-same, receiver_class-same, flush_cache-same, storage-same, blocks-same, processes-same, input-same)
 
   respond-same : (c : Call) (v w : Value) (n : ℕ) → ValueSame sim c.method (renamed sim.name c.method) → ValueSame sim v w
       → SameEnd sim (respond M c v n) (respond N (renamed_call sim.name c) w n)

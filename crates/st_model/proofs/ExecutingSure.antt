@@ -27,14 +27,14 @@ use Rattle.st_model.specs.Cycles.{check_process_switch}
 use Rattle.st_model.specs.Saving.{store_process}
 use Rattle.st_model.proofs.CyclesSure.{check_process_switch-sure, store_process-sure}
 use Rattle.st_model.proofs.Present.{bare, full, then_unit-sure, die-sure, later_value, later_option, later_call, answer_itself-sure, of_page-sure}
-use Rattle.st_model.proofs.PresentSteps.{There, ThereIfAny, CallThere, CallThereIfAny, Later, SureValue, SureCall, SureAnyCall, SureAnswer, sures, parts, headers, activate-sure, fetch_context_registers-sure, find-sure, not_understood-sure, send-sure, send_to_super-sure, special_send-sure, end-sure, goes_on-sure, answer_with-sure, arithmetic-sure, equivalence-sure, receiver_class-sure, flush_cache-sure, check_class-sure, primitive_say-sure}
+use Rattle.st_model.proofs.PresentSteps.{large_arithmetic-sure, shift_large-sure, There, ThereIfAny, CallThere, CallThereIfAny, Later, SureValue, SureCall, SureAnyCall, SureAnswer, sures, parts, headers, activate-sure, fetch_context_registers-sure, find-sure, not_understood-sure, send-sure, send_to_super-sure, special_send-sure, end-sure, goes_on-sure, answer_with-sure, arithmetic-sure, equivalence-sure, receiver_class-sure, flush_cache-sure, check_class-sure, primitive_say-sure}
 use Rattle.st_model.proofs.StorageSure.{storage-sure}
 use Rattle.st_model.proofs.BlocksSure.{block_copy-sure, value-sure, blocks-sure}
 use Rattle.st_model.proofs.ProcessesSure.{processes-sure}
 use Rattle.st_model.proofs.InputSure.{input-sure}
 
 module _ (o : Object) (lives : ℕ → Type 0) where
-  pub ruleset primitives_sure = (arithmetic-sure, equivalence-sure, receiver_class-sure, flush_cache-sure, storage-sure, blocks-sure, processes-sure, input-sure)
+  pub ruleset primitives_sure = (arithmetic-sure, large_arithmetic-sure, shift_large-sure, equivalence-sure, receiver_class-sure, flush_cache-sure, storage-sure, blocks-sure, processes-sure, input-sure)
 
   or_activate-sure : (n : ℕ) (c : Call) (v : Value) (p p' : Step Births Bool) → CallThere o lives n c → SureAnswer o lives n p p' → SureAnswer o lives n (or_activate bare c v p) (or_activate (full o) c v p')
   unfolding or_activate

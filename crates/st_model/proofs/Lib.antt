@@ -8,6 +8,7 @@ pub mod SendsSame
 pub mod PrimitivesSame
 mod BitBltSame
 mod StorageSame
+mod LargeSame
 pub mod ProcessesSame
 pub mod InputSame
 mod BlocksSame
@@ -56,7 +57,6 @@ pub mod Instances
 pub mod Roots
 pub mod Raised
 pub mod Showing
-pub mod Texts
 pub mod Again
 pub mod Present
 pub mod PresentSteps
@@ -78,7 +78,8 @@ pub mod Opened
 mod Rows
 mod SendRows
 mod ArithmeticRows
-mod StorageRows
+pub mod StorageRows
+mod LargeRows
 mod StorageBounds
 mod BitBltRows
 mod ProcessRows

@@ -4,8 +4,8 @@ use Rattle.std.specs.Int.{bit_at}
 use Rattle.std.proofs.lemmas.Nat.Bits.{bit_at-lt, bit_at_lowest, bit_at-suc, same_from_bits_below}
 use Rattle.std.proofs.lemmas.Bool.{cases_order}
 use Rattle.st_model.specs.Lists.{made}
-use Rattle.st_model.specs.Pixels.{AllFit, pixel, combine, number_by}
-use Rattle.st_model.specs.BitBlt.{Copy, is_copied, formula, pixel_after, row_pixels, painted_pixel, painted}
+use Rattle.st_model.specs.Pixels.{AllFit, pixel, number_by}
+use Rattle.st_model.specs.BitBlt.{Copy, is_copied, pixel_after, painted_pixel, painted}
 use Rattle.st_model.proofs.Made.{get_or-made, length-made, made_from}
 
 -- pixel j of word number i of these

@@ -19,7 +19,9 @@ use Rattle.st_model.specs.Primitives.{pop_words, answer_with, succeed, primitive
 use Rattle.st_model.specs.Storage.{count_literals, first_by, first_place, place_of_element, place_at, place_behind_fixed, word_number, byte_number, element_by, fetch_element, word_of_value, unit_by, unit_of_element, store_by, store_element, Storing, storing_at, store_and_answer, primitive_at, storing_behind_fixed, primitive_at_put, count_elements, primitive_size, fetch_character, place_in_bytes, character_at, primitive_string_at, character_byte, character_storing_at, storing_character, primitive_string_at_put, characters_or_not, has_characters, place_of_object, place_of_character, stream_place, position_below, Standing, standing_at, stream_standing, stream_element, take_next, primitive_next, stream_unit, Putting, putting_at, stream_putting, put_next, primitive_next_put, is_at_end, primitive_at_end, method_place, place_in_method, header_or_literal, primitive_object_at, check_header, check_method_field, place_to_store, store_in_method, primitive_object_at_put, check_not_method_class, fixed_specification, primitive_new, checked_shape, indexed_shape, primitive_new_with, check_object, check_objects, exchange_and_answer, primitive_become, primitive_instance_variable_at, storing_by_index, primitive_instance_variable_at_put, half_pointer, primitive_as_oop, kept_object_at, primitive_as_object, first_kept_instance, primitive_some_instance, instance_after, primitive_next_instance, MethodShape, method_shape, new_method, primitive_new_method, Replacing, checked_replacing, replacing, replace_and_answer, primitive_replace, primitive_core_left, primitive_oops_left, primitive_say}
 use Rattle.st_model.specs.declared.kind.Kind.{Kind}
 use Rattle.st_model.specs.declared.kind.Kind.TheVariants as kind
-use Rattle.st_model.specs.Arithmetic.{new_point, value_of_answer, integer_under, integer_answer, arithmetic, equivalence, receiver_class, flush_cache}
+use Rattle.st_model.specs.declared.integers.LargeAnswer.{LargeAnswer}
+use Rattle.st_model.specs.declared.integers.LargeAnswer.TheVariants as wide
+use Rattle.st_model.specs.Arithmetic.{new_point, value_of_answer, integer_under, integer_answer, arithmetic, large_under, large_answer, value_of_large, large_arithmetic, shift_answer, shift_large, equivalence, receiver_class, flush_cache}
 use Rattle.st_model.specs.Executing.{goes_on}
 use Rattle.st_model.proofs.Present as at
 use Rattle.st_model.proofs.Present.{bare, full, then_value-sure, then_values-sure, then_option-sure, then_object-sure, then_registers-sure, then_call-sure, then_any_call-sure, then_answer-sure, then_unit-sure, if-sure, die-sure, later_value, later_values, later_option, later_object, later_call, small_there, small_integer_there, class_there, field_there, none_there, some_there, no_values_there, values_there, registers_there, method_there, answer_value-sure, answer_values-sure, answer_option-sure, answer_registers-sure, answer_call-sure, answer_some_call-sure, answer_no_call-sure, answer_itself-sure, get_active-sure, get_home-sure, get_method-sure, get_receiver-sure, get_ip-sure, get_sp-sure, set_ip-sure, set_sp-sure, of_page-sure, object_named-sure, object-sure, set_field-sure, make-sure, set_registers-sure, half_word-sure, exchange-sure, set_units-sure, get_device-sure, newest_signal-sure, count_signals-sure, oldest_word-sure, get_mouse_x-sure, get_mouse_y-sure, get_second_clock-sure, get_millisecond_clock-sure, hold_there, add_signal_there, take_signal_there, set_due_there, set_low_there, move_mouse_there, take_word_there, change_world-sure, get_free-sure, object_at-sure, next_instance-sure, tried_value-sure, tried_itself-sure}
@@ -540,14 +542,14 @@ module _ (o : Object) (lives : ℕ → Type 0) where
   unfolding byte_or_die
   byte_or_die-sure n v h0 = search (parts, bits_or_die-sure) depth 24 fits 4000
 
-  pub large_value-sure : (n : ℕ) (v : Value) → There n v → SureAnswer n (large_value bare v) (large_value (full o) v)
+  pub large_value-sure : (n : ℕ) (most : ℕ) (v : Value) → There n v → SureAnswer n (large_value bare most v) (large_value (full o) most v)
   unfolding large_value
-  large_value-sure n v h0 = search (parts, check_class-sure, check_bytes-sure) depth 32 fits 4000
+  large_value-sure n most v h0 = search (parts, check_class-sure, check_bytes-sure) depth 32 fits 4000
 
-  pub positive_value-sure : (n : ℕ) (v : Value) → There n v → SureAnswer n (positive_value bare v) (positive_value (full o) v)
+  pub positive_value-sure : (n : ℕ) (most : ℕ) (v : Value) → There n v → SureAnswer n (positive_value bare most v) (positive_value (full o) most v)
   unfolding positive_value
-  positive_value-sure n (Small i) h0 = positive_small-sure n (Small i) h0
-  positive_value-sure n (Ref i) h0 = large_value-sure n (Ref i) h0
+  positive_value-sure n most (Small i) h0 = positive_small-sure n (Small i) h0
+  positive_value-sure n most (Ref i) h0 = large_value-sure n most (Ref i) h0
 
   pub specification-sure : (n : ℕ) (v : Value) → There n v → SureAnswer n (specification bare v) (specification (full o) v)
   unfolding specification
@@ -798,6 +800,31 @@ module _ (o : Object) (lives : ℕ → Type 0) where
   pub replace_and_answer-sure : (n : ℕ) (r : Value) (c : Value) (p : Replacing) → There n r → There n c → SureValue n (replace_and_answer bare r c p) (replace_and_answer (full o) r c p)
   unfolding replace_and_answer
   replace_and_answer-sure n r c p h0 h1 = search parts depth 24 fits 4000
+
+  pub large_under-sure : (n : ℕ) (k : ℕ) → SureAnswer n (large_under bare k) (large_under (full o) k)
+  unfolding large_under
+  large_under-sure n k = search (parts, positive_value-sure) depth 24 fits 4000
+
+  pub large_answer-sure : (n : ℕ) (k : ℕ) → SureAnswer n (large_answer bare k) (large_answer (full o) k)
+  unfolding large_answer
+  large_answer-sure n k = search (parts, large_under-sure) depth 24 fits 4000
+
+  pub value_of_large-sure : (n : ℕ) (a : LargeAnswer) → SureValue n (value_of_large bare a) (value_of_large (full o) a)
+  unfolding value_of_large
+  value_of_large-sure n (wide.Number i) = number-sure n i
+  value_of_large-sure n (wide.Truth b) = truth-sure n b
+
+  pub large_arithmetic-sure : (n : ℕ) (k : ℕ) → SureAnswer n (large_arithmetic bare k) (large_arithmetic (full o) k)
+  unfolding large_arithmetic
+  large_arithmetic-sure n k = search (primitive-sure, large_answer-sure, value_of_large-sure)
+
+  pub shift_answer-sure : (n : ℕ) → SureAnswer n (shift_answer bare) (shift_answer (full o))
+  unfolding shift_answer
+  shift_answer-sure n = search (parts, large_under-sure, integer_under-sure) depth 24 fits 4000
+
+  pub shift_large-sure : (n : ℕ) → SureAnswer n (shift_large bare) (shift_large (full o))
+  unfolding shift_large
+  shift_large-sure n = search (primitive-sure, shift_answer-sure, number-sure)
 
   pub ruleset effects_sure = (number-sure, number_of-sure, fetch_element-sure, store_and_answer-sure, take_next-sure, put_next-sure, store_in_method-sure, exchange_and_answer-sure, new_method-sure, replace_and_answer-sure)
 

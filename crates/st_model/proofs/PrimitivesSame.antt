@@ -11,7 +11,7 @@ use Rattle.st_model.proofs.Same.{Simulation, ValueSame, OptionalSame, SameValue,
 use Rattle.st_model.proofs.StepsSame.{parts_same}
 
 module _ {H K : Type 0} {M : ObjectMemory H} {N : ObjectMemory K} (sim : Simulation M N) where
-  integer_under-same : (k : ℕ) → SameAnswer sim (integer_under M k) (integer_under N k)
+  pub integer_under-same : (k : ℕ) → SameAnswer sim (integer_under M k) (integer_under N k)
   unfolding integer_under
   integer_under-same k = search parts_same depth 16 fits 4000
 

@@ -1,18 +1,18 @@
 -- A primitive without arguments whose answer is its receiver pops and pushes one word at one place, which changes nothing. So 96
 -- leaves objects and registers as they are, but for its deed.
-use Rattle.std.proofs.Common.{◌≡◌, ℕ, zero, suc, List, [], ◌∷◌, length, Option, Some, None, Bool, true, false, refl, sym, ◌∙◌, ap, subst, arith}
-use Rattle.std.specs.Prelude.{◌+◌, ◌-◌, slice_get, slice_set, nat_lt, nat_le, Result, Ok, Err}
+use Rattle.std.proofs.Common.{◌≡◌, ℕ, zero, suc, List, [], ◌∷◌, length, Option, Some, None, Bool, true, false, refl, sym, ◌∙◌, ap, arith}
+use Rattle.std.specs.Prelude.{◌+◌, ◌-◌, slice_get, slice_set, nat_lt, nat_le}
 use Rattle.std.proofs.lemmas.Bool.Decides.{nat_tests}
 use Rattle.st_model.specs.declared.dead.Dead.{Dead}
 use Rattle.st_model.specs.declared.dead.Dead.TheVariants as dead
-use Rattle.st_model.specs.Values.{Value, Small, Ref}
+use Rattle.st_model.specs.Values.{Value, Ref}
 use Rattle.st_model.specs.Objects.{Object, is_pointers, with_field}
 use Rattle.st_model.specs.Machine.{ObjectMemory, State, Transition, Died, Went, Step, is_there, answer, die, after, ◌>>=◌, ◌>>◌}
 use Rattle.st_model.specs.Table.{Table, table, entry, changed, IsTabular}
 use Rattle.st_model.specs.Steps.{get_active, get_sp, set_sp, found, object_named, object, stored_at, store_at, set_field, check, or_die, fetch_field, store_field, count_fields, put, push, top, pop}
 use Rattle.st_model.specs.Primitives.{pop_words, answer_with}
-use Rattle.st_model.proofs.Tabular.{top-as, pop-as, push-as, read_copy-as, store_painted-as}
-use Rattle.st_model.proofs.Looking.{Looks, looking, object-looks, check-looks, then-went, next-went, passed, object-went}
+use Rattle.st_model.proofs.Tabular.{top-as, pop-as, push-as}
+use Rattle.st_model.proofs.Looking.{object-looks, check-looks, then-went, next-went, passed, object-went}
 
 changed-itself : (t : Table) (n : ℕ) (o : Object) → entry t n ≡ Some o → changed t n o ≡ t
 changed-itself [] n o e = refl

@@ -33,14 +33,14 @@ module _ {H K : Type 0} {M : ObjectMemory H} {N : ObjectMemory K} (sim : Simulat
   unfolding byte_or_die
   byte_or_die-same v w h = search (parts_same, bits_or_die-same) depth 24 fits 4000
 
-  large_value-same : (v w : Value) → ValueSame sim v w → SameAnswer sim (large_value M v) (large_value N w)
+  large_value-same : (most : ℕ) (v w : Value) → ValueSame sim v w → SameAnswer sim (large_value M most v) (large_value N most w)
   unfolding large_value
-  large_value-same v w h = search (parts_same, check_class-same, check_bytes-same) depth 32 fits 4000
+  large_value-same most v w h = search (parts_same, check_class-same, check_bytes-same) depth 32 fits 4000
 
-  pub positive_value-same : (v w : Value) → ValueSame sim v w → SameAnswer sim (positive_value M v) (positive_value N w)
+  pub positive_value-same : (most : ℕ) (v w : Value) → ValueSame sim v w → SameAnswer sim (positive_value M most v) (positive_value N most w)
   unfolding positive_value
-  positive_value-same (Small n) w h = rw h.is (positive_small-same sim (Small n) (Small n) (record { live = tt; is = refl }))
-  positive_value-same (Ref n) w h = rw h.is (large_value-same (Ref n) (Ref (sim.name n)) (record { live = h.live; is = refl }))
+  positive_value-same most (Small n) w h = rw h.is (positive_small-same sim (Small n) (Small n) (record { live = tt; is = refl }))
+  positive_value-same most (Ref n) w h = rw h.is (large_value-same most (Ref n) (Ref (sim.name n)) (record { live = h.live; is = refl }))
 
   specification-same : (v w : Value) → ValueSame sim v w → SameAnswer sim (specification M v) (specification N w)
   unfolding specification

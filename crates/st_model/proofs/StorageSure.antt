@@ -1,8 +1,6 @@
 -- The primitives on objects, of which one is done by its number, meet no name without an object.
 use Rattle.std.proofs.Common.{ℕ}
 use Rattle.st_model.specs.Objects.{Object}
-use Rattle.st_model.specs.Machine.{Step}
-use Rattle.st_model.specs.Births.{Births}
 use Rattle.st_model.specs.Storage.{storage}
 use Rattle.st_model.proofs.Present.{bare, full}
 use Rattle.st_model.proofs.PresentSteps.{SureAnswer, sures, taking-sure, primitive_at-sure, primitive_at_put-sure, primitive_size-sure, primitive_string_at-sure, primitive_string_at_put-sure, primitive_next-sure, primitive_next_put-sure, primitive_at_end-sure, primitive_object_at-sure, primitive_object_at_put-sure, primitive_new-sure, primitive_new_with-sure, primitive_become-sure, primitive_instance_variable_at-sure, primitive_instance_variable_at_put-sure, primitive_as_oop-sure, primitive_as_object-sure, primitive_some_instance-sure, primitive_next_instance-sure, primitive_new_method-sure, primitive_replace-sure, primitive_core_left-sure, primitive_oops_left-sure}

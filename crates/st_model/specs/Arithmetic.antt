@@ -7,8 +7,10 @@ use Rattle.st_model.specs.Values.{Value, small_integer}
 use Rattle.st_model.specs.Objects.{PointClass}
 use Rattle.st_model.specs.Machine.{ObjectMemory, Step, answer, ◌>>=◌, ◌>>◌}
 use Rattle.st_model.specs.Steps.{of_page, new_object, class_of, same_value, store_field, integer_or_die, or_die, top, under, look_at_words, drop_words}
-use Rattle.st_model.specs.Integers.{binary}
-use Rattle.st_model.specs.Primitives.{answer_with, primitive, truth}
+use Rattle.st_model.specs.declared.integers.LargeAnswer.{LargeAnswer}
+use Rattle.st_model.specs.declared.integers.LargeAnswer.TheVariants as wide
+use Rattle.st_model.specs.Integers.{binary, large, large_shift}
+use Rattle.st_model.specs.Primitives.{answer_with, primitive, truth, positive_value, number}
 
 -- a new Point of two integers
 unfoldable pub new_point : {H : Type 0} → ObjectMemory H → ℤ → ℤ → Step H Value
@@ -40,6 +42,37 @@ integer_answer m n = do
 -- 1 to 18
 unfoldable pub arithmetic : {H : Type 0} → ObjectMemory H → ℕ → Step H Bool
 arithmetic m n = primitive m 1 (integer_answer m n) (value_of_answer m)
+
+-- the integer from 0 up, of at most 16 bytes, k words below the top
+unfoldable pub large_under : {H : Type 0} → ObjectMemory H → ℕ → Step H ℕ
+large_under m k = do
+  v ← under m k
+  positive_value m 16 v
+
+-- receiver and argument are such integers, of which the primitive has an answer
+unfoldable pub large_answer : {H : Type 0} → ObjectMemory H → ℕ → Step H LargeAnswer
+large_answer m n = do
+  receiver ← large_under m 1
+  argument ← large_under m 0
+  or_die dead.NotSmall (large n receiver argument)
+
+unfoldable pub value_of_large : {H : Type 0} → ObjectMemory H → LargeAnswer → Step H Value
+value_of_large m (wide.Number n) = number m n
+value_of_large m (wide.Truth b) = truth m b
+
+-- 21 to 36
+unfoldable pub large_arithmetic : {H : Type 0} → ObjectMemory H → ℕ → Step H Bool
+large_arithmetic m n = primitive m 1 (large_answer m n) (value_of_large m)
+
+unfoldable pub shift_answer : {H : Type 0} → ObjectMemory H → Step H ℕ
+shift_answer m = do
+  receiver ← large_under m 1
+  by ← integer_under m 0
+  or_die dead.NotSmall (large_shift receiver by)
+
+-- 37
+unfoldable pub shift_large : {H : Type 0} → ObjectMemory H → Step H Bool
+shift_large m = primitive m 1 (shift_answer m) (number m)
 
 -- 176 to 186 are + - < > <= >= = ~= * / \\ and try 1 to 11; 187 to 191 are @ bitShift: // bitAnd: bitOr: and try 18 17 12 14
 -- 15. So for the last two, of k 14 and 15, the primitive has the number k.

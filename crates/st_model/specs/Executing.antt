@@ -12,7 +12,7 @@ use Rattle.st_model.specs.Contexts.{activate}
 use Rattle.st_model.specs.Lookup.{find}
 use Rattle.st_model.specs.Sends.{Call, not_understood}
 use Rattle.st_model.specs.Primitives.{answer_with, check_class}
-use Rattle.st_model.specs.Arithmetic.{arithmetic, equivalence, receiver_class, flush_cache}
+use Rattle.st_model.specs.Arithmetic.{arithmetic, large_arithmetic, shift_large, equivalence, receiver_class, flush_cache}
 use Rattle.st_model.specs.Storage.{primitive_say, storage, is_storage}
 use Rattle.st_model.specs.Blocks.{blocks, is_block}
 use Rattle.st_model.specs.Processes.{processes, is_process}
@@ -55,7 +55,7 @@ abbrev pub is_from : ℕ → ℕ → ℕ → Bool
 is_from first last n = nat_le first n && nat_le n last
 
 -- What the primitives do that ask for something. All numbers that no primitive has, always fail, and activate
--- the method as 0 does: among them 21 to 37, 40 to 54, 103 and 104, which the book has for floating-point and large numbers,
+-- the method as 0 does: among them 40 to 54, 103 and 104, which the book has for floating-point and large numbers,
 -- the scanning of characters and lines. So do 83 and 84 where they may perform no more.
 unfoldable pub respond_last : {H : Type 0} → ObjectMemory H → Call → Value → ℕ → Step H Outcome
 respond_last m call header primitive =
@@ -69,6 +69,8 @@ respond_last m call header primitive =
 unfoldable pub respond : {H : Type 0} → ObjectMemory H → Call → Value → ℕ → Step H Outcome
 respond m call header primitive =
     if is_from 1 18 primitive && call.arguments == 1 then or_activate m call header (arithmetic m primitive) else
+    if is_from 21 36 primitive && call.arguments == 1 then or_activate m call header (large_arithmetic m primitive) else
+    if primitive == 37 && call.arguments == 1 then or_activate m call header (shift_large m) else
     if primitive == 89 then goes_on (flush_cache m call.arguments) else
     if primitive == 110 && call.arguments == 1 then goes_on (equivalence m) else
     if primitive == 111 && call.arguments == 0 then goes_on (receiver_class m) else

@@ -220,8 +220,8 @@ pub record Low : Type 0 where
 unfoldable pub low_space : {H : Type 0} → ObjectMemory H → Value → Value → Value → Step H Low
 low_space m a b c = do
   check_fields m a 3
-  entries ← positive_value m b
-  words ← positive_value m c
+  entries ← positive_value m 4 b
+  words ← positive_value m 4 c
   answer (record { entries = entries; words = words })
 
 unfoldable pub set_low_space : {H : Type 0} → ObjectMemory H → Value → Low → Value → Step H Value

@@ -80,30 +80,30 @@ abbrev pub number_of_bytes : List ℕ → ℕ
 number_of_bytes [] = 0
 number_of_bytes (b ∷ bs) = b + 256 * number_of_bytes bs
 
--- the value of a LargePositiveInteger: an object of kind Bytes, with 1 to 4 of them
-unfoldable pub large_value : {H : Type 0} → ObjectMemory H → Value → Step H ℕ
-large_value m v = do
+-- the value of a LargePositiveInteger: an object of kind Bytes, with 1 of them and so many at most
+unfoldable pub large_value : {H : Type 0} → ObjectMemory H → ℕ → Value → Step H ℕ
+large_value m most v = do
   check_class m v LargeClass
   check_bytes m v
   n ← fetch_size m v
   check dead.Field (nat_le 1 n)
-  check dead.Field (nat_le n 4)
+  check dead.Field (nat_le n most)
   bytes ← fetch_bytes m v 0 n
   answer (number_of_bytes bytes)
 
--- the value of a SmallInteger of at least 0, or of a LargePositiveInteger
-unfoldable pub positive_value : {H : Type 0} → ObjectMemory H → Value → Step H ℕ
-positive_value m (Small n) = positive_small (Small n)
-positive_value m (Ref n) = large_value m (Ref n)
+-- the value of a SmallInteger of at least 0, or of a LargePositiveInteger with so many bytes at most
+unfoldable pub positive_value : {H : Type 0} → ObjectMemory H → ℕ → Value → Step H ℕ
+positive_value m most (Small n) = positive_small (Small n)
+positive_value m most (Ref n) = large_value m most (Ref n)
 
 -- the least bytes that have this value, the low one first, and so many at most
 abbrev pub bytes_within : ℕ → ℕ → List ℕ
 bytes_within zero k = []
 bytes_within (suc left) k = if nat_lt k 256 then k ∷ [] else k % 256 ∷ bytes_within left (k / 256)
 
--- of a number below 2^32
+-- of a number below 2^128
 abbrev pub bytes_of_number : ℕ → List ℕ
-bytes_of_number k = bytes_within 4 k
+bytes_of_number k = bytes_within 16 k
 
 -- a new LargePositiveInteger of these bytes
 unfoldable pub new_large : {H : Type 0} → ObjectMemory H → List ℕ → Step H Value

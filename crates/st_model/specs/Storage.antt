@@ -81,7 +81,7 @@ fetch_element m v i = do
 -- a number that fits a word
 unfoldable pub word_of_value : {H : Type 0} → ObjectMemory H → Value → Step H ℕ
 word_of_value m x = do
-  n ← positive_value m x
+  n ← positive_value m 4 x
   check dead.Field (nat_lt n 65536)
   answer n
 
@@ -443,7 +443,7 @@ indexed_shape m r a = do
   s ← specification m r
   check_not_method_class m r
   check dead.Kind (is_indexable s)
-  n ← positive_value m a
+  n ← positive_value m 4 a
   checked_shape (kind_of_indexed s) (n + fixed_count s)
 
 -- 71: a new instance of the class r with its fixed fields and a indexed ones

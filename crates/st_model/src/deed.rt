@@ -26,7 +26,7 @@ pub enum Deed {
     /// place 0 on.
     StoreNumber {
         object: Word,
-        number: u32,
+        number: u128,
     },
     /// `count` bytes of an object from place `to` on, counted from 0, become those of another from place `from` on, as they
     /// were before; fewer where that one has fewer.

@@ -133,4 +133,13 @@ module _ (m : ObjectMemory Table) where
     pub word-died : (c : Dead) (s : State Table) → (number m j).run s ≡ Died c → (take_word m k).run s ≡ Died c
     word-died c s h = subst (λ (x : ℕ). (take_word m x).run s ≡ Died c) same (word_died j c s h)
 
+-- the same where the number is widened
+module _ (m : ObjectMemory Table) (k i j : ℕ) (wide : j ≡ i) (same : i ≡ k) where
+  pub wide-left : (o : Word) (d : Deed) (s t : State Table) → t.world ≡ s.world → d ≡ deed.StoreNumber o j → (number m j).run s ≡ Went (word o) (with_deed d t)
+      → (take_word m k).run s ≡ Went (word o) (with_deed (deed.TakeWord o i) t)
+  wide-left o d s t e f h = word-left m k i same o d s t e (f ∙ ap (deed.StoreNumber o) wide) (subst (λ (x : ℕ). (number m x).run s ≡ Went (word o) (with_deed d t)) wide h)
+
+  pub wide-died : (c : Dead) (s : State Table) → (number m j).run s ≡ Died c → (take_word m k).run s ≡ Died c
+  wide-died c s h = word-died m k i same c s (subst (λ (x : ℕ). (number m x).run s ≡ Died c) wide h)
+
 pub ruleset words = (word-left, word-died)

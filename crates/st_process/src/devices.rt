@@ -119,7 +119,7 @@ fn take_word<O: Objects>(m: &mut O, r: &Registers, oldest: u16) -> Result<Answer
     ensures plain { IfOk result (λ a. copies_pixels a.deed ≡ false) }
 {
     let n = u32::from(oldest);
-    let answer = number(m, r, n)?;
+    let answer = number(m, r, u128::from(n))?;
     let word = answer.word;
     let deed = Deed::TakeWord {
         object: word,

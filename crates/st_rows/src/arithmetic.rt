@@ -42,7 +42,7 @@ pub fn arithmetic_number(k: u32) -> u32
 
 /// The integer of the SmallInteger k words below the top.
 #[tactic(auto, using(crate::proofs::Tries::integers), unfolding(st_model::specs::Arithmetic::integer_under))]
-fn integer_under<O: Objects>(m: &O, r: &Registers, k: u32) -> Result<i16, Dead>
+pub fn integer_under<O: Objects>(m: &O, r: &Registers, k: u32) -> Result<i16, Dead>
     requires few { k < 32768 }
     ensures does { RowReads O.Objects.own (integer_under O.names k) itself m.now r.now result }
     ensures small { IfOk result IsSmall }

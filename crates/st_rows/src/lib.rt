@@ -7,6 +7,7 @@ mod jump;
 mod operands;
 mod receivers;
 mod stack;
+mod wide;
 
 pub use arithmetic::{answer_integers, answer_pair, arithmetic_number, integer_answer, word_of};
 pub use jump::{long_unconditional_jump, short_unconditional_jump};
@@ -16,3 +17,4 @@ pub use stack::{
     duplicate_top, extended_push, extended_store, extended_store_and_pop, pop_stack,
     push_active_context, push_constant, push_operand, push_receiver, store_and_pop,
 };
+pub use wide::{large_arithmetic, shift_large};

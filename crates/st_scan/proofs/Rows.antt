@@ -72,17 +72,17 @@ abbrev fault_at : ℕ → Cause → Fault
 fault_at place cause = record { place = place; cause = cause }
 
 -- one above the greatest number, behind a ^
-too_large : HasFault (codes "^4294967296") 2 4
+too_large : HasFault (codes "^340282366920938463463374607431768211456") 2 4
 too_large = (
   token sorts.Mark 0 1 ∷ [],
   fault_at 2 causes.Number,
   record {
     pieces = mark (codes "^") ∷ [];
-    rest = codes "4294967296";
+    rest = codes "340282366920938463463374607431768211456";
     parts = refl;
     stand = ((refl, refl), tt);
     are_tokens = refl;
-    ends = (refl, (decimal (codes "4294967296"), [], record { minus = false; parts = refl; stands = (refl, refl, λ e. absurd cc) }, refl));
+    ends = (refl, (decimal (codes "340282366920938463463374607431768211456"), [], record { minus = false; parts = refl; stands = (refl, refl, λ e. absurd cc) }, refl));
   },
   refl,
   refl,

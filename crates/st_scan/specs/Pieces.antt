@@ -107,7 +107,7 @@ size (radix rs ds) = digits_value (digits_value 10 rs) ds
 
 -- the greatest size of a number
 abbrev pub greatest : ℕ
-greatest = 4294967295
+greatest = 340282366920938463463374607431768211455
 
 -- digits below a base, and at most the greatest size
 abbrev pub fits : ℕ → List ℕ → Bool

@@ -14,7 +14,7 @@ use crate::front::Front;
 use st_tree::{Cause, Signed, Sort};
 
 /// The greatest size of a number.
-const LIMIT: u128 = 4_294_967_295;
+const LIMIT: u128 = u128::MAX;
 
 /// The digits of a number: decimal ones, or a radix and those behind its `r`.
 #[derive(Clone, Copy)]

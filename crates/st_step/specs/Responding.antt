@@ -1,5 +1,5 @@
 -- Parts of how a method responds by its primitive, and of how it is executed.
-use Rattle.std.specs.Prelude.{ℕ, ◌==◌, if◌then◌else◌}
+use Rattle.std.specs.Prelude.{ℕ, ◌==◌, ◌&&◌, if◌then◌else◌}
 use Rattle.st_model.specs.Values.{Value}
 use Rattle.st_model.specs.Machine.{ObjectMemory, Step, answer, ◌>>=◌, ◌>>◌}
 use Rattle.st_model.specs.Steps.{top}
@@ -9,6 +9,7 @@ use Rattle.st_model.specs.Contexts.{activate}
 use Rattle.st_model.specs.Methods.{temporary_count}
 use Rattle.st_model.specs.Sends.{Call}
 use Rattle.st_model.specs.Primitives.{answer_with}
+use Rattle.st_model.specs.Arithmetic.{equivalence, receiver_class, flush_cache}
 use Rattle.st_model.specs.Storage.{storage, is_storage}
 use Rattle.st_model.specs.Blocks.{blocks, is_block}
 use Rattle.st_model.specs.Processes.{processes, is_process}
@@ -29,6 +30,13 @@ on_objects m call header primitive =
     if is_block primitive then or_activate m call header (blocks m primitive call.arguments) else
     if is_process primitive then or_activate m call header (processes m primitive call.arguments) else
     if is_input primitive then or_activate m call header (input m primitive call.arguments) else respond_last m call header primitive
+
+-- what a method does whose primitive is none on numbers
+unfoldable pub behind_numbers : {H : Type 0} → ObjectMemory H → Call → Value → ℕ → Step H Outcome
+behind_numbers m call header primitive =
+    if primitive == 89 then goes_on (flush_cache m call.arguments) else
+    if primitive == 110 && call.arguments == 1 then goes_on (equivalence m) else
+    if primitive == 111 && call.arguments == 0 then goes_on (receiver_class m) else on_objects m call header primitive
 
 -- what a method does that has no header extension
 unfoldable pub by_flag : {H : Type 0} → ObjectMemory H → Call → Value → ℕ → Step H Outcome

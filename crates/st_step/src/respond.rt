@@ -5,13 +5,13 @@ ghost use Rattle.st_model.specs.Outcomes.{end_of};
 ghost use Rattle.st_model.specs.Deeds.{deed_of_end};
 ghost use Rattle.st_model.specs.Sends.{call_of};
 ghost use Rattle.st_model.specs.Executing.{goes_on, is_from, or_activate, say_or_activate, respond_last, respond};
-ghost use Rattle.st_model.specs.Arithmetic.{arithmetic};
+ghost use Rattle.st_model.specs.Arithmetic.{arithmetic, large_arithmetic, shift_large};
 ghost use Rattle.st_model.specs.Storage.{is_storage, storage};
 ghost use Rattle.st_model.specs.Blocks.{is_block, blocks};
 ghost use Rattle.st_model.specs.Processes.{is_process, processes};
 ghost use Rattle.st_model.specs.Input.{is_input, input};
 ghost use Rattle.st_model.specs.Contexts.{activate};
-ghost use Rattle.st_step.specs.Responding.{asks_for, on_objects};
+ghost use Rattle.st_step.specs.Responding.{asks_for, on_objects, behind_numbers};
 ghost use Rattle.st_frames.specs.Rows.{RowLeaves, RowDoes, Takes, activation_changes, response_changes};
 
 use st_control::{activate, try_blocks};
@@ -20,7 +20,10 @@ use st_memory::Objects;
 use st_method::Header;
 use st_model::{Call, Dead, Deed, StepEnd, Tried};
 use st_process::{try_input, try_process};
-use st_rows::{answer_integers, equivalence, flush_cache, integer_answer, receiver_class};
+use st_rows::{
+    answer_integers, equivalence, flush_cache, integer_answer, large_arithmetic, receiver_class,
+    shift_large,
+};
 use st_storage::{primitive_say, try_storage};
 
 /// Whether a primitive is one of 1 to 18, with the one argument of these.
@@ -28,6 +31,13 @@ fn is_arithmetic(primitive: u32, arguments: u32) -> bool
     ensures { result ≡ (is_from 1 18 primitive && arguments == 1) }
 {
     1 <= primitive && primitive <= 18 && arguments == 1
+}
+
+/// Whether a primitive is one of 21 to 36, with the one argument of these.
+fn is_large(primitive: u32, arguments: u32) -> bool
+    ensures { result ≡ (is_from 21 36 primitive && arguments == 1) }
+{
+    21 <= primitive && primitive <= 36 && arguments == 1
 }
 
 /// Whether a primitive is one of those on objects.
@@ -106,6 +116,49 @@ fn arithmetic_or_activate<O: Objects>(
             Ok(StepEnd::Went(Deed::Nothing))
         }
         Err(_) => activated(m, r, call, header),
+    }
+}
+
+/// Does a primitive on two integers from 0 up, or activates the method where it fails.
+#[tactic(auto, using(st_frames::proofs::Doing::rows), unfolding(st_model::specs::Executing::or_activate, st_model::specs::Executing::goes_on))]
+fn large_or_activate<O: Objects>(
+    m: &mut O,
+    r: &mut Registers,
+    call: Call,
+    header: Header,
+    primitive: u32,
+) -> Result<StepEnd, Dead>
+    requires first { 21 ≤ primitive }
+    requires last { primitive ≤ 36 }
+    requires room { response_changes ≤ O.room m.old }
+    ensures does { RowLeaves O.Objects.own
+        (or_activate O.names (call_of call) (word header.0) (large_arithmetic O.names primitive))
+        end_of deed_of_end m.old r.old result m.new r.new }
+    ensures takes { Takes O.Objects.own response_changes m.old m.new }
+{
+    match large_arithmetic(m, r, primitive)? {
+        Tried::Done(deed) => Ok(StepEnd::Went(deed)),
+        Tried::Failed => activated(m, r, call, header),
+    }
+}
+
+/// Shifts an integer from 0 up, or activates the method where that fails.
+#[tactic(auto, using(st_frames::proofs::Doing::rows), unfolding(st_model::specs::Executing::or_activate, st_model::specs::Executing::goes_on))]
+fn shift_or_activate<O: Objects>(
+    m: &mut O,
+    r: &mut Registers,
+    call: Call,
+    header: Header,
+) -> Result<StepEnd, Dead>
+    requires room { response_changes ≤ O.room m.old }
+    ensures does { RowLeaves O.Objects.own
+        (or_activate O.names (call_of call) (word header.0) (shift_large O.names))
+        end_of deed_of_end m.old r.old result m.new r.new }
+    ensures takes { Takes O.Objects.own response_changes m.old m.new }
+{
+    match shift_large(m, r)? {
+        Tried::Done(deed) => Ok(StepEnd::Went(deed)),
+        Tried::Failed => activated(m, r, call, header),
     }
 }
 
@@ -287,8 +340,38 @@ fn respond_on_objects<O: Objects>(
     respond_last(m, r, call, header, primitive)
 }
 
+/// Does a primitive that isn't one on numbers, or activates the method.
+#[tactic(auto, using(st_frames::proofs::Doing::rows), unfolding(st_model::specs::Executing::goes_on, crate::specs::Responding::behind_numbers))]
+fn respond_behind_numbers<O: Objects>(
+    m: &mut O,
+    r: &mut Registers,
+    call: Call,
+    header: Header,
+    primitive: u32,
+) -> Result<StepEnd, Dead>
+    requires room { response_changes ≤ O.room m.old }
+    ensures does { RowLeaves O.Objects.own
+        (behind_numbers O.names (call_of call) (word header.0) primitive)
+        end_of deed_of_end m.old r.old result m.new r.new }
+    ensures takes { Takes O.Objects.own response_changes m.old m.new }
+{
+    if primitive == 89 {
+        flush_cache(m, r, call.arguments)?;
+        return Ok(StepEnd::Went(Deed::Nothing));
+    }
+    if is_with(primitive, 110, call.arguments, 1) {
+        equivalence(m, r)?;
+        return Ok(StepEnd::Went(Deed::Nothing));
+    }
+    if is_with(primitive, 111, call.arguments, 0) {
+        receiver_class(m, r)?;
+        return Ok(StepEnd::Went(Deed::Nothing));
+    }
+    respond_on_objects(m, r, call, header, primitive)
+}
+
 /// Does the method's primitive, or activates the method where it has none or it fails. 83 and 84 fail.
-#[tactic(auto, using(st_frames::proofs::Doing::rows), unfolding(st_model::specs::Executing::respond, st_model::specs::Executing::goes_on, crate::specs::Responding::on_objects))]
+#[tactic(auto, using(st_frames::proofs::Doing::rows), unfolding(st_model::specs::Executing::respond, crate::specs::Responding::behind_numbers, crate::specs::Responding::on_objects))]
 pub fn respond<O: Objects>(
     m: &mut O,
     r: &mut Registers,
@@ -305,17 +388,11 @@ pub fn respond<O: Objects>(
     if is_arithmetic(primitive, call.arguments) {
         return arithmetic_or_activate(m, r, call, header, primitive);
     }
-    if primitive == 89 {
-        flush_cache(m, r, call.arguments)?;
-        return Ok(StepEnd::Went(Deed::Nothing));
+    if is_large(primitive, call.arguments) {
+        return large_or_activate(m, r, call, header, primitive);
     }
-    if is_with(primitive, 110, call.arguments, 1) {
-        equivalence(m, r)?;
-        return Ok(StepEnd::Went(Deed::Nothing));
+    if is_with(primitive, 37, call.arguments, 1) {
+        return shift_or_activate(m, r, call, header);
     }
-    if is_with(primitive, 111, call.arguments, 0) {
-        receiver_class(m, r)?;
-        return Ok(StepEnd::Went(Deed::Nothing));
-    }
-    respond_on_objects(m, r, call, header, primitive)
+    respond_behind_numbers(m, r, call, header, primitive)
 }

@@ -33,7 +33,7 @@ pub fn fetch_element<O: Objects>(
         }
         Kind::Words => {
             let found = m.fetch_word(v, place)?;
-            number(m, r, u32::from(found))
+            number(m, r, u128::from(found))
         }
         Kind::Bytes | Kind::Method => {
             let byte = m.fetch_byte(v, place)?;

@@ -25,7 +25,7 @@ fn number_of<O: Objects>(m: &mut O, r: &Registers, n: i32) -> Result<Answer, Dea
             deed: Deed::Nothing,
         })
     } else {
-        number(m, r, n as u32)
+        number(m, r, u128::from(n as u32))
     }
 }
 
@@ -37,7 +37,7 @@ pub fn answer_number<O: Objects>(m: &mut O, r: &mut Registers, n: u32) -> Result
         is_done deed_of_trial m.old r.old result m.new r.new }
     ensures takes { Takes O.Objects.own 2 m.old m.new }
 {
-    let answer = number(m, r, n)?;
+    let answer = number(m, r, u128::from(n))?;
     succeed_leaving(m, r, 0, answer)
 }
 

@@ -16,7 +16,7 @@ loop-place-preserved g c =
     let v = word c.args.object in
     let e : k + 1 ≡ suc k = omega arith in
     record {
-      objects = ap (λ n. changed_by (bytes_stored n (bytes_within (4 - n) (c.loop-place.left / 256))) (g.M.Memory.view c.store_byte-in-loop-place.new.m).objects v) e
+      objects = ap (λ n. changed_by (bytes_stored n (bytes_within (16 - n) (c.loop-place.left / 256))) (g.M.Memory.view c.store_byte-in-loop-place.new.m).objects v) e
           ∙ next_byte (g.M.Memory.view c.loop-place.m).objects (g.M.Memory.view c.store_byte-in-loop-place.new.m).objects v k c.loop-place.left c.loop-place-test.true c.if-left-lt256.false c.store_byte-in-loop-place.ensures.objects
           ∙ c.loop-place.invariant.objects;
       held = c.store_byte-in-loop-place.ensures.held ∙ c.loop-place.invariant.held;
@@ -28,5 +28,5 @@ returns-clause-objects g c =
     let t = (g.M.Memory.view c.loop-place.m).objects in
     let v = word c.args.object in
     let l = c.loop-place-test.false in
-    let none : 4 - c.loop-place.place ≡ 0 = omega (arith, l) in
+    let none : 16 - c.loop-place.place ≡ 0 = omega (arith, l) in
     no_byte t v c.loop-place.place ∙ ap (λ n. changed_by (bytes_stored c.loop-place.place (bytes_within n c.loop-place.left)) t v) (sym none) ∙ c.loop-place.invariant.objects

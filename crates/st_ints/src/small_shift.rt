@@ -48,7 +48,7 @@ fn shift_down(a: i16, b: i16) -> Option<IntAnswer>
 }
 
 /// a times 2 to the power b, toward minus infinity (primitive 17).
-pub fn shift(a: i16, b: i16) -> Option<IntAnswer>
+pub fn small_shift(a: i16, b: i16) -> Option<IntAnswer>
     requires number { unsigned_abs a ≤ 16384 }
     requires most { negsuc 16383 ≤ℤ b }
     ensures answer { result ≡ within_range (shifted a b) }

@@ -1,0 +1,8 @@
+use Rattle.st_rows.proofs.WideTries.{large-done}
+use Rattle.st_rows.proofs.wide.large_arithmetic.Goals as goal
+
+pub returns-in-Ok-clause-does : goal.returns-in-Ok-clause-does
+returns-in-Ok-clause-does g c = record {
+  does = large-done _ _ _ _ _ c.in-Ok.ensures.does c.answer_large.ensures.does.does;
+  world = c.answer_large.ensures.does.world;
+}
