@@ -19,10 +19,14 @@ ghost use Rattle.st_call.specs.Words.{command_of, Once, Import, Export, Session,
 use st_call::{Command, read_command, refuse};
 use st_counted::CountedLoader;
 use st_course::Status;
+use st_lookup::CachedLoader;
 use st_outside::{Host, Source};
 use st_session::{build, export, import, once, session};
 use std::alloc::Global;
 use std::process::ExitCode;
+
+/// Makes the memory that all commands run over: the program's, which also remembers what searches for methods found.
+type ProgramLoader = CachedLoader<CountedLoader>;
 
 /// Does the command that the words say, without the program's name.
 ///
@@ -67,19 +71,19 @@ pub fn tool<H: Host, S: Source>(
 {
     match read_command(words) {
         Some(Command::Once { image, cycles }) => {
-            once::<H, CountedLoader>(alloc, host, image, cycles)
+            once::<H, ProgramLoader>(alloc, host, image, cycles)
         }
         Some(Command::Import { image, store, over }) => {
-            import::<H, CountedLoader>(alloc, host, image, store, &over)
+            import::<H, ProgramLoader>(alloc, host, image, store, &over)
         }
         Some(Command::Export { store, image }) => {
-            export::<H, CountedLoader>(alloc, host, store, image)
+            export::<H, ProgramLoader>(alloc, host, store, image)
         }
         Some(Command::Session { store }) => {
-            session::<H, CountedLoader, S>(alloc, host, script, store)
+            session::<H, ProgramLoader, S>(alloc, host, script, store)
         }
         Some(Command::Build { kernel, store }) => {
-            build::<H, CountedLoader>(alloc, host, kernel, store)
+            build::<H, ProgramLoader>(alloc, host, kernel, store)
         }
         None => {
             refuse(host, Status::Usage);

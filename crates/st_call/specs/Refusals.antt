@@ -1,8 +1,9 @@
 -- Why a file, an image or a store isn't there for a call, and the status in which the call ends then.
-use Rattle.std.specs.Prelude.{ℕ, ◌<◌, ◌≤◌, ◌^◌, List, length, ⊤}
+use Rattle.std.specs.Prelude.{ℕ, ◌<◌, ◌≤◌, List, length, ⊤}
 use Rattle.st_outside.specs.Counts.{Rose}
 use Rattle.st_outside.specs.declared.host.Host.{Ghosts}
 use Rattle.st_model.specs.declared.fault.ImageFault.{ImageFault}
+use Rattle.st_model.specs.Limits.{longest_image}
 use Rattle.st_model.specs.Faults.{IsWellFormed, IsImageFault}
 use Rattle.st_image.specs.declared.head.HeadValues.{HeadValues}
 use Rattle.st_image.specs.HeadValues.{head_over}
@@ -46,27 +47,27 @@ store_status store.OutOfMemory = OutOfMemory
 
 -- WHAT IS SO OF THE BYTES
 
--- what a refusal says of a file's bytes
-abbrev pub IsFileRefusal : List ℕ → FileRefusal → Type 0
-IsFileRefusal bytes file.TooLarge = 2 ^ 23 < length bytes
-IsFileRefusal bytes file.DiskFault = ⊤
-IsFileRefusal bytes file.OutOfMemory = ⊤
+-- what a refusal says of the bytes of a file that may have so many
+abbrev pub IsFileRefusal : ℕ → List ℕ → FileRefusal → Type 0
+IsFileRefusal longest bytes file.TooLarge = longest < length bytes
+IsFileRefusal longest bytes file.DiskFault = ⊤
+IsFileRefusal longest bytes file.OutOfMemory = ⊤
 
 -- what a refusal says of the image's bytes, where this says which fault they have
 abbrev pub IsImageRefusal : (List ℕ → ImageFault → Type 0) → List ℕ → ImageRefusal → Type 0
 IsImageRefusal faulty bytes (refusal.Image f) = faulty bytes f
-IsImageRefusal faulty bytes refusal.TooLarge = 2 ^ 23 < length bytes
+IsImageRefusal faulty bytes refusal.TooLarge = longest_image < length bytes
 IsImageRefusal faulty bytes refusal.DiskFault = ⊤
 IsImageRefusal faulty bytes refusal.OutOfMemory = ⊤
 
--- An image that is read with these values in place of those of its head: it has at most 2^23 bytes, and is well-formed with them.
+-- An image that is read with these values in place of those of its head: it has at most 2^27 bytes, and is well-formed with them.
 pub record IsReadableOver (over : HeadValues) (image : List ℕ) : Type 0 where
-  pub short : length image ≤ 2 ^ 23
+  pub short : length image ≤ longest_image
   pub formed : IsWellFormed (head_over over image) image
 
 -- one that is refused for the fault that it has with them
 pub record IsFaultyOver (over : HeadValues) (image : List ℕ) (f : ImageFault) : Type 0 where
-  pub short : length image ≤ 2 ^ 23
+  pub short : length image ≤ longest_image
   pub fault : IsImageFault (head_over over image) image f
 
 -- CAUSES

@@ -1,6 +1,6 @@
 //! The reading of a whole file, as the commands read an image and a kernel text.
 
-ghost use Rattle.std.specs.Prelude.{◌≡◌, ◌≤◌, ◌^◌, length, IsTrue, IfOk, IfErr, OnOk};
+ghost use Rattle.std.specs.Prelude.{◌≡◌, ◌≤◌, length, IsTrue, IfOk, IfErr, OnOk};
 ghost use Rattle.st_outside.specs.Files.{bytes_of};
 ghost use Rattle.st_outside.specs.Runs.{OnlyReads, ReadsAlike};
 ghost use Rattle.st_call.specs.Refusals.{file_status, IsFileRefusal, FileHasCause};
@@ -9,13 +9,10 @@ use st_course::Status;
 use st_outside::{Host, HostFault, file_length, read_from};
 use std::alloc::{AllocError, Global};
 
-/// The most bytes that such a file may have, 2^23.
-const LONGEST_FILE: u64 = 8_388_608;
-
 /// Why a file isn't read.
 #[derive(Clone, Copy, Debug, PartialEq, Eq)]
 pub enum FileRefusal {
-    /// It has more than 2^23 bytes.
+    /// It has more bytes than such a file may have.
     TooLarge,
     /// The host failed at it.
     DiskFault,
@@ -58,19 +55,24 @@ impl From<AllocError> for FileRefusal {
     }
 }
 
-/// The bytes of a file of at most 2^23. An absent one is read as an empty one. No file is changed.
-pub fn read_file<H: Host>(alloc: Global, host: &mut H, name: &str) -> Result<Vec<u8>, FileRefusal>
+/// The bytes of a file of at most so many. An absent one is read as an empty one. No file is changed.
+pub fn read_file<H: Host>(
+    alloc: Global,
+    host: &mut H,
+    name: &str,
+    longest: u64,
+) -> Result<Vec<u8>, FileRefusal>
     ensures bytes { IfOk result (λ v. IsTrue H.is_told →
         v.items ≡ bytes_of (H.files host.old name.now)) }
-    ensures short { IfOk result (λ v. length v.items ≤ 2 ^ 23) }
+    ensures short { IfOk result (λ v. length v.items ≤ longest) }
     ensures refused { IfErr result (λ e. IsTrue H.is_told →
-        IsFileRefusal (bytes_of (H.files host.old name.now)) e) }
+        IsFileRefusal longest (bytes_of (H.files host.old name.now)) e) }
     ensures alike { OnOk result (ReadsAlike H.Host.own host.old host.new) }
     ensures cause { IfErr result (FileHasCause H.Host.own host.old host.new) }
     ensures reads { OnlyReads H.Host.own host.old host.new }
 {
     let length = file_length(host, name)?.unwrap_or(0);
-    if length > LONGEST_FILE {
+    if length > longest {
         return Err(FileRefusal::TooLarge);
     }
     let mut bytes = vec![in alloc; 0; length as usize]?;

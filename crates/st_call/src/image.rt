@@ -13,11 +13,12 @@ use crate::image_refusal::ImageRefusal;
 use st_frames::Loaded;
 use st_image::{HeadValues, ReadImage, read};
 use st_memory::Loader;
+use st_model::LONGEST_IMAGE;
 use st_outside::Host;
 use std::alloc::Global;
 
 /// The memory and registers of the image in a file, read with these values in place of those of its head, where that has at most
-/// 2^23 bytes and is well-formed with them. Nothing is held but by the registers. No file is changed.
+/// 2^27 bytes and is well-formed with them. Nothing is held but by the registers. No file is changed.
 pub fn read_image<H: Host, L: Loader>(
     alloc: Global,
     host: &mut H,
@@ -38,7 +39,7 @@ pub fn read_image<H: Host, L: Loader>(
     ensures cause { IfErr result (RefusalHasCause H.Host.own host.old host.new) }
     ensures reads { OnlyReads H.Host.own host.old host.new }
 {
-    let bytes = read_file(alloc, host, name)?;
+    let bytes = read_file(alloc, host, name, LONGEST_IMAGE)?;
     match read::<L>(alloc, &bytes, over) {
         Ok(loaded) => Ok(loaded),
         Err(ReadImage::Fault(fault)) => Err(ImageRefusal::Image(fault)),

@@ -11,7 +11,7 @@ use std::alloc::AllocError;
 pub enum ImageRefusal {
     /// The image has this fault.
     Image(ImageFault),
-    /// The image has more than 2^23 bytes.
+    /// The image has more than 2^27 bytes.
     TooLarge,
     /// The host failed at a file.
     DiskFault,

@@ -12,6 +12,7 @@ use Rattle.st_model.specs.Steps.{get_active, get_home, get_free, of_page, same_v
 use Rattle.st_model.specs.Methods.{temporary_count, context_size}
 use Rattle.st_model.specs.Contexts.{new_context, pass_words, switch}
 use Rattle.st_model.specs.Returns.{return_into}
+use Rattle.st_memory.specs.declared.objects.Objects.{Ghosts}
 
 -- it was done at once
 unfoldable pub at_once : {H : Type 0} → Step H Unit → Step H Bool
@@ -71,6 +72,10 @@ activate_at_once m method header n = do
   space ← context_space m
   if space then at_once (enter_context m method header n) else answer false
 
+-- objects, head and what is fixed are as they were
+abbrev pub AreStill : {M : Type 0} → Ghosts M → M → M → Type 0
+AreStill o old new = (o.table new ≡ o.table old) × (o.head new ≡ o.head old) × (o.fixed new ≡ o.fixed old)
+
 -- where it isn't done at once, the objects are as they were
-abbrev pub IsStill : {M : Type 0} → M → Result Bool Dead → M → Type 0
-IsStill old result new = IfOk result (λ (done : Bool). done ≡ false → new ≡ old)
+abbrev pub IsStill : {M : Type 0} → Ghosts M → M → Result Bool Dead → M → Type 0
+IsStill o old result new = IfOk result (λ (done : Bool). done ≡ false → AreStill o old new)

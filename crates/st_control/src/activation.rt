@@ -106,7 +106,7 @@ pub fn activate_at_once<O: Objects>(
     ensures does { RowDoes O.Objects.own (activate_at_once O.names (word method) (word header.0) n)
         itself m.old r.old result m.new r.new }
     ensures takes { Takes O.Objects.own activation_changes m.old m.new }
-    ensures still { IsStill m.old result m.new }
+    ensures still { IsStill O.Objects.own m.old result m.new }
 {
     look_at_words(m, r, n)?;
     let size = header.context_size();

@@ -56,7 +56,7 @@ fn return_to_context_at_once<O: Objects>(
         (return_to_context_at_once O.names (word context) (word answer) (word nil))
         itself m.old r.old result m.new r.new }
     ensures takes { Takes O.Objects.own 3 m.old m.new }
-    ensures still { IsStill m.old result m.new }
+    ensures still { IsStill O.Objects.own m.old result m.new }
 {
     let ip = m.fetch_field(context, 1)?;
     if ip.same(nil) {
@@ -78,7 +78,7 @@ fn return_at_once<O: Objects>(
     ensures does { RowDoes O.Objects.own (return_at_once O.names (word context) (word answer))
         itself m.old r.old result m.new r.new }
     ensures takes { Takes O.Objects.own 3 m.old m.new }
-    ensures still { IsStill m.old result m.new }
+    ensures still { IsStill O.Objects.own m.old result m.new }
 {
     let nil = page(m, PageObject::NilObject);
     if context.same(nil) {
@@ -98,7 +98,7 @@ pub fn return_to_sender_at_once<O: Objects>(
     ensures does { RowDoes O.Objects.own (return_to_sender_at_once O.names (word answer))
         itself m.old r.old result m.new r.new }
     ensures takes { Takes O.Objects.own 3 m.old m.new }
-    ensures still { IsStill m.old result m.new }
+    ensures still { IsStill O.Objects.own m.old result m.new }
 {
     let sender = m.fetch_field(r.home, 0)?;
     return_at_once(m, r, sender, answer)
@@ -115,7 +115,7 @@ pub fn return_to_caller_at_once<O: Objects>(
     ensures does { RowDoes O.Objects.own (return_to_caller_at_once O.names (word answer))
         itself m.old r.old result m.new r.new }
     ensures takes { Takes O.Objects.own 3 m.old m.new }
-    ensures still { IsStill m.old result m.new }
+    ensures still { IsStill O.Objects.own m.old result m.new }
 {
     let caller = m.fetch_field(r.active, 0)?;
     return_at_once(m, r, caller, answer)

@@ -5,6 +5,7 @@
 mod activation;
 mod at_once;
 mod blocks;
+mod finding;
 mod jumps;
 mod messages;
 mod passing;
@@ -22,3 +23,5 @@ pub use primitive::method_primitive;
 pub use returns::{return_to_caller, return_to_sender};
 pub use sends::{not_understood, send, send_to_super, special_send};
 pub use values::{primitive_value, value_at_once};
+
+pub use finding::find_method;

@@ -5,9 +5,9 @@ ghost use Rattle.st_model.specs.Calls.{itself};
 ghost use Rattle.st_lookup.specs.Places.{found_word};
 ghost use Rattle.st_frames.specs.Rows.{RowReads, RowMoves, RowDoes, Takes, activation_changes, send_changes, jump_changes, return_changes};
 
+use crate::finding::find_method;
 use crate::messages::replace_by_message;
 use st_frames::{Registers, fetch_integer, page, under};
-use st_lookup::look_up;
 use st_memory::Objects;
 use st_model::{Call, Dead, PageObject, Word};
 
@@ -54,7 +54,7 @@ pub fn not_understood<O: Objects>(
     ensures takes { Takes O.Objects.own send_changes m.old m.new }
 {
     let understand = page(m, PageObject::NotUnderstood);
-    let method = look_up(m, class, understand)?;
+    let method = find_method(m, r, class, understand)?;
     call_not_understood(m, r, selector, n, method)
 }
 
@@ -99,7 +99,7 @@ fn send_from<O: Objects>(
         call_of m.old r.old result m.new r.new }
     ensures takes { Takes O.Objects.own send_changes m.old m.new }
 {
-    let method = look_up(m, class, selector)?;
+    let method = find_method(m, r, class, selector)?;
     call_found(m, r, class, selector, n, method)
 }
 

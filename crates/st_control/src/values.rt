@@ -109,7 +109,7 @@ pub fn value_at_once<O: Objects>(m: &mut O, r: &mut Registers, n: u32) -> Result
     requires room { 6 ≤ O.room m.old }
     ensures does { RowDoes O.Objects.own (primitive_value O.names n) itself m.old r.old result m.new r.new }
     ensures takes { Takes O.Objects.own 6 m.old m.new }
-    ensures still { IsStill m.old result m.new }
+    ensures still { IsStill O.Objects.own m.old result m.new }
 {
     let block = under(m, r, n)?;
     match start_of(m, r, block, n) {

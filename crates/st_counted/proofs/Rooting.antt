@@ -3,6 +3,7 @@ use Rattle.std.proofs.Common.{◌≡◌, ℕ, suc, ◌+◌, ◌/◌, ◌<◌, �
 use Rattle.std.specs.Prelude.{◌==◌, Option, Some, None, if◌then◌else◌}
 use Rattle.std.proofs.lemmas.List.{set-get_or}
 use Rattle.std.proofs.lemmas.Option.{slice_get-get_or}
+use Rattle.st_model.specs.Limits.{most_words}
 use Rattle.st_model.specs.declared.place.RootPlace.{RootPlace}
 use Rattle.st_model.specs.declared.place.RootPlace.TheVariants as place
 use Rattle.st_model.specs.declared.kind.Kind.{Kind}
@@ -116,7 +117,7 @@ roots_few v k long =
     let g = times_few k (device_roots v.held.devices) in omega (arith, a, b, c, d, e, f, g, long)
 
 -- no count comes near its end
-pub references_few : (v : View) (hand : List Value) (k : ℕ) → IsWhole v → references v.objects (all_roots v) hand k ≤ 1052776 + length hand
+pub references_few : (v : View) (hand : List Value) (k : ℕ) → IsWhole v → references v.objects (all_roots v) hand k ≤ most_words + 4200 + length hand
 references_few v hand k whole =
     let a = roots_few v k whole.pending in
     let b = uses_few k v.objects whole.formed in
@@ -124,7 +125,7 @@ references_few v hand k whole =
     let d = whole.most_words in
     let e = times_few k hand in omega (arith, a, b, c, d, e)
 
-pub counted_few : (v : View) (hand : List Value) (cs : List (Option ℕ)) (k : ℕ) → IsWhole v → IsCounted v.objects (all_roots v) hand cs → number_at cs k ≤ 1052776 + length hand
+pub counted_few : (v : View) (hand : List Value) (cs : List (Option ℕ)) (k : ℕ) → IsWhole v → IsCounted v.objects (all_roots v) hand cs → number_at cs k ≤ most_words + 4200 + length hand
 counted_few v hand cs k whole h =
     let a = references_few v hand k whole in
     let b = tally_most v.objects (references v.objects (all_roots v) hand) cs k h.tallied in omega (arith, a, b)

@@ -26,7 +26,8 @@ pub enum Status {
     Store(StoreFault),
     /// This cause stands in the kernel text at this chunk, counted from 1, and none before it.
     Kernel { chunk: u32, cause: u8 },
-    /// The image or the kernel text has more than 2^23 bytes, the changes would have more than 2^30, or the script more than 2^32.
+    /// The image has more than 2^27 bytes, the kernel text more than 2^23, the changes would have more than 2^30, or the script
+    /// more than 2^32.
     TooLarge,
     /// There was no memory.
     OutOfMemory,

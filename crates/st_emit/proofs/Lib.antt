@@ -14,3 +14,5 @@ pub mod Adding
 pub mod Follow
 pub mod Forms
 pub mod Members
+pub mod Sizes
+pub mod SpecialSelectors

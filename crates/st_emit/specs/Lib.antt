@@ -3,6 +3,7 @@ pub mod Literals
 pub mod Names
 pub mod NamePlaces
 pub mod Nodes
+pub mod Selectors
 pub mod Resolving
 pub mod Steps
 pub mod Emitting
@@ -17,3 +18,4 @@ pub mod Shapes
 pub mod Sizes
 pub mod Emits
 pub mod Found
+pub mod Laws

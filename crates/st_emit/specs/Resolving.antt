@@ -1,5 +1,5 @@
 -- From a tree to its nodes: what names mean, which numbers variables have, and which places literals have.
-use Rattle.std.specs.Prelude.{ℕ, ◌+◌, Bool, true, false, not, ◌&&◌, ◌==◌, List, [], ◌∷◌, length, Option, Some, None, if◌then◌else◌, codes, bytes_eq}
+use Rattle.std.specs.Prelude.{ℕ, ◌+◌, Bool, true, false, not, ◌&&◌, ◌==◌, List, [], ◌∷◌, length, map, Option, Some, None, if◌then◌else◌, codes, bytes_eq}
 use Rattle.st_tree.specs.declared.token.Signed.{Signed}
 use Rattle.st_tree.specs.Views.{NameView, ContentView, ElementView, ExpressionView, StatementsView, MessagesView, ExpressionsView, is_super}
 use Rattle.st_tree.specs.Views as views
@@ -14,6 +14,7 @@ use Rattle.st_emit.specs.declared.form.Loop.TheVariants.{WhileTrue, WhileFalse}
 use Rattle.st_emit.specs.declared.form.Form.{Form}
 use Rattle.st_emit.specs.declared.form.Form.TheVariants.{Message as Plain, One, Two, Repeated}
 use Rattle.st_emit.specs.Names.{NamesView, Scope, Variable, temporary, field, shared, constant_named, variable_named, field_from, declared}
+use Rattle.st_emit.specs.Selectors.{special_sends}
 use Rattle.st_emit.specs.Literals.{LiteralView, number, symbol, named, literal_of, small_number, Naming, given, ◌>>=◌, named_literal}
 use Rattle.st_emit.specs.Nodes.{Sending, Node, constant, small, literal, variable, block, Body, nothing, last, next, returned, Messages, only, also, Nodes, none, node, body_of, Tail, assigned, sent, sided, chosen, looped, with_tail}
 
@@ -103,11 +104,7 @@ content_node what = literal_node (literal_of what)
 
 -- the special selectors, which have codes of their own
 abbrev pub special_selectors : List (List ℕ)
-special_selectors =
-    codes "+" ∷ codes "-" ∷ codes "<" ∷ codes ">" ∷ codes "<=" ∷ codes ">=" ∷ codes "=" ∷ codes "~=" ∷ codes "*" ∷ codes "/"
-    ∷ codes "\\\\" ∷ codes "@" ∷ codes "bitShift:" ∷ codes "//" ∷ codes "bitAnd:" ∷ codes "bitOr:" ∷ codes "at:" ∷ codes "at:put:"
-    ∷ codes "size" ∷ codes "next" ∷ codes "nextPut:" ∷ codes "atEnd" ∷ codes "==" ∷ codes "class" ∷ codes "blockCopy:" ∷ codes "value"
-    ∷ codes "value:" ∷ codes "do:" ∷ codes "new" ∷ codes "new:" ∷ codes "x" ∷ codes "y" ∷ []
+special_selectors = map (λ s. s.0) special_sends
 
 -- the code of the first one; and the place of blockCopy:, which only blocks send
 abbrev pub first_special : ℕ

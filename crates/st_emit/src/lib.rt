@@ -7,6 +7,7 @@ mod draft;
 mod emit;
 mod form;
 mod frame;
+mod laws;
 mod level;
 mod literal;
 mod literal_table;
@@ -20,6 +21,7 @@ pub use counting::sum;
 pub use draft::Draft;
 pub use form::{By, Form, Lookup, Loop, OneSided, TwoSided};
 pub use frame::{Frame, NamePlaces, places_of};
+pub use laws::{sizes_of_bytes, special_arguments};
 pub use level::Level;
 pub use literal::{Literal, LiteralList};
 pub use literal_table::LiteralTable;
@@ -27,6 +29,7 @@ pub use names::{
     Around, NamedOops, Names, TextList, Variable, constant_named, inner_scope, is_among,
     is_declared, variable_named,
 };
+pub use selector::{SPECIAL_SENDS, special_selector};
 pub use shape::{Choice, Repetition, Shape, Side};
 pub use step::{Constant, Place, Step, size_of};
 pub use value::method_body;

@@ -1,8 +1,8 @@
 //! Selectors that have a code or a form of their own.
 
-ghost use Rattle.std.specs.Prelude.{◌≡◌, ◌<◌, IfSome, length};
+ghost use Rattle.std.specs.Prelude.{◌≡◌, ◌<◌, IfSome, length, map};
 ghost use Rattle.st_emit.specs.Names.{field_from};
-ghost use Rattle.st_emit.specs.NameViews.{texts_now};
+ghost use Rattle.st_emit.specs.Selectors.{sends_now};
 ghost use Rattle.st_emit.specs.Resolving.{special_selector, special_code, form_named};
 
 use crate::form::{Form, Loop, OneSided, TwoSided};
@@ -16,49 +16,49 @@ pub const BLOCK_COPY: u8 = 200;
 /// Its place among the special selectors.
 const BLOCK_COPY_PLACE: usize = 24;
 
-/// The selectors that have a code of their own, in the order of their codes.
-const SPECIAL_SELECTORS: [&[u8]; 32] = [
-    b"+",
-    b"-",
-    b"<",
-    b">",
-    b"<=",
-    b">=",
-    b"=",
-    b"~=",
-    b"*",
-    b"/",
-    b"\\\\",
-    b"@",
-    b"bitShift:",
-    b"//",
-    b"bitAnd:",
-    b"bitOr:",
-    b"at:",
-    b"at:put:",
-    b"size",
-    b"next",
-    b"nextPut:",
-    b"atEnd",
-    b"==",
-    b"class",
-    b"blockCopy:",
-    b"value",
-    b"value:",
-    b"do:",
-    b"new",
-    b"new:",
-    b"x",
-    b"y",
+/// The selectors that have a code of their own, in the order of their codes, each with its number of arguments.
+pub const SPECIAL_SENDS: [(&[u8], u8); 32] = [
+    (b"+", 1),
+    (b"-", 1),
+    (b"<", 1),
+    (b">", 1),
+    (b"<=", 1),
+    (b">=", 1),
+    (b"=", 1),
+    (b"~=", 1),
+    (b"*", 1),
+    (b"/", 1),
+    (b"\\\\", 1),
+    (b"@", 1),
+    (b"bitShift:", 1),
+    (b"//", 1),
+    (b"bitAnd:", 1),
+    (b"bitOr:", 1),
+    (b"at:", 1),
+    (b"at:put:", 2),
+    (b"size", 0),
+    (b"next", 0),
+    (b"nextPut:", 1),
+    (b"atEnd", 0),
+    (b"==", 1),
+    (b"class", 0),
+    (b"blockCopy:", 1),
+    (b"value", 0),
+    (b"value:", 1),
+    (b"do:", 1),
+    (b"new", 0),
+    (b"new:", 1),
+    (b"x", 0),
+    (b"y", 0),
 ];
 
-/// The place of the first of these texts that is this one.
-fn place_in(texts: &[&[u8]], text: &[u8]) -> Option<usize>
-    ensures place { result ≡ field_from 0 (texts_now texts.now) text.now }
-    ensures within { IfSome result (λ k. k < length texts.now) }
+/// The place of the first of these selectors that is this one.
+fn place_in(sends: &[(&[u8], u8)], text: &[u8]) -> Option<usize>
+    ensures place { result ≡ field_from 0 (map (λ s. s.0) (sends_now sends.now)) text.now }
+    ensures within { IfSome result (λ k. k < length sends.now) }
 {
-    for (i, other) in texts.iter().enumerate() {
-        if *other == text {
+    for (i, (selector, _)) in sends.iter().enumerate() {
+        if *selector == text {
             return Some(i);
         }
     }
@@ -66,11 +66,11 @@ fn place_in(texts: &[&[u8]], text: &[u8]) -> Option<usize>
 }
 
 /// The place of a selector among the special ones.
-fn special_selector(text: &[u8]) -> Option<usize>
+pub fn special_selector(text: &[u8]) -> Option<usize>
     ensures place { result ≡ special_selector text.now }
     ensures few { IfSome result (λ k. k < 32) }
 {
-    place_in(&SPECIAL_SELECTORS, text)
+    place_in(&SPECIAL_SENDS, text)
 }
 
 /// The code of a special selector. Only blocks send `blockCopy:` by its code.

@@ -6,6 +6,7 @@ use Rattle.std.proofs.Math.Seq.{drop-length}
 use Rattle.std.proofs.lemmas.Bool.{ne_eqb, both_ways}
 use Rattle.std.proofs.lemmas.List.Quantifiers.{position-Some}
 use Rattle.st_declarations.specs.Parts.{Part}
+use Rattle.st_model.specs.Limits.{most_words}
 use Rattle.st_model.specs.Values.{Value, Ref, value_of, AllLive}
 use Rattle.st_model.specs.declared.oop.Oop.{Oop}
 use Rattle.st_model.specs.declared.page.PageObject.{PageObject}
@@ -73,13 +74,13 @@ table_is w k e more = let f = ne_eqb w 0 (λ z. absurd (omega arith)) in rw (f, 
 pub begun_is : (ts : List Thing) (g s : Oop) (x y : Thing) → length ts ≤ 32767
     → value_of g.0 ≡ Ref (place_in ts x) → g.0 ≡ 2 * place_in ts x → x ≡ only what.Globals
     → value_of s.0 ≡ Ref (place_in ts y) → s.0 ≡ 2 * place_in ts y → y ≡ only what.Symbols
-    → empty_view (head_of (record { entries = 32767; words = 1048576 }) g s) ≡ empty_view (head_in ts)
+    → empty_view (head_of (record { entries = 32767; words = most_words }) g s) ≡ empty_view (head_in ts)
 begun_is ts g s x y few gv gh gx sv sh sy =
     let gp = in_place ts x few in
     let sp = in_place ts y few in
     let globals = table_is g.0 (place_in ts x) gv (omega arith) ∙ ap (λ t. Some (Ref (place_in ts t))) gx in
     let symbols = table_is s.0 (place_in ts y) sv (omega arith) ∙ ap (λ t. Some (Ref (place_in ts t))) sy in
-    ap empty_view (λ i. record { entries = 32767; words = 1048576; globals = globals i; symbols = symbols i })
+    ap empty_view (λ i. record { entries = 32767; words = most_words; globals = globals i; symbols = symbols i })
 
 pub empty_head : (h : Head) → (empty_view h).head ≡ h
 unfolding empty_view

@@ -10,6 +10,7 @@ use Rattle.std.proofs.lemmas.List.{length-replicate}
 use Rattle.std.proofs.Math.ListN.{length-set}
 use Rattle.st_declarations.specs.declared.shape.Shape.{Shape}
 use Rattle.st_declarations.specs.declared.shape.Shape.TheVariants as shape
+use Rattle.st_model.specs.Limits.{most_words}
 use Rattle.st_model.specs.Values.{Ref, value_of}
 use Rattle.st_model.specs.Objects.{Object, one, words_of}
 use Rattle.st_model.specs.Table.{entry, total_used}
@@ -93,18 +94,18 @@ class_by things c (Fields fs) = refl
 class_by things c (Bytes bs) = refl
 class_by things c NoWords = refl
 
-fit_more : (p : Plan) (used : ℕ) (x : Thing) (xs : List Thing) → words_of (object p x) ≤ 65535 → used + words_of (object p x) ≤ 1048576
+fit_more : (p : Plan) (used : ℕ) (x : Thing) (xs : List Thing) → words_of (object p x) ≤ 65535 → used + words_of (object p x) ≤ most_words
     → fit_beside p used (x ∷ xs) ≡ fit_beside p (used + words_of (object p x)) xs
 fit_more p used x xs size fits =
     let a = le-leb (words_of (object p x)) 65535 size in
-    let b = le-leb (used + words_of (object p x)) 1048576 fits in
+    let b = le-leb (used + words_of (object p x)) most_words fits in
     rw (a, b) refl
 
 module _ (p : Plan) (begun v : View) (used i : ℕ) (is : IsBegun p begun) (u : Underway p begun v used i) (x : Thing) (got : slice_get p.order.things i ≡ Some x) where
   within : i < 32767
   within = let l = slice_get_within p.order.things i x got in let f = is.few in omega arith
 
-  pub can_place : words_of (object p x) ≤ 65535 → used + words_of (object p x) ≤ 1048576
+  pub can_place : words_of (object p x) ≤ 65535 → used + words_of (object p x) ≤ most_words
       → (at : Oop) → value_of at.0 ≡ Ref (place i) → at.0 ≡ 2 * place i → (c : Oop) × CanPlace v at c (at.0 / 2) (object p x)
   unfolding object
   can_place size fits at here half =
@@ -134,7 +135,7 @@ module _ (p : Plan) (begun v : View) (used i : ℕ) (is : IsBegun p begun) (u : 
       )
 
   pub goes_on : (w : View) (used' : ℕ) → Puts v w (place i) (object p x) → used' ≡ used + words_of (object p x)
-      → words_of (object p x) ≤ 65535 → used + words_of (object p x) ≤ 1048576 → Underway p begun w used' (i + 1)
+      → words_of (object p x) ≤ 65535 → used + words_of (object p x) ≤ most_words → Underway p begun w used' (i + 1)
   unfolding with_object
   goes_on w used' puts more size fits =
       let b = place_within i within in
@@ -217,7 +218,7 @@ pub refused : (p : Plan) (begun v now : View) (used i words : ℕ) (x : Thing) (
     → words ≡ words_of (object p x) → HasWords used words (Err u) → PlacesAll p begun now (Err u)
 refused p begun v now used i words x NoRoom under got is e =
     under.fits ∙ ap (fit_beside p used) (drop_got p.order.things i x got)
-    ∙ no_more (nat_le (words_of (object p x)) 65535) (nat_le (used + words_of (object p x)) 1048576) _ (ap (λ w. nat_le w 65535 && nat_le (used + w) 1048576) (sym is) ∙ e)
+    ∙ no_more (nat_le (words_of (object p x)) 65535) (nat_le (used + words_of (object p x)) most_words) _ (ap (λ w. nat_le w 65535 && nat_le (used + w) most_words) (sym is) ∙ e)
 refused p begun v now used i words x OutOfMemory under got is e = tt
 
 pub puts_there : (v w : View) (k j : ℕ) (o q : Object) → k ≡ j → o ≡ q → Puts v w k o → Puts v w j q

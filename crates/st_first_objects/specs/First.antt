@@ -1,5 +1,6 @@
 -- The first objects of a kernel text, and whether there is room for them.
 use Rattle.std.specs.Prelude.{ℕ, ◌+◌, suc, nat_le, ◌&&◌, Bool, true, List, [], ◌∷◌, length, replicate, Some, None}
+use Rattle.st_model.specs.Limits.{most_words}
 use Rattle.st_model.specs.Values.{Ref}
 use Rattle.st_model.specs.Objects.{words_of}
 use Rattle.st_model.specs.Machine.{Head}
@@ -20,7 +21,7 @@ with_things p i (x ∷ xs) t = with_things p (suc i) xs (with_object t (Ref (pla
 abbrev pub head_in : List Thing → Head
 head_in things = record {
   entries = 32767;
-  words = 1048576;
+  words = most_words;
   globals = Some (Ref (place_in things (only what.Globals)));
   symbols = Some (Ref (place_in things (only what.Symbols)));
 }
@@ -36,7 +37,7 @@ first_view ps = view_of (plan ps)
 abbrev pub fit_beside : Plan → (words : ℕ) → List Thing → Bool
 fit_beside p words [] = true
 fit_beside p words (x ∷ xs) =
-    nat_le (words_of (object p x)) 65535 && (nat_le (words + words_of (object p x)) 1048576 && fit_beside p (words + words_of (object p x)) xs)
+    nat_le (words_of (object p x)) 65535 && (nat_le (words + words_of (object p x)) most_words && fit_beside p (words + words_of (object p x)) xs)
 
 abbrev pub have_room : Plan → Bool
 have_room p = nat_le (length p.order.things) 32767 && fit_beside p 0 p.order.things

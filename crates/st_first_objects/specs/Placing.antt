@@ -1,5 +1,6 @@
 -- The placing of the first objects, one after another.
 use Rattle.std.specs.Prelude.{drop, replicate, is_some, codes, nat_le, ◌&&◌, ◌≡◌, ◌≢◌, ℕ, zero, suc, ◌+◌, ◌/◌, ◌<◌, ◌≤◌, true, false, List, [], ◌∷◌, length, Some, None, slice_get, Result, Ok, Err}
+use Rattle.st_model.specs.Limits.{most_words}
 use Rattle.st_model.specs.declared.oop.Oop.{Oop}
 use Rattle.st_model.specs.Values.{Ref, value}
 use Rattle.st_model.specs.Objects.{Object, one, words_of}
@@ -46,7 +47,7 @@ pub record Underway (p : Plan) (begun v : View) (used i : ℕ) : Type 0 where
   pub places : length v.objects ≡ 32768
   pub entries : total_used one v.objects ≡ i
   pub words : total_used words_of v.objects ≡ used
-  pub most : used ≤ 1048576
+  pub most : used ≤ most_words
   pub free : (j : ℕ) → i ≤ j → j < 32767 → entry v.objects (place j) ≡ None
   pub live : (j : ℕ) → j < i → is_some (entry v.objects (place j)) ≡ true
   pub objects : (k : ℕ) (o : Object) → entry v.objects k ≡ Some o → (x : Thing) × (o ≡ object p x)
@@ -55,7 +56,7 @@ pub record Underway (p : Plan) (begun v : View) (used i : ℕ) : Type 0 where
 pub record IsBegun (p : Plan) (v : View) : Type 0 where
   pub objects : v.objects ≡ replicate 32768 None
   pub entries : v.head.entries ≡ 32767
-  pub words : v.head.words ≡ 1048576
+  pub words : v.head.words ≡ most_words
   pub few : length p.order.things ≤ 32767
   pub methods : slice_get p.order.things 12 ≡ Some (class (codes "CompiledMethod"))
 
@@ -67,6 +68,6 @@ PlacesAll p begun now (Err OutOfMemory) = Unit {0}
 
 -- beside so many words an object of this content has room
 abbrev pub HasWords : (used words : ℕ) → Result ℕ Unmade → Type 0
-HasWords used words (Ok all) = (all ≡ used + words) × (words ≤ 65535) × (used + words ≤ 1048576)
-HasWords used words (Err NoRoom) = (nat_le words 65535 && nat_le (used + words) 1048576) ≡ false
+HasWords used words (Ok all) = (all ≡ used + words) × (words ≤ 65535) × (used + words ≤ most_words)
+HasWords used words (Err NoRoom) = (nat_le words 65535 && nat_le (used + words) most_words) ≡ false
 HasWords used words (Err OutOfMemory) = Unit {0}

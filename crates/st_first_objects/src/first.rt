@@ -1,5 +1,6 @@
 // The memory of the first objects.
 ghost use Rattle.std.specs.Prelude.{◌≡◌, ◌≤◌, false, true, OnOk, IfOk, IfErr};
+ghost use Rattle.st_model.specs.Limits.{most_words};
 ghost use Rattle.st_declarations.specs.Views.{parts_of};
 ghost use Rattle.st_first_objects.specs.declared.unmade.Unmade.TheVariants.{NoRoom};
 ghost use Rattle.st_first_objects.specs.First.{first_view, has_room};
@@ -11,21 +12,18 @@ use crate::thing::{Thing, What};
 use crate::unmade::Unmade;
 use st_declarations::Part;
 use st_memory::Loader;
-use st_model::Demand;
+use st_model::{Demand, MOST_WORDS};
 use std::alloc::Global;
 
 /// The most words that an object has.
 const MOST_OF_ONE: usize = 65535;
-
-/// The most words of all objects.
-const MOST_WORDS: u32 = 1_048_576;
 
 /// The most objects.
 const MOST_ENTRIES: u32 = 32767;
 
 /// How many words are used with so many more, if there is room for an object that takes them.
 fn used_beside(used: u32, words: usize) -> Result<u32, Unmade>
-    requires { used ≤ 1048576 }
+    requires { used ≤ most_words }
     ensures { HasWords used words result }
 {
     if words > MOST_OF_ONE || words > (MOST_WORDS - used) as usize {

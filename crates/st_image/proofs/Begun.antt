@@ -17,7 +17,7 @@ use Rattle.st_image.proofs.Starts.{begins_with}
 module _ (h : ImageHead) (bytes : List ℕ) (well : IsWellFormed h bytes) where
   few : entries_of h ≤ 32768
   unfolding Fails
-  few = let t = (sized h bytes (false_from_ne_true _ (well Short)) (false_from_ne_true _ (well Lengths))).table in omega arith
+  few = (sized h bytes (false_from_ne_true _ (well Short)) (false_from_ne_true _ (well Lengths))).few
 
   all_there : IsComplete (start_view h bytes)
   unfolding start_view

@@ -2,6 +2,7 @@
 use Rattle.std.proofs.Common.{◌≡◌, ◌≢◌, ℕ, ◌+◌, ◌-◌, ◌*◌, ◌/◌, ◌%◌, ◌<◌, ◌≤◌, ◌⊎◌, Bool, true, false, ◌||◌, ◌==◌, nat_lt, List, arith, refl, subst, inl, inr, lit<}
 use Rattle.std.specs.Prelude.{Contains}
 use Rattle.std.proofs.lemmas.Bool.{cases_eq, both_ways, false_from_ne_true, true_from_ne_false, or_parts, ltb-false, eqb-false, eq-eqb, ne_eqb, not-false}
+use Rattle.st_model.specs.Limits.{most_words}
 use Rattle.st_model.specs.declared.head.ImageHead.{ImageHead}
 use Rattle.st_model.specs.declared.fault.ImageFault.TheVariants.{Capacity, Size, Overlap, Class, Field, Method, Root}
 use Rattle.st_model.specs.Objects.{place_of}
@@ -12,7 +13,7 @@ use Rattle.st_model.specs.Faults.{Fails, At, ShareWord, used_below, capacity_fai
 use Rattle.st_image.specs.Sizes.{AreInside}
 use Rattle.st_image.specs.Rows.{IsCleanBelow}
 use Rattle.st_image.specs.Loads.{IsSound}
-use Rattle.st_image.proofs.FaultRows.{inside, named, named_used}
+use Rattle.st_image.proofs.FaultRows.{most_in_version, inside, named, named_used}
 use Rattle.st_image.proofs.Shapes.{kind_method}
 
 -- a test that no even pointer's entry passes
@@ -99,7 +100,7 @@ clean_field h bytes clean k i = never (λ j. field_fails h bytes j i) k (λ p at
 pub record HasCapacity (h : ImageHead) (bytes : List ℕ) : Type 0 where
   pub most_entries : h.entries ≤ 32767
   pub entries : used_below h bytes (entries_of h) ≤ h.entries
-  pub most_words : h.words ≤ 1048576
+  pub most_words : h.words ≤ most_words
   pub words : h.space ≤ h.words
 
 pub clean_capacity : (h : ImageHead) (bytes : List ℕ) → IsCleanBelow h bytes 10 → HasCapacity h bytes
@@ -108,7 +109,7 @@ clean_capacity h bytes clean =
     let a = or_parts _ _ (false_from_ne_true _ (clean Capacity (omega arith))) in
     let b = or_parts _ _ a.0 in
     let d = or_parts _ _ b.0 in
-    record { most_entries = ltb-false _ _ d.0; entries = ltb-false _ _ d.1; most_words = ltb-false _ _ b.1; words = ltb-false _ _ a.1 }
+    record { most_entries = ltb-false _ _ d.0; entries = ltb-false _ _ d.1; most_words = most_in_version h h.words (ltb-false _ _ b.1); words = ltb-false _ _ a.1 }
 
 -- the roots
 clean_root : (h : ImageHead) (bytes : List ℕ) → IsCleanBelow h bytes 10 → (p : ℕ) → Contains (roots h) p → p ≢ 0 → names h bytes p ≡ true

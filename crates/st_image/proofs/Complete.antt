@@ -182,7 +182,7 @@ is_start h bytes v w empty objects held head =
     ∙ ap (λ (x : Head). let u : View = record { objects = made (entry_in h bytes) 32768; held = (empty_view (machine_head h)).held; head = x } in u) (head ∙ ap (λ (u : View). u.head) empty))
 
 -- a pointer that the head gives has 16 bits
-pub pointer_small : (h : ImageHead) (bytes : List ℕ) (p : ℕ) → h.table ≤ 65536 → (p ≢ 0 → names h bytes p ≡ true) → p < 65536
+pub pointer_small : (h : ImageHead) (bytes : List ℕ) (p : ℕ) → entries_of h ≤ 32768 → (p ≢ 0 → names h bytes p ≡ true) → p < 65536
 pointer_small h bytes p table there = last (cases_eq p 0)
   where
     last : ((p ≡ 0) ⊎ (p ≡ 0 → ⊥)) → p < 65536

@@ -1,13 +1,14 @@
 -- What the searches answer, as rows of the table of faults.
-use Rattle.std.proofs.Common.{◌≡◌, ℕ, ◌*◌, ◌/◌, ◌%◌, ◌<◌, ◌≤◌, ◌⊎◌, Bool, true, false, ◌==◌, nat_lt, List, length, get_or, arith, refl, sym, subst, ◌∙◌, inl, inr, Some, None}
+use Rattle.std.proofs.Common.{cond, ◌≡◌, ℕ, ◌*◌, ◌/◌, ◌%◌, ◌<◌, ◌≤◌, ◌⊎◌, Bool, true, false, ◌==◌, nat_lt, List, length, get_or, arith, refl, sym, subst, ◌∙◌, inl, inr, Some, None}
 use Rattle.std.specs.Prelude.{Contains}
 use Rattle.std.proofs.lemmas.Bool.{cases_lt, both_ways, and_left, and_right, le-ltb, or_parts, and_parts, ltb-false, ltb-true, eqb-true}
 use Rattle.std.proofs.lemmas.Bool.Decides.{nat_tests}
 use Rattle.std.proofs.lemmas.List.{get_or_default}
+use Rattle.st_model.specs.Limits.{most_words}
 use Rattle.st_model.specs.declared.head.ImageHead.{ImageHead}
 use Rattle.st_model.specs.declared.fault.ImageFault.{ImageFault}
 use Rattle.st_model.specs.declared.fault.ImageFault.TheVariants.{Short, Lengths, Capacity, Size, Class, Field, Method, Root}
-use Rattle.st_model.specs.Image.{table_end, entries_of, is_used, names}
+use Rattle.st_model.specs.Image.{table_end, first_form, second_form, form_of, entries_of, is_used, names}
 use Rattle.st_model.specs.Faults.{Fails, At, row, Sooner, short_fails, lengths_fail, capacity_fails, size_fails, class_fails, field_fails, method_fails, root_fails, roots}
 use Rattle.st_image.specs.Sizes.{IsSized, AreInside}
 use Rattle.st_image.specs.Passes.{IsFirst, IsFirstPair, IsLeastAmong}
@@ -215,17 +216,30 @@ root_first h bytes p found = record {
 
 -- what the tests that pass leave
 
-even_from : (h : ImageHead) → (h.table % 2 == 1) ≡ false → h.table % 2 ≡ 0
-even_from h e = grind (arith, nat_tests)
+few_by : (t : ℕ) (b : Bool) → t ≤ 32768 * (cond b second_form first_form).width → t / (cond b second_form first_form).width ≤ 32768
+few_by t true l = omega (arith, l)
+few_by t false l = omega (arith, l)
+
+few_entries : (h : ImageHead) → h.table ≤ 32768 * (form_of h).width → entries_of h ≤ 32768
+unfolding entries_of form_of
+few_entries h l = few_by h.table (h.version == 2) l
+
+most_by : (n : ℕ) (b : Bool) → n ≤ (cond b second_form first_form).most → n ≤ most_words
+most_by n true l = l
+most_by n false l = omega (arith, l)
+
+-- the most words of either version
+pub most_in_version : (h : ImageHead) (n : ℕ) → n ≤ (form_of h).most → n ≤ most_words
+unfolding form_of
+most_in_version h n l = most_by n (h.version == 2) l
 
 pub sized : (h : ImageHead) (bytes : List ℕ) → short_fails h bytes ≡ false → lengths_fail h ≡ false → IsSized h bytes
 unfolding short_fails lengths_fail
-sized h bytes a b =
-    let file = (or_parts (nat_lt (length bytes) 512) (nat_lt (length bytes) (table_end h)) a).1 in
-    let d = or_parts _ _ b in
-    let e = or_parts _ _ d.0 in
-    let f = or_parts _ _ e.0 in
-    record { table = ltb-false _ _ f.1; even = even_from h f.0; space = ltb-false _ _ e.1; file = ltb-false _ _ file }
+sized h bytes short lengths =
+    let file = or_parts (nat_lt (length bytes) 512) (nat_lt (length bytes) (table_end h)) short in
+    let a = or_parts _ (nat_lt (form_of h).most h.space) lengths in
+    let b = or_parts _ (nat_lt (32768 * (form_of h).width) h.table) a.0 in
+    record { few = few_entries h (ltb-false _ _ b.1); space = most_in_version h h.space (ltb-false _ _ a.1); file = ltb-false _ _ file.1 }
 
 pub inside : (h : ImageHead) (bytes : List ℕ) → IsFirst (size_fails h bytes) (entries_of h) None → AreInside h bytes
 unfolding size_fails

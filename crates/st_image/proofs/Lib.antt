@@ -1,4 +1,5 @@
 pub mod FaultOrder
+pub mod Within
 pub mod FaultRows
 pub mod Overlaps
 pub mod Shapes

@@ -1,14 +1,14 @@
 -- What the rows of faults that concern a file's sizes leave to be known of it.
-use Rattle.std.specs.Prelude.{◌≡◌, ℕ, ◌+◌, ◌%◌, ◌<◌, ◌≤◌, true, List, length, if◌then◌else◌}
+use Rattle.std.specs.Prelude.{◌≡◌, ℕ, ◌+◌, ◌<◌, ◌≤◌, true, List, length, if◌then◌else◌}
 use Rattle.st_spans.specs.declared.Span.{Span}
+use Rattle.st_model.specs.Limits.{most_words}
 use Rattle.st_model.specs.declared.head.ImageHead.{ImageHead}
 use Rattle.st_model.specs.Image.{table_end, entries_of, is_used, place, size}
 
 -- the file holds its table, and the lengths in its head are within their limits
 pub record IsSized (h : ImageHead) (bytes : List ℕ) : Type 0 where
-  pub table : h.table ≤ 65536
-  pub even : h.table % 2 ≡ 0
-  pub space : h.space ≤ 1048576
+  pub few : entries_of h ≤ 32768
+  pub space : h.space ≤ most_words
   pub file : table_end h ≤ length bytes
 
 -- the object of entry k has a size word and a class word, and lies in the object space

@@ -1,6 +1,7 @@
 ghost use Rattle.st_image.specs.Sizes.{IsSized};
 
-use crate::numbers::read16;
+use crate::form::entry_width;
+use crate::numbers::{read16, read32};
 use st_model::ImageHead;
 
 /// An image file that holds its table.
@@ -15,7 +16,7 @@ pub struct Image<'a> {
 
 impl Image<'_> {
     ghost use Rattle.std.specs.Prelude.{◌≡◌, ℕ, ◌+◌, ◌*◌, ◌/◌, ◌%◌, ◌==◌, ◌<◌, ◌≤◌, length, true};
-    ghost use Rattle.st_model.specs.Image.{bit, table_start, entries_of, flags, location, has_odd_length, has_pointers, is_used, place, word, size, class, body, names, literal_count};
+    ghost use Rattle.st_model.specs.Image.{bit, table_start, form_of, entries_of, entry_start, flags, has_odd_length, has_pointers, is_used, place, word, size, class, body, names, literal_count};
     ghost use Rattle.st_image.specs.Sizes.{IsInside};
 
     /// The pointer of the class of methods.
@@ -29,28 +30,36 @@ impl Image<'_> {
     }
 
     /// How many entries the table has.
+    #[tactic(auto, unfolding(st_model::specs::Image::entries_of, st_model::specs::Image::form_of))]
     pub fn entries(&self) -> usize
         ensures { result ≡ entries_of self.now.head }
     {
-        self.head.table as usize / 2
+        let words = self.head.table as usize;
+        if self.head.version == 2 {
+            words / 3
+        } else {
+            words / 2
+        }
     }
 
-    /// The first word of an entry: its marks and its segment.
+    /// The byte at which an entry begins.
+    #[tactic(auto, using(crate::proofs::Within::entries), unfolding(st_model::specs::Image::entry_start, st_model::specs::Image::entries_of))]
+    fn entry_start(&self, k: usize) -> usize
+        requires { k < entries_of self.now.head }
+        ensures start { result ≡ entry_start self.now.head k }
+        ensures within { result + 2 * (form_of self.now.head).width ≤ length self.now.bytes.now }
+        ensures some { 2 ≤ (form_of self.now.head).width }
+    {
+        self.table_start() + 2 * entry_width(self.head) as usize * k
+    }
+
+    /// The first word of an entry: its marks.
     #[tactic(auto, unfolding(st_model::specs::Image::flags))]
     fn flags(&self, k: usize) -> u16
         requires { k < entries_of self.now.head }
         ensures { result ≡ flags self.now.head self.now.bytes.now k }
     {
-        read16(self.bytes, self.table_start() + 4 * k)
-    }
-
-    /// The second word of an entry: its location in the segment.
-    #[tactic(auto, unfolding(st_model::specs::Image::location))]
-    fn location(&self, k: usize) -> u16
-        requires { k < entries_of self.now.head }
-        ensures { result ≡ location self.now.head self.now.bytes.now k }
-    {
-        read16(self.bytes, self.table_start() + 4 * k + 2)
+        read16(self.bytes, self.entry_start(k))
     }
 
     /// Whether an entry has the odd-length mark.
@@ -96,11 +105,18 @@ impl Image<'_> {
     }
 
     /// The word of the object space at which an entry's object begins.
+    #[tactic(auto, unfolding(st_model::specs::Image::place, st_model::specs::Image::form_of))]
     pub fn place(&self, k: usize) -> usize
         requires { k < entries_of self.now.head }
         ensures { result ≡ place self.now.head self.now.bytes.now k }
     {
-        usize::from(self.flags(k) & 15) * 65536 + usize::from(self.location(k))
+        let at = self.entry_start(k);
+        if self.head.version == 2 {
+            read32(self.bytes, at + 2) as usize
+        } else {
+            let segment = read16(self.bytes, at) % 16;
+            usize::from(segment) * 65536 + usize::from(read16(self.bytes, at + 2))
+        }
     }
 
     /// The word at a place of the object space.

@@ -2,6 +2,7 @@ ghost use Rattle.std.specs.Prelude.{◌≡◌, length};
 ghost use Rattle.st_model.specs.Image.{entries_of, is_used};
 ghost use Rattle.st_model.specs.Faults.{short_fails, lengths_fail, used_below, capacity_fails};
 
+use crate::form::{entry_width, most_words_of};
 use crate::image::Image;
 use st_model::ImageHead;
 
@@ -15,12 +16,16 @@ pub fn is_short(head: ImageHead, bytes: &[u8]) -> bool
     length < 512 || length < table_start + 2 * u64::from(head.table)
 }
 
-/// Whether a head has lengths out of range, or another version than 1.
+/// Whether a head has lengths out of range, or another version than 1 and 2.
 #[tactic(auto, unfolding(st_model::specs::Faults::lengths_fail))]
 pub fn has_bad_lengths(head: ImageHead) -> bool
     ensures { result ≡ lengths_fail head }
 {
-    head.table % 2 == 1 || head.table > 65536 || head.space > 1_048_576 || head.version != 1
+    let width = entry_width(head);
+    !(head.version == 1 || head.version == 2)
+        || head.table % width != 0
+        || head.table > 32768 * width
+        || head.space > most_words_of(head)
 }
 
 /// How many entries are in use.
@@ -44,6 +49,6 @@ pub fn has_bad_capacity(image: &Image<'_>) -> bool
     let head = image.head;
     head.entries > 32767
         || head.entries < count_used(image)
-        || head.words > 1_048_576
+        || head.words > most_words_of(head)
         || head.words < head.space
 }

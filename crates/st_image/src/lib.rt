@@ -3,6 +3,7 @@
 
 mod checks;
 mod error;
+mod form;
 mod head;
 mod image;
 mod laws;

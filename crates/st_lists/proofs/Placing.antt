@@ -3,6 +3,7 @@ use Rattle.std.proofs.Common.{◌≡◌, ◌≢◌, ℕ, zero, suc, ◌+◌, ◌
 use Rattle.std.specs.Prelude.{slice_get, unwrap_or, Option, Some, None}
 use Rattle.std.proofs.lemmas.Bool.{cases_eq}
 use Rattle.std.proofs.lemmas.List.{drop-take}
+use Rattle.st_model.specs.Limits.{most_words}
 use Rattle.st_model.specs.declared.oop.Oop.{Oop}
 use Rattle.st_model.specs.declared.kind.Kind.{Kind}
 use Rattle.st_model.specs.Values.{value, value_of, is_small}
@@ -149,7 +150,7 @@ module _ (es : List (Option Entry)) (size_fields size_units end nf nu : ℕ) (la
 no_entry : (es : List (Option Entry)) (i : ℕ) (e : Entry) → slot es i ≡ None → slice_get es i ≡ Some (Some e) → ⊥
 no_entry es i e none there = let h = ap (λ x. unwrap_or x None) there in cc
 
-pub none_laid_out : (es : List (Option Entry)) (size_fields size_units : ℕ) → length es ≡ 32768 → ((k : ℕ) → slot es k ≡ None) → size_fields ≤ 1048576 → size_units ≤ 2097152 → IsLaidOut es size_fields size_units 0 0 0
+pub none_laid_out : (es : List (Option Entry)) (size_fields size_units : ℕ) → length es ≡ 32768 → ((k : ℕ) → slot es k ≡ None) → size_fields ≤ most_words → size_units ≤ 2 * most_words → IsLaidOut es size_fields size_units 0 0 0
 none_laid_out es size_fields size_units places none few_fields few_units = record {
   places = places;
   within = omega arith;

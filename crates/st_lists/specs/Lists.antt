@@ -1,6 +1,7 @@
 -- Objects whose fields and units are runs of two lists.
 use Rattle.std.specs.Prelude.{◌≡◌, ◌≢◌, ℕ, suc, ◌+◌, ◌*◌, ◌/◌, ◌<◌, ◌≤◌, Bool, true, false, is_some, List, [], ◌∷◌, if◌then◌else◌, map, take, drop, length, replicate, slice_get, unwrap_or, Option, Some, None}
 use Rattle.std.specs.Option.{option_map}
+use Rattle.st_model.specs.Limits.{most_words}
 use Rattle.st_model.specs.declared.oop.Oop.{Oop}
 use Rattle.st_model.specs.declared.kind.Kind.{Kind}
 use Rattle.st_model.specs.Values.{Value, Small, Ref, value, is_small}
@@ -70,8 +71,8 @@ pub record IsLaidOut (entries : List (Option Entry)) (fields units table_end nex
   pub apart : AllApart entries
   pub fields_end : next_field ≤ fields
   pub units_end : next_unit ≤ units
-  pub few_fields : fields ≤ 1048576
-  pub few_units : units ≤ 2097152
+  pub few_fields : fields ≤ most_words
+  pub few_units : units ≤ 2 * most_words
 
 -- no place from 1 up to this one is empty
 abbrev pub IsFull : List (Option Entry) → ℕ → Type 0

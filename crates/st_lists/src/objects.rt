@@ -1,4 +1,5 @@
 ghost use Rattle.std.specs.Prelude.{◌≡◌, ◌<◌, ◌≤◌, ℕ, length, true, false, Some, None, IfSome, IfNone, IfOk, slice_get};
+ghost use Rattle.st_model.specs.Limits.{most_words};
 ghost use Rattle.st_model.specs.Values.{value};
 ghost use Rattle.st_model.specs.Objects.{one, words_of};
 ghost use Rattle.st_model.specs.Table.{entry, total_used};
@@ -43,7 +44,7 @@ impl Objects {
 
     /// No objects, and room for the fields and units of so many words.
     pub fn new(alloc: Global, words: u32) -> Result<Objects, AllocError>
-        requires { words ≤ 1048576 }
+        requires { words ≤ most_words }
         ensures places { IfOk result (λ o. length (objects_of o) ≡ 32768) }
         ensures empty { IfOk result (λ o. (k : ℕ) → entry (objects_of o) k ≡ None) }
         ensures extent { IfOk result (λ o. extent_of o ≡ unused words) }

@@ -1,6 +1,11 @@
-pub mod Searching
+mod Bits
+mod Carried
 pub mod Chain
-mod Unbounded
 mod Live
+mod Looked
 mod Pointers
 mod SearchRows
+pub mod Searching
+mod Seeing
+mod Staying
+mod Watching

@@ -12,7 +12,7 @@ use Rattle.st_model.specs.Table.{Table, table, bounded_table}
 use Rattle.st_model.specs.Calls.{Reads}
 use Rattle.st_model.specs.View.{is_live}
 use Rattle.st_lookup.specs.Places.{found_word, found}
-use Rattle.st_lookup.proofs.Unbounded.{find-same}
+use Rattle.st_memory.proofs.Unbounded.{search_bounded}
 use Rattle.st_lookup.proofs.Live.{found_live}
 
 -- a state over a table
@@ -31,7 +31,7 @@ live_there t (Ref n) e = e
 
 module _ (t : Table) (class selector : Oop) (c s : Word) (e : word c ≡ value class) (f : word s ≡ value selector) where
   over_table : (r : Result (Option Word) Dead) → Reads (find bounded_table (word c) (word s)) found_word t r → Reads (find table (value class) (value selector)) found_word t r
-  over_table r h = rw (e, f, find-same (value class) (value selector)) at h
+  over_table r h = rw (e, f, search_bounded (value class) (value selector)) at h
 
   pub dies : (cause : Dead) → Reads (find bounded_table (word c) (word s)) found_word t (Err cause) → Reads (find table (value class) (value selector)) found t (Err cause)
   dies cause h = over_table (Err cause) h

@@ -13,6 +13,7 @@ use Rattle.st_model.specs.Steps.{found, object_named, object, of_page, or_die, c
 use Rattle.st_model.specs.Methods.{method_header}
 use Rattle.st_model.specs.Lookup.{half_word, checked_method, method_at, place_says, look_at_place, look_at_places, search_from, search_dictionary, or_above, method_in_class, look_in_class, unless_nil, end_at_nil, find_within, find}
 use Rattle.st_model.specs.Table.{Table, table}
+use Rattle.st_lookup.specs.Remembered.{watched}
 
 -- opens the definitions of the search
 opened : Unit {0}
@@ -252,3 +253,19 @@ small_superclass = refl
 circle : Dies (chain (Ref 2) (nil ∷ []) (nil ∷ []) (nil ∷ []) (nil ∷ [])) (Ref 2) (Ref 10) dead.Chain
 unfolding opened
 circle = refl
+
+-- Of a class, its dictionary, the Array, the method and the selector each bit is set: the search finds among these alone what
+-- it finds among all.
+watched_alone : Finds (watched (1364 ∷ []) (with_places (nil ∷ nil ∷ Ref 10 ∷ nil ∷ []) (nil ∷ nil ∷ Ref 8 ∷ nil ∷ []))) (Ref 2) (Ref 10) (Some (Ref 8))
+unfolding opened watched
+watched_alone = refl
+
+-- without the dictionary's bit it dies
+dictionary_not_watched : Dies (watched (1348 ∷ []) (with_places (nil ∷ nil ∷ Ref 10 ∷ nil ∷ []) (nil ∷ nil ∷ Ref 8 ∷ nil ∷ []))) (Ref 2) (Ref 10) dead.Kind
+unfolding opened watched
+dictionary_not_watched = refl
+
+-- without the selector's it begins at place 0
+selector_not_watched : Finds (watched (340 ∷ []) (with_places (nil ∷ nil ∷ Ref 10 ∷ nil ∷ []) (nil ∷ nil ∷ Ref 8 ∷ nil ∷ []))) (Ref 2) (Ref 10) None
+unfolding opened watched
+selector_not_watched = refl

@@ -4,7 +4,7 @@ ghost use Rattle.st_model.specs.Lookup.{checked_method, method_at, search_from, 
 ghost use Rattle.st_model.specs.Calls.{Reads};
 ghost use Rattle.st_lookup.specs.Places.{LooksAt, LooksFrom, found_word};
 
-use st_memory::Objects;
+use crate::reading::Reading;
 use st_model::{Dead, PageObject, Word};
 
 /// What the search comes to at some places of a dictionary.
@@ -18,26 +18,26 @@ pub enum Search {
 
 /// What was found, if it is a method.
 #[tactic(auto, using(st_model::proofs::Runs::runs), unfolding(st_model::specs::Lookup::checked_method))]
-fn checked_method<O: Objects>(m: &O, method: Word) -> Result<Option<Word>, Dead>
+fn checked_method<O: Reading>(m: &O, method: Word) -> Result<Option<Word>, Dead>
     ensures { Reads (checked_method O.names (word method)) found_word (O.table m.now) result }
 {
-    m.method_header(method)?;
+    m.header(method)?;
     Ok(Some(method))
 }
 
 /// The method that stands for the selector at place k of a dictionary.
 #[tactic(auto, using(st_model::proofs::Runs::runs), unfolding(st_model::specs::Lookup::method_at))]
-fn method_at<O: Objects>(m: &O, dictionary: Word, k: u32) -> Result<Option<Word>, Dead>
+fn method_at<O: Reading>(m: &O, dictionary: Word, k: u32) -> Result<Option<Word>, Dead>
     ensures { Reads (method_at O.names (word dictionary) k) found_word (O.table m.now) result }
 {
-    let methods = m.fetch_field(dictionary, 1)?;
-    let method = m.fetch_field(methods, k)?;
+    let methods = m.field(dictionary, 1)?;
+    let method = m.field(methods, k)?;
     checked_method(m, method)
 }
 
 /// Looks at place k of a dictionary.
 #[tactic(auto, using(st_model::proofs::Runs::runs))]
-fn look_at_place<O: Objects>(
+fn look_at_place<O: Reading>(
     m: &O,
     dictionary: Word,
     selector: Word,
@@ -46,7 +46,7 @@ fn look_at_place<O: Objects>(
     requires small { k < 262144 }
     ensures { LooksAt O.names (word dictionary) (word selector) k (O.table m.now) result }
 {
-    let place = m.fetch_field(dictionary, 2 + k)?;
+    let place = m.field(dictionary, 2 + k)?;
     if place.same(selector) {
         return Ok(Search::Ends(method_at(m, dictionary, k)?));
     }
@@ -57,7 +57,7 @@ fn look_at_place<O: Objects>(
 }
 
 /// Looks at the places of a dictionary from one on up to before another.
-fn look_at_places<O: Objects>(
+fn look_at_places<O: Reading>(
     m: &O,
     dictionary: Word,
     selector: Word,
@@ -79,7 +79,7 @@ fn look_at_places<O: Objects>(
 }
 
 /// Searches a dictionary from this place on, and from place 0 up to there.
-fn search_from<O: Objects>(
+fn search_from<O: Reading>(
     m: &O,
     dictionary: Word,
     selector: Word,
@@ -103,7 +103,7 @@ fn search_from<O: Objects>(
 
 /// The method for the selector in a dictionary with so many places.
 #[tactic(auto, using(st_model::proofs::Runs::runs), unfolding(st_model::specs::Lookup::search_dictionary))]
-pub fn search_dictionary<O: Objects>(
+pub fn search_dictionary<O: Reading>(
     m: &O,
     dictionary: Word,
     selector: Word,
@@ -114,6 +114,6 @@ pub fn search_dictionary<O: Objects>(
     ensures { Reads (search_dictionary O.names (word dictionary) (word selector) places)
         found_word (O.table m.now) result }
 {
-    let half = m.half_word(selector);
+    let half = m.half(selector);
     search_from(m, dictionary, selector, places, half & (places - 1))
 }

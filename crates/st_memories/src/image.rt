@@ -75,6 +75,17 @@ pub const C: Plan<'static> = Plan {
     ..B
 };
 
+/// The objects of image C, with these words at such places of theirs.
+pub fn objects_of_c(words: &[(usize, u16)]) -> [u16; 98] {
+    let mut objects = OBJECTS_OF_C;
+    for (at, word) in words {
+        if let Some(o) = objects.get_mut(*at) {
+            *o = *word;
+        }
+    }
+    objects
+}
+
 /// Image B with an object under pointer 66 that nothing names.
 pub const UNNAMED: Plan<'static> = Plan {
     further: &[2, 12],
@@ -195,11 +206,11 @@ pub fn image<L: Loader>(
     Ok(loaded::<L>(alloc, plan, entries, words)?.memory)
 }
 
-/// Image B with its registers, and a new world. The memory holds these alone.
-pub fn ready_b<L: Loader>(alloc: Global) -> Result<(Loaded<L::Done>, World), Fail>
+/// An image with its registers, and a new world. The memory holds these alone.
+pub fn ready<L: Loader>(alloc: Global, plan: &Plan<'_>) -> Result<(Loaded<L::Done>, World), Fail>
     ensures { IfOk result (λ p. IsReady (L.Done.view p.0.memory) p.0.frame p.1) }
 {
-    let loaded = loaded::<L>(alloc, &B, 32767, 1048576)?;
+    let loaded = loaded::<L>(alloc, plan, 32767, 1048576)?;
     let world = World::new(alloc)?;
     Ok((loaded, world))
 }
@@ -208,7 +219,7 @@ pub fn ready_b<L: Loader>(alloc: Global) -> Result<(Loaded<L::Done>, World), Fai
 pub fn quiet_b<L: Loader>(alloc: Global) -> Result<(L::Done, World), Fail>
     ensures { IfOk result (λ p. IsNaming (L.Done.view p.0).held p.1) }
 {
-    let (loaded, world) = ready_b::<L>(alloc)?;
+    let (loaded, world) = ready::<L>(alloc, &B)?;
     Ok((loaded.memory, world))
 }
 

@@ -1,7 +1,9 @@
-//! Tests of both memories, alone and beside each other, of the heap below one, and of images, drafts, events, copies of pixels
-//! and machines over them. No crate uses it.
+//! Tests of both memories, alone and beside each other, of the heap below one, of a memory that remembers what searches found,
+//! and of images, drafts, events, copies of pixels and machines over them. No crate uses it.
 #![tactic(auto)]
 
+#[cfg(test)]
+mod cached;
 #[cfg(test)]
 mod draft;
 #[cfg(test)]
@@ -22,5 +24,7 @@ mod pixels;
 mod reads;
 #[cfg(test)]
 mod rows;
+#[cfg(test)]
+mod searches;
 #[cfg(test)]
 mod side_by_side;

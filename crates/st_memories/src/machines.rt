@@ -4,7 +4,7 @@ ghost use Rattle.std.specs.Prelude.{◌≡◌, IfOk, None};
 ghost use Rattle.st_frames.specs.Shown.{IsReady};
 
 use crate::events::counts_are;
-use crate::image::{first_are, make, ready_b, used, write, write_first};
+use crate::image::{B, first_are, make, ready, used, write, write_first};
 use st_counted::CountedLoader;
 use st_frames::{Frame, Loaded};
 use st_input::{World, hold};
@@ -97,7 +97,7 @@ fn machine_of<L: Loader>(
     ensures { IfOk result (λ m. m.death ≡ None
         → IsReady (L.Done.view m.memory) m.frame m.world) }
 {
-    let (mut loaded, mut world) = ready_b::<L>(rt.alloc())?;
+    let (mut loaded, mut world) = ready::<L>(rt.alloc(), &B)?;
     begin(rt, &mut loaded, &mut world, start);
     Ok(Machine::boot(loaded, world))
 }

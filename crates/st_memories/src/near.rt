@@ -1,6 +1,6 @@
 ghost use Rattle.st_frames.specs.Shown.{IsFrame};
 
-use crate::image::{first_are, ready_b};
+use crate::image::{B, first_are, ready};
 use crate::reads::{bytes_are, counts_are, fields_are};
 use st_counted::CountedLoader;
 use st_frames::Frame;
@@ -63,7 +63,7 @@ fn changes_near<M: Memory>(rt: &impl Abort, m: &mut M, f: &Frame)
 
 /// What was stored near at hand stands in the memory.
 fn is_near_in_image_b<L: Loader>(rt: &(impl Abort + AllocGlobal)) -> Result<(), Fail> {
-    let (mut loaded, _world) = ready_b::<L>(rt.alloc())?;
+    let (mut loaded, _world) = ready::<L>(rt.alloc(), &B)?;
     reads_near(rt, &loaded.memory);
     changes_near(rt, &mut loaded.memory, &loaded.frame);
     first_are(rt, &loaded.memory, 62, &[2, 62, 9, 2]);

@@ -11,12 +11,12 @@ const THOUSANDS: u32 = 1000;
 
 /// A fixed generator of numbers below 65536.
 #[derive(Drop)]
-struct Numbers {
-    state: u32,
+pub struct Numbers {
+    pub state: u32,
 }
 
 impl Numbers {
-    fn next(&mut self) -> u32 {
+    pub fn next(&mut self) -> u32 {
         self.state = self.state.wrapping_mul(1664525).wrapping_add(1013904223);
         self.state >> 16
     }
@@ -37,19 +37,19 @@ fn make<M: Memory>(m: &mut M, size: u32) {
     }
 }
 
-fn store<M: Memory>(m: &mut M, o: Oop, at: u32, v: Oop) {
+pub fn store<M: Memory>(m: &mut M, o: Oop, at: u32, v: Oop) {
     if m.live(o) && m.live(v) && m.kind(o).is_pointers() && at < m.size(o) {
         m.set_pointer(o, at, v);
     }
 }
 
-fn hold<M: Memory>(m: &mut M, place: RootPlace, o: Oop) {
+pub fn hold<M: Memory>(m: &mut M, place: RootPlace, o: Oop) {
     if !matches!(place, RootPlace::Pending(_)) && m.live(o) {
         m.hold(place, o);
     }
 }
 
-fn exchange<M: Memory>(m: &mut M, a: Oop, b: Oop) {
+pub fn exchange<M: Memory>(m: &mut M, a: Oop, b: Oop) {
     if m.live(a) && m.live(b) {
         m.swap(a, b);
     }

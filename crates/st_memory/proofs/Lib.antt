@@ -17,6 +17,7 @@ pub mod Sizes
 pub mod Storing
 pub mod Stretches
 mod Swapping
+pub mod Unbounded
 pub mod Units
 mod Wide
 pub mod Writing

@@ -3,4 +3,5 @@ pub mod Copied
 pub mod Drafts
 pub mod Making
 pub mod Noted
+pub mod Searched
 pub mod Tabular

@@ -51,6 +51,13 @@ impl<'a, M: Memory> Draft<'a, M> {
         }
     }
 
+    /// How many objects, changes and exchanges are noted.
+    fn count(&self) -> u32
+        ensures { result ≡ count_of self.now.notes self.now.exchanges }
+    {
+        self.notes.made_count + self.notes.count + self.exchanges.count
+    }
+
     /// What the objects made take of the capacities.
     pub fn demand(&self) -> Demand
         ensures entries { let base = (M.view self.now.base.now).objects in
@@ -567,6 +574,16 @@ impl<'a, M: Memory> Objects for Draft<'a, M> {
     #[tactic(auto, unfolding(st_model::specs::Steps::new_object))]
     fn new_object(&mut self, class: Word, n: u32) -> Result<Word, Dead> {
         self.make(class, Kind::Pointers, n, 0)
+    }
+
+    fn remembered(&self, class: Word, selector: Word) -> Option<Word> {
+        if self.count() > 0 {
+            return None;
+        }
+        if selector.0 >= 65536 {
+            return None;
+        }
+        Objects::remembered(self.base, class, selector)
     }
 
     ghost tabular = { apart_tabular };

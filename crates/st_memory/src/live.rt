@@ -370,5 +370,36 @@ impl<M: Memory> Objects for M {
         Objects::make(self, class, Kind::Pointers, n, 0)
     }
 
+    #[tactic(auto, using(crate::proofs::Unbounded::bounded))]
+    fn remembered(&self, class: Word, selector: Word) -> Option<Word> {
+        let class = match live_object(self, class) {
+            Ok(class) => class,
+            Err(_) => return None,
+        };
+        let selector = match live_value(self, selector) {
+            Some(selector) => selector,
+            None => return None,
+        };
+        match Memory::remembered(self, class, selector) {
+            Some(method) => Some(Word::from(method)),
+            None => None,
+        }
+    }
+
+    #[tactic(auto, using(crate::proofs::Unbounded::bounded))]
+    fn remember(&mut self, class: Word, selector: Word, method: Word) {
+        let class = match live_value(self, class) {
+            Some(class) => class,
+            None => return,
+        };
+        let selector = match live_value(self, selector) {
+            Some(selector) => selector,
+            None => return,
+        };
+        if let Some(method) = live_value(self, method) {
+            Memory::remember(self, class, selector, method);
+        }
+    }
+
     ghost tabular = { bounded_tabular };
 }

@@ -1,4 +1,5 @@
 ghost use Rattle.std.specs.Prelude.{◌≡◌, ◌≢◌, ◌<◌, ◌≤◌, ◌+◌, ◌-◌, ◌/◌, length, true, false, IfOk, slice_get, None};
+ghost use Rattle.st_model.specs.Limits.{most_words};
 ghost use Rattle.st_model.specs.Values.{value, is_small};
 ghost use Rattle.st_model.specs.Objects.{is_words, words_of, first_unit, one};
 ghost use Rattle.st_model.specs.Table.{total_used, entry};
@@ -25,7 +26,7 @@ pub trait Loader: Sized + Drop {
         symbols: Oop,
     ) -> Result<Self, AllocError>
         requires entries { capacity.entries ≤ 32767 }
-        requires words { capacity.words ≤ 1048576 }
+        requires words { capacity.words ≤ most_words }
         ensures { IfOk result (λ l. loaded l ≡ empty_view (head_of capacity globals symbols)) };
 
     /// A new object at a free pointer, with fields of nil, words and bytes of 0, and a method's literal count.

@@ -6,6 +6,7 @@ ghost use Rattle.st_model.specs.Table.{total_used, first_free, placed};
 ghost use Rattle.st_model.specs.Formed.{IsHeader, IsMakeable, fresh};
 ghost use Rattle.st_model.specs.View.{View, IsKnown, is_live, object_of, IsWhole, IsPlace, held_at, with_held, with_stored, with_unit, with_exchanged, is_instance, table_of, SettlesTo, demand_of, fits};
 ghost use Rattle.st_memory.specs.Copied.{units_from, with_run};
+ghost use Rattle.st_memory.specs.Searched.{Finds};
 
 use st_model::{Demand, Kind, Oop, RootPlace};
 
@@ -229,6 +230,22 @@ pub trait Memory: Drop {
     /// The pointer of the symbol table, or 0.
     fn symbols(&self) -> Oop
         ensures { table_of result.0 ≡ (view self.now).head.symbols };
+
+    /// The method that is remembered for a selector in a class, if one is: it is the one that the search finds.
+    fn remembered(&self, _class: Oop, _selector: Oop) -> Option<Oop>
+        requires class { is_live (view self.now).objects (value _class) ≡ true }
+        requires selector { IsKnown (view self.now).objects (value _selector) }
+        ensures { IfSome result (λ method.
+            Finds (view self.now).objects (value _class) (value _selector) (value method)) }
+    {
+        None
+    }
+
+    /// Remembers the method that the search finds for a selector in a class, or doesn't.
+    fn remember(&mut self, _class: Oop, _selector: Oop, _method: Oop)
+        requires { Finds (view self.old).objects (value _class) (value _selector) (value _method) }
+        ensures { view self.new ≡ view self.old }
+    {}
 
     /// What stands in an object or is held is a SmallInteger or live, each object is what its kind says, and all is
     /// within the capacities.

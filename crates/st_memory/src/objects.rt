@@ -1,5 +1,5 @@
 ghost use Rattle.std.specs.Option.{option_map};
-ghost use Rattle.std.specs.Prelude.{◌≡◌, ◌≢◌, ℕ, ◌+◌, ◌≤◌, IfOk};
+ghost use Rattle.std.specs.Prelude.{◌≡◌, ◌≢◌, ℕ, ◌+◌, ◌≤◌, Ok, Some, IfOk, IfSome};
 ghost use Rattle.st_model.specs.Values.{Ref, word};
 ghost use Rattle.st_model.specs.Objects.{place_of};
 ghost use Rattle.st_model.specs.declared.page.PageObject.TheVariants.{MethodClass};
@@ -7,7 +7,7 @@ ghost use Rattle.st_model.specs.Machine.{ObjectMemory, Head, is_there};
 ghost use Rattle.st_model.specs.Table.{Table, IsTabular};
 ghost use Rattle.st_model.specs.Steps.{fetch_field, count_fields, class_of, literal, fetch_method_field, byte_at, fetch_word, fetch_byte, store_field, transfer, exchange, make, new_object, object_at, next_instance, fetch_kind, fetch_size, get_free};
 ghost use Rattle.st_model.specs.Methods.{method_header, literal_from_last};
-ghost use Rattle.st_model.specs.Lookup.{half_word};
+ghost use Rattle.st_model.specs.Lookup.{half_word, find};
 ghost use Rattle.st_model.specs.Calls.{Reads, Changes, itself};
 ghost use Rattle.st_model.specs.View.{View};
 ghost use Rattle.st_memory.specs.Making.{CanMake};
@@ -162,6 +162,24 @@ pub trait Objects {
         ensures head { head self.new ≡ head self.old }
         ensures room { room self.old ≤ room self.new + 1 }
         ensures fixed { fixed self.new ≡ fixed self.old };
+
+    /// The method that is remembered for a selector in a class, if one is: it is the one that the search finds.
+    fn remembered(&self, _class: Word, _selector: Word) -> Option<Word>
+        ensures { IfSome result (λ method.
+            Reads (find names (word _class) (word _selector)) itself (table self.now) (Ok (Some (word method)))) }
+    {
+        None
+    }
+
+    /// Remembers the method that the search finds for a selector in a class, or doesn't.
+    fn remember(&mut self, _class: Word, _selector: Word, _method: Word)
+        requires { Reads (find names (word _class) (word _selector)) itself (table self.old)
+            (Ok (Some (word _method))) }
+        ensures table { table self.new ≡ table self.old }
+        ensures head { head self.new ≡ head self.old }
+        ensures room { room self.new ≡ room self.old }
+        ensures fixed { fixed self.new ≡ fixed self.old }
+    {}
 
     /// It reads and changes objects as a table does.
     ghost tabular: { IsTabular names };

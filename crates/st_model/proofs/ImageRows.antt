@@ -6,7 +6,7 @@ use Rattle.st_model.specs.declared.kind.Kind.TheVariants as kind
 use Rattle.st_model.specs.declared.dead.Dead.TheVariants as dead
 use Rattle.st_model.specs.declared.fault.ImageFault.TheVariants.{Size, Overlap, Class, Field, Method, Root}
 use Rattle.st_model.specs.declared.head.ImageHead.{ImageHead}
-use Rattle.st_model.specs.Image.{number16, number32, has_letters, image_head, flags, location, is_used, place, size, class, body, names}
+use Rattle.st_model.specs.Image.{number16, number32, has_letters, image_head, flags, form_of, entries_of, entry_start, place, is_used, size, class, body, names}
 use Rattle.st_model.specs.Faults.{Fails, short_fails, lengths_fail, capacity_fails, size_fails, class_fails, is_field, field_fails, method_fails, root_fails, roots}
 use Rattle.st_model.specs.Values.{Value, Small, Ref, value_of}
 use Rattle.st_model.specs.Objects.{Object, nil}
@@ -19,7 +19,7 @@ use Rattle.st_model.specs.Start.{is_word_class, has_words, kind_in, fields_in, u
 
 -- opens the reading of images, and the rows of faults
 opened : Unit {0}
-unfolding number16 number32 has_letters image_head flags location is_used size class body names short_fails lengths_fail capacity_fails size_fails class_fails is_field field_fails method_fails root_fails
+unfolding number16 number32 has_letters image_head form_of entries_of entry_start flags place is_used size class body names short_fails lengths_fail capacity_fails size_fails class_fails is_field field_fails method_fails root_fails
 opened = tt
 
 bytes_of : List ℕ → List ℕ
@@ -50,6 +50,22 @@ image = bytes_of head_words ++ replicate 488 0 ++ bytes_of space ++ replicate 35
 head : ImageHead
 head = record { space = 78; table = 66; version = 1; entries = 32767; words = 1048576; globals = 0; symbols = 0 }
 
+-- the same image in version 2: the location has two words
+wide : List ℕ → List ℕ
+wide [] = []
+wide (marks ∷ []) = marks ∷ []
+wide (marks ∷ at ∷ rest) = marks ∷ 0 ∷ at ∷ wide rest
+
+second_words : List ℕ
+second_words = 0 ∷ 78 ∷ 0 ∷ 99 ∷ 21332 ∷ 14384 ∷ 0 ∷ 2 ∷ 0 ∷ 32767 ∷ 256 ∷ 0 ∷ []
+
+second_image : List ℕ
+unfolding bytes_of second_words bare space entries wide
+second_image = bytes_of second_words ++ replicate 488 0 ++ bytes_of space ++ replicate 356 0 ++ bytes_of (wide entries)
+
+second_head : ImageHead
+second_head = record { space = 78; table = 99; version = 2; entries = 32767; words = 16777216; globals = 0; symbols = 0 }
+
 -- the file with a word put at a byte
 put_word : ℕ → ℕ → List ℕ → List ℕ
 put_word at w bytes = slice_set (slice_set bytes at (w / 256)) (at + 1) (w % 256)
@@ -58,6 +74,11 @@ put_word at w bytes = slice_set (slice_set bytes at (w / 256)) (at + 1) (w % 256
 none : (ℕ → Bool) → ℕ → Bool
 none test zero = true
 none test (suc n) = not (test n) && none test n
+
+-- what a test says of each number
+each : (ℕ → Bool) → List ℕ → List Bool
+each test [] = []
+each test (n ∷ ns) = test n ∷ each test ns
 
 -- WELL-FORMED IN ITS PARTS
 
@@ -104,6 +125,63 @@ methods_right = refl
 roots_right : list_any (root_fails head image) (roots head) ≡ false
 unfolding opened image head
 roots_right = refl
+
+-- THE VERSIONS
+
+second_read : image_head second_image ≡ second_head
+unfolding opened second_image second_head
+second_read = refl
+
+second_right : short_fails second_head second_image || lengths_fail second_head || capacity_fails second_head second_image ≡ false
+unfolding opened second_image second_head
+second_right = refl
+
+-- the same marks and places in both, and so the same objects
+second_entry : flags second_head second_image 32 ∷ place second_head second_image 32 ∷ [] ≡ flags head image 32 ∷ place head image 32 ∷ []
+unfolding opened image head second_image second_head
+second_entry = refl
+
+second_sizes : none (λ k. size_fails second_head second_image k || class_fails second_head second_image k || method_fails second_head second_image k) 33 ≡ true
+unfolding opened second_image second_head none
+second_sizes = refl
+
+-- place 65608 is in segment 1 of version 1, and in version 2 the upper word of its location is 1
+further_places : place head (put_word 1152 129 image) 32 ∷ place second_head (put_word 1218 1 second_image) 32 ∷ [] ≡ 65608 ∷ 65608 ∷ []
+unfolding opened image head second_image second_head put_word
+further_places = refl
+
+-- the marks of version 2 have no segment: what stands in bits 12 to 15 is not looked at
+no_segment : place second_head (put_word 1216 143 second_image) 32 ∷ flags second_head (put_word 1216 143 second_image) 32 ∷ [] ≡ 72 ∷ 143 ∷ []
+unfolding opened second_image second_head put_word
+no_segment = refl
+
+versions : each (λ n. lengths_fail (record head { version = n })) (0 ∷ 1 ∷ 3 ∷ 4294967295 ∷ []) ≡ true ∷ false ∷ true ∷ true ∷ []
+unfolding opened head each
+versions = refl
+
+tables : each (λ n. lengths_fail (record head { table = n })) (65 ∷ 66 ∷ 65536 ∷ 65538 ∷ []) ≡ true ∷ false ∷ false ∷ true ∷ []
+unfolding opened head each
+tables = refl
+
+second_tables : each (λ n. lengths_fail (record second_head { table = n })) (96 ∷ 98 ∷ 99 ∷ 98304 ∷ 98307 ∷ []) ≡ false ∷ true ∷ false ∷ false ∷ true ∷ []
+unfolding opened second_head each
+second_tables = refl
+
+spaces : each (λ n. lengths_fail (record head { space = n })) (1048576 ∷ 1048577 ∷ []) ≡ false ∷ true ∷ []
+unfolding opened head each
+spaces = refl
+
+second_spaces : each (λ n. lengths_fail (record second_head { space = n })) (16777216 ∷ 16777217 ∷ []) ≡ false ∷ true ∷ []
+unfolding opened second_head each
+second_spaces = refl
+
+capacities : each (λ n. capacity_fails (record head { words = n }) image) (77 ∷ 78 ∷ 1048576 ∷ 1048577 ∷ []) ≡ true ∷ false ∷ false ∷ true ∷ []
+unfolding opened image head each
+capacities = refl
+
+second_capacities : each (λ n. capacity_fails (record second_head { words = n }) second_image) (77 ∷ 78 ∷ 16777216 ∷ 16777217 ∷ []) ≡ true ∷ false ∷ false ∷ true ∷ []
+unfolding opened second_image second_head each
+second_capacities = refl
 
 -- FAULTS
 

@@ -3,6 +3,7 @@ use Rattle.std.proofs.Common.{◌≡◌, ◌≢◌, ℕ, ◌+◌, ◌<◌, ◌�
 use Rattle.std.specs.Prelude.{slice_index_or, Option, Some, None}
 use Rattle.std.proofs.lemmas.Bool.{cases_eq}
 use Rattle.std.proofs.lemmas.List.{length-replicate}
+use Rattle.st_model.specs.Limits.{most_words}
 use Rattle.st_model.specs.declared.place.RootPlace.{RootPlace}
 use Rattle.st_model.specs.declared.place.RootPlace.TheVariants as place
 use Rattle.st_model.specs.Values.{Value, Ref}
@@ -174,7 +175,7 @@ unfolding nothing_held no_devices
 held_nothing (place.Pending k) = nil_at 4096 k
 held_nothing p = refl
 
-pub loading_empty : (head : Head) → head.entries ≤ 32767 → head.words ≤ 1048576 → IsLoading (empty_view head)
+pub loading_empty : (head : Head) → head.entries ≤ 32767 → head.words ≤ most_words → IsLoading (empty_view head)
 unfolding empty_view nothing_held no_devices
 loading_empty head entries words = record {
   places = length-none 32768;

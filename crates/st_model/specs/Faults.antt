@@ -8,27 +8,29 @@ use Rattle.st_model.specs.declared.fault.ImageFault.TheVariants.{Short, Lengths,
 use Rattle.st_model.specs.declared.head.ImageHead.{ImageHead}
 use Rattle.st_model.specs.Objects.{page, place_of}
 use Rattle.st_model.specs.Machine.{Transition, Died}
-use Rattle.st_model.specs.Image.{table_end, entries_of, has_odd_length, has_pointers, is_used, place, size, class, body, literal_count, names}
+use Rattle.st_model.specs.Image.{table_end, form_of, entries_of, has_odd_length, has_pointers, is_used, place, size, class, body, literal_count, names}
 use Rattle.st_model.specs.Start.{start}
 
 -- 1: the file has no whole head, or ends before its table does
 unfoldable pub short_fails : ImageHead → List ℕ → Bool
 short_fails h bytes = nat_lt (length bytes) 512 || nat_lt (length bytes) (table_end h)
 
--- 2: the table's length is odd or above 65536, the object space is above 1048576, or the version isn't 1
+-- 2: the version isn't 1 or 2, the table's length is that of no number of entries or of more than 32768, or the object space is
+-- longer than the version has
 unfoldable pub lengths_fail : ImageHead → Bool
-lengths_fail h = (h.table % 2 == 1) || nat_lt 65536 h.table || nat_lt 1048576 h.space || not (h.version == 1)
+lengths_fail h = not (h.version == 1 || h.version == 2) || not (h.table % (form_of h).width == 0)
+    || nat_lt (32768 * (form_of h).width) h.table || nat_lt (form_of h).most h.space
 
 -- how many of the first n entries are in use
 abbrev pub used_below : ImageHead → List ℕ → ℕ → ℕ
 used_below h bytes zero = 0
 used_below h bytes (suc n) = used_below h bytes n + (if is_used h bytes n then 1 else 0)
 
--- 3: the capacity for entries is above 32767 or below the number of entries in use, or that for words is above 1048576
--- or below the length of the object space
+-- 3: the capacity for entries is above 32767 or below the number of entries in use, or that for words is more than the version
+-- has or below the length of the object space
 unfoldable pub capacity_fails : ImageHead → List ℕ → Bool
 capacity_fails h bytes = nat_lt 32767 h.entries || nat_lt h.entries (used_below h bytes (entries_of h))
-    || nat_lt 1048576 h.words || nat_lt h.words h.space
+    || nat_lt (form_of h).most h.words || nat_lt h.words h.space
 
 -- 4: the object leaves the object space, its size is under 2, or odd length stands with pointers or with an empty body
 unfoldable pub size_fails : ImageHead → List ℕ → ℕ → Bool

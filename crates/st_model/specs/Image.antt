@@ -3,6 +3,7 @@
 use Rattle.std.specs.Prelude.{ℕ, ◌+◌, ◌-◌, ◌*◌, ◌/◌, ◌%◌, ◌^◌, ◌==◌, List, drop, slice_index, Bool, not, ◌&&◌, nat_lt, nat_eq, codes, if◌then◌else◌}
 use Rattle.std.specs.List.{starts_with}
 use Rattle.st_model.specs.declared.head.ImageHead.{ImageHead}
+use Rattle.st_model.specs.Limits.{most_words}
 
 -- the number in two bytes, the higher byte first
 unfoldable pub number16 : List ℕ → ℕ → ℕ
@@ -43,18 +44,36 @@ table_start h = 512 + (2 * h.space + 511) / 512 * 512
 abbrev pub table_end : ImageHead → ℕ
 table_end h = table_start h + 2 * h.table
 
--- how many entries it has; entry k is that of pointer 2k
-abbrev pub entries_of : ImageHead → ℕ
-entries_of h = h.table / 2
+-- What a version settles: how many words an entry of the table has, how many an object space may have, and at which word of
+-- it the object begins whose entry begins at a byte of the file.
+pub record EntryForm : Type 0 where
+  pub width : ℕ
+  pub most : ℕ
+  pub place : List ℕ → ℕ → ℕ
 
--- The first word of entry k: odd length in bit 8, pointers in bit 9, free in bit 10, the words mark in bit 11 and the
--- segment in bits 12 to 15. The higher bits, which counted references in the book, are not looked at.
+-- version 1: the marks with the segment, and the location in it; a segment has 65536 words
+abbrev pub first_form : EntryForm
+first_form = record { width = 2; most = 1048576; place = λ bytes at. number16 bytes at % 16 * 65536 + number16 bytes (at + 2) }
+
+-- version 2: the marks, and the location in two words
+abbrev pub second_form : EntryForm
+second_form = record { width = 3; most = most_words; place = λ bytes at. number32 bytes (at + 2) }
+
+unfoldable pub form_of : ImageHead → EntryForm
+form_of h = if h.version == 2 then second_form else first_form
+
+-- how many entries the table has; entry k is that of pointer 2k
+unfoldable pub entries_of : ImageHead → ℕ
+entries_of h = h.table / (form_of h).width
+
+-- the byte at which entry k begins
+unfoldable pub entry_start : ImageHead → ℕ → ℕ
+entry_start h k = table_start h + 2 * (form_of h).width * k
+
+-- The first word of entry k: odd length in bit 8, pointers in bit 9, free in bit 10, the words mark in bit 11. The higher
+-- bits, which counted references in the book, are not looked at, and the lower ones in version 1 alone.
 unfoldable pub flags : ImageHead → List ℕ → ℕ → ℕ
-flags h bytes k = number16 bytes (table_start h + 4 * k)
-
--- the second word of entry k: the location in the segment
-unfoldable pub location : ImageHead → List ℕ → ℕ → ℕ
-location h bytes k = number16 bytes (table_start h + 4 * k + 2)
+flags h bytes k = number16 bytes (entry_start h k)
 
 -- the last byte of the body is no part of the object
 abbrev pub has_odd_length : ImageHead → List ℕ → ℕ → Bool
@@ -72,9 +91,9 @@ is_free h bytes k = bit 10 (flags h bytes k)
 unfoldable pub is_used : ImageHead → List ℕ → ℕ → Bool
 is_used h bytes k = nat_lt 0 k && (nat_lt k (entries_of h) && not (is_free h bytes k))
 
--- the word of the object space at which the object of entry k begins; a segment has 65536 words
-abbrev pub place : ImageHead → List ℕ → ℕ → ℕ
-place h bytes k = flags h bytes k % 16 * 65536 + location h bytes k
+-- the word of the object space at which the object of entry k begins
+unfoldable pub place : ImageHead → List ℕ → ℕ → ℕ
+place h bytes k = (form_of h).place bytes (entry_start h k)
 
 -- the word at a place of the object space
 abbrev pub word : List ℕ → ℕ → ℕ

@@ -4,6 +4,7 @@ use Rattle.st_model.specs.declared.place.RootPlace.{RootPlace}
 use Rattle.st_model.specs.Objects.{Object, nil, one, words_of}
 use Rattle.st_model.specs.Formed.{IsFormed}
 use Rattle.st_model.specs.Table.{entry, total_used}
+use Rattle.st_model.specs.Limits.{most_words}
 use Rattle.st_model.specs.View.{View, held_at}
 
 -- All that a whole memory says, but that what the objects refer to need not be there yet; and nothing is held.
@@ -16,4 +17,4 @@ pub record IsLoading (v : View) : Type 0 where
   pub entries : total_used one v.objects ≤ v.head.entries
   pub words : total_used words_of v.objects ≤ v.head.words
   pub most_entries : v.head.entries ≤ 32767
-  pub most_words : v.head.words ≤ 1048576
+  pub most_words : v.head.words ≤ most_words

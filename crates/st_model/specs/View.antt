@@ -10,6 +10,7 @@ use Rattle.st_model.specs.declared.demand.Demand.{Demand}
 use Rattle.st_model.specs.Values.{Value, Small, Ref, value_of, is_small}
 use Rattle.st_model.specs.Objects.{Object, PageObject, nil, place_of, one, with_field, object_with_unit, words_of, IsLiveObject, is_pointers}
 use Rattle.st_model.specs.Formed.{IsFormed}
+use Rattle.st_model.specs.Limits.{most_words}
 use Rattle.st_model.specs.Machine.{Devices, Head, head_roots, device_roots}
 use Rattle.st_model.specs.Table.{Table, table, entry, changed, exchanged, total_used}
 use Rattle.st_model.specs.Settled.{IsSettled}
@@ -171,7 +172,7 @@ pub record IsWhole (v : View) : Type 0 where
   pub entries : total_used one v.objects ≤ v.head.entries
   pub words : total_used words_of v.objects ≤ v.head.words
   pub most_entries : v.head.entries ≤ 32767
-  pub most_words : v.head.words ≤ 1048576
+  pub most_words : v.head.words ≤ most_words
 
 -- w is v with nothing kept but the largest set that supports itself
 pub record SettlesTo (v w : View) : Type 0 where

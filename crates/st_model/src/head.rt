@@ -3,7 +3,7 @@
 pub struct ImageHead {
     /// The length of the object space in words.
     pub space: u32,
-    /// The length of the object table in words, two an entry.
+    /// The length of the object table in words, two or three an entry.
     pub table: u32,
     /// The version of the file's form.
     pub version: u32,

@@ -153,5 +153,13 @@ impl<'a, M: Memory> Objects for Near<'a, M> {
         Objects::make(self, class, Kind::Pointers, n, 0)
     }
 
+    fn remembered(&self, class: Word, selector: Word) -> Option<Word> {
+        Objects::remembered(self.memory, class, selector)
+    }
+
+    fn remember(&mut self, class: Word, selector: Word, method: Word) {
+        Objects::remember(self.memory, class, selector, method);
+    }
+
     ghost tabular = { bounded_tabular };
 }

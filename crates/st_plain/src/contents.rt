@@ -1,4 +1,5 @@
 ghost use Rattle.std.specs.Prelude.{◌≡◌, ◌<◌, ◌≤◌, ◌+◌, ◌*◌, ◌/◌, ℕ, length, false, IfOk};
+ghost use Rattle.st_model.specs.Limits.{most_words};
 ghost use Rattle.st_model.specs.Values.{value, Ref, is_small};
 ghost use Rattle.st_model.specs.Objects.{one, words_of};
 ghost use Rattle.st_model.specs.Formed.{IsMakeable, fresh};
@@ -44,7 +45,7 @@ impl Contents {
 
     /// No objects under a head, and nothing held.
     pub fn new(alloc: Global, head: Head) -> Result<Contents, AllocError>
-        requires { head.capacity.words ≤ 1048576 }
+        requires { head.capacity.words ≤ most_words }
         ensures empty { let said = head_of head.capacity head.globals head.symbols in
             IfOk result (λ c. plain_view c ≡ empty_view said) }
         ensures extent { IfOk result (λ c. extent_of c.objects ≡ unused head.capacity.words) }

@@ -31,7 +31,8 @@ use Rattle.st_model.specs.Table.{Table, apart, bounded_table}
 use Rattle.st_control.specs.Foreseen.{IsForeseen}
 use Rattle.st_quick.specs.declared.ending.RowEnd.{RowEnd}
 use Rattle.st_quick.specs.declared.ending.RowEnd.TheVariants.{ToForesee, Done, Leaves}
-use Rattle.st_control.specs.AtOnce.{at_once, activate_at_once, jump_at_once, return_to_sender_at_once, return_to_caller_at_once}
+use Rattle.st_memory.specs.declared.objects.Objects.{Ghosts}
+use Rattle.st_control.specs.AtOnce.{AreStill, at_once, activate_at_once, jump_at_once, return_to_sender_at_once, return_to_caller_at_once}
 
 -- what a primitive on SmallIntegers answered, unless it failed, or answers a Point, which would have to be made
 unfoldable pub answered_at_once : {H : Type 0} → ObjectMemory H → Option IntAnswer → Step H Bool
@@ -185,8 +186,8 @@ deed_left Done = Nothing
 deed_left (Leaves deed) = deed
 
 -- where it is to be foreseen, the objects are as they were
-abbrev pub StillToForesee : {M : Type 0} → M → Result RowEnd Dead → M → Type 0
-StillToForesee old result new = IfOk result (λ end. was_done end ≡ false → new ≡ old)
+abbrev pub StillToForesee : {M : Type 0} → Ghosts M → M → Result RowEnd Dead → M → Type 0
+StillToForesee o old result new = IfOk result (λ end. was_done end ≡ false → AreStill o old new)
 
 -- the bytecode would have been foreseen, with room for what it makes, and goes on to this state
 abbrev pub GoesOn : State Table → State Table → Type 0

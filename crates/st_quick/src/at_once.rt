@@ -12,12 +12,11 @@ ghost use Rattle.st_frames.specs.Rows.{RowMoves, RowDoes, RowLeaves, Takes, acti
 
 use crate::ending::RowEnd;
 use st_control::{
-    activate_at_once, jump_at_once, method_primitive, return_to_caller_at_once,
+    activate_at_once, find_method, jump_at_once, method_primitive, return_to_caller_at_once,
     return_to_sender_at_once, value_at_once,
 };
 use st_frames::{Registers, next_byte, page, pop, under};
 use st_ints::IntAnswer;
-use st_lookup::look_up;
 use st_memory::Objects;
 use st_method::Header;
 use st_model::{Bytecode, Constant, Dead, PageObject, Tried, Word, decode};
@@ -41,7 +40,7 @@ fn answered_at_once<O: Objects>(
     ensures does { RowDoes O.Objects.own (answered_at_once O.names (Some answer))
         itself m.old r.old result m.new r.new }
     ensures takes { Takes O.Objects.own 1 m.old m.new }
-    ensures still { IsStill m.old result m.new }
+    ensures still { IsStill O.Objects.own m.old result m.new }
 {
     let value = match answer {
         IntAnswer::Number(n) => word_of(n),
@@ -66,7 +65,7 @@ fn arithmetic_at_once_by<O: Objects>(
     ensures does { RowDoes O.Objects.own (arithmetic_at_once_by O.names k (word receiver))
         itself m.old r.old result m.new r.new }
     ensures takes { Takes O.Objects.own 1 m.old m.new }
-    ensures still { IsStill m.old result m.new }
+    ensures still { IsStill O.Objects.own m.old result m.new }
 {
     if !receiver.is_small() {
         return Ok(false);
@@ -85,7 +84,7 @@ fn arithmetic_at_once<O: Objects>(m: &mut O, r: &mut Registers, k: u32) -> Resul
     ensures does { RowDoes O.Objects.own (arithmetic_at_once O.names k)
         itself m.old r.old result m.new r.new }
     ensures takes { Takes O.Objects.own 1 m.old m.new }
-    ensures still { IsStill m.old result m.new }
+    ensures still { IsStill O.Objects.own m.old result m.new }
 {
     let receiver = under(m, r, 1)?;
     arithmetic_at_once_by(m, r, k, receiver)
@@ -98,7 +97,7 @@ fn primitive_at_once<O: Objects>(m: &mut O, r: &mut Registers, k: u32) -> Result
     requires room { 6 ≤ O.room m.old }
     ensures does { RowDoes O.Objects.own (primitive_at_once O.names k) itself m.old r.old result m.new r.new }
     ensures takes { Takes O.Objects.own 6 m.old m.new }
-    ensures still { IsStill m.old result m.new }
+    ensures still { IsStill O.Objects.own m.old result m.new }
 {
     match k {
         22 => equivalence(m, r)?,
@@ -169,7 +168,7 @@ fn return_receiver_at_once<O: Objects>(m: &mut O, r: &mut Registers) -> Result<b
     ensures does { RowDoes O.Objects.own (return_receiver_at_once O.names)
         itself m.old r.old result m.new r.new }
     ensures takes { Takes O.Objects.own 3 m.old m.new }
-    ensures still { IsStill m.old result m.new }
+    ensures still { IsStill O.Objects.own m.old result m.new }
 {
     return_to_sender_at_once(m, r, r.receiver)
 }
@@ -185,7 +184,7 @@ fn return_constant_at_once<O: Objects>(
     ensures does { RowDoes O.Objects.own (return_constant_at_once O.names constant)
         itself m.old r.old result m.new r.new }
     ensures takes { Takes O.Objects.own 3 m.old m.new }
-    ensures still { IsStill m.old result m.new }
+    ensures still { IsStill O.Objects.own m.old result m.new }
 {
     let x = constant_value(m, r, constant);
     return_to_sender_at_once(m, r, x)
@@ -198,7 +197,7 @@ fn return_top_to_sender_at_once<O: Objects>(m: &mut O, r: &mut Registers) -> Res
     ensures does { RowDoes O.Objects.own (return_top_to_sender_at_once O.names)
         itself m.old r.old result m.new r.new }
     ensures takes { Takes O.Objects.own 3 m.old m.new }
-    ensures still { IsStill m.old result m.new }
+    ensures still { IsStill O.Objects.own m.old result m.new }
 {
     let x = pop(m, r)?;
     return_to_sender_at_once(m, r, x)
@@ -211,7 +210,7 @@ fn return_top_to_caller_at_once<O: Objects>(m: &mut O, r: &mut Registers) -> Res
     ensures does { RowDoes O.Objects.own (return_top_to_caller_at_once O.names)
         itself m.old r.old result m.new r.new }
     ensures takes { Takes O.Objects.own 3 m.old m.new }
-    ensures still { IsStill m.old result m.new }
+    ensures still { IsStill O.Objects.own m.old result m.new }
 {
     let x = pop(m, r)?;
     return_to_caller_at_once(m, r, x)
@@ -231,7 +230,7 @@ fn activated_at_once<O: Objects>(
     ensures does { RowLeaves O.Objects.own (activate_at_once O.names (word method) (word header.0) n)
         was_done deed_left m.old r.old result m.new r.new }
     ensures takes { Takes O.Objects.own activation_changes m.old m.new }
-    ensures still { StillToForesee m.old result m.new }
+    ensures still { StillToForesee O.Objects.own m.old result m.new }
 {
     if activate_at_once(m, r, method, header, n)? {
         Ok(RowEnd::Done)
@@ -252,7 +251,7 @@ fn respond_at_once<O: Objects>(
     ensures does { RowLeaves O.Objects.own (respond_at_once O.names (word method) n)
         was_done deed_left m.old r.old result m.new r.new }
     ensures takes { Takes O.Objects.own activation_changes m.old m.new }
-    ensures still { StillToForesee m.old result m.new }
+    ensures still { StillToForesee O.Objects.own m.old result m.new }
 {
     let primitive = method_primitive(m, r, method)?;
     match try_process(m, r, primitive, n)? {
@@ -277,7 +276,7 @@ fn execute_at_once_by<O: Objects>(
         (execute_at_once_by O.names (word method) (word header.0) n (flag_of (word header.0)))
         was_done deed_left m.old r.old result m.new r.new }
     ensures takes { Takes O.Objects.own activation_changes m.old m.new }
-    ensures still { StillToForesee m.old result m.new }
+    ensures still { StillToForesee O.Objects.own m.old result m.new }
 {
     match header.flag() {
         5 => Ok(RowEnd::Done),
@@ -303,7 +302,7 @@ fn execute_at_once<O: Objects>(
     ensures does { RowLeaves O.Objects.own (execute_at_once O.names (word method) n)
         was_done deed_left m.old r.old result m.new r.new }
     ensures takes { Takes O.Objects.own activation_changes m.old m.new }
-    ensures still { StillToForesee m.old result m.new }
+    ensures still { StillToForesee O.Objects.own m.old result m.new }
 {
     let header = Header(m.method_header(method)?);
     execute_at_once_by(m, r, method, header, n)
@@ -322,7 +321,7 @@ fn found_at_once<O: Objects>(
     ensures does { RowLeaves O.Objects.own (found_at_once O.names n (found_word method))
         was_done deed_left m.old r.old result m.new r.new }
     ensures takes { Takes O.Objects.own activation_changes m.old m.new }
-    ensures still { StillToForesee m.old result m.new }
+    ensures still { StillToForesee O.Objects.own m.old result m.new }
 {
     match method {
         Some(method) => execute_at_once(m, r, method, n),
@@ -344,9 +343,9 @@ fn send_from_at_once<O: Objects>(
     ensures does { RowLeaves O.Objects.own (send_from_at_once O.names (word class) (word selector) n)
         was_done deed_left m.old r.old result m.new r.new }
     ensures takes { Takes O.Objects.own activation_changes m.old m.new }
-    ensures still { StillToForesee m.old result m.new }
+    ensures still { StillToForesee O.Objects.own m.old result m.new }
 {
-    let method = look_up(m, class, selector)?;
+    let method = find_method(m, r, class, selector)?;
     found_at_once(m, r, n, method)
 }
 
@@ -363,7 +362,7 @@ fn send_at_once<O: Objects>(
     ensures does { RowLeaves O.Objects.own (send_at_once O.names (word selector) n)
         was_done deed_left m.old r.old result m.new r.new }
     ensures takes { Takes O.Objects.own activation_changes m.old m.new }
-    ensures still { StillToForesee m.old result m.new }
+    ensures still { StillToForesee O.Objects.own m.old result m.new }
 {
     let receiver = under(m, r, n)?;
     let class = m.fetch_class(receiver)?;
@@ -383,7 +382,7 @@ fn literal_send_at_once<O: Objects>(
     ensures does { RowLeaves O.Objects.own (literal_send_at_once O.names i n)
         was_done deed_left m.old r.old result m.new r.new }
     ensures takes { Takes O.Objects.own activation_changes m.old m.new }
-    ensures still { StillToForesee m.old result m.new }
+    ensures still { StillToForesee O.Objects.own m.old result m.new }
 {
     let selector = fetch_literal_constant(m, r, i)?;
     send_at_once(m, r, selector, n)
@@ -398,7 +397,7 @@ fn unsent_at_once<O: Objects>(m: &mut O, r: &mut Registers, code: Bytecode) -> R
     ensures does { RowDoes O.Objects.own (unsent_at_once O.names code)
         itself m.old r.old result m.new r.new }
     ensures takes { Takes O.Objects.own activation_changes m.old m.new }
-    ensures still { IsStill m.old result m.new }
+    ensures still { IsStill O.Objects.own m.old result m.new }
 {
     match code {
         Bytecode::Push(operand) => push_operand(m, r, operand)?,
@@ -446,7 +445,7 @@ fn bytecode_at_once<O: Objects>(
     ensures does { RowLeaves O.Objects.own (bytecode_at_once O.names code)
         was_done deed_left m.old r.old result m.new r.new }
     ensures takes { Takes O.Objects.own activation_changes m.old m.new }
-    ensures still { StillToForesee m.old result m.new }
+    ensures still { StillToForesee O.Objects.own m.old result m.new }
 {
     if let Bytecode::LiteralSend { literal, arguments } = code {
         return literal_send_at_once(m, r, u32::from(literal), u32::from(arguments));
@@ -466,7 +465,7 @@ pub fn row_at_once<O: Objects>(m: &mut O, r: &mut Registers) -> Result<RowEnd, D
     ensures does { RowLeaves O.Objects.own (step_at_once O.names)
         was_done deed_left m.old r.old result m.new r.new }
     ensures takes { Takes O.Objects.own activation_changes m.old m.new }
-    ensures still { StillToForesee m.old result m.new }
+    ensures still { StillToForesee O.Objects.own m.old result m.new }
 {
     let byte = next_byte(m, r)?;
     bytecode_at_once(m, r, decode(byte))

@@ -1,6 +1,7 @@
 -- Why a store isn't opened, by the call that refuses it.
-use Rattle.std.proofs.Common.{◌≡◌, ◌≤◌, ◌<◌, ◌^◌, ℕ, List, length, refl, sym, subst, arith, length-take}
+use Rattle.std.proofs.Common.{◌≡◌, ◌≤◌, ◌<◌, ℕ, List, length, refl, sym, subst, arith, length-take}
 use Rattle.std.specs.Prelude.{Err}
+use Rattle.st_model.specs.Limits.{longest_image}
 use Rattle.st_outside.specs.Files.{Files, bytes_of}
 use Rattle.st_outside.specs.declared.host.Host.{Ghosts}
 use Rattle.st_outside.proofs.Rising.{rose_second}
@@ -83,7 +84,7 @@ module _ (name : List ℕ) (f : Files) (store : StoreState) (opens : Opens name 
   pub image_refuses : (e : OpenFault) → RefusesImage store read e → RefusesOpening name f e
   image_refuses (opening.Store fault) why = absurd why
   image_refuses (opening.Image fault) why = (stored_in name f store.root, opens, subst (λ b. IsFaulty b fault) same why)
-  image_refuses opening.TooLarge why = (stored_in name f store.root, opens, subst (λ n. 2 ^ 23 < n) (sym image_long) why)
+  image_refuses opening.TooLarge why = (stored_in name f store.root, opens, subst (λ n. longest_image < n) (sym image_long) why)
   image_refuses opening.Disk why = tt
   image_refuses opening.OutOfMemory why = tt
 

@@ -1,5 +1,6 @@
 -- What is read of an image under the values of its own head.
-use Rattle.std.proofs.Common.{◌≡◌, ℕ, ◌≤◌, ◌^◌, List, length, refl, subst}
+use Rattle.std.proofs.Common.{◌≡◌, ℕ, ◌≤◌, List, length, refl, subst}
+use Rattle.st_model.specs.Limits.{longest_image}
 use Rattle.st_model.specs.Image.{image_head}
 use Rattle.st_model.specs.Faults.{IsWellFormed, IsImageFault}
 use Rattle.st_model.specs.declared.fault.ImageFault.{ImageFault}
@@ -13,7 +14,7 @@ pub own_head : (bytes : List ℕ) → head_over no_values bytes ≡ image_head b
 unfolding head_over
 own_head bytes = refl
 
-pub readable : (read bytes : List ℕ) → read ≡ bytes → length read ≤ 2 ^ 23 → IsWellFormed (head_over no_values read) read → IsReadable bytes
+pub readable : (read bytes : List ℕ) → read ≡ bytes → length read ≤ longest_image → IsWellFormed (head_over no_values read) read → IsReadable bytes
 readable read bytes same short formed =
     subst IsReadable same (record { short = short; formed = subst (λ h. IsWellFormed h read) (own_head read) formed })
 
@@ -21,6 +22,6 @@ pub started : (read bytes : List ℕ) (v : View) (f : Frame) → read ≡ bytes 
 started read bytes v f same start =
     subst (λ b. IsStart (image_head b) b v f) same (subst (λ h. IsStart h read v f) (own_head read) start)
 
-pub faulty : (read bytes : List ℕ) (fault : ImageFault) → read ≡ bytes → length read ≤ 2 ^ 23 → IsImageFault (head_over no_values read) read fault → IsFaulty bytes fault
+pub faulty : (read bytes : List ℕ) (fault : ImageFault) → read ≡ bytes → length read ≤ longest_image → IsImageFault (head_over no_values read) read fault → IsFaulty bytes fault
 faulty read bytes fault same short is =
     subst (λ b. IsFaulty b fault) same (record { short = short; fault = subst (λ h. IsImageFault h read fault) (own_head read) is })

@@ -1,8 +1,9 @@
 -- What the opening of a store answers.
-use Rattle.std.specs.Prelude.{◌≡◌, ◌<◌, ◌^◌, ℕ, List, length, take, ⊤, All}
+use Rattle.std.specs.Prelude.{◌≡◌, ◌<◌, ℕ, List, length, take, ⊤, All}
 use Rattle.st_outside.specs.Counts.{Rose}
 use Rattle.st_outside.specs.Files.{Files, bytes_of}
 use Rattle.st_outside.specs.declared.host.Host.{Ghosts}
+use Rattle.st_model.specs.Limits.{longest_image}
 use Rattle.st_model.specs.Objects.{nil}
 use Rattle.st_model.specs.Machine.{State, Went, empty_world}
 use Rattle.st_model.specs.Births.{Births}
@@ -37,7 +38,7 @@ image_in store f = take store.root.image_length (bytes_of (f (image_file store.n
 abbrev pub RefusesImage : StoreState → List ℕ → OpenFault → Type 0
 RefusesImage store image (opening.Store fault) = ⊥
 RefusesImage store image (opening.Image fault) = IsFaulty image fault
-RefusesImage store image opening.TooLarge = 2 ^ 23 < store.root.image_length
+RefusesImage store image opening.TooLarge = longest_image < store.root.image_length
 RefusesImage store image opening.Disk = ⊤
 RefusesImage store image opening.OutOfMemory = ⊤
 
@@ -87,7 +88,7 @@ RefusesOpening name f (opening.Store (NotAStore (Changes at))) =
     (c : Stored) × Opens name c f × IsReadable c.image × RefusesChanges c.changes c.root (NotAStore (Changes at))
 RefusesOpening name f (opening.Store fault) = Refuses name f fault
 RefusesOpening name f (opening.Image fault) = (c : Stored) × Opens name c f × IsFaulty c.image fault
-RefusesOpening name f opening.TooLarge = (c : Stored) × Opens name c f × (2 ^ 23 < length c.image)
+RefusesOpening name f opening.TooLarge = (c : Stored) × Opens name c f × (longest_image < length c.image)
 RefusesOpening name f opening.Disk = ⊤
 RefusesOpening name f opening.OutOfMemory = ⊤
 

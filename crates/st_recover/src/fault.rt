@@ -11,7 +11,7 @@ pub enum OpenFault {
     Store(StoreFault),
     /// Its image has this fault.
     Image(ImageFault),
-    /// Its image has more than 2^23 bytes.
+    /// Its image has more than 2^27 bytes.
     TooLarge,
     /// A call on a file failed.
     Disk,

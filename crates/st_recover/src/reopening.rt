@@ -2,6 +2,7 @@
 ghost use Rattle.std.specs.Prelude.{◌≡◌, ◌≤◌, ◌<◌, ◌^◌, ℕ, List, length, All, IsTrue, IfOk, IfErr, OnOk};
 ghost use Rattle.st_outside.specs.Files.{Files};
 ghost use Rattle.st_outside.specs.Runs.{LeavesOnly, ReadsAlike, OnlyReads, Narrows, NarrowsBut, Changes as ChangesFile, Spares};
+ghost use Rattle.st_model.specs.Limits.{longest_image};
 ghost use Rattle.st_model.specs.Image.{image_head};
 ghost use Rattle.st_model.specs.View.{no_devices};
 ghost use Rattle.st_model.specs.Machine.{World};
@@ -26,12 +27,10 @@ use st_frames::Loaded;
 use st_image::{HeadValues, ReadImage, read};
 use st_installer::Installer;
 use st_memory::{Loader, Memory};
+use st_model::LONGEST_IMAGE;
 use st_outside::{Host, read_from};
 use st_store::{Store, open_store};
 use std::alloc::{AllocError, Global};
-
-/// The most bytes that a store's image may have, 2^23.
-const LONGEST_IMAGE: u64 = 8_388_608;
 
 /// A store, with its image's objects and registers and its definitions, before any of these is installed.
 #[derive(Drop)]
@@ -41,12 +40,12 @@ struct Fetched<M> {
     changes: Changes,
 }
 
-/// The bytes of a store's image, where they are at most 2^23.
+/// The bytes of a store's image, where they are at most 2^27.
 fn read_bytes<H: Host>(alloc: Global, host: &mut H, store: &Store) -> Result<Vec<u8>, OpenFault>
     requires slot { store.now.root.slot ≤ 1 }
     ensures bytes { IfOk result (λ v. IsTrue H.is_told
         → v.items ≡ image_in store.now (H.files host.old)) }
-    ensures short { IfOk result (λ v. length v.items ≤ 2 ^ 23) }
+    ensures short { IfOk result (λ v. length v.items ≤ longest_image) }
     ensures refused { IfErr result (λ e.
         RefusesImage store.now (image_in store.now (H.files host.old)) e) }
     ensures kind { IfErr result IsOfImage }

@@ -40,7 +40,7 @@ kernel_clash told text c status.OutOfMemory t is why = why
 
 -- THE FILE ISN'T READ
 
-pub kernel_unread : (told : Type 0) (text : List ℕ) (r : FileRefusal) → (told → IsFileRefusal text r) → IsUnread (IsWrongKernel told text) (file_status r)
+pub kernel_unread : (told : Type 0) (text : List ℕ) (r : FileRefusal) → (told → IsFileRefusal (2 ^ 23) text r) → IsUnread (IsWrongKernel told text) (file_status r)
 kernel_unread told text file.TooLarge why = why
 kernel_unread told text file.DiskFault why = tt
 kernel_unread told text file.OutOfMemory why = tt

@@ -1,16 +1,18 @@
 -- How a call of the program ends: its status, and what it says and does.
-use Rattle.std.specs.Prelude.{◌≡◌, ℕ, ◌<◌, ◌^◌, List, length, ◌++◌, IsTrue, Option}
+use Rattle.std.specs.Prelude.{◌≡◌, ℕ, ◌<◌, List, length, ◌++◌, IsTrue, Option}
 use Rattle.st_outside.specs.Counts.{Rose}
 use Rattle.st_outside.specs.Stops.{SaidPart}
 use Rattle.st_outside.specs.declared.host.Host.{Ghosts}
+use Rattle.st_model.specs.Limits.{longest_image}
 use Rattle.st_model.specs.Machine.{State, Went}
 use Rattle.st_model.specs.Image.{image_head}
 use Rattle.st_model.specs.Births.{Births}
 use Rattle.st_model.specs.Start.{begin}
-use Rattle.st_model.specs.Text.{run_text}
+use Rattle.st_model.specs.Text.{state_text}
 use Rattle.st_recover.specs.Openings.{IsReadable, IsFaulty}
 use Rattle.st_recover.specs.declared.fault.OpenFault.{OpenFault}
 use Rattle.st_recover.specs.declared.fault.OpenFault.TheVariants as opening
+use Rattle.st_session.specs.Reports.{run_text}
 use Rattle.st_call.specs.LastLines.{SaysLastLine}
 use Rattle.st_call.specs.Refusals.{store_status}
 use Rattle.st_course.specs.declared.status.Status.{Status}
@@ -29,7 +31,7 @@ opening_status opening.OutOfMemory = OutOfMemory
 pub record IsReport (bytes : List ℕ) (n : ℕ) (text : List ℕ) : Type 0 where
   pub births : State Births
   pub begins : begin (image_head bytes) bytes ≡ Went tt births
-  pub is : text ≡ run_text n births
+  pub is : text ≡ run_text state_text n births
 
 -- CALLS
 
@@ -52,7 +54,7 @@ module _ {D : Type 0} (host : Ghosts D) where
   OnceEnds bytes n old new (Store f) = ⊥
   OnceEnds bytes n old new (Kernel chunk cause) = ⊥
   OnceEnds bytes n old new TooLarge =
-      (IsTrue host.is_told → 2 ^ 23 < length bytes) × SaysLastLine host TooLarge old new
+      (IsTrue host.is_told → longest_image < length bytes) × SaysLastLine host TooLarge old new
   OnceEnds bytes n old new OutOfMemory = SaysLastLine host OutOfMemory old new
 
   -- A run of calls that leaves the files of these names alone: a stop may leave of each just what it could leave before, and

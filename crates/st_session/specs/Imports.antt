@@ -1,6 +1,7 @@
 -- How the import of an image into a store ends.
-use Rattle.std.specs.Prelude.{◌≡◌, ℕ, ◌<◌, ◌^◌, List, length, IsTrue}
+use Rattle.std.specs.Prelude.{◌≡◌, ℕ, ◌<◌, List, length, IsTrue}
 use Rattle.st_outside.specs.declared.host.Host.{Ghosts}
+use Rattle.st_model.specs.Limits.{longest_image}
 use Rattle.st_model.specs.Start.{start_view}
 use Rattle.st_image.specs.declared.head.HeadValues.{HeadValues}
 use Rattle.st_image.specs.HeadValues.{head_over}
@@ -18,7 +19,7 @@ pub record ReadsAs (over : HeadValues) (image : List ℕ) (c : Contents) : Type 
 -- the statuses in which it can't be read
 abbrev pub IsWrongImage : Type 0 → HeadValues → List ℕ → Status → Type 0
 IsWrongImage told over image (Image f) = told → IsFaultyOver over image f
-IsWrongImage told over image TooLarge = told → 2 ^ 23 < length image
+IsWrongImage told over image TooLarge = told → longest_image < length image
 IsWrongImage told over image _ = ⊥
 
 -- How the command import ends, over the bytes of its image and the values of its options. An absent image is read as an empty one.

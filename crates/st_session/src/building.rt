@@ -17,6 +17,9 @@ use st_memory::{Loader, Memory};
 use st_outside::Host;
 use std::alloc::Global;
 
+/// The most bytes that a kernel text may have, 2^23.
+const LONGEST_TEXT: u64 = 8_388_608;
+
 /// The memory that the kernel text in a file builds, where that has at most 2^23 bytes and no cause stands in it; or the status
 /// of a call that ends so. No file is changed.
 fn build_memory<H: Host, L: Loader>(
@@ -33,7 +36,7 @@ fn build_memory<H: Host, L: Loader>(
     ensures cause { IfErr result (StatusHasCause H.Host.own ⊥ host.old host.new) }
     ensures reads { OnlyReads H.Host.own host.old host.new }
 {
-    let text = match read_file(alloc, host, name) {
+    let text = match read_file(alloc, host, name, LONGEST_TEXT) {
         Ok(text) => text,
         Err(refusal) => return Err(refusal.status()),
     };

@@ -17,7 +17,7 @@ use st_outside::Host;
 use st_world::World;
 use std::alloc::Global;
 
-/// A machine at the start of the image in a file, where that has at most 2^23 bytes and is well-formed.
+/// A machine at the start of the image in a file, where that has at most 2^27 bytes and is well-formed.
 pub fn start<H: Host, L: Loader>(
     alloc: Global,
     host: &mut H,

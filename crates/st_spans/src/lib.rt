@@ -75,7 +75,7 @@ fn count_into(spans: &[Span], owners: &mut [u16], ends: &mut [u16])
 /// How many spans have each word.
 fn count_owners(alloc: Global, spans: &[Span], words: u32) -> Result<Vec<u16>, AllocError>
     requires few { length spans.now ≤ 32768 }
-    requires small { words ≤ 1048576 }
+    requires small { words ≤ 16777216 }
     requires within { AreWithin words spans.now }
     ensures length { IfOk result (λ owners. length owners.items ≡ words + 1) }
     ensures owners { IfOk result (λ owners. (w : ℕ) → w ≤ words →
@@ -107,7 +107,7 @@ pub fn first_shared(
     words: u32,
 ) -> Result<Option<(usize, usize)>, AllocError>
     requires few { length spans.now ≤ 32768 }
-    requires small { words ≤ 1048576 }
+    requires small { words ≤ 16777216 }
     requires within { AreWithin words spans.now }
     ensures { IfOk result (λ found. IsFirstShared spans.now found) }
 {

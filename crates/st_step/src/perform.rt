@@ -10,9 +10,8 @@ ghost use Rattle.st_frames.specs.Rows.{RowReads, RowDoes, RowLeaves, Takes, send
 
 use crate::flags::execute_performed;
 use crate::respond::activated;
-use st_control::not_understood;
+use st_control::{find_method, not_understood};
 use st_frames::{Registers, check_class, drop_words, set_stack_pointer, top, under};
-use st_lookup::look_up;
 use st_memory::Objects;
 use st_method::{Header, method_arguments};
 use st_model::{Call, Dead, PageObject, StepEnd, Word};
@@ -97,7 +96,7 @@ fn perform_selector<O: Objects>(
     ensures takes { Takes O.Objects.own execution_changes m.old m.new }
 {
     let class = m.fetch_class(receiver)?;
-    let found = look_up(m, class, selector)?;
+    let found = find_method(m, r, class, selector)?;
     if takes(m, r, n, found)? {
         drop_selector(m, r, n)?;
         execute_found(m, r, class, selector, n, found)
@@ -186,7 +185,7 @@ fn perform_with_array<O: Objects>(
     ensures takes { Takes O.Objects.own execution_changes m.old m.new }
 {
     let class = m.fetch_class(receiver)?;
-    let found = look_up(m, class, selector)?;
+    let found = find_method(m, r, class, selector)?;
     if takes(m, r, n, found)? {
         spread_array(m, r, array, n)?;
         execute_found(m, r, class, selector, n, found)

@@ -1,7 +1,8 @@
 -- What a written image says of each place of its table.
-use Rattle.std.proofs.Common.{◌≡◌, ℕ, zero, suc, ◌+◌, ◌*◌, ◌/◌, ◌%◌, ◌<◌, ◌≤◌, ◌⊎◌, inl, inr, Bool, true, false, not, ◌==◌, List, length, get_or, refl, sym, ap, ◌∙◌, subst, arith}
+use Rattle.std.proofs.Common.{◌≡◌, ℕ, zero, suc, ◌+◌, ◌*◌, ◌/◌, ◌%◌, ◌<◌, ◌≤◌, ◌⊎◌, inl, inr, Bool, true, false, not, ◌==◌, List, [], length, get_or, refl, sym, ap, ◌∙◌, subst, arith}
 use Rattle.std.specs.Prelude.{Option, Some, None}
 use Rattle.std.proofs.lemmas.Bool.{cases_lt, lt-ltb, eq-eqb, ne_eqb, and_parts, and_from, not-true, both_ways, ltb-true}
+use Rattle.st_model.specs.Limits.{most_words}
 use Rattle.st_model.specs.declared.kind.Kind.{Kind}
 use Rattle.st_model.specs.declared.kind.Kind.TheVariants as kind
 use Rattle.st_model.specs.declared.head.ImageHead.{ImageHead}
@@ -10,11 +11,11 @@ use Rattle.st_model.specs.Formed.{IsFormed}
 use Rattle.st_model.specs.Machine.{Head}
 use Rattle.st_model.specs.Table.{Table, entry}
 use Rattle.st_model.specs.Show.{IsUsed}
-use Rattle.st_model.specs.Image.{number16, table_start, bit, flags, location, is_free, is_used, place, word, size, class, body}
-use Rattle.st_writer.specs.Written.{bytes_at, words_at, words_below, space_below, entries_below, entry_bytes, word_bytes, marks, object_bytes, text_of}
+use Rattle.st_model.specs.Image.{number16, number32, table_start, form_of, entries_of, entry_start, bit, flags, is_free, is_used, place, word, size, class, body}
+use Rattle.st_writer.specs.Written.{bytes_at, words_at, words_below, space_below, entries_below, entry_bytes, word_bytes, long_bytes, marks, object_bytes, text_of}
 use Rattle.st_writer.proofs.Bytes.{number16-word, number16-after, joined_word, joined_at}
 use Rattle.st_writer.proofs.Bodies.{words_in_parts, length-object, size_word, class_word}
-use Rattle.st_writer.proofs.Placing.{written_head, length-space, length-entries, at_entries, at_space, byte_at_space}
+use Rattle.st_writer.proofs.Placing.{written_head, length-space, length-entry, length-entries, at_entries, at_space, byte_at_space}
 
 -- an odd number of bytes
 abbrev pub is_odd : Kind → ℕ → Bool
@@ -24,41 +25,27 @@ is_odd kind.Bytes units = units % 2 == 1
 is_odd kind.Method units = units % 2 == 1
 
 -- what the marks of an entry in use say
-pub record IsMarked (k : Kind) (units s w : ℕ) : Type 0 where
+pub record IsMarked (k : Kind) (units w : ℕ) : Type 0 where
   pub odd : bit 8 w ≡ is_odd k units
   pub pointers : bit 9 w ≡ is_pointers k
   pub free : bit 10 w ≡ false
   pub words : bit 11 w ≡ is_words k
-  pub segment : w % 16 ≡ s
 
-by_bytes : (units segment : ℕ) → segment < 16 → IsMarked kind.Bytes units segment (128 * (units % 2) + segment)
-by_bytes units segment low =
-    let top : (128 * (units % 2) + segment) / 128 % 2 ≡ units % 2 = omega arith in
+by_bytes : (units : ℕ) → IsMarked kind.Bytes units (128 * (units % 2))
+by_bytes units =
+    let top : 128 * (units % 2) / 128 % 2 ≡ units % 2 = omega arith in
     record {
       odd = ap (λ (x : ℕ). x == 1) top;
       pointers = ne_eqb _ _ (λ e. omega arith);
       free = ne_eqb _ _ (λ e. omega arith);
       words = ne_eqb _ _ (λ e. omega arith);
-      segment = omega arith;
     }
 
-marked : (k : Kind) (units segment : ℕ) → segment < 16 → IsMarked k units segment (marks k units + segment)
-marked kind.Pointers units segment low = record {
-  odd = ne_eqb _ _ (λ e. omega arith);
-  pointers = eq-eqb _ _ (omega arith);
-  free = ne_eqb _ _ (λ e. omega arith);
-  words = ne_eqb _ _ (λ e. omega arith);
-  segment = omega arith;
-}
-marked kind.Words units segment low = record {
-  odd = ne_eqb _ _ (λ e. omega arith);
-  pointers = ne_eqb _ _ (λ e. omega arith);
-  free = ne_eqb _ _ (λ e. omega arith);
-  words = eq-eqb _ _ (omega arith);
-  segment = omega arith;
-}
-marked kind.Bytes units segment low = by_bytes units segment low
-marked kind.Method units segment low = let m = by_bytes units segment low in record { odd = m.odd; pointers = m.pointers; free = m.free; words = m.words; segment = m.segment }
+marked : (k : Kind) (units : ℕ) → IsMarked k units (marks k units)
+marked kind.Pointers units = record { odd = refl; pointers = refl; free = refl; words = refl }
+marked kind.Words units = record { odd = refl; pointers = refl; free = refl; words = refl }
+marked kind.Bytes units = by_bytes units
+marked kind.Method units = let m = by_bytes units in record { odd = m.odd; pointers = m.pointers; free = m.free; words = m.words }
 
 -- the words before a place, and those of its object, are among all
 pub words_among : (t : Table) (k n : ℕ) (o : Object) → k < n → entry t k ≡ Some o → words_below t k + words_of o ≤ words_below t n
@@ -80,7 +67,7 @@ head_of t n h = written_head (words_below t n) n h
 -- what the first places of a table have, so that they can be written
 pub record IsWritable (t : Table) (n : ℕ) : Type 0 where
   pub formed : (k : ℕ) (o : Object) → entry t k ≡ Some o → IsFormed o
-  pub most : words_below t n ≤ 1048576
+  pub most : words_below t n ≤ most_words
 
 module _ (t : Table) (n : ℕ) (h : Head) (can : IsWritable t n) where
   abbrev head : ImageHead
@@ -89,58 +76,53 @@ module _ (t : Table) (n : ℕ) (h : Head) (can : IsWritable t n) where
   abbrev bytes : List ℕ
   bytes = text_of t n h
 
-  -- the two words of an entry
+  pub entries_are : entries_of head ≡ n
+  unfolding entries_of form_of
+  entries_are = omega arith
+
+  -- the words of an entry
+
+  start_at : (k : ℕ) → entry_start head k ≡ table_start head + 6 * k
+  unfolding entry_start form_of
+  start_at k = refl
+
+  word_of_entry : (k i : ℕ) (e : Option Object) → i ≤ 4 → k < n → entry t k ≡ e → number16 bytes (entry_start head k + i) ≡ number16 (entry_bytes e (words_below t k)) i
+  word_of_entry k i e small k_in is =
+      let s = start_at k in
+      let there : entry_start head k + i ≡ table_start head + (6 * k + i) = omega (arith, s) in
+      let l = length-entry (entry t k) (words_below t k) in
+      ap (number16 bytes) there
+      ∙ at_entries t can.formed n h (6 * k + i)
+      ∙ joined_word (λ j. entry_bytes (entry t j) (words_below t j)) n k i (6 * k) k_in (omega (arith, l, small)) (length-entries t can.formed k)
+      ∙ ap (λ (x : Option Object). number16 (entry_bytes x (words_below t k)) i) is
 
   flags_at : (k : ℕ) (e : Option Object) → k < n → entry t k ≡ e → flags head bytes k ≡ number16 (entry_bytes e (words_below t k)) 0
   unfolding flags
-  flags_at k e k_in is =
-      let z : 4 * k ≡ 4 * k + 0 = omega arith in
-      at_entries t can.formed n h (4 * k)
-      ∙ ap (number16 (entries_below t n)) z
-      ∙ joined_word (λ j. entry_bytes (entry t j) (words_below t j)) n k 0 (4 * k) k_in (four (entry t k) (words_below t k)) (length-entries t can.formed k)
-      ∙ ap (λ (x : Option Object). number16 (entry_bytes x (words_below t k)) 0) is
-    where
-      four : (e : Option Object) (at : ℕ) → 0 + 2 ≤ length (entry_bytes e at)
-      four None at = omega arith
-      four (Some o) at = omega arith
-
-  location_at : (k : ℕ) (e : Option Object) → k < n → entry t k ≡ e → location head bytes k ≡ number16 (entry_bytes e (words_below t k)) 2
-  unfolding location
-  location_at k e k_in is =
-      let there : table_start head + 4 * k + 2 ≡ table_start head + (4 * k + 2) = omega arith in
-      ap (number16 bytes) there
-      ∙ at_entries t can.formed n h (4 * k + 2)
-      ∙ joined_word (λ j. entry_bytes (entry t j) (words_below t j)) n k 2 (4 * k) k_in (four (entry t k) (words_below t k)) (length-entries t can.formed k)
-      ∙ ap (λ (x : Option Object). number16 (entry_bytes x (words_below t k)) 2) is
-    where
-      four : (e : Option Object) (at : ℕ) → 2 + 2 ≤ length (entry_bytes e at)
-      four None at = omega arith
-      four (Some o) at = omega arith
+  flags_at k e k_in is = let z : entry_start head k ≡ entry_start head k + 0 = omega arith in ap (number16 bytes) z ∙ word_of_entry k 0 e (omega arith) k_in is
 
   -- a free place
   pub free_at : (k : ℕ) → k < n → entry t k ≡ None → is_free head bytes k ≡ true
-  free_at k k_in e = ap (bit 10) (flags_at k None k_in e ∙ number16-word 32 (word_bytes 0))
+  free_at k k_in e = ap (bit 10) (flags_at k None k_in e ∙ number16-word 32 (long_bytes 0))
 
   -- a place with an object
 
   module _ (k : ℕ) (o : Object) (k_in : k < n) (e : entry t k ≡ Some o) where
-    -- its object begins within the limits of a location
-    low : words_below t k / 65536 < 16
-    low = let a = words_among t k n o k_in e in let b = words_in_parts o (can.formed k o e) in let m = can.most in omega arith
-
-    pub marks_at : IsMarked o.kind (length o.units) (words_below t k / 65536) (flags head bytes k)
+    pub marks_at : IsMarked o.kind (length o.units) (flags head bytes k)
     marks_at =
-        let w = marks o.kind (length o.units) + words_below t k / 65536 in
-        let is : flags head bytes k ≡ w = flags_at k (Some o) k_in e ∙ number16-word w (word_bytes (words_below t k % 65536)) in
-        subst (IsMarked o.kind (length o.units) (words_below t k / 65536)) (sym is) (marked o.kind (length o.units) (words_below t k / 65536) low)
+        let w = marks o.kind (length o.units) in
+        let is : flags head bytes k ≡ w = flags_at k (Some o) k_in e ∙ number16-word w (long_bytes (words_below t k)) in
+        subst (IsMarked o.kind (length o.units)) (sym is) (marked o.kind (length o.units))
 
     pub place_at : place head bytes k ≡ words_below t k
+    unfolding place form_of number32
     place_at =
-        let w = marks o.kind (length o.units) + words_below t k / 65536 in
-        let last = words_below t k % 65536 in
-        let a : location head bytes k ≡ last = location_at k (Some o) k_in e ∙ number16-after (word_bytes w) (word_bytes last) 2 0 refl ∙ number16-word last _ in
-        let b = marks_at.segment in
-        omega arith
+        let w = marks o.kind (length o.units) in
+        let at = words_below t k in
+        let high = word_of_entry k 2 (Some o) (omega arith) k_in e ∙ number16-after (word_bytes w) (long_bytes at) 2 0 refl ∙ number16-word (at / 65536) (word_bytes (at % 65536)) in
+        let z : entry_start head k + 2 + 2 ≡ entry_start head k + 4 = omega arith in
+        let low = ap (number16 bytes) z ∙ word_of_entry k 4 (Some o) (omega arith) k_in e ∙ number16-after (word_bytes w) (long_bytes at) 2 2 refl
+        ∙ number16-after (word_bytes (at / 65536)) (word_bytes (at % 65536)) 2 0 refl ∙ number16-word (at % 65536) [] in
+        omega (arith, high, low)
 
     -- a number of the object
     pub object_at : (i : ℕ) → i + 2 ≤ length (object_bytes o) → number16 bytes (512 + (2 * words_below t k + i)) ≡ number16 (object_bytes o) i
@@ -199,8 +181,8 @@ module _ (t : Table) (n : ℕ) (h : Head) (can : IsWritable t n) where
     unfolding is_used
     used_at above =
         let f = marks_at.free in
-        let m : 2 * n / 2 ≡ n = omega arith in
-        and_from _ _ (lt-ltb 0 k above) (and_from _ _ (lt-ltb k (2 * n / 2) (omega arith)) (ap not f))
+        let m = entries_are in
+        and_from _ _ (lt-ltb 0 k above) (and_from _ _ (lt-ltb k (entries_of head) (omega (arith, m))) (ap not f))
 
   -- a place in use has an object
   pub object_used : (k : ℕ) → is_used head bytes k ≡ true → (k < n) × (0 < k) × IsUsed t k
@@ -208,7 +190,8 @@ module _ (t : Table) (n : ℕ) (h : Head) (can : IsWritable t n) where
   object_used k used =
       let a = and_parts _ _ used in
       let b = and_parts _ _ a.1 in
-      let k_in : k < n = let c = ltb-true k (2 * n / 2) b.0 in omega arith in
+      let m = entries_are in
+      let k_in : k < n = let c = ltb-true k (entries_of head) b.0 in omega (arith, c, m) in
       (k_in, ltb-true 0 k a.0, some_at (entry t k) refl k_in (not-true _ b.1))
     where
       some_at : (e : Option Object) → entry t k ≡ e → k < n → is_free head bytes k ≡ false → IsUsed t k

@@ -16,15 +16,15 @@ use Rattle.st_writer.proofs.Bodies.{length-object}
 abbrev pub written_head : ℕ → ℕ → Head → ImageHead
 written_head words n h = record {
   space = words;
-  table = 2 * n;
-  version = 1;
+  table = 3 * n;
+  version = 2;
   entries = h.entries;
   words = h.words;
   globals = root_word h.globals;
   symbols = root_word h.symbols;
 }
 
-long_back : (x : ℕ) → 65536 * (256 * (x / 65536 / 256) + x / 65536 % 256) + (256 * (x % 65536 / 256) + x % 65536 % 256) ≡ x
+pub long_back : (x : ℕ) → 65536 * (256 * (x / 65536 / 256) + x / 65536 % 256) + (256 * (x % 65536 / 256) + x % 65536 % 256) ≡ x
 long_back x = (λ k. 65536 * halves (x / 65536) k + halves (x % 65536) k) ∙ omega arith
 
 pub length-zeros : (n : ℕ) → length (zeros n) ≡ n
@@ -40,15 +40,15 @@ module _ (t : Table) (n : ℕ) (h : Head) where
   unfolding image_head has_letters number16 number32
   head_back = λ k. record {
     space = long_back (words_below t n) k;
-    table = long_back (2 * n) k;
-    version = long_back 1 k;
+    table = long_back (3 * n) k;
+    version = long_back 2 k;
     entries = long_back h.entries k;
     words = long_back h.words k;
     globals = long_back (root_word h.globals) k;
     symbols = long_back (root_word h.symbols) k;
   }
 
-pub length-entry : (e : Option Object) (at : ℕ) → length (entry_bytes e at) ≡ 4
+pub length-entry : (e : Option Object) (at : ℕ) → length (entry_bytes e at) ≡ 6
 length-entry None at = refl
 length-entry (Some o) at = refl
 
@@ -65,7 +65,7 @@ module _ (t : Table) (formed : (k : ℕ) (o : Object) → entry t k ≡ Some o �
       let c = length-append (space_below t k) (bytes_at (entry t k)) in
       omega arith
 
-  pub length-entries : (k : ℕ) → length (entries_below t k) ≡ 4 * k
+  pub length-entries : (k : ℕ) → length (entries_below t k) ≡ 6 * k
   length-entries zero = refl
   length-entries (suc k) =
       let a = length-entries k in

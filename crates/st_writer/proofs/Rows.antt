@@ -5,6 +5,7 @@ use Rattle.std.specs.Prelude.{Option, Some, None, is_some, Contains, nat_le}
 use Rattle.std.proofs.lemmas.Bool.{cases_lt, cases_Bool, cases_eq, eq-eqb, ne_eqb, eqb-true, both_ways, and_parts, and_left, and_right, and_from, or_from, or_cases, le-ltb, ltb-true, leb-true}
 use Rattle.std.proofs.lemmas.List.Elements.{All-contains, All-append, All-map, All-cons, All-nil}
 use Rattle.std.specs.List.{All}
+use Rattle.st_model.specs.Limits.{most_words}
 use Rattle.st_model.proofs.Made.{made_from}
 use Rattle.st_model.proofs.WholeLemmas.{live_used}
 use Rattle.st_model.specs.declared.kind.Kind.{Kind}
@@ -18,7 +19,7 @@ use Rattle.st_model.specs.Objects.{Object, page, place_of, nil, one, is_pointers
 use Rattle.st_model.specs.Table.{Table, entry, total_used}
 use Rattle.st_model.specs.Show.{IsUsed}
 use Rattle.st_model.specs.View.{View, IsWhole, is_live, empty_view, table_of}
-use Rattle.st_model.specs.Image.{table_end, has_odd_length, has_pointers, is_used, place, size, class, body, literal_count, names}
+use Rattle.st_model.specs.Image.{table_end, form_of, entries_of, has_odd_length, has_pointers, is_used, place, size, class, body, literal_count, names}
 use Rattle.st_model.specs.Start.{entry_in, start_view}
 use Rattle.st_model.specs.Faults.{short_fails, lengths_fail, capacity_fails, size_fails, ShareWord, class_fails, is_field, field_fails, method_fails, roots, root_fails, Fails, row}
 use Rattle.st_model.specs.Faults as faults
@@ -26,7 +27,7 @@ use Rattle.st_writer.specs.Written.{word_of, unit_words, words_below, used_below
 use Rattle.st_writer.proofs.Bodies.{words_in_parts}
 use Rattle.st_writer.proofs.Placing.{length-space, length-text}
 use Rattle.st_writer.proofs.Sums.{number_at, sum_below, sum_used, words_are, used_within, past_used}
-use Rattle.st_writer.proofs.Entries.{head_of, IsWritable, is_odd, words_among, marks_at, place_at, size_at, class_at, object_used}
+use Rattle.st_writer.proofs.Entries.{head_of, IsWritable, entries_are, is_odd, words_among, marks_at, place_at, size_at, class_at, object_used}
 use Rattle.st_writer.proofs.Back.{value_back, class_is, field_at, header_at, entry_back}
 
 -- TABLES
@@ -116,14 +117,14 @@ module _ (v : View) (whole : IsWhole v) where
       ∙ (λ j. head_bytes (sym all j) entries v.head ++ (zeros 480 ++ (space_below t entries ++ (zeros (padding (sym all j)) ++ entries_below t entries))))
       ∙ parts_joined (head_bytes words entries v.head) (zeros 480) (space_below t entries) (zeros (padding words)) (entries_below t entries)
 
-  pub space_small : (entries : ℕ) → entries ≡ n → length (space_below t entries) ≤ 2097152
+  pub space_small : (entries : ℕ) → entries ≡ n → length (space_below t entries) ≤ 2 * most_words
   space_small entries is_n =
       let l = length-space t can.formed entries in
       let m = can.most in
       let same : words_below t entries ≡ words_below t n = ap (words_below t) is_n in
       omega arith
 
-  pub image_small : length (image_of v) ≤ 4194304
+  pub image_small : length (image_of v) ≤ 4 * most_words
   unfolding image_of
   image_small =
       let l = length-text t can.formed n v.head in
@@ -161,11 +162,12 @@ module _ (v : View) (whole : IsWhole v) where
   short_clean = let l = length-text t can.formed n v.head in or_from _ _ (le-ltb (length bytes) 512 (omega arith)) (le-ltb (length bytes) (table_end head) (omega arith))
 
   lengths_clean : lengths_fail head ≡ false
-  unfolding lengths_fail
+  unfolding lengths_fail form_of
   lengths_clean =
       let f = few in
       let m = can.most in
-      or_from _ _ (or_from _ _ (or_from _ _ (ne_eqb (2 * n % 2) 1 (λ (e : 2 * n % 2 ≡ 1). omega arith)) (le-ltb 65536 (2 * n) (omega arith))) (le-ltb 1048576 (words_below t n) (omega arith))) refl
+      let whole_entries : 3 * n % 3 ≡ 0 = omega arith in
+      or_from _ _ (or_from _ _ (or_from _ _ refl (ap not (eq-eqb (3 * n % 3) 0 whole_entries))) (le-ltb 98304 (3 * n) (omega (arith, f)))) (le-ltb most_words (words_below t n) (omega (arith, m)))
 
   used_count : (m : ℕ) → faults.used_below head bytes m ≡ sum_below one t m
   used_count zero = refl
@@ -179,14 +181,14 @@ module _ (v : View) (whole : IsWhole v) where
       one_place (Some o) = refl
 
   capacity_clean : capacity_fails head bytes ≡ false
-  unfolding capacity_fails
+  unfolding capacity_fails form_of
   capacity_clean =
-      let half : 2 * n / 2 ≡ n = omega arith in
-      let u : faults.used_below head bytes (2 * n / 2) ≡ total_used one t = ap (faults.used_below head bytes) half ∙ used_count n ∙ sum_used one t in
+      let half = entries_are t n v.head can in
+      let u : faults.used_below head bytes (entries_of head) ≡ total_used one t = ap (faults.used_below head bytes) half ∙ used_count n ∙ sum_used one t in
       let a = whole.entries in
       let b = whole.words in
       let w = words_total in
-      or_from _ _ (or_from _ _ (or_from _ _ (le-ltb 32767 v.head.entries whole.most_entries) (le-ltb v.head.entries (faults.used_below head bytes (2 * n / 2)) (omega arith))) (le-ltb 1048576 v.head.words whole.most_words)) (le-ltb v.head.words (words_below t n) (omega arith))
+      or_from _ _ (or_from _ _ (or_from _ _ (le-ltb 32767 v.head.entries whole.most_entries) (le-ltb v.head.entries (faults.used_below head bytes (entries_of head)) (omega (arith, u, a)))) (le-ltb most_words v.head.words whole.most_words)) (le-ltb v.head.words (words_below t n) (omega arith))
 
   -- THE OBJECTS
 

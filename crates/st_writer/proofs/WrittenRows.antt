@@ -39,7 +39,7 @@ bare zero = []
 bare (suc n) = 2 ∷ 12 ∷ bare n
 
 head_words : List ℕ
-head_words = 0 ∷ 78 ∷ 0 ∷ 66 ∷ 21332 ∷ 14384 ∷ 0 ∷ 1 ∷ 0 ∷ 32767 ∷ 16 ∷ 0 ∷ 0 ∷ 0 ∷ 0 ∷ 0 ∷ []
+head_words = 0 ∷ 78 ∷ 0 ∷ 99 ∷ 21332 ∷ 14384 ∷ 0 ∷ 2 ∷ 0 ∷ 32767 ∷ 16 ∷ 0 ∷ 0 ∷ 0 ∷ 0 ∷ 0 ∷ []
 
 space : List ℕ
 unfolding bare
@@ -47,8 +47,7 @@ space = bare 3 ++ 4 ∷ 12 ∷ 2 ∷ 58 ∷ bare 16 ++ 4 ∷ 12 ∷ 2 ∷ 60 ∷
     ∷ 20 ∷ 22 ∷ 2 ∷ 7 ∷ 3 ∷ 64 ∷ replicate 14 2 ++ 6 ∷ 34 ∷ 257 ∷ 30327 ∷ 26787 ∷ 64256 ∷ []
 
 entries : List ℕ
-entries = 32 ∷ 0 ∷ 64 ∷ 0 ∷ 64 ∷ 2 ∷ 64 ∷ 4 ∷ 64 ∷ 6 ∷ 32 ∷ 0 ∷ 64 ∷ 10 ∷ 64 ∷ 12 ∷ 64 ∷ 14 ∷ 32 ∷ 0 ∷ 32 ∷ 0 ∷ 64 ∷ 16 ∷ 64 ∷ 18 ∷ 64 ∷ 20 ∷ 64 ∷ 22 ∷ 32 ∷ 0 ∷ 64 ∷ 24
-    ∷ 64 ∷ 26 ∷ 32 ∷ 0 ∷ 32 ∷ 0 ∷ 64 ∷ 28 ∷ 64 ∷ 30 ∷ 64 ∷ 32 ∷ 32 ∷ 0 ∷ 64 ∷ 34 ∷ 64 ∷ 36 ∷ 64 ∷ 38 ∷ 32 ∷ 0 ∷ 64 ∷ 40 ∷ 64 ∷ 42 ∷ 64 ∷ 46 ∷ 64 ∷ 52 ∷ 128 ∷ 72 ∷ []
+entries = 32 ∷ 0 ∷ 0 ∷ 64 ∷ 0 ∷ 0 ∷ 64 ∷ 0 ∷ 2 ∷ 64 ∷ 0 ∷ 4 ∷ 64 ∷ 0 ∷ 6 ∷ 32 ∷ 0 ∷ 0 ∷ 64 ∷ 0 ∷ 10 ∷ 64 ∷ 0 ∷ 12 ∷ 64 ∷ 0 ∷ 14 ∷ 32 ∷ 0 ∷ 0 ∷ 32 ∷ 0 ∷ 0 ∷ 64 ∷ 0 ∷ 16 ∷ 64 ∷ 0 ∷ 18 ∷ 64 ∷ 0 ∷ 20 ∷ 64 ∷ 0 ∷ 22 ∷ 32 ∷ 0 ∷ 0 ∷ 64 ∷ 0 ∷ 24 ∷ 64 ∷ 0 ∷ 26 ∷ 32 ∷ 0 ∷ 0 ∷ 32 ∷ 0 ∷ 0 ∷ 64 ∷ 0 ∷ 28 ∷ 64 ∷ 0 ∷ 30 ∷ 64 ∷ 0 ∷ 32 ∷ 32 ∷ 0 ∷ 0 ∷ 64 ∷ 0 ∷ 34 ∷ 64 ∷ 0 ∷ 36 ∷ 64 ∷ 0 ∷ 38 ∷ 32 ∷ 0 ∷ 0 ∷ 64 ∷ 0 ∷ 40 ∷ 64 ∷ 0 ∷ 42 ∷ 64 ∷ 0 ∷ 46 ∷ 64 ∷ 0 ∷ 52 ∷ 128 ∷ 0 ∷ 72 ∷ []
 
 -- THE ROWS
 
@@ -58,7 +57,7 @@ unfolding used_below table
 places = refl
 
 -- the method has an odd number of bytes, and begins at word 72
-last_entry : entry_bytes (Some method) 72 ≡ 0 ∷ 128 ∷ 0 ∷ 72 ∷ []
+last_entry : entry_bytes (Some method) 72 ≡ 0 ∷ 128 ∷ 0 ∷ 0 ∷ 0 ∷ 72 ∷ []
 unfolding method
 last_entry = refl
 
@@ -66,16 +65,16 @@ last_object : object_bytes method ≡ 0 ∷ 6 ∷ 0 ∷ 34 ∷ 1 ∷ 1 ∷ 118 �
 unfolding method
 last_object = refl
 
--- past segment 0 the segment stands in the first word
-far_entry : entry_bytes (Some method) 1048570 ≡ 0 ∷ 143 ∷ 255 ∷ 250 ∷ []
+-- the location has two words
+far_entry : entry_bytes (Some method) 16777210 ≡ 0 ∷ 128 ∷ 0 ∷ 255 ∷ 255 ∷ 250 ∷ []
 unfolding method
 far_entry = refl
 
 -- words are marked, and strings of an even length aren't
-word_entry : entry_bytes (Some (record { class = 6; kind = kind.Words; fields = []; units = 7 ∷ [] })) 0 ≡ 0 ∷ 16 ∷ 0 ∷ 0 ∷ []
+word_entry : entry_bytes (Some (record { class = 6; kind = kind.Words; fields = []; units = 7 ∷ [] })) 0 ≡ 0 ∷ 16 ∷ 0 ∷ 0 ∷ 0 ∷ 0 ∷ []
 word_entry = refl
 
-byte_entry : entry_bytes (Some (record { class = 7; kind = kind.Bytes; fields = []; units = 43 ∷ 44 ∷ [] })) 0 ≡ 0 ∷ 0 ∷ 0 ∷ 0 ∷ []
+byte_entry : entry_bytes (Some (record { class = 7; kind = kind.Bytes; fields = []; units = 43 ∷ 44 ∷ [] })) 0 ≡ 0 ∷ 0 ∷ 0 ∷ 0 ∷ 0 ∷ 0 ∷ []
 byte_entry = refl
 
 -- the whole file

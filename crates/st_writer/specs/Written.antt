@@ -52,11 +52,10 @@ marks kind.Words units = 16
 marks kind.Bytes units = 128 * (units % 2)
 marks kind.Method units = 128 * (units % 2)
 
--- the entry of an object at this word of the object space: its marks with the segment, and the location in the segment.
--- A free entry has bit 10.
+-- the entry of an object at this word of the object space: its marks, and the location in two words. A free entry has bit 10.
 abbrev pub entry_bytes : Option Object → ℕ → List ℕ
-entry_bytes None at = word_bytes 32 ++ word_bytes 0
-entry_bytes (Some o) at = word_bytes (marks o.kind (length o.units) + at / 65536) ++ word_bytes (at % 65536)
+entry_bytes None at = word_bytes 32 ++ long_bytes 0
+entry_bytes (Some o) at = word_bytes (marks o.kind (length o.units)) ++ long_bytes at
 
 -- of what stands at a place of a table: the bytes of an object, and how many words it has
 abbrev pub bytes_at : Option Object → List ℕ
@@ -100,7 +99,7 @@ zeros n = replicate n 0
 -- the named part of the head: the lengths of the object space and of the table in words, the letters, the version, the
 -- capacities, and the pointers of the global name table and of the symbol table
 abbrev pub head_bytes : ℕ → ℕ → Head → List ℕ
-head_bytes words entries h = long_bytes words ++ (long_bytes (2 * entries) ++ (codes "ST80" ++ (long_bytes 1
+head_bytes words entries h = long_bytes words ++ (long_bytes (3 * entries) ++ (codes "ST80" ++ (long_bytes 2
     ++ (long_bytes h.entries ++ (long_bytes h.words ++ (long_bytes (root_word h.globals) ++ long_bytes (root_word h.symbols)))))))
 
 -- how many bytes are missing from so many words to a multiple of 512 bytes

@@ -10,7 +10,7 @@ use st_outside::{Host, HostFault, Piece};
 const LETTERS: u32 = 0x5354_3830;
 
 /// The version of the form.
-const VERSION: u32 = 1;
+const VERSION: u32 = 2;
 
 /// Adds the head: the lengths of the object space in words and of the table in entries, the letters `ST80`, the version,
 /// the capacities and the pointers of the tables of names.
@@ -30,7 +30,7 @@ pub fn push_head<M: Memory, H: Host>(
     let capacity = m.capacity();
     let numbers = [
         words,
-        2 * entries,
+        3 * entries,
         LETTERS,
         VERSION,
         capacity.entries,

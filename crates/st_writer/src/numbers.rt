@@ -22,7 +22,7 @@ pub fn push_word<H: Host>(
 }
 
 /// Adds a number of 32 bits, the highest byte first.
-fn push_long<H: Host>(
+pub fn push_long<H: Host>(
     piece: &mut Piece,
     host: &mut H,
     name: &str,

@@ -4,7 +4,7 @@ ghost use Rattle.st_model.specs.Table.{entry};
 ghost use Rattle.st_outside.specs.Pieces.{end_of, Pushes};
 ghost use Rattle.st_writer.specs.Written.{bytes_at, words_at, entry_bytes, space_below, entries_below, words_below, used_below};
 
-use crate::numbers::push_word;
+use crate::numbers::{push_long, push_word};
 use crate::object::{count_words, marks_of, push_object};
 use st_memory::Memory;
 use st_model::Oop;
@@ -91,17 +91,16 @@ fn push_entry<M: Memory, H: Host>(
 ) -> Result<(), HostFault>
     requires place { k < 32768 }
     requires end { end_of piece.old ≤ 2 ^ 42 }
-    requires at { at ≤ 65535 * k }
     ensures { Pushes H.Host.own name.now (entry_bytes (entry (M.view m.now).objects k) at)
         host.old host.new piece.old piece.new result }
 {
     let o = pointer_of(k);
     if m.live(o) {
-        push_word(piece, host, name, marks_of(m, o) + (at / 65536) as u16)?;
-        push_word(piece, host, name, (at % 65536) as u16)
+        push_word(piece, host, name, marks_of(m, o))?;
+        push_long(piece, host, name, at)
     } else {
         push_word(piece, host, name, 32)?;
-        push_word(piece, host, name, 0)
+        push_long(piece, host, name, 0)
     }
 }
 

@@ -1,4 +1,5 @@
 ghost use Rattle.std.specs.Prelude.{◌≡◌, ◌≤◌, length, IsTrue, IfOk, OnOk, Some};
+ghost use Rattle.st_model.specs.Limits.{most_words};
 ghost use Rattle.st_outside.specs.Counts.{HasCause};
 ghost use Rattle.st_outside.specs.Runs.{WritesAbove, IsSynced};
 ghost use Rattle.st_outside.specs.Pieces.{end_of, Pushes};
@@ -12,7 +13,7 @@ use st_outside::{Host, HostFault, Piece};
 
 /// How many bytes are missing from so many words to a multiple of 512 bytes.
 fn padding(words: u32) -> usize
-    requires { words ≤ 1048576 }
+    requires { words ≤ most_words }
     ensures padding { result ≡ padding words }
     ensures few { result ≤ 512 }
 {

@@ -32,7 +32,7 @@ const SESSION: Run<'static> = Run {
     files: STORE_G,
     words: &["session", "S"],
     script: "!Point methodsFor: 'a'!\nx ^x!\ny ^y! !\nsnapshot\n",
-    said: "opened 0 0\naccepted Point x\naccepted Point y\nsnapshot 1192\n",
+    said: "opened 0 0\naccepted Point x\naccepted Point y\nsnapshot 1276\n",
     openings: &[
         (0, 0, OLD),
         (11, 0, OLD),
@@ -50,7 +50,7 @@ const EXPORT: Run<'static> = Run {
     files: STORE_G,
     words: &["export", "--", "S", "I"],
     script: "",
-    said: "exported 1168\n",
+    said: "exported 1240\n",
     openings: &[(0, 0, OLD), (14, 0, OLD)],
 };
 

@@ -1,5 +1,6 @@
-use Rattle.std.proofs.Common.{◌≡◌, ◌≤◌, ◌^◌, List, ℕ, length, IsTrue, sym, subst, ◌∙◌}
+use Rattle.std.proofs.Common.{◌≡◌, ◌≤◌, List, ℕ, length, IsTrue, sym, subst, ◌∙◌}
 use Rattle.st_outside.specs.Files.{bytes_of}
+use Rattle.st_model.specs.Limits.{longest_image}
 use Rattle.st_image.specs.HeadValues.{head_over}
 use Rattle.st_image.specs.Rows.{IsReadFault}
 use Rattle.st_image.specs.declared.error.ReadImage.{ReadImage}
@@ -11,7 +12,7 @@ use Rattle.st_call.proofs.image.read_image.Goals as goal
 pub returns-in-Ok-clause-readable : goal.returns-in-Ok-clause-readable
 returns-in-Ok-clause-readable g c told =
     let seen : c.deref.result.now ≡ c.in_ok-bytes.bytes.items = c.deref.ensures.value in
-    let short = subst (λ (b : List ℕ). length b ≤ 2 ^ 23) (sym seen) c.in_ok-bytes.ensures.short in
+    let short = subst (λ (b : List ℕ). length b ≤ longest_image) (sym seen) c.in_ok-bytes.ensures.short in
     readable c.args.over.now c.deref.result.now _ (seen ∙ c.in_ok-bytes.ensures.bytes told) short c.in-Ok.ensures.well_formed
 
 pub returns-in-Ok-clause-start : goal.returns-in-Ok-clause-start
@@ -34,7 +35,7 @@ pub returns-in-Err-Fault-clause-refused : goal.returns-in-Err-Fault-clause-refus
 returns-in-Err-Fault-clause-refused g c told =
     let over = c.args.over.now in
     let seen : c.deref.result.now ≡ c.in_ok-bytes.bytes.items = c.deref.ensures.value in
-    let short = subst (λ (b : List ℕ). length b ≤ 2 ^ 23) (sym seen) c.in_ok-bytes.ensures.short in
+    let short = subst (λ (b : List ℕ). length b ≤ longest_image) (sym seen) c.in_ok-bytes.ensures.short in
     let is : IsReadFault (head_over over c.deref.result.now) c.deref.result.now c.in-Err-Fault.field-0 = c.in-Err-Fault.ensures.fault in
     faulty over c.deref.result.now _ (seen ∙ c.in_ok-bytes.ensures.bytes told) c.in-Err-Fault.fault short
     (subst (λ (e : ReadImage). IsReadFault (head_over over c.deref.result.now) c.deref.result.now e) c.in-Err-Fault.field-0-is is)

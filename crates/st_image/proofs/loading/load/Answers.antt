@@ -9,11 +9,11 @@ use Rattle.st_image.proofs.loading.load.Goals as goal
 
 pub overflow_cast-globals : goal.overflow_cast-globals
 overflow_cast-globals g c =
-    let a = pointer_small c.args.image.now.head c.args.image.now.bytes.now c.args.image.now.head.globals c.args.image.now.sized.table (clean_globals c.args.image.now.head c.args.image.now.bytes.now c.requires) in omega arith
+    let a = pointer_small c.args.image.now.head c.args.image.now.bytes.now c.args.image.now.head.globals c.args.image.now.sized.few (clean_globals c.args.image.now.head c.args.image.now.bytes.now c.requires) in omega arith
 
 pub overflow_cast-symbols : goal.overflow_cast-symbols
 overflow_cast-symbols g c =
-    let a = pointer_small c.args.image.now.head c.args.image.now.bytes.now c.args.image.now.head.symbols c.args.image.now.sized.table (clean_symbols c.args.image.now.head c.args.image.now.bytes.now c.requires) in omega arith
+    let a = pointer_small c.args.image.now.head c.args.image.now.bytes.now c.args.image.now.head.symbols c.args.image.now.sized.few (clean_symbols c.args.image.now.head c.args.image.now.bytes.now c.requires) in omega arith
 
 pub begin-requires-clause-entries : goal.begin-requires-clause-entries
 begin-requires-clause-entries g c = (clean_capacity c.args.image.now.head c.args.image.now.bytes.now c.requires).most_entries
@@ -29,7 +29,7 @@ load_all-requires-clause-head g c = ap (λ (v : View). v.head) c.in_ok-loader.en
 
 pub finish-requires : goal.finish-requires
 finish-requires g c =
-    let few : entries_of c.args.image.now.head ≤ 32768 = let t = c.args.image.now.sized.table in omega arith in
+    let few : entries_of c.args.image.now.head ≤ 32768 = c.args.image.now.sized.few in
     complete c.args.image.now.head c.args.image.now.bytes.now (g.L.Loader.loaded c.load_all.new.loader) c.requires (entries_at c.args.image.now.head c.args.image.now.bytes.now (g.L.Loader.loaded c.load_all.new.loader).objects few c.load_all.ensures.objects)
     (c.load_all.ensures.head ∙ (ap (λ (v : View). v.head) c.in_ok-loader.ensures ∙ empty-head (machine_head c.args.image.now.head)))
 

@@ -18,7 +18,7 @@ load_object-requires-clause-sound g c =
 
 pub load_object-requires-clause-room : goal.load_object-requires-clause-room
 load_object-requires-clause-room g c =
-    let few : entries_of c.args.image.now.head ≤ 32768 = let t = c.args.image.now.sized.table in omega arith in
+    let few : entries_of c.args.image.now.head ≤ 32768 = c.args.image.now.sized.few in
     let k_in : c.loop-k.k < entries_of c.args.image.now.head = omega arith in
     let head = c.loop-k.invariant.head ∙ c.requires.head in
     room c.args.image.now.head c.args.image.now.bytes.now (g.L.Loader.loaded c.loop-k.loader) (g.L.Loader.loaded c.args.loader.now).objects c.loop-k.k k_in few c.requires.clean c.requires.empty c.loop-k.invariant.objects
@@ -46,6 +46,6 @@ loop-k-preserved g c =
 
 pub returns-clause-objects : goal.returns-clause-objects
 returns-clause-objects g c =
-    let few : entries_of c.args.image.now.head ≤ 32768 = let t = c.args.image.now.sized.table in omega arith in
+    let few : entries_of c.args.image.now.head ≤ 32768 = c.args.image.now.sized.few in
     let e : c.loop-k.k ≡ entries_of c.args.image.now.head = omega arith in
     c.loop-k.invariant.objects ∙ (ap (λ n. loaded_below c.args.image.now.head c.args.image.now.bytes.now (g.L.Loader.loaded c.args.loader.now).objects n) e ∙ all_loaded c.args.image.now.head c.args.image.now.bytes.now (g.L.Loader.loaded c.args.loader.now).objects few c.requires.clean c.requires.empty)

@@ -5,7 +5,7 @@ use Rattle.st_lookup.proofs.places.look_at_places.Given as goal
 
 -- what is left gives what the whole gives
 abbrev pub invariant-loop-k : goal.invariant-loop-k
-invariant-loop-k g l = Left g.O.Objects.names (word l.dictionary) (word l.selector) l.from l.to l.k (g.O.Objects.table l.m)
+invariant-loop-k g l = Left g.O.Reading.names (word l.dictionary) (word l.selector) l.from l.to l.k (g.O.Reading.table l.m)
 
 abbrev pub decreases-loop-k : goal.decreases-loop-k
 decreases-loop-k g l = l.to - l.k

@@ -112,3 +112,8 @@ returns-in-Leaves-clause-same_memory g c =
     c.hold_again-in-Leaves.ensures.same_memory
     ∙ same_name (g.M.Memory.view c.args.near.now.memory.now) (g.M.Memory.view c.row_at_once.new.m.memory.now) c.args.near.now.memory.ghost_name c.row_at_once.new.m.memory.ghost_name
     c.in_ok-row_at_once.ensures.takes.fixed
+
+pub returns-in-ToForesee-clause-same_memory : goal.returns-in-ToForesee-clause-same_memory
+returns-in-ToForesee-clause-same_memory g c =
+    same_name (g.M.Memory.view c.args.near.now.memory.now) (g.M.Memory.view c.row_at_once.new.m.memory.now) c.args.near.now.memory.ghost_name c.row_at_once.new.m.memory.ghost_name
+    c.in_ok-row_at_once.ensures.takes.fixed

@@ -13,4 +13,4 @@ returns g c =
     let entries : c.capacity-capacity.result.entries ≡ h.entries = λ k. (c.capacity-capacity.ensures k).entries in
     let words : c.capacity-capacity.result.words ≡ h.words = λ k. (c.capacity-capacity.ensures k).words in
     subst (λ (text : List ℕ). Pushes g.H.Host c.args.name.now text c.args.host.now c.push_longs.new.host c.args.piece.now c.push_longs.new.piece c.push_longs.result)
-    (λ k. flat_map long_bytes (c.args.words ∷ 2 * c.args.entries ∷ 1398028336 ∷ 1 ∷ entries k ∷ words k ∷ globals k ∷ symbols k ∷ [])) c.push_longs.ensures
+    (λ k. flat_map long_bytes (c.args.words ∷ 3 * c.args.entries ∷ 1398028336 ∷ 2 ∷ entries k ∷ words k ∷ globals k ∷ symbols k ∷ [])) c.push_longs.ensures

@@ -1,5 +1,6 @@
 use Rattle.std.proofs.Common.{◌≡◌, ℕ, ◌+◌, ◌≤◌, Bool, List, [], ◌∷◌, map, cond, true, false, zero, suc, sym, ap, ◌∙◌, subst, arith}
 use Rattle.std.specs.Prelude.{Option, Some, None, slice_get}
+use Rattle.st_model.specs.Limits.{most_words}
 use Rattle.st_model.specs.declared.oop.Oop.{Oop}
 use Rattle.st_model.specs.declared.page.PageObject.TheVariants as page_object
 use Rattle.st_model.specs.Values.{Value, value, value_of}
@@ -35,7 +36,7 @@ with_globals m j = times j (table_root (table_of m.head.globals.0)) + with_nil m
 abbrev with_symbols : Contents → ℕ → ℕ
 with_symbols m j = times j (table_root (table_of m.head.symbols.0)) + with_globals m j
 
-uses_small : (m : Contents) (j : ℕ) → IsWhole (counted_view m) → uses j (objs m) ≤ 1048576
+uses_small : (m : Contents) (j : ℕ) → IsWhole (counted_view m) → uses j (objs m) ≤ most_words
 uses_small m j whole = let a = uses_few j (objs m) whole.formed in let b = whole.words in let d = whole.most_words in omega (arith, a, b, d)
 
 page_small : (j : ℕ) → times j (page_values page) ≤ 20

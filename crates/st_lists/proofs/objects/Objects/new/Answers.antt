@@ -1,3 +1,4 @@
+use Rattle.st_model.specs.Limits.{most_words}
 use Rattle.std.proofs.Common.{◌≤◌, length, ap, ◌∙◌, arith}
 use Rattle.std.specs.Option.{option_map}
 use Rattle.st_lists.specs.Lists.{entry_object}
@@ -17,8 +18,8 @@ invariant_of-result c =
     let es = c.in_ok-entries.entries.items in
     let none = c.in_ok-entries.ensures.empty in
     let few = c.requires in
-    let fields : length c.in_ok-pointers.pointers.items ≤ 1048576 = let n = c.in_ok-pointers.ensures.len in omega (arith, n, few) in
-    let units : length c.in_ok-units.units.items ≤ 2097152 = let n = c.in_ok-units.ensures in omega (arith, n, few) in
+    let fields : length c.in_ok-pointers.pointers.items ≤ most_words = let n = c.in_ok-pointers.ensures.len in omega (arith, n, few) in
+    let units : length c.in_ok-units.units.items ≤ 2 * most_words = let n = c.in_ok-units.ensures in omega (arith, n, few) in
     record {
       laid_out = none_laid_out es (length c.in_ok-pointers.pointers.items) (length c.in_ok-units.units.items) c.in_ok-entries.ensures.len none fields units;
       counted = none_counted es none;

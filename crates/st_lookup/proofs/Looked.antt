@@ -1,0 +1,31 @@
+-- Values that are the same, and one entry more.
+use Rattle.std.proofs.Common.{◌≡◌, ◌≢◌, ◌<◌, ℕ, List, Bool, true, false, Option, Some, refl, ap, sym, subst, ◌∙◌, arith, length, inl, inr, set, get_or, length-set}
+use Rattle.std.specs.Prelude.{slice_get}
+use Rattle.std.proofs.lemmas.Bool.{cases_eq}
+use Rattle.std.proofs.lemmas.Bool.Decides.{nat_tests}
+use Rattle.std.proofs.lemmas.Option.{slice_get_within, get_or_from_slice_get, slice_get-get_or}
+use Rattle.std.proofs.lemmas.List.{get_or-set_same, get_or-set_other}
+use Rattle.st_model.specs.Values.{Value, Small, Ref}
+use Rattle.st_model.specs.Steps.{same_value}
+use Rattle.st_model.specs.Table.{Table}
+use Rattle.st_lookup.specs.declared.entry.Entry.{Entry}
+use Rattle.st_lookup.specs.Remembered.{IsRemembered, AllRemembered, Grows}
+
+pub value_same : (v w : Value) → same_value v w ≡ true → v ≡ w
+value_same (Small a) (Small b) e = let q : a ≡ b = grind (arith, nat_tests, e) in ap (λ x. Small x) q
+value_same (Small a) (Ref b) e = cc
+value_same (Ref a) (Small b) e = cc
+value_same (Ref a) (Ref b) e = let q : a ≡ b = grind (arith, nat_tests, e) in ap (λ x. Ref x) q
+
+pub grows_then : (a b c : List ℕ) → Grows a b → Grows b c → Grows a c
+grows_then a b c g h k e = h k (g k e)
+
+pub all_set : (bits : List ℕ) (t : Table) (es : List Entry) (k : ℕ) (x : Entry) → AllRemembered bits t es → IsRemembered bits t x → AllRemembered bits t (set es k x)
+all_set bits t es k x r h i e f =
+    let l : i < length es = subst (λ (n : ℕ). i < n) (length-set es k x) (slice_get_within (set es k x) i e f) in
+    let g : get_or (set es k x) i x ≡ e = get_or_from_slice_get (set es k x) i e x f in
+    elim (cases_eq i k) [
+      | inl q ↦ subst (λ (y : Entry). IsRemembered bits t y)
+          (sym (get_or-set_same es k x x (subst (λ (n : ℕ). n < length es) q l)) ∙ (ap (λ (n : ℕ). get_or (set es k x) n x) (sym q) ∙ g)) h
+      | inr d ↦ r i e (slice_get-get_or es i x l ∙ ap (λ (y : Entry). Some y) (sym (get_or-set_other es k i x x d) ∙ g))
+    ]
