@@ -57,7 +57,6 @@ pub mod Instances
 pub mod Roots
 pub mod Raised
 pub mod Showing
-pub mod Texts
 pub mod Again
 pub mod Present
 pub mod PresentSteps

@@ -1,19 +1,18 @@
 -- More worked rows of the primitives on objects: each once as a method of its number is executed, further bounds at which one
 -- fails, and what is said of a String.
-use Rattle.std.proofs.Common.{◌≡◌, ℕ, List, [], ◌∷◌, ◌++◌, None, Some, Option, Bool, true, false, refl}
+use Rattle.std.proofs.Common.{◌≡◌, ℕ, List, [], ◌∷◌, None, Some, Option, Bool, true, false, refl}
 use Rattle.std.specs.Prelude.{codes, length}
 use Rattle.st_model.specs.declared.kind.Kind.TheVariants as kind
 use Rattle.st_model.specs.declared.dead.Dead.TheVariants as dead
 use Rattle.st_model.specs.Values.{Value, Small, Ref}
 use Rattle.st_model.specs.Objects.{Object, nil}
 use Rattle.st_model.specs.Machine.{State, Transition, Died, Went}
-use Rattle.st_model.specs.Outcomes.{Outcome, With}
+use Rattle.st_model.specs.Outcomes.{Outcome}
 use Rattle.st_model.specs.Outcomes as outcome
 use Rattle.st_model.specs.Table.{Table, table}
-use Rattle.st_model.specs.Births.{Births}
 use Rattle.st_model.specs.Storage.{storage}
 use Rattle.st_model.specs.Executing.{respond}
-use Rattle.st_model.specs.Text.{escaped, said_text, ran_text, cycles_text}
+use Rattle.st_model.specs.Text.{escaped, said_text}
 use Rattle.st_model.proofs.Opened.{opened}
 use Rattle.st_model.proofs.StorageRows.{pointers, words, bytes, method, large, string, array, class, objects, state, holding, trying, done, made, failed, Fails, stream}
 
@@ -75,11 +74,6 @@ escapes : (escaped (31 ∷ 32 ∷ 92 ∷ 126 ∷ 127 ∷ 255 ∷ []) ≡ codes "
     × (said_text (words (72 ∷ [])) ≡ [])
 unfolding string bytes words
 escapes = (refl, refl, refl, refl)
-
--- what is said comes before the line of the run's end, and the run goes on
-said_first : (s : State Births) → cycles_text 0 (Went (With (outcome.Say (Ref 0))) (record s { memory = record { object = record { class = 7; kind = kind.Bytes; fields = []; units = 72 ∷ [] }; pointer = 8; kept = true } ∷ [] }))
-    (λ t. ran_text 2) ≡ codes "say H\n" ++ ran_text 2
-said_first s = refl
 
 -- 61: a SmallInteger as a word; what is no LargePositiveInteger isn't one, and a byte takes SmallIntegers alone
 put_units : (trying 61 2 (Ref 31 ∷ Small 1 ∷ Small 16383 ∷ []) (words (7 ∷ []) ∷ [])

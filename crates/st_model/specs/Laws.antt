@@ -1,5 +1,5 @@
 -- The laws that join the book's machine, over births, to the code's, over tables.
-use Rattle.std.specs.Prelude.{◌≡◌, ◌≤◌, ◌+◌, ◌-◌, ℕ, length}
+use Rattle.std.specs.Prelude.{◌≡◌, ◌≤◌, ℕ, length}
 use Rattle.st_model.specs.Objects.{Object}
 use Rattle.st_model.specs.Machine.{State, Step}
 use Rattle.st_model.specs.Births.{Births, births, births_with}
@@ -12,7 +12,6 @@ use Rattle.st_model.specs.Events.{event}
 use Rattle.st_model.specs.Saving.{store_process, settled_after, save}
 use Rattle.st_model.specs.Show.{Shows, IsClosed, raised}
 use Rattle.st_model.specs.Foreseen.{foreseen_cycle, IsSound, EndsShown, ShownAgain, ShownIfTaken, Foretells, DoesWithin}
-use Rattle.st_model.specs.Text.{text_after, text_at}
 
 -- what is foreseen over a table of 32768 places is what the births do
 abbrev pub ApartForetells : Type 0
@@ -58,11 +57,6 @@ RunsCount = (n : ℕ) (c : State Table) (s : State Births) → Runs c s → fini
 abbrev pub StartShows : Type 0
 StartShows = (c : State Table) → IsClosed c
     → ShownAgain ((fetch_scheduled_registers table).run c) ((fetch_scheduled_registers births).run (raised c))
-
--- what is said of k cycles after n others is what is said where their run ends, by the number that are finished
-abbrev pub RunIsSaid : Type 0
-RunIsSaid = (k n : ℕ) (s : State Births)
-    → text_after n k s ≡ text_at (n + finished births k s) (k - finished births k s) (run births k s)
 
 -- an event makes of the table what shows what it makes of the births, or is taken by neither
 abbrev pub EventShows : Type 0

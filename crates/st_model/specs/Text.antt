@@ -1,23 +1,19 @@
 -- The text of a report: what bytecodes say, a run's end, the registers, the input state, what is held, what is used, and every
 -- object.
 -- Each line ends with LF. Pointers are written as @60, SmallIntegers as numbers.
-use Rattle.std.specs.Prelude.{codes, ℕ, ◌+◌, ◌-◌, ◌*◌, ◌/◌, ◌%◌, ◌==◌, zero, suc, List, [], ◌∷◌, ◌++◌, length, Option, Some, None, ℤ, pos, ◌+ℤ◌, nat_lt, if◌then◌else◌}
+use Rattle.std.specs.Prelude.{codes, ℕ, ◌+◌, ◌-◌, ◌*◌, ◌/◌, ◌%◌, ◌==◌, suc, List, [], ◌∷◌, ◌++◌, length, Option, Some, None, ℤ, pos, ◌+ℤ◌, nat_lt, if◌then◌else◌}
 use Rattle.std.specs.Fmt.{decimal, signed_decimal}
 use Rattle.std.specs.List.{flat_map}
 use Rattle.st_model.specs.declared.dead.Dead.{Dead}
 use Rattle.st_model.specs.declared.kind.Kind.{Kind}
 use Rattle.st_model.specs.declared.kind.Kind.TheVariants.{Pointers, Words, Bytes, Method}
 use Rattle.st_model.specs.declared.demand.Demand.{Demand}
-use Rattle.st_model.specs.Outcomes.{Outcome, Ending, With, Space}
-use Rattle.st_model.specs.Outcomes as outcome
 use Rattle.st_model.specs.Values.{Value, Small, Ref, integer}
 use Rattle.st_model.specs.Objects.{Object, is_bytes, one, words_of}
 use Rattle.st_model.specs.Deaths.{dead_number}
-use Rattle.st_model.specs.Machine.{Registers, Devices, World, State, Transition, Died, Went}
+use Rattle.st_model.specs.Machine.{Registers, Devices, World, State}
 use Rattle.st_model.specs.Table.{Table, total_used}
-use Rattle.st_model.specs.Births.{Births, births, object_born}
-use Rattle.st_model.specs.Cycles.{cycle}
-use Rattle.st_model.specs.Show.{show}
+use Rattle.st_model.specs.Births.{Births, object_born}
 
 abbrev pub value_text : Value → List ℕ
 value_text (Small n) = signed_decimal (integer n)
@@ -126,33 +122,3 @@ said_text (Some o) = if is_bytes o.kind then codes "say " ++ (escaped o.units ++
 abbrev pub said_value : Births → Value → List ℕ
 said_value h (Small n) = []
 said_value h (Ref n) = said_text (object_born h n)
-
--- What is said of a cycle, where so many were finished before it, and of all that follow. A dead machine shows nothing
--- but its cause. A snapshot is passed over, and what a bytecode says has a line of its own.
-abbrev pub cycles_text : ℕ → Transition (State Births) Ending → (State Births → List ℕ) → List ℕ
-cycles_text n (Died cause) f = dead_text n cause
-cycles_text n (Went (With outcome.Went) s) f = f s
-cycles_text n (Went (With outcome.Snapshot) s) f = f s
-cycles_text n (Went (With outcome.Quit) s) f = quit_text (suc n) ++ state_text (show s)
-cycles_text n (Went (With outcome.Debugger) s) f = debugger_text (suc n) ++ state_text (show s)
-cycles_text n (Went (With (outcome.Say v)) s) f = said_value s.memory v ++ f s
-cycles_text n (Went (Space demand left) s) f = space_text n demand left ++ state_text (show s)
-
--- what is said of so many cycles of the book's machine, after others that were finished
-unfoldable pub text_after : ℕ → ℕ → State Births → List ℕ
-text_after n zero s = ran_text n ++ state_text (show s)
-text_after n (suc k) s = cycles_text n (cycle births s) (λ t. text_after (suc n) k t)
-
--- what is said of n cycles of the book's machine
-abbrev pub run_text : ℕ → State Births → List ℕ
-run_text n s = text_after 0 n s
-
--- What is said where so many cycles are finished and k are left, and the machine has come to this.
-abbrev pub text_at : ℕ → ℕ → Transition (State Births) Ending → List ℕ
-text_at n k (Died cause) = dead_text n cause
-text_at n k (Went (With outcome.Went) s) = ran_text n ++ state_text (show s)
-text_at n k (Went (With outcome.Snapshot) s) = text_after n k s
-text_at n k (Went (With outcome.Quit) s) = quit_text n ++ state_text (show s)
-text_at n k (Went (With outcome.Debugger) s) = debugger_text n ++ state_text (show s)
-text_at n k (Went (With (outcome.Say v)) s) = said_value s.memory v ++ text_after n k s
-text_at n k (Went (Space demand left) s) = space_text n demand left ++ state_text (show s)

@@ -10,7 +10,7 @@ ghost use Rattle.st_model.specs.Objects.{NilObject, FalseObject, TrueObject, Sma
 ghost use Rattle.st_model.specs.Table.{bounded_table};
 ghost use Rattle.st_model.specs.Bytecodes.{step};
 ghost use Rattle.st_model.specs.Foreseen.{KeepsClosed};
-ghost use Rattle.st_model.specs.Laws.{ApartForetells, BoundedDoes, StepMissesNothing, SwitchMissesNothing, StoreMissesNothing, RunsShow, RunsCount, StartShows, EventShows, SaveShows, RunIsSaid};
+ghost use Rattle.st_model.specs.Laws.{ApartForetells, BoundedDoes, StepMissesNothing, SwitchMissesNothing, StoreMissesNothing, RunsShow, RunsCount, StartShows, EventShows, SaveShows};
 
 mod bytecode;
 mod call;
@@ -101,11 +101,6 @@ pub fn event_shows_births()
 /// both die of one cause.
 pub fn save_shows_births()
     ensures { SaveShows }
-{}
-
-/// What is said of cycles, one after the other, is what is said where their run ends, by the number that are finished.
-pub fn run_is_said()
-    ensures { RunIsSaid }
 {}
 
 /// The pointers of nil, false and true, and the words of nil and SmallInteger, are those of the root page.

@@ -1,15 +1,15 @@
 -- The report of a run is what the line `run N` says, and then what the machine shows.
-use Rattle.std.proofs.Common.{◌≡◌, ℕ, zero, suc, List, [], ◌∷◌, ◌++◌, length, Option, refl, sym, ap, ◌∙◌, append-nil, append_assoc}
+use Rattle.std.proofs.Common.{◌≡◌, ℕ, zero, suc, ◌+◌, ◌-◌, List, [], ◌∷◌, ◌++◌, length, Option, refl, sym, ap, ◌∙◌, append-nil, append_assoc, arith}
 use Rattle.std.specs.Prelude.{Result, Ok, Err, IsErr}
 use Rattle.st_model.specs.declared.dead.Dead.{Dead}
 use Rattle.st_model.specs.Outcomes.{Ending, With, Space}
 use Rattle.st_model.specs.Outcomes as outcome
 use Rattle.st_model.specs.Machine.{State, Transition, Died, Went}
 use Rattle.st_model.specs.Births.{Births, births}
-use Rattle.st_model.specs.Cycles.{cycle}
+use Rattle.st_model.specs.Cycles.{cycle, run, run_of, finished, finished_of, and_on, counted}
 use Rattle.st_model.specs.Table.{Table}
 use Rattle.st_model.specs.Show.{show}
-use Rattle.st_model.specs.Text.{state_text, dead_text, quit_text, debugger_text, space_text, ran_text, said_value, cycles_text, text_after}
+use Rattle.st_model.specs.Text.{dead_text, quit_text, debugger_text, space_text, ran_text, said_value}
 use Rattle.st_model.proofs.Showing.{show_is}
 use Rattle.st_course.specs.Courses.{Reply, Goes, Ends, deeds_of, said_of, preceded}
 use Rattle.st_course.proofs.Courses.{said_of_both, deeds_preceded}
@@ -20,68 +20,77 @@ use Rattle.st_report.proofs.Pushing.{push_then, push_begun, push_as}
 use Rattle.st_session.specs.Points.{Being, Alive, Gone, Point}
 use Rattle.st_session.specs.Keeping.{keeps_nothing}
 use Rattle.st_session.specs.Answers.{cycle_course, run_course}
-use Rattle.st_session.specs.Reports.{text_of}
+use Rattle.st_session.specs.Reports.{Line, cycles, text_of, being_text, shown_text, line_text, run_text, text_at}
 use Rattle.st_session.specs.Pushing.{LeadsTo, PushesCourse}
 use Rattle.st_session.specs.Standing.{IsBeing}
-use Rattle.st_session.proofs.Stretches.{Line, Deeds, cycles}
+use Rattle.st_session.proofs.Stretches.{Deeds}
 
--- what is shown of a point, and of where a course leads
-abbrev being_text : Being → List ℕ
-being_text (Alive s) = state_text (show s)
-being_text (Gone cause) = []
+replied : (text rest : List ℕ) → (text ++ []) ++ rest ≡ text ++ rest
+replied text rest = ap (λ t. t ++ rest) (append-nil text)
 
-abbrev shown_of : Line → List ℕ
-shown_of (Goes ds p) = being_text p.being
-shown_of (Ends ds status) = []
+module _ (shows : State Table → List ℕ) where
+  shown_behind : (ds : Deeds) (c : Line) → shown_text shows (preceded ds c) ≡ shown_text shows c
+  shown_behind ds (Goes es p) = refl
+  shown_behind ds (Ends es status) = refl
 
-abbrev report_of : Line → List ℕ
-report_of c = said_of (deeds_of c) ++ shown_of c
+  line_behind : (ds : Deeds) (c : Line) → line_text shows (preceded ds c) ≡ said_of ds ++ line_text shows c
+  line_behind ds c =
+      ap (λ t. t ++ shown_text shows (preceded ds c)) (ap said_of (deeds_preceded ds c) ∙ said_of_both ds (deeds_of c))
+      ∙ (ap (λ t. (said_of ds ++ said_of (deeds_of c)) ++ t) (shown_behind ds c) ∙ append_assoc (said_of ds) (said_of (deeds_of c)) (shown_text shows c))
 
-shown_behind : (ds : Deeds) (c : Line) → shown_of (preceded ds c) ≡ shown_of c
-shown_behind ds (Goes es p) = refl
-shown_behind ds (Ends es status) = refl
+  -- what is said of cycles one after the other is what is said where their run has come to
+  pub said_at : (k n : ℕ) (s : State Births) → line_text shows (cycles n k s) ≡ text_at shows (n + finished births k s) (k - finished births k s) (run births k s)
+  unfolding run_course run run_of finished finished_of
+  said_at zero n s = let e : n ≡ n + 0 = omega arith in replied (ran_text n) (shows (show s)) ∙ ap (λ i. ran_text i ++ shows (show s)) e
+  said_at (suc k) n s = over (cycle births s) (λ t. said_at k (suc n) t)
+    where
+      over : (o : Transition (State Births) Ending)
+          → ((t : State Births) → line_text shows (cycles (suc n) k t) ≡ text_at shows (suc n + finished_of (cycle births) k t) (k - finished_of (cycle births) k t) (run_of (cycle births) k t))
+          → line_text shows (cycle_course keeps_nothing n o (run_course keeps_nothing (suc n) k) tt)
+          ≡ text_at shows (n + counted o (λ t. finished_of (cycle births) k t)) (suc k - counted o (λ t. finished_of (cycle births) k t)) (and_on o (λ t. run_of (cycle births) k t))
+      over (Died cause) h =
+          let e : n ≡ n + 0 = omega arith in
+          append-nil (dead_text n cause ++ []) ∙ (append-nil (dead_text n cause) ∙ ap (λ i. dead_text i cause) e)
+      over (Went (With outcome.Went) t) h =
+          let d = finished_of (cycle births) k t in
+          let e : suc n + d ≡ n + suc d = omega arith in
+          let f : k - d ≡ suc k - suc d = omega arith in
+          h t ∙ (λ i. text_at shows (e i) (f i) (run_of (cycle births) k t))
+      over (Went (With outcome.Snapshot) t) h =
+          let e : suc n ≡ n + 1 = omega arith in
+          let f : k ≡ suc k - 1 = omega arith in
+          line_behind [] (cycles (suc n) k t) ∙ (λ i. line_text shows (cycles (e i) (f i) t))
+      over (Went (With outcome.Quit) t) h =
+          let e : suc n ≡ n + 1 = omega arith in
+          replied (quit_text (suc n)) (shows (show t)) ∙ ap (λ i. quit_text i ++ shows (show t)) e
+      over (Went (With outcome.Debugger) t) h =
+          let e : suc n ≡ n + 1 = omega arith in
+          replied (debugger_text (suc n)) (shows (show t)) ∙ ap (λ i. debugger_text i ++ shows (show t)) e
+      over (Went (With (outcome.Say v)) t) h =
+          let e : suc n ≡ n + 1 = omega arith in
+          let f : k ≡ suc k - 1 = omega arith in
+          let said = said_value t.memory v in
+          line_behind (Reply said ∷ []) (cycles (suc n) k t)
+          ∙ (replied said (line_text shows (cycles (suc n) k t)) ∙ (λ i. said ++ line_text shows (cycles (e i) (f i) t)))
+      over (Went (Space demand left) t) h =
+          let e : n ≡ n + 0 = omega arith in
+          replied (space_text n demand left) (shows (show t)) ∙ ap (λ i. space_text i demand left ++ shows (show t)) e
 
-report_behind : (ds : Deeds) (c : Line) → said_of ds ++ report_of c ≡ report_of (preceded ds c)
-report_behind ds c =
-    sym (append_assoc (said_of ds) (said_of (deeds_of c)) (shown_of c))
-    ∙ (ap (λ t. t ++ shown_of c) (sym (ap said_of (deeds_preceded ds c) ∙ said_of_both ds (deeds_of c))) ∙ ap (λ t. said_of (deeds_of (preceded ds c)) ++ t) (sym (shown_behind ds c)))
+  -- what a machine shows is what is shown of the point at which it stands
+  shown_is : (c : Line) (death : Option Dead) (t : State Table) → LeadsTo (λ p. IsBeing death t p.being) c → (places : length t.memory ≡ 32768) → text_of shows death t ≡ shown_text shows c
+  shown_is (Ends ds status) death t leads places = absurd leads
+  shown_is (Goes ds p) death t leads places = over p.being leads
+    where
+      over : (being : Being) → IsBeing death t being → text_of shows death t ≡ being_text shows being
+      over (Alive s) w = ap (λ d. text_of shows d t) w.0 ∙ ap shows (sym (show_is t s w.1 places))
+      over (Gone cause) w = ap (λ d. text_of shows d t) w
 
-replied : (text rest : List ℕ) → text ++ rest ≡ (text ++ []) ++ rest
-replied text rest = ap (λ t. t ++ rest) (sym (append-nil text))
+  module _ {D : Type 0} {host : Ghosts D} (n : ℕ) (s : State Births) (death : Option Dead) (t : State Table) where
+    pub reported : {old mid new : D} {p q r : List ℕ} {result : Result Unit SayFault} → length t.memory ≡ 32768
+        → PushesCourse {E = SayFault} host (λ (x : Point (Unit {0})). IsBeing death t x.being) (cycles 0 n s) old mid p q (Ok tt) → Pushes host (text_of shows death t) mid new q r result
+        → Pushes host (run_text shows n s) old new p r result
+    reported places run last = push_as (push_then run.pushes last) (ap (λ x. said_of (deeds_of (cycles 0 n s)) ++ x) (shown_is (cycles 0 n s) death t run.leads places))
 
-pub report_is : (k n : ℕ) (s : State Births) → text_after n k s ≡ report_of (cycles n k s)
-unfolding text_after run_course
-report_is zero n s = replied (ran_text n) (state_text (show s))
-report_is (suc k) n s = over (cycle births s) (λ t. report_is k (suc n) t)
-  where
-    over : (o : Transition (State Births) Ending) → ((t : State Births) → text_after (suc n) k t ≡ report_of (cycles (suc n) k t))
-        → cycles_text n o (λ t. text_after (suc n) k t) ≡ report_of (cycle_course keeps_nothing n o (run_course keeps_nothing (suc n) k) tt)
-    over (Died cause) h = sym (append-nil (dead_text n cause)) ∙ sym (append-nil (dead_text n cause ++ []))
-    over (Went (With outcome.Went) t) h = h t
-    over (Went (With outcome.Snapshot) t) h = h t ∙ report_behind [] (cycles (suc n) k t)
-    over (Went (With outcome.Quit) t) h = replied (quit_text (suc n)) (state_text (show t))
-    over (Went (With outcome.Debugger) t) h = replied (debugger_text (suc n)) (state_text (show t))
-    over (Went (With (outcome.Say v)) t) h =
-        ap (λ x. said_value t.memory v ++ x) (h t) ∙ (replied (said_value t.memory v) (report_of (cycles (suc n) k t)) ∙ report_behind (Reply (said_value t.memory v) ∷ []) (cycles (suc n) k t))
-    over (Went (Space demand left) t) h = replied (space_text n demand left) (state_text (show t))
-
--- what a machine shows is what is shown of the point at which it stands
-shown_is : (c : Line) (death : Option Dead) (t : State Table) → LeadsTo (λ p. IsBeing death t p.being) c → (places : length t.memory ≡ 32768) → text_of death t ≡ shown_of c
-shown_is (Ends ds status) death t leads places = absurd leads
-shown_is (Goes ds p) death t leads places = over p.being leads
-  where
-    over : (being : Being) → IsBeing death t being → text_of death t ≡ being_text being
-    over (Alive s) w = ap (λ d. text_of d t) w.0 ∙ ap state_text (sym (show_is t s w.1 places))
-    over (Gone cause) w = ap (λ d. text_of d t) w
-
-module _ {D : Type 0} {host : Ghosts D} (cycles_done : ℕ) (s : State Births) (death : Option Dead) (t : State Table) where
-  pub reported : {old mid new : D} {p q r : List ℕ} {result : Result Unit SayFault} → length t.memory ≡ 32768
-      → PushesCourse {E = SayFault} host (λ (x : Point (Unit {0})). IsBeing death t x.being) (cycles 0 cycles_done s) old mid p q (Ok tt) → Pushes host (text_of death t) mid new q r result
-      → Pushes host (text_after 0 cycles_done s) old new p r result
-  reported places run shows =
-      push_as (push_then run.pushes shows)
-      (ap (λ x. said_of (deeds_of (cycles 0 cycles_done s)) ++ x) (shown_is (cycles 0 cycles_done s) death t run.leads places) ∙ sym (report_is cycles_done 0 s))
-
-  pub unreported : {at : Point (Unit {0}) → Type 0} {old new : D} {p q : List ℕ} {fault : SayFault} {result : Result Unit SayFault} → IsErr result
-      → PushesCourse {E = SayFault} host at (cycles 0 cycles_done s) old new p q (Err fault) → Pushes host (text_after 0 cycles_done s) old new p q result
-  unreported err run = push_as (push_begun (shown_of (cycles 0 cycles_done s)) err run.pushes) (sym (report_is cycles_done 0 s))
+    pub unreported : {at : Point (Unit {0}) → Type 0} {old new : D} {p q : List ℕ} {fault : SayFault} {result : Result Unit SayFault} → IsErr result
+        → PushesCourse {E = SayFault} host at (cycles 0 n s) old new p q (Err fault) → Pushes host (run_text shows n s) old new p q result
+    unreported err run = push_begun (shown_text shows (cycles 0 n s)) err run.pushes

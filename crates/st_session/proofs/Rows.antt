@@ -1,16 +1,22 @@
 -- Worked sessions.
-use Rattle.std.proofs.Common.{◌≡◌, List, [], ◌∷◌, ℕ, refl}
+use Rattle.std.proofs.Common.{◌≡◌, List, [], ◌∷◌, ℕ, true, refl}
 use Rattle.std.specs.Prelude.{codes}
 use Rattle.st_model.specs.declared.dead.Dead.TheVariants.{Sp}
+use Rattle.st_model.specs.declared.kind.Kind.TheVariants.{Bytes}
+use Rattle.st_model.specs.Values.{Ref}
+use Rattle.st_model.specs.Outcomes.{With, Say}
+use Rattle.st_model.specs.Machine.{State, Went}
+use Rattle.st_model.specs.Births.{Births}
 use Rattle.st_script.specs.Lines.{with_arguments, alone, ask_with, ask_alone, number, line_ask, line_request}
 use Rattle.st_script.specs.Reading.{read, end_read}
 use Rattle.st_course.specs.declared.refusal.Refusal.TheVariants.{NoClass}
 use Rattle.st_course.specs.declared.status.Status.TheVariants.{Done, Script}
-use Rattle.st_course.specs.Courses.{Course, Reply, Ends}
+use Rattle.st_course.specs.Courses.{Course, Reply, Goes, Ends, replies}
 use Rattle.st_installer.specs.Installing.{Install, Refused}
-use Rattle.st_session.specs.Points.{Point, gone}
+use Rattle.st_session.specs.Points.{Point, alive, gone}
 use Rattle.st_session.specs.Keeping.{keeps_nothing}
-use Rattle.st_model.specs.Text.{dead_text}
+use Rattle.st_session.specs.Answers.{cycle_course}
+use Rattle.st_model.specs.Text.{dead_text, ran_text}
 use Rattle.st_session.specs.FirstLines.{opening_text}
 use Rattle.st_session.specs.Sessions.{session}
 
@@ -40,3 +46,13 @@ cut_off : over_the_dead (codes "used\n!Point methodsFor: 'a'!\nx ^x!")
     ≡ Ends (Reply (opening_text 0 []) ∷ Reply (dead_text 0 Sp) ∷ Reply (dead_text 0 Sp) ∷ []) (Script 3)
 unfolding session read end_read line_request line_ask alone with_arguments ask_alone ask_with number
 cut_off = refl
+
+-- the book's machine with one object, a String of the letter H
+abbrev with_a_letter : State Births → State Births
+with_a_letter s = record s { memory = record { object = record { class = 7; kind = Bytes; fields = []; units = 72 ∷ [] }; pointer = 8; kept = true } ∷ [] }
+
+-- what a bytecode says comes before the line of the run's end, and the run goes on
+said_first : (s : State Births)
+    → cycle_course keeps_nothing 0 (Went (With (Say (Ref 0))) (with_a_letter s)) (λ t c. replies (ran_text 2) (alive t c)) tt
+    ≡ Goes (Reply (codes "say H\n") ∷ Reply (ran_text 2) ∷ []) (alive (with_a_letter s) tt)
+said_first s = refl

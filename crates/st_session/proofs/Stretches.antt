@@ -22,6 +22,7 @@ use Rattle.st_session.specs.Keeping.{Keeping, keeps_nothing}
 use Rattle.st_session.specs.Answers.{going_on, cycle_course, run_course}
 use Rattle.st_session.specs.Standing.{IsBeing}
 use Rattle.st_session.specs.Stretches.{Stop, Over, Asked, Stretch, words_of, cycle_stretch, stretch, StopsAs, PushesStretch}
+use Rattle.st_session.specs.Reports.{Line, cycles}
 use Rattle.st_session.specs.Pushing.{LeadsTo, PushesCourse}
 
 -- texts that are said in turn, as deeds
@@ -112,15 +113,8 @@ module _ {C : Type 0} (keeping : Keeping C) where
 
 -- COURSES THAT ARE ADDED
 
-abbrev pub Line : Type 0
-Line = Course (Unit {0}) (Point (Unit {0}))
-
 abbrev pub Deeds : Type 0
 Deeds = List (Deed (Unit {0}))
-
--- the course of n cycles more, after others that were finished
-abbrev pub cycles : ℕ → ℕ → State Births → Line
-cycles n k s = run_course keeps_nothing n k s tt
 
 pub all_ok : {A : Type 0} (r : Result Unit SayFault) → A → OnOk r A
 all_ok (Ok u) a = a

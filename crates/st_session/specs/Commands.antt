@@ -8,10 +8,11 @@ use Rattle.st_model.specs.Machine.{State, Went}
 use Rattle.st_model.specs.Image.{image_head}
 use Rattle.st_model.specs.Births.{Births}
 use Rattle.st_model.specs.Start.{begin}
-use Rattle.st_model.specs.Text.{run_text}
+use Rattle.st_model.specs.Text.{state_text}
 use Rattle.st_recover.specs.Openings.{IsReadable, IsFaulty}
 use Rattle.st_recover.specs.declared.fault.OpenFault.{OpenFault}
 use Rattle.st_recover.specs.declared.fault.OpenFault.TheVariants as opening
+use Rattle.st_session.specs.Reports.{run_text}
 use Rattle.st_call.specs.LastLines.{SaysLastLine}
 use Rattle.st_call.specs.Refusals.{store_status}
 use Rattle.st_course.specs.declared.status.Status.{Status}
@@ -30,7 +31,7 @@ opening_status opening.OutOfMemory = OutOfMemory
 pub record IsReport (bytes : List ℕ) (n : ℕ) (text : List ℕ) : Type 0 where
   pub births : State Births
   pub begins : begin (image_head bytes) bytes ≡ Went tt births
-  pub is : text ≡ run_text n births
+  pub is : text ≡ run_text state_text n births
 
 -- CALLS
 

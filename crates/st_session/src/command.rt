@@ -5,11 +5,12 @@ ghost use Rattle.st_outside.specs.Runs.{ReadsAndSays, SaysAll};
 ghost use Rattle.st_model.specs.Machine.{State};
 ghost use Rattle.st_model.specs.Births.{Births};
 ghost use Rattle.st_model.specs.Show.{Shows};
-ghost use Rattle.st_model.specs.Text.{run_text};
+ghost use Rattle.st_model.specs.Text.{state_text};
 ghost use Rattle.st_frames.specs.Shown.{IsReady, shown};
 ghost use Rattle.st_outside.specs.Telling.{Says};
 ghost use Rattle.st_course.specs.Statuses.{StatusHasCause};
 ghost use Rattle.st_session.specs.Commands.{OnceEnds};
+ghost use Rattle.st_session.specs.Reports.{run_text};
 ghost use Rattle.st_session.specs.StoreSessions.{SessionCommandEnds};
 
 use crate::compiler::Compiler;
@@ -36,9 +37,9 @@ fn run_and_report<H: Host, M: Memory>(
     requires alive { machine.old.death ≡ None }
     ensures all { let first = shown (M.view machine.old.memory) machine.old.frame machine.old.world in
         (s : State Births) → Shows first s →
-        OnOk result (SaysAll H.Host.own (run_text cycles s) host.old host.new) }
+        OnOk result (SaysAll H.Host.own (run_text state_text cycles s) host.old host.new) }
     ensures says { let first = shown (M.view machine.old.memory) machine.old.frame machine.old.world in
-        (s : State Births) → Shows first s → Says H.Host.own (run_text cycles s) host.old host.new }
+        (s : State Births) → Shows first s → Says H.Host.own (run_text state_text cycles s) host.old host.new }
     ensures cause { HasCause (H.say_faults host.old) (H.say_faults host.new) result }
 {
     let mut out = Output::new();

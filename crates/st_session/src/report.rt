@@ -2,11 +2,11 @@ ghost use Rattle.std.specs.Prelude.{◌≡◌, None};
 ghost use Rattle.st_model.specs.Machine.{State};
 ghost use Rattle.st_model.specs.Births.{Births};
 ghost use Rattle.st_model.specs.Show.{Shows};
-ghost use Rattle.st_model.specs.Text.{run_text};
+ghost use Rattle.st_model.specs.Text.{state_text};
 ghost use Rattle.st_frames.specs.Shown.{IsReady};
 ghost use Rattle.st_report.specs.Saying.{Pushes};
 ghost use Rattle.st_session.specs.Standing.{MayRun, shown_by};
-ghost use Rattle.st_session.specs.Reports.{text_of};
+ghost use Rattle.st_session.specs.Reports.{text_of, run_text};
 
 use crate::running::push_run;
 use st_machine::Machine;
@@ -21,7 +21,7 @@ fn push_shown<H: Host, M: Memory>(
     machine: &Machine<M>,
 ) -> Result<(), SayFault>
     requires may_run { MayRun M.view machine.now }
-    ensures { let text = text_of machine.now.death (shown_by M.view machine.now) in
+    ensures { let text = text_of state_text machine.now.death (shown_by M.view machine.now) in
         Pushes H.Host.own text host.old host.new out.old out.new result }
 {
     match machine.death() {
@@ -47,7 +47,7 @@ pub(crate) fn push_report<H: Host, M: Memory>(
     requires ready { IsReady (M.view machine.old.memory) machine.old.frame machine.old.world }
     requires alive { machine.old.death ≡ None }
     ensures { (s : State Births) → Shows (shown_by M.view machine.old) s →
-        Pushes H.Host.own (run_text cycles s) host.old host.new out.old out.new result }
+        Pushes H.Host.own (run_text state_text cycles s) host.old host.new out.old out.new result }
 {
     push_run(out, host, machine, cycles)?;
     push_shown(out, host, machine)

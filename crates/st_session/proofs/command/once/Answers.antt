@@ -5,17 +5,18 @@ use Rattle.st_model.specs.Objects.{nil}
 use Rattle.st_model.specs.Machine.{World, empty_world}
 use Rattle.st_model.specs.Image.{image_head}
 use Rattle.st_model.specs.Show.{Shows}
-use Rattle.st_model.specs.Text.{run_text}
+use Rattle.st_model.specs.Text.{state_text}
 use Rattle.st_model.specs.View.{View}
 use Rattle.st_frames.specs.declared.frame.Frame.{Frame}
 use Rattle.st_frames.specs.Shown.{shown}
 use Rattle.st_image.specs.Reading.{IsStart}
 use Rattle.st_session.specs.Commands.{IsReport}
+use Rattle.st_session.specs.Reports.{run_text}
 use Rattle.st_session.proofs.Points.{shown_births}
 use Rattle.st_session.proofs.command.once.Goals as goal
 
 -- what is said of the births with which the book's machine begins is the report
-report_of : (bytes : List ℕ) (v : View) (f : Frame) (n : ℕ) (s : IsStart (image_head bytes) bytes v f) → IsReport bytes n (run_text n s.births)
+report_of : (bytes : List ℕ) (v : View) (f : Frame) (n : ℕ) (s : IsStart (image_head bytes) bytes v f) → IsReport bytes n (run_text state_text n s.births)
 report_of bytes v f n s = record { births = s.births; begins = s.begins; is = refl }
 
 begun : (bytes : List ℕ) (v : View) (f : Frame) (w : World) (s : IsStart (image_head bytes) bytes v f) → w ≡ empty_world nil → Shows (shown v f w) s.births

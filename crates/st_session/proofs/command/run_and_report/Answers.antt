@@ -4,9 +4,10 @@ use Rattle.st_outside.specs.declared.host.Host.{Ghosts}
 use Rattle.st_outside.specs.declared.host.SayFault.{SayFault}
 use Rattle.st_outside.specs.Runs.{SaysAll}
 use Rattle.st_outside.proofs.Rising.{cause_after}
-use Rattle.st_model.specs.Text.{run_text}
+use Rattle.st_model.specs.Text.{state_text}
 use Rattle.st_report.specs.Saying.{Pushes}
 use Rattle.st_report.proofs.Pushing.{pushed_all, pushed_says, pushed_part}
+use Rattle.st_session.specs.Reports.{run_text}
 use Rattle.st_session.proofs.Points.{shown_births}
 use Rattle.st_session.proofs.command.run_and_report.Goals as goal
 
@@ -19,7 +20,7 @@ all_said new (Ok x) empty run all = pushed_all empty run all
 all_said new (Err x) empty run all = tt
 
 pub returns-in_err-push_report-clause-all : goal.returns-in_err-push_report-clause-all
-returns-in_err-push_report-clause-all g c = λ s h. none_said (SaysAll g.H.Host (run_text c.args.cycles s) c.args.host.now c.push_report.new.host) c.from_residual.result c.from_residual.ensures.0
+returns-in_err-push_report-clause-all g c = λ s h. none_said (SaysAll g.H.Host (run_text state_text c.args.cycles s) c.args.host.now c.push_report.new.host) c.from_residual.result c.from_residual.ensures.0
 
 pub returns-in_err-push_report-clause-says : goal.returns-in_err-push_report-clause-says
 returns-in_err-push_report-clause-says g c = λ s h. pushed_part c.new-out.ensures (c.in_err-push_report.ensures s h)
