@@ -1,5 +1,14 @@
 """The chunks of a kernel file or a changes file: text that single `!` cut, a doubled one standing for one."""
 
+import re
+
+BLANKS = " \t\n\f\r"
+HEADER = re.compile(r"([A-Za-z][A-Za-z0-9]*)(\s+class)?\s+methodsFor:\s*'((?:[^']|'')*)'")
+SPACE = re.compile(r"""(?:[ \t\n\f\r]|"[^"]*")*""")
+KEYWORD = re.compile(r"[A-Za-z][A-Za-z0-9]*:")
+NAME = re.compile(r"[A-Za-z][A-Za-z0-9]*")
+BINARY = re.compile(r"[-+*/\\~<>=@%|&?,]+")
+
 
 class Chunk:
     """A chunk: its number from 1, the text as it stands and with single `!`, the line in which it begins, and whether it opens a group."""
@@ -41,3 +50,42 @@ def chunks_of(text):
         else:
             empty = is_empty
     return chunks
+
+
+class Definition:
+    """A method's text, with its class, whether it is of the class side, its category and its selector."""
+
+    def __init__(self, of_class, meta, category, text):
+        self.of_class, self.meta, self.category, self.text = of_class, meta, category, text
+        self.selector = selector_of(text)
+
+
+def selector_of(text):
+    """The selector that a method's text begins with, or an empty text."""
+    at = SPACE.match(text).end()
+    parts = []
+    while keyword := KEYWORD.match(text, at):
+        parts.append(keyword[0])
+        argument = NAME.match(text, SPACE.match(text, keyword.end()).end())
+        if not argument:
+            return ""
+        at = SPACE.match(text, argument.end()).end()
+    if parts:
+        return "".join(parts)
+    found = NAME.match(text, at) or BINARY.match(text, at)
+    return found[0] if found else ""
+
+
+def definitions_of(text):
+    """The methods of a text's groups, in their order."""
+    found, header, inside = [], None, False
+    for chunk in chunks_of(text):
+        is_empty = not chunk.text.strip(BLANKS)
+        if chunk.opens:
+            header, inside = HEADER.fullmatch(chunk.text.strip(BLANKS)), True
+        elif inside and is_empty:
+            inside = False
+        elif inside and header:
+            category = header[3].replace("''", "'")
+            found.append(Definition(header[1], bool(header[2]), category, chunk.text.strip(BLANKS)))
+    return found

@@ -44,12 +44,19 @@ class Image:
         lettered = data[8:12] == b"ST80"
         self.globals = long_at(data, 24) if lettered else 0
         self.symbols = long_at(data, 28) if lettered else 0
-        table = self.table_of(data)
         self.objects = {}
-        for pointer in range(2, long_at(data, 4), 2):
-            marks, location = word_at(data, table + 2 * pointer), word_at(data, table + 2 * pointer + 2)
+        for pointer, marks, location in self.entries_of(data, 3 if lettered and long_at(data, 12) == 2 else 2):
             if not marks & 32:
-                self.objects[pointer] = self.object_at(data, marks, SHORT + 2 * ((marks & 15) * 65536 + location))
+                self.objects[pointer] = self.object_at(data, marks, SHORT + 2 * location)
+
+    @classmethod
+    def entries_of(cls, data, words):
+        """The pointer, the marks and the location of each entry, which has two words in version 1 and three in version 2."""
+        table = cls.table_of(data)
+        for number in range(1, long_at(data, 4) // words):
+            at = table + 2 * words * number
+            marks, low = word_at(data, at), word_at(data, at + 2 * words - 2)
+            yield 2 * number, marks, (marks & 15 if words == 2 else word_at(data, at + 2)) * 65536 + low
 
     @staticmethod
     def table_of(data):
@@ -88,11 +95,21 @@ class Image:
         return found.fields if found and found.kind == "p" else []
 
 
-def current_image(store):
-    """The bytes of a store's current image: the file that the chosen root names, up to the length that it says."""
+def root_of(store):
+    """The numbers of a store's chosen root: slot and length of the image, base and length of the changes."""
     roots = pathlib.Path(f"{store}.roots").read_bytes()
     if len(roots) < 80 or roots[:8] != b"ST80ROOT":
         raise Wrong(f"{store}.roots is no roots file")
     at = 16 + 32 * (roots[8] & 1)
-    slot, length = (int.from_bytes(roots[at + 8 * k : at + 8 * k + 8], "big") for k in (0, 1))
+    return [int.from_bytes(roots[at + 8 * k : at + 8 * k + 8], "big") for k in range(4)]
+
+
+def current_image(store):
+    """The bytes of a store's current image: the file that the chosen root names, up to the length that it says."""
+    slot, length = root_of(store)[:2]
     return pathlib.Path(f"{store}.{'ab'[slot & 1]}").read_bytes()[:length]
+
+
+def changes_of(store):
+    """The bytes of a store's changes file, up to the length that the chosen root says."""
+    return pathlib.Path(f"{store}.changes").read_bytes()[: root_of(store)[3]]

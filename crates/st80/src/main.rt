@@ -9,27 +9,59 @@ mod tests;
 mod tool;
 
 use crate::tool::exit_code;
-use st_call::{Command, read_command};
+use st_call::{Command, read_command, refuse};
+use st_course::Status;
 use st_host::{DirHost, StdinSource};
-use std::io;
+use st_outside::Source;
+use std::alloc::Global;
+use std::fs::File;
+use std::io::{self, ErrorKind};
 use std::process::ExitCode;
+use std::rt::{Env, Files};
 
-fn main(rt: HostRuntime) -> io::Result<ExitCode> {
+fn main(rt: HostRuntime) -> ExitCode {
     let alloc = rt.alloc();
     let errors = rt.stderr();
-    let mut words = Vec::new(alloc);
-    for word in std::env::args(&rt)?.skip(1) {
-        words.push(word)?;
-    }
+    let words = words_of_call(&rt);
     let mut script = StdinSource::new(&rt);
     let mut host = DirHost::new(rt);
-    if let Some(Command::Export { store, image }) = read_command(words.as_slice()) {
-        host.keep_stores_from(store, image)?;
-    }
-    let code = exit_code(alloc, words.as_slice(), &mut host, &mut script);
+    let code = match do_call(alloc, words, &mut host, &mut script) {
+        Ok(code) => code,
+        Err(status) => {
+            refuse(&mut host, status);
+            ExitCode::from(status.number())
+        }
+    };
     if let Some(refusal) = host.refusal() {
         // The status says it too, where this can't be said.
         errors.println(format_args!("st80: {refusal}")).ok();
     }
-    Ok(code)
+    code
+}
+
+// The words of the call, without the program's name. A word that is no text is in no command.
+fn words_of_call<R: Env + AllocGlobal>(rt: &R) -> Result<Vec<String>, Status> {
+    let given = std::env::args(rt).map_err(|error| match error.kind() {
+        ErrorKind::OutOfMemory => Status::OutOfMemory,
+        _ => Status::Usage,
+    })?;
+    let mut words = Vec::new(rt.alloc());
+    for word in given.skip(1) {
+        words.push(word).map_err(|_no_memory| Status::OutOfMemory)?;
+    }
+    Ok(words)
+}
+
+// Does what the words say, or says why nothing was begun.
+fn do_call<R: Files<File = File> + Print + AllocGlobal + Drop, S: Source>(
+    alloc: Global,
+    words: Result<Vec<String>, Status>,
+    host: &mut DirHost<R>,
+    script: &mut S,
+) -> Result<ExitCode, Status> {
+    let words = words?;
+    if let Some(Command::Export { store, image }) = read_command(words.as_slice()) {
+        host.keep_stores_from(store, image).map_err(|_no_memory| Status::OutOfMemory)?;
+    }
+    Ok(exit_code(alloc, words.as_slice(), host, script))
 }

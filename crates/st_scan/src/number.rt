@@ -13,9 +13,6 @@ use crate::bytes::is_radix_digit;
 use crate::front::Front;
 use st_tree::{Cause, Signed, Sort};
 
-/// The greatest size of a number.
-const LIMIT: u128 = u128::MAX;
-
 /// The digits of a number: decimal ones, or a radix and those behind its `r`.
 #[derive(Clone, Copy)]
 enum Numeral<'a> {
@@ -35,7 +32,7 @@ impl Numeral<'_> {
         }
     }
 
-    /// The size, where the radix is 2 to 36, the digits are below it, and the size is at most `LIMIT`.
+    /// The size, where the radix is 2 to 36, the digits are below it, and the size is below 2^128.
     fn size(self) -> Option<u128>
         ensures { result ≡ allowed_size (digits_of self.entry) }
     {
@@ -49,7 +46,7 @@ impl Numeral<'_> {
     }
 }
 
-/// The size of digits in a base, where they are below it and the size is at most `LIMIT`.
+/// The size of digits in a base, where they are below it and the size is below 2^128.
 fn size_in(base: u32, digits: &[u8]) -> Option<u128>
     requires low { 2 ≤ base }
     requires high { base ≤ 36 }
@@ -62,17 +59,15 @@ fn size_in(base: u32, digits: &[u8]) -> Option<u128>
     Some(size)
 }
 
-/// A size with one more digit behind it.
+/// A size with one more digit behind it, where the digit is below the base and the size below 2^128.
 fn with_digit(size: u128, base: u32, digit: u8) -> Option<u128>
     requires low { 2 ≤ base }
     requires high { base ≤ 36 }
     ensures { result ≡ with_digit size base digit }
 {
     let digit = char::from(digit).to_digit(base)?;
-    let size = size
-        .checked_mul(u128::from(base))?
-        .checked_add(u128::from(digit))?;
-    (size <= LIMIT).then_some(size)
+    size.checked_mul(u128::from(base))?
+        .checked_add(u128::from(digit))
 }
 
 /// A number before the rest of a text.
