@@ -1,5 +1,5 @@
 -- A plan that is made of its draft, the method, and the growth of its dictionary.
-use Rattle.std.proofs.Common.{◌≡◌, ℕ, zero, suc, ◌+◌, Bool, true, false, List, [], ◌∷◌, ◌++◌, length, take, Option, Some, None, Ok, Err, refl, sym, ap, ◌∙◌}
+use Rattle.std.proofs.Common.{◌≡◌, ℕ, ◌+◌, Bool, true, false, List, [], ◌∷◌, ◌++◌, length, Option, Some, None, Ok, Err, refl, sym, ap, ◌∙◌}
 use Rattle.std.specs.Prelude.{if◌then◌else◌}
 use Rattle.std.proofs.lemmas.List.{append_assoc, length-map, length-append}
 use Rattle.st_model.specs.declared.dead.Dead.{Dead}
@@ -21,18 +21,9 @@ use Rattle.st_install.specs.Plans.{Made, NewObject, Store, Plan}
 use Rattle.st_install.specs.Symbols.{Symbols}
 use Rattle.st_install.specs.Literals.{PlacedAll}
 use Rattle.st_install.specs.Shapes.{check_size}
-use Rattle.st_install.specs.Planning.{method_number, objects_with_method, grown_number, plan_objects}
+use Rattle.st_install.specs.Planning.{method_number, objects_with_method, grown_number, sized, plan_objects}
 use Rattle.st_install.specs.Readies.{part_of, object_of, objects_of}
 use Rattle.st_install.specs.PlanDrafts.{IsGrowth, growth_then, TellsGrowth, IsDraft, method_of, plan_from}
-
-take_front : {A : Type 0} (xs ys : List A) → take (length xs) (xs ++ ys) ≡ xs
-take_front [] ys = refl
-take_front (x ∷ xs) ys = ap (λ zs. x ∷ zs) (take_front xs ys)
-
-objects_taken : (n : ℕ) (os : List CodeObject) → objects_of (take n os) ≡ take n (objects_of os)
-objects_taken zero os = refl
-objects_taken (suc n) [] = refl
-objects_taken (suc n) (o ∷ os) = ap (λ zs. object_of o ∷ zs) (objects_taken n os)
 
 module _ (class : Oop) (d : PlanDraft) (method : NewObject) (t : Table) (next : ℕ) (e : next ≡ length d.objects.items + 1) (parts : PartsView) (symbols : Symbols) (literals : PlacedAll)
     (m : method ≡ method_of parts literals) (h : IsDraft d symbols literals) where
@@ -44,7 +35,7 @@ module _ (class : Oop) (d : PlanDraft) (method : NewObject) (t : Table) (next : 
 
   abbrev rest : Value → Bool → List NewObject → Step Table Plan
   rest dictionary grows grown =
-      check_size symbols.objects >> (check_size grown >> (of_page table MethodClass >>= (λ method_class. answer (record {
+      of_page table MethodClass >>= (λ method_class. sized (record {
         objects = objects_with_method method_class parts symbols literals ++ grown;
         symbol_stores = symbols.stores;
         selector = part_of d.selector;
@@ -52,7 +43,7 @@ module _ (class : Oop) (d : PlanDraft) (method : NewObject) (t : Table) (next : 
         class = value class;
         dictionary = dictionary;
         grown = grown_number grows symbols literals;
-      }))))
+      }))
 
   opened : (s : State Table) → (plan_objects table (value class) parts symbols literals (part_of d.selector)).run s ≡ (growth_then (value class) (part_of d.selector) next rest).run s
   unfolding plan_objects
@@ -62,40 +53,37 @@ module _ (class : Oop) (d : PlanDraft) (method : NewObject) (t : Table) (next : 
       → (plan_objects table (value class) parts symbols literals (part_of d.selector)).run s ≡ Died k
   growth_dies k g s f = opened s ∙ g rest s f
 
-  first_objects : symbols.objects ≡ objects_of (take d.symbols d.objects.items)
-  first_objects = sym (objects_taken d.symbols d.objects.items ∙ ap (take d.symbols) h.objects ∙ ap (λ k. take k (symbols.objects ++ literals.objects)) h.count ∙ take_front symbols.objects literals.objects)
-
   module _ (g : Growth) (i : IsGrowth (value class) (part_of d.selector) next t g) where
     grown_on : (s : State Table) → s.memory ≡ t → (plan_objects table (value class) parts symbols literals (part_of d.selector)).run s ≡ (rest (value g.dictionary) i.grown.grows (objects_of g.objects.items)).run s
     grown_on s f = opened s ∙ simp (run-then, i.dictionary s f, after-went, i.grown.test s f, i.grown.tells s f) refl
 
-    pub symbols_large : (k : Dead) → Reads (check_size (objects_of (take d.symbols d.objects.items))) itself t (Err k) → (s : State Table) → s.memory ≡ t
+    number_is : (b : Bool) → (if b then Some next else None) ≡ grown_number b symbols literals
+    number_is true = ap Some next_is
+    number_is false = refl
+
+    all_objects : objects_with_method (Ref (place_of MethodClass)) parts symbols literals ++ objects_of g.objects.items ≡ objects_of d.objects.items ++ method ∷ objects_of g.objects.items
+    all_objects =
+        append_assoc (symbols.objects ++ literals.objects) (method_of parts literals ∷ []) (objects_of g.objects.items)
+        ∙ ap (λ os. os ++ method_of parts literals ∷ objects_of g.objects.items) (sym h.objects)
+        ∙ ap (λ o. objects_of d.objects.items ++ o ∷ objects_of g.objects.items) (sym m)
+
+    same_plan : (a b : List NewObject) (k n : ℕ) (p q : Option ℕ) (ss ts : List Store) → a ≡ b → k ≡ n → p ≡ q → ss ≡ ts
+        → ◌≡◌ {A = Plan} (record { objects = a; symbol_stores = ss; selector = part_of d.selector; method = Made k; class = value class; dictionary = value g.dictionary; grown = p })
+        (record { objects = b; symbol_stores = ts; selector = part_of d.selector; method = Made n; class = value class; dictionary = value g.dictionary; grown = q })
+    same_plan a b k n p q ss ts u v w z = rw (u, v, w, z) refl
+
+    -- the plan is made, and its objects are looked at
+    sized_so : (s : State Table) → s.memory ≡ t → (plan_objects table (value class) parts symbols literals (part_of d.selector)).run s ≡ (sized (plan_from (value class) d method g)).run s
+    sized_so s f =
+        grown_on s f ∙ simp (run-then, run-of_page, after-went) refl
+        ∙ ap (λ p. (sized p).run s) (same_plan _ _ _ _ _ _ _ _ all_objects (sym count_is) (sym (i.number ∙ number_is i.grown.grows)) (sym h.stores))
+
+    pub too_large : (k : Dead) → Reads (check_size (plan_from (value class) d method g).objects) itself t (Err k) → (s : State Table) → s.memory ≡ t
         → (plan_objects table (value class) parts symbols literals (part_of d.selector)).run s ≡ Died k
-    symbols_large k x s f = grown_on s f ∙ simp (run-next, ap (λ os. (check_size os).run s) first_objects ∙ x s f, after-died) refl
+    unfolding sized
+    too_large k x s f = sized_so s f ∙ simp (run-next, x s f, after-died) refl
 
-    module _ (u : Unit {0}) (x : Reads (check_size (objects_of (take d.symbols d.objects.items))) itself t (Ok u)) where
-      pub grown_large : (k : Dead) → Reads (check_size (objects_of g.objects.items)) itself t (Err k) → (s : State Table) → s.memory ≡ t
-          → (plan_objects table (value class) parts symbols literals (part_of d.selector)).run s ≡ Died k
-      grown_large k y s f = grown_on s f ∙ simp (run-next, ap (λ os. (check_size os).run s) first_objects ∙ x s f, after-went, y s f, after-died) refl
-
-      number_is : (b : Bool) → (if b then Some next else None) ≡ grown_number b symbols literals
-      number_is true = ap Some next_is
-      number_is false = refl
-
-      all_objects : objects_with_method (Ref (place_of MethodClass)) parts symbols literals ++ objects_of g.objects.items ≡ objects_of d.objects.items ++ method ∷ objects_of g.objects.items
-      all_objects =
-          append_assoc (symbols.objects ++ literals.objects) (method_of parts literals ∷ []) (objects_of g.objects.items)
-          ∙ ap (λ os. os ++ method_of parts literals ∷ objects_of g.objects.items) (sym h.objects)
-          ∙ ap (λ o. objects_of d.objects.items ++ o ∷ objects_of g.objects.items) (sym m)
-
-      same_plan : (a b : List NewObject) (k n : ℕ) (p q : Option ℕ) (ss ts : List Store) → a ≡ b → k ≡ n → p ≡ q → ss ≡ ts
-          → ◌≡◌ {A = Plan} (record { objects = a; symbol_stores = ss; selector = part_of d.selector; method = Made k; class = value class; dictionary = value g.dictionary; grown = p })
-          (record { objects = b; symbol_stores = ts; selector = part_of d.selector; method = Made n; class = value class; dictionary = value g.dictionary; grown = q })
-      same_plan a b k n p q ss ts u v w z = rw (u, v, w, z) refl
-
-      pub planned_so : (v : Unit {0}) → Reads (check_size (objects_of g.objects.items)) itself t (Ok v) → (s : State Table) → s.memory ≡ t
-          → (plan_objects table (value class) parts symbols literals (part_of d.selector)).run s ≡ Went (plan_from (value class) d method g) s
-      unfolding answer
-      planned_so v y s f =
-          grown_on s f ∙ simp (run-next, run-then, ap (λ os. (check_size os).run s) first_objects ∙ x s f, after-went, y s f, run-of_page) refl
-          ∙ ap (λ p. Went p s) (same_plan _ _ _ _ _ _ _ _ all_objects (sym count_is) (sym (i.number ∙ number_is i.grown.grows)) (sym h.stores))
+    pub planned_so : (u : Unit {0}) → Reads (check_size (plan_from (value class) d method g).objects) itself t (Ok u) → (s : State Table) → s.memory ≡ t
+        → (plan_objects table (value class) parts symbols literals (part_of d.selector)).run s ≡ Went (plan_from (value class) d method g) s
+    unfolding answer sized
+    planned_so u x s f = sized_so s f ∙ simp (run-next, x s f, after-went) refl

@@ -15,7 +15,7 @@ use Rattle.st_model.proofs.Tabular.{fetch_field-as, count_fields-as}
 use Rattle.st_install.specs.Dictionaries.{Ending, Holds, Vacant, Nowhere}
 use Rattle.st_install.proofs.Goes.{object_at, over, Tells, tells_field, tells_count}
 use Rattle.st_install.proofs.GoesSeeking.{at_place, ends_with, ending_among, half_of, start_within, bounded_reads, table_reads, half_tells, page_tells, tells_place}
-use Rattle.st_install.proofs.GainsPlaces.{look_from, look_for, IsNotHeld, other_false}
+use Rattle.st_install.proofs.GainsPlaces.{look_from, look_for, look_absent, IsAbsent, IsNotHeld, other_false}
 use Rattle.st_install.proofs.GainsFinding.{object_told}
 
 -- a class with a dictionary, and its Array of methods
@@ -37,54 +37,68 @@ table_field w v o e p i x f = subst (λ y. Tells y w x) (fetch_field-as bounded_
 table_count : (w : Table) (v : Value) (o : Object) → object_at w v ≡ Some o → is_pointers o.kind ≡ true → Tells (count_fields table v) w (length o.fields)
 table_count w v o e p = subst (λ y. Tells y w (length o.fields)) (count_fields-as bounded_reads.tabular v) (tells_count w v o e p)
 
+-- the search in a dictionary with these fields
+module _ (w : Table) (d : Value) (o : Object) (is : object_at w d ≡ Some o) (pointers : is_pointers o.kind ≡ true) (places : 2 < length o.fields) (x : Value) (s : State Table) where
+  -- what the search answers that ends so
+  abbrev pub result : Ending → Transition (State Table) (Option Value)
+  result (Holds j) = (method_at table d j).run (over s w)
+  result (Vacant j) = Went None (over s w)
+  result Nowhere = Went None (over s w)
+
+  says : (k : ℕ) (p q : Bool) (n : Step Table (Option Value)) (e : Ending) → n.run (over s w) ≡ result e → (place_says table d k p q n).run (over s w) ≡ result (ends_with k p q e)
+  unfolding place_says answer
+  says k true q n e r = refl
+  says k false true n e r = refl
+  says k false false n e r = r
+
+  at_one : (k : ℕ) (n : Step Table (Option Value)) (e : Ending) → 2 + k < length o.fields → n.run (over s w) ≡ result e
+      → (look_at_place table d x k n).run (over s w) ≡ result (ends_with k (same_value (at_place o.fields k) x) (same_value (at_place o.fields k) nil) e)
+  unfolding look_at_place
+  at_one k n e l r =
+      let f = tells_place table table_reads w d o is pointers k l s in
+      let g = page_tells table table_reads w s in
+      simp (run-then, f, after-went, g) (says k _ _ n e r)
+
+  among : (k left : ℕ) (n : Step Table (Option Value)) (e : Ending) → 2 + k + left ≤ length o.fields → n.run (over s w) ≡ result e
+      → (look_at_places table d x k left n).run (over s w) ≡ result (ending_among o.fields x k left e)
+  unfolding look_at_places
+  among k zero n e l r = r
+  among k (suc left) n e l r = at_one k _ _ (omega (arith, l)) (among (suc k) left n e (omega (arith, l)) r)
+
+  from : (start : ℕ) → start ≤ length o.fields - 2 → (search_from table d x (length o.fields - 2) start).run (over s w) ≡ result (look_from o.fields x (length o.fields - 2) start)
+  unfolding search_from
+  from start l =
+      let two = places in
+      among start (length o.fields - 2 - start) _ _ (omega (arith, two, l)) (among 0 (length o.fields - 2) _ Nowhere (omega (arith, two)) (run-answer None (over s w)))
+
+  pub searched : (search_dictionary table d x (length o.fields - 2)).run (over s w) ≡ result (look_for w o.fields x)
+  unfolding search_dictionary
+  searched =
+      let f = half_tells table table_reads w x s in
+      simp (run-then, f, after-went) (from (bit_and (half_of w x) (length o.fields - 2 - 1)) (start_within (half_of w x) (length o.fields - 2)))
+
+  pub not_held : (e : Ending) → IsNotHeld e → result e ≡ Went None (over s w)
+  not_held (Holds j) n = absurd (n j refl)
+  not_held (Vacant j) n = refl
+  not_held Nowhere n = refl
+
+  -- what stands at no place isn't found, wherever its search begins
+  pub none_searched : IsAbsent o.fields x → (search_dictionary table d x (length o.fields - 2)).run (over s w) ≡ Went None (over s w)
+  none_searched n = searched ∙ not_held (look_for w o.fields x) (look_absent w o.fields x n)
+
 module _ (w : Table) (class d ms : Value) (o a : Object) (h : ClassWith w class d ms o a) where
   module _ (x : Value) (s : State Table) where
-    -- what the search answers that ends so
-    abbrev result : Ending → Transition (State Table) (Option Value)
-    result (Holds j) = (method_at table d j).run (over s w)
-    result (Vacant j) = Went None (over s w)
-    result Nowhere = Went None (over s w)
+    abbrev ends : Ending → Transition (State Table) (Option Value)
+    ends e = result w d o h.is h.pointers h.places x s e
 
-    says : (k : ℕ) (p q : Bool) (n : Step Table (Option Value)) (e : Ending) → n.run (over s w) ≡ result e → (place_says table d k p q n).run (over s w) ≡ result (ends_with k p q e)
-    unfolding place_says answer
-    says k true q n e r = refl
-    says k false true n e r = refl
-    says k false false n e r = r
-
-    at_one : (k : ℕ) (n : Step Table (Option Value)) (e : Ending) → 2 + k < length o.fields → n.run (over s w) ≡ result e
-        → (look_at_place table d x k n).run (over s w) ≡ result (ends_with k (same_value (at_place o.fields k) x) (same_value (at_place o.fields k) nil) e)
-    unfolding look_at_place
-    at_one k n e l r =
-        let f = tells_place table table_reads w d o h.is h.pointers k l s in
-        let g = page_tells table table_reads w s in
-        simp (run-then, f, after-went, g) (says k _ _ n e r)
-
-    among : (k left : ℕ) (n : Step Table (Option Value)) (e : Ending) → 2 + k + left ≤ length o.fields → n.run (over s w) ≡ result e
-        → (look_at_places table d x k left n).run (over s w) ≡ result (ending_among o.fields x k left e)
-    unfolding look_at_places
-    among k zero n e l r = r
-    among k (suc left) n e l r = at_one k _ _ (omega (arith, l)) (among (suc k) left n e (omega (arith, l)) r)
-
-    from : (start : ℕ) → start ≤ length o.fields - 2 → (search_from table d x (length o.fields - 2) start).run (over s w) ≡ result (look_from o.fields x (length o.fields - 2) start)
-    unfolding search_from
-    from start l =
-        let two = h.places in
-        among start (length o.fields - 2 - start) _ _ (omega (arith, two, l)) (among 0 (length o.fields - 2) _ Nowhere (omega (arith, two)) (run-answer None (over s w)))
-
-    searched : (search_dictionary table d x (length o.fields - 2)).run (over s w) ≡ result (look_for w o.fields x)
-    unfolding search_dictionary
-    searched =
-        let f = half_tells table table_reads w x s in
-        simp (run-then, f, after-went) (from (bit_and (half_of w x) (length o.fields - 2 - 1)) (start_within (half_of w x) (length o.fields - 2)))
-
-    in_class : (method_in_class table class x).run (over s w) ≡ result (look_for w o.fields x)
+    in_class : (method_in_class table class x).run (over s w) ≡ ends (look_for w o.fields x)
     unfolding method_in_class
     in_class =
         let f = table_field w class h.class_object h.class_is h.class_pointers 1 d h.to_dictionary s in
         let g = table_count w d o h.is h.pointers s in
         let l = h.places in
         let b : nat_lt 2 (length o.fields) ≡ true = grind (arith, nat_tests) in
-        simp (run-then, run-next, f, after-went, g, run-passed dead.Places _ (over s w) b) searched
+        simp (run-then, run-next, f, after-went, g, run-passed dead.Places _ (over s w) b) (searched w d o h.is h.pointers h.places x s)
 
     at_method : (j : ℕ) (m : Value) → slice_get a.fields j ≡ Some m → (method_at table d j).run (over s w) ≡ (checked_method table m).run (over s w)
     unfolding method_at
@@ -94,15 +108,10 @@ module _ (w : Table) (class d ms : Value) (o a : Object) (h : ClassWith w class 
         simp (run-then, f, after-went, g) refl
 
     pub found_in_class : (j : ℕ) (m : Value) → look_for w o.fields x ≡ Holds j → slice_get a.fields j ≡ Some m → (method_in_class table class x).run (over s w) ≡ (checked_method table m).run (over s w)
-    found_in_class j m e f = in_class ∙ (ap result e ∙ at_method j m f)
-
-    not_held : (e : Ending) → IsNotHeld e → result e ≡ Went None (over s w)
-    not_held (Holds j) n = absurd (n j refl)
-    not_held (Vacant j) n = refl
-    not_held Nowhere n = refl
+    found_in_class j m e f = in_class ∙ (ap ends e ∙ at_method j m f)
 
     pub absent_in_class : IsNotHeld (look_for w o.fields x) → (method_in_class table class x).run (over s w) ≡ Went None (over s w)
-    absent_in_class n = in_class ∙ not_held (look_for w o.fields x) n
+    absent_in_class n = in_class ∙ not_held w d o h.is h.pointers h.places x s (look_for w o.fields x) n
 
   -- a Method with a header is found at once
   module _ (x m : Value) (j : ℕ) (p : Object) (not_nil : class ≢ nil) (e : look_for w o.fields x ≡ Holds j) (f : slice_get a.fields j ≡ Some m)

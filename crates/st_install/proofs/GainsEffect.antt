@@ -46,6 +46,7 @@ pub record Effect (t z : Table) (class : Value) (vs : List Value) (o : Object) (
   pub superclass : (y : Value) → slice_get o.fields 0 ≡ Some y → slice_get with.class_object.fields 0 ≡ Some y
   pub new : Finds (half_of z x) dictionary_object.fields array.fields x m
   pub same : (y : Value) → is_there bounded_table t y ≡ true → y ≢ nil → y ≢ x → FindsSame (half_of t y) fs ms dictionary_object.fields array.fields y
+  pub absent : (y : Value) → y ≢ nil → y ≢ x → IsAbsent fs y → IsAbsent dictionary_object.fields y
   pub method_object : Object
   pub method_there : object_at z m ≡ Some method_object
   pub is_method : is_method method_object.kind ≡ true
@@ -136,6 +137,7 @@ module _ (head : Head) (t : Table) (p : Plan) (sound : IsSoundPlan t p) (associa
         made_other : object_at z (get_or vs number nil) ≡ object_at w (get_or vs number nil)
         same : (x : Value) → is_there bounded_table t x ≡ true → x ≢ nil
             → FindsSame (half_of t x) sound.dictionary.object.fields sound.dictionary.array.fields dictionary.fields array.fields x
+        absent : (x : Value) → x ≢ nil → IsAbsent sound.dictionary.object.fields x → IsAbsent dictionary.fields x
         no_dictionary : IsNoTarget vs p.symbol_stores d
         no_methods : IsNoTarget vs p.symbol_stores methods
         class_apart : d ≢ p.class
@@ -170,6 +172,7 @@ module _ (head : Head) (t : Table) (p : Plan) (sound : IsSoundPlan t p) (associa
             others = λ x o e. stands_filled t u p.objects vs m w f x o e;
             made_other = refl;
             same = λ x a b. record { found = λ y g. g; absent = λ g. g };
+            absent = λ x d g. g;
             no_dictionary = old_no_target p.dictionary d.object d.is dictionary_association dictionary_value;
             no_methods = old_no_target d.methods d.array d.array_is methods_association methods_value;
             class_apart = λ q. class_dictionary (sym q);
@@ -213,11 +216,14 @@ module _ (head : Head) (t : Table) (p : Plan) (sound : IsSoundPlan t p) (associa
             (record { refilling = refilling t u p.objects vs m w f k _ g; moved = none_moved w d.object.fields d.array.fields all_at_w _ _ (all_nil t u p.objects vs m w f k _ g) }) (omega arith)
 
         module _ (z : Table) (h : Moves z) where
+          still_absent : (x : Value) → x ≢ nil → IsAbsent sound.dictionary.object.fields x → IsAbsent h.refilling.dictionary.fields x
+          still_absent x d a = h.moved.only x d (λ j l. false_other (at_place sound.dictionary.object.fields j) x (a j))
+
           moved_same : (x : Value) → is_there bounded_table t x ≡ true → x ≢ nil
               → FindsSame (half_of t x) sound.dictionary.object.fields sound.dictionary.array.fields h.refilling.dictionary.fields h.refilling.array.fields x
           moved_same x th d = record {
             found = λ y q. moved_found y q;
-            absent = λ a. h.moved.only x d (λ j l. false_other (at_place sound.dictionary.object.fields j) x (a j));
+            absent = λ a. still_absent x d a;
           }
             where
               halves : half_of w x ≡ half_of t x
@@ -264,6 +270,7 @@ module _ (head : Head) (t : Table) (p : Plan) (sound : IsSoundPlan t p) (associa
                 others = λ x o e. r.others x (old_apart x o e k k_below) (old_apart x o e (k + 1) array_below) ∙ stands_filled t u p.objects vs m w f x o e;
                 made_other = r.others (get_or vs number nil) (made_apart number k b k_below (λ q. omega (arith, q, after))) (made_apart number (k + 1) b array_below (λ q. omega (arith, q, after)));
                 same = moved_same;
+                absent = still_absent;
                 no_dictionary = made_no_target k k_below (omega (arith, after));
                 no_methods = made_no_target (k + 1) array_below (omega (arith, after));
                 class_apart = λ q. old_apart p.class sound.class.object sound.class.is k k_below (sym q);
@@ -417,6 +424,7 @@ module _ (head : Head) (t : Table) (p : Plan) (sound : IsSoundPlan t p) (associa
                   found = λ q k. r.adds.same (half_of t x) x q n i ((h.same x th n).found q k);
                   absent = λ k. r.adds.absent x i ((h.same x th n).absent k);
                 };
+                absent = λ x n i k. r.adds.absent x i (h.absent x n k);
                 method_object = method_filled.object;
                 method_there = method_at_y;
                 is_method = ap (λ k. is_method k) (method_filled.like.kind ∙ (blank_kind object.kind object ∙ object_kind));

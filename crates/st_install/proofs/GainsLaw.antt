@@ -26,11 +26,12 @@ use Rattle.st_install.proofs.GoesInstalling.{IsSoundPlan}
 use Rattle.st_install.proofs.GoesReading.{IsField, IsSoundTable}
 use Rattle.st_install.proofs.GoesPlanning.{same_object}
 use Rattle.st_install.proofs.GoesLaw.{sound_table, header_there, idle, dictionary, plan}
-use Rattle.st_install.proofs.GainsPlaces.{found_or_absent, ending_by, is_place, look_holds, look_absent, IsAbsent}
+use Rattle.st_install.proofs.GainsPlaces.{found_or_absent, ending_by, is_place, look_holds, look_absent, IsAbsent, other_false}
 use Rattle.st_install.proofs.GainsRefilling.{FindsAll, half_kept}
 use Rattle.st_install.proofs.GainsPlanning.{IsArranged, ready_arranged}
 use Rattle.st_install.proofs.GainsNames.{HasTable, IsTable, names_table}
 use Rattle.st_install.proofs.GainsFinding.{Alike, Free, alike_told, alike_by, alike_field, SameMethod, checked_alike, SameDictionary, class_alike, SameClass, field_is, find_alike, same_answer}
+use Rattle.st_install.proofs.GainsAbsent.{class_without}
 use Rattle.st_install.proofs.GainsClass.{ClassWith, table_field, found_in_class, absent_in_class, finds_method}
 use Rattle.st_install.proofs.GainsEffect.{FindsSame, Effect, Leaves, install_leaves}
 
@@ -76,9 +77,9 @@ module _ (t after : Table) (class d ms association value x m : Value) (co o a : 
   halves : (y : Value) → is_there bounded_table t y ≡ true → half_of after y ≡ half_of t y
   halves y th = half_kept t after y e.kept th
 
-  not_pointers : (k : Bool) → k ≡ true → k ≡ false → ⊥
-  not_pointers true q r = cc
-  not_pointers false q r = cc
+  not_both : (k : Bool) → k ≡ true → k ≡ false → ⊥
+  not_both true q r = cc
+  not_both false q r = cc
 
   -- what is of another kind is none of them
   none_of_five : (y : Value) (p : Object) → object_at t y ≡ Some p → is_pointers p.kind ≡ false → IsNoneOf (class ∷ d ∷ ms ∷ association ∷ value ∷ []) y
@@ -94,7 +95,7 @@ module _ (t after : Table) (class d ms association value x m : Value) (co o a : 
   )
     where
       other : (z : Value) (b : Object) → object_at t z ≡ Some b → is_pointers b.kind ≡ true → y ≢ z
-      other z b g k r = not_pointers (is_pointers b.kind) k (subst (λ (c : Object). is_pointers c.kind ≡ false) (same_object t y p b q (ap (λ v. object_at t v) r ∙ g)) f)
+      other z b g k r = not_both (is_pointers b.kind) k (subst (λ (c : Object). is_pointers c.kind ≡ false) (same_object t y p b q (ap (λ v. object_at t v) r ∙ g)) f)
 
   no_method : (p : Object) → is_pointers p.kind ≡ true → is_method p.kind ≡ false
   no_method p f = by_kind p.kind f
@@ -118,6 +119,16 @@ module _ (t after : Table) (class d ms association value x m : Value) (co o a : 
       by_entry : (b : Option Object) → entry t n ≡ b → is_some b ≡ true → SameMethod t after (Ref n)
       by_entry None q f = cc
       by_entry (Some p) q f = by_pointers p (is_pointers p.kind) q refl
+
+  -- the class keeps its superclass
+  above_alike : Alike t after (fetch_field table class 0) (λ v. IsField t class 0 v)
+  above_alike =
+      let g : slice_get co.fields 0 ≡ Some (get_or co.fields 0 nil) = slice_get-get_or co.fields 0 nil (omega (arith, two)) in
+      let k : slice_get before.class_object.fields 0 ≡ Some (get_or co.fields 0 nil) = subst (λ c. slice_get c.fields 0 ≡ Some (get_or co.fields 0 nil)) (sym class_is) g in
+      alike_told t after (λ v. IsField t class 0 v) (fetch_field table class 0) (get_or co.fields 0 nil)
+      (table_field t class before.class_object before.class_is before.class_pointers 0 (get_or co.fields 0 nil) k)
+      (table_field after class e.with.class_object e.with.class_is e.with.class_pointers 0 (get_or co.fields 0 nil) (e.superclass (get_or co.fields 0 nil) g))
+      (record { object = before.class_object; is = before.class_is; pointers = before.class_pointers; field = k })
 
   -- the class itself
   module _ (y : Value) (th : is_there bounded_table t y ≡ true) (not_nil : y ≢ nil) (other : y ≢ x) where
@@ -150,15 +161,6 @@ module _ (t after : Table) (class d ms association value x m : Value) (co o a : 
       | inr h ↦ absent_alike h
     ]
 
-    above_alike : Alike t after (fetch_field table class 0) (λ v. IsField t class 0 v)
-    above_alike =
-        let g : slice_get co.fields 0 ≡ Some (get_or co.fields 0 nil) = slice_get-get_or co.fields 0 nil (omega (arith, two)) in
-        let k : slice_get before.class_object.fields 0 ≡ Some (get_or co.fields 0 nil) = subst (λ c. slice_get c.fields 0 ≡ Some (get_or co.fields 0 nil)) (sym class_is) g in
-        alike_told t after (λ v. IsField t class 0 v) (fetch_field table class 0) (get_or co.fields 0 nil)
-        (table_field t class before.class_object before.class_is before.class_pointers 0 (get_or co.fields 0 nil) k)
-        (table_field after class e.with.class_object e.with.class_is e.with.class_pointers 0 (get_or co.fields 0 nil) (e.superclass (get_or co.fields 0 nil) g))
-        (record { object = before.class_object; is = before.class_is; pointers = before.class_pointers; field = k })
-
     -- another class
     other_class : (c : Value) → is_there bounded_table t c ≡ true → IsUntouched t (class ∷ d ∷ ms ∷ association ∷ value ∷ []) c → SameClass t after y c
     other_class c c_there h = record {
@@ -183,6 +185,36 @@ module _ (t after : Table) (class d ms association value x m : Value) (co o a : 
       | inr n ↦ other_class c c_there (h n)
     ]
 
+  -- a selector that wasn't there, as one that was made only now: no dictionary of the old table has it
+  module _ (y : Value) (gone : is_there bounded_table t y ≡ false) (not_nil : y ≢ nil) (other : y ≢ x) where
+    never : (o : Object) (v : Value) → object_at t v ≡ Some o → IsAbsent o.fields y
+    never o v f j =
+        other_false (at_place o.fields j) y
+        (λ q. not_both (is_there bounded_table t y) (subst (λ z. is_there bounded_table t z ≡ true) q (or_nil t sound o v f (2 + j))) gone)
+
+    gone_here : Alike t after (method_in_class table class y) Free
+    gone_here =
+        alike_told t after Free (method_in_class table class y) None
+        (λ s. absent_in_class t class d ms o a before y s (look_absent t o.fields y (never o d before.is)))
+        (λ s. absent_in_class after class e.dictionary e.methods e.dictionary_object e.array e.with y s (look_absent after e.dictionary_object.fields y (e.absent y not_nil other (never o d before.is)))) tt
+
+    gone_other : (c : Value) → is_there bounded_table t c ≡ true → IsUntouched t (class ∷ d ∷ ms ∷ association ∷ value ∷ []) c → SameClass t after y c
+    gone_other c c_there h = record {
+      methods = class_without t after c y (unchanged c c_there h.itself) (λ i f. same_dictionary i f) (λ i o f g. never o i g);
+      above = alike_field t after c 0 (unchanged c c_there h.itself);
+    }
+      where
+        same_dictionary : (i : Value) → IsField t c 1 i → object_at after i ≡ object_at t i
+        same_dictionary i f =
+            unchanged i (sound.values c f.object f.is 1 i f.field) (subst (λ v. IsNoneOf (class ∷ d ∷ ms ∷ association ∷ value ∷ []) v) (field_is t after c i 1 f) h.dictionary)
+
+    gone_class : (c : Value) → is_there bounded_table t c ≡ true → (c ≢ class → IsUntouched t (class ∷ d ∷ ms ∷ association ∷ value ∷ []) c) → SameClass t after y c
+    gone_class c c_there h = elim (same_or_other c class) [
+      | inl q ↦ subst (λ v. SameClass t after y v) (sym q) (record { methods = gone_here; above = above_alike })
+      | inr n ↦ gone_other c c_there (h n)
+    ]
+
+  module _ (y : Value) (each : (c : Value) → is_there bounded_table t c ≡ true → (c ≢ class → IsUntouched t (class ∷ d ∷ ms ∷ association ∷ value ∷ []) c) → SameClass t after y c) where
     all_if : (P Q : Value → Type 0) (b : Bool) (c : Value) (cs : List Value) → (P c → Q c) → (AllByRecursion P cs → AllByRecursion Q cs) → AllByRecursion P (if b then [] else c ∷ cs) → AllByRecursion Q (if b then [] else c ∷ cs)
     all_if P Q true c cs f g h = tt
     all_if P Q false c cs f g h = (f h.0, g h.1)
@@ -193,11 +225,18 @@ module _ (t after : Table) (class d ms association value x m : Value) (co o a : 
     all_classes zero c c_there h = tt
     all_classes (suc left) c c_there h =
         all_if (λ v. v ≢ class → IsUntouched t (class ∷ d ∷ ms ∷ association ∷ value ∷ []) v) (λ v. SameClass t after y v) (same_value c nil) c (superclasses t left (field_of t c 0))
-        (λ k. each_class c c_there k) (λ k. all_classes left (field_of t c 0) (field_of_there t sound c 0 c_there) k) h
+        (λ k. each c c_there k) (λ k. all_classes left (field_of t c 0) (field_of_there t sound c 0 c_there) k) h
 
-    pub finds_same : AllByRecursion (λ v. v ≢ class → IsUntouched t (class ∷ d ∷ ms ∷ association ∷ value ∷ []) v) (superclass_list t class) → Alike t after (find table class y) Free
+    finds_by : AllByRecursion (λ v. v ≢ class → IsUntouched t (class ∷ d ∷ ms ∷ association ∷ value ∷ []) v) (superclass_list t class) → Alike t after (find table class y) Free
     unfolding superclass_list
-    finds_same h = find_alike t after class y (all_classes 32767 class (there_at t class before.class_object before.class_is) h)
+    finds_by h = find_alike t after class y (all_classes 32767 class (there_at t class before.class_object before.class_is) h)
+
+  pub finds_same : (y : Value) → y ≢ nil → y ≢ x → AllByRecursion (λ v. v ≢ class → IsUntouched t (class ∷ d ∷ ms ∷ association ∷ value ∷ []) v) (superclass_list t class) → Alike t after (find table class y) Free
+  finds_same y not_nil other h = by_there (is_there bounded_table t y) refl
+    where
+      by_there : (b : Bool) → is_there bounded_table t y ≡ b → Alike t after (find table class y) Free
+      by_there true q = finds_by y (each_class y q not_nil other) h
+      by_there false q = finds_by y (gone_class y q not_nil other) h
 
 -- THE LAW
 
@@ -316,13 +355,13 @@ module _ (v : View) (p : Plan) (whole : IsWhole v) (h : IsReadyFor v p) (associa
         finds_method left.after p.class e.dictionary e.methods e.dictionary_object e.array e.with (part_value nil left.made p.selector) (get_or left.made arranged.number nil) e.new.place e.method_object in_order.not_nil
         (look_holds left.after e.dictionary_object.fields (part_value nil left.made p.selector) e.new.place e.new.holds) e.new.method e.method_there e.is_method e.header e.first s
 
-    others_found : (x : Value) → is_there table v.objects x ≡ true → x ≢ nil → x ≢ part_value nil left.made p.selector
+    others_found : (x : Value) → x ≢ nil → x ≢ part_value nil left.made p.selector
         → SameAnswer ((find table p.class x).run (over s v.objects)) ((find table p.class x).run (over s left.after))
-    others_found x th n d =
+    others_found x n d =
         same_answer v.objects left.after s _ _
         ((finds_same v.objects left.after p.class p.dictionary good.dictionary.methods association has_table.value (part_value nil left.made p.selector) (get_or left.made arranged.number nil)
         good.class.object good.dictionary.object good.dictionary.array (sound_table v whole) before before_class good.class.enough good.dictionary.enough all_found
-        has_table.field.object has_table.is.object has_table.field.is has_table.field.pointers has_table.is.is has_table.is.pointers left.effect x th n d untouched).alike s)
+        has_table.field.object has_table.is.object has_table.field.is has_table.field.pointers has_table.is.is has_table.is.pointers left.effect x n d untouched).alike s)
 
     gained_here : Gained p p.class (over s v.objects) left.made (over s left.after)
     gained_here = record {

@@ -14,7 +14,7 @@ use Rattle.st_install.specs.Plans.{Part, There, Made, NewObject, Store, Plan, me
 use Rattle.st_install.specs.Goes.{IsHeaded}
 use Rattle.st_install.specs.Symbols.{Symbols, symbols_in, symbol_part, vacant_field, symbol_in_field, symbol_in_array, with_new_symbol, make_symbol, found_or_made, seek_unless, with_symbol, with_symbols, symbols_there, symbols_for}
 use Rattle.st_install.specs.Literals.{PlacedAll, place_owner}
-use Rattle.st_install.specs.Planning.{method_number, objects_with_method, grown_number, grown_if, plan_objects, plan}
+use Rattle.st_install.specs.Planning.{method_number, objects_with_method, grown_number, grown_if, sized, plan_objects, plan}
 use Rattle.st_install.specs.Dictionaries.{grows_for}
 use Rattle.st_install.specs.Shapes.{check_size}
 use Rattle.st_install.specs.Calls.{room_or, with_room, planned, ready}
@@ -146,6 +146,10 @@ module _ (s : State Table) (sound : IsSoundTable s.memory) (association value : 
   unfolding check_size
   size_reads os = gives_less s _ _ _ (gives_check s dead.Field _) (λ a e. tt)
 
+  sized_arranged : (class : Value) (p : Plan) → IsArranged class p → Gives s (sized p) (λ x. IsArranged class x)
+  unfolding sized
+  sized_arranged class p h = gives_next s _ _ _ _ (size_reads p.objects) (λ u x. gives_answer s _ p h)
+
   next_if : (b : Bool) (symbols : Symbols) (ls : PlacedAll) → IsNext (method_number symbols ls) (grown_number b symbols ls)
   next_if true symbols ls = refl
   next_if false symbols ls = tt
@@ -196,10 +200,8 @@ module _ (s : State Table) (sound : IsSoundTable s.memory) (association value : 
           (λ b z. gives_then s Any _ _ _
           (gives_less s _ _ Any (subst (λ v. Gives s (grown_if table v (method_number symbols ls + 1) b) (λ os. GrowsIf s sound has.dictionary has.is (method_number symbols ls + 1) b os)) (sym (same_dictionary d f))
           (grown_gives s sound has.dictionary has.is (method_number symbols ls + 1) b)) (λ os y. tt))
-          (λ grown y. gives_next s _ _ _ _ (size_reads symbols.objects)
-          (λ u x. gives_next s _ _ _ _ (size_reads grown)
-          (λ w r. gives_then s _ _ _ _ (gives_page s MethodClass)
-          (λ c q. gives_answer s _ _ (arranged c d p b grown f l)))))))
+          (λ grown y. gives_then s _ _ _ _ (gives_page s MethodClass)
+          (λ c q. sized_arranged class _ (arranged c d p b grown f l)))))
 
     plan_arranged : (owner : Value) (meta : Bool) → HasFields s.memory owner 2 → Gives s (plan table association owner class meta parts) (λ x. IsArranged class x)
     unfolding plan

@@ -24,7 +24,7 @@ use Rattle.st_install.specs.Literals.{PlacedAll, place_owner}
 use Rattle.st_install.specs.Dictionaries.{Ending, Holds, Vacant, Nowhere, count_places, count_vacant, place_of_selector, is_nearly_full, grows_at, grows_for, dictionary_objects, grown_objects}
 use Rattle.st_names.specs.Shapes.{is_power_of_two, check_dictionary}
 use Rattle.st_install.specs.Shapes.{check_size}
-use Rattle.st_install.specs.Planning.{method_number, objects_with_method, grown_number, grown_if, plan_objects, plan}
+use Rattle.st_install.specs.Planning.{method_number, objects_with_method, grown_number, grown_if, sized, plan_objects, plan}
 use Rattle.st_install.specs.Calls.{both, is_crowded, room_or, with_room, planned, ready}
 use Rattle.st_install.proofs.Goes.{object_at, Tells}
 use Rattle.st_install.proofs.GoesMaking.{IsClassFor, CanMake, HasRoom}
@@ -301,6 +301,10 @@ module _ (s : State Table) (sound : IsSoundTable s.memory) (class : Value) (has 
     unfolding check_size
     size_gives os = gives_less s _ _ _ (gives_check s dead.Field _) (λ a e. tt)
 
+    sized_gives : (p : Plan) → IsSoundPlan s.memory p → Gives s (sized p) (λ x. IsSoundPlan s.memory x)
+    unfolding sized
+    sized_gives p h = gives_next s _ _ _ _ (size_gives p.objects) (λ u x. gives_answer s _ p h)
+
     same_field : (d : Value) → IsField s.memory class 1 d → d ≡ has.dictionary
     same_field d f =
         let q = same_object s.memory class f.object has.field.object f.is has.field.is in
@@ -330,11 +334,9 @@ module _ (s : State Table) (sound : IsSoundTable s.memory) (class : Value) (has 
         (λ b h. gives_then s (λ grown. GrowsIf s sound has.dictionary has.is (method_number symbols ls + 1) b grown) _ _ _
         (subst (λ v. Gives s (grown_if table v (method_number symbols ls + 1) b) (λ grown. GrowsIf s sound has.dictionary has.is (method_number symbols ls + 1) b grown)) (sym e)
         (grown_gives s sound has.dictionary has.is (method_number symbols ls + 1) b))
-        (λ grown g. gives_next s _ _ _ _ (size_gives symbols.objects)
-        (λ u z. gives_next s _ _ _ _ (size_gives grown)
-        (λ w y. gives_then s _ _ _ _ (gives_page s MethodClass)
-        (λ c q. gives_answer s _ _
-        (subst (λ v. IsSoundPlan s.memory (plan_for v c p b grown)) (sym e) (either_sound c p b grown (page_there c q) l h g))))))))
+        (λ grown g. gives_then s _ _ _ _ (gives_page s MethodClass)
+        (λ c q. sized_gives _
+        (subst (λ v. IsSoundPlan s.memory (plan_for v c p b grown)) (sym e) (either_sound c p b grown (page_there c q) l h g))))))
 
   pub plan_gives : (symbol_table association : Value) (meta : Bool) → HasFields s.memory association 2
       → Gives s (plan table symbol_table association class meta parts) (λ x. IsSoundPlan s.memory x)

@@ -1,5 +1,5 @@
 -- A dictionary's growth, and what comes behind it.
-use Rattle.std.proofs.Common.{◌≡◌, ℕ, ◌+◌, List, [], ◌∷◌, ◌++◌, Bool, true, false, Some, None, Ok, Err, refl, sym, ap, ◌∙◌, length, take}
+use Rattle.std.proofs.Common.{◌≡◌, ℕ, ◌+◌, List, [], ◌∷◌, ◌++◌, Bool, true, false, Some, None, Ok, Err, refl, sym, ap, ◌∙◌, length}
 use Rattle.std.specs.Prelude.{◌==◌, if◌then◌else◌}
 use Rattle.st_model.specs.declared.dead.Dead.{Dead}
 use Rattle.st_model.specs.Values.{Value, value}
@@ -22,7 +22,7 @@ use Rattle.st_names.specs.declared.unread.Unread.TheVariants.{Dies, OutOfMemory}
 use Rattle.st_install.specs.Plans.{Part, Made, NewObject}
 use Rattle.st_install.specs.Growing.{Grows}
 use Rattle.st_install.specs.PlanDrafts.{TellsGrowth, IsGrowth, plan_from, TellsPlan}
-use Rattle.st_install.proofs.Drafting.{growth_dies, symbols_large, grown_large, planned_so}
+use Rattle.st_install.proofs.Drafting.{growth_dies, too_large, planned_so}
 
 module _ {A B : Type 0} where
   then_went : (m : Step Table A) (f : A → Step Table B) (a : A) (s t : State Table) → m.run s ≡ Went a t → (m >>= f).run s ≡ (f a).run t
@@ -53,15 +53,11 @@ module _ (class : Oop) (d : PlanDraft) (method : NewObject) (t : Table) (next : 
   not_planned OutOfMemory g = tt
 
   module _ (g : Growth) (i : IsGrowth (value class) (part_of d.selector) next t g) where
-    pub symbols_too_large : (k : Dead) → Reads (check_size (objects_of (take d.symbols d.objects.items))) itself t (Err k) → TellsPlan (value class) d method t (Err (Dies k))
-    symbols_too_large k x = λ parts symbols literals m h s f. symbols_large class d method t next e parts symbols literals m h g i k x s f
+    pub objects_too_large : (k : Dead) → Reads (check_size (plan_from (value class) d method g).objects) itself t (Err k) → TellsPlan (value class) d method t (Err (Dies k))
+    objects_too_large k x = λ parts symbols literals m h s f. too_large class d method t next e parts symbols literals m h g i k x s f
 
-    module _ (u : Unit {0}) (x : Reads (check_size (objects_of (take d.symbols d.objects.items))) itself t (Ok u)) where
-      pub grown_too_large : (k : Dead) → Reads (check_size (objects_of g.objects.items)) itself t (Err k) → TellsPlan (value class) d method t (Err (Dies k))
-      grown_too_large k y = λ parts symbols literals m h s f. grown_large class d method t next e parts symbols literals m h g i u x k y s f
-
-      pub all_planned : (v : Unit {0}) → Reads (check_size (objects_of g.objects.items)) itself t (Ok v) → (r : Ready) → plan_of r ≡ plan_from (value class) d method g → TellsPlan (value class) d method t (Ok r)
-      all_planned v y r q = λ parts symbols literals m h s f. planned_so class d method t next e parts symbols literals m h g i u x v y s f ∙ ap (λ p. Went p s) (sym q)
+    pub all_planned : (u : Unit {0}) → Reads (check_size (plan_from (value class) d method g).objects) itself t (Ok u) → (r : Ready) → plan_of r ≡ plan_from (value class) d method g → TellsPlan (value class) d method t (Ok r)
+    all_planned u x r q = λ parts symbols literals m h s f. planned_so class d method t next e parts symbols literals m h g i u x s f ∙ ap (λ p. Went p s) (sym q)
 
 -- THE WHOLE
 

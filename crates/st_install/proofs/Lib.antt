@@ -51,11 +51,13 @@ pub mod GainsPlaces
 pub mod GainsRefilling
 pub mod GainsFinding
 pub mod GainsClass
+pub mod GainsAbsent
 pub mod GainsPlanning
 pub mod GainsStoring
 pub mod GainsEffect
 pub mod GainsNames
 pub mod GainsLaw
+pub mod GainsStaying
 pub mod Drafting
 pub mod Growths
 pub mod Planned

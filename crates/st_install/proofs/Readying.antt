@@ -44,11 +44,6 @@ use Rattle.st_install.proofs.Planned.{unnamed, unplaced, all_placed, no_selector
 
 -- THE PLAN
 
-pub grown_length : (m : Step Table PlacedAll) (t : Table) (old new : List CodeObject) (ps : List CodePart) → ArePlaced m t old new ps → length old ≤ length new
-grown_length m t old new ps e =
-    let n : length new ≡ length old + length e.added = sym (length-map new object_of) ∙ ap length e.behind ∙ length-append (objects_of old) e.added ∙ ap (λ k. k + length e.added) (length-map old object_of) in
-    omega (arith, n)
-
 method_class : value_of 34 ≡ Ref (place_of MethodClass)
 unfolding value_of
 method_class = refl
@@ -81,12 +76,11 @@ module _ (symbol_table : Value) (o : Owner) (t : Table) (p : MethodParts) where
       unselected none = no_selector symbol_table o (parts_view p) t q n ls same_literals new ps e (subst (λ x. symbol_part (named_of q.named.entries) x ≡ None) i none)
 
       module _ (d : PlanDraft) (method : CodeObject) (some : symbol_part (named_of q.named.entries) text ≡ Some (part_of d.selector)) (bytes : List ℕ) (lits : List CodePart)
-          (objects : d.objects.items ≡ new) (count : d.symbols ≡ length q.objects.items) (stores : d.stores.items ≡ q.stores.items) (l : lits ≡ ps) (b : bytes ≡ p.bytes.items)
+          (objects : d.objects.items ≡ new) (stores : d.stores.items ≡ q.stores.items) (l : lits ≡ ps) (b : bytes ≡ p.bytes.items)
           (m : object_of method ≡ method_object (value_of 34) (There (value_of p.header) ∷ parts_of lits) bytes) where
         is_draft : IsDraft d n.symbols (all_placed symbol_table o (parts_view p) t q n ls same_literals new ps e)
         is_draft = record {
           objects = ap objects_of objects ∙ e.behind ∙ ap (λ os. os ++ e.added) n.is.objects;
-          count = count ∙ sym (length-map q.objects.items object_of) ∙ ap length n.is.objects;
           stores = ap stores_of stores ∙ n.is.stores;
         }
 

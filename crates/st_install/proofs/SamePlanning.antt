@@ -1,5 +1,5 @@
 -- What an installation makes and stores: over births the same as over a table that shows them.
-use Rattle.std.proofs.Common.{◌≡◌, ℕ, List, [], ◌∷◌, ◌++◌, Some, Bool, true, false, refl, ap, length}
+use Rattle.std.proofs.Common.{◌≡◌, ℕ, List, [], ◌∷◌, ◌++◌, Some, Bool, true, false, refl, sym, ap, subst, length}
 use Rattle.std.specs.Prelude.{◌+◌}
 use Rattle.st_model.specs.declared.dead.Dead.TheVariants as dead
 use Rattle.st_model.specs.Values.{Value, Small, Ref, is_small, value_of}
@@ -13,7 +13,7 @@ use Rattle.st_install.specs.Plans.{Part, Made, NewObject, Plan}
 use Rattle.st_install.specs.Symbols.{Symbols, symbols_in, symbol_part}
 use Rattle.st_install.specs.Literals.{PlacedAll, place_owner, place_literals}
 use Rattle.st_install.specs.Shapes.{all_fit, check_size}
-use Rattle.st_install.specs.Planning.{method_number, objects_with_method, grown_number, grown_if, plan_objects, plan}
+use Rattle.st_install.specs.Planning.{method_number, objects_with_method, grown_number, grown_if, sized, plan_objects, plan}
 use Rattle.st_install.specs.SamePlans.{renamed_part, renamed_objects, renamed_plan, IsLivePart, IsLivePlan}
 use Rattle.st_install.specs.Same.{HasHeader}
 use Rattle.st_install.proofs.SameReads.{Shown, lives, name, Alike, ValueAlike, AlikeAnswer, then-alike, then_value-alike, then_answer-alike, then_unit-alike, answer-alike}
@@ -61,6 +61,13 @@ module _ (z : Shown) where
   check_size-alike : (os : List NewObject) → AlikeAnswer z (check_size os) (check_size (renamed_objects (name z) os))
   unfolding check_size
   check_size-alike os = check-alike z _ _ _ (fits-renamed (name z) os)
+
+  sized-alike : (p q : Plan) → PlanNamed (lives z) (name z) p q → AlikePlan (sized p) (sized q)
+  unfolding sized
+  sized-alike p q h =
+      then_unit-alike z _ _ _ _ _ _
+      (subst (λ (os : List NewObject). AlikeAnswer z (check_size p.objects) (check_size os)) (sym h.objects.is) (check_size-alike p.objects))
+      (answer_plan-alike p q h)
 
   grown_if-alike : (v w : Value) (next : ℕ) (b : Bool) → ValueAlike z v w → AlikeObjects z (grown_if births v next b) (grown_if table w next b)
   unfolding grown_if
@@ -134,12 +141,10 @@ module _ (z : Shown) where
         (λ grows.
         then-alike z _ _ _ _ _ _ _ _ (grown_next-alike x y grows hx)
         (λ grown hg.
-        then_unit-alike z _ _ _ _ _ _ (check_size-alike s.objects)
-        (then_unit-alike z _ _ _ _ _ _ (check_size-alike grown)
-        (then_value-alike z _ _ _ _ _ _ (search reads_alike)
+        then_value-alike z _ _ _ _ _ _ (search reads_alike)
         (λ c d hc.
-        answer_plan-alike _ _
-        (planned-same x y grown (renamed_objects (name z) grown) grows p (renamed_part (name z) p) c d e hx (record { live = hg.0; formed = hg.1; is = refl }) (record { live = hp; is = refl }) hc)))))))
+        sized-alike _ _
+        (planned-same x y grown (renamed_objects (name z) grown) grows p (renamed_part (name z) p) c d e hx (record { live = hg.0; formed = hg.1; is = refl }) (record { live = hp; is = refl }) hc)))))
 
   with_literals-alike : (v w : Value) (parts : PartsView) (s : Symbols) → ValueAlike z v w → HasHeader parts → IsLiveSymbols (lives z) s
       → (m : Step Births PlacedAll) (n : Step Table PlacedAll) → Alike z (IsLivePlacedAll (lives z)) (renamed_placed_all (name z)) m n

@@ -7,6 +7,8 @@ use Rattle.st_model.specs.Machine.{State, Transition, Died, Went, is_there}
 use Rattle.st_model.specs.Steps.{same_value}
 use Rattle.st_model.specs.Lookup.{find}
 use Rattle.st_model.specs.Table.{Table, table, bounded_table}
+use Rattle.st_model.specs.Show.{IsClosed}
+use Rattle.st_model.specs.Settled.{reclaim}
 use Rattle.st_model.specs.View.{View, IsWhole, object_of, field_of}
 use Rattle.st_install.specs.Plans.{Plan}
 use Rattle.st_install.specs.Dictionaries.{Holds, place_of_selector}
@@ -71,14 +73,20 @@ pub record IsInstalled (p : Plan) (s : State Table) (made : List Value) (u : Sta
   pub makes : (make_all bounded_table p.objects).run s ≡ Went made between
   pub installs : (install bounded_table p).run s ≡ Went tt u
 
--- then the search finds the new method for its selector, and for each other that was there but nil what it found before
+-- then the search finds the new method for its selector, and for each other one but nil what it found before: also for one that
+-- was made only now, for which it finds none in both
 pub record Gained (p : Plan) (class : Value) (s : State Table) (made : List Value) (u : State Table) : Type 0 where
   pub new : (find table class (part_value nil made p.selector)).run u ≡ Went (Some (part_value nil made p.method)) u
-  pub others : (x : Value) → is_there table s.memory x ≡ true → x ≢ nil → x ≢ part_value nil made p.selector
-      → SameAnswer ((find table class x).run s) ((find table class x).run u)
+  pub others : (x : Value) → x ≢ nil → x ≢ part_value nil made p.selector → SameAnswer ((find table class x).run s) ((find table class x).run u)
 
 -- an orderly class gains what is installed in it
 abbrev pub Gains : Type 0
 Gains = (v : View) (p : Plan) → IsWhole v → (h : IsReadyFor v p) → (association : Value) → v.head.symbols ≡ Some association
     → IsOrderly v.objects h.class association → (s u : State Table) (made : List Value) → s.memory ≡ v.objects → s.head ≡ v.head
     → IsInstalled p s made u → Gained p h.class s made u
+
+-- a class that is kept still has it once what nothing supports is dropped
+abbrev pub GainsStay : Type 0
+GainsStay = (v : View) (p : Plan) → IsWhole v → (h : IsReadyFor v p) → (association : Value) → v.head.symbols ≡ Some association
+    → IsOrderly v.objects h.class association → (s u : State Table) (made : List Value) → s.memory ≡ v.objects → s.head ≡ v.head
+    → IsInstalled p s made u → IsClosed u → is_there table (reclaim table u).memory h.class ≡ true → Gained p h.class s made (reclaim table u)

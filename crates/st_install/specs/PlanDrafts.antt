@@ -40,7 +40,6 @@ TellsGrowth class selector next t (Err OutOfMemory) = ⊤
 -- the draft has these Symbols and literals
 pub record IsDraft (d : PlanDraft) (symbols : Symbols) (literals : PlacedAll) : Type 0 where
   pub objects : objects_of d.objects.items ≡ symbols.objects ++ literals.objects
-  pub count : d.symbols ≡ length symbols.objects
   pub stores : stores_of d.stores.items ≡ symbols.stores
 
 -- the Method of these parts

@@ -31,15 +31,19 @@ unfoldable pub grown_if : {H : Type 0} → ObjectMemory H → Value → ℕ → 
 grown_if m dictionary next true = grown_objects m dictionary next
 grown_if m dictionary next false = answer []
 
+-- the plan, where none of its objects has too many words
+unfoldable pub sized : {H : Type 0} → Plan → Step H Plan
+sized p = do
+  check_size p.objects
+  answer p
+
 unfoldable pub plan_objects : {H : Type 0} → ObjectMemory H → Value → PartsView → Symbols → PlacedAll → Part → Step H Plan
 plan_objects m class parts symbols literals selector = do
   dictionary ← fetch_field m class 1
   grows ← grows_for m dictionary selector
   grown ← grown_if m dictionary (method_number symbols literals + 1) grows
-  check_size symbols.objects
-  check_size grown
   method_class ← of_page m MethodClass
-  answer (record {
+  sized (record {
     objects = objects_with_method method_class parts symbols literals ++ grown;
     symbol_stores = symbols.stores;
     selector = selector;
@@ -50,7 +54,7 @@ plan_objects m class parts symbols literals selector = do
   })
 
 -- The installation of these parts into a class that was found by an association. It dies where the table of characters lacks one
--- of the literals, or where what takes the place of something would have too many fields.
+-- of the literals, or where an object would have too many words.
 unfoldable pub plan : {H : Type 0} → ObjectMemory H → (symbol_table association class : Value) → (meta : Bool) → PartsView → Step H Plan
 plan m symbol_table association class meta parts = do
   symbols ← symbols_for m symbol_table (parts.selector ∷ symbols_in parts.literals)

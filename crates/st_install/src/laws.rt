@@ -2,7 +2,7 @@
 
 ghost use Rattle.st_install.specs.Same.{ClassShows, NamesShow, ReadyShows, InstallShows, InstallSettles};
 ghost use Rattle.st_install.specs.Goes.{ReadyInstalls};
-ghost use Rattle.st_install.specs.Gains.{Gains};
+ghost use Rattle.st_install.specs.Gains.{Gains, GainsStay};
 
 /// Where a table shows births, `class_of_name`, `names` and `ready` answer over it what they answer over the births, each
 /// object by its pointer, and change nothing. What is then installed in the table of a running machine is what is installed in
@@ -16,9 +16,10 @@ pub fn install_shows_births()
 {}
 
 /// What is ready is installed: over a memory that makes an object only where there is room, no step of `install` fails. Where the
-/// class is orderly, the search for a method then finds the new one for its selector, and for every other selector that was
-/// there what it found before.
+/// class is orderly, the search for a method then finds the new one for its selector, and for every other selector what it found
+/// before; also once what nothing supports is dropped, if the class is kept.
 pub fn install_gains()
     ensures installs { ReadyInstalls }
     ensures gains { Gains }
+    ensures stay { GainsStay }
 {}

@@ -5,6 +5,7 @@ ghost use Rattle.st_model.specs.Values.{value};
 ghost use Rattle.st_model.specs.Table.{table};
 ghost use Rattle.st_code.specs.MethodDrafts.{parts_view};
 ghost use Rattle.st_install.specs.Readies.{part_of, object_of, plan_of, HasRoom};
+ghost use Rattle.st_install.specs.Carried.{HasSmallBodies};
 ghost use Rattle.st_names.specs.Findings.{Finds};
 ghost use Rattle.st_install.specs.PlanDrafts.{plan_from, plan_step, TellsGrowth, TellsPlan};
 
@@ -20,11 +21,10 @@ use st_model::{Dead, Oop};
 use st_names::{Unread, fetch_field};
 use std::alloc::{AllocError, Global};
 
-/// A plan up to the method: the objects before it, of which the first so many are for Symbols.
+/// A plan up to the method: the objects before it.
 #[derive(Drop)]
 pub(crate) struct PlanDraft {
     pub objects: Vec<NewObject>,
-    pub symbols: usize,
     pub stores: Vec<SymbolStore>,
     pub literals: Vec<Part>,
     pub selector: Part,
@@ -102,9 +102,9 @@ fn plan_objects<M: Memory>(
     draft: PlanDraft,
     method: NewObject,
 ) -> Result<Ready, Unread>
-    requires { draft.symbols ≤ length draft.objects.items }
     ensures plan { TellsPlan (value class) draft (object_of method) (M.view m.now).objects result }
     ensures room { IfOk result HasRoom }
+    ensures bodies { IfOk result (λ r. HasSmallBodies (plan_of r)) }
 {
     let Ok(next) = u32::try_from(draft.objects.len() + 1) else {
         return Err(Unread::OutOfMemory);
@@ -113,9 +113,9 @@ fn plan_objects<M: Memory>(
         return Err(Unread::OutOfMemory);
     }
     let growth = growth_of(alloc, m, class, draft.selector, next)?;
-    check_size(&draft.objects[..draft.symbols])?;
-    check_size(&growth.objects)?;
-    Ok(assembled(alloc, class, draft, method, growth)?)
+    let ready = assembled(alloc, class, draft, method, growth)?;
+    check_size(&ready.objects)?;
+    Ok(ready)
 }
 
 /// The installation of a method into the class that was found by an association, or why there is none.
@@ -129,9 +129,9 @@ pub(crate) fn plan<M: Memory>(
     ensures plan { let step = plan_step (value symbol_table) of (parts_view parts) in
         Finds step plan_of (M.view m.now).objects result }
     ensures room { IfOk result HasRoom }
+    ensures bodies { IfOk result (λ r. HasSmallBodies (plan_of r)) }
 {
     let mut named = symbols_for(alloc, m, symbol_table, &parts.selector, &parts.literals)?;
-    let symbols = named.objects.len();
     let literals = place_literals(
         alloc,
         m,
@@ -146,7 +146,6 @@ pub(crate) fn plan<M: Memory>(
     let method = method_object(alloc, parts.header, &literals, parts.bytes)?;
     let draft = PlanDraft {
         objects: named.objects,
-        symbols,
         stores: named.stores,
         literals,
         selector,

@@ -33,6 +33,7 @@ fn planned<M: Memory>(
         let step = planned table v.head (value class) name.now meta (parts_view parts) in
         Finds step plan_of v.objects result }
     ensures room { IfOk result HasRoom }
+    ensures bodies { IfOk result (λ r. HasSmallBodies (plan_of r)) }
 {
     let globals = m.globals();
     if globals.0 == 0 {
@@ -53,8 +54,8 @@ fn planned<M: Memory>(
 
 /// What the installation of a method makes and stores, with all memory that it needs; nothing is changed. The class is what
 /// `class_of_name` answered for this name and side, and the parts were compiled under what `names` answered for it. `Shape` comes
-/// where the plan dies, `NoRoom` where its objects have no room beside those that are kept, and `OutOfMemory` where there was no
-/// memory, or for 2^32 objects, fields or words or more, or an object of more than 65535 words.
+/// where the plan dies, also for an object of more than 65535 words, `NoRoom` where its objects have no room beside those that are
+/// kept, and `OutOfMemory` where there was no memory, or for 2^32 objects, fields or words or more.
 pub fn ready<M: Memory>(
     alloc: Global,
     m: &M,

@@ -1,20 +1,17 @@
 //! The room that the objects of an installation take.
 
-ghost use Rattle.std.specs.Prelude.{◌≡◌, ◌≤◌, true, Some, IfSome, IfOk};
+ghost use Rattle.std.specs.Prelude.{◌≡◌, Some, IfSome, IfOk};
 ghost use Rattle.st_model.specs.Table.{table};
 ghost use Rattle.st_install.specs.Plans.{words_of_new, words_of_all, demand_of_all};
 ghost use Rattle.st_install.specs.Calls.{with_room};
 ghost use Rattle.st_install.specs.Readies.{object_of, objects_of, plan_of, HasRoom};
 ghost use Rattle.st_install.specs.Carried.{HasSmallBodies};
-ghost use Rattle.st_install.specs.Rooms.{AreSmall, TellsReady};
+ghost use Rattle.st_install.specs.Rooms.{TellsReady};
 
 use crate::plan::{NewObject, Ready};
 use st_memory::Memory;
 use st_model::Demand;
 use st_names::InstallFault;
-
-/// The most words of an object, its size word and class word among them.
-const MOST_WORDS: u32 = 65535;
 
 /// The words of a new object, where they are below 2^32.
 fn words_of_new(object: &NewObject) -> Option<u32>
@@ -45,32 +42,10 @@ fn demand_of_all(objects: &[NewObject]) -> Option<Demand>
     Some(Demand { entries, words })
 }
 
-/// Whether an object has at most 65535 words, as those that are made.
-fn is_small(object: &NewObject) -> bool
-    ensures { result ≡ true → words_of_new (object_of object.now) ≤ 65535 }
-{
-    match words_of_new(object) {
-        Some(words) => words <= MOST_WORDS,
-        None => false,
-    }
-}
-
-/// Whether all of these objects have at most 65535 words.
-fn all_small(objects: &[NewObject]) -> bool
-    ensures { result ≡ true → AreSmall (objects_of objects.now) }
-{
-    for object in objects {
-        if !is_small(object) {
-            return false;
-        }
-    }
-    true
-}
-
-/// The plan, if there is room for its objects beside those that are kept. `OutOfMemory` comes for 2^32 entries or words or more, and for an
-/// object of more than 65535 words.
+/// The plan, if there is room for its objects beside those that are kept. `OutOfMemory` comes for 2^32 entries or words or more.
 pub(crate) fn with_room<M: Memory>(m: &M, ready: Ready) -> Result<Ready, InstallFault>
-    requires { HasRoom ready }
+    requires room { HasRoom ready }
+    requires bodies { HasSmallBodies (plan_of ready) }
     ensures plan { let v = M.view m.now in
         TellsReady (with_room table v.head (Some (plan_of ready))) v.objects result }
     ensures room { IfOk result HasRoom }
@@ -81,9 +56,6 @@ pub(crate) fn with_room<M: Memory>(m: &M, ready: Ready) -> Result<Ready, Install
     };
     if !m.room(demand) {
         return Err(InstallFault::NoRoom { demand });
-    }
-    if !all_small(&ready.objects) {
-        return Err(InstallFault::OutOfMemory);
     }
     Ok(ready)
 }

@@ -1,11 +1,12 @@
 //! The sizes of objects that are to be made, and the method among them.
 
-ghost use Rattle.std.specs.Prelude.{◌≡◌, ◌∷◌, IfOk, Ok};
+ghost use Rattle.std.specs.Prelude.{◌≡◌, ◌∷◌, IfOk, Ok, nat_le};
 ghost use Rattle.st_model.specs.Values.{value_of};
 ghost use Rattle.st_model.specs.Table.{Table};
 ghost use Rattle.st_model.specs.Calls.{Reads, itself};
-ghost use Rattle.st_install.specs.Plans.{There, method_object};
-ghost use Rattle.st_install.specs.Shapes.{all_fit, check_size};
+ghost use Rattle.st_install.specs.Plans.{There, method_object, words_of_new};
+ghost use Rattle.st_install.specs.Shapes.{most_of_one, all_fit, check_size};
+ghost use Rattle.st_install.specs.Rooms.{AreSmall};
 ghost use Rattle.st_install.specs.Readies.{parts_of, object_of, objects_of};
 
 use crate::plan::{NewObject, Part};
@@ -15,25 +16,35 @@ use std::alloc::{AllocError, Global};
 /// The pointer of class CompiledMethod.
 const METHOD_CLASS: Oop = Oop(34);
 
-/// The most fields that an object has.
+/// The most words of an object's fields and bytes.
 const MOST_BODY: usize = 65533;
 
-/// Whether none of these objects has too many fields.
+/// Whether an object has at most 65535 words, its size word and its class word among them.
+fn is_small(object: &NewObject) -> bool
+    ensures { result ≡ nat_le (words_of_new (object_of object.now)) most_of_one }
+{
+    let fields = object.fields.len();
+    let bytes = object.bytes.len();
+    fields <= MOST_BODY && bytes / 2 + bytes % 2 <= MOST_BODY - fields
+}
+
+/// Whether none of these objects has too many words.
 fn all_fit(objects: &[NewObject]) -> bool
     ensures { result ≡ all_fit (objects_of objects.now) }
 {
     for object in objects {
-        if object.fields.len() > MOST_BODY {
+        if !is_small(object) {
             return false;
         }
     }
     true
 }
 
-/// None of these objects has too many fields.
+/// None of these objects has too many words.
 #[tactic(auto, using(st_model::proofs::Runs::runs), unfolding(crate::specs::Shapes::check_size))]
 pub(crate) fn check_size(objects: &[NewObject]) -> Result<(), Dead>
-    ensures { (t : Table) → Reads (check_size (objects_of objects.now)) itself t result }
+    ensures check { (t : Table) → Reads (check_size (objects_of objects.now)) itself t result }
+    ensures small { IfOk result (λ u. AreSmall (objects_of objects.now)) }
 {
     if !all_fit(objects) {
         return Err(Dead::Field);

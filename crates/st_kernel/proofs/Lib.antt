@@ -6,4 +6,6 @@ pub mod Begun
 pub mod Rests
 pub mod Finishing
 pub mod Whole
+pub mod Drills
+mod DrillRows
 mod Rows

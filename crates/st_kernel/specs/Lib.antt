@@ -1,3 +1,4 @@
 pub mod Starting
 pub mod Built
 pub mod Following
+pub mod Drills

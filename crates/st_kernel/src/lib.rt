@@ -1,8 +1,10 @@
-//! The image of a kernel text: its first objects, its methods installed, and the process with which its machine begins.
+//! The image of a kernel text: its first objects, its methods installed, and the process with which its machine begins; and the
+//! texts of drills.
 #![tactic(auto)]
 
 mod beginning;
 mod building;
+mod drilling;
 mod fault;
 mod finding;
 mod following;
@@ -10,4 +12,5 @@ mod part;
 mod scheduling;
 
 pub use building::build;
+pub use drilling::drill_text;
 pub use fault::KernelFault;

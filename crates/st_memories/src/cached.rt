@@ -7,6 +7,7 @@ use st_lookup::{CachedLoader, find};
 use st_memory::{Memory, Objects};
 use st_model::{Dead, Kind, Oop, RootPlace, Word};
 use st_plain::PlainLoader;
+use std::alloc::AllocGlobal;
 use std::process::Abort;
 use std::test::Fail;
 
@@ -19,11 +20,7 @@ pub fn remembered<M: Memory>(m: &M, class: Oop, selector: Oop) -> Option<u32> {
 }
 
 /// What the search finds. A method is remembered.
-fn find_and_remember<M: Memory>(
-    m: &mut M,
-    class: Oop,
-    selector: Oop,
-) -> Result<Option<Oop>, Dead> {
+fn find_and_remember<M: Memory>(m: &mut M, class: Oop, selector: Oop) -> Result<Option<Oop>, Dead> {
     match find(m, class, selector)? {
         Some(method) => {
             m.remember(class, selector, method);
@@ -221,30 +218,59 @@ fn change<M: Memory>(rt: &impl Abort, m: &mut M, numbers: &mut Numbers) {
     }
 }
 
-/// Each selector is searched in each class over both; and what is found is remembered.
-fn find_all<M: Memory, N: Memory>(rt: &impl Abort, m: &mut M, n: &N) {
-    for class in SOME {
-        for selector in SOME {
-            let (class, selector) = (Oop(class), Oop(selector));
-            assert_eq!(rt; find_and_remember(m, class, selector), find(n, class, selector));
+/// Whether the superclasses of a class come to an end soon, and not back to one of them.
+fn chain_ends<M: Memory>(m: &M, class: Oop) -> bool {
+    let mut class = class;
+    for _ in 0..16 {
+        if !m.live(class) || !m.kind(class).is_pointers() || m.size(class) == 0 {
+            return true;
+        }
+        class = m.pointer(class, 0);
+    }
+    false
+}
+
+/// Each selector is searched in a class over both, and what is found is remembered. A search that would go round among
+/// superclasses, for a long time, is left out.
+fn find_each<M: Memory, N: Memory>(rt: &impl Abort, m: &mut M, n: &N, class: Oop) {
+    let ends = chain_ends(n, class);
+    for selector in SOME {
+        let selector = Oop(selector);
+        if ends || remembered(m, class, selector).is_some() {
+            assert_eq!(rt;
+                find_and_remember(m, class, selector),
+                find(n, class, selector)
+            );
         }
     }
 }
 
+fn find_all<M: Memory, N: Memory>(rt: &impl Abort, m: &mut M, n: &N) {
+    for class in SOME {
+        find_each(rt, m, n, Oop(class));
+    }
+}
+
+/// Some changes of both memories, after each of which both find the same.
+fn searches_agree(rt: &(impl Abort + AllocGlobal), state: u32) -> Result<(), Fail> {
+    let mut m = image::<CachedLoader<PlainLoader>>(rt.alloc(), &C, 32767, 20000)?;
+    let mut n = image::<PlainLoader>(rt.alloc(), &C, 32767, 20000)?;
+    let mut one = Numbers { state };
+    let mut two = Numbers { state };
+    make_classes(rt, &mut m);
+    make_classes(rt, &mut n);
+    for _ in 0..100 {
+        change(rt, &mut m, &mut one);
+        change(rt, &mut n, &mut two);
+        find_all(rt, &mut m, &n);
+    }
+    Ok(())
+}
+
 #[test]
 fn searches_find_what_they_find_beside_a_plain_memory(rt: HostRuntime) -> Result<(), Fail> {
-    for state in 1..200 {
-        let mut m = image::<CachedLoader<PlainLoader>>(rt.alloc(), &C, 32767, 20000)?;
-        let mut n = image::<PlainLoader>(rt.alloc(), &C, 32767, 20000)?;
-        let mut one = Numbers { state };
-        let mut two = Numbers { state };
-        make_classes(&rt, &mut m);
-        make_classes(&rt, &mut n);
-        for _ in 0..100 {
-            change(&rt, &mut m, &mut one);
-            change(&rt, &mut n, &mut two);
-            find_all(&rt, &mut m, &n);
-        }
+    for state in 1..50 {
+        searches_agree(&rt, state)?;
     }
     Ok(())
 }

@@ -1,7 +1,5 @@
 use Rattle.std.proofs.Common.{◌≡◌, true, List, sym, ◌∙◌, ap, subst, rules}
-use Rattle.st_install.specs.declared.plan.NewObject.{NewObject}
 use Rattle.st_install.specs.Plans.{demand_of_all}
-use Rattle.st_install.specs.Rooms.{AreSmall}
 use Rattle.st_install.specs.Readies.{objects_of, plan_of}
 use Rattle.st_install.proofs.Rooms.{no_room, has_room}
 use Rattle.st_install.proofs.room.with_room.Goals as goal
@@ -15,8 +13,3 @@ pub returns-clause-plan : goal.returns-clause-plan
 returns-clause-plan g c =
     let demand = c.in-Some.ensures ∙ ap (λ os. demand_of_all (objects_of os)) c.deref.ensures.value in
     has_room (g.M.Memory.view c.args.m.now) (plan_of c.args.ready) c.in-Some.demand demand (sym c.room.ensures ∙ c.if-not-room.false)
-
-pub returns-clause-bodies : goal.returns-clause-bodies
-returns-clause-bodies g c =
-    let t : c.all_small.result ≡ true = search (rules, c.if-not-all_small.false) in
-    subst (λ (os : List NewObject). AreSmall (objects_of os)) c.deref-2.ensures.value (c.all_small.ensures t)

@@ -1,5 +1,5 @@
 use Rattle.st_model.specs.Limits.{most_words}
-use Rattle.std.proofs.Common.{◌≤◌, length, ap, ◌∙◌, arith}
+use Rattle.std.proofs.Common.{◌*◌, ◌≤◌, length, ap, ◌∙◌, arith}
 use Rattle.std.specs.Option.{option_map}
 use Rattle.st_lists.specs.Lists.{entry_object}
 use Rattle.st_lists.proofs.Counting.{none_counted}
