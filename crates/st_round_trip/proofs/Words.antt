@@ -7,7 +7,7 @@ use Rattle.std.specs.Str.{byte}
 use Rattle.std.specs.Str.Parse.{AllDigits, digits_value}
 use Rattle.std.specs.Char.{is_ascii_digit, digit_value}
 use Rattle.std.proofs.lemmas.Bool.{and_from, lt-ltb, le-leb}
-use Rattle.std.proofs.lemmas.Fmt.{decimal_is_IsNumeral}
+use Rattle.std.proofs.lemmas.Fmt.{decimal_is_IsNumeral_wide}
 use Rattle.std.proofs.lemmas.Str.Parse.{digit_from_value}
 use Rattle.st_tree.specs.declared.token.Signed.{Signed}
 use Rattle.st_tree.specs.declared.token.Sort.TheVariants as sorts
@@ -39,7 +39,7 @@ all_below (c ∷ ds) d = and_from _ _ (lt-ltb (digit_value c) 10 d.0) (all_below
 
 number_piece : (s : Bool) (n : Signed) → WordFormed s (number n) → IsPiece s (number n)
 number_piece s n f =
-    let numeral = decimal_is_IsNumeral n.size (omega arith) in
+    let numeral = decimal_is_IsNumeral_wide n.size (omega arith) in
     let ds = decimal n.size in
     let below : digits_value 10 ds ≤ greatest = omega (arith, numeral.1, f.0) in
     record {
