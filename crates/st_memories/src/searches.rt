@@ -5,13 +5,13 @@ ghost use Rattle.st_frames.specs.Shown.{IsReady};
 
 use crate::cached::remembered;
 use crate::image::{C, Plan, objects_of_c, ready};
-use st_counted::{CountedLoader, CountedMemory};
+use st_counted::CountedLoader;
 use st_frames::Loaded;
-use st_lookup::{Cached, CachedLoader, find};
+use st_lookup::{CachedLoader, find};
 use st_machine::{Machine, RunEnd};
-use st_memory::Memory;
+use st_memory::{Loader, Memory};
 use st_model::{Demand, Kind, Oop, RootPlace};
-use std::alloc::Global;
+use std::alloc::{AllocGlobal, Global};
 use std::cell::Cell;
 use std::process::Abort;
 use std::test::Fail;
@@ -142,15 +142,12 @@ impl<M: Memory> Memory for Counting<M> {
     ghost whole = { λ c. M.whole c.memory };
 }
 
-/// A machine over a memory that counts, and remembers what searches found.
-fn machine_of(
-    alloc: Global,
-    plan: &Plan<'_>,
-) -> Result<Machine<Counting<Cached<CountedMemory>>>, Fail>
+/// A machine over a memory that counts, around one that a loader makes.
+fn machine_of<L: Loader>(alloc: Global, plan: &Plan<'_>) -> Result<Machine<Counting<L::Done>>, Fail>
     ensures { IfOk result (λ m. m.death ≡ None
-        → IsReady (Counting.view m.memory) m.frame m.world) }
+        → IsReady (L.Done.view m.memory.memory) m.frame m.world) }
 {
-    let (loaded, world) = ready::<CachedLoader<CountedLoader>>(alloc, plan)?;
+    let (loaded, world) = ready::<L>(alloc, plan)?;
     let memory = Counting {
         memory: loaded.memory,
         pointers: Cell::new(0),
@@ -163,11 +160,11 @@ fn machine_of(
 }
 
 /// How many calls of `pointer` there were.
-fn pointers(machine: &Machine<Counting<Cached<CountedMemory>>>) -> u32 {
+fn pointers<M: Memory>(machine: &Machine<Counting<M>>) -> u32 {
     machine.memory().pointers.get()
 }
 
-/// Words in place of some of image C's objects, and the selector for which class 12's method 72 is remembered after three cycles.
+/// Words in place of some of image C's objects, and the selector for which class 12's method 72 is found in the third cycle.
 const SENT: [(&[(usize, u16)], u16); 3] = [
     // The method is 32 118 176: the addition of 16383 and 1 fails, and is sent, which is foreseen.
     (&[], 66),
@@ -177,6 +174,22 @@ const SENT: [(&[(usize, u16)], u16); 3] = [
     (&[(90, 42)], 42),
 ];
 
+/// After three cycles of an image class 12's method 72 is remembered for the selector, and found without a look at any field.
+fn is_remembered<L: Loader>(
+    rt: &(impl Abort + AllocGlobal),
+    plan: &Plan<'_>,
+    selector: Oop,
+) -> Result<(), Fail> {
+    let class = Oop(12);
+    let mut machine = machine_of::<L>(rt.alloc(), plan)?;
+    assert_eq!(rt; machine.run(3), RunEnd::Ran);
+    assert_eq!(rt; remembered(machine.memory(), class, selector), Some(72));
+    let before = pointers(&machine);
+    assert_eq!(rt; find(machine.memory(), class, selector), Ok(Some(Oop(72))));
+    assert_eq!(rt; pointers(&machine), before);
+    Ok(())
+}
+
 #[test]
 fn what_was_sent_is_not_searched_again(rt: HostRuntime) -> Result<(), Fail> {
     for (words, selector) in SENT {
@@ -185,13 +198,7 @@ fn what_was_sent_is_not_searched_again(rt: HostRuntime) -> Result<(), Fail> {
             objects: &objects,
             ..C
         };
-        let (class, selector) = (Oop(12), Oop(selector));
-        let mut machine = machine_of(rt.alloc(), &plan)?;
-        assert_eq!(rt; machine.run(3), RunEnd::Ran);
-        assert_eq!(rt; remembered(machine.memory(), class, selector), Some(72));
-        let before = pointers(&machine);
-        assert_eq!(rt; find(machine.memory(), class, selector), Ok(Some(Oop(72))));
-        assert_eq!(rt; pointers(&machine), before);
+        is_remembered::<CachedLoader<CountedLoader>>(&rt, &plan, Oop(selector))?;
     }
     Ok(())
 }
