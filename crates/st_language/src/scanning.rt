@@ -204,7 +204,7 @@ fn texts_have_their_tokens(rt: HostRuntime) -> Result<(), Fail> {
         assert_eq!(rt; shown.as_str(), expected, "at {text}");
         rows = rows.wrapping_add(1);
     }
-    assert_eq!(rt; rows, 140);
+    assert_eq!(rt; rows, 144);
     Ok(())
 }
 
