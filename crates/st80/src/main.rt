@@ -61,7 +61,8 @@ fn do_call<R: Files<File = File> + Print + AllocGlobal + Drop, S: Source>(
 ) -> Result<ExitCode, Status> {
     let words = words?;
     if let Some(Command::Export { store, image }) = read_command(words.as_slice()) {
-        host.keep_stores_from(store, image).map_err(|_no_memory| Status::OutOfMemory)?;
+        host.keep_stores_from(store, image)
+            .map_err(|_no_memory| Status::OutOfMemory)?;
     }
     Ok(exit_code(alloc, words.as_slice(), host, script))
 }
