@@ -7,7 +7,7 @@ use Rattle.st_host.specs.Deeds.{Deed, Put, said_after}
 use Rattle.st_host.specs.Log.{entry_of, deed_of, rest_of, deeds_of, arena_size, said_with, IsWhole}
 use Rattle.st_host.specs.declared.log.Entry.{Entry}
 use Rattle.st_host.specs.declared.log.Kind.{Kind}
-use Rattle.st_host.specs.declared.log.Kind.TheVariants.{Put as PutKind, Wrote as WroteKind, Cut as CutKind, Synced as SyncedKind, Said as SaidKind}
+use Rattle.st_host.specs.declared.log.Kind.TheVariants.{Put as PutKind, Wrote as WroteKind, Tore as ToreKind, Cut as CutKind, Synced as SyncedKind, Said as SaidKind}
 
 arena_size-append : (log more : List Entry) → arena_size (log ++ more) ≡ arena_size log + arena_size more
 arena_size-append [] more = omega arith
@@ -49,6 +49,7 @@ put_first name bytes log now arena arena_now entry more size = newest_first PutK
 said_after-cons : (kind : Kind) (name bytes : List ℕ) (deeds : List Deed) → said_after (deed_of kind name bytes ∷ deeds) ≡ said_with kind bytes (said_after deeds)
 said_after-cons PutKind name bytes deeds = refl
 said_after-cons (WroteKind end) name bytes deeds = refl
+said_after-cons (ToreKind end done) name bytes deeds = refl
 said_after-cons (CutKind len) name bytes deeds = refl
 said_after-cons SyncedKind name bytes deeds = refl
 said_after-cons SaidKind name bytes deeds = refl
@@ -57,6 +58,7 @@ said_after-cons SaidKind name bytes deeds = refl
 said_short : (kind : Kind) (bytes said : List ℕ) → length (said_with kind bytes said) ≤ length said + length bytes
 said_short PutKind bytes said = omega arith
 said_short (WroteKind end) bytes said = omega arith
+said_short (ToreKind end done) bytes said = omega arith
 said_short (CutKind len) bytes said = omega arith
 said_short SyncedKind bytes said = omega arith
 said_short SaidKind bytes said = omega (arith, length-append said bytes)

@@ -1,13 +1,13 @@
 -- What is left by each of the three ways is one of the states that a stop may leave, and the deeds that leave it do.
-use Rattle.std.proofs.Common.{◌≡◌, ◌≢◌, inl, inr, ⊎_elim, ℕ, ◌+◌, max, Bool, true, false, if◌then◌else◌, bytes_eq, List, [], ◌∷◌, length, Option, Some, None, refl, sym, subst, ap, ◌∙◌, arith}
+use Rattle.std.proofs.Common.{◌≡◌, ◌≢◌, inl, inr, ⊎_elim, ℕ, ◌+◌, max, Bool, true, false, if◌then◌else◌, bytes_eq, List, [], ◌∷◌, length, Option, Some, None, refl, sym, subst, ap, ◌∙◌, arith, take, zero, suc}
 use Rattle.std.proofs.lemmas.Slice.Eq.{bytes_eq-Decides}
 use Rattle.std.proofs.lemmas.List.{length-replicate}
 use Rattle.st_outside.specs.Files.{Files, bytes_of}
 use Rattle.st_outside.specs.Stops.{Comes, comes, Torn, TornByWrite, TornByCut}
 use Rattle.st_outside.specs.Names.{same_or_other}
 use Rattle.st_outside.proofs.Touching.{torn_same}
-use Rattle.st_host.specs.Written.{written, resized, written_is, resized_is, written_torn, resized_torn}
-use Rattle.st_host.specs.Deeds.{Deed, Put, Wrote, Cut, Synced, Said, files_after, ForName, MayLeave, said_after}
+use Rattle.st_host.specs.Written.{written, resized, written_is, resized_is, written_torn, resized_torn, begun_torn}
+use Rattle.st_host.specs.Deeds.{Deed, Put, Wrote, Tore, Cut, Synced, Said, files_after, ForName, MayLeave, said_after}
 use Rattle.st_host.specs.MemHost.{by_name, reads_now}
 use Rattle.st_host.specs.HostState.{HostState}
 use Rattle.st_host.specs.Leave.{old_after, ones, ones_after, left_after, IsStopped, copied, deeds_left, host_of}
@@ -21,7 +21,7 @@ if_not : (n name : List ℕ) (one other : Option (List ℕ)) → n ≢ name → 
 if_not n name one other differ true e = absurd (differ ((bytes_eq-Decides n name).0 e))
 if_not n name one other differ false e = refl
 
-if_other : (n name : List ℕ) (one other : Option (List ℕ)) → n ≢ name → (if bytes_eq n name then one else other) ≡ other
+pub if_other : (n name : List ℕ) (one other : Option (List ℕ)) → n ≢ name → (if bytes_eq n name then one else other) ≡ other
 if_other n name one other differ = if_not n name one other differ (bytes_eq n name) refl
 
 -- a change to nothing new of a file, and none of another
@@ -33,6 +33,12 @@ old_may [] n = refl
 old_may (Put name bytes ∷ earlier) n =
     by_name name n (Some bytes) (old_after earlier n) (λ c. c ≡ Some bytes) (MayLeave earlier n) refl (old_may earlier n) (bytes_eq n name) refl
 old_may (Wrote name at bytes ∷ earlier) n =
+    let file = files_after earlier n in
+    let old = old_after earlier n in
+    let read = length (bytes_of file) in
+    same_by_name name n (λ c. Comes (TornByWrite file at (length bytes)) (MayLeave earlier n) c) (MayLeave earlier n) old
+    (comes old (old_may earlier n) (torn_same read at (length bytes) (max read (at + length bytes)) old)) (old_may earlier n)
+old_may (Tore name at bytes done ∷ earlier) n =
     let file = files_after earlier n in
     let old = old_after earlier n in
     let read = length (bytes_of file) in
@@ -64,6 +70,14 @@ ones_long (Wrote name at bytes ∷ earlier) n =
     long_by_name (bytes_eq n name) (Some (written at all (bytes_of left))) (Some (written at bytes (bytes_of file))) left file
     (omega (arith, (written_is at all left).long, (written_is at bytes file).long, ones_long earlier n, length-replicate {A = ℕ} (length bytes) 255))
     (ones_long earlier n)
+ones_long (Tore name at bytes done ∷ earlier) n =
+    let file = files_after earlier n in
+    let left = ones_after earlier n in
+    let part = take done bytes in
+    let all = ones (length part) in
+    long_by_name (bytes_eq n name) (Some (written at all (bytes_of left))) (Some (written at part (bytes_of file))) left file
+    (omega (arith, (written_is at all left).long, (written_is at part file).long, ones_long earlier n, length-replicate {A = ℕ} (length part) 255))
+    (ones_long earlier n)
 ones_long (Cut name len ∷ earlier) n =
     let file = files_after earlier n in
     let left = ones_after earlier n in
@@ -78,6 +92,11 @@ ones_long (Synced name ∷ earlier) n =
     (same_or_other n name)
 ones_long (Said bytes ∷ earlier) n = ones_long earlier n
 
+ones_taken : (done : ℕ) (bytes : List ℕ) → take done (ones (length bytes)) ≡ ones (length (take done bytes))
+ones_taken zero bytes = refl
+ones_taken (suc done) [] = refl
+ones_taken (suc done) (b ∷ bytes) = ap (λ (x : List ℕ). 255 ∷ x) (ones_taken done bytes)
+
 ones_may : (deeds : List Deed) (n : List ℕ) → MayLeave deeds n (ones_after deeds n)
 ones_may [] n = refl
 ones_may (Put name bytes ∷ earlier) n =
@@ -89,6 +108,19 @@ ones_may (Wrote name at bytes ∷ earlier) n =
     let end = length (bytes_of file) in
     let new : Option (List ℕ) = Some (written at all (bytes_of left)) in
     let ends = subst (λ (x : ℕ). Torn x at (length all) (max x (at + length all)) left new) (ones_long earlier n) (written_torn at all left) in
+    let torn = subst (λ (x : ℕ). Torn end at x (max end (at + x)) left new) (length-replicate {A = ℕ} (length bytes) 255) ends in
+    by_name name n new left (λ c. Comes (TornByWrite file at (length bytes)) (MayLeave earlier n) c) (MayLeave earlier n)
+    (comes left (ones_may earlier n) torn) (ones_may earlier n) (bytes_eq n name) refl
+ones_may (Tore name at bytes done ∷ earlier) n =
+    let file = files_after earlier n in
+    let left = ones_after earlier n in
+    let part = take done bytes in
+    let all = ones (length bytes) in
+    let end = length (bytes_of file) in
+    let new : Option (List ℕ) = Some (written at (ones (length part)) (bytes_of left)) in
+    let cut : take done all ≡ ones (length part) = ones_taken done bytes in
+    let begun = subst (λ (x : List ℕ). TornByWrite left at (length all) left (Some (written at x (bytes_of left)))) cut (begun_torn at all done left) in
+    let ends = subst (λ (x : ℕ). Torn x at (length all) (max x (at + length all)) left new) (ones_long earlier n) begun in
     let torn = subst (λ (x : ℕ). Torn end at x (max end (at + x)) left new) (length-replicate {A = ℕ} (length bytes) 255) ends in
     by_name name n new left (λ c. Comes (TornByWrite file at (length bytes)) (MayLeave earlier n) c) (MayLeave earlier n)
     (comes left (ones_may earlier n) torn) (ones_may earlier n) (bytes_eq n name) refl
@@ -124,6 +156,11 @@ stays_absent (Wrote name at bytes ∷ earlier) n c none (inl own) =
 stays_absent (Wrote name at bytes ∷ earlier) n c none (inr other) =
     let file = files_after earlier n in
     stays_absent earlier n c (sym (if_other n name (Some (written at bytes (bytes_of file))) file other.0) ∙ none) other.1
+stays_absent (Tore name at bytes done ∷ earlier) n c none (inl own) =
+    absurd (there n name (written at (take done bytes) (bytes_of (files_after earlier n))) (files_after earlier n) own.0 none)
+stays_absent (Tore name at bytes done ∷ earlier) n c none (inr other) =
+    let file = files_after earlier n in
+    stays_absent earlier n c (sym (if_other n name (Some (written at (take done bytes) (bytes_of file))) file other.0) ∙ none) other.1
 stays_absent (Cut name len ∷ earlier) n c none (inl own) =
     absurd (there n name (resized len (bytes_of (files_after earlier n))) (files_after earlier n) own.0 none)
 stays_absent (Cut name len ∷ earlier) n c none (inr other) =
@@ -159,6 +196,7 @@ old_files : (deeds : List Deed) (n : List ℕ) → files_after (deeds_left Old d
 old_files [] n = refl
 old_files (Put name bytes ∷ earlier) n = ap (λ (file : Option (List ℕ)). if bytes_eq n name then Some bytes else file) (old_files earlier n)
 old_files (Wrote name at bytes ∷ earlier) n = old_files earlier n
+old_files (Tore name at bytes done ∷ earlier) n = old_files earlier n
 old_files (Cut name len ∷ earlier) n = old_files earlier n
 old_files (Synced name ∷ earlier) n =
     copied_files name n earlier (deeds_left Old earlier) (old_after earlier) (old_files earlier) (old_may earlier name) (files_after earlier name) refl
@@ -169,6 +207,8 @@ new_files [] n = refl
 new_files (Put name bytes ∷ earlier) n = ap (λ (file : Option (List ℕ)). if bytes_eq n name then Some bytes else file) (new_files earlier n)
 new_files (Wrote name at bytes ∷ earlier) n =
     ap (λ (file : Option (List ℕ)). if bytes_eq n name then Some (written at bytes (bytes_of file)) else file) (new_files earlier n)
+new_files (Tore name at bytes done ∷ earlier) n =
+    ap (λ (file : Option (List ℕ)). if bytes_eq n name then Some (written at (take done bytes) (bytes_of file)) else file) (new_files earlier n)
 new_files (Cut name len ∷ earlier) n =
     ap (λ (file : Option (List ℕ)). if bytes_eq n name then Some (resized len (bytes_of file)) else file) (new_files earlier n)
 new_files (Synced name ∷ earlier) n =
@@ -181,6 +221,8 @@ ones_files [] n = refl
 ones_files (Put name bytes ∷ earlier) n = ap (λ (file : Option (List ℕ)). if bytes_eq n name then Some bytes else file) (ones_files earlier n)
 ones_files (Wrote name at bytes ∷ earlier) n =
     ap (λ (file : Option (List ℕ)). if bytes_eq n name then Some (written at (ones (length bytes)) (bytes_of file)) else file) (ones_files earlier n)
+ones_files (Tore name at bytes done ∷ earlier) n =
+    ap (λ (file : Option (List ℕ)). if bytes_eq n name then Some (written at (ones (length (take done bytes))) (bytes_of file)) else file) (ones_files earlier n)
 ones_files (Cut name len ∷ earlier) n =
     ap (λ (file : Option (List ℕ)). if bytes_eq n name then Some (resized len (bytes_of file)) else file) (ones_files earlier n)
 ones_files (Synced name ∷ earlier) n =
@@ -225,6 +267,9 @@ all_synced how (Put name bytes ∷ earlier) = put_synced name (deeds_left how ea
 all_synced Old (Wrote name at bytes ∷ earlier) = all_synced Old earlier
 all_synced New (Wrote name at bytes ∷ earlier) = write_synced name (deeds_left New earlier) (all_synced New earlier) at bytes
 all_synced Ones (Wrote name at bytes ∷ earlier) = write_synced name (deeds_left Ones earlier) (all_synced Ones earlier) at (ones (length bytes))
+all_synced Old (Tore name at bytes done ∷ earlier) = all_synced Old earlier
+all_synced New (Tore name at bytes done ∷ earlier) = write_synced name (deeds_left New earlier) (all_synced New earlier) at (take done bytes)
+all_synced Ones (Tore name at bytes done ∷ earlier) = write_synced name (deeds_left Ones earlier) (all_synced Ones earlier) at (ones (length (take done bytes)))
 all_synced Old (Cut name len ∷ earlier) = all_synced Old earlier
 all_synced New (Cut name len ∷ earlier) = cut_synced name (deeds_left New earlier) (all_synced New earlier) len
 all_synced Ones (Cut name len ∷ earlier) = cut_synced name (deeds_left Ones earlier) (all_synced Ones earlier) len
@@ -241,6 +286,9 @@ unsaid how (Put name bytes ∷ earlier) = unsaid how earlier
 unsaid Old (Wrote name at bytes ∷ earlier) = unsaid Old earlier
 unsaid New (Wrote name at bytes ∷ earlier) = unsaid New earlier
 unsaid Ones (Wrote name at bytes ∷ earlier) = unsaid Ones earlier
+unsaid Old (Tore name at bytes done ∷ earlier) = unsaid Old earlier
+unsaid New (Tore name at bytes done ∷ earlier) = unsaid New earlier
+unsaid Ones (Tore name at bytes done ∷ earlier) = unsaid Ones earlier
 unsaid Old (Cut name len ∷ earlier) = unsaid Old earlier
 unsaid New (Cut name len ∷ earlier) = unsaid New earlier
 unsaid Ones (Cut name len ∷ earlier) = unsaid Ones earlier

@@ -5,7 +5,7 @@ use Rattle.st_host.specs.Deeds.{Deed, after_deed, files_after}
 use Rattle.st_host.specs.Log.{deed_of, name_of, content_of, rest_of, deeds_of, changed, file_of}
 use Rattle.st_host.specs.declared.log.Entry.{Entry}
 use Rattle.st_host.specs.declared.log.Kind.{Kind}
-use Rattle.st_host.specs.declared.log.Kind.TheVariants.{Put as PutKind, Wrote as WroteKind, Cut as CutKind, Synced as SyncedKind, Said as SaidKind}
+use Rattle.st_host.specs.declared.log.Kind.TheVariants.{Put as PutKind, Wrote as WroteKind, Tore as ToreKind, Cut as CutKind, Synced as SyncedKind, Said as SaidKind}
 
 -- a file after these deeds, the newest first, which was `file` before
 after : Option (List ℕ) → List Deed → List ℕ → Option (List ℕ)
@@ -35,6 +35,7 @@ after_deed-of : (kind : Kind) (name bytes n : List ℕ) (file : Option (List ℕ
     → after_deed (deed_of kind name bytes) n file ≡ (if bytes_eq n name then changed kind bytes file else file)
 after_deed-of PutKind name bytes n file = refl
 after_deed-of (WroteKind end) name bytes n file = refl
+after_deed-of (ToreKind end done) name bytes n file = refl
 after_deed-of (CutKind len) name bytes n file = refl
 after_deed-of SyncedKind name bytes n file = either (bytes_eq n name) file
 after_deed-of SaidKind name bytes n file = either (bytes_eq n name) file

@@ -5,7 +5,7 @@ use Rattle.std.proofs.lemmas.Bool.{cases_lt}
 use Rattle.st_outside.specs.Files.{bytes_of, length_of, IsRead}
 use Rattle.st_host.specs.Written.{written, resized, written_is, resized_is}
 use Rattle.st_host.specs.declared.log.Kind.{Kind}
-use Rattle.st_host.specs.declared.log.Kind.TheVariants.{Wrote as WroteKind, Cut as CutKind}
+use Rattle.st_host.specs.declared.log.Kind.TheVariants.{Wrote as WroteKind, Tore as ToreKind, Cut as CutKind}
 use Rattle.st_host.specs.Log.{changed, IsWindow, Overlays, Clears}
 
 written_window : (at place : ℕ) (bytes : List ℕ) (file : Option (List ℕ)) (old new : List ℕ) → length new ≡ length old
@@ -92,3 +92,18 @@ length_or-none (Some bytes) = refl
 
 pub length_is : (file : Option (List ℕ)) (told : Option ℕ) (n : ℕ) → told ≡ length_of file → n ≡ unwrap_or told 0 → n ≡ length (bytes_of file)
 length_is file told n is given = given ∙ ap (λ x. unwrap_or x 0) is ∙ length_or-none file
+
+pub take_least : (done : ℕ) (bytes : List ℕ) → take (min done (length bytes)) bytes ≡ take done bytes
+take_least done bytes = ext_get_or 0 (take (min done (length bytes)) bytes) (take done bytes)
+    (omega (arith, length-take (min done (length bytes)) bytes, length-take done bytes))
+    (λ i less.
+    let near : i < min done (length bytes) = omega (arith, length-take (min done (length bytes)) bytes, less) in
+    get_or-take (min done (length bytes)) bytes i 0 near ∙ sym (get_or-take done bytes i 0 (omega (arith, near))))
+
+pub tore_window : (kind : Kind) (end done place at k : ℕ) (bytes : List ℕ) (file : Option (List ℕ)) (old new : List ℕ) → kind ≡ ToreKind end done → place ≡ end - length bytes
+    → k ≡ min done (length bytes) → length new ≡ length old → Overlays at (take k bytes) place old new → IsWindow (bytes_of file) at old → IsWindow (bytes_of (changed kind bytes file)) at new
+tore_window kind end done place at k bytes file old new is placed least long over window =
+    let part : take k bytes ≡ take done bytes = ap (λ (n : ℕ). take n bytes) least ∙ take_least done bytes in
+    subst (λ x. IsWindow (bytes_of (changed x bytes file)) at new) (sym is)
+    (subst (λ (ys : List ℕ). IsWindow (written (end - length bytes) ys (bytes_of file)) at new) part
+    (subst (λ (x : ℕ). IsWindow (written x (take k bytes) (bytes_of file)) at new) placed (written_window at place (take k bytes) file old new long over window)))

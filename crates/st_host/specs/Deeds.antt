@@ -1,14 +1,15 @@
 -- What was done to a host in memory, as a list with the newest deed first, and what its files and its output are then.
-use Rattle.std.specs.Prelude.{◌≡◌, ◌≢◌, ◌⊎◌, ℕ, ◌≤◌, if◌then◌else◌, bytes_eq, List, [], ◌∷◌, ◌++◌, length, Option, Some, None}
+use Rattle.std.specs.Prelude.{◌≡◌, ◌≢◌, ◌⊎◌, ℕ, ◌≤◌, if◌then◌else◌, bytes_eq, List, [], ◌∷◌, ◌++◌, length, take, Option, Some, None}
 use Rattle.st_outside.specs.Files.{Files, bytes_of}
 use Rattle.st_outside.specs.Stops.{Comes, TornByWrite, TornByCut, Here, WhileSaying}
 use Rattle.st_host.specs.Written.{written, resized}
 
--- A file of this name was put there with these bytes; bytes were written into it at a place; it was cut to a length;
--- it was synced; or bytes were said.
+-- A file of this name was put there with these bytes; bytes were written into it at a place; so many first ones of bytes were,
+-- and the whole range counts as written; it was cut to a length; it was synced; or bytes were said.
 pub data Deed : Type 0 where
   Put : List ℕ → List ℕ → Deed
   Wrote : List ℕ → ℕ → List ℕ → Deed
+  Tore : List ℕ → ℕ → List ℕ → ℕ → Deed
   Cut : List ℕ → ℕ → Deed
   Synced : List ℕ → Deed
   Said : List ℕ → Deed
@@ -17,6 +18,7 @@ pub data Deed : Type 0 where
 abbrev pub after_deed : Deed → List ℕ → Option (List ℕ) → Option (List ℕ)
 after_deed (Put name bytes) n file = if bytes_eq n name then Some bytes else file
 after_deed (Wrote name at bytes) n file = if bytes_eq n name then Some (written at bytes (bytes_of file)) else file
+after_deed (Tore name at bytes done) n file = if bytes_eq n name then Some (written at (take done bytes) (bytes_of file)) else file
 after_deed (Cut name len) n file = if bytes_eq n name then Some (resized len (bytes_of file)) else file
 after_deed (Synced name) n file = file
 after_deed (Said bytes) n file = file
@@ -36,6 +38,8 @@ MayLeave [] n c = c ≡ None
 MayLeave (Put name bytes ∷ earlier) n c = ForName name n (c ≡ Some bytes) (MayLeave earlier n c)
 MayLeave (Wrote name at bytes ∷ earlier) n c =
     ForName name n (Comes (TornByWrite (files_after earlier n) at (length bytes)) (MayLeave earlier n) c) (MayLeave earlier n c)
+MayLeave (Tore name at bytes done ∷ earlier) n c =
+    ForName name n (Comes (TornByWrite (files_after earlier n) at (length bytes)) (MayLeave earlier n) c) (MayLeave earlier n c)
 MayLeave (Cut name len ∷ earlier) n c =
     ForName name n (Comes (TornByCut (files_after earlier n) len) (MayLeave earlier n) c) (MayLeave earlier n c)
 MayLeave (Synced name ∷ earlier) n c = ForName name n (c ≡ files_after earlier n) (MayLeave earlier n c)
@@ -46,6 +50,7 @@ abbrev pub said_after : List Deed → List ℕ
 said_after [] = []
 said_after (Put name bytes ∷ earlier) = said_after earlier
 said_after (Wrote name at bytes ∷ earlier) = said_after earlier
+said_after (Tore name at bytes done ∷ earlier) = said_after earlier
 said_after (Cut name len ∷ earlier) = said_after earlier
 said_after (Synced name ∷ earlier) = said_after earlier
 said_after (Said bytes ∷ earlier) = said_after earlier ++ bytes
@@ -55,6 +60,7 @@ said_after (Said bytes ∷ earlier) = said_after earlier ++ bytes
 abbrev pub MayLeaveDuring : Deed → List Deed → Files → List ℕ → Type 0
 MayLeaveDuring (Put name bytes) earlier f s = ⊥
 MayLeaveDuring (Wrote name at bytes) earlier f s = ⊥
+MayLeaveDuring (Tore name at bytes done) earlier f s = ⊥
 MayLeaveDuring (Cut name len) earlier f s = ⊥
 MayLeaveDuring (Synced name) earlier f s = ⊥
 MayLeaveDuring (Said bytes) earlier f s = WhileSaying (MayLeave earlier) (said_after earlier) bytes f s

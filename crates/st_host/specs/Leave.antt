@@ -1,9 +1,9 @@
 -- Three of the states that a stop may leave: each file as at its last sync, as it reads, and as it reads with each byte
 -- written since the sync as 0xFF. And a host that has one of them.
-use Rattle.std.specs.Prelude.{◌≡◌, ◌↔◌, ℕ, if◌then◌else◌, bytes_eq, List, [], ◌∷◌, length, replicate, Option, Some, None}
+use Rattle.std.specs.Prelude.{◌≡◌, ◌↔◌, ℕ, if◌then◌else◌, bytes_eq, List, [], ◌∷◌, length, take, replicate, Option, Some, None}
 use Rattle.st_outside.specs.Files.{Files, bytes_of}
 use Rattle.st_host.specs.Written.{written, resized}
-use Rattle.st_host.specs.Deeds.{Deed, Put, Wrote, Cut, Synced, Said, files_after, MayLeave, said_after}
+use Rattle.st_host.specs.Deeds.{Deed, Put, Wrote, Tore, Cut, Synced, Said, files_after, MayLeave, said_after}
 use Rattle.st_host.specs.HostState.{HostState, fresh}
 use Rattle.st_host.specs.declared.replay.Leave.{Leave}
 use Rattle.st_host.specs.declared.replay.Leave.TheVariants.{Old, New, Ones}
@@ -13,6 +13,7 @@ abbrev pub old_after : List Deed → Files
 old_after [] n = None
 old_after (Put name bytes ∷ earlier) n = if bytes_eq n name then Some bytes else old_after earlier n
 old_after (Wrote name at bytes ∷ earlier) n = old_after earlier n
+old_after (Tore name at bytes done ∷ earlier) n = old_after earlier n
 old_after (Cut name len ∷ earlier) n = old_after earlier n
 old_after (Synced name ∷ earlier) n = if bytes_eq n name then files_after earlier n else old_after earlier n
 old_after (Said bytes ∷ earlier) n = old_after earlier n
@@ -28,6 +29,9 @@ ones_after (Put name bytes ∷ earlier) n = if bytes_eq n name then Some bytes e
 ones_after (Wrote name at bytes ∷ earlier) n =
     let file = ones_after earlier n in
     if bytes_eq n name then Some (written at (ones (length bytes)) (bytes_of file)) else file
+ones_after (Tore name at bytes done ∷ earlier) n =
+    let file = ones_after earlier n in
+    if bytes_eq n name then Some (written at (ones (length (take done bytes))) (bytes_of file)) else file
 ones_after (Cut name len ∷ earlier) n =
     let file = ones_after earlier n in
     if bytes_eq n name then Some (resized len (bytes_of file)) else file
@@ -71,6 +75,7 @@ abbrev pub deeds_left : Leave → List Deed → List Deed
 deeds_left how [] = []
 deeds_left how (Put name bytes ∷ earlier) = Put name bytes ∷ deeds_left how earlier
 deeds_left how (Wrote name at bytes ∷ earlier) = write_left how name at bytes (deeds_left how earlier)
+deeds_left how (Tore name at bytes done ∷ earlier) = write_left how name at (take done bytes) (deeds_left how earlier)
 deeds_left how (Cut name len ∷ earlier) = cut_left how name len (deeds_left how earlier)
 deeds_left how (Synced name ∷ earlier) = copied name (files_after earlier name) (deeds_left how earlier)
 deeds_left how (Said bytes ∷ earlier) = deeds_left how earlier

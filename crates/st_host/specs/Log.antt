@@ -1,12 +1,12 @@
 -- How a host in memory keeps its deeds: a log of entries, and the bytes that they take one after the other.
 use Rattle.std.specs.Prelude.{◌≡◌, ◌⊎◌, ℕ, ◌+◌, ◌-◌, ◌<◌, ◌≤◌, length, reverse, Vec, vec_capacity, List, [], ◌∷◌, ◌++◌, take, drop, slice_index, if◌then◌else◌, bytes_eq, Option, Some}
 use Rattle.std.specs.declared.alloc.Global.{Global}
-use Rattle.st_host.specs.Deeds.{Deed, Put, Wrote, Cut, Synced, Said, said_after}
+use Rattle.st_host.specs.Deeds.{Deed, Put, Wrote, Tore, Cut, Synced, Said, said_after}
 use Rattle.st_outside.specs.Files.{bytes_of}
 use Rattle.st_host.specs.Written.{written, resized}
 use Rattle.st_host.specs.declared.log.Entry.{Entry}
 use Rattle.st_host.specs.declared.log.Kind.{Kind}
-use Rattle.st_host.specs.declared.log.Kind.TheVariants.{Put as PutKind, Wrote as WroteKind, Cut as CutKind, Synced as SyncedKind, Said as SaidKind}
+use Rattle.st_host.specs.declared.log.Kind.TheVariants.{Put as PutKind, Wrote as WroteKind, Tore as ToreKind, Cut as CutKind, Synced as SyncedKind, Said as SaidKind}
 
 -- an entry for this name and these bytes
 abbrev pub entry_of : Kind → List ℕ → List ℕ → Entry
@@ -16,6 +16,7 @@ entry_of kind name bytes = record { kind = kind; name = length name; bytes = len
 abbrev pub deed_of : Kind → List ℕ → List ℕ → Deed
 deed_of PutKind name bytes = Put name bytes
 deed_of (WroteKind end) name bytes = Wrote name (end - length bytes) bytes
+deed_of (ToreKind end done) name bytes = Tore name (end - length bytes) bytes done
 deed_of (CutKind len) name bytes = Cut name len
 deed_of SyncedKind name bytes = Synced name
 deed_of SaidKind name bytes = Said bytes
@@ -53,6 +54,7 @@ pub record IsWhole (log : Vec Entry Global) (arena said : Vec ℕ Global) (bytes
 abbrev pub changed : Kind → List ℕ → Option (List ℕ) → Option (List ℕ)
 changed PutKind bytes file = Some bytes
 changed (WroteKind end) bytes file = Some (written (end - length bytes) bytes (bytes_of file))
+changed (ToreKind end done) bytes file = Some (written (end - length bytes) (take done bytes) (bytes_of file))
 changed (CutKind len) bytes file = Some (resized len (bytes_of file))
 changed SyncedKind bytes file = file
 changed SaidKind bytes file = file
@@ -67,6 +69,7 @@ file_of file (entry ∷ later) arena n =
 abbrev pub said_with : Kind → List ℕ → List ℕ → List ℕ
 said_with PutKind bytes said = said
 said_with (WroteKind end) bytes said = said
+said_with (ToreKind end done) bytes said = said
 said_with (CutKind len) bytes said = said
 said_with SyncedKind bytes said = said
 said_with SaidKind bytes said = said ++ bytes

@@ -1,12 +1,12 @@
 -- That a host in memory keeps the laws of a host.
-use Rattle.std.specs.Prelude.{◌≡◌, ℕ, ◌≤◌, Bool, true, false, if◌then◌else◌, bytes_eq, List, [], ◌∷◌, length, Option, Some, refl}
+use Rattle.std.specs.Prelude.{◌≡◌, ℕ, ◌≤◌, Bool, true, false, if◌then◌else◌, bytes_eq, List, [], ◌∷◌, length, take, Option, Some, refl}
 use Rattle.std.proofs.Common.{inl, inr, ⊎_elim, sym, ◌∙◌, arith, true≢false}
 use Rattle.std.proofs.lemmas.Slice.Eq.{bytes_eq-Decides}
 use Rattle.st_outside.specs.Files.{Files, bytes_of}
 use Rattle.st_outside.specs.Stops.{Comes, comes, TornByWrite, TornByCut, Here}
-use Rattle.st_host.specs.Written.{written, resized, written_torn, resized_torn}
+use Rattle.st_host.specs.Written.{written, resized, written_torn, resized_torn, begun_torn}
 use Rattle.st_outside.specs.Names.{same_or_other}
-use Rattle.st_host.specs.Deeds.{Deed, Put, Wrote, Cut, Synced, Said, files_after, ForName, MayLeave, said_after, LeftSince}
+use Rattle.st_host.specs.Deeds.{Deed, Put, Wrote, Tore, Cut, Synced, Said, files_after, ForName, MayLeave, said_after, LeftSince}
 
 -- a fact of a choice by name, from one of each of the two
 pub by_name : (name n : List ℕ) (chosen unchanged : Option (List ℕ)) (own other : Option (List ℕ) → Type 0) → own chosen → other unchanged
@@ -22,6 +22,10 @@ reads_now (Wrote name at bytes ∷ earlier) n =
     let file = files_after earlier n in
     by_name name n (Some (written at bytes (bytes_of file))) file (λ c. Comes (TornByWrite file at (length bytes)) (MayLeave earlier n) c) (MayLeave earlier n)
     (comes file (reads_now earlier n) (written_torn at bytes file)) (reads_now earlier n) (bytes_eq n name) refl
+reads_now (Tore name at bytes done ∷ earlier) n =
+    let file = files_after earlier n in
+    by_name name n (Some (written at (take done bytes) (bytes_of file))) file (λ c. Comes (TornByWrite file at (length bytes)) (MayLeave earlier n) c) (MayLeave earlier n)
+    (comes file (reads_now earlier n) (begun_torn at bytes done file)) (reads_now earlier n) (bytes_eq n name) refl
 reads_now (Cut name len ∷ earlier) n =
     let file = files_after earlier n in
     by_name name n (Some (resized len (bytes_of file))) file (λ c. Comes (TornByCut file len) (MayLeave earlier n) c) (MayLeave earlier n)

@@ -1,6 +1,6 @@
 -- The bytes of a file after a write and after a cut.
 use Rattle.std.specs.Prelude.{◌≡◌, ℕ, ◌+◌, ◌-◌, ◌<◌, List, ◌++◌, length, take, drop, min, replicate, slice_index, Option, Some, refl}
-use Rattle.std.proofs.Common.{⊎_elim, sym, ◌∙◌, ap, arith, length-append, length-drop, length-take}
+use Rattle.std.proofs.Common.{⊎_elim, inl, inr, sym, ◌∙◌, ap, arith, length-append, length-drop, length-take}
 use Rattle.std.proofs.lemmas.List.{get_or_append_left, get_or-append_right, get_or-take, get_or-drop, get_or-replicate, get_or_past, length-replicate}
 use Rattle.std.proofs.lemmas.Bool.{cases_lt}
 use Rattle.st_outside.specs.Files.{bytes_of, IsWritten, IsCut}
@@ -92,3 +92,15 @@ pub resized_torn : (len : ℕ) (old : Option (List ℕ)) → TornByCut old len o
 resized_torn len old =
     let is = resized_is len old in
     record { absent = λ none. cc; shortest = omega (arith, is.long); longest = omega (arith, is.long); same = λ i new was read out. is.same i (omega (arith, is.long, new)) }
+
+-- What a write of some first bytes makes of a file is one of the states that a stop within the whole may leave.
+pub begun_torn : (at : ℕ) (bytes : List ℕ) (done : ℕ) (old : Option (List ℕ)) → TornByWrite old at (length bytes) old (Some (written at (take done bytes) (bytes_of old)))
+begun_torn at bytes done old =
+    let is = written_is at (take done bytes) old in
+    let less = length-take done bytes in
+    record {
+      absent = λ none. cc;
+      shortest = omega (arith, is.long, less);
+      longest = omega (arith, is.long, less);
+      same = λ i new was read out. is.outside i (⊎_elim (λ before. inl before) (λ behind. inr (omega (arith, behind, less))) out);
+    }

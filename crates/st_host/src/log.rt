@@ -6,11 +6,12 @@ ghost use Rattle.st_host.specs.declared.log.Kind.TheVariants.{Put};
 
 use std::alloc::AllocError;
 
-/// What was done. A write is kept by the place where it ends.
+/// What was done. A write is kept by the place where it ends. One that was torn did so many first bytes.
 #[derive(Clone, Copy, Drop)]
 pub(crate) enum Kind {
     Put,
     Wrote { end: u64 },
+    Tore { end: u64, done: u64 },
     Cut { len: u64 },
     Synced,
     Said,
@@ -116,7 +117,11 @@ pub(crate) fn append_said(said: &mut Vec<u8>, kind: Kind, bytes: &[u8])
 {
     match kind {
         Kind::Said => said.extend_from_slice(bytes).unwrap(),
-        Kind::Put | Kind::Wrote { end: _ } | Kind::Cut { len: _ } | Kind::Synced => {}
+        Kind::Put
+        | Kind::Wrote { end: _ }
+        | Kind::Tore { end: _, done: _ }
+        | Kind::Cut { len: _ }
+        | Kind::Synced => {}
     }
 }
 
@@ -159,6 +164,12 @@ fn apply(kind: Kind, bytes: &[u8], length: Option<u64>, at: u64, into: &mut [u8]
         Kind::Wrote { end } => {
             overlay(into, at, bytes, end.saturating_sub(count));
             Some(length.unwrap_or(0).max(end.max(count)))
+        }
+        Kind::Tore { end, done } => {
+            let place = end.saturating_sub(count);
+            let part = &bytes[..done.min(count) as usize];
+            overlay(into, at, part, place);
+            Some(length.unwrap_or(0).max(place + part.len() as u64))
         }
         Kind::Cut { len } => {
             clear(into, at, len);

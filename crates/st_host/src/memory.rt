@@ -1,6 +1,8 @@
 // A host in memory. It keeps each deed, so that a stop may leave all that the contract of a host allows.
-ghost use Rattle.std.specs.Prelude.{◌≡◌, ◌⊎◌, ◌↔◌, ◌++◌, ◌∷◌, [], ◌+◌, ◌-◌, ◌<◌, ◌≤◌, ℕ, min, List, length, reverse, IsTrue, true, IfOk, OnOk, OnErr, IsErr, Option, Some, vec_len, vec_capacity};
+ghost use Rattle.std.specs.Prelude.{◌≡◌, ◌⊎◌, ◌↔◌, ◌++◌, ◌∷◌, [], ◌+◌, ◌-◌, ◌<◌, ◌≤◌, ℕ, min, List, length, take, reverse, IsTrue, true, IfOk, OnOk, OnErr, IsErr, IsSome, Option, Some, None, vec_len, vec_capacity};
 ghost use Rattle.st_outside.specs.Counts.{one_more, Rose, HasCause};
+ghost use Rattle.st_host.specs.declared.memory.Next.TheVariants.{Does, Fails, Stops};
+ghost use Rattle.st_host.specs.HostState.{comes_first};
 ghost use Rattle.st_outside.specs.Files.{length_of, bytes_of, IsRead};
 
 use crate::log::{Entry, Kind, append, append_file, append_said, window};
@@ -9,11 +11,31 @@ use st_outside::{Host, HostFault, SayFault};
 use std::alloc::{AllocError, Global};
 use std::marker::Model;
 
+/// How a call goes on that changes something.
+#[derive(Clone, Copy, Drop)]
+enum Next {
+    Does,
+    Fails,
+    Stops(u64),
+}
+
+// Whether a stop within a call, or as it ends, comes before another one.
+fn comes_first(call: u64, within: Option<u64>, last: u64, other: Option<u64>) -> bool
+    ensures { result ≡ comes_first call within last other }
+{
+    match (within, other) {
+        (within, None) => call < last || call == last && within.is_some(),
+        (None, Some(_)) => call < last,
+        (Some(a), Some(b)) => call < last || call == last && a < b,
+    }
+}
+
 /// A host in memory, whose calls fail where it is told to.
 ///
 /// Calls of a host's methods are counted from 1 over all methods. A call fails exactly where [`MemHost::fail`]
-/// names its number, where it comes after a stop of [`MemHost::stop_after`], or where it passes the room that
-/// [`MemHost::room_for`] made. A call that fails changes nothing but the counts.
+/// names its number, where it comes after a stop of [`MemHost::stop_after`], where one of [`MemHost::stop_within`]
+/// comes within it, or where it passes the room that [`MemHost::room_for`] made. A call that fails changes nothing
+/// but the counts, unless a stop comes within it.
 #[derive(Drop)]
 pub struct MemHost {
     log: Vec<Entry>,
@@ -21,6 +43,7 @@ pub struct MemHost {
     said: Vec<u8>,
     failing: Vec<u64>,
     last_call: u64,
+    within: Option<u64>,
     calls: u64,
     bytes_left: u64,
     calls_left: u64,
@@ -40,6 +63,7 @@ impl Model for MemHost {
       calls = m.calls;
       failing = m.failing.items;
       last_call = m.last_call;
+      within = m.within;
       bytes_left = m.bytes_left;
       calls_left = m.calls_left;
       disk_faults = m.disk_faults;
@@ -50,8 +74,8 @@ impl Model for MemHost {
 }
 
 impl MemHost {
-    ghost use Rattle.st_host.specs.HostState.{fresh, counted, with_file, with_deed, IsNextFailing, PassesRoom, ReadsOrFails};
-    ghost use Rattle.st_host.specs.Deeds.{Synced, said_after, files_after};
+    ghost use Rattle.st_host.specs.HostState.{fresh, counted, stopped, with_file, with_deed, IsNextFailing, IsNextTorn, IsStopping, PassesRoom, ReadsOrFails};
+    ghost use Rattle.st_host.specs.Deeds.{Synced, Said, said_after, files_after};
     ghost use Rattle.st_host.specs.Leave.{IsStopped, with_done, with_copy};
     ghost use Rattle.st_host.specs.Log.{deed_of, IsWindow};
 
@@ -65,6 +89,7 @@ impl MemHost {
             said: Vec::new(alloc),
             failing: Vec::new(alloc),
             last_call: u64::MAX,
+            within: None,
             calls: 0,
             bytes_left: 0,
             calls_left: 0,
@@ -83,9 +108,28 @@ impl MemHost {
 
     /// Stops the host as the call of this number ends: each later one fails. A stop stays.
     pub fn stop_after(&mut self, call: u64)
-        ensures { self.new ≡ record self.old { last_call = min self.old.last_call call } }
+        ensures { self.new ≡ stopped call None self.old }
     {
-        self.last_call = self.last_call.min(call);
+        self.stop(call, None);
+    }
+
+    /// Stops the host within the call of this number, after so many bytes of it, or at its end if it has fewer: that call and
+    /// each later one fail. A write has written these bytes then, a `say` has said them, and a cut or a sync is done. Of two
+    /// stops the first one stays.
+    pub fn stop_within(&mut self, call: u64, bytes: u64)
+        ensures { self.new ≡ stopped call (Some bytes) self.old }
+    {
+        self.stop(call, Some(bytes));
+    }
+
+    // Notes a stop, unless another one comes before it.
+    fn stop(&mut self, call: u64, within: Option<u64>)
+        ensures { self.new ≡ stopped call within self.old }
+    {
+        if comes_first(call, within, self.last_call, self.within) {
+            self.last_call = call;
+            self.within = within;
+        }
     }
 
     /// Makes room for so many more bytes, and for so many more calls that change something. Only such a call takes
@@ -206,6 +250,20 @@ impl MemHost {
         self.failing.contains(&self.calls) || self.last_call < self.calls
     }
 
+    // After how many bytes a stop comes within the call that was just counted.
+    fn torn(&self) -> Option<u64>
+        ensures some { (b : ℕ) → result ≡ Some b
+            → (self.now.calls ≡ self.now.last_call) × (self.now.within ≡ Some b) }
+        ensures none { result ≡ None
+            → (self.now.calls ≡ self.now.last_call) × IsSome self.now.within → ⊥ }
+    {
+        if self.calls == self.last_call {
+            self.within
+        } else {
+            None
+        }
+    }
+
     // Counts a disk fault.
     fn disk_fault(&mut self) -> HostFault
         ensures counted { self.new ≡ record self.old { disk_faults = one_more self.old.disk_faults } }
@@ -216,24 +274,57 @@ impl MemHost {
         HostFault
     }
 
+    // Counts a fault of `say`.
+    fn say_fault(&mut self) -> SayFault
+        ensures counted { self.new ≡ record self.old { say_faults = one_more self.old.say_faults } }
+        ensures later { self.old.say_faults ≤ self.new.say_faults }
+        ensures rose { Rose self.old.say_faults self.new.say_faults }
+    {
+        self.say_faults = self.say_faults.saturating_add(1);
+        SayFault
+    }
+
+    // Says so many first bytes, for all of which there is room.
+    #[tactic(auto, using(crate::proofs::Windows::take_least))]
+    fn say_part(&mut self, bytes: &[u8], done: u64)
+        requires calls { 0 < self.old.calls_left }
+        requires bytes { length bytes.now ≤ self.old.bytes_left }
+        ensures { let part = take done bytes.now in
+            self.new ≡ with_deed (Said part) (length part) self.old }
+    {
+        let count = done.min(bytes.len() as u64) as usize;
+        self.add_deed(Kind::Said, &[], &bytes[..count]);
+    }
+
     // Begins a call that only reads.
     fn begin_read(&mut self) -> Result<(), HostFault>
         ensures exactly { ReadsOrFails self.old self.new result }
         ensures cause { HasCause self.old.disk_faults self.new.disk_faults result }
     {
-        if self.count_call() {
+        let failing = self.count_call();
+        if failing || self.torn().is_some() {
             return Err(self.disk_fault());
         }
         Ok(())
     }
 
-    // Begins a call that takes so many bytes of the room, and says whether it fails.
-    fn begin_deed(&mut self, bytes: u64) -> bool
-        ensures fails { IsTrue result ↔ (IsNextFailing self.old ⊎ PassesRoom self.old bytes) }
+    // Begins a call that takes so many bytes of the room, and says whether it goes on, fails, or stops within.
+    fn begin_deed(&mut self, bytes: u64) -> Next
+        ensures does { result ≡ Does
+            → (IsNextFailing self.old ⊎ PassesRoom self.old bytes ⊎ IsStopping self.old) → ⊥ }
+        ensures fails { result ≡ Fails → IsNextFailing self.old ⊎ PassesRoom self.old bytes }
+        ensures stops { (b : ℕ) → result ≡ Stops b → IsNextTorn self.old b }
+        ensures room { (b : ℕ) → result ≡ Stops b → (PassesRoom self.old bytes → ⊥) }
         ensures counted { self.new ≡ counted self.old }
     {
         let failing = self.count_call();
-        failing || self.calls_left == 0 || self.bytes_left < bytes
+        if failing || self.calls_left == 0 || self.bytes_left < bytes {
+            return Next::Fails;
+        }
+        match self.torn() {
+            Some(done) => Next::Stops(done),
+            None => Next::Does,
+        }
     }
 
     // Does a deed for which there is room.
@@ -253,7 +344,7 @@ impl MemHost {
 
 impl Host for MemHost {
     ghost use Rattle.st_host.specs.HostState.{ReadsOrFails, ChangesOrFails, SaysOrFails};
-    ghost use Rattle.st_host.specs.Deeds.{Wrote, Cut, Synced, files_after, MayLeave, said_after, LeftSince};
+    ghost use Rattle.st_host.specs.Deeds.{Wrote, Tore, Cut, Synced, files_after, MayLeave, said_after, LeftSince};
     ghost use Rattle.st_host.specs.MemHost.{reads_now, now_counts, now_only};
 
     ghost is_told = { true };
@@ -300,52 +391,80 @@ impl Host for MemHost {
     }
 
     fn write_at(&mut self, name: &str, at: u64, bytes: &[u8]) -> Result<(), HostFault>
-        ensures exactly { ChangesOrFails (Wrote name.now at bytes.now)
+        ensures exactly { ChangesOrFails (Wrote name.now at bytes.now) (Tore name.now at bytes.now)
             (length name.now + length bytes.now) (at + length bytes.now)
             self.old self.new result }
         ensures cause { HasCause self.old.disk_faults self.new.disk_faults result }
     {
-        let failing = self.begin_deed((name.len() + bytes.len()) as u64);
-        match at.checked_add(bytes.len() as u64) {
-            Some(end) if !failing => {
+        let next = self.begin_deed((name.len() + bytes.len()) as u64);
+        let Some(end) = at.checked_add(bytes.len() as u64) else {
+            return Err(self.disk_fault());
+        };
+        match next {
+            Next::Does => {
                 self.add_deed(Kind::Wrote { end }, name.as_bytes(), bytes);
                 Ok(())
             }
-            _ => Err(self.disk_fault()),
+            Next::Fails => Err(self.disk_fault()),
+            Next::Stops(done) => {
+                self.add_deed(Kind::Tore { end, done }, name.as_bytes(), bytes);
+                Err(self.disk_fault())
+            }
         }
     }
 
     fn cut(&mut self, name: &str, len: u64) -> Result<(), HostFault>
-        ensures exactly { ChangesOrFails (Cut name.now len) (length name.now) len self.old self.new result }
+        ensures exactly { ChangesOrFails (Cut name.now len) (λ b. Cut name.now len)
+            (length name.now) len
+            self.old self.new result }
         ensures cause { HasCause self.old.disk_faults self.new.disk_faults result }
     {
-        if self.begin_deed(name.len() as u64) {
-            return Err(self.disk_fault());
+        match self.begin_deed(name.len() as u64) {
+            Next::Does => {
+                self.add_deed(Kind::Cut { len }, name.as_bytes(), &[]);
+                Ok(())
+            }
+            Next::Fails => Err(self.disk_fault()),
+            Next::Stops(_done) => {
+                self.add_deed(Kind::Cut { len }, name.as_bytes(), &[]);
+                Err(self.disk_fault())
+            }
         }
-        self.add_deed(Kind::Cut { len }, name.as_bytes(), &[]);
-        Ok(())
     }
 
     fn sync(&mut self, name: &str) -> Result<(), HostFault>
-        ensures exactly { ChangesOrFails (Synced name.now) (length name.now) 0 self.old self.new result }
+        ensures exactly { ChangesOrFails (Synced name.now) (λ b. Synced name.now)
+            (length name.now) 0
+            self.old self.new result }
         ensures cause { HasCause self.old.disk_faults self.new.disk_faults result }
     {
-        if self.begin_deed(name.len() as u64) {
-            return Err(self.disk_fault());
+        match self.begin_deed(name.len() as u64) {
+            Next::Does => {
+                self.add_deed(Kind::Synced, name.as_bytes(), &[]);
+                Ok(())
+            }
+            Next::Fails => Err(self.disk_fault()),
+            Next::Stops(_done) => {
+                self.add_deed(Kind::Synced, name.as_bytes(), &[]);
+                Err(self.disk_fault())
+            }
         }
-        self.add_deed(Kind::Synced, name.as_bytes(), &[]);
-        Ok(())
     }
 
     fn say(&mut self, bytes: &[u8]) -> Result<(), SayFault>
         ensures exactly { SaysOrFails bytes.now self.old self.new result }
         ensures cause { HasCause self.old.say_faults self.new.say_faults result }
     {
-        if self.begin_deed(bytes.len() as u64) {
-            self.say_faults = self.say_faults.saturating_add(1);
-            return Err(SayFault);
+        match self.begin_deed(bytes.len() as u64) {
+            Next::Does => {
+                self.add_deed(Kind::Said, &[], bytes);
+                Ok(())
+            }
+            Next::Fails => Err(self.say_fault()),
+            Next::Stops(done) => {
+                self.say_part(bytes, done);
+                Err(self.say_fault())
+            }
         }
-        self.add_deed(Kind::Said, &[], bytes);
-        Ok(())
     }
 }

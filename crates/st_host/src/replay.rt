@@ -59,6 +59,22 @@ impl Replay {
         match kind {
             Kind::Put => self.left.repeat(alloc, kind, name, bytes)?,
             Kind::Synced => self.left.copy(alloc, &self.reads, name)?,
+            Kind::Tore { end, done } => {
+                let count = bytes.len() as u64;
+                let place = end.saturating_sub(count);
+                let part = &bytes[..done.min(count) as usize];
+                let kind = Kind::Wrote {
+                    end: place + part.len() as u64,
+                };
+                match self.how {
+                    Leave::Old => {}
+                    Leave::New => self.left.repeat_synced(alloc, kind, name, part)?,
+                    Leave::Ones => {
+                        let ones = vec![in alloc; 0xFF; part.len()]?;
+                        self.left.repeat_synced(alloc, kind, name, &ones)?;
+                    }
+                }
+            }
             Kind::Wrote { end: _ } | Kind::Cut { len: _ } => match self.how {
                 Leave::Old => {}
                 Leave::New => self.left.repeat_synced(alloc, kind, name, bytes)?,
