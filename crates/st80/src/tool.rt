@@ -10,18 +10,19 @@ ghost use Rattle.st_course.specs.declared.status.Status.TheVariants.{Usage};
 ghost use Rattle.st_session.specs.Builds.{BuildEnds};
 ghost use Rattle.st_session.specs.Calls.{OnlySays, CallEnds};
 ghost use Rattle.st_session.specs.Commands.{OnceEnds};
+ghost use Rattle.st_session.specs.Drills.{DrillEnds};
 ghost use Rattle.st_call.specs.LastLines.{SaysLastLine};
 ghost use Rattle.st_session.specs.Exports.{ExportEnds};
 ghost use Rattle.st_session.specs.Imports.{ImportEnds};
 ghost use Rattle.st_session.specs.StoreSessions.{SessionCommandEnds};
-ghost use Rattle.st_call.specs.Words.{command_of, Once, Import, Export, Session, Build};
+ghost use Rattle.st_call.specs.Words.{command_of, Once, Import, Export, Session, Build, Drill};
 
 use st_call::{Command, read_command, refuse};
 use st_counted::CountedLoader;
 use st_course::Status;
 use st_lookup::CachedLoader;
 use st_outside::{Host, Source};
-use st_session::{build, export, import, once, session};
+use st_session::{build, drill, export, import, once, session};
 use std::alloc::Global;
 use std::process::ExitCode;
 
@@ -33,8 +34,9 @@ type ProgramLoader = CachedLoader<CountedLoader>;
 /// `once IMAGE N` reads the image file IMAGE, runs N cycles of its machine, and says the run's end and what the machine shows
 /// then. `import IMAGE STORE` makes a store of an image, with the values of options in place of those of its head. `export STORE
 /// IMAGE` writes an image of what a store holds. `session STORE` opens a store, and follows a script over what it holds, whose bytes
-/// are taken from the source. `build KERNEL STORE` makes a store of the image that a kernel text builds. No file is changed but the
-/// store's, and the image's by `export`.
+/// are taken from the source. `build KERNEL STORE` makes a store of the image that a kernel text builds. `drill N` runs a million cycles
+/// of an image that is built in memory from the number N, which decides how large it is. No file is changed but the store's, and the
+/// image's by `export`.
 ///
 /// For every well-formed image, script and n, after n bytecodes the kept objects, display, input state and output are those of
 /// the book's interpreter over objects never reclaimed or moved. A halt for space comes exactly where the table or the heap
@@ -64,6 +66,8 @@ pub fn tool<H: Host, S: Source>(
     ensures builds { (kernel store : List ℕ)
         → command_of (map string_bytes words.now) ≡ Some (Build kernel store)
         → BuildEnds H.Host.own (bytes_of (H.files host.old kernel)) store host.old host.new result }
+    ensures drills { (n : ℕ) → command_of (map string_bytes words.now) ≡ Some (Drill n)
+        → DrillEnds H.Host.own n host.old host.new result }
     ensures cause { StatusHasCause H.Host.own (Rose (S.read_faults script.old) (S.read_faults script.new))
         host.old host.new result }
     ensures says { OnlySays (command_of (map string_bytes words.now))
@@ -85,6 +89,7 @@ pub fn tool<H: Host, S: Source>(
         Some(Command::Build { kernel, store }) => {
             build::<H, ProgramLoader>(alloc, host, kernel, store)
         }
+        Some(Command::Drill { number }) => drill::<H, ProgramLoader>(alloc, host, number),
         None => {
             refuse(host, Status::Usage);
             Status::Usage

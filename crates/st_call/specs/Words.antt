@@ -1,5 +1,5 @@
 -- The words of the program, without its name: once IMAGE N, import IMAGE STORE with options, export STORE IMAGE, session STORE,
--- and build KERNEL STORE.
+-- build KERNEL STORE, and drill N.
 use Rattle.std.specs.Prelude.{ℕ, Bool, ◌||◌, List, [], ◌∷◌, codes, Option, Some, None, is_some, option_map, option_and_then, if◌then◌else◌}
 use Rattle.st_image.specs.declared.head.HeadValues.{HeadValues}
 use Rattle.st_call.specs.Arguments.{Arguments, arguments_of, spells, number_said}
@@ -11,6 +11,7 @@ pub data Command : Type 0 where
   Export : (store image : List ℕ) → Command
   Session : (store : List ℕ) → Command
   Build : (kernel store : List ℕ) → Command
+  Drill : (number : ℕ) → Command
 
 -- an image, and a number of cycles of at most 1,000,000,000
 abbrev pub once_of : List (List ℕ) → Option Command
@@ -33,6 +34,11 @@ abbrev pub build_of : List (List ℕ) → Option Command
 build_of (kernel ∷ store ∷ []) = Some (Build kernel store)
 build_of operands = None
 
+-- a number of at most 1,000,000,000
+abbrev pub drill_of : List (List ℕ) → Option Command
+drill_of (n ∷ []) = option_map Drill (number_said 1000000000 n)
+drill_of operands = None
+
 abbrev pub has_values : HeadValues → Bool
 has_values v = is_some v.entries || (is_some v.words || (is_some v.globals || is_some v.symbols))
 
@@ -44,7 +50,8 @@ command_named w a =
     if spells w (codes "once") then once_of a.operands else
     if spells w (codes "export") then export_of a.operands else
     if spells w (codes "session") then session_of a.operands else
-    if spells w (codes "build") then build_of a.operands else None
+    if spells w (codes "build") then build_of a.operands else
+    if spells w (codes "drill") then drill_of a.operands else None
 
 -- the command that the words say; None of all other words
 abbrev pub command_of : List (List ℕ) → Option Command

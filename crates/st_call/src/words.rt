@@ -1,6 +1,6 @@
 ghost use Rattle.std.specs.Prelude.{◌≡◌, map, option_map};
 ghost use Rattle.std.specs.String.{string_bytes};
-ghost use Rattle.st_call.specs.Words.{once_of, import_of, export_of, session_of, build_of, has_values, command_named, command_of};
+ghost use Rattle.st_call.specs.Words.{once_of, import_of, export_of, session_of, build_of, drill_of, has_values, command_named, command_of};
 ghost use Rattle.st_call.specs.CommandViews.{operands_view, arguments_view, command_view};
 
 use crate::arguments::{Arguments, Operands, read_arguments, read_number};
@@ -34,10 +34,14 @@ pub enum Command<'a> {
         kernel: &'a str,
         store: &'a str,
     },
+    /// The report of the drill of this number.
+    Drill {
+        number: u32,
+    },
 }
 
-/// The most cycles that one run may have.
-const MOST_CYCLES: u32 = 1_000_000_000;
+/// The largest number that is an operand: of the cycles of a run, and of a drill.
+const LARGEST_OPERAND: u32 = 1_000_000_000;
 
 /// The command of `IMAGE N`.
 fn once(operands: Operands<'_>) -> Option<Command<'_>>
@@ -45,7 +49,7 @@ fn once(operands: Operands<'_>) -> Option<Command<'_>>
 {
     match operands {
         Operands::Two(image, number) => {
-            let cycles = read_number(number.as_bytes(), MOST_CYCLES)?;
+            let cycles = read_number(number.as_bytes(), LARGEST_OPERAND)?;
             Some(Command::Once { image, cycles })
         }
         Operands::Empty | Operands::One(_) => None,
@@ -92,6 +96,19 @@ fn build(operands: Operands<'_>) -> Option<Command<'_>>
     }
 }
 
+/// The command of `N`.
+fn drill(operands: Operands<'_>) -> Option<Command<'_>>
+    ensures { option_map command_view result ≡ drill_of (operands_view operands.entry) }
+{
+    match operands {
+        Operands::One(number) => {
+            let number = read_number(number.as_bytes(), LARGEST_OPERAND)?;
+            Some(Command::Drill { number })
+        }
+        Operands::Empty | Operands::Two(_, _) => None,
+    }
+}
+
 /// Whether any value is there.
 fn has_values(values: HeadValues) -> bool
     ensures { result ≡ has_values values }
@@ -120,6 +137,8 @@ fn command_named<'a>(name: &str, arguments: Arguments<'a>) -> Option<Command<'a>
         session(arguments.operands)
     } else if name == "build" {
         build(arguments.operands)
+    } else if name == "drill" {
+        drill(arguments.operands)
     } else {
         None
     }

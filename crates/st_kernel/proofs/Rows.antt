@@ -14,7 +14,7 @@ use Rattle.st_model.specs.Storage.{check_not_method_class}
 use Rattle.st_course.specs.declared.refusal.Refusal.TheVariants.{NoClass}
 use Rattle.st_declarations.specs.declared.shape.Shape.TheVariants.{Fixed}
 use Rattle.st_declarations.specs.declared.cause.Cause.TheVariants.{Form}
-use Rattle.st_declarations.specs.Parts.{Part, class, global, opening, header, method, closing, start}
+use Rattle.st_declarations.specs.Parts.{Part, class, opening, header, method, closing, start}
 use Rattle.st_declarations.specs.Texts.{account}
 use Rattle.st_first_objects.specs.First.{has_room}
 use Rattle.st_installer.specs.Installing.{Install, Refused, Accepted}

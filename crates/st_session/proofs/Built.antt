@@ -1,14 +1,17 @@
 -- What the building of a kernel text says of the file that its bytes come from.
-use Rattle.std.proofs.Common.{◌≡◌, ℕ, ◌^◌, List, ◌∙◌, sym, ap, subst, arith}
+use Rattle.std.proofs.Common.{◌≡◌, ◌≤◌, ℕ, ◌^◌, List, length, ◌∙◌, sym, ap, subst, arith}
 use Rattle.std.specs.Prelude.{Result, Ok, Err}
 use Rattle.st_outside.specs.declared.host.Host.{Ghosts}
 use Rattle.st_course.specs.declared.status.Status.{Status}
 use Rattle.st_course.specs.declared.status.Status.TheVariants as status
 use Rattle.st_course.specs.Statuses.{StatusHasCause}
-use Rattle.st_kernel.specs.Built.{Built, Fault}
+use Rattle.st_definition.specs.Defining.{installed}
+use Rattle.st_kernel.specs.declared.fault.KernelFault.{KernelFault}
+use Rattle.st_kernel.specs.declared.fault.KernelFault.TheVariants as kernel
+use Rattle.st_kernel.specs.Built.{Built, Fault, built, IsFaultOf}
 use Rattle.st_call.specs.declared.file.FileRefusal.{FileRefusal}
 use Rattle.st_call.specs.declared.file.FileRefusal.TheVariants as file
-use Rattle.st_session.specs.Builds.{Builds, IsWrongKernel}
+use Rattle.st_session.specs.Builds.{Builds, IsWrongAt, IsWrongKernel, kernel_status}
 use Rattle.st_call.specs.Refusals.{file_status, IsFileRefusal, FileHasCause}
 use Rattle.st_session.specs.Makings.{Contents, IsUnread}
 
@@ -37,6 +40,22 @@ kernel_clash told text c status.SayFault t is why = why
 kernel_clash told text c status.DiskFault t is why = why
 kernel_clash told text c (status.Store f) t is why = why
 kernel_clash told text c status.OutOfMemory t is why = why
+
+-- it builds nothing, whatever the bytes of the file are called
+pub kernel_wrong : (told : Type 0) (text bytes : List ℕ) (fault : KernelFault) (e : Status) → e ≡ kernel_status fault → (told → bytes ≡ text) → length bytes ≤ 2 ^ 23 → IsFaultOf (built installed bytes) fault
+    → IsUnread (IsWrongKernel told text) e
+kernel_wrong told text bytes fault e is same short wrong = subst (IsUnread (IsWrongKernel told text)) (sym is) (each fault wrong)
+  where
+    each : (fault : KernelFault) → IsFaultOf (built installed bytes) fault → IsUnread (IsWrongKernel told text) (kernel_status fault)
+    each (kernel.At chunk cause) wrong = λ t. subst (λ (x : List ℕ). IsWrongAt x (record { chunk = chunk; cause = cause })) (same t) (record { short = short; is = wrong })
+    each kernel.OutOfMemory wrong = tt
+
+pub wrong_cause : {D : Type 0} (host : Ghosts D) (old new : D) (fault : KernelFault) (e : Status) → e ≡ kernel_status fault → StatusHasCause host ⊥ old new e
+wrong_cause host old new fault e is = subst (StatusHasCause host ⊥ old new) (sym is) (each fault)
+  where
+    each : (fault : KernelFault) → StatusHasCause host ⊥ old new (kernel_status fault)
+    each (kernel.At chunk cause) = tt
+    each kernel.OutOfMemory = tt
 
 -- THE FILE ISN'T READ
 

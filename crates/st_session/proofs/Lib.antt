@@ -4,6 +4,7 @@ pub mod Built
 pub mod Commanded
 pub mod Compiling
 pub mod Cycles
+pub mod Drilled
 pub mod Ending
 pub mod Exported
 pub mod Following

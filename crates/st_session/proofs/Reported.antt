@@ -1,6 +1,6 @@
 -- The report of a run is what the line `run N` says, and then what the machine shows.
 use Rattle.std.proofs.Common.{◌≡◌, ℕ, zero, suc, ◌+◌, ◌-◌, List, [], ◌∷◌, ◌++◌, length, Option, refl, sym, ap, ◌∙◌, append-nil, append_assoc, arith}
-use Rattle.std.specs.Prelude.{Result, Ok, Err, IsErr}
+use Rattle.std.specs.Prelude.{Result, Ok, Err, IsErr, OnOk}
 use Rattle.st_model.specs.declared.dead.Dead.{Dead}
 use Rattle.st_model.specs.Outcomes.{Ending, With, Space}
 use Rattle.st_model.specs.Outcomes as outcome
@@ -15,8 +15,9 @@ use Rattle.st_course.specs.Courses.{Reply, Goes, Ends, deeds_of, said_of, preced
 use Rattle.st_course.proofs.Courses.{said_of_both, deeds_preceded}
 use Rattle.st_outside.specs.declared.host.Host.{Ghosts}
 use Rattle.st_outside.specs.declared.host.SayFault.{SayFault}
+use Rattle.st_outside.specs.Runs.{SaysAll}
 use Rattle.st_report.specs.Saying.{Pushes}
-use Rattle.st_report.proofs.Pushing.{push_then, push_begun, push_as}
+use Rattle.st_report.proofs.Pushing.{push_then, push_begun, push_as, pushed_all}
 use Rattle.st_session.specs.Points.{Being, Alive, Gone, Point}
 use Rattle.st_session.specs.Keeping.{keeps_nothing}
 use Rattle.st_session.specs.Answers.{cycle_course, run_course}
@@ -94,3 +95,12 @@ module _ (shows : State Table → List ℕ) where
     pub unreported : {at : Point (Unit {0}) → Type 0} {old new : D} {p q : List ℕ} {fault : SayFault} {result : Result Unit SayFault} → IsErr result
         → PushesCourse {E = SayFault} host at (cycles 0 n s) old new p q (Err fault) → Pushes host (run_text shows n s) old new p q result
     unreported err run = push_begun (shown_text shows (cycles 0 n s)) err run.pushes
+
+-- what was added to nothing, and then said whole, or not
+pub none_said : (A : Type 0) (r : Result Unit SayFault) → IsErr r → OnOk r A
+none_said A (Ok x) err = cc
+none_said A (Err x) err = tt
+
+pub all_said : {D : Type 0} {host : Ghosts D} {t p q : List ℕ} {old mid : D} (new : D) (r : Result Unit SayFault) → p ≡ [] → Pushes {E = SayFault} host t old mid p q (Ok tt) → OnOk r (SaysAll host q mid new) → OnOk r (SaysAll host t old new)
+all_said new (Ok x) empty run all = pushed_all empty run all
+all_said new (Err x) empty run all = tt

@@ -2,8 +2,10 @@
 use Rattle.std.specs.Prelude.{◌≡◌, ℕ, ◌<◌, ◌≤◌, ◌^◌, List, length, Ok, Err, IsTrue}
 use Rattle.st_outside.specs.declared.host.Host.{Ghosts}
 use Rattle.st_course.specs.declared.status.Status.{Status}
-use Rattle.st_course.specs.declared.status.Status.TheVariants.{Kernel, TooLarge}
+use Rattle.st_course.specs.declared.status.Status.TheVariants.{Kernel, TooLarge, OutOfMemory}
 use Rattle.st_definition.specs.Defining.{installed}
+use Rattle.st_kernel.specs.declared.fault.KernelFault.{KernelFault}
+use Rattle.st_kernel.specs.declared.fault.KernelFault.TheVariants as kernel
 use Rattle.st_kernel.specs.Built.{Fault, built}
 use Rattle.st_session.specs.declared.making.Origin.TheVariants as origin
 use Rattle.st_session.specs.Makings.{Contents, MakingEnds}
@@ -23,6 +25,11 @@ abbrev pub IsWrongKernel : Type 0 → List ℕ → Status → Type 0
 IsWrongKernel told text (Kernel chunk cause) = told → IsWrongAt text (record { chunk = chunk; cause = cause })
 IsWrongKernel told text TooLarge = told → 2 ^ 23 < length text
 IsWrongKernel told text _ = ⊥
+
+-- the status in which an image isn't built
+abbrev pub kernel_status : KernelFault → Status
+kernel_status (kernel.At chunk cause) = Kernel chunk cause
+kernel_status kernel.OutOfMemory = OutOfMemory
 
 -- How the command build ends, over the bytes of its kernel text. An absent file is read as an empty text.
 abbrev pub BuildEnds : {D : Type 0} → Ghosts D → List ℕ → List ℕ → D → D → Status → Type 0

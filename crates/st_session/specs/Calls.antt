@@ -8,12 +8,13 @@ use Rattle.st_course.specs.declared.status.Status.{Status}
 use Rattle.st_course.specs.declared.status.Status.TheVariants as status
 use Rattle.st_course.specs.Statuses.{StatusHasCause}
 use Rattle.st_session.specs.Builds.{BuildEnds}
+use Rattle.st_session.specs.Drills.{DrillEnds}
 use Rattle.st_call.specs.LastLines.{SaysLastLine}
 use Rattle.st_session.specs.Commands.{OnceEnds}
 use Rattle.st_session.specs.Exports.{ExportEnds}
 use Rattle.st_session.specs.Imports.{ImportEnds}
 use Rattle.st_session.specs.StoreSessions.{SessionCommandEnds}
-use Rattle.st_call.specs.Words.{Command, command_of, Once, Import, Export, Session, Build}
+use Rattle.st_call.specs.Words.{Command, command_of, Once, Import, Export, Session, Build, Drill}
 
 -- a command that writes no file, or no command
 abbrev pub OnlySays : Option Command → Type 0
@@ -23,6 +24,7 @@ OnlySays (Some (Import image store over)) = ⊥
 OnlySays (Some (Export store image)) = ⊥
 OnlySays (Some (Session store)) = ⊥
 OnlySays (Some (Build kernel store)) = ⊥
+OnlySays (Some (Drill number)) = ⊤
 
 -- A call of the program with these words, over the bytes of a script, of which the source still has `left`. `read` says that it
 -- tells these, and `reads` that it had a fault.
@@ -33,5 +35,6 @@ pub record CallEnds {D : Type 0} (host : Ghosts D) (words : List (List ℕ)) (re
   pub exports : (store image : List ℕ) → command_of words ≡ Some (Export store image) → ExportEnds host store image old new end
   pub session : (store : List ℕ) → command_of words ≡ Some (Session store) → SessionCommandEnds host store read reads script left old new end
   pub builds : (kernel store : List ℕ) → command_of words ≡ Some (Build kernel store) → BuildEnds host (bytes_of (host.files old kernel)) store old new end
+  pub drills : (n : ℕ) → command_of words ≡ Some (Drill n) → DrillEnds host n old new end
   pub cause : StatusHasCause host reads old new end
   pub says : OnlySays (command_of words) → (text : List ℕ) × ReadsAndSays host text old new

@@ -16,6 +16,7 @@ pub mod Commands
 pub mod Makings
 pub mod Imports
 pub mod Builds
+pub mod Drills
 pub mod StoreSessions
 pub mod Exports
 pub mod Calls

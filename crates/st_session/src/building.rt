@@ -1,12 +1,12 @@
 //! The command `build`.
 
-ghost use Rattle.std.specs.Prelude.{IsTrue, IfOk, IfErr, OnOk};
+ghost use Rattle.std.specs.Prelude.{◌≡◌, IsTrue, IfOk, IfErr, OnOk};
 ghost use Rattle.st_outside.specs.Files.{bytes_of};
 ghost use Rattle.st_outside.specs.Runs.{OnlyReads, ReadsAlike};
 ghost use Rattle.st_image.specs.Back.{CanStart};
 ghost use Rattle.st_course.specs.Statuses.{StatusHasCause};
 ghost use Rattle.st_session.specs.Makings.{contents_in, IsUnread};
-ghost use Rattle.st_session.specs.Builds.{Builds, IsWrongKernel, BuildEnds};
+ghost use Rattle.st_session.specs.Builds.{Builds, IsWrongKernel, BuildEnds, kernel_status};
 
 use crate::compiler::Compiler;
 use crate::making::{Origin, make};
@@ -19,6 +19,16 @@ use std::alloc::Global;
 
 /// The most bytes that a kernel text may have, 2^23.
 const LONGEST_TEXT: u64 = 8_388_608;
+
+/// The status of a call whose kernel text builds no image.
+pub(crate) fn kernel_status(fault: KernelFault) -> Status
+    ensures { result ≡ kernel_status fault }
+{
+    match fault {
+        KernelFault::At { chunk, cause } => Status::Kernel { chunk, cause },
+        KernelFault::OutOfMemory => Status::OutOfMemory,
+    }
+}
 
 /// The memory that the kernel text in a file builds, where that has at most 2^23 bytes and no cause stands in it; or the status
 /// of a call that ends so. No file is changed.
@@ -42,8 +52,7 @@ fn build_memory<H: Host, L: Loader>(
     };
     match st_kernel::build::<Compiler, L>(alloc, &text) {
         Ok(memory) => Ok(memory),
-        Err(KernelFault::At { chunk, cause }) => Err(Status::Kernel { chunk, cause }),
-        Err(KernelFault::OutOfMemory) => Err(Status::OutOfMemory),
+        Err(fault) => Err(kernel_status(fault)),
     }
 }
 

@@ -1,7 +1,8 @@
 //! A session over a store: a script is followed line by line, each line and each method of a group is answered, and what is
 //! accepted is in the store before it is said. And the commands of the program: `once`, which runs cycles of an image's machine
 //! and says how they end and what it shows then, `import`, which makes a store of an image, `export`, which writes one out of a
-//! store, `session`, and `build`, which makes a store of the image that a kernel text builds.
+//! store, `session`, `build`, which makes a store of the image that a kernel text builds, and `drill`, which runs one that a number
+//! gives.
 #![tactic(auto)]
 
 mod answering;
@@ -9,6 +10,7 @@ mod browsing;
 mod building;
 mod command;
 mod compiler;
+mod drilling;
 mod exporting;
 mod first_lines;
 mod importing;
@@ -25,6 +27,7 @@ mod starting;
 pub use building::build;
 pub use command::{once, session};
 pub use compiler::Compiler;
+pub use drilling::drill;
 pub use exporting::export;
 pub use importing::import;
 pub use laws::run_is_said;

@@ -38,6 +38,20 @@ impl Origin {
     }
 }
 
+/// Adds the word of a memory's origin, how many objects it has, and how many words they have.
+pub(crate) fn push_made<H: Host, M: Memory>(
+    out: &mut Output,
+    host: &mut H,
+    origin: Origin,
+    m: &M,
+) -> Result<(), SayFault>
+    ensures { let text = made_text origin (contents_in (M.view m.now)) in
+        Pushes H.Host.own text host.old host.new out.old out.new result }
+{
+    let used = m.used();
+    push_line(out, host, origin.word(), &[used.entries, used.words])
+}
+
 /// Says that a store was made of a memory, how many objects this has, and how many words they have.
 fn say_made<H: Host, M: Memory>(host: &mut H, origin: Origin, m: &M) -> Result<(), SayFault>
     ensures all { let text = made_text origin (contents_in (M.view m.now)) in
@@ -47,8 +61,7 @@ fn say_made<H: Host, M: Memory>(host: &mut H, origin: Origin, m: &M) -> Result<(
     ensures cause { HasCause (H.say_faults host.old) (H.say_faults host.new) result }
 {
     let mut out = Output::new();
-    let used = m.used();
-    push_line(&mut out, host, origin.word(), &[used.entries, used.words])?;
+    push_made(&mut out, host, origin, m)?;
     out.finish(host)
 }
 

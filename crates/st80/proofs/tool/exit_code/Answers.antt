@@ -13,6 +13,7 @@ returns g c = record {
       exports = c.tool.ensures.exports;
       session = c.tool.ensures.session;
       builds = c.tool.ensures.builds;
+      drills = c.tool.ensures.drills;
       cause = c.tool.ensures.cause;
       says = c.tool.ensures.says;
     },

@@ -5,8 +5,9 @@ use Rattle.st_call.specs.CommandViews.{command_view}
 use Rattle.st_image.specs.declared.head.HeadValues.{HeadValues}
 use Rattle.st_session.specs.Builds.{BuildEnds}
 use Rattle.st_session.specs.Commands.{OnceEnds}
+use Rattle.st_session.specs.Drills.{DrillEnds}
 use Rattle.st_session.specs.Imports.{ImportEnds}
-use Rattle.st_call.specs.Words.{Command, Once, Import, Build}
+use Rattle.st_call.specs.Words.{Command, Once, Import, Build, Drill}
 use Rattle.st80.proofs.tool.tool.Goals as goal
 
 abbrev image_in : Option Command → List ℕ
@@ -33,7 +34,7 @@ returns-in-Some-Once-clause-once g c image n is =
     subst (λ (m : ℕ). OnceEnds g.H.Host (bytes_of (g.H.Host.files old image)) m old new result) (same_cycles arm.image.now image arm.cycles n said)
     (subst (λ (i : List ℕ). OnceEnds g.H.Host (bytes_of (g.H.Host.files old i)) arm.cycles old new result) (same_image arm.image.now image arm.cycles n said) c.once.ensures.ends)
 
--- what is so of an import's words, and of a build's
+-- what is so of an import's words, of a build's, and of a drill's
 abbrev OfImport : (List ℕ → List ℕ → HeadValues → Type 0) → Option Command → Type 0
 OfImport P (Some (Import image store over)) = P image store over
 OfImport P _ = ⊥
@@ -41,6 +42,10 @@ OfImport P _ = ⊥
 abbrev OfBuild : (List ℕ → List ℕ → Type 0) → Option Command → Type 0
 OfBuild P (Some (Build kernel store)) = P kernel store
 OfBuild P _ = ⊥
+
+abbrev OfDrill : (ℕ → Type 0) → Option Command → Type 0
+OfDrill P (Some (Drill number)) = P number
+OfDrill P _ = ⊥
 
 pub returns-in-Some-Import-clause-imports : goal.returns-in-Some-Import-clause-imports
 returns-in-Some-Import-clause-imports g c image store over is =
@@ -55,3 +60,9 @@ returns-in-Some-Build-clause-builds g c kernel store is =
     let said : Some (Build arm.kernel.now arm.store.now) ≡ Some (Build kernel store) = sym (ap (λ (x : declared.Command). Some (command_view x)) arm.field-0-is) ∙ (arm.ensures ∙ is) in
     let old = c.args.host.now in
     subst (OfBuild (λ k s. BuildEnds g.H.Host (bytes_of (g.H.Host.files old k)) s old c.build.new.host c.build.result)) said c.build.ensures.ends
+
+pub returns-in-Some-Drill-clause-drills : goal.returns-in-Some-Drill-clause-drills
+returns-in-Some-Drill-clause-drills g c n is =
+    let arm = c.in-Some-Drill in
+    let said : Some (Drill arm.number) ≡ Some (Drill n) = sym (ap (λ (x : declared.Command). Some (command_view x)) arm.field-0-is) ∙ (arm.ensures ∙ is) in
+    subst (OfDrill (λ m. DrillEnds g.H.Host m c.args.host.now c.drill.new.host c.drill.result)) said c.drill.ensures.ends

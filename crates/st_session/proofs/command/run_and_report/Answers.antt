@@ -1,23 +1,12 @@
-use Rattle.std.proofs.Common.{◌≡◌, List, ℕ, [], OnOk, Ok, Err, refl}
-use Rattle.std.specs.Prelude.{Result, IsErr}
-use Rattle.st_outside.specs.declared.host.Host.{Ghosts}
-use Rattle.st_outside.specs.declared.host.SayFault.{SayFault}
+use Rattle.std.proofs.Common.{refl}
 use Rattle.st_outside.specs.Runs.{SaysAll}
 use Rattle.st_outside.proofs.Rising.{cause_after}
 use Rattle.st_model.specs.Text.{state_text}
-use Rattle.st_report.specs.Saying.{Pushes}
-use Rattle.st_report.proofs.Pushing.{pushed_all, pushed_says, pushed_part}
+use Rattle.st_report.proofs.Pushing.{pushed_says, pushed_part}
 use Rattle.st_session.specs.Reports.{run_text}
 use Rattle.st_session.proofs.Points.{shown_births}
+use Rattle.st_session.proofs.Reported.{none_said, all_said}
 use Rattle.st_session.proofs.command.run_and_report.Goals as goal
-
-none_said : (A : Type 0) (r : Result Unit SayFault) → IsErr r → OnOk r A
-none_said A (Ok x) err = cc
-none_said A (Err x) err = tt
-
-all_said : {D : Type 0} {host : Ghosts D} {t p q : List ℕ} {old mid : D} (new : D) (r : Result Unit SayFault) → p ≡ [] → Pushes {E = SayFault} host t old mid p q (Ok tt) → OnOk r (SaysAll host q mid new) → OnOk r (SaysAll host t old new)
-all_said new (Ok x) empty run all = pushed_all empty run all
-all_said new (Err x) empty run all = tt
 
 pub returns-in_err-push_report-clause-all : goal.returns-in_err-push_report-clause-all
 returns-in_err-push_report-clause-all g c = λ s h. none_said (SaysAll g.H.Host (run_text state_text c.args.cycles s) c.args.host.now c.push_report.new.host) c.from_residual.result c.from_residual.ensures.0
