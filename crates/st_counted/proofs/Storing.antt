@@ -1,5 +1,5 @@
 -- Counts while something is stored, held or made.
-use Rattle.std.proofs.Common.{◌≡◌, ℕ, zero, suc, ◌+◌, ◌/◌, ◌<◌, ◌≤◌, true, false, cond, List, [], ◌∷◌, ◌++◌, length, drop, get_or, replicate, set, refl, sym, ap, ◌∙◌, subst, is_some, arith}
+use Rattle.std.proofs.Common.{◌≡◌, ◌≢◌, ℕ, zero, suc, ◌+◌, ◌/◌, ◌<◌, ◌≤◌, true, false, cond, List, [], ◌∷◌, ◌++◌, length, drop, get_or, replicate, set, refl, sym, ap, ◌∙◌, subst, is_some, arith}
 use Rattle.std.specs.Prelude.{◌==◌, Option, Some, slice_get}
 use Rattle.std.proofs.lemmas.Option.{get_or_from_slice_get}
 use Rattle.st_model.specs.declared.kind.Kind.{Kind}
@@ -8,13 +8,14 @@ use Rattle.std.proofs.lemmas.List.{length-replicate}
 use Rattle.st_model.specs.Values.{Value, Small, Ref, value_of, is_small}
 use Rattle.st_model.specs.Objects.{nil}
 use Rattle.st_model.specs.Formed.{fresh, IsMakeable}
+use Rattle.st_model.specs.Settled.{names}
 use Rattle.st_model.specs.Table.{Table, entry, first_free, placed}
 use Rattle.st_model.specs.View.{View, is_live, object_of, with_stored, IsKnown}
 use Rattle.st_model.proofs.Pointers.{value_of-even}
 use Rattle.st_model.proofs.TableLemmas.{first_free-none}
-use Rattle.st_counts.specs.Counts.{is_counted, raised}
+use Rattle.st_counts.specs.Counts.{is_counted, number_at, raised, lowered}
 use Rattle.st_counted.specs.References.{all_roots, nils_of, references, IsCounted, raised_by, lowered_by}
-use Rattle.st_counted.proofs.Tallying.{test_other, counted_raised, counted_lowered, tally_entered}
+use Rattle.st_counted.proofs.Tallying.{test_same, test_other, times_replicate, hand_known, live_known, counted_raised, counted_lowered, counted_less, counted_alike, tally_entered, tally_number}
 use Rattle.st_counted.proofs.Referring.{counted_stored, counted_placed, uses_fresh}
 
 pub nil_is : value_of 2 ≡ nil
@@ -74,6 +75,39 @@ dropped_all [] n h = nothing n
     nothing (suc m) = refl
 dropped_all (x ∷ xs) zero h = absurd (omega (arith, h))
 dropped_all (x ∷ xs) (suc n) h = dropped_all xs n (omega (arith, h))
+
+-- it comes before nil that was met
+pub taken_in_hand : (t : Table) (roots : List Value) (cs : List (Option ℕ)) (nils : ℕ) (xs : List Value) (i : ℕ) (x : Value) → i < length xs → slice_get xs i ≡ Some x
+    → IsCounted t roots (replicate nils nil ++ drop i xs) cs → IsCounted t roots (x ∷ (replicate nils nil ++ drop (i + 1) xs)) cs
+taken_in_hand t roots cs nils xs i x within is h =
+    counted_alike t t roots roots (replicate nils nil ++ (x ∷ drop (i + 1) xs)) (x ∷ (replicate nils nil ++ drop (i + 1) xs)) cs
+    (subst (λ ys. IsCounted t roots (replicate nils nil ++ ys) cs) (next_in_hand xs i x within is) h) (λ k. refl)
+    (λ k. let a = times_replicate k nils nil (x ∷ drop (i + 1) xs) in let b = times_replicate k nils nil (drop (i + 1) xs) in omega (arith, a, b))
+
+-- nil is met once more
+pub nil_more : (t : Table) (roots : List Value) (cs : List (Option ℕ)) (nils : ℕ) (hand : List Value) (x : Value) → x ≡ nil → IsCounted t roots (x ∷ (replicate nils nil ++ hand)) cs → IsCounted t roots (replicate (nils + 1) nil ++ hand) cs
+nil_more t roots cs nils hand x is h =
+    let e : suc nils ≡ nils + 1 = omega arith in
+    subst (λ n. IsCounted t roots (replicate n nil ++ hand) cs) e (subst (λ y. IsCounted t roots (y ∷ (replicate nils nil ++ hand)) cs) is h)
+
+-- where nil is in hand, it is counted as often at least
+module _ (t : Table) (roots : List Value) (cs : List (Option ℕ)) where
+  nil_there : (n : ℕ) → n ≢ 0 → IsCounted t roots (replicate n nil ++ []) cs → IsKnown t nil
+  nil_there zero some h = absurd (some refl)
+  nil_there (suc n) some h = hand_known t roots (replicate n nil ++ []) cs nil h
+
+  pub nils_counted : (n : ℕ) → n ≢ 0 → IsCounted t roots (replicate n nil ++ []) cs → is_counted cs 1 ≡ true
+  nils_counted n some h = tally_entered t (references t roots (replicate n nil ++ [])) cs h.tallied 1 ∙ live_known t 1 (nil_there n some h)
+
+  pub nils_few : (n : ℕ) → n ≢ 0 → IsCounted t roots (replicate n nil ++ []) cs → n ≤ number_at cs 1
+  nils_few n some h =
+      let is = tally_number t (references t roots (replicate n nil ++ [])) cs 1 h.tallied (live_known t 1 (nil_there n some h)) in
+      let all = times_replicate 1 n nil [] in
+      let one : cond (names nil 1) n 0 ≡ n = ap (λ b. cond b n 0) (test_same 1) in
+      omega (arith, is, all, one)
+
+  pub without_nils : (n : ℕ) → n ≢ 0 → IsCounted t roots (replicate n nil ++ []) cs → IsCounted t roots [] (lowered cs 1 n)
+  without_nils n some h = counted_less t roots [] cs 1 n h (nil_there n some h)
 
 pub with_nils : (t : Table) (roots hand : List Value) (cs cs1 : List (Option ℕ)) (n : ℕ) → IsCounted t roots hand cs → IsKnown t nil → cs1 ≡ cond (n == 0) cs (raised cs 1 n) → IsCounted t roots (replicate n nil ++ hand) cs1
 with_nils t roots hand cs cs1 zero h known e = subst (λ ns. IsCounted t roots hand ns) (sym e) h

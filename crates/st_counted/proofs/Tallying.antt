@@ -88,15 +88,18 @@ tally_raised t f cs (Ref k) by h known =
     (ap (λ b. cond b by 0 + f k) (test_same k) ∙ omega (arith, is))
     (λ j ne. ap (λ b. cond b by 0 + f j) (test_other j k ne) ∙ omega arith)
 
+pub tally_less : (t : Table) (f : ℕ → ℕ) (cs : List (Option ℕ)) (k by : ℕ) → IsTallied t (λ j. cond (names (Ref k) j) by 0 + f j) cs → IsKnown t (Ref k) → IsTallied t f (lowered cs k by)
+tally_less t f cs k by h known =
+    let live = live_known t k known in
+    let g : ℕ → ℕ = λ j. cond (j == k) by 0 + f j in
+    let is : number_at cs k ≡ g k = tally_number t g cs k h live in
+    let all : g k ≡ by + f k = ap (λ b. cond b by 0 + f k) (test_same k) in
+    tally_set t g f cs k (number_at cs k - by) h live (omega (arith, is, all))
+    (λ j ne. let none : g j ≡ f j = ap (λ b. cond b by 0 + f j) (test_other j k ne) ∙ omega arith in sym none)
+
 pub tally_lowered : (t : Table) (f : ℕ → ℕ) (cs : List (Option ℕ)) (v : Value) → IsTallied t (λ j. cond (names v j) 1 0 + f j) cs → IsKnown t v → IsTallied t f (lowered_by cs v)
 tally_lowered t f cs (Small n) h known = tally_same t _ f cs h (λ j. omega arith)
-tally_lowered t f cs (Ref k) h known =
-    let live = live_known t k known in
-    let g : ℕ → ℕ = λ j. cond (j == k) 1 0 + f j in
-    let is : number_at cs k ≡ g k = tally_number t g cs k h live in
-    let one : g k ≡ 1 + f k = ap (λ b. cond b 1 0 + f k) (test_same k) in
-    tally_set t g f cs k (number_at cs k - 1) h live (omega (arith, is, one))
-    (λ j ne. let none : g j ≡ f j = ap (λ b. cond b 1 0 + f j) (test_other j k ne) ∙ omega arith in sym none)
+tally_lowered t f cs (Ref k) h known = tally_less t f cs k 1 h known
 
 -- what names nothing dead isn't the name of something dead
 pub known_other : (t : Table) (v : Value) (k : ℕ) → IsKnown t v → is_some (entry t k) ≡ false → names v k ≡ false
@@ -143,6 +146,13 @@ module _ (t : Table) (roots : List Value) where
     closed = λ k dead. let a = h.closed k dead in omega (arith, a);
   }
 
+  -- many less
+  pub counted_less : (hand : List Value) (cs : List (Option ℕ)) (k n : ℕ) → IsCounted t roots (replicate n (Ref k) ++ hand) cs → IsKnown t (Ref k) → IsCounted t roots hand (lowered cs k n)
+  counted_less hand cs k n h known = record {
+    tallied = tally_less t (references t roots hand) cs k n (tally_same t (references t roots (replicate n (Ref k) ++ hand)) _ cs h.tallied (λ j. let s = times_replicate j n (Ref k) hand in omega (arith, s))) known;
+    closed = λ j dead. let a = h.closed j dead in let s = times_replicate j n (Ref k) hand in omega (arith, a, s);
+  }
+
   -- what the first word in hand names is counted, by one at least
   pub hand_counted : (hand : List Value) (cs : List (Option ℕ)) (w : ℕ) → IsCounted t roots (value_of w ∷ hand) cs → is_small (value_of w) ≡ false → is_counted cs (w / 2) ≡ true
   hand_counted hand cs w h some =
@@ -180,5 +190,5 @@ pub lowered_small : (cs : List (Option ℕ)) (v : Value) → is_small v ≡ true
 lowered_small cs (Small x) h = refl
 lowered_small cs (Ref k) h = cc
 
-pub lowered_even : (cs : List (Option ℕ)) (w : ℕ) → is_small (value_of w) ≡ false → lowered_by cs (value_of w) ≡ lowered cs (w / 2)
+pub lowered_even : (cs : List (Option ℕ)) (w : ℕ) → is_small (value_of w) ≡ false → lowered_by cs (value_of w) ≡ lowered cs (w / 2) 1
 lowered_even cs w h = ap (lowered_by cs) (value_of-even w h)

@@ -60,7 +60,7 @@ raised_by numbers (Ref k) by = raised numbers k by
 -- one reference less to what a value names
 abbrev pub lowered_by : List (Option ℕ) → Value → List (Option ℕ)
 lowered_by numbers (Small n) = numbers
-lowered_by numbers (Ref k) = lowered numbers k
+lowered_by numbers (Ref k) = lowered numbers k 1
 
 -- each object is counted, and nothing else is
 abbrev pub IsEntered : Table → List (Option ℕ) → Type 0

@@ -76,13 +76,14 @@ impl Contents {
         ensures counted { AllCounted self.new }
         ensures room { HasRoom self.old → HasRoom self.new }
     {
-        raise(&mut self.counts, v, 1);
         let old = self.objects.field(o, at);
         self.objects.set_field(o, at, v);
+        raise(&mut self.counts, v, 1);
         lower(&mut self.counts, old);
     }
 
     /// Holds o at a place; nil clears it.
+    #[inline(always)]
     pub fn hold(&mut self, place: RootPlace, o: Oop)
         requires whole { IsWhole (counted_view self.old) }
         requires counted { AllCounted self.old }
@@ -147,7 +148,8 @@ impl Contents {
         self.objects.remove(o);
     }
 
-    /// Counts what stands in the fields of an object that is about to go no more.
+    /// Counts what stands in the fields of an object that is about to go no more; nil, which stands in most fields of a
+    /// context, at once for all of them.
     fn lower_fields(&mut self, o: Oop)
         requires live { is_live (counted_view self.old).objects (value o) ≡ true }
         requires counted { let v = counted_view self.old in
@@ -157,9 +159,17 @@ impl Contents {
             IsCounted (slice_set v.objects (place_at o) None) (all_roots v) [] (numbers_of self.new) }
         ensures rest { self.new ≡ record self.old { counts = self.new.counts } }
     {
+        let mut nils = 0;
         for i in 0..self.objects.count_fields(o) {
             let v = self.objects.field(o, i);
-            lower(&mut self.counts, v);
+            if v.0 == Oop::NIL.0 {
+                nils += 1;
+            } else {
+                lower(&mut self.counts, v);
+            }
+        }
+        if nils > 0 {
+            self.counts.lower(1, nils);
         }
     }
 

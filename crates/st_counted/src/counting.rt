@@ -17,6 +17,7 @@ pub fn pointer_of(k: usize) -> Oop
 }
 
 /// Counts so many references more to what a word names, at least one; a SmallInteger names nothing.
+#[inline(always)]
 pub fn raise(counts: &mut Counts, v: Oop, by: u32)
     requires some { 0 < by }
     requires counted { is_small (value v) ≡ false → is_counted (counts_of counts.old) (place v) ≡ true }
@@ -29,12 +30,13 @@ pub fn raise(counts: &mut Counts, v: Oop, by: u32)
 }
 
 /// Counts one reference less to what a word names; a SmallInteger names nothing.
+#[inline(always)]
 pub fn lower(counts: &mut Counts, v: Oop)
     requires counted { is_small (value v) ≡ false → is_counted (counts_of counts.old) (place v) ≡ true }
     requires some { is_small (value v) ≡ false → number_at (counts_of counts.old) (place v) ≢ 0 }
     ensures { counts_of counts.new ≡ lowered_by (counts_of counts.old) (value v) }
 {
     if !v.is_small() {
-        counts.lower(usize::from(v.0 / 2));
+        counts.lower(usize::from(v.0 / 2), 1);
     }
 }

@@ -1,5 +1,5 @@
 ghost use Rattle.std.specs.Prelude.{◌≡◌};
-ghost use Rattle.st_model.specs.View.{IsWhole};
+ghost use Rattle.st_model.specs.View.{IsWhole, SettlesTo};
 ghost use Rattle.st_model.specs.Props.{IsWhole-prop};
 ghost use Rattle.st_counted.specs.Counted.{counted_view, HasRoom, AllCounted};
 
@@ -25,6 +25,16 @@ impl CountedMemory {
         ensures { result.contents ≡ contents }
     {
         CountedMemory { contents }
+    }
+
+    /// Takes away one object after the other to which nothing refers.
+    #[inline(never)]
+    fn drop_unused(&mut self)
+        ensures { SettlesTo (counted_view self.old.contents) (counted_view self.new.contents) }
+    {
+        while let Some(k) = self.contents.counts.first_unused() {
+            self.contents.drop_object(k);
+        }
     }
 }
 
@@ -103,13 +113,16 @@ impl Memory for CountedMemory {
         self.contents.roots.held(place)
     }
 
+    #[inline(always)]
     fn hold(&mut self, place: RootPlace, o: Oop) {
         self.contents.hold(place, o);
     }
 
+    #[inline(always)]
     fn settle(&mut self) {
-        while let Some(k) = self.contents.counts.first_unused() {
-            self.contents.drop_object(k);
+        match self.contents.counts.first_unused() {
+            Some(_) => self.drop_unused(),
+            None => {}
         }
     }
 

@@ -65,6 +65,7 @@ impl Places {
     };
 
     /// The places with o in one of them; the pending signals are not among them.
+    #[inline(always)]
     fn with(self, place: RootPlace, o: Oop) -> Places
         requires { IsSinglePlace place }
         ensures { (pending : List Oop) → held_words result pending
@@ -140,6 +141,7 @@ impl Roots {
     }
 
     /// What is held at a place.
+    #[inline(always)]
     pub fn held(&self, place: RootPlace) -> Oop
         requires { IsPlace place }
         ensures { value result ≡ held_at (held_of self.now) place }
@@ -160,6 +162,7 @@ impl Roots {
     }
 
     /// Holds o at a place.
+    #[inline(always)]
     pub fn hold(&mut self, place: RootPlace, o: Oop)
         requires { IsPlace place }
         ensures { held_of self.new ≡ with_held (held_of self.old) place (value o) }

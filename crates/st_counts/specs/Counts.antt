@@ -23,6 +23,6 @@ is_unused cs k = is_zero (count_at cs k)
 abbrev pub raised : List (Option ℕ) → ℕ → ℕ → List (Option ℕ)
 raised cs k by = slice_set cs k (Some (number_at cs k + by))
 
--- one reference to a place less
-abbrev pub lowered : List (Option ℕ) → ℕ → List (Option ℕ)
-lowered cs k = slice_set cs k (Some (number_at cs k - 1))
+-- so many references to a place less
+abbrev pub lowered : List (Option ℕ) → ℕ → ℕ → List (Option ℕ)
+lowered cs k by = slice_set cs k (Some (number_at cs k - by))

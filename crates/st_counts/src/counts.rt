@@ -1,4 +1,4 @@
-ghost use Rattle.std.specs.Prelude.{◌≡◌, ◌≢◌, ◌<◌, ◌+◌, ℕ, length, replicate, true, false, Some, None, slice_set, IfOk, IfSome, IfNone};
+ghost use Rattle.std.specs.Prelude.{◌≡◌, ◌≢◌, ◌<◌, ◌≤◌, ◌+◌, ℕ, length, replicate, true, false, Some, None, slice_set, IfOk, IfSome, IfNone};
 ghost use Rattle.st_counts.specs.Links.{Holds, IsWithin};
 ghost use Rattle.st_counts.specs.Counts.{count_at, is_counted, number_at, is_unused, raised, lowered};
 
@@ -61,6 +61,7 @@ impl Counts {
     }
 
     /// Counts so many references to a place more, at least one.
+    #[inline(always)]
     pub fn raise(&mut self, k: usize, by: u32)
         requires counted { is_counted (counts_of self.old) k ≡ true }
         requires some { 0 < by }
@@ -74,13 +75,15 @@ impl Counts {
         }
     }
 
-    /// Counts one reference to a place less.
-    pub fn lower(&mut self, k: usize)
+    /// Counts so many references to a place less, at least one and no more than there are.
+    #[inline(always)]
+    pub fn lower(&mut self, k: usize, by: u32)
         requires counted { is_counted (counts_of self.old) k ≡ true }
-        requires some { number_at (counts_of self.old) k ≢ 0 }
-        ensures { counts_of self.new ≡ lowered (counts_of self.old) k }
+        requires some { 0 < by }
+        requires most { by ≤ number_at (counts_of self.old) k }
+        ensures { counts_of self.new ≡ lowered (counts_of self.old) k by }
     {
-        let count = self.count(k) - 1;
+        let count = self.count(k) - by;
         self.counts[k] = Some(count);
         if count == 0 {
             self.zeros.link(k);

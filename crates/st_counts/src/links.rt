@@ -32,6 +32,7 @@ impl Links {
     }
 
     /// Puts a place that is not in the list at its head.
+    #[inline(never)]
     pub fn link(&mut self, k: usize)
         requires within { IsWithin self.old }
         requires place { k < length self.old.next.items }
@@ -49,6 +50,7 @@ impl Links {
     }
 
     /// Takes a place that is in the list out of it.
+    #[inline(never)]
     pub fn unlink(&mut self, k: usize)
         requires within { IsWithin self.old }
         requires place { k < length self.old.next.items }

@@ -16,10 +16,10 @@ use Rattle.st_model.proofs.Runs.{run-then, run-next, after-went, after-died, run
 use Rattle.st_frames.specs.declared.frame.Frame.{Frame}
 use Rattle.st_frames.specs.declared.registers.Registers.{Registers as Words}
 use Rattle.st_frames.specs.Rows.{row_state, registers_in}
-use Rattle.st_frames.specs.Shown.{registers_of, shown, FetchesFrame}
-use Rattle.st_image.specs.Back.{CanStart}
+use Rattle.st_frames.specs.Shown.{IsReady, registers_of, shown, FetchesFrame}
 use Rattle.st_declarations.specs.Parts.{Start}
 use Rattle.st_kernel.specs.Starting.{global_value, method_of, in_new_process, fetch_if, begin_by}
+use Rattle.st_kernel.specs.Built.{IsBegun}
 use Rattle.st_kernel.specs.Following.{idle_frame, Ends}
 
 pub died : (o : Transition (State Table) Bool) (k : Dead) (r : Result Bool Dead) (v : View) → o ≡ Died k → r ≡ Err k → Ends o r v
@@ -77,10 +77,10 @@ module _ (v : View) (s : Start) where
 pub fetched_idle : (old new : View) (f : Frame) → FetchesFrame (fetch_scheduled_registers table) old (Ok f) new → (fetch_scheduled_registers table).run (idle_state old) ≡ Went tt (shown new f (empty_world nil))
 fetched_idle old new f h = h idle_registers (empty_world nil)
 
-pub starts_again : (old new : View) (f : Frame) → new.objects ≡ old.objects → new.head ≡ old.head → FetchesFrame (fetch_scheduled_registers table) old (Ok f) new → CanStart new
-starts_again old new f objects head h =
+pub begun_again : (old new : View) (f : Frame) → new.objects ≡ old.objects → new.head ≡ old.head → IsReady new f (empty_world nil) → FetchesFrame (fetch_scheduled_registers table) old (Ok f) new → IsBegun new
+begun_again old new f objects head ready h =
     let idle : idle_state new ≡ idle_state old = λ i. record { memory = objects i; registers = idle_registers; world = empty_world nil; head = head i } in
-    (shown new f (empty_world nil), ap (fetch_scheduled_registers table).run idle ∙ fetched_idle old new f h)
+    record { frame = f; held = ready; fetched = ap (fetch_scheduled_registers table).run idle ∙ fetched_idle old new f h }
 
 pub lost_idle : (old new : View) (k : Dead) → FetchesFrame (fetch_scheduled_registers table) old (Err k) new → (fetch_scheduled_registers table).run (idle_state old) ≡ Died k
 lost_idle old new k h = h idle_registers (empty_world nil)

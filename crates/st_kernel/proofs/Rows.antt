@@ -96,12 +96,17 @@ wrong_behind : (s : State Births) → built_from accepts (Some Form) 20 s no_sid
 unfolding built_from accepts of_point
 wrong_behind s = refl
 
-no_room_at_group : without_room None 1 (point ∷ global (codes "S") ∷ opening ∷ []) ≡ fault_at 3 7
-unfolding without_room point
+-- the group of the first method is the second one
+no_room_at_group : without_room None 0 1 (point ∷ opening ∷ of_point ∷ closing ∷ opening ∷ of_point ∷ method (codes "x ^1") ∷ []) ≡ fault_at 5 7
+unfolding without_room point of_point
 no_room_at_group = refl
 
-no_method_at_start : without_room None 1 (point ∷ begins ∷ []) ≡ fault_at 2 6
-unfolding without_room point begins
+wrong_without_methods : without_room (Some Form) 0 1 (point ∷ opening ∷ of_point ∷ []) ≡ fault_at 4 1
+unfolding without_room point of_point
+wrong_without_methods = refl
+
+no_method_at_start : without_room None 0 1 (point ∷ opening ∷ of_point ∷ closing ∷ begins ∷ []) ≡ fault_at 5 6
+unfolding without_room point of_point begins
 no_method_at_start = refl
 
 either : (b : Bool) (x : Result Built Fault) → (if b then x else x) ≡ x

@@ -60,7 +60,7 @@ module _ (install : Install) (a : Account) where
   otherwise false x y e = refl
 
   pub with_room : (text : List _) → a ≡ account text → has_room a.parts ≡ true → followed ≡ built install text
-  with_room text is room = sym (chosen (has_room a.parts) followed (without_room a.cause 1 a.parts) room) ∙ ap (built_by install) is
+  with_room text is room = sym (chosen (has_room a.parts) followed (without_room a.cause 0 1 a.parts) room) ∙ ap (built_by install) is
 
-  pub roomless : (text : List _) → a ≡ account text → has_room a.parts ≡ false → without_room a.cause 1 a.parts ≡ built install text
-  roomless text is room = sym (otherwise (has_room a.parts) followed (without_room a.cause 1 a.parts) room) ∙ ap (built_by install) is
+  pub roomless : (text : List _) → a ≡ account text → has_room a.parts ≡ false → without_room a.cause 0 1 a.parts ≡ built install text
+  roomless text is room = sym (otherwise (has_room a.parts) followed (without_room a.cause 0 1 a.parts) room) ∙ ap (built_by install) is

@@ -1,11 +1,15 @@
 -- The image of a kernel text, or the first chunk at which it is wrong.
 use Rattle.std.specs.Prelude.{◌≡◌, ⊤, ℕ, ◌+◌, List, [], ◌∷◌, Bool, true, false, Option, Some, None, Result, Ok, Err, if◌then◌else◌}
-use Rattle.st_model.specs.Machine.{Head, State, Transition, Died, Went}
+use Rattle.st_model.specs.Machine.{Head, State, Transition, Died, Went, empty_world}
 use Rattle.st_model.specs.Births.{Births}
-use Rattle.st_model.specs.Table.{Table}
+use Rattle.st_model.specs.Objects.{nil}
+use Rattle.st_model.specs.Table.{Table, table}
+use Rattle.st_model.specs.Contexts.{fetch_scheduled_registers}
 use Rattle.st_model.specs.Show.{show, raised}
 use Rattle.st_model.specs.View.{View}
 use Rattle.st_model.specs.Start.{idle_state}
+use Rattle.st_frames.specs.declared.frame.Frame.{Frame}
+use Rattle.st_frames.specs.Shown.{IsReady, shown}
 use Rattle.st_declarations.specs.declared.cause.Cause.{Cause}
 use Rattle.st_declarations.specs.declared.cause.Cause.TheVariants.{Form, Name, Variables, Missing}
 use Rattle.st_declarations.specs.Parts.{Side, Start, Part, class, pool, global, opening, header, method, closing, start}
@@ -87,20 +91,21 @@ built_from install cause n s side (start first ∷ parts) = finished (n + 1) cau
 abbrev pub no_side : Side
 no_side = record { class = []; meta = false }
 
--- The same where the first objects have no room. They are to have room where the first group opens. A text without a group has no
--- method that its start could find.
-unfoldable pub without_room : Option Cause → (chunk : ℕ) → List Part → Result Built Fault
-without_room cause n [] = unfinished n cause
-without_room cause n (opening ∷ parts) = fault_at n 7
-without_room cause n (start first ∷ parts) = fault_at n 6
-without_room cause n (declaring ∷ parts) = without_room cause (n + 1) parts
+-- The same where the first objects have no room, behind the chunk that opened the last group. They are to have room where the group of
+-- the first method opens. A text without a method has none that its start could find.
+unfoldable pub without_room : Option Cause → (opened chunk : ℕ) → List Part → Result Built Fault
+without_room cause opened n [] = unfinished n cause
+without_room cause opened n (opening ∷ parts) = without_room cause n (n + 1) parts
+without_room cause opened n (method text ∷ parts) = fault_at opened 7
+without_room cause opened n (start first ∷ parts) = fault_at n 6
+without_room cause opened n (part ∷ parts) = without_room cause opened (n + 1) parts
 
 -- the objects that the declarations make are the first births
 abbrev pub built_by : Install → Account → Result Built Fault
 built_by install a =
     if has_room a.parts
     then built_from install a.cause 1 (raised (idle_state (first_view a.parts))) no_side a.parts
-    else without_room a.cause 1 a.parts
+    else without_room a.cause 0 1 a.parts
 
 abbrev pub built : Install → (text : List ℕ) → Result Built Fault
 built install text = built_by install (account text)
@@ -110,6 +115,12 @@ built install text = built_by install (account text)
 -- what a memory contains is the image
 abbrev pub IsBuilt : Result Built Fault → View → Type 0
 IsBuilt r v = (b : Built) × (r ≡ Ok b) × (v.objects ≡ b.objects) × (v.head ≡ b.head)
+
+-- A machine can begin: nothing is held but registers, and these are the ones that are fetched from the first process.
+pub record IsBegun (v : View) : Type 0 where
+  pub frame : Frame
+  pub held : IsReady v frame (empty_world nil)
+  pub fetched : (fetch_scheduled_registers table).run (idle_state v) ≡ Went tt (shown v frame (empty_world nil))
 
 abbrev pub IsFaultOf : Result Built Fault → KernelFault → Type 0
 IsFaultOf r (At chunk cause) = r ≡ Err (record { chunk = chunk; cause = cause })

@@ -3,11 +3,10 @@ ghost use Rattle.std.specs.Prelude.{◌≡◌, ◌+◌, true, Ok, Option, Result
 ghost use Rattle.st_model.specs.Objects.{nil};
 ghost use Rattle.st_model.specs.Machine.{empty_world};
 ghost use Rattle.st_model.specs.Start.{idle_state};
-ghost use Rattle.st_image.specs.Back.{CanStart};
-ghost use Rattle.st_frames.specs.Shown.{IsFrame};
 ghost use Rattle.st_declarations.specs.Views.{start_of};
 ghost use Rattle.st_kernel.specs.Starting.{begin_by};
-ghost use Rattle.st_kernel.specs.Following.{idle_frame, Ends};
+ghost use Rattle.st_kernel.specs.Built.{IsBegun};
+ghost use Rattle.st_kernel.specs.Following.{IsQuiet, Ends};
 
 use crate::finding::{global_value, method_of};
 use crate::scheduling::{Run, in_new_process};
@@ -30,11 +29,11 @@ const IDLE: Frame = Frame {
 /// Begins the first process by a start, in an empty world, and fetches the registers from it, or says that there is no room for it
 /// and its context. Dead where anything that is asked for isn't there.
 pub(crate) fn begin<M: Memory>(m: &mut M, world: &World, start: &Start) -> Result<bool, Dead>
-    requires frame { IsFrame (M.view m.old) idle_frame }
+    requires quiet { IsQuiet (M.view m.old) }
     requires world { world.now ≡ empty_world nil }
     ensures begins { let v = M.view m.old in
         Ends ((begin_by v.head (start_of start.now)).run (idle_state v)) result (M.view m.new) }
-    ensures starts { result ≡ Ok true → CanStart (M.view m.new) }
+    ensures begun { result ≡ Ok true → IsBegun (M.view m.new) }
 {
     let receiver = global_value(m, &start.receiver)?;
     let method = method_of(m, receiver, &start.selector)?;

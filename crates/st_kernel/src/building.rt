@@ -1,10 +1,10 @@
 // The image of a kernel text.
-ghost use Rattle.std.specs.Prelude.{◌≡◌, ◌≤◌, ◌+◌, ◌-◌, ◌^◌, ◌∷◌, ℕ, List, Option, length, IfOk, IfErr, MatchOption};
+ghost use Rattle.std.specs.Prelude.{◌≡◌, ◌≤◌, ◌+◌, ◌-◌, ◌^◌, ◌∷◌, List, Option, length, IfOk, IfErr, MatchResult};
 ghost use Rattle.st_image.specs.Back.{CanStart};
 ghost use Rattle.st_declarations.specs.declared.cause.Cause.{Cause as ACause};
 ghost use Rattle.st_declarations.specs.Parts.{Part as APart};
 ghost use Rattle.st_declarations.specs.Views.{part_of, parts_of};
-ghost use Rattle.st_kernel.specs.Built.{built, fault_at, without_room, IsBuilt, IsFaultOf};
+ghost use Rattle.st_kernel.specs.Built.{built, without_room, IsBuilt, IsBegun, IsFaultOf};
 
 use crate::fault::{KernelFault, unfinished};
 use crate::following::follow;
@@ -14,35 +14,41 @@ use st_installer::Installer;
 use st_memory::{Loader, Memory};
 use std::alloc::Global;
 
-/// The cause that stands at a part where the first objects have no room, if any does.
+/// The chunk that opened the last group, behind the part of a chunk, where the first objects have no room; or the fault of the text,
+/// where that is known at this part.
 #[tactic(auto, unfolding(crate::specs::Built::without_room))]
-fn cause_without_room(part: &Part) -> Option<u8>
-    ensures { (cause : Option ACause) (n : ℕ) (parts : List APart) → let all = part_of part.now ∷ parts in
-        MatchOption result (without_room cause n all ≡ without_room cause (n + 1) parts)
-        (λ k. without_room cause n all ≡ fault_at n k) }
+fn opened_behind(part: &Part, opened: u32, chunk: u32) -> Result<u32, KernelFault>
+    ensures { (cause : Option ACause) (parts : List APart)
+        → let whole = without_room cause opened chunk (part_of part.now ∷ parts) in
+        MatchResult result (λ last. whole ≡ without_room cause last (chunk + 1) parts) (IsFaultOf whole) }
 {
     match part {
-        Part::Opening => Some(7),
-        Part::Start(_) => Some(6),
-        Part::Class(_) => None,
-        Part::Pool(_) => None,
-        Part::Global(_) => None,
-        Part::Header(_) => None,
-        Part::Method(_) => None,
-        Part::Closing => None,
+        Part::Opening => Ok(chunk),
+        Part::Method(_) => Err(KernelFault::At {
+            chunk: opened,
+            cause: 7,
+        }),
+        Part::Start(_) => Err(KernelFault::At { chunk, cause: 6 }),
+        Part::Class(_) => Ok(opened),
+        Part::Pool(_) => Ok(opened),
+        Part::Global(_) => Ok(opened),
+        Part::Header(_) => Ok(opened),
+        Part::Closing => Ok(opened),
     }
 }
 
 /// The fault of a text whose first objects have no room.
 fn without_room(kernel: &Kernel) -> KernelFault
     requires { length kernel.now.parts.items ≤ 2 ^ 32 - 2 }
-    ensures { IsFaultOf (without_room kernel.now.cause 1 (parts_of kernel.now.parts.items)) result }
+    ensures { IsFaultOf (without_room kernel.now.cause 0 1 (parts_of kernel.now.parts.items)) result }
 {
+    let mut opened = 0;
     let mut chunk = 1;
     let mut rest = kernel.parts.as_slice();
     while let [part, later @ ..] = rest {
-        if let Some(cause) = cause_without_room(part) {
-            return KernelFault::At { chunk, cause };
+        match opened_behind(part, opened, chunk) {
+            Ok(last) => opened = last,
+            Err(fault) => return fault,
         }
         chunk += 1;
         rest = later;
@@ -50,11 +56,13 @@ fn without_room(kernel: &Kernel) -> KernelFault
     unfinished(chunk, kernel.cause)
 }
 
-/// Builds the image of a kernel text, as `specs/Built.antt` defines it: the memory of its objects, whose machine can start; or the
-/// first chunk that is wrong, counted from 1, with its least cause.
+/// Builds the image of a kernel text, as `specs/Built.antt` defines it: the memory of its objects, in which nothing is held but the
+/// registers of the first process, so `fetch_scheduled` finds these; or the first chunk that is wrong, counted from 1, with its least
+/// cause.
 pub fn build<I: Installer, L: Loader>(alloc: Global, text: &[u8]) -> Result<L::Done, KernelFault>
     requires short { length text.now ≤ 2 ^ 32 - 2 }
     ensures built { IfOk result (λ m. IsBuilt (built I.install text.now) (L.Done.view m)) }
+    ensures begun { IfOk result (λ m. IsBegun (L.Done.view m)) }
     ensures starts { IfOk result (λ m. CanStart (L.Done.view m)) }
     ensures refused { IfErr result (IsFaultOf (built I.install text.now)) }
 {

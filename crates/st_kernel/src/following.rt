@@ -1,12 +1,11 @@
 // Following a kernel text over the memory of its first objects.
 ghost use Rattle.std.specs.Prelude.{◌≡◌, ◌≤◌, ◌<◌, ◌-◌, ◌^◌, ◌∷◌, List, Result, IfOk, IfErr, length};
-ghost use Rattle.st_image.specs.Back.{CanStart};
 ghost use Rattle.st_declarations.specs.Parts.{Part as APart, start};
 ghost use Rattle.st_declarations.specs.Views.{start_of, parts_of};
 ghost use Rattle.st_installer.specs.Installing.{Install};
 ghost use Rattle.st_declarations.specs.Parts.{Side as ASide};
 ghost use Rattle.st_declarations.specs.Definitions.{AreDefinitions};
-ghost use Rattle.st_kernel.specs.Built.{Built, Fault, no_side, IsFaultOf};
+ghost use Rattle.st_kernel.specs.Built.{Built, Fault, no_side, IsBegun, IsFaultOf};
 ghost use Rattle.st_kernel.specs.Following.{side_in, IsUnderway, Finishes, IsQuiet};
 
 use crate::beginning::begin;
@@ -31,7 +30,7 @@ fn finish<M: Memory>(
     ensures finishes { (install : Install) (whole : Result Built Fault) (side : ASide) (parts : List APart)
         → IsUnderway install cause whole chunk side (start (start_of first.now) ∷ parts) (M.view m.old)
         → Finishes whole result (M.view m.new) }
-    ensures starts { IfOk result (λ u. CanStart (M.view m.new)) }
+    ensures begun { IfOk result (λ u. IsBegun (M.view m.new)) }
 {
     let world = World::new(alloc)?;
     match begin(m, &world, first) {
@@ -60,7 +59,7 @@ pub(crate) fn follow<I: Installer, M: Memory>(
         → IsUnderway I.install kernel.now.cause whole 1 no_side
         (parts_of kernel.now.parts.items) (M.view m.old)
         → Finishes whole result (M.view m.new) }
-    ensures starts { IfOk result (λ u. CanStart (M.view m.new)) }
+    ensures begun { IfOk result (λ u. IsBegun (M.view m.new)) }
 {
     let mut heading = Heading {
         class: &[],

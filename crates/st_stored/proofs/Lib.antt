@@ -4,6 +4,7 @@ pub mod Storing
 pub mod Stretches
 pub mod Forming
 pub mod Fresh
+mod Laying
 pub mod Living
 pub mod Changing
 pub mod Placing

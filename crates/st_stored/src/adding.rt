@@ -1,5 +1,5 @@
-ghost use Rattle.std.specs.Prelude.{◌≡◌, ◌+◌, ◌≤◌, ◌<◌, ◌/◌, ◌%◌, ℕ, Some, slice_set};
-ghost use Rattle.st_model.specs.Objects.{words_of};
+ghost use Rattle.std.specs.Prelude.{◌≡◌, ◌+◌, ◌≤◌, ◌<◌, ◌/◌, ◌%◌, ℕ, true, false, Some, slice_set};
+ghost use Rattle.st_model.specs.Objects.{words_of, is_method};
 ghost use Rattle.st_model.specs.Formed.{IsMakeable, fresh};
 ghost use Rattle.st_table.specs.Entries.{place};
 ghost use Rattle.st_stored.specs.Stored.{IsUnused, used_of};
@@ -8,6 +8,9 @@ ghost use Rattle.st_stored.specs.Forms.{object_from, IsSound};
 
 use crate::store::Store;
 use st_model::{Kind, Oop};
+
+/// How many words an object has at most whose words are written at once.
+const MOST: usize = 40;
 
 /// What a new object consists of.
 #[derive(Clone, Copy)]
@@ -92,6 +95,35 @@ impl Form {
         }
     }
 
+    /// Whether it has nothing but fields, and no more words than are written at once.
+    fn is_short(&self) -> bool
+        requires { IsForm self.now }
+        ensures plain { result ≡ true → is_method self.now.kind ≡ false }
+        ensures fields { result ≡ true → self.now.words ≡ 2 + self.now.fields }
+        ensures few { result ≡ true → self.now.words ≤ 40 }
+    {
+        !self.kind.is_method() && self.words == 2 + self.fields && self.words as usize <= MOST
+    }
+
+    /// Stores a new object that has nothing but fields, and few, under an unused pointer: its words are written at once.
+    fn store_fields(&self, store: &mut Store, at: Oop)
+        requires unused { IsUnused (stored_of store.old) at }
+        requires form { IsForm self.now }
+        requires room { (used_of (stored_of store.old)).words + self.now.words ≤ capacity_of store.old }
+        requires plain { is_method self.now.kind ≡ false }
+        requires fields { self.now.words ≡ 2 + self.now.fields }
+        requires few { self.now.words ≤ 40 }
+        ensures stored { stored_of store.new
+            ≡ slice_set (stored_of store.old) (place at) (Some (new_stored self.now)) }
+        ensures capacity { capacity_of store.new ≡ capacity_of store.old }
+    {
+        let mut words = [Oop::NIL.0; MOST];
+        words[0] = self.words as u16;
+        words[1] = self.class.0;
+        store.take(at, self.kind, self.odd, self.words);
+        store.write(at, 0, &words[..self.words as usize]);
+    }
+
     /// Stores a new object under an unused pointer.
     pub fn store(&self, store: &mut Store, at: Oop)
         requires unused { IsUnused (stored_of store.old) at }
@@ -101,6 +133,10 @@ impl Form {
             ≡ slice_set (stored_of store.old) (place at) (Some (new_stored self.now)) }
         ensures capacity { capacity_of store.new ≡ capacity_of store.old }
     {
+        if self.is_short() {
+            self.store_fields(store, at);
+            return;
+        }
         store.take(at, self.kind, self.odd, self.words);
         for i in 0..self.words {
             store.set_word(at, i, self.word(i));

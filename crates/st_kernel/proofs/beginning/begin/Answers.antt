@@ -3,9 +3,10 @@ use Rattle.st_model.specs.Machine.{Went, empty_world}
 use Rattle.st_model.specs.Values.{value}
 use Rattle.st_model.specs.Objects.{nil}
 use Rattle.st_model.specs.Start.{idle_state}
-use Rattle.st_frames.specs.Shown.{shown}
+use Rattle.st_model.specs.View.{View}
+use Rattle.st_frames.specs.Shown.{IsReady, shown}
 use Rattle.st_declarations.specs.Views.{start_of}
-use Rattle.st_kernel.proofs.Begun.{died, went, makes_row, no_receiver, no_method, no_class, no_process, no_room, no_registers, all_made, fetched_idle, lost_idle, starts_again}
+use Rattle.st_kernel.proofs.Begun.{died, went, makes_row, no_receiver, no_method, no_class, no_process, no_room, no_registers, all_made, fetched_idle, lost_idle, begun_again}
 use Rattle.st_kernel.proofs.beginning.begin.Goals as goal
 
 pub returns-in_err-receiver-clause-begins : goal.returns-in_err-receiver-clause-begins
@@ -95,8 +96,14 @@ returns-clause-begins g c =
     (made ∙ ap (λ b. Went b (idle_state u)) is_made)
     (fetched_idle u w c.in_ok-fetch_scheduled.field-0 c.in_ok-fetch_scheduled.ensures.registers)) refl refl
 
-pub returns-clause-starts : goal.returns-clause-starts
-returns-clause-starts g c = λ all.
+pub returns-clause-begun : goal.returns-clause-begun
+returns-clause-begun g c = λ all.
+    let v = g.M.Memory.view c.args.m.now in
     let u = g.M.Memory.view c.in_new_process.new.m in
     let w = g.M.Memory.view c.fetch_scheduled.new.m in
-    starts_again u w c.in_ok-fetch_scheduled.field-0 c.in_ok-fetch_scheduled.ensures.objects c.in_ok-fetch_scheduled.ensures.head c.in_ok-fetch_scheduled.ensures.registers
+    let stays = c.in_ok-fetch_scheduled.ensures.frame in
+    let ready : IsReady w c.in_ok-fetch_scheduled.field-0 (empty_world nil) = record {
+      frame = stays.frame;
+      devices = stays.devices ∙ (ap (λ (x : View). x.held.devices) c.in_ok-in_new_process.ensures.takes.fixed ∙ c.requires.quiet.devices);
+    } in
+    begun_again u w c.in_ok-fetch_scheduled.field-0 c.in_ok-fetch_scheduled.ensures.objects c.in_ok-fetch_scheduled.ensures.head ready c.in_ok-fetch_scheduled.ensures.registers

@@ -1,6 +1,9 @@
 use Rattle.std.proofs.Common.{rules, ◌≡◌, ◌∙◌, Err, length, subst, sym, ap, arith}
 use Rattle.std.specs.Prelude.{IfErr}
 use Rattle.std.proofs.Math.ListN.{length-map}
+use Rattle.st_model.specs.Objects.{nil}
+use Rattle.st_model.specs.Machine.{empty_world}
+use Rattle.st_frames.specs.Shown.{shown}
 use Rattle.st_declarations.specs.Definitions.{AreDefinitions}
 use Rattle.st_declarations.specs.Texts.{Account}
 use Rattle.st_declarations.specs.Views.{account_of, part_of, parts_of}
@@ -46,6 +49,11 @@ returns-in-Ok-clause-built g c =
     let room = sym (ap (λ ps. has_room (parts_of ps)) c.deref.ensures.value) ∙ c.in-Ok.ensures.room in
     let image = c.in_ok-follow-in-Ok.ensures.follows (followed install a) (first_underway install a v (g.met.L.Done.Memory.whole c.in-Ok.m) view) in
     subst (λ w. IsBuilt w (g.L.Done.Memory.view c.follow.new.m)) (with_room install a c.args.text.now c.in_ok-kernel.ensures room) image
+
+pub returns-in-Ok-clause-starts : goal.returns-in-Ok-clause-starts
+returns-in-Ok-clause-starts g c =
+    let begun = c.in_ok-follow-in-Ok.ensures.begun in
+    (shown (g.L.Done.Memory.view c.follow.new.m) begun.frame (empty_world nil), begun.fetched)
 
 pub without_room-requires : goal.without_room-requires
 without_room-requires g c =

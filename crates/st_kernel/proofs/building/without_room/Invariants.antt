@@ -7,7 +7,7 @@ use Rattle.st_kernel.proofs.building.without_room.Given as goal
 abbrev pub invariant-loop-rest : goal.invariant-loop-rest
 invariant-loop-rest l = record {
   few : l.chunk + length l.rest ≤ 2 ^ 32 - 1;
-  is : without_room l.fn.kernel.cause 1 (parts_of l.fn.kernel.parts.items) ≡ without_room l.fn.kernel.cause l.chunk (parts_of l.rest);
+  is : without_room l.fn.kernel.cause 0 1 (parts_of l.fn.kernel.parts.items) ≡ without_room l.fn.kernel.cause l.opened l.chunk (parts_of l.rest);
 }
 
 abbrev pub decreases-loop-rest : goal.decreases-loop-rest

@@ -4,9 +4,6 @@ use Rattle.st_kernel.specs.Built.{fault_at}
 use Rattle.st_kernel.proofs.Finishing.{dead_start, no_room_start, whole_start, longer_start}
 use Rattle.st_kernel.proofs.following.finish.Goals as goal
 
-pub begin-requires-clause-frame : goal.begin-requires-clause-frame
-begin-requires-clause-frame g c = c.requires.quiet.frame
-
 pub returns-in-Err-clause-finishes : goal.returns-in-Err-clause-finishes
 returns-in-Err-clause-finishes g c = λ install whole side parts u.
     dead_start install c.args.cause whole c.args.chunk side (start_of c.args.first.now) parts (g.M.Memory.view c.args.m.now) (g.met.M.Memory.whole c.args.m.now).places u

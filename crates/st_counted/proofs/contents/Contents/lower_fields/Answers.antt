@@ -1,9 +1,11 @@
-use Rattle.std.proofs.Common.{◌≡◌, ℕ, ◌+◌, ◌<◌, List, [], ◌∷◌, length, drop, true, refl, sym, ap, subst, arith}
-use Rattle.std.specs.Prelude.{Some, None, slice_get, slice_set}
-use Rattle.st_model.specs.Values.{Value, value}
+use Rattle.std.proofs.Common.{◌≡◌, ◌≢◌, ℕ, zero, suc, ◌+◌, ◌<◌, ◌≤◌, cond, List, [], ◌∷◌, ◌++◌, length, drop, replicate, true, refl, sym, ap, ◌∙◌, subst, arith}
+use Rattle.std.specs.Prelude.{Option, Some, None, slice_get, slice_set}
+use Rattle.st_model.specs.Values.{Value, Ref, value, value_of}
+use Rattle.st_model.specs.Objects.{nil}
 use Rattle.st_model.specs.Table.{Table}
-use Rattle.st_model.specs.View.{is_live, object_of}
+use Rattle.st_model.specs.View.{is_live, object_of, IsKnown}
 use Rattle.st_table.specs.Entries.{place}
+use Rattle.st_counts.specs.Counts.{is_counted, number_at}
 use Rattle.st_counts.specs.Contents.{counts_of}
 use Rattle.st_stored.specs.Tables.{objects_of}
 use Rattle.st_stored.specs.declared.objects.Objects.{Objects}
@@ -11,15 +13,16 @@ use Rattle.st_counted.specs.declared.contents.Contents.{Contents}
 use Rattle.st_counted.specs.References.{all_roots, IsCounted}
 use Rattle.st_counted.specs.Counted.{counted_view, numbers_of}
 use Rattle.st_counted.proofs.Tallying.{hand_counted, hand_some}
-use Rattle.st_counted.proofs.Storing.{lowered_to, next_in_hand, dropped_all}
+use Rattle.st_counted.proofs.Storing.{nil_is, lowered_to, dropped_all, taken_in_hand, nil_more, nils_counted, nils_few, without_nils}
 use Rattle.st_counted.proofs.contents.Contents.lower_fields.Goals as goal
+use Rattle.st_counted.proofs.contents.Contents.lower_fields.Goals.{then-v, else-v}
 
 -- the field that is read is the first in hand
-next_first : (m l : Contents) (t : Table) (o : Value) (roots : List Value) (i : ℕ) (x : Value) → l ≡ record m { counts = l.counts } → i < length (object_of (objects_of m.objects) o).fields → slice_get (object_of (objects_of l.objects) o).fields i ≡ Some x
-    → IsCounted t roots (drop i (object_of (objects_of m.objects) o).fields) (numbers_of l) → IsCounted t roots (x ∷ drop (i + 1) (object_of (objects_of m.objects) o).fields) (numbers_of l)
-next_first m l t o roots i x rest within is h =
+next_first : (m l : Contents) (t : Table) (o : Value) (roots : List Value) (nils i : ℕ) (x : Value) → l ≡ record m { counts = l.counts } → i < length (object_of (objects_of m.objects) o).fields → slice_get (object_of (objects_of l.objects) o).fields i ≡ Some x
+    → IsCounted t roots (replicate nils nil ++ drop i (object_of (objects_of m.objects) o).fields) (numbers_of l) → IsCounted t roots (x ∷ (replicate nils nil ++ drop (i + 1) (object_of (objects_of m.objects) o).fields)) (numbers_of l)
+next_first m l t o roots nils i x rest within is h =
     let there : slice_get (object_of (objects_of m.objects) o).fields i ≡ Some x = subst (λ (y : Objects). slice_get (object_of (objects_of y) o).fields i ≡ Some x) (ap (λ (y : Contents). y.objects) rest) is in
-    subst (λ xs. IsCounted t roots xs (numbers_of l)) (next_in_hand (object_of (objects_of m.objects) o).fields i x within there) h
+    taken_in_hand t roots (numbers_of l) nils (object_of (objects_of m.objects) o).fields i x within there h
 
 pub field-v-requires-clause-live : goal.field-v-requires-clause-live
 field-v-requires-clause-live c = subst (λ (m : Contents). is_live (objects_of m.objects) (value c.args.o) ≡ true) (sym c.loop-i.invariant.rest) c.requires.live
@@ -38,7 +41,7 @@ lower-requires-clause-counted c small =
     let i = c.loop-i.invariant in
     let count = c.count_fields-i-end.ensures in
     hand_counted t (all_roots v) _ (numbers_of c.loop-i.self) c.field-v.result.0
-    (next_first m c.loop-i.self t (value c.args.o) (all_roots v) c.loop-i.i (value c.field-v.result) i.rest (omega (arith, count)) c.field-v.ensures i.counted) small
+    (next_first m c.loop-i.self t (value c.args.o) (all_roots v) c.loop-i.nils c.loop-i.i (value c.field-v.result) i.rest (omega (arith, count)) c.field-v.ensures i.counted) small
 
 pub lower-requires-clause-some : goal.lower-requires-clause-some
 lower-requires-clause-some c small =
@@ -48,10 +51,10 @@ lower-requires-clause-some c small =
     let i = c.loop-i.invariant in
     let count = c.count_fields-i-end.ensures in
     hand_some t (all_roots v) _ (numbers_of c.loop-i.self) c.field-v.result.0
-    (next_first m c.loop-i.self t (value c.args.o) (all_roots v) c.loop-i.i (value c.field-v.result) i.rest (omega (arith, count)) c.field-v.ensures i.counted) small
+    (next_first m c.loop-i.self t (value c.args.o) (all_roots v) c.loop-i.nils c.loop-i.i (value c.field-v.result) i.rest (omega (arith, count)) c.field-v.ensures i.counted) small
 
 pub loop-i-init : goal.loop-i-init
-loop-i-init c = record { counted = c.requires.counted; rest = refl }
+loop-i-init c = record { counted = c.requires.counted; few = omega arith; rest = refl }
 
 pub loop-i-preserved : goal.loop-i-preserved
 loop-i-preserved c =
@@ -60,19 +63,74 @@ loop-i-preserved c =
     let t = slice_set v.objects (place c.args.o) None in
     let i = c.loop-i.invariant in
     let count = c.count_fields-i-end.ensures in
-    record {
-      counted = lowered_to t (all_roots v) (drop (c.loop-i.i + 1) (object_of v.objects (value c.args.o)).fields) (numbers_of c.loop-i.self) (counts_of c.lower.new.counts) (value c.field-v.result)
-          (next_first m c.loop-i.self t (value c.args.o) (all_roots v) c.loop-i.i (value c.field-v.result) i.rest (omega (arith, count)) c.field-v.ensures i.counted) c.lower.ensures;
-      rest = ap (λ (l : Contents). record l { counts = c.lower.new.counts }) i.rest;
-    }
+    let fields = (object_of v.objects (value c.args.o)).fields in
+    let left = drop (c.loop-i.i + 1) fields in
+    let first = next_first m c.loop-i.self t (value c.args.o) (all_roots v) c.loop-i.nils c.loop-i.i (value c.field-v.result) i.rest (omega (arith, count)) c.field-v.ensures i.counted in
+    elim c.if-v.branch [
+      | then-v w ↦
+          let met : value c.field-v.result ≡ nil = ap value_of w.if-v.true ∙ nil_is in
+          let more = nil_more t (all_roots v) (numbers_of c.loop-i.self) c.loop-i.nils left (value c.field-v.result) met first in
+          record {
+            counted = subst (λ (l : Contents). IsCounted t (all_roots v) (replicate c.if-v.nils nil ++ left) (numbers_of l)) (sym w.self-is)
+                (subst (λ n. IsCounted t (all_roots v) (replicate n nil ++ left) (numbers_of c.loop-i.self)) (sym w.nils-is) more);
+            few = omega (arith, w.nils-is, i.few);
+            rest = ap (λ (l : Contents). l) w.self-is ∙ i.rest ∙ ap (λ (l : Contents). record m { counts = l.counts }) (sym w.self-is);
+          }
+      | else-v w ↦
+          let less = lowered_to t (all_roots v) (replicate c.loop-i.nils nil ++ left) (numbers_of c.loop-i.self) (counts_of w.lower.new.counts) (value c.field-v.result) first w.lower.ensures in
+          record {
+            counted = subst (λ n. IsCounted t (all_roots v) (replicate n nil ++ left) (numbers_of c.if-v.self)) (sym w.nils-is)
+                (subst (λ (l : Contents). IsCounted t (all_roots v) (replicate c.loop-i.nils nil ++ left) (numbers_of l)) (sym w.self-is) less);
+            few = omega (arith, w.nils-is, i.few);
+            rest = w.self-is ∙ ap (λ (l : Contents). record l { counts = w.lower.new.counts }) i.rest ∙ ap (λ (l : Contents). record m { counts = l.counts }) (sym w.self-is);
+          }
+    ]
 
-pub returns-clause-counted : goal.returns-clause-counted
-returns-clause-counted c =
+-- nil alone is in hand
+all_met : (t : Table) (roots : List Value) (cs : List (Option ℕ)) (nils n : ℕ) (fields : List Value) → n ≡ length fields → IsCounted t roots (replicate nils nil ++ drop n fields) cs → IsCounted t roots (replicate nils nil ++ []) cs
+all_met t roots cs nils n fields end h = subst (λ xs. IsCounted t roots (replicate nils nil ++ xs) cs) (dropped_all fields n end) h
+
+pub lower-requires-then-nils-gt0-clause-counted : goal.lower-requires-then-nils-gt0-clause-counted
+lower-requires-then-nils-gt0-clause-counted c =
+    let v = counted_view c.args.self.now in
+    let t = slice_set v.objects (place c.args.o) None in
+    let count = c.count_fields-i-end.ensures in
+    let fields = (object_of v.objects (value c.args.o)).fields in
+    let some = c.if-nils-gt0.true in
+    nils_counted t (all_roots v) (numbers_of c.loop-i.self) c.loop-i.nils (omega (arith, some)) (all_met t (all_roots v) _ c.loop-i.nils c.loop-i.i fields (omega (arith, count)) c.loop-i.invariant.counted)
+
+pub lower-requires-then-nils-gt0-clause-most : goal.lower-requires-then-nils-gt0-clause-most
+lower-requires-then-nils-gt0-clause-most c =
+    let v = counted_view c.args.self.now in
+    let t = slice_set v.objects (place c.args.o) None in
+    let count = c.count_fields-i-end.ensures in
+    let fields = (object_of v.objects (value c.args.o)).fields in
+    let some = c.if-nils-gt0.true in
+    nils_few t (all_roots v) (numbers_of c.loop-i.self) c.loop-i.nils (omega (arith, some)) (all_met t (all_roots v) _ c.loop-i.nils c.loop-i.i fields (omega (arith, count)) c.loop-i.invariant.counted)
+
+pub returns-then-nils-gt0-clause-counted : goal.returns-then-nils-gt0-clause-counted
+returns-then-nils-gt0-clause-counted c =
+    let m = c.args.self.now in
+    let v = counted_view m in
+    let t = slice_set v.objects (place c.args.o) None in
+    let i = c.loop-i.invariant in
+    let count = c.count_fields-i-end.ensures in
+    let fields = (object_of v.objects (value c.args.o)).fields in
+    let some = c.if-nils-gt0.true in
+    let cs = counts_of c.lower-then-nils-gt0.new.self in
+    subst (λ (w : Contents). IsCounted (slice_set (counted_view w).objects (place c.args.o) None) (all_roots (counted_view w)) [] cs) (sym i.rest)
+    (subst (λ ns. IsCounted t (all_roots v) [] ns) (sym c.lower-then-nils-gt0.ensures)
+    (without_nils t (all_roots v) (numbers_of c.loop-i.self) c.loop-i.nils (omega (arith, some)) (all_met t (all_roots v) _ c.loop-i.nils c.loop-i.i fields (omega (arith, count)) i.counted)))
+
+pub returns-else-nils-gt0-clause-counted : goal.returns-else-nils-gt0-clause-counted
+returns-else-nils-gt0-clause-counted c =
     let m = c.args.self.now in
     let v = counted_view m in
     let i = c.loop-i.invariant in
     let count = c.count_fields-i-end.ensures in
     let fields = (object_of v.objects (value c.args.o)).fields in
-    let end : c.loop-i.i ≡ length fields = omega (arith, count) in
+    let t = slice_set v.objects (place c.args.o) None in
+    let none : c.loop-i.nils ≡ 0 = omega (arith, c.if-nils-gt0.false) in
     subst (λ (w : Contents). IsCounted (slice_set (counted_view w).objects (place c.args.o) None) (all_roots (counted_view w)) [] (numbers_of c.loop-i.self)) (sym i.rest)
-    (subst (λ xs. IsCounted (slice_set v.objects (place c.args.o) None) (all_roots v) xs (numbers_of c.loop-i.self)) (dropped_all fields c.loop-i.i end) i.counted)
+    (subst (λ n. IsCounted t (all_roots v) (replicate n nil ++ []) (numbers_of c.loop-i.self)) none
+    (all_met t (all_roots v) _ c.loop-i.nils c.loop-i.i fields (omega (arith, count)) i.counted))

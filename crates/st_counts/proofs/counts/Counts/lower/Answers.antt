@@ -1,4 +1,4 @@
-use Rattle.std.proofs.Common.{◌-◌, Some, true, false, ◌∙◌, length-set}
+use Rattle.std.proofs.Common.{◌≢◌, ◌-◌, Some, true, false, ◌∙◌, length-set, arith}
 use Rattle.st_counts.specs.Counts.{count_at, number_at, is_unused}
 use Rattle.st_counts.proofs.Linked.{test_other}
 use Rattle.st_counts.proofs.Counting.{relisted, listed_still, counted_within, none_still, not_here, number_zero, test_of}
@@ -10,8 +10,11 @@ invariant_of-self c =
     let k = c.args.k in
     let cs = s.counts.items in
     let e = c.link.ensures in
-    let n = c.count-count.result - 1 in
-    let was = number_zero (count_at cs k) c.requires.counted ∙ test_other (number_at cs k) 0 c.requires.some in
+    let n = c.count.result - c.args.by in
+    let some = c.requires.some in
+    let most = c.requires.most in
+    let more : number_at cs k ≢ 0 = λ q. absurd (omega (arith, q, some, most)) in
+    let was = number_zero (count_at cs k) c.requires.counted ∙ test_other (number_at cs k) 0 more in
     record {
       places = rw length-set s.places;
       first = none_still cs k (Some n) s.first (not_here cs k s.first c.requires.counted);
@@ -25,8 +28,11 @@ invariant_of-self-else-count-eq0 c =
     let s = c.args.self.now in
     let k = c.args.k in
     let cs = s.counts.items in
-    let n = c.count-count.result - 1 in
-    let was = number_zero (count_at cs k) c.requires.counted ∙ test_other (number_at cs k) 0 c.requires.some in
+    let n = c.count.result - c.args.by in
+    let some = c.requires.some in
+    let most = c.requires.most in
+    let more : number_at cs k ≢ 0 = λ q. absurd (omega (arith, q, some, most)) in
+    let was = number_zero (count_at cs k) c.requires.counted ∙ test_other (number_at cs k) 0 more in
     record {
       places = rw length-set s.places;
       first = none_still cs k (Some n) s.first (not_here cs k s.first c.requires.counted);

@@ -4,7 +4,7 @@ use Rattle.st_model.specs.Table.{total_used}
 use Rattle.st_model.specs.View.{view_roots}
 use Rattle.st_model.proofs.Settling.{DropsTo}
 use Rattle.st_counted.specs.Counted.{counted_view}
-use Rattle.st_counted.proofs.memory.CountedMemoryMemory.settle.Given as goal
+use Rattle.st_counted.proofs.memory.CountedMemory.drop_unused.Given as goal
 
 -- no object is lost that a set has which supports itself
 abbrev pub invariant-loop-k : goal.invariant-loop-k
