@@ -1,6 +1,7 @@
 -- The order in which the first objects are made. Each is made once: one that is there already isn't made again.
 use Rattle.std.specs.Prelude.{ℕ, ◌+◌, ◌*◌, zero, suc, nat_eq, ◌&&◌, not, Bool, List, [], ◌∷◌, ◌++◌, map, codes, if◌then◌else◌}
 use Rattle.std.specs.List.{list_any}
+use Rattle.st_emit.specs.Selectors.{special_sends}
 use Rattle.st_declarations.specs.Parts.{Class, Pool, Part, class, pool, global}
 use Rattle.st_first_objects.specs.declared.thing.What.{What}
 use Rattle.st_first_objects.specs.declared.thing.What.TheVariants as what
@@ -105,14 +106,9 @@ want_parts all o number (p ∷ ps) = want_parts all (want_all o (wanted_by all n
 
 -- BEHIND ALL PARTS
 
--- the special selectors, and how many arguments each has
+-- the special selectors, as the compiler has them, and how many arguments each has
 unfoldable pub selectors : List (List ℕ × ℕ)
-selectors =
-    (codes "+", 1) ∷ (codes "-", 1) ∷ (codes "<", 1) ∷ (codes ">", 1) ∷ (codes "<=", 1) ∷ (codes ">=", 1) ∷ (codes "=", 1) ∷ (codes "~=", 1)
-    ∷ (codes "*", 1) ∷ (codes "/", 1) ∷ (codes "\\\\", 1) ∷ (codes "@", 1) ∷ (codes "bitShift:", 1) ∷ (codes "//", 1) ∷ (codes "bitAnd:", 1) ∷ (codes "bitOr:", 1)
-    ∷ (codes "at:", 1) ∷ (codes "at:put:", 2) ∷ (codes "size", 0) ∷ (codes "next", 0) ∷ (codes "nextPut:", 1) ∷ (codes "atEnd", 0) ∷ (codes "==", 1) ∷ (codes "class", 0)
-    ∷ (codes "blockCopy:", 1) ∷ (codes "value", 0) ∷ (codes "value:", 1) ∷ (codes "do:", 1) ∷ (codes "new", 0) ∷ (codes "new:", 1) ∷ (codes "x", 0) ∷ (codes "y", 0)
-    ∷ []
+selectors = special_sends
 
 abbrev pub selector_symbols : List (List ℕ × ℕ) → List Thing
 selector_symbols ss = map (λ s. symbol s.0) ss

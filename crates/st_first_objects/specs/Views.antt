@@ -34,9 +34,6 @@ is_listed keys name = list_any (λ k. bytes_eq name k.now) keys
 abbrev pub named_of : List (What × Bor (List ℕ)) → List Thing
 named_of ns = map (λ n. named n.0 n.1.now) ns
 
-abbrev pub selectors_of : List (Bor (List ℕ) × ℕ) → List (List ℕ × ℕ)
-selectors_of ss = map (λ s. (s.0.now, s.1)) ss
-
 abbrev pub field_of : code_field.Field → Field
 field_of (code_fields.Empty) = Empty
 field_of (code_fields.Number n) = Number n

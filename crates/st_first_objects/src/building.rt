@@ -1,8 +1,9 @@
 // The order of all things of a kernel text.
 ghost use Rattle.std.specs.Prelude.{◌≡◌, ◌≤◌, length, IfOk, OnOk, Result};
 ghost use Rattle.st_declarations.specs.Views.{parts_of};
+ghost use Rattle.st_emit.specs.Selectors.{sends_now};
 ghost use Rattle.st_first_objects.specs.Orders.{want_all, page, numbered_from, selectors, selector_symbols, first_things, last_things, want_parts, order};
-ghost use Rattle.st_first_objects.specs.Views.{named_of, selectors_of};
+ghost use Rattle.st_first_objects.specs.Views.{named_of};
 ghost use Rattle.st_first_objects.specs.Ordered.{Becomes, IsOrder};
 
 use crate::order::Order;
@@ -11,6 +12,7 @@ use crate::thing::{Thing, What};
 use crate::unmade::Unmade;
 use crate::wanted::want_part;
 use st_declarations::Part;
+use st_emit::SPECIAL_SENDS;
 use std::alloc::{AllocError, Global};
 
 /// The root page, in the order of its pointers.
@@ -35,42 +37,6 @@ const PAGE: [(What, &[u8]); 20] = [
     (What::Characters, b""),
     (What::Symbol, b"mustBeBoolean"),
     (What::Class, b"Symbol"),
-];
-
-/// The special selectors, and how many arguments each has.
-pub(crate) const SELECTORS: [(&[u8], u8); 32] = [
-    (b"+", 1),
-    (b"-", 1),
-    (b"<", 1),
-    (b">", 1),
-    (b"<=", 1),
-    (b">=", 1),
-    (b"=", 1),
-    (b"~=", 1),
-    (b"*", 1),
-    (b"/", 1),
-    (b"\\\\", 1),
-    (b"@", 1),
-    (b"bitShift:", 1),
-    (b"//", 1),
-    (b"bitAnd:", 1),
-    (b"bitOr:", 1),
-    (b"at:", 1),
-    (b"at:put:", 2),
-    (b"size", 0),
-    (b"next", 0),
-    (b"nextPut:", 1),
-    (b"atEnd", 0),
-    (b"==", 1),
-    (b"class", 0),
-    (b"blockCopy:", 1),
-    (b"value", 0),
-    (b"value:", 1),
-    (b"do:", 1),
-    (b"new", 0),
-    (b"new:", 1),
-    (b"x", 0),
-    (b"y", 0),
 ];
 
 /// The size of the first symbol table.
@@ -101,7 +67,7 @@ fn want_numbered(order: &mut Order<'_>, what: What, count: usize) -> Result<(), 
 
 /// The Symbols of these selectors are wanted.
 fn want_selectors<'a>(order: &mut Order<'a>, selectors: &[(&'a [u8], u8)]) -> Result<(), AllocError>
-    ensures { OnOk result (order.new ≡ want_all order.old (selector_symbols (selectors_of selectors.now))) }
+    ensures { OnOk result (order.new ≡ want_all order.old (selector_symbols (sends_now selectors.now))) }
 {
     for (selector, _) in selectors {
         order.want(Thing::symbol(selector))?;
@@ -134,7 +100,7 @@ fn want_first(order: &mut Order<'_>) -> Result<(), AllocError>
 fn want_special(order: &mut Order<'_>) -> Result<(), AllocError>
     ensures { OnOk result (order.new ≡ want_all order.old (selector_symbols selectors)) }
 {
-    want_selectors(order, &SELECTORS)
+    want_selectors(order, &SPECIAL_SENDS)
 }
 
 /// The things behind those of all parts are wanted.

@@ -4,6 +4,7 @@ ghost use Rattle.st_declarations.specs.Views.{part_of, parts_of};
 ghost use Rattle.st_declarations.specs.Lists.{texts_of};
 ghost use Rattle.st_first_objects.specs.declared.thing.What.TheVariants.{Variable, Symbol};
 ghost use Rattle.st_first_objects.specs.Things.{within, is};
+ghost use Rattle.st_emit.specs.Selectors.{sends_now};
 ghost use Rattle.st_first_objects.specs.Orders.{numbered_from, selectors, characters, lists, order};
 ghost use Rattle.std.specs.Prelude.{◌<◌, length, Some, IfSome};
 ghost use Rattle.std.specs.List.{position};
@@ -14,15 +15,16 @@ ghost use Rattle.st_first_objects.specs.Contents.{all_of, array, members, is_sha
 ghost use Rattle.st_first_objects.specs.Contents.{class_content, metaclass_fields, selector_fields, names_fields, padded, content};
 ghost use Rattle.std.specs.Prelude.{true};
 ghost use Rattle.st_first_objects.specs.Things.{is_single, is_of_class, is_other};
-ghost use Rattle.st_first_objects.specs.Views.{thing_of, declared_of, field_of, fields_of, selectors_of, content_of};
+ghost use Rattle.st_first_objects.specs.Views.{thing_of, declared_of, field_of, fields_of, content_of};
 
-use crate::building::{SELECTORS, order};
+use crate::building::order;
 use crate::classes::{Classes, Declared, is_nil};
 use crate::content::{Body, Content, Field, PLACES, empty_fields};
 use crate::order::Order;
 use crate::thing::{Thing, What};
 use crate::unmade::Unmade;
 use st_declarations::{Part, Shape, Text};
+use st_emit::SPECIAL_SENDS;
 use std::alloc::{AllocError, Global};
 use std::marker::Model;
 
@@ -79,7 +81,7 @@ fn selector_fields<'a>(
     alloc: Global,
     selectors: &'a [(&'a [u8], u8)],
 ) -> Result<Vec<Field<'a>>, AllocError>
-    ensures { IfOk result (λ fields. fields_of fields.items ≡ selector_fields (selectors_of selectors.now)) }
+    ensures { IfOk result (λ fields. fields_of fields.items ≡ selector_fields (sends_now selectors.now)) }
 {
     let mut fields = Vec::new(alloc);
     for (selector, arguments) in selectors {
@@ -94,7 +96,7 @@ fn selector_fields<'a>(
 fn special_selectors<'a>(alloc: Global) -> Result<Content<'a>, AllocError>
     ensures { IfOk result (λ c. content_of c ≡ array (selector_fields selectors)) }
 {
-    Ok(Content::array(selector_fields(alloc, &SELECTORS)?))
+    Ok(Content::array(selector_fields(alloc, &SPECIAL_SENDS)?))
 }
 
 /// The Array of all Characters.

@@ -61,6 +61,19 @@ global_seen : (names table head (Ref 15) false (returning (codes "x") (codes "Po
 unfolding opened
 global_seen = refl
 
+-- the class of pointer 72 above Point has the instance variable a and the class variable K, whose association has pointer 80
+abbrev below_image : Table
+below_image =
+    objects (plain (Ref 36 ∷ Ref 18 ∷ Small 16387 ∷ nil ∷ Ref 23 ∷ nil ∷ Ref 10 ∷ nil ∷ nil ∷ [])) (plain (Small 0 ∷ Ref 19 ∷ nil ∷ nil ∷ []))
+    (pointers 8 (nil ∷ nil ∷ [])) (nil ∷ nil ∷ nil ∷ nil ∷ [])
+    (plain (nil ∷ nil ∷ Small 16385 ∷ nil ∷ Ref 37 ∷ nil ∷ Ref 41 ∷ Ref 39 ∷ nil ∷ []) ∷ pointers 8 (Ref 38 ∷ []) ∷ bytes 7 (codes "a")
+    ∷ pointers 8 (Ref 40 ∷ []) ∷ plain (Ref 42 ∷ nil ∷ []) ∷ bytes 28 (codes "Above") ∷ bytes 28 (codes "K") ∷ [])
+
+inherited_seen : (names table head (Ref 15) false (returning (codes "x") (codes "K"))).run (state below_image)
+    ≡ Went (Ok (record { fields = codes "a" ∷ codes "x" ∷ codes "y" ∷ []; shared = record { text = codes "K"; association = 80 } ∷ []; symbols = true })) (state below_image)
+unfolding opened
+inherited_seen = refl
+
 -- a dictionary whose tally is no SmallInteger
 abbrev without_tally : Table
 without_tally = objects (point (Ref 18)) (plain (nil ∷ Ref 19 ∷ nil ∷ nil ∷ [])) (pointers 8 (nil ∷ nil ∷ [])) (nil ∷ nil ∷ nil ∷ nil ∷ []) []

@@ -18,7 +18,7 @@ use Rattle.st_memory.specs.Copied.{with_units_in}
 use Rattle.st_memory.specs.Searched.{Finds}
 use Rattle.st_lookup.specs.declared.entry.Entry.{Entry}
 use Rattle.st_lookup.specs.declared.entry.TheConstants.Entry.{NONE}
-use Rattle.st_lookup.specs.Remembered.{on, IsOn, IsOff, watched, IsRemembered, AllRemembered, Grows, SameWatched}
+use Rattle.st_lookup.specs.Remembered.{on, IsOn, IsOff, watched, IsRemembered, AllRemembered, Grows, SameWatched, StaysIfOff}
 use Rattle.st_lookup.proofs.Carried.{IsOf, Carries, SameHalf, found_carried_on}
 
 -- what stands under a watched pointer
@@ -110,6 +110,9 @@ remembered_same bits t u e s r =
           (half_then t u (watched bits u) x (half_same bits t u x s r.selector) (half_back (watched bits u) u x (half_watched bits u x r.selector))))
           (r.finds (live_same bits t u (value e.class) s r.class live) (known_same bits t u x s r.selector known));
     }
+
+pub as_it_was : (bits : List ℕ) (t : Table) (v : Value) → StaysIfOff bits v t t
+as_it_was bits t v off k h = refl
 
 pub all_same : (bits : List ℕ) (t u : Table) (es : List Entry) → SameWatched bits t u → AllRemembered bits t es → AllRemembered bits u es
 all_same bits t u es s r = λ i e f. remembered_same bits t u e s (r i e f)

@@ -113,7 +113,20 @@ fn is_seen<M: Memory>(m: &M, watch: &Watch, class: Oop, selector: Oop, method: O
     }
 }
 
-/// Forgets all where the pointer is watched, whose object was changed or is about to be.
+/// Forgets all.
+#[inline(never)]
+fn forget(watch: &mut Watch, entries: &mut Vec<Entry>)
+    ensures size { length entries.new.items ≡ length entries.old.items }
+    ensures off { (v : Value) → IsOff watch.new.words.items v }
+    ensures none { (t : Table) → AllRemembered watch.new.words.items t entries.new.items }
+{
+    entries.fill(Entry::NONE);
+    watch.clear();
+}
+
+/// Forgets all where the pointer is watched, whose object was changed or is about to be. Where it isn't, that is a test of one
+/// bit; a store asks before it stores, so that nothing has to be kept over it.
+#[inline(always)]
 fn forget_if(watch: &mut Watch, entries: &mut Vec<Entry>, o: Oop)
     ensures size { length entries.new.items ≡ length entries.old.items }
     ensures off { IsOff watch.new.words.items (value o) }
@@ -123,8 +136,7 @@ fn forget_if(watch: &mut Watch, entries: &mut Vec<Entry>, o: Oop)
         → AllRemembered watch.new.words.items u entries.new.items }
 {
     if watch.has(o) {
-        entries.fill(Entry::NONE);
-        watch.clear();
+        forget(watch, entries);
     }
 }
 
@@ -160,18 +172,18 @@ impl<M: Memory> Memory for Cached<M> {
     }
 
     fn set_pointer(&mut self, o: Oop, at: u32, v: Oop) {
-        self.memory.set_pointer(o, at, v);
         forget_if(&mut self.watch, &mut self.entries, o);
+        self.memory.set_pointer(o, at, v);
     }
 
     fn set_word(&mut self, o: Oop, at: u32, v: u16) {
-        self.memory.set_word(o, at, v);
         forget_if(&mut self.watch, &mut self.entries, o);
+        self.memory.set_word(o, at, v);
     }
 
     fn set_byte(&mut self, o: Oop, at: u32, v: u8) {
-        self.memory.set_byte(o, at, v);
         forget_if(&mut self.watch, &mut self.entries, o);
+        self.memory.set_byte(o, at, v);
     }
 
     fn read_words(&self, o: Oop, at: u32, into: &mut [u16]) {
@@ -183,13 +195,13 @@ impl<M: Memory> Memory for Cached<M> {
     }
 
     fn write_words(&mut self, o: Oop, at: u32, words: &[u16]) {
-        self.memory.write_words(o, at, words);
         forget_if(&mut self.watch, &mut self.entries, o);
+        self.memory.write_words(o, at, words);
     }
 
     fn write_bytes(&mut self, o: Oop, at: u32, bytes: &[u8]) {
-        self.memory.write_bytes(o, at, bytes);
         forget_if(&mut self.watch, &mut self.entries, o);
+        self.memory.write_bytes(o, at, bytes);
     }
 
     fn room(&self, d: Demand) -> bool {
@@ -212,10 +224,12 @@ impl<M: Memory> Memory for Cached<M> {
         self.memory.held(place)
     }
 
+    #[inline(always)]
     fn hold(&mut self, place: RootPlace, o: Oop) {
         self.memory.hold(place, o);
     }
 
+    #[inline(always)]
     fn settle(&mut self) {
         self.memory.settle();
     }
