@@ -278,19 +278,6 @@ switched_to_itself : ((switch_to_process table (Ref 6)).run (at here (Ref 6) (sw
 unfolding opened at here there deep waits switching in_context object
 switched_to_itself = refl
 
--- The scheduler is asked for twice. Where its process is the association that names it, the first store makes this name the active
--- context, and the second store goes there; the scheduler names the association still.
-unfoldable renamed : Table
-unfolding object in_context
-renamed =
-    None ∷ object [] ∷ object [] ∷ object [] ∷ object (nil ∷ Ref 8 ∷ []) ∷ object (nil ∷ Ref 4 ∷ []) ∷ in_context nil ∷ in_context (Ref 9)
-    ∷ object (nil ∷ Small 5 ∷ Small 1 ∷ nil ∷ nil ∷ Ref 2 ∷ Small 9 ∷ []) ∷ object (nil ∷ Small 7 ∷ Small 2 ∷ Ref 3 ∷ nil ∷ Small 5 ∷ Small 8 ∷ Small 9 ∷ []) ∷ []
-
-switched_from_the_association : ((switch_to_process table (Ref 7)).run (at here (Ref 7) (switching (Ref 4) (in_context nil) (in_context (Ref 9)) nil nil))
-    ≡ Went tt (at there nil renamed))
-unfolding opened at here there deep waits switching renamed in_context object
-switched_from_the_association = refl
-
 -- A process needs a context; what the scheduler names is to have a field for it.
 not_switched : ((switch_to_process table (Ref 7)).run (at here (Ref 7) (switching (Ref 6) (in_context nil) (in_context nil) nil nil))
     ≡ Died dead.Field)
