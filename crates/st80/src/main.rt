@@ -23,6 +23,7 @@ fn main(rt: HostRuntime) -> ExitCode {
     let alloc = rt.alloc();
     let errors = rt.stderr();
     let words = words_of_call(&rt);
+    let _places = StreamPlaces::take(&rt);
     let mut script = StdinSource::new(&rt);
     let mut host = DirHost::new(rt);
     let code = match do_call(alloc, words, &mut host, &mut script) {
@@ -37,6 +38,26 @@ fn main(rt: HostRuntime) -> ExitCode {
         errors.println(format_args!("st80: {refusal}")).ok();
     }
     code
+}
+
+// Files that are held open so that no file of a store gets the number of a standard stream that was closed: what is said would be
+// written into it. They are the root folder, which can be neither read nor written as a file, so a closed stream goes on failing.
+#[derive(Drop)]
+struct StreamPlaces {
+    _input: io::Result<File>,
+    _output: io::Result<File>,
+    _errors: io::Result<File>,
+}
+
+impl StreamPlaces {
+    // Takes the numbers that are free, the least first.
+    fn take<R: Files<File = File>>(rt: &R) -> StreamPlaces {
+        StreamPlaces {
+            _input: File::open(rt, "/"),
+            _output: File::open(rt, "/"),
+            _errors: File::open(rt, "/"),
+        }
+    }
 }
 
 // The words of the call, without the program's name. A word that is no text is in no command.
