@@ -210,13 +210,17 @@ fn carry_out<M: Memory>(rt: &impl Abort, m: &mut M, call: Call) {
     }
 }
 
+fn carry_out_all<M: Memory>(rt: &impl Abort, m: &mut M, calls: &[Call]) {
+    for next in calls {
+        carry_out(rt, m, *next);
+    }
+}
+
 #[test]
 fn what_was_found_is_remembered_until_it_may_change(rt: HostRuntime) -> Result<(), Fail> {
     for calls in ROWS {
         let mut m = image::<CachedLoader<CountedLoader>>(rt.alloc(), &C, 32767, 20000)?;
-        for next in calls {
-            carry_out(&rt, &mut m, *next);
-        }
+        carry_out_all(&rt, &mut m, calls);
     }
     Ok(())
 }
