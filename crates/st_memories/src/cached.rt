@@ -55,7 +55,7 @@ const IS_REMEMBERED: Call = Call::Remembered(12, 66, Some(72));
 const IS_FORGOTTEN: Call = Call::Remembered(12, 66, None);
 
 /// What the places and methods of the classes were is forgotten.
-const ROWS: [&[Call]; 16] = [
+const ROWS: [&[Call]; 12] = [
     &[IS_FORGOTTEN, FOUND, IS_REMEMBERED, FOUND],
     // its place in the dictionary is emptied, or its method is another, or the class has another dictionary
     &[
@@ -124,47 +124,6 @@ const ROWS: [&[Call]; 16] = [
         FOUND,
         Call::Store(18, 2, 66),
         IS_REMEMBERED,
-    ],
-    // what wasn't found is found once the dictionary has the selector,
-    &[
-        Call::Store(68, 2, 2),
-        Call::Find(12, 66, Ok(None)),
-        Call::Store(68, 2, 66),
-        FOUND,
-        IS_REMEMBERED,
-    ],
-    // once that of a superclass has it,
-    &[
-        Call::Make(3, 10),
-        Call::Make(3, 18),
-        Call::Store(12, 0, 10),
-        Call::Store(10, 1, 18),
-        Call::Store(18, 1, 70),
-        Call::Find(12, 42, Ok(None)),
-        Call::Store(18, 2, 42),
-        Call::Find(12, 42, Ok(Some(Oop(72)))),
-        Call::Remembered(12, 42, Some(72)),
-    ],
-    // once the class has another superclass,
-    &[
-        Call::Make(3, 10),
-        Call::Make(3, 18),
-        Call::Store(10, 1, 18),
-        Call::Store(18, 1, 70),
-        Call::Store(18, 2, 42),
-        Call::Find(12, 42, Ok(None)),
-        Call::Store(12, 0, 10),
-        Call::Find(12, 42, Ok(Some(Oop(72)))),
-    ],
-    // and once another dictionary bears the pointer
-    &[
-        Call::Make(3, 10),
-        Call::Store(10, 1, 70),
-        Call::Store(10, 2, 42),
-        Call::Find(12, 42, Ok(None)),
-        Call::Exchange(68, 10),
-        Call::Find(12, 42, Ok(Some(Oop(72)))),
-        Call::Remembered(12, 42, Some(72)),
     ],
     // the pointers of a class and a dictionary that were dropped are borne by others
     &[
