@@ -4,9 +4,9 @@ use Rattle.st_model.proofs.Made.{made_from, length-made, get_or-made}
 use Rattle.st_model.specs.Lists.{made}
 use Rattle.std.proofs.lemmas.Bool.{cases_lt, cases_Bool}
 use Rattle.std.proofs.Math.ListN.{length-set}
-use Rattle.st_spans.specs.declared.Span.{Span}
-use Rattle.st_spans.specs.Spans.{IsFirstShared, sum_below, width}
-use Rattle.st_spans.proofs.Sums.{widths_fit}
+use Rattle.st_image.specs.declared.spans.Span.{Span}
+use Rattle.st_image.specs.Spans.{IsFirstShared, sum_below, width}
+use Rattle.st_image.proofs.Sums.{widths_fit}
 use Rattle.st_model.specs.declared.head.ImageHead.{ImageHead}
 use Rattle.st_model.specs.Values.{Ref}
 use Rattle.st_model.specs.Objects.{Object, one, words_of}

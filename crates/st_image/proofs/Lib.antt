@@ -13,3 +13,7 @@ pub mod Back
 pub mod Fetching
 pub mod Saved
 pub mod Begun
+pub mod Counts
+pub mod Sweeps
+pub mod Between
+pub mod Sums

@@ -1,8 +1,8 @@
 -- The spans of the objects, and the words that objects share.
 use Rattle.std.proofs.Common.{◌≡◌, ℕ, ◌+◌, ◌*◌, ◌/◌, ◌<◌, ◌≤◌, ◌⊎◌, true, false, List, length, arith, refl, subst, ◌∙◌, inl, inr, Some, None}
 use Rattle.std.proofs.lemmas.Bool.{cases_lt, both_ways, cases_Bool}
-use Rattle.st_spans.specs.declared.Span.{Span}
-use Rattle.st_spans.specs.Spans.{span, Shares, IsFirstShared, AreWithin, IsWithin}
+use Rattle.st_image.specs.declared.spans.Span.{Span}
+use Rattle.st_image.specs.Spans.{span, Shares, IsFirstShared, AreWithin, IsWithin}
 use Rattle.st_model.specs.declared.head.ImageHead.{ImageHead}
 use Rattle.st_model.specs.declared.fault.ImageFault.{ImageFault}
 use Rattle.st_model.specs.declared.fault.ImageFault.TheVariants.{Overlap}

@@ -6,3 +6,4 @@ pub mod Loads
 pub mod Reading
 pub mod HeadValues
 pub mod Back
+pub mod Spans

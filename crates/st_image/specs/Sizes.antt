@@ -1,6 +1,6 @@
 -- What the rows of faults that concern a file's sizes leave to be known of it.
 use Rattle.std.specs.Prelude.{◌≡◌, ℕ, ◌+◌, ◌<◌, ◌≤◌, true, List, length, if◌then◌else◌}
-use Rattle.st_spans.specs.declared.Span.{Span}
+use Rattle.st_image.specs.declared.spans.Span.{Span}
 use Rattle.st_model.specs.Limits.{most_words}
 use Rattle.st_model.specs.declared.head.ImageHead.{ImageHead}
 use Rattle.st_model.specs.Image.{table_end, entries_of, is_used, place, size}

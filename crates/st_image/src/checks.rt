@@ -13,8 +13,8 @@ use crate::objects::{
     first_bad_class, first_bad_field, first_bad_method, first_bad_size, spans_of,
 };
 use crate::roots::least_bad_root;
+use crate::spans::first_shared;
 use st_model::ImageFault;
-use st_spans::first_shared;
 use std::alloc::Global;
 
 /// A file with the lengths that its head gives, or the fault of its lengths.

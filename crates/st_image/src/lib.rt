@@ -14,6 +14,7 @@ mod objects;
 mod reading;
 mod roots;
 mod shape;
+mod spans;
 
 pub use error::ReadImage;
 pub use head::HeadValues;

@@ -1,13 +1,13 @@
 ghost use Rattle.std.specs.Prelude.{◌≡◌, ℕ, ◌+◌, ◌<◌, length, true, IfOk, IfSome};
 ghost use Rattle.st_model.specs.Image.{entries_of, is_used, size};
 ghost use Rattle.st_model.specs.Faults.{size_fails, class_fails, is_field, field_fails, method_fails};
-ghost use Rattle.st_spans.specs.Spans.{span};
+ghost use Rattle.st_image.specs.Spans.{span};
 ghost use Rattle.st_image.specs.Passes.{IsFirst, IsLeast, IsFirstPair};
 ghost use Rattle.st_image.specs.Sizes.{IsInside, AreInside, span_of};
 
 use crate::image::Image;
 use crate::numbers::literal_count;
-use st_spans::Span;
+use crate::spans::Span;
 use std::alloc::{AllocError, Global};
 
 /// Whether an object leaves the object space, or its size makes no sense.

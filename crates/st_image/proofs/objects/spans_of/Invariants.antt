@@ -1,5 +1,5 @@
 use Rattle.std.proofs.Common.{◌≡◌, ℕ, ◌<◌, length}
-use Rattle.st_spans.specs.Spans.{span}
+use Rattle.st_image.specs.Spans.{span}
 use Rattle.st_image.specs.Sizes.{span_of}
 use Rattle.st_image.proofs.objects.spans_of.Given as goal
 

@@ -1,9 +1,8 @@
 //! Spans of words, and the first two of a list that share a word.
-#![tactic(auto)]
 
 ghost use Rattle.std.specs.Prelude.{◌≡◌, ℕ, ◌+◌, ◌-◌, ◌<◌, ◌≤◌, List, length, slice_index, IfOk, IsTrue, ◌↔◌};
-ghost use Rattle.st_spans.specs.declared.Span.{Span};
-ghost use Rattle.st_spans.specs.Spans.{SharesWord, IsFirstShared, AreWithin, owners_of, HasShared, IsNextSharing, IsCleared, count_below, begins_at, ends_at};
+ghost use Rattle.st_image.specs.declared.spans.Span.{Span};
+ghost use Rattle.st_image.specs.Spans.{SharesWord, IsFirstShared, AreWithin, owners_of, HasShared, IsNextSharing, IsCleared, count_below, begins_at, ends_at};
 
 use std::alloc::{AllocError, Global};
 
