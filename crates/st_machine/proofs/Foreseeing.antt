@@ -17,7 +17,7 @@ use Rattle.st_model.specs.Cycles.{made_between, free_space, less, capacity_of, c
 use Rattle.st_model.specs.Foreseen.{foreseen, foreseen_from, foreseen_cycle, done, done_if_room}
 use Rattle.st_model.specs.View.{View, Held, fits}
 use Rattle.st_control.specs.Foreseen.{IsForeseen}
-use Rattle.st_quick.specs.AtOnce.{IsDoneAtOnce}
+use Rattle.st_at_once.specs.AtOnce.{IsDoneAtOnce}
 use Rattle.st_machine.specs.Cycling.{GoesAtOnce, GoesBy, Finishes, foreseen_step}
 use Rattle.st_step.specs.Planned.{Plans, plus}
 use Rattle.st_frames.specs.declared.frame.Frame.{Frame}

@@ -10,11 +10,11 @@ ghost use Rattle.st_frames.specs.Shown.{IsFrame, IsReady, shown};
 ghost use Rattle.st_machine.specs.Cycling.{Finishes, GoesAtOnce, foreseen_step, warns};
 ghost use Rattle.st_machine.specs.Runs.{ending_of};
 
+use st_at_once::step_at_once;
 use st_frames::Frame;
 use st_input::signal_once;
 use st_memory::Memory;
 use st_model::{Dead, Demand, Device, Outcome};
-use st_quick::step_at_once;
 use st_step::{plan, step};
 use st_switch::check_process_switch;
 use st_world::World;

@@ -2,11 +2,11 @@ ghost use Rattle.st_frames.specs.Shown.{IsFrame};
 
 use crate::image::{B, first_are, ready};
 use crate::reads::{bytes_are, counts_are, fields_are};
+use st_at_once::Near;
 use st_counted::CountedLoader;
 use st_frames::Frame;
 use st_memory::{Loader, Memory, Objects};
 use st_model::{Dead, Word};
-use st_near::Near;
 use st_plain::PlainLoader;
 use std::alloc::AllocGlobal;
 use std::process::Abort;

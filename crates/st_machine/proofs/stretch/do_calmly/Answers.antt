@@ -3,7 +3,7 @@ use Rattle.st_model.specs.Table.{table}
 use Rattle.st_model.specs.Cycles.{free_space, warned}
 use Rattle.st_model.specs.Deeds.{with_deed}
 use Rattle.st_frames.specs.Shown.{shown}
-use Rattle.st_quick.specs.AtOnce.{IsDoneBut}
+use Rattle.st_at_once.specs.AtOnce.{IsDoneBut}
 use Rattle.st_machine.specs.Cycling.{GoesCalmly, warns}
 use Rattle.st_machine.proofs.Calm.{unwarned}
 use Rattle.st_machine.proofs.Foreseeing.{dies_at_once, goes_by}

@@ -1,0 +1,305 @@
+-- What is done at once is the bytecode: it dies of the same cause, or goes on to the same state.
+use Rattle.std.proofs.Common.{◌≡◌, ℕ, Bool, true, false, Option, Some, None, refl, sym, subst, arith}
+use Rattle.std.proofs.lemmas.Bool.Decides.{nat_tests}
+use Rattle.std.specs.Prelude.{◌==◌, if◌then◌else◌, ℤ, pos, ◌+◌, ◌*◌}
+use Rattle.st_model.specs.declared.dead.Dead.{Dead}
+use Rattle.st_model.specs.declared.bytecode.Bytecode.{Bytecode}
+use Rattle.st_model.specs.declared.bytecode.Bytecode.TheVariants as code
+use Rattle.st_model.specs.declared.integers.IntAnswer.{IntAnswer}
+use Rattle.st_model.specs.declared.integers.IntAnswer.TheVariants.{Number, Truth, Point}
+use Rattle.st_model.specs.Values.{Value, Small, Ref, is_small}
+use Rattle.st_model.specs.declared.page.PageObject.{PageObject}
+use Rattle.st_model.specs.declared.page.PageObject.TheVariants.{FalseObject, TrueObject}
+use Rattle.st_model.specs.Outcomes.{Outcome}
+use Rattle.st_model.specs.Outcomes as outcome
+use Rattle.st_model.specs.Machine.{ObjectMemory, State, Transition, Died, Went, Step, answer, after, ◌>>=◌, ◌>>◌}
+use Rattle.st_model.specs.Steps.{same_value, jump, next_byte, get_free}
+use Rattle.st_model.specs.Sends.{Call, call_found, send_from, send}
+use Rattle.st_model.specs.Methods.{flag_of}
+use Rattle.st_model.specs.Contexts.{activate}
+use Rattle.st_model.specs.Returns.{calls_nothing, return_into, return_to_context, return_to, return_to_sender, return_to_caller, jump_on}
+use Rattle.st_model.specs.Primitives.{succeed, primitive}
+use Rattle.st_model.specs.Arithmetic.{arithmetic, arithmetic_number, integer_answer, value_of_answer}
+use Rattle.st_model.specs.Processes.{processes}
+use Rattle.st_model.specs.Executing.{goes_on, or_activate, respond, respond_by_extension, respond_or_perform, execute_by, execute, executed, execute_if_any, executed_if_any}
+use Rattle.st_model.specs.Bytecodes.{send_literal, or_send, arithmetic_by, arithmetic_send, primitive_send, return_receiver, return_constant, return_top_to_sender, return_top_to_caller, short_jump_on_false, long_jump_on_true, long_jump_on_false, bytecode, step}
+use Rattle.st_model.specs.Table.{Table}
+use Rattle.st_model.proofs.Runs.{run-tried_went, run-tried_died}
+use Rattle.st_control.specs.AtOnce.{at_once, enter_context, context_space, activate_at_once, jump_at_once, return_to_context_at_once, return_at_once, return_to_sender_at_once, return_to_caller_at_once}
+use Rattle.st_frames.proofs.Doing.{rows}
+use Rattle.st_at_once.specs.AtOnce.{respond_at_once, execute_at_once_by, execute_at_once, found_at_once, send_from_at_once, send_at_once, literal_send_at_once, answered_at_once, arithmetic_at_once_by, arithmetic_at_once, primitive_at_once, long_jump_at_once, return_receiver_at_once, return_constant_at_once, return_top_to_sender_at_once, return_top_to_caller_at_once, unsent_at_once, bytecode_at_once, step_at_once}
+
+-- a primitive on SmallIntegers that is tried
+
+pub by-answers : (m : ObjectMemory Table) (k : ℕ) (v : Value) (a : IntAnswer) (s : State Table) → is_small v ≡ true → (integer_answer m (arithmetic_number k)).run s ≡ Went a s
+    → (arithmetic_at_once_by m k v).run s ≡ (answered_at_once m (Some a)).run s
+unfolding arithmetic_at_once_by ◌>>=◌ after
+by-answers m k (Small n) a s l e = rw (run-tried_went (integer_answer m (arithmetic_number k)) s s a e) refl
+by-answers m k (Ref n) a s l e = cc
+
+pub by-fails : (m : ObjectMemory Table) (k : ℕ) (v : Value) (cause : Dead) (s : State Table) → is_small v ≡ true → (integer_answer m (arithmetic_number k)).run s ≡ Died cause
+    → (arithmetic_at_once_by m k v).run s ≡ Went false s
+unfolding arithmetic_at_once_by answered_at_once ◌>>=◌ after answer
+by-fails m k (Small n) cause s l e = rw (run-tried_died (integer_answer m (arithmetic_number k)) s cause e) refl
+by-fails m k (Ref n) cause s l e = cc
+
+pub by-object : (m : ObjectMemory Table) (k : ℕ) (v : Value) (s : State Table) → is_small v ≡ false → (arithmetic_at_once_by m k v).run s ≡ Went false s
+unfolding arithmetic_at_once_by answer
+by-object m k (Small n) s e = cc
+by-object m k (Ref n) s e = refl
+
+pub ruleset tries = (rows, by-answers, by-fails, by-object)
+
+-- The second dies of the cause of which the first does, and where the first was done, it answers x and leaves the same state.
+
+abbrev pub As : {S A : Type 0} → A → Transition S Bool → Transition S A → Type 0
+As x (Died cause) o = o ≡ Died cause
+As x (Went true t) o = o ≡ Went x t
+As x (Went false t) o = Unit {0}
+
+abbrev pub IsAs : {A : Type 0} → A → Step Table Bool → Step Table A → Type 0
+IsAs x p q = (s : State Table) → As x (p.run s) (q.run s)
+
+after-as : {A B : Type 0} (x : B) (o : Transition (State Table) A) (f : A → Step Table Bool) (g : A → Step Table B) → ((a : A) → IsAs x (f a) (g a))
+    → As x (after o (λ a t. (f a).run t)) (after o (λ a t. (g a).run t))
+unfolding after
+after-as x (Died cause) f g h = refl
+after-as x (Went a t) f g h = h a t
+
+then-as : {A B : Type 0} (x : B) (m : Step Table A) (f : A → Step Table Bool) (g : A → Step Table B) → ((a : A) → IsAs x (f a) (g a)) → IsAs x (m >>= f) (m >>= g)
+unfolding ◌>>=◌
+then-as x m f g h s = after-as x (m.run s) f g h
+
+if-as : {A : Type 0} (x : A) (b : Bool) (p q : Step Table Bool) (u v : Step Table A) → IsAs x p u → IsAs x q v → IsAs x (if b then p else q) (if b then u else v)
+if-as x true p q u v h k = h
+if-as x false p q u v h k = k
+
+either-as : {A : Type 0} (x : A) (b : Bool) (p q : Step Table Bool) (r : Step Table A) → (b ≡ true → IsAs x p r) → IsAs x q r → IsAs x (if b then p else q) r
+either-as x true p q r h k = h refl
+either-as x false p q r h k = k
+
+not-as : {A : Type 0} (x : A) (q : Step Table A) → IsAs x (answer false) q
+unfolding answer
+not-as x q s = tt
+
+done-as : {A : Type 0} (x : A) (o : Transition (State Table) Unit) → As x (after o (λ a t. Went true t)) (after o (λ a t. Went x t))
+unfolding after
+done-as x (Died cause) = refl
+done-as x (Went a t) = refl
+
+goes_on-as : (m : Step Table Unit) → IsAs outcome.Went (at_once m) (goes_on m)
+unfolding at_once goes_on ◌>>◌ ◌>>=◌ answer
+goes_on-as m s = done-as outcome.Went (m.run s)
+
+calls_nothing-as : (m : Step Table Unit) → IsAs None (at_once m) (calls_nothing m)
+unfolding at_once calls_nothing ◌>>◌ ◌>>=◌ answer
+calls_nothing-as m s = done-as None (m.run s)
+
+choice-as : (b : Bool) (q : Step Table (Option Call)) → IsAs None (answer b) (if b then answer None else q)
+unfolding answer
+choice-as true q s = refl
+choice-as false q s = tt
+
+self-as : (o : Transition (State Table) Bool) → As true o o
+self-as (Died cause) = refl
+self-as (Went true t) = refl
+self-as (Went false t) = tt
+
+executed-on : (m : ObjectMemory Table) (o : Transition (State Table) Bool) (r : Transition (State Table) (Option Call)) → As None o r
+    → As outcome.Went o (after r (λ c t. (execute_if_any m c).run t))
+unfolding after execute_if_any answer
+executed-on m (Died cause) r h = rw h refl
+executed-on m (Went true t) r h = rw h refl
+executed-on m (Went false t) r h = tt
+
+-- a step that may call, and called nothing
+executed-as : (m : ObjectMemory Table) (p : Step Table Bool) (q : Step Table (Option Call)) → IsAs None p q → IsAs outcome.Went p (executed_if_any m q)
+unfolding executed_if_any ◌>>=◌
+executed-as m p q h s = executed-on m (p.run s) (q.run s) (h s)
+
+tried-on : (e : Step Table Outcome) (o r : Transition (State Table) Bool) → As true o r
+    → As outcome.Went o (after r (λ b t. (if b then answer outcome.Went else e).run t))
+unfolding after answer
+tried-on e (Died cause) r h = rw h refl
+tried-on e (Went true t) r h = rw h refl
+tried-on e (Went false t) r h = tt
+
+-- a primitive that succeeded
+or_send-as : (m : ObjectMemory Table) (k : ℕ) (p q : Step Table Bool) → IsAs true p q → IsAs outcome.Went p (or_send m k q)
+unfolding or_send ◌>>=◌
+or_send-as m k p q h s = tried-on _ (p.run s) (q.run s) (h s)
+
+or_activate-as : (m : ObjectMemory Table) (call : Call) (header : Value) (p : Step Table Bool) → IsAs outcome.Went p (or_activate m call header p)
+unfolding or_activate ◌>>=◌
+or_activate-as m call header p s = tried-on _ (p.run s) (p.run s) (self-as (p.run s))
+
+both-as : {A : Type 0} (x : A) (b : Bool) (p : Step Table Bool) (q : Step Table A) → IsAs x p q → IsAs x (if b then p else answer false) q
+both-as x true p q h = h
+both-as x false p q h = not-as x q
+
+on-next : (u : Transition (State Table) Unit) (f : Step Table Bool) (g : Step Table Unit) → IsAs outcome.Went f (goes_on g)
+    → As outcome.Went (after u (λ a t. f.run t)) (after (after u (λ a t. g.run t)) (λ a t. Went outcome.Went t))
+unfolding after goes_on ◌>>◌ ◌>>=◌ answer
+on-next (Died cause) f g h = refl
+on-next (Went a t) f g h = h t
+
+-- one part of what goes on
+next-as : (u : Step Table Unit) (f : Step Table Bool) (g : Step Table Unit) → IsAs outcome.Went f (goes_on g) → IsAs outcome.Went (u >> f) (goes_on (u >> g))
+unfolding goes_on ◌>>◌ ◌>>=◌ answer
+next-as u f g h s = on-next (u.run s) f g h
+
+space-as : {A : Type 0} (m : ObjectMemory Table) (x : A) (f : Bool → Step Table Bool) (q : Step Table A) → ((b : Bool) → IsAs x (f b) q) → IsAs x (context_space m >>= f) q
+unfolding context_space get_free ◌>>=◌ after answer
+space-as m x f q h s = h _ s
+
+module _ (m : ObjectMemory Table) where
+  -- what is called is executed
+
+  calls-on : {A : Type 0} (o : Transition (State Table) A) (f : A → Step Table Bool) (g : A → Step Table Call) → ((a : A) → IsAs outcome.Went (f a) (executed m (g a)))
+      → As outcome.Went (after o (λ a t. (f a).run t)) (after (after o (λ a t. (g a).run t)) (λ c t. (execute m c).run t))
+  unfolding after executed ◌>>=◌
+  calls-on (Died cause) f g h = refl
+  calls-on (Went a t) f g h = h a t
+
+  calls-as : {A : Type 0} (u : Step Table A) (f : A → Step Table Bool) (g : A → Step Table Call) → ((a : A) → IsAs outcome.Went (f a) (executed m (g a)))
+      → IsAs outcome.Went (u >>= f) (executed m (u >>= g))
+  unfolding executed ◌>>=◌
+  calls-as u f g h s = calls-on (u.run s) f g h
+
+  called-as : (p : Step Table Bool) (c : Call) → IsAs outcome.Went p (execute m c) → IsAs outcome.Went p (executed m (answer c))
+  unfolding executed ◌>>=◌ after answer
+  called-as p c h s = h s
+
+  activate-as : (method header : Value) (n : ℕ) → IsAs outcome.Went (activate_at_once m method header n) (goes_on (activate m method header n))
+  unfolding activate_at_once activate enter_context
+  activate-as method header n = next-as _ _ _ (next-as _ _ _ (next-as _ _ _ (space-as m _ _ _ (λ b. both-as _ b _ _ (goes_on-as _)))))
+
+  went-as : IsAs outcome.Went (answer true) (answer outcome.Went)
+  unfolding answer
+  went-as s = refl
+
+  -- a method responds by its primitive, where that is one on processes
+
+  module _ (call : Call) (header : Value) where
+    numbered-as : (p k : ℕ) (q : Step Table Bool) → respond_or_perform m call header k ≡ or_activate m call header q → (p == k) ≡ true → IsAs outcome.Went q (respond_or_perform m call header p)
+    numbered-as p k q h e =
+        let same : p ≡ k = grind (arith, nat_tests, e) in
+        subst (λ i. IsAs outcome.Went q (respond_or_perform m call header i)) (sym same) (subst (λ r. IsAs outcome.Went q r) (sym h) (or_activate-as m call header q))
+
+    processes-as : (p : ℕ) → IsAs outcome.Went (processes m p call.arguments) (respond_or_perform m call header p)
+    unfolding processes respond_or_perform respond
+    processes-as p =
+        either-as _ (p == 85) _ _ _ (numbered-as p 85 _ refl)
+        (either-as _ (p == 86) _ _ _ (numbered-as p 86 _ refl)
+        (either-as _ (p == 87) _ _ _ (numbered-as p 87 _ refl)
+        (either-as _ (p == 88) _ _ _ (numbered-as p 88 _ refl) (not-as _ _))))
+
+    respond-as : IsAs outcome.Went (respond_at_once m call.method call.arguments) (respond_by_extension m (respond_or_perform m call header) call)
+    unfolding respond_at_once respond_by_extension
+    respond-as = then-as _ _ _ _ processes-as
+
+  execute-as : (method : Value) (n : ℕ) → IsAs outcome.Went (execute_at_once m method n) (execute m (record { method = method; arguments = n }))
+  unfolding execute_at_once execute_at_once_by execute execute_by
+  execute-as method n =
+      then-as _ _ _ _ (λ header. if-as _ (flag_of header == 5) _ _ _ _ went-as
+      (if-as _ (flag_of header == 6) _ _ _ _ (goes_on-as _)
+      (if-as _ (flag_of header == 7) _ _ _ _ (respond-as (record { method = method; arguments = n }) header) (activate-as method header n))))
+
+  found-as : (class selector : Value) (n : ℕ) (method : Option Value) → IsAs outcome.Went (found_at_once m n method) (executed m (call_found m class selector n method))
+  unfolding found_at_once call_found
+  found-as class selector n None = not-as _ _
+  found-as class selector n (Some method) = called-as _ _ (execute-as method n)
+
+  send-as : (selector : Value) (n : ℕ) → IsAs outcome.Went (send_at_once m selector n) (executed m (send m selector n))
+  unfolding send_at_once send_from_at_once send send_from
+  send-as selector n = calls-as _ _ _ (λ receiver. calls-as _ _ _ (λ class. calls-as _ _ _ (found-as class selector n)))
+
+  literal_send-as : (i n : ℕ) → IsAs outcome.Went (literal_send_at_once m i n) (executed m (send_literal m i n))
+  unfolding literal_send_at_once send_literal
+  literal_send-as i n = calls-as _ _ _ (λ selector. send-as selector n)
+
+  answered-as : (a : Option IntAnswer) → IsAs true (answered_at_once m a) (succeed m 1 (value_of_answer m) a)
+  unfolding answered_at_once
+  answered-as None = not-as true _
+  answered-as (Some (Number n)) = λ s. self-as _
+  answered-as (Some (Truth b)) = λ s. self-as _
+  answered-as (Some (Point x y)) = not-as true _
+
+  arithmetic_by-as : (k : ℕ) (v : Value) → IsAs outcome.Went (arithmetic_at_once_by m k v) (arithmetic_by m k v)
+  unfolding arithmetic_at_once_by arithmetic_by arithmetic primitive
+  arithmetic_by-as k (Small n) = or_send-as m k _ _ (then-as true _ _ _ answered-as)
+  arithmetic_by-as k (Ref n) = not-as _ _
+
+  arithmetic-as : (k : ℕ) → IsAs outcome.Went (arithmetic_at_once m k) (arithmetic_send m k)
+  unfolding arithmetic_at_once arithmetic_send
+  arithmetic-as k = then-as _ _ _ _ (arithmetic_by-as k)
+
+  primitive-as : (k : ℕ) → IsAs outcome.Went (primitive_at_once m k) (primitive_send m k)
+  unfolding primitive_at_once primitive_send
+  primitive-as k =
+      if-as _ (k == 22) _ _ _ _ (goes_on-as _)
+      (if-as _ (k == 23) _ _ _ _ (goes_on-as _)
+      (if-as _ (k == 24) _ _ _ _ (not-as _ _) (or_send-as m k _ _ (λ s. self-as _))))
+
+  jump_on-as : (wanted other : PageObject) (d : ℤ) → IsAs None (jump_at_once m wanted other d) (jump_on m wanted other d)
+  unfolding jump_at_once jump_on
+  jump_on-as wanted other d =
+      then-as _ _ _ _ (λ x. then-as _ _ _ _ (λ a. then-as _ _ _ _ (λ b. if-as _ (same_value x a) _ _ _ _ (calls_nothing-as (jump d)) (choice-as (same_value x b) _))))
+
+  return_to-as : (c v : Value) → IsAs None (return_at_once m c v) (return_to m c v)
+  unfolding return_at_once return_to return_to_context_at_once return_to_context
+  return_to-as c v =
+      then-as _ _ _ _ (λ nil. if-as _ (same_value c nil) _ _ _ _ (not-as _ _)
+      (then-as _ _ _ _ (λ ip. if-as _ (same_value ip nil) _ _ _ _ (not-as _ _) (calls_nothing-as (return_into m c v)))))
+
+  return_to_sender-as : (v : Value) → IsAs None (return_to_sender_at_once m v) (return_to_sender m v)
+  unfolding return_to_sender_at_once return_to_sender
+  return_to_sender-as v = then-as _ _ _ _ (λ home. then-as _ _ _ _ (λ c. return_to-as c v))
+
+  return_to_caller-as : (v : Value) → IsAs None (return_to_caller_at_once m v) (return_to_caller m v)
+  unfolding return_to_caller_at_once return_to_caller
+  return_to_caller-as v = then-as _ _ _ _ (λ active. then-as _ _ _ _ (λ c. return_to-as c v))
+
+  long_jump-as : (wanted other : PageObject) (i : ℕ) → IsAs None (long_jump_at_once m wanted other i) (next_byte m >>= (λ b. jump_on m wanted other (pos (i * 256 + b))))
+  unfolding long_jump_at_once
+  long_jump-as wanted other i = then-as _ _ _ _ (λ b. jump_on-as wanted other (pos (i * 256 + b)))
+
+  unsent-as : (b : Bytecode) → IsAs outcome.Went (unsent_at_once m b) (bytecode m b)
+  unfolding unsent_at_once bytecode return_receiver_at_once return_constant_at_once return_top_to_sender_at_once return_top_to_caller_at_once return_receiver return_constant return_top_to_sender return_top_to_caller short_jump_on_false long_jump_on_true long_jump_on_false
+  unsent-as (code.Push operand) = goes_on-as _
+  unsent-as (code.StoreAndPop operand) = goes_on-as _
+  unsent-as code.PushReceiver = goes_on-as _
+  unsent-as (code.PushConstant c) = goes_on-as _
+  unsent-as code.ReturnReceiver = executed-as m _ _ (then-as _ _ _ _ return_to_sender-as)
+  unsent-as (code.ReturnConstant c) = executed-as m _ _ (then-as _ _ _ _ return_to_sender-as)
+  unsent-as code.ReturnTopToSender = executed-as m _ _ (then-as _ _ _ _ return_to_sender-as)
+  unsent-as code.ReturnTopToCaller = executed-as m _ _ (then-as _ _ _ _ return_to_caller-as)
+  unsent-as code.Unused = not-as _ _
+  unsent-as code.ExtendedPush = goes_on-as _
+  unsent-as code.ExtendedStore = goes_on-as _
+  unsent-as code.ExtendedStoreAndPop = goes_on-as _
+  unsent-as code.ExtendedSend = not-as _ _
+  unsent-as code.DoubleExtendedSend = not-as _ _
+  unsent-as code.ExtendedSuperSend = not-as _ _
+  unsent-as code.DoubleExtendedSuperSend = not-as _ _
+  unsent-as code.PopStack = goes_on-as _
+  unsent-as code.DuplicateTop = goes_on-as _
+  unsent-as code.PushActiveContext = goes_on-as _
+  unsent-as (code.ShortUnconditionalJump i) = goes_on-as _
+  unsent-as (code.ShortJumpOnFalse i) = executed-as m _ _ (jump_on-as FalseObject TrueObject (pos (i + 1)))
+  unsent-as (code.LongUnconditionalJump i) = goes_on-as _
+  unsent-as (code.LongJumpOnTrue i) = executed-as m _ _ (long_jump-as TrueObject FalseObject i)
+  unsent-as (code.LongJumpOnFalse i) = executed-as m _ _ (long_jump-as FalseObject TrueObject i)
+  unsent-as (code.ArithmeticSend k) = arithmetic-as k
+  unsent-as (code.SpecialSend k) = not-as _ _
+  unsent-as (code.PrimitiveSend k) = primitive-as k
+  unsent-as (code.LiteralSend i n) = not-as _ _
+
+  bytecode-as : (b : Bytecode) → IsAs outcome.Went (bytecode_at_once m b) (bytecode m b)
+  unfolding bytecode_at_once bytecode
+  bytecode-as (code.LiteralSend i n) = literal_send-as i n
+  bytecode-as b = unsent-as b
+
+  pub step-as : IsAs outcome.Went (step_at_once m) (step m)
+  unfolding step_at_once step
+  step-as = then-as _ _ _ _ (λ b. bytecode-as _)

@@ -1,0 +1,123 @@
+-- A step that was done at once, over a memory and its registers.
+use Rattle.std.proofs.Common.{◌≡◌, ◌<◌, ◌≤◌, ℕ, arith, Bool, true, false, Ok, Err, refl, sym, ap, ◌∙◌, subst}
+use Rattle.std.specs.Prelude.{Result, nat_lt, ◌/◌, ◌%◌, ◌==◌, ◌&&◌, is_some, if◌then◌else◌}
+use Rattle.std.proofs.lemmas.Bool.Decides.{nat_tests}
+use Rattle.st_model.specs.declared.dead.Dead.{Dead}
+use Rattle.st_model.specs.declared.deed.Deed.{Deed}
+use Rattle.st_model.specs.declared.word.Word.{Word}
+use Rattle.st_model.specs.Values.{Small, Ref, value_of, word, is_small, IsLive}
+use Rattle.st_model.specs.Show.{IsUsed}
+use Rattle.st_model.specs.Deeds.{deed_done, with_deed}
+use Rattle.st_model.proofs.Closed.{step_closed}
+use Rattle.st_model.proofs.Deeds.{deed_uses, deed_leaves_there}
+use Rattle.st_frames.specs.Narrow.{IsNarrow}
+use Rattle.st_model.specs.Objects.{one, words_of}
+use Rattle.st_model.specs.Outcomes.{Outcome}
+use Rattle.st_model.specs.Outcomes as outcome
+use Rattle.st_model.specs.Machine.{World, Head, State, Step, Transition, Died, Went, is_there, used, is_over}
+use Rattle.st_model.specs.Steps.{are_there}
+use Rattle.st_model.specs.Table.{Table, table, apart, bounded_table, total_used}
+use Rattle.st_model.specs.Calls.{transition_of}
+use Rattle.st_model.specs.Bytecodes.{step}
+use Rattle.st_model.specs.View.{View, IsWhole}
+use Rattle.st_frames.specs.declared.frame.Frame.{Frame}
+use Rattle.st_frames.specs.declared.registers.Registers.{Registers as Words}
+use Rattle.st_frames.specs.Rows.{row_state, registers_in}
+use Rattle.st_frames.specs.Shown.{shown, registers_of, IsReady, StaysFrame}
+use Rattle.st_control.specs.Foreseen.{IsForeseen}
+use Rattle.st_at_once.specs.declared.ending.RowEnd.{RowEnd}
+use Rattle.st_at_once.specs.declared.ending.RowEnd.TheVariants.{ToForesee, Done, Leaves}
+use Rattle.st_at_once.specs.AtOnce.{was_done, deed_left, GoesOn, IsDoneBut, step_at_once}
+use Rattle.st_at_once.proofs.AtOnce.{As, step-as}
+use Rattle.st_at_once.proofs.AlikeRows.{same_at_once}
+use Rattle.st_at_once.proofs.Linked.{Linked, linked}
+use Rattle.st_frames.proofs.Closed.{is_closed}
+
+within_if : (a b c d : ℕ) → a ≤ b → c ≤ d → (if nat_lt b a then true else nat_lt d c) ≡ false
+within_if a b c d l k = grind (arith, nat_tests, l, k)
+
+-- what a memory keeps is within its capacities
+within : (v : View) (a : Head) → IsWhole v → v.head ≡ a → is_over (used table v.objects) a ≡ false
+within v a whole e =
+    let x = whole.entries in
+    let y = whole.words in
+    ap (λ b. is_over (used table v.objects) b) (sym e) ∙ within_if (total_used one v.objects) v.head.entries (total_used words_of v.objects) v.head.words x y
+
+module _ (c : State Table) (x : Result RowEnd Dead) (d : State Table) (does : (step_at_once bounded_table).run c ≡ transition_of was_done x d) where
+  bounded_as : As outcome.Went (transition_of was_done x d) ((step bounded_table).run c)
+  bounded_as = subst (λ o. As outcome.Went o ((step bounded_table).run c)) does (step-as bounded_table c)
+
+  table_as : As outcome.Went (transition_of was_done x d) ((step table).run c)
+  table_as = subst (λ o. As outcome.Went o ((step table).run c)) (ap (λ (m : Step Table Bool). m.run c) same_at_once ∙ does) (step-as table c)
+
+  pub quick_done : (end : RowEnd) → x ≡ Ok end → was_done end ≡ true → (step bounded_table).run c ≡ Went outcome.Went d
+  quick_done end q b =
+      subst (λ y. As outcome.Went (Went y d) ((step bounded_table).run c)) b (subst (λ y. As outcome.Went (transition_of was_done y d) ((step bounded_table).run c)) q bounded_as)
+
+  table_done : (end : RowEnd) → x ≡ Ok end → was_done end ≡ true → (step table).run c ≡ Went outcome.Went d
+  table_done end q b =
+      subst (λ y. As outcome.Went (Went y d) ((step table).run c)) b (subst (λ y. As outcome.Went (transition_of was_done y d) ((step table).run c)) q table_as)
+
+  table_dies : (cause : Dead) → x ≡ Err cause → (step table).run c ≡ Died cause
+  table_dies cause q = subst (λ y. As outcome.Went (transition_of was_done y d) ((step table).run c)) q table_as
+
+module _ (v : View) (f : Frame) (w : World) (whole : IsWhole v) (ready : IsReady v f w) (x : Result RowEnd Dead) (d : State Table)
+    (does : (step_at_once bounded_table).run (shown v f w) ≡ transition_of was_done x d) where
+  link : (p : Transition (State Table) Outcome) → (step table).run (shown v f w) ≡ p → Linked p ((step apart).run (shown v f w))
+  link p e = subst (λ y. Linked y ((step apart).run (shown v f w))) e (linked v f w whole ready)
+
+  pub quick_dies : (cause : Dead) → x ≡ Err cause → (step apart).run (shown v f w) ≡ Died cause
+  quick_dies cause q = link (Died cause) (table_dies (shown v f w) x d does cause q)
+
+  pub quick_foreseen : (u : View) (end : RowEnd) → x ≡ Ok end → was_done end ≡ true → IsWhole u → used table d.memory ≡ used table u.objects → u.head ≡ v.head → IsForeseen (shown v f w)
+  quick_foreseen u end q b there uses head =
+      let l = link (Went outcome.Went d) (table_done (shown v f w) x d does end q b) in
+      record {
+        outcome = l.0;
+        after = l.1;
+        goes = l.2;
+        fits = ap (λ y. is_over y v.head) (l.3 ∙ uses) ∙ within u v.head there head;
+      }
+
+-- a deed changes nothing of what is used
+pub left_uses : (u : View) (r : Words) (deed : Deed) → used table (with_deed deed (row_state u.objects u.head r)).memory ≡ used table u.objects
+unfolding row_state
+left_uses u r deed = deed_uses deed u.objects
+
+there_if : (t : Table) (b : Bool) (n : ℕ) → IsLive (IsUsed t) (if b then Small n else Ref n) → (is_small (if b then Small n else Ref n) ≡ true → n < 32768)
+    → is_there table t (if b then Small n else Ref n) ≡ true
+there_if t true n h s = let l = s refl in grind (arith, nat_tests, l)
+there_if t false n h s = ap (λ x. is_some x) h.1
+
+there : (t : Table) (w : Word) → IsLive (IsUsed t) (word w) → IsNarrow w → is_there table t (word w) ≡ true
+unfolding value_of
+there t w h s = there_if t (w.0 % 2 == 1) (w.0 / 2) h (λ e. let l = s e in omega (arith, l))
+
+all_there : (a b c d : Bool) → a ≡ true → b ≡ true → c ≡ true → d ≡ true → (a && (b && (c && d))) ≡ true
+all_there a b c d p q r s = rw (p, q, r, s) refl
+
+-- what the registers name is there, as it is once the deed is done that is left
+pub quick_there : (v : View) (f : Frame) (world : World) (t : Table) (a : Head) (r : Words) (deed : Deed) → IsWhole v → IsReady v f world
+    → (step bounded_table).run (shown v f world) ≡ Went outcome.Went (with_deed deed (row_state t a r)) → are_there table t (registers_in r) ≡ true
+unfolding row_state
+quick_there v f world t a r deed w ready e =
+    let closed = step_closed (shown v f world) (with_deed deed (row_state t a r)) outcome.Went (is_closed v f world w ready) e in
+    let before : (x : Word) → IsLive (IsUsed (deed_done deed t)) (word x) → IsNarrow x → is_there table t (word x) ≡ true = λ x l n. sym (deed_leaves_there deed t (word x)) ∙ there (deed_done deed t) x l n in
+    all_there (is_there table t (word r.active)) (is_there table t (word r.home)) (is_there table t (word r.method)) (is_there table t (word r.receiver))
+    (before r.active closed.roots.0 r.active_narrow) (before r.home closed.roots.1.0 r.home_narrow)
+    (before r.method closed.roots.1.1.0 r.method_narrow) (before r.receiver closed.roots.1.1.1.0 r.receiver_narrow)
+
+-- the state that a row leaves, once its registers are held
+pub quick_held : (v u : View) (f : Frame) (w : World) (r : Words) → registers_of f ≡ registers_in r → r.world.now ≡ w → u.objects ≡ v.objects → u.head ≡ v.head → row_state v.objects v.head r ≡ shown u f w
+unfolding row_state
+quick_held v u f w r e q o h = λ i. record { memory = sym o i; registers = sym e i; world = q i; head = sym h i }
+
+-- the registers are held as before, or again, and so is what the world names
+pub quick_ready : (u v : View) (f g : Frame) (w : World) → IsReady u f w → StaysFrame u v g → IsReady v g w
+quick_ready u v f g w ready stays = record { frame = stays.frame; devices = stays.devices ∙ ready.devices }
+
+-- a bytecode that was done, but for what it leaves
+pub done_but : (c d : State Table) (end : RowEnd) → was_done end ≡ true → GoesOn c (with_deed (deed_left end) d) → IsDoneBut c (Ok end) d
+done_but c d ToForesee b h = cc
+done_but c d Done b h = h
+done_but c d (Leaves deed) b h = h

@@ -1,0 +1,208 @@
+-- Bytecodes that are done at once, without being foreseen: most of those that make no object; and sends by 208 to 255 that activate
+-- a method, where there is room for its context, or do a primitive on processes. Each answers whether it was such a one. Where it
+-- wasn't, what it leaves is of no use: the bytecode is to be foreseen.
+use Rattle.std.specs.Prelude.{◌≡◌, ℕ, ◌+◌, ◌*◌, ◌-◌, ◌==◌, Bool, true, false, Option, Some, None, Result, Ok, Err, if◌then◌else◌, pos, IfOk}
+use Rattle.st_model.specs.declared.dead.Dead.{Dead}
+use Rattle.st_model.specs.declared.deed.Deed.{Deed}
+use Rattle.st_model.specs.declared.deed.Deed.TheVariants.{Nothing}
+use Rattle.st_model.specs.declared.bytecode.Constant.{Constant}
+use Rattle.st_model.specs.declared.bytecode.Bytecode.{Bytecode}
+use Rattle.st_model.specs.declared.bytecode.Bytecode.TheVariants as code
+use Rattle.st_model.specs.declared.integers.IntAnswer.{IntAnswer}
+use Rattle.st_model.specs.declared.integers.IntAnswer.TheVariants.{Number, Truth, Point}
+use Rattle.st_model.specs.Values.{Value, Small, Ref}
+use Rattle.st_model.specs.declared.page.PageObject.{PageObject}
+use Rattle.st_model.specs.declared.page.PageObject.TheVariants.{FalseObject, TrueObject}
+use Rattle.st_model.specs.Decoded.{decoded}
+use Rattle.st_model.specs.Outcomes.{Outcome}
+use Rattle.st_model.specs.Outcomes as outcome
+use Rattle.st_model.specs.Machine.{ObjectMemory, State, Died, Went, Step, answer, tried, ◌>>=◌}
+use Rattle.st_model.specs.Steps.{get_receiver, class_of, under, pop, next_byte}
+use Rattle.st_model.specs.Methods.{method_header, method_primitive, temporary_count, flag_of}
+use Rattle.st_model.specs.Lookup.{find}
+use Rattle.st_model.specs.Executing.{answer_field}
+use Rattle.st_model.specs.Primitives.{succeed}
+use Rattle.st_model.specs.Arithmetic.{integer_answer, value_of_answer, arithmetic_number, equivalence, receiver_class}
+use Rattle.st_model.specs.Blocks.{primitive_value}
+use Rattle.st_model.specs.Processes.{processes}
+use Rattle.st_model.specs.Deeds.{with_deed}
+use Rattle.st_model.specs.Bytecodes.{fetch_literal_constant, push_operand, store_and_pop, push_receiver, push_constant, constant_value, extended_push, extended_store, extended_store_and_pop, pop_stack, duplicate_top, push_active_context, short_unconditional_jump, long_unconditional_jump, step}
+use Rattle.st_model.specs.Table.{Table, apart, bounded_table}
+use Rattle.st_control.specs.Foreseen.{IsForeseen}
+use Rattle.st_at_once.specs.declared.ending.RowEnd.{RowEnd}
+use Rattle.st_at_once.specs.declared.ending.RowEnd.TheVariants.{ToForesee, Done, Leaves}
+use Rattle.st_memory.specs.declared.objects.Objects.{Ghosts}
+use Rattle.st_control.specs.AtOnce.{AreStill, at_once, activate_at_once, jump_at_once, return_to_sender_at_once, return_to_caller_at_once}
+
+-- what a primitive on SmallIntegers answered, unless it failed, or answers a Point, which would have to be made
+unfoldable pub answered_at_once : {H : Type 0} → ObjectMemory H → Option IntAnswer → Step H Bool
+answered_at_once m None = answer false
+answered_at_once m (Some (Number n)) = succeed m 1 (value_of_answer m) (Some (Number n))
+answered_at_once m (Some (Truth b)) = succeed m 1 (value_of_answer m) (Some (Truth b))
+answered_at_once m (Some (Point x y)) = answer false
+
+unfoldable pub arithmetic_at_once_by : {H : Type 0} → ObjectMemory H → ℕ → Value → Step H Bool
+arithmetic_at_once_by m k (Small n) = do
+  a ← tried (integer_answer m (arithmetic_number k))
+  answered_at_once m a
+arithmetic_at_once_by m k (Ref n) = answer false
+
+-- 176 to 191
+unfoldable pub arithmetic_at_once : {H : Type 0} → ObjectMemory H → ℕ → Step H Bool
+arithmetic_at_once m k = do
+  receiver ← under m 1
+  arithmetic_at_once_by m k receiver
+
+-- 198, 199, 201 and 202
+unfoldable pub primitive_at_once : {H : Type 0} → ObjectMemory H → ℕ → Step H Bool
+primitive_at_once m k =
+    if k == 22 then at_once (equivalence m) else
+    if k == 23 then at_once (receiver_class m) else
+    if k == 24 then answer false else primitive_value m (k - 25)
+
+-- 168 to 175
+unfoldable pub long_jump_at_once : {H : Type 0} → ObjectMemory H → PageObject → PageObject → ℕ → Step H Bool
+long_jump_at_once m wanted other i = do
+  b ← next_byte m
+  jump_at_once m wanted other (pos (i * 256 + b))
+
+-- 120
+unfoldable pub return_receiver_at_once : {H : Type 0} → ObjectMemory H → Step H Bool
+return_receiver_at_once m = do
+  receiver ← get_receiver
+  return_to_sender_at_once m receiver
+
+-- 121 to 123
+unfoldable pub return_constant_at_once : {H : Type 0} → ObjectMemory H → Constant → Step H Bool
+return_constant_at_once m c = do
+  x ← constant_value m c
+  return_to_sender_at_once m x
+
+-- 124
+unfoldable pub return_top_to_sender_at_once : {H : Type 0} → ObjectMemory H → Step H Bool
+return_top_to_sender_at_once m = do
+  x ← pop m
+  return_to_sender_at_once m x
+
+-- 125
+unfoldable pub return_top_to_caller_at_once : {H : Type 0} → ObjectMemory H → Step H Bool
+return_top_to_caller_at_once m = do
+  x ← pop m
+  return_to_caller_at_once m x
+
+-- a primitive on processes is tried, which makes nothing; where it fails, and where there is none, the method is to be foreseen
+unfoldable pub respond_at_once : {H : Type 0} → ObjectMemory H → Value → ℕ → Step H Bool
+respond_at_once m method n = do
+  primitive ← method_primitive m method
+  processes m primitive n
+
+-- The method is executed whose header has this flag: one that answers the receiver or a field, responds by a primitive on
+-- processes, or is activated.
+unfoldable pub execute_at_once_by : {H : Type 0} → ObjectMemory H → Value → Value → ℕ → ℕ → Step H Bool
+execute_at_once_by m method header n flag =
+    if flag == 5 then answer true else
+    if flag == 6 then at_once (answer_field m (temporary_count header)) else
+    if flag == 7 then respond_at_once m method n else activate_at_once m method header n
+
+unfoldable pub execute_at_once : {H : Type 0} → ObjectMemory H → Value → ℕ → Step H Bool
+execute_at_once m method n = do
+  header ← method_header m method
+  execute_at_once_by m method header n (flag_of header)
+
+-- a message that isn't understood would have to be made
+unfoldable pub found_at_once : {H : Type 0} → ObjectMemory H → ℕ → Option Value → Step H Bool
+found_at_once m n None = answer false
+found_at_once m n (Some method) = execute_at_once m method n
+
+unfoldable pub send_from_at_once : {H : Type 0} → ObjectMemory H → Value → Value → ℕ → Step H Bool
+send_from_at_once m class selector n = do
+  method ← find m class selector
+  found_at_once m n method
+
+unfoldable pub send_at_once : {H : Type 0} → ObjectMemory H → Value → ℕ → Step H Bool
+send_at_once m selector n = do
+  receiver ← under m n
+  class ← class_of m receiver
+  send_from_at_once m class selector n
+
+-- 208 to 255
+unfoldable pub literal_send_at_once : {H : Type 0} → ObjectMemory H → ℕ → ℕ → Step H Bool
+literal_send_at_once m i n = do
+  selector ← fetch_literal_constant m i
+  send_at_once m selector n
+
+-- the row of a bytecode that is no send by 208 to 255, where that is done at once
+unfoldable pub unsent_at_once : {H : Type 0} → ObjectMemory H → Bytecode → Step H Bool
+unsent_at_once m (code.Push operand) = at_once (push_operand m operand)
+unsent_at_once m (code.StoreAndPop operand) = at_once (store_and_pop m operand)
+unsent_at_once m code.PushReceiver = at_once (push_receiver m)
+unsent_at_once m (code.PushConstant c) = at_once (push_constant m c)
+unsent_at_once m code.ReturnReceiver = return_receiver_at_once m
+unsent_at_once m (code.ReturnConstant c) = return_constant_at_once m c
+unsent_at_once m code.ReturnTopToSender = return_top_to_sender_at_once m
+unsent_at_once m code.ReturnTopToCaller = return_top_to_caller_at_once m
+unsent_at_once m code.Unused = answer false
+unsent_at_once m code.ExtendedPush = at_once (extended_push m)
+unsent_at_once m code.ExtendedStore = at_once (extended_store m)
+unsent_at_once m code.ExtendedStoreAndPop = at_once (extended_store_and_pop m)
+unsent_at_once m code.ExtendedSend = answer false
+unsent_at_once m code.DoubleExtendedSend = answer false
+unsent_at_once m code.ExtendedSuperSend = answer false
+unsent_at_once m code.DoubleExtendedSuperSend = answer false
+unsent_at_once m code.PopStack = at_once (pop_stack m)
+unsent_at_once m code.DuplicateTop = at_once (duplicate_top m)
+unsent_at_once m code.PushActiveContext = at_once (push_active_context m)
+unsent_at_once m (code.ShortUnconditionalJump i) = at_once (short_unconditional_jump i)
+unsent_at_once m (code.ShortJumpOnFalse i) = jump_at_once m FalseObject TrueObject (pos (i + 1))
+unsent_at_once m (code.LongUnconditionalJump i) = at_once (long_unconditional_jump m i)
+unsent_at_once m (code.LongJumpOnTrue i) = long_jump_at_once m TrueObject FalseObject i
+unsent_at_once m (code.LongJumpOnFalse i) = long_jump_at_once m FalseObject TrueObject i
+unsent_at_once m (code.ArithmeticSend k) = arithmetic_at_once m k
+unsent_at_once m (code.SpecialSend k) = answer false
+unsent_at_once m (code.PrimitiveSend k) = primitive_at_once m k
+unsent_at_once m (code.LiteralSend i n) = answer false
+
+-- the row of a bytecode, where that is done at once
+unfoldable pub bytecode_at_once : {H : Type 0} → ObjectMemory H → Bytecode → Step H Bool
+bytecode_at_once m (code.LiteralSend i n) = literal_send_at_once m i n
+bytecode_at_once m b = unsent_at_once m b
+
+-- the next bytecode, where it is done at once
+unfoldable pub step_at_once : {H : Type 0} → ObjectMemory H → Step H Bool
+step_at_once m = do
+  b ← next_byte m
+  bytecode_at_once m (decoded b)
+
+-- whether a bytecode of the code was done at once
+abbrev pub was_done : RowEnd → Bool
+was_done ToForesee = false
+was_done Done = true
+was_done (Leaves deed) = true
+
+-- and what it leaves to be done
+abbrev pub deed_left : RowEnd → Deed
+deed_left ToForesee = Nothing
+deed_left Done = Nothing
+deed_left (Leaves deed) = deed
+
+-- where it is to be foreseen, the objects are as they were
+abbrev pub StillToForesee : {M : Type 0} → Ghosts M → M → Result RowEnd Dead → M → Type 0
+StillToForesee o old result new = IfOk result (λ end. was_done end ≡ false → AreStill o old new)
+
+-- the bytecode would have been foreseen, with room for what it makes, and goes on to this state
+abbrev pub GoesOn : State Table → State Table → Type 0
+GoesOn c d = IsForeseen c × ((step bounded_table).run c ≡ Went outcome.Went d)
+
+-- What the next bytecode comes to that was tried at once: the machine dies of this cause, as it would be foreseen; or it is to
+-- be foreseen, and nothing was changed; or it was done, perhaps but for a deed.
+abbrev pub IsDoneBut : State Table → Result RowEnd Dead → State Table → Type 0
+IsDoneBut c (Err cause) d = (step apart).run c ≡ Died cause
+IsDoneBut c (Ok ToForesee) d = d ≡ c
+IsDoneBut c (Ok Done) d = GoesOn c d
+IsDoneBut c (Ok (Leaves deed)) d = GoesOn c (with_deed deed d)
+
+-- the same once the deed is done, where one is left
+abbrev pub IsDoneAtOnce : State Table → Result Bool Dead → State Table → Type 0
+IsDoneAtOnce c (Err cause) d = (step apart).run c ≡ Died cause
+IsDoneAtOnce c (Ok false) d = d ≡ c
+IsDoneAtOnce c (Ok true) d = GoesOn c d

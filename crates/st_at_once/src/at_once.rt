@@ -1,0 +1,472 @@
+ghost use Rattle.std.specs.Prelude.{◌≡◌, ◌<◌, ◌≤◌, ◌+◌, ◌*◌, pos, Some};
+ghost use Rattle.st_model.specs.Values.{word};
+ghost use Rattle.st_model.specs.Calls.{itself};
+ghost use Rattle.st_model.specs.Decoded.{IsNumbered};
+ghost use Rattle.st_ints.specs.Answers.{IsOfSmall};
+ghost use Rattle.st_model.specs.declared.page.PageObject.TheVariants.{FalseObject, TrueObject};
+ghost use Rattle.st_control.specs.AtOnce.{IsStill, at_once, activate_at_once, jump_at_once, return_to_sender_at_once};
+ghost use Rattle.st_at_once.specs.AtOnce.{was_done, deed_left, StillToForesee, respond_at_once, execute_at_once_by, execute_at_once, found_at_once, send_from_at_once, send_at_once, literal_send_at_once, answered_at_once, arithmetic_at_once_by, arithmetic_at_once, primitive_at_once, long_jump_at_once, return_receiver_at_once, return_constant_at_once, return_top_to_sender_at_once, return_top_to_caller_at_once, unsent_at_once, bytecode_at_once, step_at_once};
+ghost use Rattle.st_model.specs.Methods.{flag_of};
+ghost use Rattle.st_lookup.specs.Places.{found_word};
+ghost use Rattle.st_frames.specs.Rows.{RowMoves, RowDoes, RowLeaves, Takes, activation_changes};
+
+use crate::ending::RowEnd;
+use st_control::{
+    activate_at_once, find_method, jump_at_once, method_primitive, return_to_caller_at_once,
+    return_to_sender_at_once, value_at_once,
+};
+use st_frames::{Registers, next_byte, page, pop, under};
+use st_ints::IntAnswer;
+use st_memory::Objects;
+use st_method::Header;
+use st_model::{Bytecode, Constant, Dead, PageObject, Tried, Word, decode};
+use st_process::try_process;
+use st_rows::{
+    answer_field, answer_pair, arithmetic_number, constant_value, duplicate_top, equivalence,
+    extended_push, extended_store, extended_store_and_pop, fetch_literal_constant, integer_answer,
+    long_unconditional_jump, pop_stack, push_active_context, push_constant, push_operand,
+    push_receiver, receiver_class, short_unconditional_jump, store_and_pop, word_of,
+};
+
+/// A number or a truth takes the place of receiver and argument. Answers whether it was one: a Point isn't made.
+#[tactic(auto, using(st_rows::proofs::Tries::values), unfolding(crate::specs::AtOnce::answered_at_once, st_model::specs::Primitives::succeed, st_model::specs::Arithmetic::value_of_answer, st_model::specs::Primitives::truth))]
+fn answered_at_once<O: Objects>(
+    m: &mut O,
+    r: &mut Registers,
+    answer: IntAnswer,
+) -> Result<bool, Dead>
+    requires room { 1 ≤ O.room m.old }
+    requires small { IsOfSmall answer }
+    ensures does { RowDoes O.Objects.own (answered_at_once O.names (Some answer))
+        itself m.old r.old result m.new r.new }
+    ensures takes { Takes O.Objects.own 1 m.old m.new }
+    ensures still { IsStill O.Objects.own m.old result m.new }
+{
+    let value = match answer {
+        IntAnswer::Number(n) => word_of(n),
+        IntAnswer::Truth(true) => page(m, PageObject::TrueObject),
+        IntAnswer::Truth(false) => page(m, PageObject::FalseObject),
+        IntAnswer::Point(_, _) => return Ok(false),
+    };
+    answer_pair(m, r, value)?;
+    Ok(true)
+}
+
+/// Does a primitive on two SmallIntegers, where the receiver is one. Answers whether it succeeded.
+#[tactic(auto, using(crate::proofs::AtOnce::tries))]
+fn arithmetic_at_once_by<O: Objects>(
+    m: &mut O,
+    r: &mut Registers,
+    k: u32,
+    receiver: Word,
+) -> Result<bool, Dead>
+    requires number { k < 16 }
+    requires room { 1 ≤ O.room m.old }
+    ensures does { RowDoes O.Objects.own (arithmetic_at_once_by O.names k (word receiver))
+        itself m.old r.old result m.new r.new }
+    ensures takes { Takes O.Objects.own 1 m.old m.new }
+    ensures still { IsStill O.Objects.own m.old result m.new }
+{
+    if !receiver.is_small() {
+        return Ok(false);
+    }
+    match integer_answer(m, r, arithmetic_number(k)) {
+        Ok(answer) => answered_at_once(m, r, answer),
+        Err(_) => Ok(false),
+    }
+}
+
+/// Does the primitive that is tried first for a special selector of 0 to 15. Answers whether it succeeded.
+#[tactic(auto, using(st_frames::proofs::Doing::rows), unfolding(crate::specs::AtOnce::arithmetic_at_once))]
+fn arithmetic_at_once<O: Objects>(m: &mut O, r: &mut Registers, k: u32) -> Result<bool, Dead>
+    requires number { k < 16 }
+    requires room { 1 ≤ O.room m.old }
+    ensures does { RowDoes O.Objects.own (arithmetic_at_once O.names k)
+        itself m.old r.old result m.new r.new }
+    ensures takes { Takes O.Objects.own 1 m.old m.new }
+    ensures still { IsStill O.Objects.own m.old result m.new }
+{
+    let receiver = under(m, r, 1)?;
+    arithmetic_at_once_by(m, r, k, receiver)
+}
+
+/// Does the code 176 + k, where that is 198, 199, or one of the two that compute a block's value. Answers whether it did.
+#[tactic(auto, using(st_frames::proofs::Doing::rows), unfolding(crate::specs::AtOnce::primitive_at_once, st_control::specs::AtOnce::at_once))]
+fn primitive_at_once<O: Objects>(m: &mut O, r: &mut Registers, k: u32) -> Result<bool, Dead>
+    requires number { k < 32 }
+    requires room { 6 ≤ O.room m.old }
+    ensures does { RowDoes O.Objects.own (primitive_at_once O.names k) itself m.old r.old result m.new r.new }
+    ensures takes { Takes O.Objects.own 6 m.old m.new }
+    ensures still { IsStill O.Objects.own m.old result m.new }
+{
+    match k {
+        22 => equivalence(m, r)?,
+        23 => receiver_class(m, r)?,
+        24 => return Ok(false),
+        _ => return value_at_once(m, r, k.saturating_sub(25)),
+    }
+    Ok(true)
+}
+
+/// Pops, and jumps on false by i plus 1. Answers whether the word is a boolean.
+#[tactic(auto, using(st_frames::proofs::Doing::rows))]
+fn short_jump_at_once<O: Objects>(m: &O, r: &mut Registers, i: u8) -> Result<bool, Dead>
+    requires number { i < 8 }
+    ensures does { RowMoves O.Objects.own (jump_at_once O.names FalseObject TrueObject (pos (i + 1)))
+        itself m.now r.old result r.new }
+{
+    let distance = u32::from(i) + 1;
+    jump_at_once(
+        m,
+        r,
+        PageObject::FalseObject,
+        PageObject::TrueObject,
+        distance,
+    )
+}
+
+/// Pops, and jumps on false by i times 256 plus the next byte. Answers whether the word is a boolean.
+#[tactic(auto, using(st_frames::proofs::Doing::rows), unfolding(crate::specs::AtOnce::long_jump_at_once))]
+fn jump_on_false_at_once<O: Objects>(m: &O, r: &mut Registers, i: u8) -> Result<bool, Dead>
+    requires number { i < 4 }
+    ensures does { RowMoves O.Objects.own (long_jump_at_once O.names FalseObject TrueObject i)
+        itself m.now r.old result r.new }
+{
+    let byte = next_byte(m, r)?;
+    let distance = u32::from(i) * 256 + u32::from(byte);
+    jump_at_once(
+        m,
+        r,
+        PageObject::FalseObject,
+        PageObject::TrueObject,
+        distance,
+    )
+}
+
+/// Pops, and jumps on true by i times 256 plus the next byte. Answers whether the word is a boolean.
+#[tactic(auto, using(st_frames::proofs::Doing::rows), unfolding(crate::specs::AtOnce::long_jump_at_once))]
+fn jump_on_true_at_once<O: Objects>(m: &O, r: &mut Registers, i: u8) -> Result<bool, Dead>
+    requires number { i < 4 }
+    ensures does { RowMoves O.Objects.own (long_jump_at_once O.names TrueObject FalseObject i)
+        itself m.now r.old result r.new }
+{
+    let byte = next_byte(m, r)?;
+    let distance = u32::from(i) * 256 + u32::from(byte);
+    jump_at_once(
+        m,
+        r,
+        PageObject::TrueObject,
+        PageObject::FalseObject,
+        distance,
+    )
+}
+
+/// Returns the receiver to the sender. Answers whether it did.
+#[tactic(auto, using(st_frames::proofs::Doing::rows), unfolding(crate::specs::AtOnce::return_receiver_at_once))]
+fn return_receiver_at_once<O: Objects>(m: &mut O, r: &mut Registers) -> Result<bool, Dead>
+    requires room { 3 ≤ O.room m.old }
+    ensures does { RowDoes O.Objects.own (return_receiver_at_once O.names)
+        itself m.old r.old result m.new r.new }
+    ensures takes { Takes O.Objects.own 3 m.old m.new }
+    ensures still { IsStill O.Objects.own m.old result m.new }
+{
+    return_to_sender_at_once(m, r, r.receiver)
+}
+
+/// Returns a constant to the sender. Answers whether it did.
+#[tactic(auto, using(st_frames::proofs::Doing::rows), unfolding(crate::specs::AtOnce::return_constant_at_once))]
+fn return_constant_at_once<O: Objects>(
+    m: &mut O,
+    r: &mut Registers,
+    constant: Constant,
+) -> Result<bool, Dead>
+    requires room { 3 ≤ O.room m.old }
+    ensures does { RowDoes O.Objects.own (return_constant_at_once O.names constant)
+        itself m.old r.old result m.new r.new }
+    ensures takes { Takes O.Objects.own 3 m.old m.new }
+    ensures still { IsStill O.Objects.own m.old result m.new }
+{
+    let x = constant_value(m, r, constant);
+    return_to_sender_at_once(m, r, x)
+}
+
+/// Pops, and returns the word to the sender. Answers whether it did.
+#[tactic(auto, using(st_frames::proofs::Doing::rows), unfolding(crate::specs::AtOnce::return_top_to_sender_at_once))]
+fn return_top_to_sender_at_once<O: Objects>(m: &mut O, r: &mut Registers) -> Result<bool, Dead>
+    requires room { 3 ≤ O.room m.old }
+    ensures does { RowDoes O.Objects.own (return_top_to_sender_at_once O.names)
+        itself m.old r.old result m.new r.new }
+    ensures takes { Takes O.Objects.own 3 m.old m.new }
+    ensures still { IsStill O.Objects.own m.old result m.new }
+{
+    let x = pop(m, r)?;
+    return_to_sender_at_once(m, r, x)
+}
+
+/// Pops, and returns the word to the caller. Answers whether it did.
+#[tactic(auto, using(st_frames::proofs::Doing::rows), unfolding(crate::specs::AtOnce::return_top_to_caller_at_once))]
+fn return_top_to_caller_at_once<O: Objects>(m: &mut O, r: &mut Registers) -> Result<bool, Dead>
+    requires room { 3 ≤ O.room m.old }
+    ensures does { RowDoes O.Objects.own (return_top_to_caller_at_once O.names)
+        itself m.old r.old result m.new r.new }
+    ensures takes { Takes O.Objects.own 3 m.old m.new }
+    ensures still { IsStill O.Objects.own m.old result m.new }
+{
+    let x = pop(m, r)?;
+    return_to_caller_at_once(m, r, x)
+}
+
+/// A new context of the method becomes the active one, where there is room for it.
+#[tactic(auto, using(st_frames::proofs::Doing::rows))]
+fn activated_at_once<O: Objects>(
+    m: &mut O,
+    r: &mut Registers,
+    method: Word,
+    header: Header,
+    n: u32,
+) -> Result<RowEnd, Dead>
+    requires few { n < 16384 }
+    requires room { activation_changes ≤ O.room m.old }
+    ensures does { RowLeaves O.Objects.own (activate_at_once O.names (word method) (word header.0) n)
+        was_done deed_left m.old r.old result m.new r.new }
+    ensures takes { Takes O.Objects.own activation_changes m.old m.new }
+    ensures still { StillToForesee O.Objects.own m.old result m.new }
+{
+    if activate_at_once(m, r, method, header, n)? {
+        Ok(RowEnd::Done)
+    } else {
+        Ok(RowEnd::ToForesee)
+    }
+}
+
+/// Does a method's primitive, where that is one on processes and doesn't fail.
+#[tactic(auto, using(st_frames::proofs::Doing::rows), unfolding(crate::specs::AtOnce::respond_at_once))]
+fn respond_at_once<O: Objects>(
+    m: &mut O,
+    r: &mut Registers,
+    method: Word,
+    n: u32,
+) -> Result<RowEnd, Dead>
+    requires room { activation_changes ≤ O.room m.old }
+    ensures does { RowLeaves O.Objects.own (respond_at_once O.names (word method) n)
+        was_done deed_left m.old r.old result m.new r.new }
+    ensures takes { Takes O.Objects.own activation_changes m.old m.new }
+    ensures still { StillToForesee O.Objects.own m.old result m.new }
+{
+    let primitive = method_primitive(m, r, method)?;
+    match try_process(m, r, primitive, n)? {
+        Tried::Done(deed) => Ok(RowEnd::Leaves(deed)),
+        Tried::Failed => Ok(RowEnd::ToForesee),
+    }
+}
+
+/// Executes a method by its header's flag: one that answers the receiver or a field, responds by a primitive on processes, or is
+/// activated.
+#[tactic(auto, using(st_frames::proofs::Doing::rows), unfolding(crate::specs::AtOnce::execute_at_once_by, st_control::specs::AtOnce::at_once))]
+fn execute_at_once_by<O: Objects>(
+    m: &mut O,
+    r: &mut Registers,
+    method: Word,
+    header: Header,
+    n: u32,
+) -> Result<RowEnd, Dead>
+    requires few { n < 16384 }
+    requires room { activation_changes ≤ O.room m.old }
+    ensures does { RowLeaves O.Objects.own
+        (execute_at_once_by O.names (word method) (word header.0) n (flag_of (word header.0)))
+        was_done deed_left m.old r.old result m.new r.new }
+    ensures takes { Takes O.Objects.own activation_changes m.old m.new }
+    ensures still { StillToForesee O.Objects.own m.old result m.new }
+{
+    match header.flag() {
+        5 => Ok(RowEnd::Done),
+        6 => {
+            answer_field(m, r, header.temporaries())?;
+            Ok(RowEnd::Done)
+        }
+        7 => respond_at_once(m, r, method, n),
+        _ => activated_at_once(m, r, method, header, n),
+    }
+}
+
+/// Executes a method with n arguments.
+#[tactic(auto, using(st_frames::proofs::Doing::rows), unfolding(crate::specs::AtOnce::execute_at_once))]
+fn execute_at_once<O: Objects>(
+    m: &mut O,
+    r: &mut Registers,
+    method: Word,
+    n: u32,
+) -> Result<RowEnd, Dead>
+    requires few { n < 16384 }
+    requires room { activation_changes ≤ O.room m.old }
+    ensures does { RowLeaves O.Objects.own (execute_at_once O.names (word method) n)
+        was_done deed_left m.old r.old result m.new r.new }
+    ensures takes { Takes O.Objects.own activation_changes m.old m.new }
+    ensures still { StillToForesee O.Objects.own m.old result m.new }
+{
+    let header = Header(m.method_header(method)?);
+    execute_at_once_by(m, r, method, header, n)
+}
+
+/// Executes the method that was found, if one was, with n arguments.
+#[tactic(auto, using(st_frames::proofs::Doing::rows), unfolding(crate::specs::AtOnce::found_at_once))]
+fn found_at_once<O: Objects>(
+    m: &mut O,
+    r: &mut Registers,
+    n: u32,
+    method: Option<Word>,
+) -> Result<RowEnd, Dead>
+    requires few { n < 16384 }
+    requires room { activation_changes ≤ O.room m.old }
+    ensures does { RowLeaves O.Objects.own (found_at_once O.names n (found_word method))
+        was_done deed_left m.old r.old result m.new r.new }
+    ensures takes { Takes O.Objects.own activation_changes m.old m.new }
+    ensures still { StillToForesee O.Objects.own m.old result m.new }
+{
+    match method {
+        Some(method) => execute_at_once(m, r, method, n),
+        None => Ok(RowEnd::ToForesee),
+    }
+}
+
+/// Sends the selector with n arguments, where the search begins in this class.
+#[tactic(auto, using(st_frames::proofs::Doing::rows), unfolding(crate::specs::AtOnce::send_from_at_once))]
+fn send_from_at_once<O: Objects>(
+    m: &mut O,
+    r: &mut Registers,
+    class: Word,
+    selector: Word,
+    n: u32,
+) -> Result<RowEnd, Dead>
+    requires few { n < 16384 }
+    requires room { activation_changes ≤ O.room m.old }
+    ensures does { RowLeaves O.Objects.own (send_from_at_once O.names (word class) (word selector) n)
+        was_done deed_left m.old r.old result m.new r.new }
+    ensures takes { Takes O.Objects.own activation_changes m.old m.new }
+    ensures still { StillToForesee O.Objects.own m.old result m.new }
+{
+    let method = find_method(m, r, class, selector)?;
+    found_at_once(m, r, n, method)
+}
+
+/// Sends the selector with n arguments to the word n words below the top.
+#[tactic(auto, using(st_frames::proofs::Doing::rows), unfolding(crate::specs::AtOnce::send_at_once))]
+fn send_at_once<O: Objects>(
+    m: &mut O,
+    r: &mut Registers,
+    selector: Word,
+    n: u32,
+) -> Result<RowEnd, Dead>
+    requires few { n < 16384 }
+    requires room { activation_changes ≤ O.room m.old }
+    ensures does { RowLeaves O.Objects.own (send_at_once O.names (word selector) n)
+        was_done deed_left m.old r.old result m.new r.new }
+    ensures takes { Takes O.Objects.own activation_changes m.old m.new }
+    ensures still { StillToForesee O.Objects.own m.old result m.new }
+{
+    let receiver = under(m, r, n)?;
+    let class = m.fetch_class(receiver)?;
+    send_from_at_once(m, r, class, selector, n)
+}
+
+/// Sends literal i with n arguments.
+#[tactic(auto, using(st_frames::proofs::Doing::rows), unfolding(crate::specs::AtOnce::literal_send_at_once))]
+fn literal_send_at_once<O: Objects>(
+    m: &mut O,
+    r: &mut Registers,
+    i: u32,
+    n: u32,
+) -> Result<RowEnd, Dead>
+    requires few { n < 16384 }
+    requires room { activation_changes ≤ O.room m.old }
+    ensures does { RowLeaves O.Objects.own (literal_send_at_once O.names i n)
+        was_done deed_left m.old r.old result m.new r.new }
+    ensures takes { Takes O.Objects.own activation_changes m.old m.new }
+    ensures still { StillToForesee O.Objects.own m.old result m.new }
+{
+    let selector = fetch_literal_constant(m, r, i)?;
+    send_at_once(m, r, selector, n)
+}
+
+/// Does the row of a bytecode that is no send by 208 to 255, where that is done at once. Answers whether that is so.
+#[inline(always)]
+#[tactic(auto, using(st_frames::proofs::Doing::rows), unfolding(crate::specs::AtOnce::unsent_at_once, st_control::specs::AtOnce::at_once))]
+fn unsent_at_once<O: Objects>(m: &mut O, r: &mut Registers, code: Bytecode) -> Result<bool, Dead>
+    requires numbered { IsNumbered code }
+    requires room { activation_changes ≤ O.room m.old }
+    ensures does { RowDoes O.Objects.own (unsent_at_once O.names code)
+        itself m.old r.old result m.new r.new }
+    ensures takes { Takes O.Objects.own activation_changes m.old m.new }
+    ensures still { IsStill O.Objects.own m.old result m.new }
+{
+    match code {
+        Bytecode::Push(operand) => push_operand(m, r, operand)?,
+        Bytecode::StoreAndPop(operand) => store_and_pop(m, r, operand)?,
+        Bytecode::PushReceiver => push_receiver(m, r)?,
+        Bytecode::PushConstant(constant) => push_constant(m, r, constant)?,
+        Bytecode::ExtendedPush => extended_push(m, r)?,
+        Bytecode::ExtendedStore => extended_store(m, r)?,
+        Bytecode::ExtendedStoreAndPop => extended_store_and_pop(m, r)?,
+        Bytecode::PopStack => pop_stack(m, r)?,
+        Bytecode::DuplicateTop => duplicate_top(m, r)?,
+        Bytecode::PushActiveContext => push_active_context(m, r)?,
+        Bytecode::ShortUnconditionalJump(i) => short_unconditional_jump(m, r, i)?,
+        Bytecode::LongUnconditionalJump(i) => long_unconditional_jump(m, r, i)?,
+        Bytecode::ReturnReceiver => return return_receiver_at_once(m, r),
+        Bytecode::ReturnConstant(constant) => return return_constant_at_once(m, r, constant),
+        Bytecode::ReturnTopToSender => return return_top_to_sender_at_once(m, r),
+        Bytecode::ReturnTopToCaller => return return_top_to_caller_at_once(m, r),
+        Bytecode::ShortJumpOnFalse(i) => return short_jump_at_once(m, r, i),
+        Bytecode::LongJumpOnFalse(i) => return jump_on_false_at_once(m, r, i),
+        Bytecode::LongJumpOnTrue(i) => return jump_on_true_at_once(m, r, i),
+        Bytecode::ArithmeticSend(k) => return arithmetic_at_once(m, r, u32::from(k)),
+        Bytecode::PrimitiveSend(k) => return primitive_at_once(m, r, u32::from(k)),
+        Bytecode::Unused
+        | Bytecode::ExtendedSend
+        | Bytecode::DoubleExtendedSend
+        | Bytecode::ExtendedSuperSend
+        | Bytecode::DoubleExtendedSuperSend
+        | Bytecode::SpecialSend(_)
+        | Bytecode::LiteralSend { .. } => return Ok(false),
+    }
+    Ok(true)
+}
+
+/// Does the row of a bytecode, where that is done at once.
+#[inline(always)]
+#[tactic(auto, using(st_frames::proofs::Doing::rows), unfolding(crate::specs::AtOnce::bytecode_at_once))]
+fn bytecode_at_once<O: Objects>(
+    m: &mut O,
+    r: &mut Registers,
+    code: Bytecode,
+) -> Result<RowEnd, Dead>
+    requires numbered { IsNumbered code }
+    requires room { activation_changes ≤ O.room m.old }
+    ensures does { RowLeaves O.Objects.own (bytecode_at_once O.names code)
+        was_done deed_left m.old r.old result m.new r.new }
+    ensures takes { Takes O.Objects.own activation_changes m.old m.new }
+    ensures still { StillToForesee O.Objects.own m.old result m.new }
+{
+    if let Bytecode::LiteralSend { literal, arguments } = code {
+        return literal_send_at_once(m, r, u32::from(literal), u32::from(arguments));
+    }
+    if unsent_at_once(m, r, code)? {
+        Ok(RowEnd::Done)
+    } else {
+        Ok(RowEnd::ToForesee)
+    }
+}
+
+/// Does the next bytecode, where that is done at once.
+#[inline(always)]
+#[tactic(auto, using(st_frames::proofs::Doing::rows), unfolding(crate::specs::AtOnce::step_at_once))]
+pub fn row_at_once<O: Objects>(m: &mut O, r: &mut Registers) -> Result<RowEnd, Dead>
+    requires room { activation_changes ≤ O.room m.old }
+    ensures does { RowLeaves O.Objects.own (step_at_once O.names)
+        was_done deed_left m.old r.old result m.new r.new }
+    ensures takes { Takes O.Objects.own activation_changes m.old m.new }
+    ensures still { StillToForesee O.Objects.own m.old result m.new }
+{
+    let byte = next_byte(m, r)?;
+    bytecode_at_once(m, r, decode(byte))
+}

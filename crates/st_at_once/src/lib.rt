@@ -1,0 +1,17 @@
+//! Bytecodes that are done at once, without being foreseen (chapter 28): pushes, stores, jumps and returns, arithmetic on
+//! SmallIntegers, and sends by 208 to 255 that activate a method where there is room for its context, or do a primitive on
+//! processes. `st_step` has all bytecodes.
+#![tactic(auto)]
+
+mod at_once;
+mod ending;
+mod holding;
+mod known;
+mod looking;
+mod near;
+mod objects;
+mod quick;
+
+pub use ending::RowEnd;
+pub use near::Near;
+pub use quick::{step_at_once, step_from};

@@ -1,0 +1,116 @@
+ghost use Rattle.std.specs.Prelude.{◌≡◌, ◌<◌, ◌≤◌, IfSome};
+ghost use Rattle.st_model.specs.Values.{value, word};
+ghost use Rattle.st_model.specs.View.{Has, SettlesTo};
+ghost use Rattle.st_model.specs.Table.{bounded_table};
+ghost use Rattle.st_model.specs.Steps.{store_field};
+ghost use Rattle.st_model.specs.Calls.{Changes, itself};
+ghost use Rattle.st_frames.specs.Shown.{IsFrame};
+ghost use Rattle.st_at_once.specs.Known.{IsNear, IsCodeAt, HasLiteral, HasNumber};
+
+use crate::known::{Code, Known};
+use crate::looking::look;
+use st_frames::Frame;
+use st_memory::{Memory, Objects};
+use st_model::{Dead, Oop, Word};
+
+/// The objects of a memory, with what is known of the active context, its home and its method, which it holds. As long as they
+/// are held, a field or a byte of them is read and stored without a look at the object.
+#[derive(Drop)]
+pub struct Near<'a, M: Memory> {
+    /// The memory behind.
+    pub memory: &'a mut M,
+    pub(crate) known: Known,
+    ghost near: { IsNear (M.view memory.now) known },
+}
+
+impl<'a, M: Memory> Near<'a, M> {
+    /// The objects of a memory that holds a frame's registers, with what is known of its contexts and its method.
+    pub fn new(memory: &'a mut M, f: &Frame) -> Near<'a, M>
+        requires { IsFrame (M.view memory.old) f.now }
+        ensures memory { result.memory.now ≡ memory.old }
+        ensures same_memory { result.memory.ghost_name ≡ memory.entry.ghost_name }
+    {
+        let known = look(memory, f, Code::NONE);
+        Near { memory, known }
+    }
+
+    /// Drops all objects but the largest set of which each is a root or is referred to by a member.
+    pub fn settle(&mut self)
+        ensures settles { SettlesTo (M.view self.old.memory.now) (M.view self.new.memory.now) }
+        ensures same_memory { self.new.memory.ghost_name ≡ self.old.memory.ghost_name }
+    {
+        self.memory.settle();
+    }
+
+    /// The pointer of the active or home context, where this is its word and it has field i.
+    pub(crate) fn find_context(&self, o: Word, i: u32) -> Option<Oop>
+        ensures same { IfSome result (λ p. value p ≡ word o) }
+        ensures has { IfSome result (λ p. Has (M.view self.now.memory.now).objects (value p) i 1) }
+    {
+        if o.0 == self.known.active.object.0 && i < self.known.active.number {
+            return Some(Oop(o.0 as u16));
+        }
+        if o.0 == self.known.home.object.0 && i < self.known.home.number {
+            return Some(Oop(o.0 as u16));
+        }
+        None
+    }
+
+    /// How many fields the active or home context has, where this is its word.
+    pub(crate) fn find_number(&self, o: Word) -> Option<u32>
+        ensures number { IfSome result (λ n. HasNumber (M.view self.now.memory.now).objects (word o) n) }
+        ensures small { IfSome result (λ n. n ≤ 65533) }
+    {
+        if o.0 == self.known.active.object.0 && 0 < self.known.active.number {
+            return Some(self.known.active.number);
+        }
+        if o.0 == self.known.home.object.0 && 0 < self.known.home.number {
+            return Some(self.known.home.number);
+        }
+        None
+    }
+
+    /// The pointer of the method, where this is its word and it has a bytecode of this number.
+    pub(crate) fn find_code(&self, method: Word, ip: i32) -> Option<Oop>
+        ensures same { IfSome result (λ p. value p ≡ word method) }
+        ensures code { IfSome result (λ p. IsCodeAt (M.view self.now.memory.now).objects (value p) ip) }
+    {
+        if method.0 == self.known.code.method.0
+            && self.known.code.first <= ip
+            && ip < self.known.code.end
+        {
+            Some(Oop(method.0 as u16))
+        } else {
+            None
+        }
+    }
+
+    /// The pointer of the method, where this is its word and it has literal i.
+    pub(crate) fn find_literals(&self, method: Word, i: u32) -> Option<Oop>
+        ensures same { IfSome result (λ p. value p ≡ word method) }
+        ensures small { IfSome result (λ p. i < 64) }
+        ensures literal { IfSome result (λ p. HasLiteral (M.view self.now.memory.now).objects (value p) i) }
+    {
+        if method.0 == self.known.code.method.0 && i < self.known.code.literals {
+            Some(Oop(method.0 as u16))
+        } else {
+            None
+        }
+    }
+
+    /// Stores x in field i of an object that isn't near at hand. Nothing is known any more where it dies.
+    pub(crate) fn store_elsewhere(&mut self, o: Word, i: u32, x: Word) -> Result<(), Dead>
+        ensures stores { Changes (store_field bounded_table (word o) i (word x)) itself
+            (M.view self.old.memory.now).objects (M.view self.old.memory.now).head
+            result (M.view self.new.memory.now).objects }
+        ensures held { (M.view self.new.memory.now).held ≡ (M.view self.old.memory.now).held }
+        ensures head { (M.view self.new.memory.now).head ≡ (M.view self.old.memory.now).head }
+        ensures same_memory { self.new.memory.ghost_name ≡ self.old.memory.ghost_name }
+    {
+        let done = self.memory.store_field(o, i, x);
+        if done.is_err() {
+            self.known = Known::NONE;
+        }
+        done
+    }
+}

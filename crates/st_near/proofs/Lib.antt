@@ -1,4 +1,0 @@
-mod Keeping
-mod Direct
-mod Settled
-pub mod Fixed

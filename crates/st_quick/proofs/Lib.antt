@@ -1,7 +1,0 @@
-pub mod AtOnce
-pub mod Alike
-pub mod AlikeProcesses
-pub mod Entered
-pub mod AlikeRows
-pub mod Linked
-pub mod OverMemory
