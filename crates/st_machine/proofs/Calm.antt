@@ -11,7 +11,7 @@ use Rattle.st_model.specs.Table.{Table, table, bounded_table}
 use Rattle.st_model.specs.Events.{is_held, signalled_once}
 use Rattle.st_model.specs.Cycles.{free_space, signal_newest, check_process_switch, warned, warned_if_low}
 use Rattle.st_model.specs.Foreseen.{foreseen_cycle}
-use Rattle.st_switch.proofs.Done.{none_left, signals_made, waits_not}
+use Rattle.st_machine.proofs.Done.{none_left, signals_made, waits_not}
 use Rattle.st_machine.specs.Cycling.{IsCalm, warns, foreseen_step}
 use Rattle.st_machine.proofs.Foreseeing.{from_switch}
 

@@ -5,3 +5,4 @@ mod Calm
 mod Runs
 mod Strides
 mod Asked
+pub mod Done

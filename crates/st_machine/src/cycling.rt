@@ -10,13 +10,13 @@ ghost use Rattle.st_frames.specs.Shown.{IsFrame, IsReady, shown};
 ghost use Rattle.st_machine.specs.Cycling.{Finishes, GoesAtOnce, foreseen_step, warns};
 ghost use Rattle.st_machine.specs.Runs.{ending_of};
 
+use crate::switching::check_process_switch;
 use st_at_once::step_at_once;
 use st_frames::Frame;
 use st_input::signal_once;
 use st_memory::Memory;
 use st_model::{Dead, Demand, Device, Outcome};
 use st_step::{plan, step};
-use st_switch::check_process_switch;
 use st_world::World;
 
 /// How a cycle ended in which the machine didn't die.

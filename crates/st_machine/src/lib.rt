@@ -7,8 +7,11 @@ mod ending;
 mod machine;
 mod running;
 mod saving;
+mod signals;
 mod stretch;
 mod stride;
+mod switch_saving;
+mod switching;
 
 pub use ending::RunEnd;
 pub use machine::Machine;

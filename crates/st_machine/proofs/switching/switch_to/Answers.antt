@@ -6,8 +6,8 @@ use Rattle.st_model.specs.Processes.{enter_process, switch_to_process}
 use Rattle.st_model.specs.Calls.{Does, itself}
 use Rattle.st_model.specs.View.{View}
 use Rattle.st_frames.specs.Shown.{shown}
-use Rattle.st_switch.proofs.Done.{row_dies, row_ends, switched, not_left, there_after, held_again}
-use Rattle.st_switch.proofs.switching.switch_to.Goals as goal
+use Rattle.st_machine.proofs.Done.{row_dies, row_ends, switched, not_left, there_after, held_again}
+use Rattle.st_machine.proofs.switching.switch_to.Goals as goal
 
 pub returns-in_err-leave-clause-does : goal.returns-in_err-leave-clause-does
 returns-in_err-leave-clause-does g c =

@@ -1,8 +1,8 @@
 use Rattle.std.proofs.Common.{ap}
 use Rattle.st_model.specs.Table.{bounded_table}
 use Rattle.st_model.specs.Saving.{store_active}
-use Rattle.st_switch.proofs.Done.{row_does}
-use Rattle.st_switch.proofs.saving.store_active.Goals as goal
+use Rattle.st_machine.proofs.Done.{row_does}
+use Rattle.st_machine.proofs.switch_saving.store_active.Goals as goal
 
 pub returns-clause-does : goal.returns-clause-does
 returns-clause-does g c =

@@ -3,8 +3,8 @@ use Rattle.st_model.specs.Table.{bounded_table}
 use Rattle.st_model.specs.Cycles.{check_process_switch}
 use Rattle.st_model.specs.Calls.{Does, itself}
 use Rattle.st_frames.specs.Shown.{shown}
-use Rattle.st_switch.proofs.Done.{signals_die, signals_made, quiet_goes}
-use Rattle.st_switch.proofs.switching.check_process_switch.Goals as goal
+use Rattle.st_machine.proofs.Done.{signals_die, signals_made, quiet_goes}
+use Rattle.st_machine.proofs.switching.check_process_switch.Goals as goal
 
 pub returns-in_err-signal_newest-clause-does : goal.returns-in_err-signal_newest-clause-does
 returns-in_err-signal_newest-clause-does g c =

@@ -4,8 +4,8 @@ use Rattle.st_model.specs.Table.{Table, bounded_table}
 use Rattle.st_model.specs.Saving.{store_process}
 use Rattle.st_model.specs.Calls.{Does, itself}
 use Rattle.st_frames.specs.Shown.{shown, registers_of}
-use Rattle.st_switch.proofs.Done.{not_switched, not_stored, stored, fetched_bounded}
-use Rattle.st_switch.proofs.saving.store_process.Goals as goal
+use Rattle.st_machine.proofs.Done.{not_switched, not_stored, stored, fetched_bounded}
+use Rattle.st_machine.proofs.switch_saving.store_process.Goals as goal
 
 pub returns-in_err-switch_if_waiting-clause-does : goal.returns-in_err-switch_if_waiting-clause-does
 returns-in_err-switch_if_waiting-clause-does g c =

@@ -4,8 +4,8 @@ use Rattle.st_model.specs.Machine.{State, World}
 use Rattle.st_model.specs.Table.{Table, bounded_table}
 use Rattle.st_model.specs.Processes.{signal}
 use Rattle.st_frames.specs.Shown.{shown}
-use Rattle.st_switch.proofs.Done.{next_made, next_none}
-use Rattle.st_switch.proofs.signals.signal_next.Goals as goal
+use Rattle.st_machine.proofs.Done.{next_made, next_none}
+use Rattle.st_machine.proofs.signals.signal_next.Goals as goal
 
 pub returns-in-Some-clause-does : goal.returns-in-Some-clause-does
 returns-in-Some-clause-does g c =

@@ -4,8 +4,8 @@ use Rattle.st_model.specs.Table.{Table, bounded_table}
 use Rattle.st_model.specs.Cycles.{signal_newest}
 use Rattle.st_model.specs.Calls.{Does, itself}
 use Rattle.st_frames.specs.Shown.{shown}
-use Rattle.st_switch.proofs.Done.{newest_first, newest_dies, none_left}
-use Rattle.st_switch.proofs.signals.signal_newest.Goals as goal
+use Rattle.st_machine.proofs.Done.{newest_first, newest_dies, none_left}
+use Rattle.st_machine.proofs.signals.signal_newest.Goals as goal
 
 pub loop-init : goal.loop-init
 loop-init g c =

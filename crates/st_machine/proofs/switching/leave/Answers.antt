@@ -4,8 +4,8 @@ use Rattle.st_model.specs.Table.{bounded_table}
 use Rattle.st_model.specs.Processes.{leave_process}
 use Rattle.st_model.specs.Calls.{Does, itself}
 use Rattle.st_frames.specs.Shown.{shown}
-use Rattle.st_switch.proofs.Done.{row_goes, row_dies}
-use Rattle.st_switch.proofs.switching.leave.Goals as goal
+use Rattle.st_machine.proofs.Done.{row_goes, row_dies}
+use Rattle.st_machine.proofs.switching.leave.Goals as goal
 
 pub returns-in_err-deed-clause-does : goal.returns-in_err-deed-clause-does
 returns-in_err-deed-clause-does g c =

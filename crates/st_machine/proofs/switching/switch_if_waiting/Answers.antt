@@ -4,8 +4,8 @@ use Rattle.st_model.specs.Machine.{State}
 use Rattle.st_model.specs.Table.{Table, bounded_table}
 use Rattle.st_model.specs.Processes.{switch_to_process}
 use Rattle.st_frames.specs.Shown.{shown}
-use Rattle.st_switch.proofs.Done.{waits, waits_not}
-use Rattle.st_switch.proofs.switching.switch_if_waiting.Goals as goal
+use Rattle.st_machine.proofs.Done.{waits, waits_not}
+use Rattle.st_machine.proofs.switching.switch_if_waiting.Goals as goal
 
 pub returns-then-holds-clause-does : goal.returns-then-holds-clause-does
 returns-then-holds-clause-does g c =
