@@ -1,1 +1,5 @@
 pub mod Named
+pub mod Copied
+pub mod Done
+pub mod Headers
+pub mod Replacing

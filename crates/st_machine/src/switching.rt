@@ -7,8 +7,8 @@ ghost use Rattle.st_model.specs.Calls.{Does, itself};
 ghost use Rattle.st_frames.specs.Shown.{IsReady, shown};
 
 use crate::signals::signal_newest;
-use st_deeds::carry_out;
 use st_frames::{Frame, hold, load};
+use st_input::carry_out;
 use st_memory::Memory;
 use st_model::{Dead, Device, Oop, Word};
 use st_process::{enter_process, leave_process};

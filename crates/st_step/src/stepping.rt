@@ -10,8 +10,8 @@ ghost use Rattle.st_control.specs.Foreseen.{IsForeseen};
 ghost use Rattle.st_step.specs.Planned.{Plans, PlansBirths, TopSaid};
 
 use crate::rows::step_row;
-use st_deeds::carry_out;
 use st_frames::{Frame, hold, load};
+use st_input::carry_out;
 use st_memory::{Draft, Memory};
 use st_model::{Dead, Deed, Demand, Outcome, StepEnd};
 use st_world::World;

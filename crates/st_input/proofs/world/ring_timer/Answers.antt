@@ -8,7 +8,7 @@ use Rattle.st_model.specs.Table.{table}
 use Rattle.st_model.specs.Events.{has_signal_room}
 use Rattle.st_model.specs.Surroundings.{changed_world, Hold, AddSignal}
 use Rattle.st_model.proofs.Words.{value_of-nil}
-use Rattle.st_deeds.proofs.world.ring_timer.Goals as goal
+use Rattle.st_input.proofs.world.ring_timer.Goals as goal
 
 pub returns-in-Some-clause-world : goal.returns-in-Some-clause-world
 returns-in-Some-clause-world g c =

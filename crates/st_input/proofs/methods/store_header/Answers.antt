@@ -3,8 +3,8 @@ use Rattle.st_model.specs.Values.{value, word}
 use Rattle.st_model.specs.Machine.{is_there}
 use Rattle.st_model.specs.Table.{table}
 use Rattle.st_model.specs.Deeds.{changed_by, header_stored}
-use Rattle.st_deeds.proofs.Headers.{no_header, absent_header, no_small_header, other_header, same_header}
-use Rattle.st_deeds.proofs.methods.store_header.Goals as goal
+use Rattle.st_input.proofs.Headers.{no_header, absent_header, no_small_header, other_header, same_header}
+use Rattle.st_input.proofs.methods.store_header.Goals as goal
 
 pub returns-in-None-clause-objects : goal.returns-in-None-clause-objects
 returns-in-None-clause-objects g c = no_header (g.M.Memory.view c.args.m.now).objects (word c.args.method) c.in-None.ensures.none (word c.args.header)

@@ -9,7 +9,7 @@ use Rattle.st_model.specs.Machine.{is_there}
 use Rattle.st_model.specs.Table.{Table, table}
 use Rattle.st_model.specs.View.{is_live, object_of, with_stored}
 use Rattle.st_model.specs.Deeds.{changed_by, counts_literals, header_stored, literal_stored}
-use Rattle.st_deeds.proofs.Done.{gone_stays, left_stays, field_becomes, field_past, and_false}
+use Rattle.st_input.proofs.Done.{gone_stays, left_stays, field_becomes, field_past, and_false}
 
 live_or_not : (b : Bool) → (b ≡ true) ⊎ (b ≡ false)
 live_or_not true = inl refl

@@ -2,7 +2,7 @@ use Rattle.std.proofs.Common.{◌≡◌, ◌-◌}
 use Rattle.st_model.specs.Values.{word}
 use Rattle.st_model.specs.Primitives.{bytes_of_number, bytes_within}
 use Rattle.st_model.specs.Deeds.{changed_by, bytes_stored}
-use Rattle.st_deeds.proofs.units.store_number.Given as goal
+use Rattle.st_input.proofs.units.store_number.Given as goal
 
 -- with the bytes that are left, the objects are those with all of them
 abbrev pub invariant-loop-place : goal.invariant-loop-place

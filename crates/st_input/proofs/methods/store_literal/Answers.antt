@@ -4,8 +4,8 @@ use Rattle.st_model.specs.Machine.{is_there}
 use Rattle.st_model.specs.Table.{table}
 use Rattle.st_model.specs.View.{object_of}
 use Rattle.st_model.specs.Deeds.{changed_by, literal_stored}
-use Rattle.st_deeds.proofs.Headers.{no_literal, absent_literal, literal_past, literal_here}
-use Rattle.st_deeds.proofs.methods.store_literal.Goals as goal
+use Rattle.st_input.proofs.Headers.{no_literal, absent_literal, literal_past, literal_here}
+use Rattle.st_input.proofs.methods.store_literal.Goals as goal
 
 pub returns-in-None-clause-objects : goal.returns-in-None-clause-objects
 returns-in-None-clause-objects g c =

@@ -2,8 +2,8 @@ use Rattle.std.proofs.Common.{◌∙◌, ◌-◌, ap}
 use Rattle.std.specs.Prelude.{min}
 use Rattle.st_model.specs.Values.{value, word}
 use Rattle.st_model.specs.Deeds.{changed_by, bytes_replaced, bytes_from}
-use Rattle.st_deeds.proofs.Replacing.{no_target, no_source, has_source, has_target, replaced, none_replaced}
-use Rattle.st_deeds.proofs.bytes.replace_bytes.Goals as goal
+use Rattle.st_input.proofs.Replacing.{no_target, no_source, has_source, has_target, replaced, none_replaced}
+use Rattle.st_input.proofs.bytes.replace_bytes.Goals as goal
 
 pub returns-in-None-clause-objects : goal.returns-in-None-clause-objects
 returns-in-None-clause-objects g c =

@@ -2,8 +2,8 @@ use Rattle.std.proofs.Common.{◌∙◌, ◌≡◌, ◌+◌, ◌-◌, ◌/◌, s
 use Rattle.st_model.specs.Values.{word}
 use Rattle.st_model.specs.Primitives.{bytes_within}
 use Rattle.st_model.specs.Deeds.{changed_by, bytes_stored}
-use Rattle.st_deeds.proofs.Done.{last_byte, next_byte, no_byte}
-use Rattle.st_deeds.proofs.units.store_number.Goals as goal
+use Rattle.st_input.proofs.Done.{last_byte, next_byte, no_byte}
+use Rattle.st_input.proofs.units.store_number.Goals as goal
 
 pub returns-then-left-lt256-clause-objects : goal.returns-then-left-lt256-clause-objects
 returns-then-left-lt256-clause-objects g c =

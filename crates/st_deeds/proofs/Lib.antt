@@ -1,4 +1,0 @@
-pub mod Copied
-pub mod Done
-pub mod Headers
-pub mod Replacing
