@@ -12,8 +12,12 @@ ghost use Rattle.st_frames.specs.Rows.{RowMoves, RowDoes, RowLeaves, Takes, acti
 
 use crate::ending::RowEnd;
 use st_control::{
-    activate_at_once, find_method, jump_at_once, method_primitive, return_to_caller_at_once,
-    return_to_sender_at_once, value_at_once,
+    activate_at_once, answer_field, answer_pair, arithmetic_number, constant_value, duplicate_top,
+    equivalence, extended_push, extended_store, extended_store_and_pop, fetch_literal_constant,
+    find_method, integer_answer, jump_at_once, long_unconditional_jump, method_primitive,
+    pop_stack, push_active_context, push_constant, push_operand, push_receiver, receiver_class,
+    return_to_caller_at_once, return_to_sender_at_once, short_unconditional_jump, store_and_pop,
+    value_at_once, word_of,
 };
 use st_frames::{Registers, next_byte, page, pop, under};
 use st_ints::IntAnswer;
@@ -21,15 +25,9 @@ use st_memory::Objects;
 use st_method::Header;
 use st_model::{Bytecode, Constant, Dead, PageObject, Tried, Word, decode};
 use st_process::try_process;
-use st_rows::{
-    answer_field, answer_pair, arithmetic_number, constant_value, duplicate_top, equivalence,
-    extended_push, extended_store, extended_store_and_pop, fetch_literal_constant, integer_answer,
-    long_unconditional_jump, pop_stack, push_active_context, push_constant, push_operand,
-    push_receiver, receiver_class, short_unconditional_jump, store_and_pop, word_of,
-};
 
 /// A number or a truth takes the place of receiver and argument. Answers whether it was one: a Point isn't made.
-#[tactic(auto, using(st_rows::proofs::Tries::values), unfolding(crate::specs::AtOnce::answered_at_once, st_model::specs::Primitives::succeed, st_model::specs::Arithmetic::value_of_answer, st_model::specs::Primitives::truth))]
+#[tactic(auto, using(st_control::proofs::Tries::values), unfolding(crate::specs::AtOnce::answered_at_once, st_model::specs::Primitives::succeed, st_model::specs::Arithmetic::value_of_answer, st_model::specs::Primitives::truth))]
 fn answered_at_once<O: Objects>(
     m: &mut O,
     r: &mut Registers,

@@ -3,24 +3,39 @@
 #![tactic(auto)]
 
 mod activation;
+mod arithmetic;
 mod at_once;
 mod blocks;
 mod finding;
+mod jump;
 mod jumps;
 mod messages;
+mod operands;
 mod passing;
 mod primitive;
+mod receivers;
 mod returns;
 mod sends;
+mod stack;
 mod values;
+mod wide;
 
 pub use activation::{activate, activate_at_once};
+pub use arithmetic::{answer_integers, answer_pair, arithmetic_number, integer_answer, word_of};
 pub use at_once::{jump_at_once, return_to_caller_at_once, return_to_sender_at_once};
 pub use blocks::{primitive_block_copy, try_blocks};
 pub use finding::find_method;
+pub use jump::{long_unconditional_jump, short_unconditional_jump};
 pub use jumps::jump_on;
+pub use operands::{constant_value, fetch_literal_constant};
 pub use passing::Passing;
 pub use primitive::method_primitive;
+pub use receivers::{answer_field, equivalence, flush_cache, receiver_class};
 pub use returns::{return_to_caller, return_to_sender};
 pub use sends::{not_understood, send, send_to_super, special_send};
+pub use stack::{
+    duplicate_top, extended_push, extended_store, extended_store_and_pop, pop_stack,
+    push_active_context, push_constant, push_operand, push_receiver, store_and_pop,
+};
 pub use values::{primitive_value, value_at_once};
+pub use wide::{large_arithmetic, shift_large};

@@ -8,12 +8,11 @@ ghost use Rattle.st_step.specs.Responding.{by_flag};
 ghost use Rattle.st_frames.specs.Rows.{RowLeaves, Takes, activation_changes, response_changes};
 
 use crate::respond::{activated, respond};
-use st_control::method_primitive;
+use st_control::{answer_field, method_primitive};
 use st_frames::Registers;
 use st_memory::Objects;
 use st_method::Header;
 use st_model::{Call, Dead, Deed, StepEnd};
-use st_rows::answer_field;
 
 /// A method that has no header extension is executed by its flag.
 #[tactic(auto, using(st_frames::proofs::Doing::rows), unfolding(crate::specs::Responding::by_flag, st_model::specs::Executing::goes_on))]

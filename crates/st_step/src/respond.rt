@@ -14,16 +14,15 @@ ghost use Rattle.st_model.specs.Contexts.{activate};
 ghost use Rattle.st_step.specs.Responding.{asks_for, on_objects, behind_numbers};
 ghost use Rattle.st_frames.specs.Rows.{RowLeaves, RowDoes, Takes, activation_changes, response_changes};
 
-use st_control::{activate, try_blocks};
+use st_control::{
+    activate, answer_integers, equivalence, flush_cache, integer_answer, large_arithmetic,
+    receiver_class, shift_large, try_blocks,
+};
 use st_frames::{Registers, answer_with, top};
 use st_memory::Objects;
 use st_method::Header;
 use st_model::{Call, Dead, Deed, StepEnd, Tried};
 use st_process::{try_input, try_process};
-use st_rows::{
-    answer_integers, equivalence, flush_cache, integer_answer, large_arithmetic, receiver_class,
-    shift_large,
-};
 use st_storage::{primitive_say, try_storage};
 
 /// Whether a primitive is one of 1 to 18, with the one argument of these.

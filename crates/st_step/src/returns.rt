@@ -7,11 +7,10 @@ ghost use Rattle.st_model.specs.Bytecodes.{return_receiver, return_constant, ret
 ghost use Rattle.st_frames.specs.Rows.{RowLeaves, Takes, executed_return_changes};
 
 use crate::execute::execute_if_any;
-use st_control::{return_to_caller, return_to_sender};
+use st_control::{constant_value, return_to_caller, return_to_sender};
 use st_frames::{Registers, pop};
 use st_memory::Objects;
 use st_model::{Constant, Dead, StepEnd};
-use st_rows::constant_value;
 
 /// Returns the receiver to the sender.
 #[tactic(auto, using(st_frames::proofs::Doing::rows), unfolding(st_model::specs::Bytecodes::return_receiver, st_model::specs::Executing::executed_if_any))]

@@ -14,14 +14,14 @@ use crate::send::{
     arithmetic_send, double_extended_send, double_extended_super_send, extended_send,
     extended_super_send, primitive_send, send_literal_selector, send_special_selector,
 };
-use st_frames::{Registers, next_byte};
-use st_memory::Objects;
-use st_model::{Bytecode, Dead, Deed, StepEnd, decode};
-use st_rows::{
+use st_control::{
     duplicate_top, extended_push, extended_store, extended_store_and_pop, long_unconditional_jump,
     pop_stack, push_active_context, push_constant, push_operand, push_receiver,
     short_unconditional_jump, store_and_pop,
 };
+use st_frames::{Registers, next_byte};
+use st_memory::Objects;
+use st_model::{Bytecode, Dead, Deed, StepEnd, decode};
 
 /// Does the row of a bytecode.
 #[tactic(auto, using(st_frames::proofs::Doing::rows), unfolding(st_model::specs::Bytecodes::bytecode, st_model::specs::Executing::goes_on))]

@@ -10,14 +10,13 @@ ghost use Rattle.st_model.specs.Blocks.{primitive_block_copy, primitive_value};
 ghost use Rattle.st_frames.specs.Rows.{RowDoes, RowLeaves, Takes, send_changes, executed_send_changes};
 
 use crate::execute::execute;
-use st_control::{primitive_block_copy, primitive_value, send, send_to_super, special_send};
+use st_control::{
+    answer_integers, arithmetic_number, equivalence, fetch_literal_constant, integer_answer,
+    primitive_block_copy, primitive_value, receiver_class, send, send_to_super, special_send,
+};
 use st_frames::{Registers, next_byte, under};
 use st_memory::Objects;
 use st_model::{Call, Dead, Deed, StepEnd, Tried, Word};
-use st_rows::{
-    answer_integers, arithmetic_number, equivalence, fetch_literal_constant, integer_answer,
-    receiver_class,
-};
 
 /// Sends literal i with n arguments.
 #[tactic(auto, using(st_frames::proofs::Doing::rows), unfolding(st_model::specs::Bytecodes::send_literal))]

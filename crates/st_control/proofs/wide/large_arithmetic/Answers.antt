@@ -1,5 +1,5 @@
-use Rattle.st_rows.proofs.WideTries.{large-done}
-use Rattle.st_rows.proofs.wide.large_arithmetic.Goals as goal
+use Rattle.st_control.proofs.WideTries.{large-done}
+use Rattle.st_control.proofs.wide.large_arithmetic.Goals as goal
 
 pub returns-in-Ok-clause-does : goal.returns-in-Ok-clause-does
 returns-in-Ok-clause-does g c = record {
