@@ -11,8 +11,8 @@ ghost use Rattle.st_counted.specs.References.{all_roots, nils_of, IsCounted};
 use crate::counting::{lower, pointer_of, raise};
 use crate::roots::Roots;
 use st_counts::Counts;
+use st_heap::Objects;
 use st_model::{Demand, Kind, Oop, RootPlace};
-use st_stored::Objects;
 use std::alloc::{AllocError, Global};
 
 /// What the head of an image says.

@@ -2,3 +2,16 @@ pub mod Laying
 mod Moving
 pub mod Taking
 mod Exchanging
+pub mod Tying
+pub mod Runs
+pub mod Storing
+pub mod Stretches
+pub mod Forming
+pub mod Fresh
+mod StoredLaying
+pub mod Living
+pub mod Changing
+pub mod Placing
+pub mod Totals
+pub mod Swapping
+pub mod Written

@@ -1,2 +1,7 @@
 pub mod Blocks
 pub mod Heaps
+pub mod Forms
+pub mod Fresh
+pub mod Stored
+pub mod Stores
+pub mod Tables

@@ -1,6 +1,6 @@
 use Rattle.std.proofs.Common.{sym, ap, ◌∙◌, subst}
 use Rattle.st_model.specs.View.{IsWhole, held_at}
-use Rattle.st_stored.specs.Tables.{objects_of}
+use Rattle.st_heap.specs.Tables.{objects_of}
 use Rattle.st_counted.specs.declared.contents.Contents.{Contents}
 use Rattle.st_counted.specs.References.{uses, IsTallied}
 use Rattle.st_counted.specs.Counted.{counted_view, numbers_of}

@@ -5,8 +5,8 @@ use Rattle.st_model.specs.Table.{Table}
 use Rattle.st_model.specs.View.{View, is_live, object_of}
 use Rattle.st_counts.specs.Counts.{is_unused}
 use Rattle.st_counts.specs.Contents.{counts_of}
-use Rattle.st_stored.specs.Tables.{objects_of, room_of}
-use Rattle.st_stored.proofs.Placing.{length-objects}
+use Rattle.st_heap.specs.Tables.{objects_of, room_of}
+use Rattle.st_heap.proofs.Placing.{length-objects}
 use Rattle.st_counted.specs.declared.contents.Contents.{Contents}
 use Rattle.st_counted.specs.References.{all_roots, references, IsCounted}
 use Rattle.st_counted.specs.Counted.{counted_view, numbers_of}

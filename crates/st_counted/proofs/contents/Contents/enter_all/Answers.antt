@@ -5,7 +5,7 @@ use Rattle.st_model.specs.Objects.{Object}
 use Rattle.st_model.specs.Table.{entry}
 use Rattle.st_model.specs.View.{IsWhole}
 use Rattle.st_model.proofs.TableLemmas.{entry_past}
-use Rattle.st_stored.specs.Tables.{objects_of}
+use Rattle.st_heap.specs.Tables.{objects_of}
 use Rattle.st_counted.specs.declared.contents.Contents.{Contents}
 use Rattle.st_counted.specs.Counted.{counted_view, numbers_of}
 use Rattle.st_counted.proofs.Finishing.{entered_more}

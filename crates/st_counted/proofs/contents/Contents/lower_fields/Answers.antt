@@ -7,8 +7,8 @@ use Rattle.st_model.specs.View.{is_live, object_of, IsKnown}
 use Rattle.st_table.specs.Entries.{place}
 use Rattle.st_counts.specs.Counts.{is_counted, number_at}
 use Rattle.st_counts.specs.Contents.{counts_of}
-use Rattle.st_stored.specs.Tables.{objects_of}
-use Rattle.st_stored.specs.declared.objects.Objects.{Objects}
+use Rattle.st_heap.specs.Tables.{objects_of}
+use Rattle.st_heap.specs.declared.objects.Objects.{Objects}
 use Rattle.st_counted.specs.declared.contents.Contents.{Contents}
 use Rattle.st_counted.specs.References.{all_roots, IsCounted}
 use Rattle.st_counted.specs.Counted.{counted_view, numbers_of}

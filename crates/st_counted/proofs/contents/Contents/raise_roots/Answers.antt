@@ -10,7 +10,7 @@ use Rattle.st_model.specs.Table.{Table}
 use Rattle.st_model.specs.Settled.{names}
 use Rattle.st_model.specs.View.{is_live, table_of, IsKnown, IsWhole}
 use Rattle.st_counts.specs.Contents.{counts_of}
-use Rattle.st_stored.specs.Tables.{objects_of}
+use Rattle.st_heap.specs.Tables.{objects_of}
 use Rattle.st_counted.specs.declared.contents.Contents.{Contents}
 use Rattle.st_counted.specs.References.{times, uses, page_values, all_roots, raised_by, IsTallied, IsEntered, AddsReferences, IsCounted}
 use Rattle.st_counted.specs.Counted.{counted_view, numbers_of}

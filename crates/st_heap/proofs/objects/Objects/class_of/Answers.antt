@@ -1,0 +1,20 @@
+use Rattle.std.proofs.Common.{◌≡◌, ◌/◌, ◌%◌, sym, ap, ◌∙◌, arith}
+use Rattle.st_model.specs.Objects.{Object}
+use Rattle.st_model.specs.Values.{Ref}
+use Rattle.st_heap.proofs.Living.{live_stored, known, even_value}
+use Rattle.st_heap.specs.Stores.{stored_of}
+use Rattle.st_heap.proofs.objects.Objects.class_of.Goals as goal
+
+pub word-requires-clause-there : goal.word-requires-clause-there
+word-requires-clause-there c = live_stored (stored_of c.args.self.now.store) c.args.o c.requires
+
+pub word-requires-clause-range : goal.word-requires-clause-range
+word-requires-clause-range c =
+    let k = known (stored_of c.args.self.now.store) c.args.o c.args.self.now.sound c.requires in
+    let f = k.sound.fields in omega (arith, f)
+
+pub returns : goal.returns
+returns c =
+    let k = known (stored_of c.args.self.now.store) c.args.o c.args.self.now.sound c.requires in
+    let even : c.word.result % 2 ≡ 0 = ap (λ w. w % 2) c.word.ensures ∙ k.sound.class in
+    even_value (stored_of c.args.self.now.store) c.word.result even ∙ ap (λ w. Ref (w / 2)) c.word.ensures ∙ sym (ap (λ (o : Object). Ref o.class) k.is)

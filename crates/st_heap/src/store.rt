@@ -1,0 +1,229 @@
+ghost use Rattle.std.specs.Prelude.{◌≡◌, ◌+◌, ◌≤◌, ◌<◌, ◌/◌, ◌↔◌, ℕ, Some, None, true, is_some, length, take, drop, slice_index, slice_index_or, slice_set, IfOk, IfSome, IfNone, IsTrue};
+ghost use Rattle.st_model.specs.declared.oop.Oop.{Oop as Pointer};
+ghost use Rattle.st_cells.specs.Words.{byte_of, with_run, with_bytes};
+ghost use Rattle.st_table.specs.Entries.{place};
+ghost use Rattle.st_heap.specs.Blocks.{held};
+ghost use Rattle.st_heap.specs.Heaps.{words_of, blocks_of};
+ghost use Rattle.st_heap.specs.Stored.{slot, stored, stored_all, HasStored, IsUnused, IsLeastUnused, with_cell, with_cells, Takes, exchanged_stored, used_of, AreTied};
+
+use crate::heap::Heap;
+use st_model::{Demand, Kind, Oop};
+use st_table::{Entry, Table};
+use std::alloc::{AllocError, Global};
+
+/// Blocks of words, each stored under the pointer of an object. Clauses see it as a list (`stored_of`), which has at each
+/// place what is stored under the pointer that is twice the place, or none.
+#[derive(Drop)]
+pub struct Store {
+    /// The blocks.
+    heap: Heap,
+    /// For each pointer under which one is stored, its place, its kind and its odd mark.
+    table: Table,
+    /// How many blocks there are, and how many words they have.
+    pub used: Demand,
+    pub ghost tied: { AreTied table (blocks_of heap) },
+    pub ghost places: { length table ≡ 32768 },
+    pub ghost counted: { used ≡ used_of (stored_all (words_of heap) (blocks_of heap) table) },
+    ghost held: { held (blocks_of heap) ≡ used.words },
+}
+
+impl Store {
+    ghost use Rattle.st_heap.specs.Stores.{stored_of, capacity_of};
+
+    /// Nothing stored, and so many words for it.
+    pub fn new(alloc: Global, words: u32) -> Result<Store, AllocError>
+        ensures empty { IfOk result (λ s. (k : ℕ) → slot (stored_of s) k ≡ None) }
+        ensures capacity { IfOk result (λ s. capacity_of s ≡ words) }
+    {
+        let heap = Heap::new(alloc, words)?;
+        let table = empty_table(alloc, 32767)?;
+        Ok(Store {
+            heap,
+            table,
+            used: Demand {
+                entries: 0,
+                words: 0,
+            },
+        })
+    }
+
+    /// Whether something is stored under a pointer.
+    pub fn has(&self, o: Oop) -> bool
+        ensures { IsTrue result ↔ HasStored (stored_of self.now) o }
+    {
+        self.table.has(o)
+    }
+
+    /// The kind of what is stored.
+    pub fn kind(&self, o: Oop) -> Kind
+        requires { HasStored (stored_of self.now) o }
+        ensures { result ≡ (stored (stored_of self.now) (place o)).kind }
+    {
+        self.table.entry(o).kind
+    }
+
+    /// Whether the last byte of its last word is no part of it.
+    pub fn odd(&self, o: Oop) -> bool
+        requires { HasStored (stored_of self.now) o }
+        ensures { result ≡ (stored (stored_of self.now) (place o)).odd }
+    {
+        self.table.entry(o).odd
+    }
+
+    /// Word i of its block.
+    pub fn word(&self, o: Oop, i: u32) -> u16
+        requires there { HasStored (stored_of self.now) o }
+        requires range { i < length (stored (stored_of self.now) (place o)).cells }
+        ensures { result ≡ slice_index (stored (stored_of self.now) (place o)).cells i }
+    {
+        let at = self.table.entry(o).at;
+        self.heap.word(at + i)
+    }
+
+    /// Writes word i of its block.
+    pub fn set_word(&mut self, o: Oop, i: u32, w: u16)
+        requires there { HasStored (stored_of self.old) o }
+        requires range { i < length (stored (stored_of self.old) (place o)).cells }
+        ensures stored { let all = stored_of self.old in
+            stored_of self.new ≡ slice_set all (place o) (Some (with_cell (stored all (place o)) i w)) }
+        ensures capacity { capacity_of self.new ≡ capacity_of self.old }
+    {
+        let at = self.table.entry(o).at;
+        self.heap.set_word(at + i, w);
+    }
+
+    /// Reads words of its block from word i on, as many as there is room for.
+    pub fn read(&self, o: Oop, i: u32, into: &mut [u16])
+        requires there { HasStored (stored_of self.now) o }
+        requires range { i + length into.old ≤ length (stored (stored_of self.now) (place o)).cells }
+        ensures { into.new ≡ take (length into.old) (drop i (stored (stored_of self.now) (place o)).cells) }
+    {
+        let at = self.table.entry(o).at;
+        self.heap.read(at + i, into);
+    }
+
+    /// Writes words of its block from word i on.
+    pub fn write(&mut self, o: Oop, i: u32, words: &[u16])
+        requires there { HasStored (stored_of self.old) o }
+        requires range { i + length words.now ≤ length (stored (stored_of self.old) (place o)).cells }
+        ensures stored { let all = stored_of self.old in let s = stored all (place o) in
+            stored_of self.new
+            ≡ slice_set all (place o) (Some (with_cells s (with_run s.cells i words.now))) }
+        ensures capacity { capacity_of self.new ≡ capacity_of self.old }
+    {
+        let at = self.table.entry(o).at;
+        self.heap.write(at + i, words);
+    }
+
+    /// Reads bytes from place `first` on, as many as there is room for, where the words behind the first two have two each.
+    pub fn read_bytes(&self, o: Oop, first: u32, into: &mut [u8])
+        requires there { HasStored (stored_of self.now) o }
+        requires range { 2 + (first + length into.old + 1) / 2
+            ≤ length (stored (stored_of self.now) (place o)).cells }
+        ensures { let cells = (stored (stored_of self.now) (place o)).cells in (k : ℕ) → k < length into.old
+            → slice_index into.new k ≡ byte_of (slice_index cells (2 + (first + k) / 2)) (first + k) }
+    {
+        let at = self.table.entry(o).at;
+        self.heap.read_bytes(at + 2, first, into);
+    }
+
+    /// Writes bytes from place `first` on, where the words behind the first two have two each.
+    pub fn write_bytes(&mut self, o: Oop, first: u32, bytes: &[u8])
+        requires there { HasStored (stored_of self.old) o }
+        requires range { 2 + (first + length bytes.now + 1) / 2
+            ≤ length (stored (stored_of self.old) (place o)).cells }
+        ensures stored { let all = stored_of self.old in let s = stored all (place o) in
+            stored_of self.new
+            ≡ slice_set all (place o) (Some (with_cells s (with_bytes s.cells 2 first bytes.now))) }
+        ensures capacity { capacity_of self.new ≡ capacity_of self.old }
+    {
+        let at = self.table.entry(o).at;
+        self.heap.write_bytes(at + 2, first, bytes);
+    }
+
+    /// Stores something under an unused pointer, in n words; what the words are is not said.
+    pub fn take(&mut self, o: Oop, kind: Kind, odd: bool, n: u32)
+        requires unused { IsUnused (stored_of self.old) o }
+        requires size { 2 ≤ n }
+        requires room { (used_of (stored_of self.old)).words + n ≤ capacity_of self.old }
+        ensures stored { Takes (stored_of self.old) (stored_of self.new) (place o) kind odd n }
+        ensures capacity { capacity_of self.new ≡ capacity_of self.old }
+    {
+        let at = self.heap.take(&mut self.table, o, n);
+        let entry = Entry {
+            at,
+            kind,
+            odd,
+            next: Oop(0),
+            before: Oop(0),
+        };
+        self.table.take_entry(o, entry);
+        self.used = Demand {
+            entries: self.used.entries + 1,
+            words: self.used.words + n,
+        };
+    }
+
+    /// Takes what is stored under a pointer, in n words, away.
+    pub fn free(&mut self, o: Oop, n: u32)
+        requires there { HasStored (stored_of self.old) o }
+        requires size { n ≡ length (stored (stored_of self.old) (place o)).cells }
+        ensures stored { stored_of self.new ≡ slice_set (stored_of self.old) (place o) None }
+        ensures capacity { capacity_of self.new ≡ capacity_of self.old }
+    {
+        let at = self.table.entry(o).at;
+        self.heap.give(at, n);
+        self.table.free_entry(o);
+        self.used = Demand {
+            entries: self.used.entries - 1,
+            words: self.used.words - n,
+        };
+    }
+
+    /// Exchanges what is stored under two pointers.
+    pub fn exchange(&mut self, a: Oop, b: Oop)
+        requires first { HasStored (stored_of self.old) a }
+        requires second { HasStored (stored_of self.old) b }
+        ensures stored { stored_of self.new ≡ exchanged_stored (stored_of self.old) (place a) (place b) }
+        ensures capacity { capacity_of self.new ≡ capacity_of self.old }
+    {
+        let first = self.table.entry(a);
+        let second = self.table.entry(b);
+        self.heap.exchange(&mut self.table, a, b);
+        self.table.set_entry(
+            a,
+            Entry {
+                at: second.at,
+                kind: second.kind,
+                odd: second.odd,
+                ..first
+            },
+        );
+        self.table.set_entry(
+            b,
+            Entry {
+                at: first.at,
+                kind: first.kind,
+                odd: first.odd,
+                ..second
+            },
+        );
+    }
+
+    /// The least pointer under which nothing is stored.
+    pub fn least_free(&self) -> Option<Oop>
+        ensures least { IfSome result (IsLeastUnused (stored_of self.now)) }
+        ensures none { IfNone result ((p : Pointer) → ¬ IsUnused (stored_of self.now) p) }
+    {
+        self.table.least_free()
+    }
+}
+
+/// A table without entries.
+fn empty_table(alloc: Global, entries: u32) -> Result<Table, AllocError>
+    requires { entries ≤ 32767 }
+    ensures length { IfOk result (λ t. length t ≡ entries + 1) }
+    ensures empty { IfOk result (λ t. (k : ℕ) → slice_index_or t k None ≡ None) }
+{
+    Table::new(alloc, entries)
+}

@@ -1,5 +1,0 @@
-pub mod Forms
-pub mod Fresh
-pub mod Stored
-pub mod Stores
-pub mod Tables
