@@ -13,8 +13,8 @@ use Rattle.st_chunk.specs.Texts.{mark, doubled}
 use Rattle.st_chunk.specs.Groups.{header_text}
 use Rattle.st_chunk.specs.Definitions.{Definition, IsDefinition, header_for, line_feed, method_part, entry, entries, definitions_in}
 use Rattle.st_chunk.proofs.Entries.{read_back}
-use Rattle.st_index.specs.declared.span.Span.{Span}
-use Rattle.st_index.specs.States.{IndexState, HasName, found, updated}
+use Rattle.st_changes.specs.declared.span.Span.{Span}
+use Rattle.st_changes.specs.IndexStates.{IndexState, HasName, found, updated}
 use Rattle.st_changes.specs.Last.{HasSelector, FindsSelector, IsOf, IsNowhere, IsLast, Answers, HasPlace, IsPrepared, IsReady, text_place, span_of}
 use Rattle.st_changes.proofs.ListTexts.{more_of, all_more}
 

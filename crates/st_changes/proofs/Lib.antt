@@ -8,3 +8,4 @@ pub mod Lasts
 pub mod Determined
 pub mod Places
 pub mod Texts
+pub mod Names

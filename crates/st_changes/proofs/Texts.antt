@@ -3,7 +3,7 @@ use Rattle.std.proofs.Common.{◌≡◌, ℕ, zero, suc, ◌+◌, ◌<◌, ◌�
 use Rattle.std.specs.Prelude.{Option, Some, None, MatchOption, All}
 use Rattle.std.proofs.lemmas.List.{map-append, take-append-drop, take_all}
 use Rattle.st_chunk.specs.Definitions.{Definition, entry, entries}
-use Rattle.st_index.specs.declared.span.Span.{Span}
+use Rattle.st_changes.specs.declared.span.Span.{Span}
 use Rattle.st_changes.specs.declared.definition.Definition as declared
 use Rattle.st_changes.specs.Views.{definition_of, definitions_of}
 use Rattle.st_changes.specs.Lists.{IsAt}

@@ -6,8 +6,8 @@ use Rattle.st_grammar.specs.Texts.{Means}
 use Rattle.st_chunk.specs.Texts.{doubled}
 use Rattle.st_chunk.specs.Groups.{header_text}
 use Rattle.st_chunk.specs.Definitions.{Definition, IsDefinition, header_for, entry, entries}
-use Rattle.st_index.specs.States.{IndexState, HasName}
-use Rattle.st_index.specs.declared.span.Span.{Span}
+use Rattle.st_changes.specs.IndexStates.{IndexState, HasName}
+use Rattle.st_changes.specs.declared.span.Span.{Span}
 
 -- the text means a tree of this selector
 pub record HasSelector (text selector : List ℕ) : Type 0 where

@@ -5,3 +5,4 @@ pub mod Lists
 pub mod Last
 pub mod Readying
 pub mod States
+pub mod IndexStates

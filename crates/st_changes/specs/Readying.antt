@@ -1,7 +1,7 @@
 -- What is ready to be added to a changes file.
 use Rattle.std.specs.Prelude.{ℕ, List, Option}
 use Rattle.std.specs.Option.{ForSome, option_map}
-use Rattle.st_index.specs.States.{IndexState}
+use Rattle.st_changes.specs.IndexStates.{IndexState}
 use Rattle.st_changes.specs.declared.changes.Ready.{Ready}
 use Rattle.st_changes.specs.Last.{IsReady}
 

@@ -1,9 +1,10 @@
 // The list of the definitions that a changes file keeps.
 use crate::Definition;
 use crate::counting::{count_before, definition_at};
+use crate::index::Index;
 use crate::noting::prepare;
+use crate::span::Span;
 use crate::writing::{entry_length, entry_text};
-use st_index::{Index, Span};
 use st_tree::Text;
 use std::alloc::{AllocError, Global};
 use std::marker::Model;
@@ -34,7 +35,7 @@ impl Model for Changes {
     ghost use Rattle.st_changes.specs.Readying.{reserved_of, IsReadyFor};
     ghost use Rattle.st_changes.specs.Last.{Answers};
     ghost use Rattle.st_chunk.specs.Definitions.{IsDefinition};
-    ghost use Rattle.st_index.specs.States.{found};
+    ghost use Rattle.st_changes.specs.IndexStates.{found};
 
     ghost Value = { ChangesState };
 

@@ -1,7 +1,7 @@
 use Rattle.std.proofs.Common.{◌≡◌, ◌+◌, ℕ, List, [], ◌∷◌, ◌++◌, length, take, sym, ap, ◌∙◌, subst, arith, length-append}
 use Rattle.std.proofs.lemmas.List.{take_all}
 use Rattle.st_chunk.specs.Definitions.{Definition, entry, entries}
-use Rattle.st_index.specs.States.{found}
+use Rattle.st_changes.specs.IndexStates.{found}
 use Rattle.st_changes.specs.Views.{definition_of, definitions_of}
 use Rattle.st_changes.specs.Last.{Answers}
 use Rattle.st_changes.proofs.Lasts.{answers_same}

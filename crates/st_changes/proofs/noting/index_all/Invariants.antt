@@ -1,6 +1,6 @@
 use Rattle.std.proofs.Common.{◌≡◌, length, take}
 use Rattle.st_chunk.specs.Definitions.{entries}
-use Rattle.st_index.specs.States.{found}
+use Rattle.st_changes.specs.IndexStates.{found}
 use Rattle.st_changes.specs.Views.{definitions_of}
 use Rattle.st_changes.specs.Last.{Answers}
 use Rattle.st_changes.proofs.noting.index_all.Given as goal

@@ -8,7 +8,7 @@ use Rattle.st_chunk.specs.Definitions.{Definition, IsDefinition, entry, entries}
 use Rattle.st_changes.specs.Views.{definition_of, definitions_of}
 use Rattle.st_changes.specs.States.{ChangesState, grown}
 use Rattle.st_changes.specs.Readying.{reserved_of}
-use Rattle.st_index.specs.States.{found}
+use Rattle.st_changes.specs.IndexStates.{found}
 use Rattle.st_changes.specs.Last.{Answers}
 use Rattle.st_changes.specs.declared.changes.Ready.{Ready}
 use Rattle.st_changes.proofs.ListTexts.{entries_more, all_more}

@@ -2,7 +2,7 @@ use Rattle.std.proofs.Common.{◌≡◌, List, sym, ap, subst, arith, Some}
 use Rattle.std.specs.Prelude.{All, Option, unwrap_or}
 use Rattle.std.specs.Option.{option_map}
 use Rattle.st_chunk.specs.Definitions.{Definition, IsDefinition}
-use Rattle.st_index.specs.States.{found}
+use Rattle.st_changes.specs.IndexStates.{found}
 use Rattle.st_changes.specs.Views.{definition_of, definitions_of}
 use Rattle.st_changes.specs.States.{IsTotal}
 use Rattle.st_changes.specs.Last.{Answers, IsReady}

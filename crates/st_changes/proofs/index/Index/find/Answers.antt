@@ -1,8 +1,8 @@
 use Rattle.std.proofs.Common.{None, Some, ap, sym, ◌∙◌}
 use Rattle.std.specs.HashMap.{spare}
-use Rattle.st_index.specs.States.{IndexState, found}
-use Rattle.st_index.proofs.Names.{looked}
-use Rattle.st_index.proofs.index.Index.find.Goals as goal
+use Rattle.st_changes.specs.IndexStates.{IndexState, found}
+use Rattle.st_changes.proofs.Names.{looked}
+use Rattle.st_changes.proofs.index.Index.find.Goals as goal
 
 pub returns-in_err-selector : goal.returns-in_err-selector
 returns-in_err-selector c =

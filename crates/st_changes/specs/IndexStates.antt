@@ -5,7 +5,7 @@ use Rattle.std.specs.Bool.{beq}
 use Rattle.std.specs.List.{list_any}
 use Rattle.std.specs.Option.{option_and_then}
 use Rattle.std.specs.Map.{lookup}
-use Rattle.st_index.specs.declared.span.Span.{Span}
+use Rattle.st_changes.specs.declared.span.Span.{Span}
 
 -- Names, each of which has its place as its number; spans by the number of a class, the side of it and the number of a
 -- selector; and how many more spans there is room for.
