@@ -13,3 +13,5 @@ pub mod Beginning
 mod Holding
 pub mod Instances
 mod Nothing
+pub mod Counting
+mod Linked

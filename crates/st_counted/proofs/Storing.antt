@@ -13,7 +13,7 @@ use Rattle.st_model.specs.Table.{Table, entry, first_free, placed}
 use Rattle.st_model.specs.View.{View, is_live, object_of, with_stored, IsKnown}
 use Rattle.st_model.proofs.Pointers.{value_of-even}
 use Rattle.st_model.proofs.TableLemmas.{first_free-none}
-use Rattle.st_counts.specs.Counts.{is_counted, number_at, raised, lowered}
+use Rattle.st_counted.specs.Counts.{is_counted, number_at, raised, lowered}
 use Rattle.st_counted.specs.References.{all_roots, nils_of, references, IsCounted, raised_by, lowered_by}
 use Rattle.st_counted.proofs.Tallying.{test_same, test_other, times_replicate, hand_known, live_known, counted_raised, counted_lowered, counted_less, counted_alike, tally_entered, tally_number}
 use Rattle.st_counted.proofs.Referring.{counted_stored, counted_placed, uses_fresh}

@@ -3,7 +3,7 @@ use Rattle.std.specs.Prelude.{◌≡◌, ℕ, List, Option, []}
 use Rattle.st_model.specs.View.{View, head_of}
 use Rattle.st_counted.specs.Held.{held_of}
 use Rattle.st_heap.specs.Tables.{objects_of, room_of}
-use Rattle.st_counts.specs.Contents.{counts_of}
+use Rattle.st_counted.specs.Contents.{counts_of}
 use Rattle.st_counted.specs.declared.contents.Contents.{Contents}
 use Rattle.st_counted.specs.References.{all_roots, IsCounted}
 

@@ -3,3 +3,6 @@ pub mod References
 pub mod Taking
 pub mod Held
 pub mod Words
+pub mod Contents
+pub mod Counts
+pub mod Links

@@ -8,7 +8,7 @@ use Rattle.st_model.specs.Settled.{names}
 use Rattle.st_model.specs.View.{View, view_roots}
 use Rattle.st_model.specs.declared.kind.Kind.{Kind}
 use Rattle.st_model.specs.declared.kind.Kind.TheVariants as kind
-use Rattle.st_counts.specs.Counts.{count_at, is_counted, number_at, raised, lowered}
+use Rattle.st_counted.specs.Counts.{count_at, is_counted, number_at, raised, lowered}
 
 -- how many of the values name n
 abbrev pub times : ℕ → List Value → ℕ

@@ -4,13 +4,13 @@ ghost use Rattle.st_model.specs.Formed.{IsHeader, IsMakeable, fresh};
 ghost use Rattle.st_model.specs.Table.{first_free, placed};
 ghost use Rattle.st_model.specs.View.{empty_view, head_of, fits, IsWhole, IsPlace, IsKnown, is_live, object_of, with_held, with_stored, demand_of};
 ghost use Rattle.st_table.specs.Entries.{place as place_at};
-ghost use Rattle.st_counts.specs.Counts.{count_at, is_counted, number_at, is_unused, raised};
-ghost use Rattle.st_counts.specs.Contents.{counts_of};
+ghost use Rattle.st_counted.specs.Counts.{count_at, is_counted, number_at, is_unused, raised};
+ghost use Rattle.st_counted.specs.Contents.{counts_of};
 ghost use Rattle.st_counted.specs.References.{all_roots, nils_of, IsCounted};
 
 use crate::counting::{lower, pointer_of, raise};
+use crate::counts::Counts;
 use crate::roots::Roots;
-use st_counts::Counts;
 use st_heap::Objects;
 use st_model::{Demand, Kind, Oop, RootPlace};
 use std::alloc::{AllocError, Global};

@@ -1,11 +1,11 @@
 ghost use Rattle.std.specs.Prelude.{◌≡◌, ◌≢◌, ◌<◌, ◌+◌, ◌*◌, ◌/◌, ℕ, true, false};
 ghost use Rattle.st_model.specs.Values.{value, is_small};
 ghost use Rattle.st_table.specs.Entries.{place};
-ghost use Rattle.st_counts.specs.Counts.{is_counted, number_at};
-ghost use Rattle.st_counts.specs.Contents.{counts_of};
+ghost use Rattle.st_counted.specs.Counts.{is_counted, number_at};
+ghost use Rattle.st_counted.specs.Contents.{counts_of};
 ghost use Rattle.st_counted.specs.References.{raised_by, lowered_by};
 
-use st_counts::Counts;
+use crate::counts::Counts;
 use st_model::Oop;
 
 /// The pointer of a place.

@@ -3,6 +3,8 @@
 
 mod contents;
 mod counting;
+mod counts;
+mod links;
 mod loader;
 mod memory;
 mod roots;

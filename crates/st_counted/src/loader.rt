@@ -2,7 +2,7 @@ ghost use Rattle.std.specs.Prelude.{◌≡◌, ℕ, None};
 ghost use Rattle.st_model.specs.Loading.{IsLoading};
 ghost use Rattle.st_model.specs.Props.{IsLoading-prop};
 ghost use Rattle.st_counted.specs.Counted.{counted_view, numbers_of, HasRoom};
-ghost use Rattle.st_counts.specs.Counts.{count_at};
+ghost use Rattle.st_counted.specs.Counts.{count_at};
 
 use crate::contents::{Contents, Head};
 use crate::memory::CountedMemory;

@@ -6,7 +6,7 @@ ghost use Rattle.st_model.specs.Machine.{table_root};
 ghost use Rattle.st_model.specs.Table.{entry};
 ghost use Rattle.st_model.specs.View.{IsWhole, IsKnown, is_live, object_of, held_at, table_of};
 ghost use Rattle.st_model.specs.declared.place.RootPlace.{RootPlace};
-ghost use Rattle.st_counts.specs.Counts.{count_at, number_at};
+ghost use Rattle.st_counted.specs.Counts.{count_at, number_at};
 ghost use Rattle.st_counted.specs.References.{object_uses, uses, IsTallied, IsEntered, AddsReferences};
 ghost use Rattle.st_counted.specs.Counted.{counted_view, numbers_of, AllCounted};
 

@@ -3,8 +3,8 @@ use Rattle.std.specs.Prelude.{Option, None, slice_set}
 use Rattle.st_model.specs.Values.{Value, Ref, value}
 use Rattle.st_model.specs.Table.{Table}
 use Rattle.st_model.specs.View.{View, is_live, object_of}
-use Rattle.st_counts.specs.Counts.{is_unused}
-use Rattle.st_counts.specs.Contents.{counts_of}
+use Rattle.st_counted.specs.Counts.{is_unused}
+use Rattle.st_counted.specs.Contents.{counts_of}
 use Rattle.st_heap.specs.Tables.{objects_of, room_of}
 use Rattle.st_heap.proofs.Placing.{length-objects}
 use Rattle.st_counted.specs.declared.contents.Contents.{Contents}

@@ -1,7 +1,7 @@
 use Rattle.std.proofs.Common.{◌≡◌, ℕ, ◌<◌, ◌≤◌}
 use Rattle.std.specs.Prelude.{Some, None, is_some, if◌then◌else◌}
 use Rattle.st_model.specs.Table.{entry}
-use Rattle.st_counts.specs.Counts.{count_at}
+use Rattle.st_counted.specs.Counts.{count_at}
 use Rattle.st_counted.specs.Counted.{counted_view, numbers_of}
 use Rattle.st_counted.proofs.contents.Contents.enter_all.Given as goal
 

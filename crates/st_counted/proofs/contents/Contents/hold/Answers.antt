@@ -3,7 +3,7 @@ use Rattle.std.proofs.lemmas.Bool.{eqb-true}
 use Rattle.st_model.specs.View.{with_held}
 use Rattle.st_counted.specs.Held.{held_of}
 use Rattle.st_model.specs.Values.{Value, value, value_of}
-use Rattle.st_counts.specs.Contents.{counts_of}
+use Rattle.st_counted.specs.Contents.{counts_of}
 use Rattle.st_counted.specs.References.{all_roots, references, IsCounted}
 use Rattle.st_counted.specs.Counted.{counted_view, numbers_of}
 use Rattle.st_counted.proofs.Tallying.{known_counted, hand_counted, hand_some}

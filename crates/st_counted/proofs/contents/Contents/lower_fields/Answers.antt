@@ -5,8 +5,8 @@ use Rattle.st_model.specs.Objects.{nil}
 use Rattle.st_model.specs.Table.{Table}
 use Rattle.st_model.specs.View.{is_live, object_of, IsKnown}
 use Rattle.st_table.specs.Entries.{place}
-use Rattle.st_counts.specs.Counts.{is_counted, number_at}
-use Rattle.st_counts.specs.Contents.{counts_of}
+use Rattle.st_counted.specs.Counts.{is_counted, number_at}
+use Rattle.st_counted.specs.Contents.{counts_of}
 use Rattle.st_heap.specs.Tables.{objects_of}
 use Rattle.st_heap.specs.declared.objects.Objects.{Objects}
 use Rattle.st_counted.specs.declared.contents.Contents.{Contents}

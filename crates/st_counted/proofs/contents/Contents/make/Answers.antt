@@ -8,7 +8,7 @@ use Rattle.st_model.specs.Table.{first_free}
 use Rattle.st_model.specs.View.{View, is_live}
 use Rattle.st_model.proofs.TableLemmas.{first_free-start}
 use Rattle.st_model.proofs.Making.{first_free_within, live_even}
-use Rattle.st_counts.specs.Contents.{counts_of}
+use Rattle.st_counted.specs.Contents.{counts_of}
 use Rattle.st_heap.specs.Tables.{objects_of}
 use Rattle.st_counted.specs.References.{all_roots, references, raised_by, IsCounted}
 use Rattle.st_counted.specs.Counted.{counted_view, numbers_of}

@@ -5,8 +5,8 @@ use Rattle.std.proofs.Math.Seq.{take-length}
 use Rattle.st_model.specs.Values.{Value, value}
 use Rattle.st_model.specs.View.{is_live, object_of}
 use Rattle.st_model.proofs.WholeLemmas.{formed_live, field_known}
-use Rattle.st_counts.specs.Counts.{number_at}
-use Rattle.st_counts.specs.Contents.{counts_of}
+use Rattle.st_counted.specs.Counts.{number_at}
+use Rattle.st_counted.specs.Contents.{counts_of}
 use Rattle.st_heap.specs.Tables.{objects_of}
 use Rattle.st_heap.specs.declared.objects.Objects.{Objects}
 use Rattle.st_counted.specs.declared.contents.Contents.{Contents}

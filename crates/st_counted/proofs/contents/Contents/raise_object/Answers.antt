@@ -2,8 +2,8 @@ use Rattle.std.proofs.Common.{◌≡◌, ◌+◌, ◌/◌, sym, ap, ◌∙◌, a
 use Rattle.st_model.specs.Values.{value}
 use Rattle.st_model.specs.Table.{entry}
 use Rattle.st_model.specs.View.{object_of}
-use Rattle.st_counts.specs.Counts.{number_at}
-use Rattle.st_counts.specs.Contents.{counts_of}
+use Rattle.st_counted.specs.Counts.{number_at}
+use Rattle.st_counted.specs.Contents.{counts_of}
 use Rattle.st_counted.specs.References.{object_uses}
 use Rattle.st_counted.specs.Counted.{counted_view, numbers_of}
 use Rattle.st_counted.proofs.Swept.{place_value, live_entry, dead_entry}

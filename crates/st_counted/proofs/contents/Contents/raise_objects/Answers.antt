@@ -1,7 +1,7 @@
 use Rattle.std.proofs.Common.{◌≡◌, ◌+◌, refl, sym, ap, ◌∙◌, subst, length, arith}
 use Rattle.st_model.specs.Table.{Table, entry}
 use Rattle.st_model.specs.View.{IsWhole}
-use Rattle.st_counts.specs.Counts.{number_at}
+use Rattle.st_counted.specs.Counts.{number_at}
 use Rattle.st_heap.specs.Tables.{objects_of}
 use Rattle.st_counted.specs.declared.contents.Contents.{Contents}
 use Rattle.st_counted.specs.References.{object_uses, uses, uses_below, IsTallied, IsEntered}

@@ -9,7 +9,7 @@ use Rattle.st_model.specs.Machine.{table_root}
 use Rattle.st_model.specs.Table.{Table}
 use Rattle.st_model.specs.Settled.{names}
 use Rattle.st_model.specs.View.{is_live, table_of, IsKnown, IsWhole}
-use Rattle.st_counts.specs.Contents.{counts_of}
+use Rattle.st_counted.specs.Contents.{counts_of}
 use Rattle.st_heap.specs.Tables.{objects_of}
 use Rattle.st_counted.specs.declared.contents.Contents.{Contents}
 use Rattle.st_counted.specs.References.{times, uses, page_values, all_roots, raised_by, IsTallied, IsEntered, AddsReferences, IsCounted}

@@ -1,6 +1,6 @@
 use Rattle.std.proofs.Common.{◌/◌, [], arith}
 use Rattle.st_model.specs.Values.{value}
-use Rattle.st_counts.specs.Contents.{counts_of}
+use Rattle.st_counted.specs.Contents.{counts_of}
 use Rattle.st_heap.specs.Tables.{objects_of}
 use Rattle.st_counted.specs.References.{all_roots, references}
 use Rattle.st_counted.specs.Counted.{counted_view, numbers_of}

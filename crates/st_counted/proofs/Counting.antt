@@ -4,10 +4,10 @@ use Rattle.std.specs.Prelude.{◌==◌, Option, Some, None, unwrap_or}
 use mathlib.Core.Bool.{Bool-set}
 use Rattle.std.proofs.Math.Logic.{∥∥₁_elim, ∥∥₁_map}
 use Rattle.std.proofs.lemmas.List.{get_or-set_same, get_or-set_other}
-use Rattle.st_counts.specs.declared.links.Links.{Links}
-use Rattle.st_counts.specs.Links.{times, IsLinked, Listed, Holds}
-use Rattle.st_counts.specs.Counts.{count_at, is_counted, is_zero, is_unused}
-use Rattle.st_counts.proofs.Linked.{same_test, other_test, begins}
+use Rattle.st_counted.specs.declared.links.Links.{Links}
+use Rattle.st_counted.specs.Links.{times, IsLinked, Listed, Holds}
+use Rattle.st_counted.specs.Counts.{count_at, is_counted, is_zero, is_unused}
+use Rattle.st_counted.proofs.Linked.{same_test, other_test, begins}
 
 -- the same places pass
 pub holds_alike : (z : Links) (p q : ℕ → Bool) → Holds z p → ((o : ℕ) → q o ≡ p o) → Holds z q

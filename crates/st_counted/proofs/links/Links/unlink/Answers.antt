@@ -1,8 +1,8 @@
 use Rattle.std.proofs.Math.Logic.{∥∥₁_map}
 use Rattle.std.proofs.Common.{◌∙◌, ◌<◌, ap, cond, set, sym, subst}
 use Rattle.std.specs.Prelude.{◌==◌}
-use Rattle.st_counts.proofs.Linked.{unlinked_read, read_any}
-use Rattle.st_counts.proofs.links.Links.unlink.Goals as goal
+use Rattle.st_counted.proofs.Linked.{unlinked_read, read_any}
+use Rattle.st_counted.proofs.links.Links.unlink.Goals as goal
 
 pub returns-clause-holds : goal.returns-clause-holds
 returns-clause-holds c p some is_in = ∥∥₁_map some (λ holds.

@@ -1,8 +1,8 @@
 use Rattle.std.proofs.Common.{ℕ, List, Option, None, ap, ◌∙◌, length}
-use Rattle.st_counts.specs.Counts.{count_at, is_zero, is_unused}
-use Rattle.st_counts.proofs.Counting.{nothing_counted}
+use Rattle.st_counted.specs.Counts.{count_at, is_zero, is_unused}
+use Rattle.st_counted.proofs.Counting.{nothing_counted}
 use Rattle.std.proofs.lemmas.List.{length-replicate}
-use Rattle.st_counts.proofs.counts.Counts.new.Goals as goal
+use Rattle.st_counted.proofs.counts.Counts.new.Goals as goal
 
 pub invariant_of-result : goal.invariant_of-result
 invariant_of-result c =

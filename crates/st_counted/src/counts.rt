@@ -1,6 +1,6 @@
 ghost use Rattle.std.specs.Prelude.{◌≡◌, ◌≢◌, ◌<◌, ◌≤◌, ◌+◌, ℕ, length, replicate, true, false, Some, None, slice_set, IfOk, IfSome, IfNone};
-ghost use Rattle.st_counts.specs.Links.{Holds, IsWithin};
-ghost use Rattle.st_counts.specs.Counts.{count_at, is_counted, number_at, is_unused, raised, lowered};
+ghost use Rattle.st_counted.specs.Links.{Holds, IsWithin};
+ghost use Rattle.st_counted.specs.Counts.{count_at, is_counted, number_at, is_unused, raised, lowered};
 
 use crate::links::Links;
 use std::alloc::{AllocError, Global};
@@ -21,7 +21,7 @@ pub struct Counts {
 }
 
 impl Counts {
-    ghost use Rattle.st_counts.specs.Contents.{counts_of};
+    ghost use Rattle.st_counted.specs.Contents.{counts_of};
 
     /// No place is counted.
     pub fn new(alloc: Global) -> Result<Counts, AllocError>

@@ -1,6 +1,6 @@
 -- What counts contain.
 use Rattle.std.specs.Prelude.{ℕ, List, Option}
-use Rattle.st_counts.specs.declared.counts.Counts.{Counts}
+use Rattle.st_counted.specs.declared.counts.Counts.{Counts}
 
 -- at each place its count, or none
 abbrev pub counts_of : Counts → List (Option ℕ)

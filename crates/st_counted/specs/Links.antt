@@ -1,7 +1,7 @@
 -- A list of places through the places that follow and precede each; place 0 is none.
 use Rattle.std.specs.Prelude.{◌≡◌, ◌≢◌, ◌<◌, ◌==◌, ◌+◌, ℕ, Bool, List, [], ◌∷◌, length, slice_index_or, if◌then◌else◌, true, false}
 use Rattle.std.specs.List.{All}
-use Rattle.st_counts.specs.declared.links.Links.{Links}
+use Rattle.st_counted.specs.declared.links.Links.{Links}
 
 -- how many times k stands in the list
 abbrev pub times : ℕ → List ℕ → ℕ

@@ -1,5 +1,5 @@
 ghost use Rattle.std.specs.Prelude.{◌≡◌, ◌≢◌, ◌<◌, ℕ, Bool, true, false, length, slice_set, ◌==◌, if◌then◌else◌, IfOk, replicate};
-ghost use Rattle.st_counts.specs.Links.{Holds, IsWithin, with_member, without_member};
+ghost use Rattle.st_counted.specs.Links.{Holds, IsWithin, with_member, without_member};
 
 use std::alloc::{AllocError, Global};
 

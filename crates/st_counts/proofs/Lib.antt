@@ -1,2 +1,0 @@
-pub mod Counting
-mod Linked
