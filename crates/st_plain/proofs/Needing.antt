@@ -11,12 +11,12 @@ use Rattle.st_model.proofs.SettledLemmas.{is_some-of, some_is}
 use Rattle.st_model.proofs.Reclaimed.{table_finite_in}
 use Rattle.st_model.proofs.Settling.{DropsTo, left, left_is, settled}
 use Rattle.st_model.proofs.Rounds.{KeepsNeeded, all_kept, settled_all, moved_roots}
-use Rattle.st_lists.specs.Held.{register_roots, names_held}
-use Rattle.st_lists.specs.Marked.{is_of_page}
-use Rattle.st_lists.specs.Plain.{is_referred}
+use Rattle.st_plain.specs.Held.{register_roots, names_held}
+use Rattle.st_plain.specs.Marked.{is_of_page}
+use Rattle.st_plain.specs.ListsPlain.{is_referred}
 use Rattle.st_plain.specs.Plain.{is_needed}
-use Rattle.st_lists.proofs.Marking.{any_names-append, or_step}
-use Rattle.st_lists.proofs.Holding.{twice}
+use Rattle.st_plain.proofs.Marking.{any_names-append, or_step}
+use Rattle.st_plain.proofs.Holding.{twice}
 
 or_left : (a b : Bool) → IsTrue a → IsTrue (or a b)
 or_left true b h = refl

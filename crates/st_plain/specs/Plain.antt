@@ -5,7 +5,7 @@ use Rattle.st_model.specs.Table.{table, total_used}
 use Rattle.st_model.specs.Settled.{or, is_root}
 use Rattle.st_model.specs.View.{View, view_roots, head_of}
 use Rattle.st_counted.specs.Held.{held_of}
-use Rattle.st_lists.specs.Plain.{objects_of, extent_of, IsEnough, IsLong, is_referred}
+use Rattle.st_plain.specs.ListsPlain.{objects_of, extent_of, IsEnough, IsLong, is_referred}
 use Rattle.st_plain.specs.declared.contents.Contents.{Contents}
 
 -- what a memory of these parts contains

@@ -7,8 +7,11 @@ ghost use Rattle.st_model.specs.Table.{total_used, settled_table, first_free, pl
 ghost use Rattle.st_model.specs.Settled.{is_marked};
 ghost use Rattle.st_model.specs.View.{empty_view, head_of, fits, IsWhole};
 
+use crate::adding::{fields_of, units_of};
+use crate::marks::Marks;
+use crate::objects::Objects;
+use crate::roots::mark_roots;
 use st_counted::Roots;
-use st_lists::{Marks, Objects, fields_of, mark_roots, units_of};
 use st_model::{Demand, Kind, Oop};
 use std::alloc::{AllocError, Global};
 use std::mem::swap;
@@ -40,7 +43,7 @@ pub struct Contents {
 }
 
 impl Contents {
-    ghost use Rattle.st_lists.specs.Plain.{extent_of, unused};
+    ghost use Rattle.st_plain.specs.ListsPlain.{extent_of, unused};
     ghost use Rattle.st_plain.specs.Plain.{plain_view, is_needed, AreLong};
 
     /// No objects under a head, and nothing held.

@@ -1,7 +1,7 @@
 ghost use Rattle.std.specs.Prelude.{◌≡◌};
 ghost use Rattle.st_model.specs.Loading.{IsLoading};
 ghost use Rattle.st_model.specs.Props.{IsLoading-prop};
-ghost use Rattle.st_lists.specs.Plain.{extent_of, IsLong};
+ghost use Rattle.st_plain.specs.ListsPlain.{extent_of, IsLong};
 ghost use Rattle.st_plain.specs.Plain.{plain_view, HasRoom};
 
 use crate::contents::{Contents, Head};

@@ -6,9 +6,9 @@ use Rattle.st_model.specs.Values.{value}
 use Rattle.st_model.proofs.FormedLemmas.{formed_fresh, fresh_parts}
 use Rattle.st_model.proofs.Pointers.{value_of-even, even_word}
 use Rattle.st_model.proofs.LoadingLemmas.{loading_placed, total_used-with_object}
-use Rattle.st_lists.specs.Plain.{objects_of, extent_of}
+use Rattle.st_plain.specs.ListsPlain.{objects_of, extent_of}
 use Rattle.st_plain.specs.Plain.{plain_view}
-use Rattle.st_lists.proofs.Fresh.{pointer_within}
+use Rattle.st_plain.proofs.Fresh.{pointer_within}
 use Rattle.st_plain.proofs.Room.{room_less}
 use Rattle.st_plain.proofs.loader.PlainLoaderLoader.place.Goals as goal
 

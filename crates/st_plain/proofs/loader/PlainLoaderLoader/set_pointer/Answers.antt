@@ -4,7 +4,7 @@ use Rattle.st_model.specs.Table.{total_used}
 use Rattle.st_model.specs.Values.{value}
 use Rattle.st_model.proofs.Pointers.{IsWord-value_of}
 use Rattle.st_model.proofs.LoadingLemmas.{loading_stored, total_used-with_stored}
-use Rattle.st_lists.specs.Plain.{objects_of, extent_of}
+use Rattle.st_plain.specs.ListsPlain.{objects_of, extent_of}
 use Rattle.st_plain.specs.Plain.{plain_view}
 use Rattle.st_plain.proofs.Room.{room_same}
 use Rattle.st_plain.proofs.loader.PlainLoaderLoader.set_pointer.Goals as goal

@@ -5,7 +5,7 @@ use Rattle.st_model.specs.Values.{value}
 use Rattle.st_model.specs.View.{object_of}
 use Rattle.st_model.proofs.FormedLemmas.{unit_limit-word}
 use Rattle.st_model.proofs.LoadingLemmas.{loading_unit, total_used-with_unit}
-use Rattle.st_lists.specs.Plain.{objects_of, extent_of}
+use Rattle.st_plain.specs.ListsPlain.{objects_of, extent_of}
 use Rattle.st_plain.specs.Plain.{plain_view}
 use Rattle.st_plain.proofs.Room.{room_same}
 use Rattle.st_plain.proofs.loader.PlainLoaderLoader.set_word.Goals as goal

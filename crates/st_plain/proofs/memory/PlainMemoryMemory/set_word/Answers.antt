@@ -3,7 +3,7 @@ use Rattle.st_model.specs.Values.{value}
 use Rattle.st_model.specs.View.{object_of}
 use Rattle.st_model.proofs.FormedLemmas.{unit_limit-word, words_range}
 use Rattle.st_model.proofs.WholeLemmas.{formed_live, whole_unit}
-use Rattle.st_lists.specs.Plain.{extent_of}
+use Rattle.st_plain.specs.ListsPlain.{extent_of}
 use Rattle.st_plain.specs.Plain.{plain_view}
 use Rattle.st_plain.proofs.Room.{long_same}
 use Rattle.st_plain.proofs.memory.PlainMemoryMemory.set_word.Goals as goal

@@ -1,7 +1,7 @@
 use Rattle.std.proofs.Common.{refl}
 use Rattle.st_model.specs.Values.{value}
 use Rattle.st_model.proofs.Exchanging.{whole_exchanged}
-use Rattle.st_lists.specs.Plain.{extent_of}
+use Rattle.st_plain.specs.ListsPlain.{extent_of}
 use Rattle.st_plain.specs.Plain.{plain_view}
 use Rattle.st_plain.proofs.Room.{long_same}
 use Rattle.st_plain.proofs.memory.PlainMemoryMemory.swap.Goals as goal

@@ -1,6 +1,0 @@
-use Rattle.st_model.specs.Values.{value_of}
-use Rattle.st_lists.proofs.marks.Marks.mark_page.Goals as goal
-
-pub returns : goal.returns
-unfolding value_of
-returns c = c.mark_all.ensures

@@ -1,5 +1,0 @@
-use Rattle.st_lists.proofs.Counting.{used_is}
-use Rattle.st_lists.proofs.objects.Objects.used.Goals as goal
-
-pub returns : goal.returns
-returns c = used_is c.args.self.now

@@ -1,4 +1,0 @@
-pub mod Held
-pub mod Lists
-pub mod Marked
-pub mod Plain
