@@ -5,8 +5,8 @@ ghost use Rattle.st_outside.specs.Counts.{Rose};
 ghost use Rattle.st_outside.specs.Files.{bytes_of};
 ghost use Rattle.st_outside.specs.Runs.{ReadsAndSays};
 ghost use Rattle.st_image.specs.declared.head.HeadValues.{HeadValues};
-ghost use Rattle.st_course.specs.Statuses.{StatusHasCause, number_of};
-ghost use Rattle.st_course.specs.declared.status.Status.TheVariants.{Usage};
+ghost use Rattle.st_protocol.specs.Statuses.{StatusHasCause, number_of};
+ghost use Rattle.st_protocol.specs.declared.status.Status.TheVariants.{Usage};
 ghost use Rattle.st_session.specs.Builds.{BuildEnds};
 ghost use Rattle.st_session.specs.Calls.{OnlySays, CallEnds};
 ghost use Rattle.st_session.specs.Commands.{OnceEnds};
@@ -19,9 +19,9 @@ ghost use Rattle.st_call.specs.Words.{command_of, Once, Import, Export, Session,
 
 use st_call::{Command, read_command, refuse};
 use st_counted::CountedLoader;
-use st_course::Status;
 use st_lookup::CachedLoader;
 use st_outside::{Host, Source};
+use st_protocol::Status;
 use st_session::{build, drill, export, import, once, session};
 use std::alloc::Global;
 use std::process::ExitCode;

@@ -6,7 +6,7 @@ use Rattle.st_outside.specs.declared.host.SayFault.{SayFault}
 use Rattle.st_outside.specs.Counts.{HasCause}
 use Rattle.st_outside.specs.Runs.{SaysAll}
 use Rattle.st_outside.specs.Telling.{Says}
-use Rattle.st_course.specs.declared.status.Status.TheVariants as status
+use Rattle.st_protocol.specs.declared.status.Status.TheVariants as status
 use Rattle.st_call.specs.Telling.{Tells}
 
 module _ {D : Type 0} (host : Ghosts D) where

@@ -10,8 +10,8 @@ use Rattle.st_store.specs.declared.fault.StoreFault.{StoreFault}
 use Rattle.st_store.specs.declared.fault.StoreFault.TheVariants as store
 use Rattle.st_store.specs.declared.fault.StorePlace.{StorePlace}
 use Rattle.st_store.specs.declared.fault.StorePlace.TheVariants.{Roots, Changes}
-use Rattle.st_course.specs.declared.status.Status.{Status}
-use Rattle.st_course.specs.declared.status.Status.TheVariants.{Done, Usage, Image, Script, ReadFault, SayFault, DiskFault, Store, Kernel, TooLarge, OutOfMemory}
+use Rattle.st_protocol.specs.declared.status.Status.{Status}
+use Rattle.st_protocol.specs.declared.status.Status.TheVariants.{Done, Usage, Image, Script, ReadFault, SayFault, DiskFault, Store, Kernel, TooLarge, OutOfMemory}
 
 -- a fault's row, then its pointer, and its second pointer or its index
 abbrev pub fault_numbers : ImageFault → List ℕ

@@ -9,8 +9,8 @@ use Rattle.st_image.specs.declared.head.HeadValues.{HeadValues}
 use Rattle.st_image.specs.HeadValues.{head_over}
 use Rattle.st_store.specs.declared.fault.StoreFault.{StoreFault}
 use Rattle.st_store.specs.declared.fault.StoreFault.TheVariants as store
-use Rattle.st_course.specs.declared.status.Status.{Status}
-use Rattle.st_course.specs.declared.status.Status.TheVariants.{Image, DiskFault, Store, TooLarge, OutOfMemory}
+use Rattle.st_protocol.specs.declared.status.Status.{Status}
+use Rattle.st_protocol.specs.declared.status.Status.TheVariants.{Image, DiskFault, Store, TooLarge, OutOfMemory}
 use Rattle.st_call.specs.declared.file.FileRefusal.{FileRefusal}
 use Rattle.st_call.specs.declared.file.FileRefusal.TheVariants as file
 use Rattle.st_call.specs.declared.image_refusal.ImageRefusal.{ImageRefusal}

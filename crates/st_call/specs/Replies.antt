@@ -4,8 +4,8 @@ use Rattle.st_model.specs.Machine.{State}
 use Rattle.st_model.specs.Table.{Table}
 use Rattle.st_model.specs.Text.{numbers_text, registers_text, input_text, held_text}
 use Rattle.st_chunk.specs.Definitions.{Definition}
-use Rattle.st_course.specs.declared.refusal.Refusal.{Refusal}
-use Rattle.st_course.specs.declared.refusal.Refusal.TheVariants as refusal
+use Rattle.st_protocol.specs.declared.refusal.Refusal.{Refusal}
+use Rattle.st_protocol.specs.declared.refusal.Refusal.TheVariants as refusal
 
 -- an event came
 abbrev pub ok_text : List ℕ

@@ -3,9 +3,9 @@ use Rattle.std.specs.Prelude.{◌≡◌, ℕ, List, Result, OnOk, Ok, Err, IfErr
 use Rattle.st_outside.specs.Runs.{SaysAll}
 use Rattle.st_outside.specs.Telling.{Says}
 use Rattle.st_outside.specs.declared.host.Host.{Ghosts}
-use Rattle.st_course.specs.declared.status.Status.{Status}
-use Rattle.st_course.specs.declared.status.Status.TheVariants.{Done, Usage, Image, Script, ReadFault, SayFault, DiskFault, Store, Kernel, TooLarge, OutOfMemory}
-use Rattle.st_course.specs.Statuses.{Counts}
+use Rattle.st_protocol.specs.declared.status.Status.{Status}
+use Rattle.st_protocol.specs.declared.status.Status.TheVariants.{Done, Usage, Image, Script, ReadFault, SayFault, DiskFault, Store, Kernel, TooLarge, OutOfMemory}
+use Rattle.st_protocol.specs.Statuses.{Counts}
 
 -- the statuses in which the following of a script can end, over any machine
 abbrev pub IsOfServing : Status → Type 0

@@ -5,8 +5,8 @@ ghost use Rattle.st_outside.specs.Files.{bytes_of};
 ghost use Rattle.st_outside.specs.Runs.{OnlyReads, ReadsAlike};
 ghost use Rattle.st_call.specs.Refusals.{file_status, IsFileRefusal, FileHasCause};
 
-use st_course::Status;
 use st_outside::{Host, HostFault, file_length, read_from};
+use st_protocol::Status;
 use std::alloc::{AllocError, Global};
 
 /// Why a file isn't read.

@@ -2,8 +2,8 @@ ghost use Rattle.std.specs.Prelude.{◌≡◌};
 ghost use Rattle.st_call.specs.Refusals.{status_of};
 
 use crate::file::FileRefusal;
-use st_course::Status;
 use st_model::ImageFault;
+use st_protocol::Status;
 use std::alloc::AllocError;
 
 /// Why an image isn't read, or no machine started over it.

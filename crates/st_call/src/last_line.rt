@@ -5,9 +5,9 @@ ghost use Rattle.st_outside.specs.Telling.{Says};
 ghost use Rattle.st_report.specs.Saying.{Pushes};
 ghost use Rattle.st_call.specs.LastLines.{fault_line, place_line, store_line, last_line, SaysLastLine};
 
-use st_course::Status;
 use st_model::ImageFault;
 use st_outside::{Host, SayFault};
+use st_protocol::Status;
 use st_report::{Output, push_line, push_long_line};
 use st_store::{StoreFault, StorePlace};
 

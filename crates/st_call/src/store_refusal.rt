@@ -1,7 +1,7 @@
 ghost use Rattle.std.specs.Prelude.{◌≡◌};
 ghost use Rattle.st_call.specs.Refusals.{store_status};
 
-use st_course::Status;
+use st_protocol::Status;
 use st_store::StoreFault;
 
 /// The status of a call that ends since a store isn't made, or not opened for its files.

@@ -28,9 +28,9 @@ use Rattle.st_names.specs.Seen.{AnswersNames}
 use Rattle.st_names.specs.Alike.{SeesAlike}
 use Rattle.st_names.proofs.Alike.{code_alike}
 use Rattle.st_chunk.specs.Definitions.{Definition}
-use Rattle.st_course.specs.declared.refusal.Refusal.{Refusal}
-use Rattle.st_course.specs.declared.refusal.Refusal.TheVariants.{Syntax, Code}
-use Rattle.st_installer.specs.Installing.{Refused}
+use Rattle.st_protocol.specs.declared.refusal.Refusal.{Refusal}
+use Rattle.st_protocol.specs.declared.refusal.Refusal.TheVariants.{Syntax, Code}
+use Rattle.st_protocol.specs.Installing.{Refused}
 use Rattle.st_definition.specs.Syntax.{syntax}
 use Rattle.st_definition.specs.Defining.{of_install, of_code, installed}
 use Rattle.st_definition.specs.Unprepareds.{by_install, by_syntax, by_code}

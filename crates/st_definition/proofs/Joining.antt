@@ -20,8 +20,8 @@ use Rattle.st_install.specs.Installing.{install}
 use Rattle.st_install.proofs.SameAnswers.{class_answered, class_refused, names_answered, ready_answered, ready_refused, install_answered}
 use Rattle.st_install.proofs.SameHeaders.{code_header}
 use Rattle.st_chunk.specs.Definitions.{Definition}
-use Rattle.st_course.specs.declared.refusal.Refusal.{Refusal}
-use Rattle.st_installer.specs.Installing.{Refused, Accepted}
+use Rattle.st_protocol.specs.declared.refusal.Refusal.{Refusal}
+use Rattle.st_protocol.specs.Installing.{Refused, Accepted}
 use Rattle.st_definition.specs.Syntax.{syntax}
 use Rattle.st_definition.specs.Defining.{of_syntax, of_code, of_install, Prepared, with_plan, prepare_code, prepare_under, prepare_tree, prepare_in, prepare, carry_out, define, outcome_of, installed}
 

@@ -19,9 +19,9 @@ use Rattle.st_names.specs.Calls.{class_of_name, names}
 use Rattle.st_install.specs.Calls.{ready}
 use Rattle.st_install.specs.Installing.{install}
 use Rattle.st_chunk.specs.Definitions.{Definition}
-use Rattle.st_course.specs.declared.refusal.Refusal.{Refusal}
-use Rattle.st_course.specs.declared.refusal.Refusal.TheVariants.{Syntax, Code, NoClass, NoGlobals, NoRoom, Shape}
-use Rattle.st_installer.specs.Installing.{Installed, Refused, Accepted}
+use Rattle.st_protocol.specs.declared.refusal.Refusal.{Refusal}
+use Rattle.st_protocol.specs.declared.refusal.Refusal.TheVariants.{Syntax, Code, NoClass, NoGlobals, NoRoom, Shape}
+use Rattle.st_protocol.specs.Installing.{Installed, Refused, Accepted}
 use Rattle.st_definition.specs.Syntax.{syntax}
 
 -- REFUSALS

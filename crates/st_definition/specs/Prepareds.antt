@@ -14,7 +14,7 @@ use Rattle.st_install.specs.Calls.{ready}
 use Rattle.st_install.specs.Readies.{plan_of, HasRoom}
 use Rattle.st_install.specs.Carried.{HasSmallBodies}
 use Rattle.st_chunk.specs.Definitions.{Definition}
-use Rattle.st_installer.specs.Installing.{Refused}
+use Rattle.st_protocol.specs.Installing.{Refused}
 use Rattle.st_definition.specs.Syntax.{syntax}
 use Rattle.st_definition.specs.Defining.{installed}
 use Rattle.st_definition.specs.declared.preparing.Prepared.{Prepared}

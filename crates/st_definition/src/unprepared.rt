@@ -5,8 +5,8 @@ ghost use Rattle.st_definition.specs.Unprepareds.{by_syntax, by_code, by_install
 ghost use Rattle.st_definition.specs.declared.unprepared.Unprepared.TheVariants.{OutOfMemory};
 
 use st_code::CodeFault;
-use st_course::Refusal;
 use st_install::InstallFault;
+use st_protocol::Refusal;
 use st_tree::SyntaxFault;
 use std::alloc::AllocError;
 

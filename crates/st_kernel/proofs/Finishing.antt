@@ -8,7 +8,7 @@ use Rattle.st_model.specs.Start.{idle_state}
 use Rattle.st_model.proofs.Showing.{show_is}
 use Rattle.st_declarations.specs.declared.cause.Cause.{Cause}
 use Rattle.st_declarations.specs.Parts.{Side, Start, Part, start}
-use Rattle.st_installer.specs.Installing.{Install}
+use Rattle.st_protocol.specs.Installing.{Install}
 use Rattle.st_kernel.specs.Starting.{begin_by}
 use Rattle.st_kernel.specs.Built.{Built, Fault, fault_at, cause_number, finished, begun_as, begun_in, built_from}
 use Rattle.st_kernel.specs.Following.{IsUnderway, Ends}

@@ -11,13 +11,13 @@ use Rattle.st_model.specs.Start.{idle_registers}
 use Rattle.st_model.specs.Steps.{found, object_named, object, stored_at, store_at, set_field, made, make_named, make, new_object, of_page, or_die, check, fetch_field, store_field}
 use Rattle.st_model.specs.Methods.{method_header}
 use Rattle.st_model.specs.Storage.{check_not_method_class}
-use Rattle.st_course.specs.declared.refusal.Refusal.TheVariants.{NoClass}
+use Rattle.st_protocol.specs.declared.refusal.Refusal.TheVariants.{NoClass}
 use Rattle.st_declarations.specs.declared.shape.Shape.TheVariants.{Fixed}
 use Rattle.st_declarations.specs.declared.cause.Cause.TheVariants.{Form}
 use Rattle.st_declarations.specs.Parts.{Part, class, opening, header, method, closing, start}
 use Rattle.st_declarations.specs.Texts.{account}
 use Rattle.st_first_objects.specs.First.{has_room}
-use Rattle.st_installer.specs.Installing.{Install, Refused, Accepted}
+use Rattle.st_protocol.specs.Installing.{Install, Refused, Accepted}
 use Rattle.st_kernel.specs.Starting.{first_words, fill_first_context, schedule, schedule_method, in_new_context, in_new_process}
 use Rattle.st_kernel.specs.Built.{Built, Fault, fault_at, no_side, begun_as, built_from, without_room, built}
 

@@ -11,7 +11,7 @@ use Rattle.st_frames.proofs.Closed.{closed_idle}
 use Rattle.st_declarations.specs.Parts.{Part}
 use Rattle.st_declarations.specs.Texts.{Account, account}
 use Rattle.st_first_objects.specs.First.{first_view, view_of, has_room}
-use Rattle.st_installer.specs.Installing.{Install}
+use Rattle.st_protocol.specs.Installing.{Install}
 use Rattle.st_kernel.specs.Built.{Built, Fault, no_side, built_from, without_room, built_by, built}
 use Rattle.st_kernel.specs.Following.{IsUnderway, IsQuiet}
 

@@ -16,7 +16,7 @@ use Rattle.st_declarations.specs.Parts.{Side, Start, Part, class, pool, global, 
 use Rattle.st_declarations.specs.Definitions.{definition_by}
 use Rattle.st_declarations.specs.Texts.{Account, account}
 use Rattle.st_first_objects.specs.First.{first_view, has_room}
-use Rattle.st_installer.specs.Installing.{Install, Installed, Refused, Accepted}
+use Rattle.st_protocol.specs.Installing.{Install, Installed, Refused, Accepted}
 use Rattle.st_kernel.specs.declared.fault.KernelFault.{KernelFault}
 use Rattle.st_kernel.specs.declared.fault.KernelFault.TheVariants.{At, OutOfMemory}
 use Rattle.st_kernel.specs.Starting.{begin_by}

@@ -14,7 +14,7 @@ use Rattle.st_declarations.specs.declared.cause.Cause.{Cause}
 use Rattle.st_declarations.specs.Parts.{Side, Part, start}
 use Rattle.st_declarations.specs.Definitions.{AreDefinitions}
 use Rattle.st_declarations.specs.Views.{start_of}
-use Rattle.st_installer.specs.Installing.{Install}
+use Rattle.st_protocol.specs.Installing.{Install}
 use Rattle.st_kernel.specs.declared.fault.KernelFault.{KernelFault}
 use Rattle.st_kernel.specs.declared.part.Heading.{Heading}
 use Rattle.st_kernel.specs.declared.part.Next.{Next}

@@ -10,8 +10,8 @@ use crate::fault::{KernelFault, unfinished};
 use crate::following::follow;
 use st_declarations::{Kernel, Part, read};
 use st_first_objects::{Unmade, make_first};
-use st_installer::Installer;
 use st_memory::{Loader, Memory};
+use st_protocol::Installer;
 use std::alloc::Global;
 
 /// The chunk that opened the last group, behind the part of a chunk, where the first objects have no room; or the fault of the text,

@@ -2,7 +2,7 @@
 ghost use Rattle.std.specs.Prelude.{◌≡◌, ◌≤◌, ◌<◌, ◌-◌, ◌^◌, ◌∷◌, List, Result, IfOk, IfErr, length};
 ghost use Rattle.st_declarations.specs.Parts.{Part as APart, start};
 ghost use Rattle.st_declarations.specs.Views.{start_of, parts_of};
-ghost use Rattle.st_installer.specs.Installing.{Install};
+ghost use Rattle.st_protocol.specs.Installing.{Install};
 ghost use Rattle.st_declarations.specs.Parts.{Side as ASide};
 ghost use Rattle.st_declarations.specs.Definitions.{AreDefinitions};
 ghost use Rattle.st_kernel.specs.Built.{Built, Fault, no_side, IsBegun, IsFaultOf};
@@ -12,8 +12,8 @@ use crate::beginning::begin;
 use crate::fault::{KernelFault, cause_number, unfinished};
 use crate::part::{Heading, Next, follow_part};
 use st_declarations::{Cause, Kernel, Start};
-use st_installer::Installer;
 use st_memory::Memory;
+use st_protocol::Installer;
 use st_world::World;
 use std::alloc::Global;
 

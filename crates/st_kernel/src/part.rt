@@ -11,8 +11,8 @@ ghost use Rattle.st_kernel.specs.Following.{side_in, IsUnderway, Installs, GoesO
 
 use crate::fault::KernelFault;
 use st_declarations::{Part, Side, Start};
-use st_installer::{Installation, Installer};
 use st_memory::Memory;
+use st_protocol::{Installation, Installer};
 use st_script::Definition;
 use std::alloc::Global;
 

@@ -7,10 +7,10 @@ use Rattle.st_outside.specs.Runs.{Spares, IsAtRest, Makes}
 use Rattle.st_outside.specs.declared.host.Host.{Ghosts}
 use Rattle.st_outside.proofs.Telling.{OnlyNow}
 use Rattle.st_chunk.specs.Definitions.{Definition, entry, entries}
-use Rattle.st_course.specs.Obeying.{Obeys}
-use Rattle.st_course.specs.declared.status.Status.{Status}
-use Rattle.st_course.specs.declared.status.Status.TheVariants.{DiskFault, TooLarge, OutOfMemory}
-use Rattle.st_course.proofs.Joins.{makes_did, makes_began, obeys_end, obeys_fault}
+use Rattle.st_protocol.specs.Obeying.{Obeys}
+use Rattle.st_protocol.specs.declared.status.Status.{Status}
+use Rattle.st_protocol.specs.declared.status.Status.TheVariants.{DiskFault, TooLarge, OutOfMemory}
+use Rattle.st_protocol.proofs.Joins.{makes_did, makes_began, obeys_end, obeys_fault}
 use Rattle.st_changes.specs.States.{FitsBehind}
 use Rattle.st_recover.specs.Commits.{Commit, all_of, accepted, accepted_if, accepting, fits}
 

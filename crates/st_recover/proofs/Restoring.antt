@@ -15,7 +15,7 @@ use Rattle.st_chunk.specs.Definitions.{Definition, IsDefinition, entries}
 use Rattle.st_store.specs.Names.{image_file}
 use Rattle.st_store.specs.Stored.{Stored, Opens, IsKept, stored_in}
 use Rattle.st_changes.specs.Lists.{Lists}
-use Rattle.st_installer.specs.Installing.{Install}
+use Rattle.st_protocol.specs.Installing.{Install}
 use Rattle.st_recover.specs.Commits.{Commit, stored_of}
 use Rattle.st_recover.specs.Replays.{replay, ReplaysFrom}
 use Rattle.st_recover.specs.Openings.{IsReadable, IsReopenedAs}

@@ -7,8 +7,8 @@ use Rattle.st_chunk.specs.Definitions.{Definition, IsDefinition, entry, entries}
 use Rattle.st_changes.specs.declared.definition.Definition as declared
 use Rattle.st_changes.specs.Views.{definition_of, definitions_of}
 use Rattle.st_recover.specs.declared.replay.Replay.{Replay}
-use Rattle.st_installer.specs.declared.installation.Installation.{Installation}
-use Rattle.st_installer.specs.declared.installation.Installation.TheVariants as installation
+use Rattle.st_protocol.specs.declared.installation.Installation.{Installation}
+use Rattle.st_protocol.specs.declared.installation.Installation.TheVariants as installation
 use Rattle.st_recover.specs.Replays.{Notes}
 
 module _ (rest : List declared.Definition) (x : declared.Definition) (there : 1 ≤ length rest) (is : x ≡ get_or rest 0 x) where

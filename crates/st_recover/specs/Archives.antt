@@ -3,8 +3,8 @@ use Rattle.std.specs.Prelude.{◌≡◌, ℕ, List, length, Option, Some, IsTrue
 use Rattle.st_outside.specs.declared.host.Host.{Ghosts}
 use Rattle.st_chunk.specs.Definitions.{Definition, IsDefinition, entries}
 use Rattle.st_store.specs.Stored.{StoreState, IsKept}
-use Rattle.st_course.specs.declared.status.Status.{Status}
-use Rattle.st_course.specs.declared.status.Status.TheVariants.{DiskFault, TooLarge, OutOfMemory}
+use Rattle.st_protocol.specs.declared.status.Status.{Status}
+use Rattle.st_protocol.specs.declared.status.Status.TheVariants.{DiskFault, TooLarge, OutOfMemory}
 use Rattle.st_recover.specs.Images.{IsReadable}
 use Rattle.st_recover.specs.Commits.{Commit, all_of, root_of, stored_of}
 

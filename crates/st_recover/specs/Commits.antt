@@ -8,8 +8,8 @@ use Rattle.st_writer.specs.Written.{image_of}
 use Rattle.st_chunk.specs.Definitions.{Definition, entry, entries}
 use Rattle.st_store.specs.Stored.{Stored, Opens}
 use Rattle.st_store.specs.declared.root.Root.{Root}
-use Rattle.st_course.specs.declared.status.Status.TheVariants.{TooLarge}
-use Rattle.st_course.specs.Courses.{Course, Keep, Goes, Ends}
+use Rattle.st_protocol.specs.declared.status.Status.TheVariants.{TooLarge}
+use Rattle.st_protocol.specs.Courses.{Course, Keep, Goes, Ends}
 use Rattle.st_recover.specs.Images.{IsReadable}
 
 -- An image, and the definitions of the changes file: those before its base, and those from it on.

@@ -20,7 +20,7 @@ use Rattle.st_store.specs.declared.fault.StoreFault.{StoreFault}
 use Rattle.st_store.specs.declared.fault.StoreFault.TheVariants.{Missing, Exists, NotAStore, Disk as DiskOfStore, OutOfMemory as NoMemoryForStore}
 use Rattle.st_store.specs.declared.fault.StorePlace.TheVariants.{Roots, Changes}
 use Rattle.st_changes.specs.Lists.{RefusesChanges}
-use Rattle.st_installer.specs.Installing.{Install}
+use Rattle.st_protocol.specs.Installing.{Install}
 pub use Rattle.st_recover.specs.Images.{IsReadable, IsFaulty}
 use Rattle.st_recover.specs.Commits.{Commit, OpensAs, all_of, root_of, stored_of}
 use Rattle.st_recover.specs.Replays.{Replayed, replay, losses_of}

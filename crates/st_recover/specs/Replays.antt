@@ -8,10 +8,10 @@ use Rattle.st_model.specs.View.{View}
 use Rattle.st_frames.specs.declared.frame.Frame.{Frame}
 use Rattle.st_frames.specs.Shown.{IsReady, shown}
 use Rattle.st_chunk.specs.Definitions.{Definition, entries}
-use Rattle.st_course.specs.declared.refusal.Refusal.{Refusal}
-use Rattle.st_installer.specs.Installing.{Install, Installed, Refused, Accepted}
-use Rattle.st_installer.specs.declared.installation.Installation.{Installation}
-use Rattle.st_installer.specs.declared.installation.Installation.TheVariants as installation
+use Rattle.st_protocol.specs.declared.refusal.Refusal.{Refusal}
+use Rattle.st_protocol.specs.Installing.{Install, Installed, Refused, Accepted}
+use Rattle.st_protocol.specs.declared.installation.Installation.{Installation}
+use Rattle.st_protocol.specs.declared.installation.Installation.TheVariants as installation
 use Rattle.st_recover.specs.declared.opened.Lost.{Lost}
 use Rattle.st_recover.specs.declared.replay.Replay.{Replay}
 

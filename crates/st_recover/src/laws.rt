@@ -3,7 +3,7 @@
 ghost use Rattle.std.specs.Prelude.{◌≡◌, ℕ, List, All};
 ghost use Rattle.st_outside.specs.Files.{Files};
 ghost use Rattle.st_chunk.specs.Definitions.{IsDefinition};
-ghost use Rattle.st_installer.specs.Installing.{Install};
+ghost use Rattle.st_protocol.specs.Installing.{Install};
 ghost use Rattle.st_recover.specs.Commits.{Commit, OpensAs, all_of};
 ghost use Rattle.st_recover.specs.Openings.{Reopens};
 ghost use Rattle.st_recover.specs.Replays.{Replayed};

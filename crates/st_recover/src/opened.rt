@@ -1,7 +1,7 @@
 // A store that was opened.
 use st_changes::Changes;
-use st_course::Refusal;
 use st_frames::Loaded;
+use st_protocol::Refusal;
 use st_store::Store;
 
 /// A definition that wasn't installed again.

@@ -25,10 +25,10 @@ use crate::replay::{Replay, replay_all};
 use st_changes::{Changes, load};
 use st_frames::Loaded;
 use st_image::{HeadValues, ReadImage, read};
-use st_installer::Installer;
 use st_memory::{Loader, Memory};
 use st_model::LONGEST_IMAGE;
 use st_outside::{Host, read_from};
+use st_protocol::Installer;
 use st_store::{Store, open_store};
 use std::alloc::{AllocError, Global};
 

@@ -12,8 +12,8 @@ ghost use Rattle.st_recover.specs.Replays.{replay, ReplaysAs, Notes};
 
 use crate::opened::{Lost, LostList};
 use st_changes::Definition as KeptDefinition;
-use st_installer::{Installation, Installer};
 use st_memory::Memory;
+use st_protocol::{Installation, Installer};
 use st_script::Definition;
 use std::alloc::{AllocError, Global};
 

@@ -10,14 +10,14 @@ use Rattle.st_outside.specs.declared.host.Host.{Ghosts}
 use Rattle.st_machine.specs.declared.machine.Machine.{Machine}
 use Rattle.st_chunk.specs.Definitions.{Definition}
 use Rattle.st_store.specs.Names.{IsNoFileOf}
-use Rattle.st_course.specs.declared.refusal.Refusal.{Refusal}
-use Rattle.st_course.specs.declared.status.Status.{Status}
-use Rattle.st_course.specs.Courses.{replies}
-use Rattle.st_course.specs.Obeying.{Obeys}
-use Rattle.st_course.proofs.Joins.{obeys_then, obeys_err}
-use Rattle.st_installer.specs.Installing.{Installed, Refused, Accepted}
-use Rattle.st_installer.specs.Installations.{InstallsAs}
-use Rattle.st_installer.specs.declared.installation.Installation.TheVariants as installation
+use Rattle.st_protocol.specs.declared.refusal.Refusal.{Refusal}
+use Rattle.st_protocol.specs.declared.status.Status.{Status}
+use Rattle.st_protocol.specs.Courses.{replies}
+use Rattle.st_protocol.specs.Obeying.{Obeys}
+use Rattle.st_protocol.proofs.Joins.{obeys_then, obeys_err}
+use Rattle.st_protocol.specs.Installing.{Installed, Refused, Accepted}
+use Rattle.st_protocol.specs.Installations.{InstallsAs}
+use Rattle.st_protocol.specs.declared.installation.Installation.TheVariants as installation
 use Rattle.st_recover.specs.Archives.{ArchiveState, Holds}
 use Rattle.st_recover.specs.Commits.{Commit, OpensAs, accepting}
 use Rattle.st_session.specs.Points.{Point, alive}

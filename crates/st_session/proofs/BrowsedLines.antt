@@ -20,8 +20,8 @@ use Rattle.st_browse.specs.Display.{form_at, if_held, row_of, word_text, row_lin
 use Rattle.st_browse.specs.Replies.{count_text, object_reply, name_line, classes_text, methods_text, code_line, codes_text, bytecodes_text, side_text, sender_line, senders_lines, senders_on, senders_count, both_lines, senders_text}
 use Rattle.st_browse.specs.Sources.{lines_of, source_line, source_text}
 use Rattle.st_browse.specs.Asked.{class_of_side, bytecodes_of, bytecodes_in, source_in, reply}
-use Rattle.st_course.specs.Acknowledged.{counts, IsLines}
-use Rattle.st_course.proofs.Lawful.{lines_both}
+use Rattle.st_protocol.specs.Acknowledged.{counts, IsLines}
+use Rattle.st_protocol.proofs.Lawful.{lines_both}
 use Rattle.st_definition.proofs.Selectors.{IsInLine, both_in_line}
 use Rattle.st_chunk.specs.Definitions.{Definition}
 use Rattle.st_session.specs.Sources.{text_for}

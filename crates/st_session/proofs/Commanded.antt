@@ -23,17 +23,17 @@ use Rattle.st_store.specs.declared.fault.StorePlace.TheVariants.{Roots, Changes}
 use Rattle.st_store.proofs.Determined.{none_opens, opens_there}
 use Rattle.st_changes.specs.Lists.{StandsAt, Lists, RefusesChanges}
 use Rattle.st_changes.proofs.Determined.{none_wrong, lists_back}
-use Rattle.st_course.specs.declared.status.Status.{Status}
-use Rattle.st_course.specs.declared.status.Status.TheVariants as status
-use Rattle.st_course.specs.Statuses.{StatusHasCause}
-use Rattle.st_course.specs.Acknowledged.{acknowledged, SaysLines, Promised}
-use Rattle.st_course.specs.Courses.{Course, deeds_of, commits_of, IsEnd}
-use Rattle.st_course.specs.Done.{RestsAsOne}
-use Rattle.st_course.proofs.Counting.{front_of, front_acknowledges}
-use Rattle.st_course.proofs.Promising.{CountsNow, promise_kept, one_said}
-use Rattle.st_course.proofs.Underways.{nothing_of}
+use Rattle.st_protocol.specs.declared.status.Status.{Status}
+use Rattle.st_protocol.specs.declared.status.Status.TheVariants as status
+use Rattle.st_protocol.specs.Statuses.{StatusHasCause}
+use Rattle.st_protocol.specs.Acknowledged.{acknowledged, SaysLines, Promised}
+use Rattle.st_protocol.specs.Courses.{Course, deeds_of, commits_of, IsEnd}
+use Rattle.st_protocol.specs.Done.{RestsAsOne}
+use Rattle.st_protocol.proofs.Counting.{front_of, front_acknowledges}
+use Rattle.st_protocol.proofs.Promising.{CountsNow, promise_kept, one_said}
+use Rattle.st_protocol.proofs.Underways.{nothing_of}
 use Rattle.st_definition.specs.Defining.{installed}
-use Rattle.st_installer.specs.Installing.{Install}
+use Rattle.st_protocol.specs.Installing.{Install}
 use Rattle.st_recover.specs.Commits.{Commit, OpensAs, all_of, stored_of}
 use Rattle.st_recover.specs.Openings.{IsFaulty, IsReopenedAs, Reopens, RefusesOpening, IsOfReopening, OpeningHasCause}
 use Rattle.st_recover.specs.Replays.{Loss, Replayed, replay}

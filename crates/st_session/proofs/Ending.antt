@@ -4,19 +4,19 @@ use Rattle.std.specs.Prelude.{Result, Ok, Err, IfErr, IsErrOf, nat_le, length, t
 use Rattle.st_outside.specs.Files.{Files}
 use Rattle.st_outside.specs.Runs.{SaysAll, IsAtRest}
 use Rattle.st_outside.specs.declared.host.Host.{Ghosts}
-use Rattle.st_course.specs.declared.status.Status.{Status}
-use Rattle.st_course.specs.declared.status.Status.TheVariants as status
-use Rattle.st_course.specs.Acknowledged.{AcknowledgesEach}
-use Rattle.st_course.specs.Courses.{Deed, Reply, Course, Goes, Ends, deeds_of, said_of, last_of, preceded, ended, IsEnd}
-use Rattle.st_course.specs.Done.{Did}
-use Rattle.st_course.specs.Obeying.{Obeys}
-use Rattle.st_course.specs.Statuses.{IsFault, StatusHasCause, EndHasCause}
-use Rattle.st_course.proofs.Courses.{deeds_preceded}
-use Rattle.st_course.proofs.Joins.{says_did, says_began, did_join, obeys_begun, obeys_says, obeys_spares}
-use Rattle.st_course.proofs.Promising.{obeys_promised, obeys_rests, obeys_lines}
+use Rattle.st_protocol.specs.declared.status.Status.{Status}
+use Rattle.st_protocol.specs.declared.status.Status.TheVariants as status
+use Rattle.st_protocol.specs.Acknowledged.{AcknowledgesEach}
+use Rattle.st_protocol.specs.Courses.{Deed, Reply, Course, Goes, Ends, deeds_of, said_of, last_of, preceded, ended, IsEnd}
+use Rattle.st_protocol.specs.Done.{Did}
+use Rattle.st_protocol.specs.Obeying.{Obeys}
+use Rattle.st_protocol.specs.Statuses.{IsFault, StatusHasCause, EndHasCause}
+use Rattle.st_protocol.proofs.Courses.{deeds_preceded}
+use Rattle.st_protocol.proofs.Joins.{says_did, says_began, did_join, obeys_begun, obeys_says, obeys_spares}
+use Rattle.st_protocol.proofs.Promising.{obeys_promised, obeys_rests, obeys_lines}
 use Rattle.st_script.specs.Reading.{Reading, line_from}
 use Rattle.st_script.specs.Scripts.{asked_from, told_from}
-use Rattle.st_installer.specs.Installing.{Install}
+use Rattle.st_protocol.specs.Installing.{Install}
 use Rattle.st_recover.specs.Replays.{Loss}
 use Rattle.st_session.specs.Points.{Point}
 use Rattle.st_session.specs.Keeping.{Keeping}

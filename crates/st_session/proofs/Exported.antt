@@ -21,10 +21,10 @@ use Rattle.st_chunk.specs.Definitions.{IsDefinition}
 use Rattle.st_store.specs.Names.{roots_file, changes_file, image_file, IsNoFileOf}
 use Rattle.st_store.specs.Stored.{StoreState, IsKept, IsOpening}
 use Rattle.st_store.specs.declared.fault.StoreFault.TheVariants as unmade
-use Rattle.st_course.specs.declared.status.Status.{Status}
-use Rattle.st_course.specs.declared.status.Status.TheVariants as status
-use Rattle.st_course.specs.Statuses.{StatusHasCause, EndHasCause, Counts}
-use Rattle.st_course.proofs.Counting.{front_of}
+use Rattle.st_protocol.specs.declared.status.Status.{Status}
+use Rattle.st_protocol.specs.declared.status.Status.TheVariants as status
+use Rattle.st_protocol.specs.Statuses.{StatusHasCause, EndHasCause, Counts}
+use Rattle.st_protocol.proofs.Counting.{front_of}
 use Rattle.st_recover.specs.Images.{IsReadable}
 use Rattle.st_recover.specs.Commits.{Commit, OpensAs, all_of, stored_of, image_with}
 use Rattle.st_recover.specs.Openings.{RefusesOpening, IsOfReopening}

@@ -10,13 +10,13 @@ use Rattle.st_outside.specs.declared.host.Host.{Ghosts}
 use Rattle.st_outside.proofs.Telling.{OnlyNow}
 use Rattle.st_script.specs.Reading.{Reading, read, end_read}
 use Rattle.st_script.specs.Scripts.{Asked, asked_by, asked_from, asked_at_end, told_from, read_through}
-use Rattle.st_course.specs.declared.status.Status.{Status}
-use Rattle.st_course.specs.declared.status.Status.TheVariants as status
-use Rattle.st_course.specs.Courses.{Course, Goes, Ends, and_then}
-use Rattle.st_course.specs.Obeying.{Obeys}
-use Rattle.st_course.proofs.Courses.{preceded_none, then_then, then_goes}
-use Rattle.st_course.proofs.Joins.{obeys_as, obeys_then, obeys_err, obeys_end}
-use Rattle.st_installer.specs.Installing.{Install}
+use Rattle.st_protocol.specs.declared.status.Status.{Status}
+use Rattle.st_protocol.specs.declared.status.Status.TheVariants as status
+use Rattle.st_protocol.specs.Courses.{Course, Goes, Ends, and_then}
+use Rattle.st_protocol.specs.Obeying.{Obeys}
+use Rattle.st_protocol.proofs.Courses.{preceded_none, then_then, then_goes}
+use Rattle.st_protocol.proofs.Joins.{obeys_as, obeys_then, obeys_err, obeys_end}
+use Rattle.st_protocol.specs.Installing.{Install}
 use Rattle.st_session.specs.Points.{Point}
 use Rattle.st_session.specs.Keeping.{Keeping}
 use Rattle.st_session.specs.Answers.{answer}

@@ -9,11 +9,11 @@ use Rattle.st_store.specs.declared.fault.StoreFault.{StoreFault}
 use Rattle.st_store.specs.declared.fault.StoreFault.TheVariants as store
 use Rattle.st_store.specs.declared.fault.StorePlace.{StorePlace}
 use Rattle.st_store.specs.declared.fault.StorePlace.TheVariants.{Roots, Changes}
-use Rattle.st_course.specs.declared.status.Status.{Status}
-use Rattle.st_course.specs.declared.status.Status.TheVariants as status
-use Rattle.st_course.specs.Acknowledged.{counts, acknowledged}
-use Rattle.st_course.proofs.Counting.{front_of}
-use Rattle.st_course.proofs.Underways.{nothing_of}
+use Rattle.st_protocol.specs.declared.status.Status.{Status}
+use Rattle.st_protocol.specs.declared.status.Status.TheVariants as status
+use Rattle.st_protocol.specs.Acknowledged.{counts, acknowledged}
+use Rattle.st_protocol.proofs.Counting.{front_of}
+use Rattle.st_protocol.proofs.Underways.{nothing_of}
 use Rattle.st_call.specs.LastLines.{fault_line, fault_numbers, script_line, place_line, store_line, kernel_line, last_line}
 use Rattle.st_session.specs.declared.making.Origin.{Origin}
 use Rattle.st_session.specs.declared.making.Origin.TheVariants.{Image, Kernel}

@@ -21,10 +21,10 @@ use Rattle.st_script.specs.Asks.{Ask}
 use Rattle.st_script.specs.Reading.{Reading, line_from}
 use Rattle.st_script.specs.Scripts.{Asked, Asks, Browses, Defines, IsSound, asked_from, told_from}
 use Rattle.st_script.proofs.Asking.{AreGood, IsGood, asked_good, told_good}
-use Rattle.st_course.specs.Acknowledged.{IsLines, AcknowledgesEach}
-use Rattle.st_course.proofs.Lawful.{IsLawful, lawful_preceded, lawful_then, law_of}
-use Rattle.st_course.specs.Courses.{Deed, Reply, Course, deeds_of, preceded, and_then, replies}
-use Rattle.st_installer.specs.Installing.{Installed, Refused, Accepted, Install}
+use Rattle.st_protocol.specs.Acknowledged.{IsLines, AcknowledgesEach}
+use Rattle.st_protocol.proofs.Lawful.{IsLawful, lawful_preceded, lawful_then, law_of}
+use Rattle.st_protocol.specs.Courses.{Deed, Reply, Course, deeds_of, preceded, and_then, replies}
+use Rattle.st_protocol.specs.Installing.{Installed, Refused, Accepted, Install}
 use Rattle.st_definition.specs.Defining.{installed}
 use Rattle.st_definition.proofs.Selectors.{IsInLine, accepted_selector}
 use Rattle.st_recover.specs.Commits.{Commit, fits, accepted_if}

@@ -20,7 +20,7 @@ use Rattle.st_script.specs.Asks.{Ask}
 use Rattle.st_script.specs.Reading.{Place, Browsed, Defined, CutOff}
 use Rattle.st_script.specs.Scripts.{Asks, Browses, Defines, IsBrowsed, HasAsk, IsDefined, HasDefinition, asked_at}
 use Rattle.st_chunk.specs.Definitions.{Definition}
-use Rattle.st_course.specs.Courses.{Goes, replies}
+use Rattle.st_protocol.specs.Courses.{Goes, replies}
 use Rattle.st_session.specs.Points.{Point, alive, gone}
 use Rattle.st_session.specs.Keeping.{Keeping}
 use Rattle.st_call.specs.Replies.{ok_text, full_text}

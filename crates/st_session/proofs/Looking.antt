@@ -12,8 +12,8 @@ use Rattle.st_outside.proofs.Joining.{all_join}
 use Rattle.st_outside.proofs.Telling.{says_begun, says_then}
 use Rattle.st_frames.specs.declared.frame.Frame.{Frame}
 use Rattle.st_frames.specs.Shown.{IsReady, shown}
-use Rattle.st_course.specs.declared.status.Status.{Status}
-use Rattle.st_course.specs.declared.status.Status.TheVariants as status
+use Rattle.st_protocol.specs.declared.status.Status.{Status}
+use Rattle.st_protocol.specs.declared.status.Status.TheVariants as status
 use Rattle.st_session.specs.Browsing.{memory_of}
 use Rattle.st_call.specs.Telling.{Tells}
 use Rattle.st_call.proofs.Saying.{tells_all, tells_part}

@@ -14,9 +14,9 @@ use Rattle.st_store.specs.Stored.{StoreState, IsKept}
 use Rattle.st_store.specs.Refusals.{RefusesNew, IsOfMaking}
 use Rattle.st_store.specs.declared.fault.StoreFault.{StoreFault}
 use Rattle.st_store.specs.declared.fault.StoreFault.TheVariants as unmade
-use Rattle.st_course.specs.declared.status.Status.{Status}
-use Rattle.st_course.specs.declared.status.Status.TheVariants as status
-use Rattle.st_course.specs.Statuses.{StatusHasCause}
+use Rattle.st_protocol.specs.declared.status.Status.{Status}
+use Rattle.st_protocol.specs.declared.status.Status.TheVariants as status
+use Rattle.st_protocol.specs.Statuses.{StatusHasCause}
 use Rattle.st_recover.specs.Images.{IsReadable}
 use Rattle.st_recover.specs.Commits.{Commit, OpensAs, stored_of}
 use Rattle.st_recover.specs.Creating.{IsMade, IsNoFirstFile, AreFirstFiles}

@@ -15,9 +15,9 @@ use Rattle.st_machine.specs.declared.machine.Machine.{Machine}
 use Rattle.st_outside.specs.Runs.{IsAtRest}
 use Rattle.st_outside.specs.declared.host.Host.{Ghosts}
 use Rattle.st_store.specs.Names.{IsNoFileOf}
-use Rattle.st_course.specs.declared.status.Status.{Status}
-use Rattle.st_course.specs.Courses.{Course}
-use Rattle.st_course.specs.Obeying.{Obeys}
+use Rattle.st_protocol.specs.declared.status.Status.{Status}
+use Rattle.st_protocol.specs.Courses.{Course}
+use Rattle.st_protocol.specs.Obeying.{Obeys}
 use Rattle.st_recover.specs.Archives.{ArchiveState, Holds}
 use Rattle.st_recover.specs.Commits.{Commit, OpensAs}
 use Rattle.st_session.specs.Points.{Being, Alive, Gone, Point}

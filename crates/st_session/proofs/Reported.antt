@@ -11,8 +11,8 @@ use Rattle.st_model.specs.Table.{Table}
 use Rattle.st_model.specs.Show.{show}
 use Rattle.st_model.specs.Text.{dead_text, quit_text, debugger_text, space_text, ran_text, said_value}
 use Rattle.st_model.proofs.Showing.{show_is}
-use Rattle.st_course.specs.Courses.{Reply, Goes, Ends, deeds_of, said_of, preceded}
-use Rattle.st_course.proofs.Courses.{said_of_both, deeds_preceded}
+use Rattle.st_protocol.specs.Courses.{Reply, Goes, Ends, deeds_of, said_of, preceded}
+use Rattle.st_protocol.proofs.Courses.{said_of_both, deeds_preceded}
 use Rattle.st_outside.specs.declared.host.Host.{Ghosts}
 use Rattle.st_outside.specs.declared.host.SayFault.{SayFault}
 use Rattle.st_outside.specs.Runs.{SaysAll}

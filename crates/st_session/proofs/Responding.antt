@@ -10,11 +10,11 @@ use Rattle.st_outside.specs.declared.host.SayFault.{SayFault}
 use Rattle.st_outside.proofs.Telling.{OnlyNow}
 use Rattle.st_machine.specs.declared.machine.Machine.{Machine}
 use Rattle.st_store.specs.Names.{IsNoFileOf}
-use Rattle.st_course.specs.declared.status.Status.{Status}
-use Rattle.st_course.specs.declared.status.Status.TheVariants as status
-use Rattle.st_course.specs.Courses.{Course, Goes, Ends, deeds_of, said_of, replies}
-use Rattle.st_course.proofs.Joins.{obeys_none, obeys_end, obeys_fault}
-use Rattle.st_course.specs.Statuses.{IsFault}
+use Rattle.st_protocol.specs.declared.status.Status.{Status}
+use Rattle.st_protocol.specs.declared.status.Status.TheVariants as status
+use Rattle.st_protocol.specs.Courses.{Course, Goes, Ends, deeds_of, said_of, replies}
+use Rattle.st_protocol.proofs.Joins.{obeys_none, obeys_end, obeys_fault}
+use Rattle.st_protocol.specs.Statuses.{IsFault}
 use Rattle.st_recover.specs.Archives.{ArchiveState, Holds}
 use Rattle.st_recover.specs.Commits.{Commit, OpensAs}
 use Rattle.st_session.specs.Points.{Point, gone}

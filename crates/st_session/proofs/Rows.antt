@@ -9,10 +9,10 @@ use Rattle.st_model.specs.Machine.{State, Went}
 use Rattle.st_model.specs.Births.{Births}
 use Rattle.st_script.specs.Lines.{with_arguments, alone, ask_with, ask_alone, number, line_ask, line_request}
 use Rattle.st_script.specs.Reading.{read, end_read}
-use Rattle.st_course.specs.declared.refusal.Refusal.TheVariants.{NoClass}
-use Rattle.st_course.specs.declared.status.Status.TheVariants.{Done, Script}
-use Rattle.st_course.specs.Courses.{Course, Reply, Goes, Ends, replies}
-use Rattle.st_installer.specs.Installing.{Install, Refused}
+use Rattle.st_protocol.specs.declared.refusal.Refusal.TheVariants.{NoClass}
+use Rattle.st_protocol.specs.declared.status.Status.TheVariants.{Done, Script}
+use Rattle.st_protocol.specs.Courses.{Course, Reply, Goes, Ends, replies}
+use Rattle.st_protocol.specs.Installing.{Install, Refused}
 use Rattle.st_session.specs.Points.{Point, alive, gone}
 use Rattle.st_session.specs.Keeping.{keeps_nothing}
 use Rattle.st_session.specs.Answers.{cycle_course}

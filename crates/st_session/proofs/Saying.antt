@@ -15,13 +15,13 @@ use Rattle.st_outside.proofs.Rising.{rose_second}
 use Rattle.st_outside.proofs.Telling.{says_then}
 use Rattle.st_report.specs.Saying.{Pushes}
 use Rattle.st_report.proofs.Pushing.{pushed_all, pushed_says, pushed_part}
-use Rattle.st_course.specs.declared.status.Status.{Status}
-use Rattle.st_course.specs.declared.status.Status.TheVariants as status
-use Rattle.st_course.specs.Courses.{Course, Goes, Ends, deeds_of, said_of, commits_of, last_of, replies}
-use Rattle.st_course.specs.Statuses.{StatusHasCause, EndHasCause}
-use Rattle.st_course.specs.Obeying.{Obeys}
-use Rattle.st_course.proofs.Courses.{last_unkept}
-use Rattle.st_course.proofs.Joins.{said_did, said_began, obeys_reply, obeys_unsaid, obeys_began}
+use Rattle.st_protocol.specs.declared.status.Status.{Status}
+use Rattle.st_protocol.specs.declared.status.Status.TheVariants as status
+use Rattle.st_protocol.specs.Courses.{Course, Goes, Ends, deeds_of, said_of, commits_of, last_of, replies}
+use Rattle.st_protocol.specs.Statuses.{StatusHasCause, EndHasCause}
+use Rattle.st_protocol.specs.Obeying.{Obeys}
+use Rattle.st_protocol.proofs.Courses.{last_unkept}
+use Rattle.st_protocol.proofs.Joins.{said_did, said_began, obeys_reply, obeys_unsaid, obeys_began}
 use Rattle.st_call.specs.Telling.{IsSayFault, Tells}
 use Rattle.st_session.specs.Pushing.{LeadsTo, PushesCourse}
 use Rattle.st_session.specs.Stretches.{StopsAs, Stretch, words_of, went, PushesStretch, SaysStretch}

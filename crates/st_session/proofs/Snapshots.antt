@@ -18,13 +18,13 @@ use Rattle.st_image.proofs.Saved.{saved_starts}
 use Rattle.st_machine.specs.declared.machine.Machine.{Machine}
 use Rattle.st_machine.specs.Asked.{SavedAs}
 use Rattle.st_store.specs.Names.{IsNoFileOf}
-use Rattle.st_course.specs.declared.status.Status.{Status}
-use Rattle.st_course.specs.declared.status.Status.TheVariants as status
-use Rattle.st_course.specs.Courses.{Deed, Reply, Keep, Course, Goes, Ends, deeds_of, said_of, commits_of, last_of, preceded, and_then, replies}
-use Rattle.st_course.specs.Done.{Did, Began}
-use Rattle.st_course.specs.Obeying.{Obeys}
-use Rattle.st_course.proofs.Courses.{preceded_none, preceded_both, last_of_both, last_unkept}
-use Rattle.st_course.proofs.Joins.{did_none, did_join, said_did, said_began, kept_and_said, kept_unsaid, unkept as image_lost, obeys_none, obeys_as, obeys_behind, obeys_begun, obeys_then, obeys_err}
+use Rattle.st_protocol.specs.declared.status.Status.{Status}
+use Rattle.st_protocol.specs.declared.status.Status.TheVariants as status
+use Rattle.st_protocol.specs.Courses.{Deed, Reply, Keep, Course, Goes, Ends, deeds_of, said_of, commits_of, last_of, preceded, and_then, replies}
+use Rattle.st_protocol.specs.Done.{Did, Began}
+use Rattle.st_protocol.specs.Obeying.{Obeys}
+use Rattle.st_protocol.proofs.Courses.{preceded_none, preceded_both, last_of_both, last_unkept}
+use Rattle.st_protocol.proofs.Joins.{did_none, did_join, said_did, said_began, kept_and_said, kept_unsaid, unkept as image_lost, obeys_none, obeys_as, obeys_behind, obeys_begun, obeys_then, obeys_err}
 use Rattle.st_recover.specs.Archives.{ArchiveState, Holds}
 use Rattle.st_recover.specs.Commits.{Commit, OpensAs, imaged, image_with}
 use Rattle.st_session.specs.Points.{Being, Alive, Gone, Point, alive, gone}

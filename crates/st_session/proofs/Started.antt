@@ -11,9 +11,9 @@ use Rattle.st_frames.specs.declared.frame.Frame.{Frame}
 use Rattle.st_image.specs.declared.head.HeadValues.{HeadValues}
 use Rattle.st_image.specs.HeadValues.{no_values, head_over}
 use Rattle.st_image.specs.Reading.{IsStart}
-use Rattle.st_course.specs.declared.status.Status.{Status}
-use Rattle.st_course.specs.declared.status.Status.TheVariants as status
-use Rattle.st_course.specs.Statuses.{StatusHasCause}
+use Rattle.st_protocol.specs.declared.status.Status.{Status}
+use Rattle.st_protocol.specs.declared.status.Status.TheVariants as status
+use Rattle.st_protocol.specs.Statuses.{StatusHasCause}
 use Rattle.st_recover.specs.Openings.{IsReadable, IsFaulty}
 use Rattle.st_call.specs.declared.image_refusal.ImageRefusal.{ImageRefusal}
 use Rattle.st_call.specs.declared.image_refusal.ImageRefusal.TheVariants as refusal

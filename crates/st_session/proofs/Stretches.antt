@@ -15,8 +15,8 @@ use Rattle.st_outside.specs.declared.host.SayFault.{SayFault}
 use Rattle.st_outside.proofs.Telling.{OnlyNow}
 use Rattle.st_report.specs.Saying.{Pushes}
 use Rattle.st_report.proofs.Pushing.{push_none, push_then, push_begun, push_as}
-use Rattle.st_course.specs.Courses.{Deed, Reply, Keep, Course, Goes, Ends, deeds_of, said_of, commits_of, preceded, and_then, replies}
-use Rattle.st_course.proofs.Courses.{said_of_both, preceded_none, preceded_both, deeds_preceded}
+use Rattle.st_protocol.specs.Courses.{Deed, Reply, Keep, Course, Goes, Ends, deeds_of, said_of, commits_of, preceded, and_then, replies}
+use Rattle.st_protocol.proofs.Courses.{said_of_both, preceded_none, preceded_both, deeds_preceded}
 use Rattle.st_session.specs.Points.{Being, Alive, Gone, Point, alive}
 use Rattle.st_session.specs.Keeping.{Keeping, keeps_nothing}
 use Rattle.st_session.specs.Answers.{going_on, cycle_course, run_course}

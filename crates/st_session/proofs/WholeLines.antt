@@ -17,10 +17,10 @@ use Rattle.st_model.specs.Births.{Births, object_born}
 use Rattle.st_model.specs.Text.{value_text, values_text, numbers_text, registers_text, input_text, held_text, dead_text, hexadecimal, escaped_byte, escaped, said_text, said_value}
 use Rattle.st_chunk.specs.Groups.{is_name}
 use Rattle.st_chunk.specs.Definitions.{Definition}
-use Rattle.st_course.specs.declared.refusal.Refusal.{Refusal}
-use Rattle.st_course.specs.declared.refusal.Refusal.TheVariants as refusal
-use Rattle.st_course.specs.Acknowledged.{counts, acknowledged_from, rest_from, IsLines}
-use Rattle.st_course.proofs.Lawful.{lines_both}
+use Rattle.st_protocol.specs.declared.refusal.Refusal.{Refusal}
+use Rattle.st_protocol.specs.declared.refusal.Refusal.TheVariants as refusal
+use Rattle.st_protocol.specs.Acknowledged.{counts, acknowledged_from, rest_from, IsLines}
+use Rattle.st_protocol.proofs.Lawful.{lines_both}
 use Rattle.st_definition.proofs.Selectors.{IsInLine, both_in_line, all_passing}
 use Rattle.st_recover.specs.Replays.{Loss}
 use Rattle.st_call.specs.Replies.{machine_text, side_text, accepted_text, why_text, refused_text, snapshot_text}

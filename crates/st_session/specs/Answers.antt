@@ -15,9 +15,9 @@ use Rattle.st_script.specs.declared.request.Request.{Request}
 use Rattle.st_script.specs.declared.request.Request.TheVariants.{Run, Input, Mouse, Clock, Tick, State as ShowState, Used, Snapshot, Browse, End, Define, Wrong}
 use Rattle.st_script.specs.Asks.{Ask}
 use Rattle.st_script.specs.Scripts.{Asked, Asks, Browses, Defines}
-use Rattle.st_course.specs.declared.status.Status.TheVariants as status
-use Rattle.st_course.specs.Courses.{Course, Reply, Goes, Ends, preceded, and_then, replies}
-use Rattle.st_installer.specs.Installing.{Installed, Refused, Accepted, Install}
+use Rattle.st_protocol.specs.declared.status.Status.TheVariants as status
+use Rattle.st_protocol.specs.Courses.{Course, Reply, Goes, Ends, preceded, and_then, replies}
+use Rattle.st_protocol.specs.Installing.{Installed, Refused, Accepted, Install}
 use Rattle.st_session.specs.Points.{Being, Alive, Gone, Point, alive, gone}
 use Rattle.st_session.specs.Keeping.{Keeping}
 use Rattle.st_session.specs.Browsing.{asked_text, memory_of}

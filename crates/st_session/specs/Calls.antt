@@ -4,9 +4,9 @@ use Rattle.st_outside.specs.Files.{bytes_of}
 use Rattle.st_outside.specs.Runs.{ReadsAndSays}
 use Rattle.st_outside.specs.declared.host.Host.{Ghosts}
 use Rattle.st_image.specs.declared.head.HeadValues.{HeadValues}
-use Rattle.st_course.specs.declared.status.Status.{Status}
-use Rattle.st_course.specs.declared.status.Status.TheVariants as status
-use Rattle.st_course.specs.Statuses.{StatusHasCause}
+use Rattle.st_protocol.specs.declared.status.Status.{Status}
+use Rattle.st_protocol.specs.declared.status.Status.TheVariants as status
+use Rattle.st_protocol.specs.Statuses.{StatusHasCause}
 use Rattle.st_session.specs.Builds.{BuildEnds}
 use Rattle.st_session.specs.Drills.{DrillEnds}
 use Rattle.st_call.specs.LastLines.{SaysLastLine}

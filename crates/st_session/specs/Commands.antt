@@ -15,8 +15,8 @@ use Rattle.st_recover.specs.declared.fault.OpenFault.TheVariants as opening
 use Rattle.st_session.specs.Reports.{run_text}
 use Rattle.st_call.specs.LastLines.{SaysLastLine}
 use Rattle.st_call.specs.Refusals.{store_status}
-use Rattle.st_course.specs.declared.status.Status.{Status}
-use Rattle.st_course.specs.declared.status.Status.TheVariants.{Done, Usage, Image, Script, ReadFault, SayFault, DiskFault, Store, Kernel, TooLarge, OutOfMemory}
+use Rattle.st_protocol.specs.declared.status.Status.{Status}
+use Rattle.st_protocol.specs.declared.status.Status.TheVariants.{Done, Usage, Image, Script, ReadFault, SayFault, DiskFault, Store, Kernel, TooLarge, OutOfMemory}
 
 -- the status after a store wasn't opened
 abbrev pub opening_status : OpenFault → Status

@@ -5,12 +5,12 @@ use Rattle.st_outside.specs.Files.{Files}
 use Rattle.st_outside.specs.Runs.{LeavesOnly, SaysAll, Spares}
 use Rattle.st_outside.specs.Stops.{SaidPart}
 use Rattle.st_outside.specs.declared.host.Host.{Ghosts}
-use Rattle.st_course.specs.declared.status.Status.{Status}
-use Rattle.st_course.specs.declared.status.Status.TheVariants.{Done, ReadFault, SayFault, DiskFault}
-use Rattle.st_course.specs.Courses.{Course, deeds_of, said_of, commits_of, IsEnd}
-use Rattle.st_course.specs.Acknowledged.{SaysLines, Promised}
-use Rattle.st_course.specs.Done.{Did, RestsAsOne}
-use Rattle.st_course.specs.Statuses.{IsFault}
+use Rattle.st_protocol.specs.declared.status.Status.{Status}
+use Rattle.st_protocol.specs.declared.status.Status.TheVariants.{Done, ReadFault, SayFault, DiskFault}
+use Rattle.st_protocol.specs.Courses.{Course, deeds_of, said_of, commits_of, IsEnd}
+use Rattle.st_protocol.specs.Acknowledged.{SaysLines, Promised}
+use Rattle.st_protocol.specs.Done.{Did, RestsAsOne}
+use Rattle.st_protocol.specs.Statuses.{IsFault}
 
 -- the status that an answer stands for
 abbrev pub status_in : Result Unit Status → Status

@@ -5,8 +5,8 @@ use Rattle.st_model.specs.Limits.{longest_image}
 use Rattle.st_model.specs.Start.{start_view}
 use Rattle.st_image.specs.declared.head.HeadValues.{HeadValues}
 use Rattle.st_image.specs.HeadValues.{head_over}
-use Rattle.st_course.specs.declared.status.Status.{Status}
-use Rattle.st_course.specs.declared.status.Status.TheVariants.{Image, TooLarge}
+use Rattle.st_protocol.specs.declared.status.Status.{Status}
+use Rattle.st_protocol.specs.declared.status.Status.TheVariants.{Image, TooLarge}
 use Rattle.st_call.specs.Refusals.{IsReadableOver, IsFaultyOver}
 use Rattle.st_session.specs.declared.making.Origin.TheVariants as origin
 use Rattle.st_session.specs.Makings.{Contents, contents_in, MakingEnds}

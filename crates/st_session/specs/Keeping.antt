@@ -6,7 +6,7 @@ use Rattle.st_model.specs.Saving.{save}
 use Rattle.st_model.specs.Show.{show}
 use Rattle.st_model.specs.Text.{dead_text}
 use Rattle.st_chunk.specs.Definitions.{Definition}
-use Rattle.st_course.specs.Courses.{Course, Reply, Keep, Goes, and_then, replies}
+use Rattle.st_protocol.specs.Courses.{Course, Reply, Keep, Goes, and_then, replies}
 use Rattle.st_recover.specs.Commits.{Commit, all_of, imaged, image_with, accepting}
 use Rattle.st_session.specs.Points.{Point, alive, gone}
 use Rattle.st_call.specs.Replies.{snapshot_text}

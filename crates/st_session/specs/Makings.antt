@@ -14,8 +14,8 @@ use Rattle.st_store.specs.Names.{roots_file}
 use Rattle.st_store.specs.Roots.{HasLetters}
 use Rattle.st_store.specs.Founding.{IsNoStore}
 use Rattle.st_store.specs.declared.fault.StoreFault.TheVariants.{Exists}
-use Rattle.st_course.specs.declared.status.Status.{Status}
-use Rattle.st_course.specs.declared.status.Status.TheVariants.{Done, SayFault, DiskFault, Store, OutOfMemory}
+use Rattle.st_protocol.specs.declared.status.Status.{Status}
+use Rattle.st_protocol.specs.declared.status.Status.TheVariants.{Done, SayFault, DiskFault, Store, OutOfMemory}
 use Rattle.st_recover.specs.Commits.{Commit, OpensAs, image_with}
 use Rattle.st_recover.specs.Creating.{first_commit, IsNoFirstFile, AreFirstFiles}
 use Rattle.st_session.specs.declared.making.Origin.{Origin}

@@ -7,7 +7,7 @@ use Rattle.st_model.specs.Births.{Births}
 use Rattle.st_model.specs.Show.{Shows}
 use Rattle.st_model.specs.View.{View}
 use Rattle.st_frames.specs.Shown.{shown}
-use Rattle.st_course.specs.Courses.{Course}
+use Rattle.st_protocol.specs.Courses.{Course}
 use Rattle.st_definition.specs.Defining.{installed}
 use Rattle.st_recover.specs.Archives.{Holds}
 use Rattle.st_recover.specs.Commits.{Commit}

@@ -2,7 +2,7 @@
 use Rattle.std.specs.Prelude.{ℕ, List, Result, OnOk}
 use Rattle.st_outside.specs.declared.host.Host.{Ghosts}
 use Rattle.st_report.specs.Saying.{Pushes}
-use Rattle.st_course.specs.Courses.{Course, Goes, Ends, deeds_of, said_of}
+use Rattle.st_protocol.specs.Courses.{Course, Goes, Ends, deeds_of, said_of}
 
 -- the course leads somewhere, of which this holds
 abbrev pub LeadsTo : {C X : Type 0} → (X → Type 0) → Course C X → Type 0

@@ -9,7 +9,7 @@ use Rattle.st_model.specs.Cycles.{run, finished}
 use Rattle.st_model.specs.Table.{Table}
 use Rattle.st_model.specs.Show.{show}
 use Rattle.st_model.specs.Text.{ran_text, dead_text, space_text, quit_text, debugger_text, said_value}
-use Rattle.st_course.specs.Courses.{Course, Goes, Ends, deeds_of, said_of}
+use Rattle.st_protocol.specs.Courses.{Course, Goes, Ends, deeds_of, said_of}
 use Rattle.st_session.specs.Points.{Being, Alive, Gone, Point}
 use Rattle.st_session.specs.Keeping.{keeps_nothing}
 use Rattle.st_session.specs.Answers.{run_course}

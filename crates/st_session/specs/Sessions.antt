@@ -2,9 +2,9 @@
 use Rattle.std.specs.Prelude.{ℕ, Bool, true, false, nat_le, List, [], ◌∷◌, length, take}
 use Rattle.st_script.specs.Reading.{Reading, line_from}
 use Rattle.st_script.specs.Scripts.{Asked, asked_from, told_from, told}
-use Rattle.st_course.specs.declared.status.Status.TheVariants.{Done, TooLarge}
-use Rattle.st_course.specs.Courses.{Course, Reply, Goes, preceded, and_then, ended}
-use Rattle.st_installer.specs.Installing.{Install}
+use Rattle.st_protocol.specs.declared.status.Status.TheVariants.{Done, TooLarge}
+use Rattle.st_protocol.specs.Courses.{Course, Reply, Goes, preceded, and_then, ended}
+use Rattle.st_protocol.specs.Installing.{Install}
 use Rattle.st_session.specs.Points.{Point}
 use Rattle.st_session.specs.Keeping.{Keeping}
 use Rattle.st_recover.specs.Replays.{Loss}

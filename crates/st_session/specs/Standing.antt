@@ -9,9 +9,9 @@ use Rattle.st_model.specs.View.{View}
 use Rattle.st_frames.specs.Shown.{IsReady, shown}
 use Rattle.st_machine.specs.declared.machine.Machine.{Machine}
 use Rattle.st_store.specs.Names.{IsNoFileOf}
-use Rattle.st_course.specs.declared.status.Status.{Status}
-use Rattle.st_course.specs.Courses.{Course}
-use Rattle.st_course.specs.Obeying.{Obeys}
+use Rattle.st_protocol.specs.declared.status.Status.{Status}
+use Rattle.st_protocol.specs.Courses.{Course}
+use Rattle.st_protocol.specs.Obeying.{Obeys}
 use Rattle.st_recover.specs.Archives.{ArchiveState, Holds}
 use Rattle.st_recover.specs.Commits.{Commit, OpensAs}
 use Rattle.st_session.specs.Ends.{DidTold}

@@ -9,11 +9,11 @@ use Rattle.st_chunk.specs.Definitions.{IsDefinition}
 use Rattle.st_store.specs.Names.{roots_file, IsNoFileOf}
 use Rattle.st_store.specs.Stored.{IsOpening}
 use Rattle.st_store.specs.declared.fault.StoreFault.TheVariants as store
-use Rattle.st_course.specs.declared.status.Status.{Status}
-use Rattle.st_course.specs.declared.status.Status.TheVariants.{Done, Usage, Image, Script, ReadFault, SayFault, DiskFault, Store, Kernel, TooLarge, OutOfMemory}
-use Rattle.st_course.specs.Acknowledged.{Promised}
-use Rattle.st_course.specs.Courses.{Course, deeds_of, commits_of, IsEnd}
-use Rattle.st_course.specs.Done.{RestsAsOne}
+use Rattle.st_protocol.specs.declared.status.Status.{Status}
+use Rattle.st_protocol.specs.declared.status.Status.TheVariants.{Done, Usage, Image, Script, ReadFault, SayFault, DiskFault, Store, Kernel, TooLarge, OutOfMemory}
+use Rattle.st_protocol.specs.Acknowledged.{Promised}
+use Rattle.st_protocol.specs.Courses.{Course, deeds_of, commits_of, IsEnd}
+use Rattle.st_protocol.specs.Done.{RestsAsOne}
 use Rattle.st_definition.specs.Defining.{installed}
 use Rattle.st_recover.specs.Commits.{Commit, OpensAs, all_of}
 use Rattle.st_recover.specs.Openings.{Reopens, RefusesOpening}

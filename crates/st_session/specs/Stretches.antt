@@ -15,7 +15,7 @@ use Rattle.st_report.specs.Saying.{Pushes}
 use Rattle.st_session.specs.Points.{Being, Alive, Gone}
 use Rattle.st_session.specs.Standing.{IsBeing}
 use Rattle.st_call.specs.Telling.{Tells}
-use Rattle.st_course.specs.declared.status.Status.{Status}
+use Rattle.st_protocol.specs.declared.status.Status.{Status}
 
 -- The run is over, and the machine is this; or a bytecode asked for a snapshot, with which so many cycles of the line are
 -- finished.

@@ -1,6 +1,6 @@
 ghost use Rattle.std.specs.Prelude.{IfErr};
 ghost use Rattle.st_script.specs.Asks.{ask_of};
-ghost use Rattle.st_course.specs.Statuses.{Counts};
+ghost use Rattle.st_protocol.specs.Statuses.{Counts};
 ghost use Rattle.st_session.specs.Answers.{browse_course};
 ghost use Rattle.st_session.specs.Browsing.{asked_text};
 ghost use Rattle.st_call.specs.Telling.{IsOfServing};
@@ -11,10 +11,10 @@ ghost use Rattle.st_call.specs.Telling.{Tells};
 use st_browse::browse;
 use st_call::{Reply, say_reply};
 use st_changes::Changes;
-use st_course::Status;
 use st_machine::Machine;
 use st_memory::Memory;
 use st_outside::{Host, SayFault};
+use st_protocol::Status;
 use st_recover::Archive;
 use st_script::Ask;
 

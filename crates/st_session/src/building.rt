@@ -4,17 +4,17 @@ ghost use Rattle.std.specs.Prelude.{◌≡◌, IsTrue, IfOk, IfErr, OnOk};
 ghost use Rattle.st_outside.specs.Files.{bytes_of};
 ghost use Rattle.st_outside.specs.Runs.{OnlyReads, ReadsAlike};
 ghost use Rattle.st_image.specs.Back.{CanStart};
-ghost use Rattle.st_course.specs.Statuses.{StatusHasCause};
+ghost use Rattle.st_protocol.specs.Statuses.{StatusHasCause};
 ghost use Rattle.st_session.specs.Makings.{contents_in, IsUnread};
 ghost use Rattle.st_session.specs.Builds.{Builds, IsWrongKernel, BuildEnds, kernel_status};
 
 use crate::compiler::Compiler;
 use crate::making::{Origin, make};
 use st_call::{read_file, refuse};
-use st_course::Status;
 use st_kernel::KernelFault;
 use st_memory::{Loader, Memory};
 use st_outside::Host;
+use st_protocol::Status;
 use std::alloc::Global;
 
 /// The most bytes that a kernel text may have, 2^23.

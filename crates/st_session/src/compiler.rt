@@ -5,14 +5,14 @@ ghost use Rattle.st_model.specs.Show.{Shows};
 ghost use Rattle.st_frames.specs.declared.frame.Frame.{Frame};
 ghost use Rattle.st_frames.specs.Shown.{IsReady, shown};
 ghost use Rattle.st_definition.specs.Defining.{installed};
-ghost use Rattle.st_installer.specs.Installations.{InstallsAs};
-ghost use Rattle.st_installer.specs.declared.installation.Installation.TheVariants.{Accepted};
+ghost use Rattle.st_protocol.specs.Installations.{InstallsAs};
+ghost use Rattle.st_protocol.specs.declared.installation.Installation.TheVariants.{Accepted};
 ghost use Rattle.st_definition.specs.Prepareds.{IsPrepared};
 
 use st_definition::{Prepared, Unprepared, prepare};
 use st_install::install;
-use st_installer::{Installation, Installer};
 use st_memory::Memory;
+use st_protocol::{Installation, Installer};
 use st_script::Definition;
 use std::alloc::Global;
 

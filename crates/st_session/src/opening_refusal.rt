@@ -2,7 +2,7 @@ ghost use Rattle.std.specs.Prelude.{◌≡◌};
 ghost use Rattle.st_session.specs.Commands.{opening_status};
 
 use st_call::store_status;
-use st_course::Status;
+use st_protocol::Status;
 use st_recover::OpenFault;
 
 /// The status of a call that ends since a store isn't opened.

@@ -8,10 +8,10 @@ ghost use Rattle.st_chunk.specs.Definitions.{entries};
 ghost use Rattle.st_script.specs.Reading.{line_from, read, end_read};
 ghost use Rattle.st_script.specs.Scripts.{told_from, read_through, asked_by, asked_at_end};
 ghost use Rattle.st_store.specs.Names.{IsNoFileOf};
-ghost use Rattle.st_course.specs.declared.status.Status.TheVariants.{Done, ReadFault as Unread, TooLarge};
-ghost use Rattle.st_course.specs.declared.status.Status.TheVariants.{OutOfMemory};
-ghost use Rattle.st_course.specs.Courses.{ended, IsEnd};
-ghost use Rattle.st_course.specs.Statuses.{Counts, StatusHasCause};
+ghost use Rattle.st_protocol.specs.declared.status.Status.TheVariants.{Done, ReadFault as Unread, TooLarge};
+ghost use Rattle.st_protocol.specs.declared.status.Status.TheVariants.{OutOfMemory};
+ghost use Rattle.st_protocol.specs.Courses.{ended, IsEnd};
+ghost use Rattle.st_protocol.specs.Statuses.{Counts, StatusHasCause};
 ghost use Rattle.st_recover.specs.Commits.{Commit, OpensAs};
 ghost use Rattle.st_recover.specs.Replays.{losses_of};
 ghost use Rattle.st_definition.specs.Defining.{installed};
@@ -24,10 +24,10 @@ ghost use Rattle.st_session.specs.Opening.{IsOpen, session_over, session_so_far_
 
 use crate::first_lines::say_opening;
 use crate::serving::answer_told;
-use st_course::Status;
 use st_machine::Machine;
 use st_memory::Memory;
 use st_outside::{Host, ReadFault, Source};
+use st_protocol::Status;
 use st_recover::{Archive, Lost, Opened};
 use st_script::Reader;
 use st_world::World;

@@ -6,8 +6,8 @@ ghost use Rattle.st_model.specs.Show.{Shows};
 ghost use Rattle.st_frames.specs.Shown.{IsReady};
 ghost use Rattle.st_image.specs.Back.{CanStart};
 ghost use Rattle.st_store.specs.Names.{IsNoFileOf};
-ghost use Rattle.st_course.specs.Obeying.{Obeys};
-ghost use Rattle.st_course.specs.Statuses.{Counts};
+ghost use Rattle.st_protocol.specs.Obeying.{Obeys};
+ghost use Rattle.st_protocol.specs.Statuses.{Counts};
 ghost use Rattle.st_recover.specs.Archives.{Holds};
 ghost use Rattle.st_recover.specs.Commits.{Commit, OpensAs, image_with};
 ghost use Rattle.st_session.specs.Answers.{run_course, going_on};
@@ -18,10 +18,10 @@ ghost use Rattle.st_session.specs.Stretches.{SaysStretch, stretch, went};
 
 use crate::running::push_stretch;
 use st_call::{Reply, finish, say_reply};
-use st_course::Status;
 use st_machine::Machine;
 use st_memory::Memory;
 use st_outside::{Host, HostFault, SayFault};
+use st_protocol::Status;
 use st_recover::Archive;
 use st_report::Output;
 

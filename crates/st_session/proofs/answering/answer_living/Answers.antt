@@ -1,6 +1,6 @@
 use Rattle.std.proofs.Common.{refl, sym, subst}
 use Rattle.std.specs.Prelude.{Ok, Err}
-use Rattle.st_course.specs.declared.status.Status.TheVariants as status
+use Rattle.st_protocol.specs.declared.status.Status.TheVariants as status
 use Rattle.st_session.specs.Answers.{line_course}
 use Rattle.st_session.specs.Keeping.{in_a_store}
 use Rattle.st_session.specs.Points.{alive}

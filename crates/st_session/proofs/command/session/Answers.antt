@@ -2,10 +2,10 @@ use Rattle.std.proofs.Common.{◌≡◌, ◌⊎◌, List, ℕ, ◌∙◌, IsTrue
 use Rattle.st_outside.specs.Counts.{Rose}
 use Rattle.st_outside.specs.Runs.{IsAtRest}
 use Rattle.st_store.specs.Names.{IsNoFileOf}
-use Rattle.st_course.specs.declared.status.Status.{Status}
-use Rattle.st_course.specs.declared.status.Status.TheVariants as status
-use Rattle.st_course.specs.Courses.{deeds_of, commits_of}
-use Rattle.st_course.specs.Statuses.{StatusHasCause}
+use Rattle.st_protocol.specs.declared.status.Status.{Status}
+use Rattle.st_protocol.specs.declared.status.Status.TheVariants as status
+use Rattle.st_protocol.specs.Courses.{deeds_of, commits_of}
+use Rattle.st_protocol.specs.Statuses.{StatusHasCause}
 use Rattle.st_definition.specs.Defining.{installed}
 use Rattle.st_recover.specs.Commits.{Commit, OpensAs}
 use Rattle.st_recover.specs.Openings.{Reopens}

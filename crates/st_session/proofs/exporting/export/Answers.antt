@@ -2,9 +2,9 @@ use Rattle.std.proofs.Common.{◌≡◌, ◌≢◌, ◌⊎◌, IsTrue, inl, inr,
 use Rattle.st_outside.specs.Counts.{Rose}
 use Rattle.st_outside.proofs.Touching.{spares_join, spares_fewer}
 use Rattle.st_store.specs.Names.{IsNoFileOf}
-use Rattle.st_course.specs.declared.status.Status.{Status}
-use Rattle.st_course.specs.declared.status.Status.TheVariants as status
-use Rattle.st_course.specs.Statuses.{StatusHasCause}
+use Rattle.st_protocol.specs.declared.status.Status.{Status}
+use Rattle.st_protocol.specs.declared.status.Status.TheVariants as status
+use Rattle.st_protocol.specs.Statuses.{StatusHasCause}
 use Rattle.st_call.specs.LastLines.{SaysLastLine}
 use Rattle.st_session.specs.Ends.{status_in}
 use Rattle.st_session.specs.Exports.{export_of, IsOfExport, ExportEnds}

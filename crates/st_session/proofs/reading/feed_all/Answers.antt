@@ -4,8 +4,8 @@ use Rattle.std.proofs.lemmas.List.{take_more, take-append-drop}
 use Rattle.st_script.specs.Reading.{read}
 use Rattle.st_script.specs.Scripts.{told_from, read_through, asked_by}
 use Rattle.st_store.specs.Names.{IsNoFileOf}
-use Rattle.st_course.specs.declared.status.Status.{Status}
-use Rattle.st_course.proofs.Joins.{counts_behind}
+use Rattle.st_protocol.specs.declared.status.Status.{Status}
+use Rattle.st_protocol.proofs.Joins.{counts_behind}
 use Rattle.st_definition.specs.Defining.{installed}
 use Rattle.st_recover.specs.Commits.{Commit, OpensAs}
 use Rattle.st_session.specs.Keeping.{in_a_store}

@@ -2,7 +2,7 @@ use Rattle.std.proofs.Common.{ap, subst, ◌∙◌, Ok, Err}
 use Rattle.st_script.specs.Reading.{end_read}
 use Rattle.st_script.specs.Scripts.{asked_by}
 use Rattle.st_store.specs.Names.{IsNoFileOf}
-use Rattle.st_course.specs.declared.status.Status.TheVariants as status
+use Rattle.st_protocol.specs.declared.status.Status.TheVariants as status
 use Rattle.st_definition.specs.Defining.{installed}
 use Rattle.st_recover.specs.Commits.{OpensAs}
 use Rattle.st_session.specs.Keeping.{in_a_store}

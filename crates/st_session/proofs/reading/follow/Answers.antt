@@ -4,9 +4,9 @@ use Rattle.st_outside.proofs.Rising.{rose_second}
 use Rattle.st_script.specs.Reading.{line_from}
 use Rattle.st_script.specs.Scripts.{told_from, read_through, asked_at_end}
 use Rattle.st_store.specs.Names.{IsNoFileOf}
-use Rattle.st_course.specs.declared.status.Status.TheVariants as status
-use Rattle.st_course.specs.Courses.{ended}
-use Rattle.st_course.proofs.Joins.{obeys_did, counts_behind, counts_wider, no_read}
+use Rattle.st_protocol.specs.declared.status.Status.TheVariants as status
+use Rattle.st_protocol.specs.Courses.{ended}
+use Rattle.st_protocol.proofs.Joins.{obeys_did, counts_behind, counts_wider, no_read}
 use Rattle.st_definition.specs.Defining.{installed}
 use Rattle.st_recover.specs.Commits.{Commit, OpensAs}
 use Rattle.st_session.specs.Keeping.{in_a_store}

@@ -1,8 +1,8 @@
 use Rattle.std.proofs.Common.{◌∷◌, [], refl, Err}
 use Rattle.st_store.specs.Names.{IsNoFileOf}
-use Rattle.st_course.specs.declared.status.Status.TheVariants as status
-use Rattle.st_course.specs.Courses.{Reply}
-use Rattle.st_course.proofs.Joins.{obeys_behind, counts_behind, counts_wider, no_read}
+use Rattle.st_protocol.specs.declared.status.Status.TheVariants as status
+use Rattle.st_protocol.specs.Courses.{Reply}
+use Rattle.st_protocol.proofs.Joins.{obeys_behind, counts_behind, counts_wider, no_read}
 use Rattle.st_definition.specs.Defining.{installed}
 use Rattle.st_recover.specs.Commits.{Commit, OpensAs}
 use Rattle.st_recover.specs.Replays.{losses_of}

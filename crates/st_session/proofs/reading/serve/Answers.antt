@@ -9,10 +9,10 @@ use Rattle.st_model.specs.Show.{Shows}
 use Rattle.st_model.specs.Table.{Table}
 use Rattle.st_frames.specs.Shown.{shown}
 use Rattle.st_store.specs.Names.{IsNoFileOf}
-use Rattle.st_course.specs.declared.status.Status.{Status}
-use Rattle.st_course.specs.declared.status.Status.TheVariants as status
-use Rattle.st_course.specs.Statuses.{StatusHasCause}
-use Rattle.st_course.proofs.Joins.{obeys_fault}
+use Rattle.st_protocol.specs.declared.status.Status.{Status}
+use Rattle.st_protocol.specs.declared.status.Status.TheVariants as status
+use Rattle.st_protocol.specs.Statuses.{StatusHasCause}
+use Rattle.st_protocol.proofs.Joins.{obeys_fault}
 use Rattle.st_definition.specs.Defining.{installed}
 use Rattle.st_recover.specs.Archives.{ArchiveState, Holds}
 use Rattle.st_recover.specs.Commits.{Commit, OpensAs}

@@ -1,7 +1,7 @@
 use Rattle.std.proofs.Common.{◌≡◌, ◌∙◌, ◌-◌, ◌≤◌, ◌<◌, ℕ, true, false, refl, sym, subst, arith}
 use Rattle.std.specs.Prelude.{Option, Some, None, is_some, IfSome, Ok, Err}
 use Rattle.st_model.specs.declared.dead.Dead.{Dead}
-use Rattle.st_course.proofs.Joins.{counts_behind}
+use Rattle.st_protocol.proofs.Joins.{counts_behind}
 use Rattle.st_session.specs.Answers.{going_on, run_course}
 use Rattle.st_session.specs.Keeping.{in_a_store}
 use Rattle.st_session.specs.Points.{alive}

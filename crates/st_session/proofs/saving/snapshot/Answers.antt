@@ -5,7 +5,7 @@ use Rattle.st_model.proofs.Showing.{show_is}
 use Rattle.st_image.specs.Back.{CanStart}
 use Rattle.st_machine.specs.Asked.{death_by}
 use Rattle.st_store.specs.Names.{IsNoFileOf}
-use Rattle.st_course.specs.Obeying.{Obeys}
+use Rattle.st_protocol.specs.Obeying.{Obeys}
 use Rattle.st_recover.specs.Archives.{Holds}
 use Rattle.st_recover.specs.Commits.{Commit, OpensAs, image_with}
 use Rattle.st_session.specs.Answers.{going_on}

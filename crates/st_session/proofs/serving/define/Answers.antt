@@ -1,5 +1,5 @@
 use Rattle.std.proofs.Common.{Err, refl, subst}
-use Rattle.st_course.specs.declared.status.Status.TheVariants as status
+use Rattle.st_protocol.specs.declared.status.Status.TheVariants as status
 use Rattle.st_frames.specs.Shown.{shown}
 use Rattle.st_script.specs.Definitions.{definition_of}
 use Rattle.st_definition.specs.Defining.{installed}

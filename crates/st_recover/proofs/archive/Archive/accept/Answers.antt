@@ -6,8 +6,8 @@ use Rattle.st_script.specs.Definitions.{definition_of}
 use Rattle.st_store.specs.Names.{changes_file, roots_file, IsNoFileOf}
 use Rattle.st_store.specs.Stored.{StoreState}
 use Rattle.st_changes.specs.Views.{definition_of as kept_definition}
-use Rattle.st_course.specs.declared.status.Status.TheVariants.{DiskFault, TooLarge}
-use Rattle.st_course.proofs.Joins.{obeys_as}
+use Rattle.st_protocol.specs.declared.status.Status.TheVariants.{DiskFault, TooLarge}
+use Rattle.st_protocol.proofs.Joins.{obeys_as}
 use Rattle.st_recover.specs.Archives.{ArchiveState, IsStoreOf}
 use Rattle.st_recover.specs.Commits.{OpensAs, accepting}
 use Rattle.st_recover.proofs.Commits.{holds_rest}

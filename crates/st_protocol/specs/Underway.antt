@@ -2,7 +2,7 @@
 use Rattle.std.specs.Prelude.{◌≡◌, ◌⊎◌, ℕ, List, [], ◌∷◌, ◌++◌}
 use Rattle.st_outside.specs.Files.{Files}
 use Rattle.st_outside.specs.Stops.{SaidPart}
-use Rattle.st_course.specs.Courses.{Deed, Reply, Keep}
+use Rattle.st_protocol.specs.Courses.{Deed, Reply, Keep}
 
 module _ {C : Type 0} (opens : C → Files → Type 0) where
   -- A stop at a moment of these deeds, done in order, where `said` was said and the commit stood before them: while bytes are

@@ -10,15 +10,15 @@ use Rattle.st_outside.proofs.Joining.{weaker, moments_join, all_join}
 use Rattle.st_outside.proofs.Rising.{rose_second}
 use Rattle.st_outside.proofs.Telling.{OnlyNow}
 use Rattle.st_outside.proofs.Touching.{spares_join, spares_none}
-use Rattle.st_course.specs.declared.status.Status.{Status}
-use Rattle.st_course.specs.declared.status.Status.TheVariants as status
-use Rattle.st_course.specs.Courses.{Deed, Reply, Keep, Course, Goes, Ends, deeds_of, said_of, commits_of, last_of, preceded, and_then, replies}
-use Rattle.st_course.specs.Underway.{Underway}
-use Rattle.st_course.specs.Done.{SaysFirst, EndsBetween, RestsBetween, RestsWithin, Rests, Did, Began}
-use Rattle.st_course.specs.Obeying.{Obeys}
-use Rattle.st_course.specs.Statuses.{IsFault, StatusHasCause, EndHasCause, Counts}
-use Rattle.st_course.proofs.Courses.{said_of_both, last_of_both, last_unkept}
-use Rattle.st_course.proofs.Underways.{nothing_of, part_more, part_after, part_all, starts, more, behind, while_said}
+use Rattle.st_protocol.specs.declared.status.Status.{Status}
+use Rattle.st_protocol.specs.declared.status.Status.TheVariants as status
+use Rattle.st_protocol.specs.Courses.{Deed, Reply, Keep, Course, Goes, Ends, deeds_of, said_of, commits_of, last_of, preceded, and_then, replies}
+use Rattle.st_protocol.specs.Underway.{Underway}
+use Rattle.st_protocol.specs.Done.{SaysFirst, EndsBetween, RestsBetween, RestsWithin, Rests, Did, Began}
+use Rattle.st_protocol.specs.Obeying.{Obeys}
+use Rattle.st_protocol.specs.Statuses.{IsFault, StatusHasCause, EndHasCause, Counts}
+use Rattle.st_protocol.proofs.Courses.{said_of_both, last_of_both, last_unkept}
+use Rattle.st_protocol.proofs.Underways.{nothing_of, part_more, part_after, part_all, starts, more, behind, while_said}
 
 -- WHAT WAS SAID
 

@@ -4,10 +4,10 @@ use Rattle.st_outside.specs.Files.{Files}
 use Rattle.st_outside.specs.Stops.{SaidPart}
 use Rattle.st_outside.specs.Runs.{LeavesOnly, SaysAll, Spares, IsAtRest}
 use Rattle.st_outside.specs.declared.host.Host.{Ghosts}
-use Rattle.st_course.specs.declared.status.Status.{Status}
-use Rattle.st_course.specs.declared.status.Status.TheVariants.{DiskFault, SayFault}
-use Rattle.st_course.specs.Courses.{Deed, Keep, said_of, last_of}
-use Rattle.st_course.specs.Underway.{Underway}
+use Rattle.st_protocol.specs.declared.status.Status.{Status}
+use Rattle.st_protocol.specs.declared.status.Status.TheVariants.{DiskFault, SayFault}
+use Rattle.st_protocol.specs.Courses.{Deed, Keep, said_of, last_of}
+use Rattle.st_protocol.specs.Underway.{Underway}
 
 -- what some first ones of these deeds say was said
 pub record SaysFirst {C : Type 0} (ds : List (Deed C)) (before now : List ℕ) : Type 0 where

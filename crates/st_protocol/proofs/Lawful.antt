@@ -1,8 +1,8 @@
 -- Courses that acknowledge each commit, one after the other.
 use Rattle.std.proofs.Common.{ℕ, ◌+◌, List, [], ◌∷◌, ◌++◌, ap, ◌∙◌}
-use Rattle.st_course.specs.Acknowledged.{acknowledged_from, rest_from, IsLines, AcknowledgesEach}
-use Rattle.st_course.specs.Courses.{Deed, Reply, Keep, Course, Goes, Ends, deeds_of, preceded, and_then}
-use Rattle.st_course.proofs.Counting.{acknowledged_both, rest_both}
+use Rattle.st_protocol.specs.Acknowledged.{acknowledged_from, rest_from, IsLines, AcknowledgesEach}
+use Rattle.st_protocol.specs.Courses.{Deed, Reply, Keep, Course, Goes, Ends, deeds_of, preceded, and_then}
+use Rattle.st_protocol.proofs.Counting.{acknowledged_both, rest_both}
 
 pub lines_both : (m n : ℕ) (a b : List ℕ) → IsLines m a → IsLines n b → IsLines (m + n) (a ++ b)
 lines_both m n a b h k = record {

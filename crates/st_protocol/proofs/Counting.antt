@@ -4,9 +4,9 @@ use Rattle.std.specs.Prelude.{◌==◌, if◌then◌else◌}
 use Rattle.std.proofs.lemmas.List.{append-nil, take-append-drop}
 use Rattle.st_outside.specs.Files.{Files}
 use Rattle.st_outside.specs.Stops.{SaidPart}
-use Rattle.st_course.specs.Courses.{Deed, Reply, Keep, said_of, commits_of}
-use Rattle.st_course.specs.Acknowledged.{counts, acknowledged_from, acknowledged, rest_from, AcknowledgesEach, Promised}
-use Rattle.st_course.specs.Underway.{Underway}
+use Rattle.st_protocol.specs.Courses.{Deed, Reply, Keep, said_of, commits_of}
+use Rattle.st_protocol.specs.Acknowledged.{counts, acknowledged_from, acknowledged, rest_from, AcknowledgesEach, Promised}
+use Rattle.st_protocol.specs.Underway.{Underway}
 
 pub acknowledged_both : (line a b : List ℕ) → acknowledged_from line (a ++ b) ≡ acknowledged_from line a + acknowledged_from (rest_from line a) b
 acknowledged_both line [] b = omega arith

@@ -1,4 +1,4 @@
-use st_course::Refusal;
+use crate::refusal::Refusal;
 
 /// What comes of installing a definition.
 #[derive(Drop)]

@@ -5,8 +5,8 @@ use Rattle.std.proofs.lemmas.Bool.{cases_lt}
 use Rattle.std.proofs.Math.Seq.{take-append_seam}
 use Rattle.st_outside.specs.Files.{Files}
 use Rattle.st_outside.specs.Stops.{SaidPart}
-use Rattle.st_course.specs.Courses.{Deed, Reply, Keep, said_of, commits_of, last_of}
-use Rattle.st_course.specs.Underway.{Underway}
+use Rattle.st_protocol.specs.Courses.{Deed, Reply, Keep, said_of, commits_of, last_of}
+use Rattle.st_protocol.specs.Underway.{Underway}
 
 -- nothing of a text was said
 pub nothing_of : (before text now : List ℕ) → now ≡ before → SaidPart before text now

@@ -1,6 +1,6 @@
 -- Deeds that follow each other.
 use Rattle.std.proofs.Common.{◌≡◌, List, [], ◌∷◌, ◌++◌, refl, sym, ap, ◌∙◌, append_assoc, append-nil}
-use Rattle.st_course.specs.Courses.{Deed, Reply, Keep, Course, Goes, Ends, deeds_of, said_of, commits_of, last_of, preceded, and_then}
+use Rattle.st_protocol.specs.Courses.{Deed, Reply, Keep, Course, Goes, Ends, deeds_of, said_of, commits_of, last_of, preceded, and_then}
 
 module _ {C : Type 0} where
   pub said_of_both : (a b : List (Deed C)) → said_of (a ++ b) ≡ said_of a ++ said_of b

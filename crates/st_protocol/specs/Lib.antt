@@ -4,3 +4,5 @@ pub mod Done
 pub mod Obeying
 pub mod Statuses
 pub mod Underway
+pub mod Installing
+pub mod Installations

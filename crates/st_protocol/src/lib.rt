@@ -3,8 +3,12 @@
 //! With the statuses of the program's calls, and why a definition is refused.
 #![tactic(auto)]
 
+mod installation;
+mod installer;
 mod refusal;
 mod status;
 
+pub use installation::Installation;
+pub use installer::Installer;
 pub use refusal::Refusal;
 pub use status::Status;

@@ -8,8 +8,8 @@ ghost use Rattle.st_model.specs.Show.{Shows};
 ghost use Rattle.st_frames.specs.declared.frame.Frame.{Frame};
 ghost use Rattle.st_model.specs.Machine.{World};
 ghost use Rattle.st_frames.specs.Shown.{IsReady, shown};
-ghost use Rattle.st_installer.specs.Installing.{Install};
-ghost use Rattle.st_installer.specs.Installations.{InstallsAs, Unchanged};
+ghost use Rattle.st_protocol.specs.Installing.{Install};
+ghost use Rattle.st_protocol.specs.Installations.{InstallsAs, Unchanged};
 
 use crate::installation::Installation;
 use st_memory::Memory;

@@ -1,5 +1,5 @@
 ghost use Rattle.std.specs.Prelude.{◌≡◌};
-ghost use Rattle.st_course.specs.Statuses.{number_of};
+ghost use Rattle.st_protocol.specs.Statuses.{number_of};
 
 use st_model::ImageFault;
 use st_store::StoreFault;

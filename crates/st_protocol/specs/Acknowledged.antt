@@ -2,7 +2,7 @@
 use Rattle.std.specs.Prelude.{◌≡◌, ◌⊎◌, ℕ, suc, ◌+◌, ◌==◌, ◌||◌, nat_eq, List, [], ◌∷◌, ◌++◌, codes, slice_get, Some, if◌then◌else◌}
 use Rattle.std.specs.List.{starts_with}
 use Rattle.st_outside.specs.Files.{Files}
-use Rattle.st_course.specs.Courses.{Deed, Reply, Keep}
+use Rattle.st_protocol.specs.Courses.{Deed, Reply, Keep}
 
 -- a whole line, without its end
 abbrev pub counts : List ℕ → ℕ

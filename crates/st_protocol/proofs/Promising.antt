@@ -7,15 +7,15 @@ use Rattle.st_outside.specs.Stops.{Here, SaidPart, WhileSaying}
 use Rattle.st_outside.specs.Runs.{LeavesOnly, ReadsAndSays, IsAtRest}
 use Rattle.st_outside.specs.declared.host.Host.{Ghosts}
 use Rattle.st_outside.proofs.Joining.{weaker, moments_join}
-use Rattle.st_course.specs.declared.status.Status.{Status}
-use Rattle.st_course.specs.declared.status.Status.TheVariants as status
-use Rattle.st_course.specs.Acknowledged.{acknowledged, acknowledged_from, rest_from, SaysLines, AcknowledgesEach, Promised}
-use Rattle.st_course.specs.Courses.{Deed, Reply, Keep, Course, Goes, Ends, deeds_of, said_of, commits_of, last_of}
-use Rattle.st_course.specs.Done.{SaysFirst, EndsBetween, RestsBetween, Rests, RestsAsOne}
-use Rattle.st_course.specs.Obeying.{Obeys}
-use Rattle.st_course.specs.Underway.{Underway}
-use Rattle.st_course.proofs.Counting.{acknowledged_both, front_of, front_acknowledges_from, promised, first_whole}
-use Rattle.st_course.proofs.Joins.{between_first, first_all, rests_between, obeys_moments}
+use Rattle.st_protocol.specs.declared.status.Status.{Status}
+use Rattle.st_protocol.specs.declared.status.Status.TheVariants as status
+use Rattle.st_protocol.specs.Acknowledged.{acknowledged, acknowledged_from, rest_from, SaysLines, AcknowledgesEach, Promised}
+use Rattle.st_protocol.specs.Courses.{Deed, Reply, Keep, Course, Goes, Ends, deeds_of, said_of, commits_of, last_of}
+use Rattle.st_protocol.specs.Done.{SaysFirst, EndsBetween, RestsBetween, Rests, RestsAsOne}
+use Rattle.st_protocol.specs.Obeying.{Obeys}
+use Rattle.st_protocol.specs.Underway.{Underway}
+use Rattle.st_protocol.proofs.Counting.{acknowledged_both, front_of, front_acknowledges_from, promised, first_whole}
+use Rattle.st_protocol.proofs.Joins.{between_first, first_all, rests_between, obeys_moments}
 
 -- what the law of a host says of this moment
 abbrev pub CountsNow : {D : Type 0} → Ghosts D → D → Type 0

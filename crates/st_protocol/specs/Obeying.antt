@@ -2,10 +2,10 @@
 use Rattle.std.specs.Prelude.{◌≡◌, ◌⊎◌, ℕ, List, Result, Ok, Err}
 use Rattle.st_outside.specs.Files.{Files}
 use Rattle.st_outside.specs.declared.host.Host.{Ghosts}
-use Rattle.st_course.specs.declared.status.Status.{Status}
-use Rattle.st_course.specs.Courses.{Course, Goes, Ends, last_of}
-use Rattle.st_course.specs.Done.{Did, Began}
-use Rattle.st_course.specs.Statuses.{IsFault}
+use Rattle.st_protocol.specs.declared.status.Status.{Status}
+use Rattle.st_protocol.specs.Courses.{Course, Goes, Ends, last_of}
+use Rattle.st_protocol.specs.Done.{Did, Began}
+use Rattle.st_protocol.specs.Statuses.{IsFault}
 
 module _ {D : Type 0} (host : Ghosts D) {C X : Type 0} (opens : C → Files → Type 0) (spared : List ℕ → Type 0) (at : X → Type 0) (commit : X → C) where
   -- Where the call answers Ok, the course goes on, `at` holds of where it leads, and the commit there is the last that was made.

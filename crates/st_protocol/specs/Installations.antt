@@ -4,9 +4,9 @@ use Rattle.st_model.specs.Table.{Table}
 use Rattle.st_model.specs.Machine.{State}
 use Rattle.st_model.specs.Show.{Shows}
 use Rattle.st_model.specs.View.{View}
-use Rattle.st_installer.specs.Installing.{Installed, Refused, Accepted}
-use Rattle.st_installer.specs.declared.installation.Installation.{Installation}
-use Rattle.st_installer.specs.declared.installation.Installation.TheVariants as installation
+use Rattle.st_protocol.specs.Installing.{Installed, Refused, Accepted}
+use Rattle.st_protocol.specs.declared.installation.Installation.{Installation}
+use Rattle.st_protocol.specs.declared.installation.Installation.TheVariants as installation
 
 -- It answers what comes of the definition, unless there was no memory, and the new state is shown.
 abbrev pub InstallsAs : Installed → Installation → State Table → Type 0

@@ -1,7 +1,7 @@
 -- A course: what is done one after the other, and where that leads, or the status in which it ends. What is kept is a
 -- commit, of whatever type.
 use Rattle.std.specs.Prelude.{◌≡◌, ℕ, List, [], ◌∷◌, ◌++◌}
-use Rattle.st_course.specs.declared.status.Status.{Status}
+use Rattle.st_protocol.specs.declared.status.Status.{Status}
 
 -- bytes are said, or a commit is kept
 pub data Deed (C : Type 0) : Type 0 where

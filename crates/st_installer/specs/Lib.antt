@@ -1,2 +1,0 @@
-pub mod Installing
-pub mod Installations
