@@ -63,3 +63,11 @@ pub mod Growths
 pub mod Planned
 pub mod Readying
 pub mod Smalls
+pub mod Joining
+mod DefinitionOpened
+pub mod Exits
+pub mod Headed
+mod Rows
+pub mod Selectors
+pub mod Scanned
+pub mod Syntaxes

@@ -4,6 +4,7 @@
 //! of what is found afterwards.
 #![tactic(auto)]
 
+mod definition_laws;
 mod filling;
 mod growing;
 mod installing;
@@ -13,6 +14,7 @@ mod making;
 mod places;
 mod plan;
 mod planning;
+mod preparing;
 mod readiness;
 mod refilling;
 mod room;
@@ -22,10 +24,14 @@ mod storing;
 mod sure;
 mod symbol_plan;
 mod symbols;
+mod unprepared;
 
+pub use definition_laws::one_syntax;
 pub use installing::install;
 pub use laws::{install_gains, install_shows_births};
 pub use plan::Ready;
+pub use preparing::{Prepared, prepare};
 pub use readiness::ready;
 pub use st_names::{InstallFault, class_of_name, names};
 pub use symbols::symbol_named;
+pub use unprepared::Unprepared;

@@ -22,7 +22,7 @@ use Rattle.st_browse.specs.Sources.{lines_of, source_line, source_text}
 use Rattle.st_browse.specs.Asked.{class_of_side, bytecodes_of, bytecodes_in, source_in, reply}
 use Rattle.st_protocol.specs.Acknowledged.{counts, IsLines}
 use Rattle.st_protocol.proofs.Lawful.{lines_both}
-use Rattle.st_definition.proofs.Selectors.{IsInLine, both_in_line}
+use Rattle.st_install.proofs.Selectors.{IsInLine, both_in_line}
 use Rattle.st_chunk.specs.Definitions.{Definition}
 use Rattle.st_session.specs.Sources.{text_for}
 use Rattle.st_call.specs.Replies.{missing_text}

@@ -5,7 +5,7 @@ use Rattle.st_outside.specs.declared.host.Host.{Ghosts}
 use Rattle.st_protocol.specs.declared.status.Status.{Status}
 use Rattle.st_protocol.specs.declared.status.Status.TheVariants as status
 use Rattle.st_protocol.specs.Statuses.{StatusHasCause}
-use Rattle.st_definition.specs.Defining.{installed}
+use Rattle.st_install.specs.Defining.{installed}
 use Rattle.st_kernel.specs.declared.fault.KernelFault.{KernelFault}
 use Rattle.st_kernel.specs.declared.fault.KernelFault.TheVariants as kernel
 use Rattle.st_kernel.specs.Built.{Built, Fault, built, IsFaultOf}

@@ -32,7 +32,7 @@ use Rattle.st_protocol.specs.Done.{RestsAsOne}
 use Rattle.st_protocol.proofs.Counting.{front_of, front_acknowledges}
 use Rattle.st_protocol.proofs.Promising.{CountsNow, promise_kept, one_said}
 use Rattle.st_protocol.proofs.Underways.{nothing_of}
-use Rattle.st_definition.specs.Defining.{installed}
+use Rattle.st_install.specs.Defining.{installed}
 use Rattle.st_protocol.specs.Installing.{Install}
 use Rattle.st_recover.specs.Commits.{Commit, OpensAs, all_of, stored_of}
 use Rattle.st_recover.specs.Openings.{IsFaulty, IsReopenedAs, Reopens, RefusesOpening, IsOfReopening, OpeningHasCause}

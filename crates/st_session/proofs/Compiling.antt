@@ -18,16 +18,16 @@ use Rattle.st_install.specs.Goes.{IsReadyFor}
 use Rattle.st_install.specs.Installing.{install}
 use Rattle.st_install.specs.Readies.{plan_of}
 use Rattle.st_install.proofs.GoesLaw.{ready_installs}
-use Rattle.st_definition.proofs.Headed.{code_headed}
+use Rattle.st_install.proofs.Headed.{code_headed}
 use Rattle.st_protocol.specs.declared.refusal.Refusal.{Refusal}
 use Rattle.st_protocol.specs.declared.installation.Installation.{Installation}
 use Rattle.st_protocol.specs.declared.installation.Installation.TheVariants as installation
-use Rattle.st_definition.specs.declared.preparing.Prepared.{Prepared}
+use Rattle.st_install.specs.declared.preparing.Prepared.{Prepared}
 use Rattle.st_protocol.specs.Installing.{Installed, Refused, Accepted}
 use Rattle.st_protocol.specs.Installations.{InstallsAs}
-use Rattle.st_definition.specs.Defining.{installed}
-use Rattle.st_definition.specs.Prepareds.{IsPrepared}
-use Rattle.st_definition.proofs.Joining.{installs}
+use Rattle.st_install.specs.Defining.{installed}
+use Rattle.st_install.specs.Prepareds.{IsPrepared}
+use Rattle.st_install.proofs.Joining.{installs}
 
 -- a memory that holds the same is ready for the same registers and world
 frame_held : (u v : View) (f : Frame) → u.held ≡ v.held → IsFrame v f → IsFrame u f

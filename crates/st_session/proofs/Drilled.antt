@@ -21,7 +21,7 @@ use Rattle.st_frames.specs.Shown.{FetchesFrame, shown}
 use Rattle.st_frames.proofs.Closed.{closed_idle}
 use Rattle.st_protocol.specs.declared.status.Status.{Status}
 use Rattle.st_protocol.specs.declared.status.Status.TheVariants as status
-use Rattle.st_definition.specs.Defining.{installed}
+use Rattle.st_install.specs.Defining.{installed}
 use Rattle.st_kernel.specs.declared.fault.KernelFault.{KernelFault}
 use Rattle.st_kernel.specs.declared.fault.KernelFault.TheVariants as kernel
 use Rattle.st_kernel.specs.Built.{Fault, built, IsBuilt, IsBegun, IsFaultOf}

@@ -25,8 +25,8 @@ use Rattle.st_protocol.specs.Acknowledged.{IsLines, AcknowledgesEach}
 use Rattle.st_protocol.proofs.Lawful.{IsLawful, lawful_preceded, lawful_then, law_of}
 use Rattle.st_protocol.specs.Courses.{Deed, Reply, Course, deeds_of, preceded, and_then, replies}
 use Rattle.st_protocol.specs.Installing.{Installed, Refused, Accepted, Install}
-use Rattle.st_definition.specs.Defining.{installed}
-use Rattle.st_definition.proofs.Selectors.{IsInLine, accepted_selector}
+use Rattle.st_install.specs.Defining.{installed}
+use Rattle.st_install.proofs.Selectors.{IsInLine, accepted_selector}
 use Rattle.st_recover.specs.Commits.{Commit, fits, accepted_if}
 use Rattle.st_recover.specs.Replays.{Loss}
 use Rattle.st_session.specs.Points.{Being, Alive, Gone, Point, alive}

@@ -11,8 +11,8 @@ use Rattle.st_chunk.specs.Definitions.{Definition}
 use Rattle.st_script.specs.Asks.{Side, Ask, Object, Display, Classes, Methods, Source, Bytecodes, Senders}
 use Rattle.st_changes.specs.Last.{HasSelector, IsOf, IsNowhere, IsLastText}
 use Rattle.st_browse.specs.Asked.{IsTextFor}
-use Rattle.st_definition.specs.Syntax.{IsSyntax, syntax}
-use Rattle.st_definition.proofs.Syntaxes.{is, only}
+use Rattle.st_install.specs.Syntax.{IsSyntax, syntax}
+use Rattle.st_install.proofs.Syntaxes.{is, only}
 use Rattle.st_session.specs.Sources.{selector_of, is_named, is_of, or_earlier, last_text, text_for}
 
 none_of : (P : Definition → Type 0) → All P []

@@ -21,7 +21,7 @@ use Rattle.st_protocol.specs.declared.refusal.Refusal.{Refusal}
 use Rattle.st_protocol.specs.declared.refusal.Refusal.TheVariants as refusal
 use Rattle.st_protocol.specs.Acknowledged.{counts, acknowledged_from, rest_from, IsLines}
 use Rattle.st_protocol.proofs.Lawful.{lines_both}
-use Rattle.st_definition.proofs.Selectors.{IsInLine, both_in_line, all_passing}
+use Rattle.st_install.proofs.Selectors.{IsInLine, both_in_line, all_passing}
 use Rattle.st_recover.specs.Replays.{Loss}
 use Rattle.st_call.specs.Replies.{machine_text, side_text, accepted_text, why_text, refused_text, snapshot_text}
 use Rattle.st_session.specs.FirstLines.{lost_text, opened_text, opening_text}

@@ -3,7 +3,7 @@ use Rattle.std.specs.Prelude.{◌≡◌, ℕ, ◌<◌, ◌≤◌, ◌^◌, List,
 use Rattle.st_outside.specs.declared.host.Host.{Ghosts}
 use Rattle.st_protocol.specs.declared.status.Status.{Status}
 use Rattle.st_protocol.specs.declared.status.Status.TheVariants.{Kernel, TooLarge, OutOfMemory}
-use Rattle.st_definition.specs.Defining.{installed}
+use Rattle.st_install.specs.Defining.{installed}
 use Rattle.st_kernel.specs.declared.fault.KernelFault.{KernelFault}
 use Rattle.st_kernel.specs.declared.fault.KernelFault.TheVariants as kernel
 use Rattle.st_kernel.specs.Built.{Fault, built}

@@ -12,7 +12,7 @@ use Rattle.st_chunk.specs.Definitions.{IsDefinition}
 use Rattle.st_store.specs.Names.{IsNoFileOf}
 use Rattle.st_protocol.specs.declared.status.Status.{Status}
 use Rattle.st_protocol.specs.declared.status.Status.TheVariants.{Done, Script, ReadFault, SayFault, DiskFault, OutOfMemory}
-use Rattle.st_definition.specs.Defining.{installed}
+use Rattle.st_install.specs.Defining.{installed}
 use Rattle.st_recover.specs.Commits.{Commit, OpensAs, all_of}
 use Rattle.st_recover.specs.Openings.{Reopens}
 use Rattle.st_recover.specs.Replays.{Replayed}

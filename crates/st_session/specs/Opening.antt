@@ -8,7 +8,7 @@ use Rattle.st_model.specs.Show.{Shows}
 use Rattle.st_model.specs.View.{View}
 use Rattle.st_frames.specs.Shown.{shown}
 use Rattle.st_protocol.specs.Courses.{Course}
-use Rattle.st_definition.specs.Defining.{installed}
+use Rattle.st_install.specs.Defining.{installed}
 use Rattle.st_recover.specs.Archives.{Holds}
 use Rattle.st_recover.specs.Commits.{Commit}
 use Rattle.st_recover.specs.Replays.{Loss}

@@ -14,7 +14,7 @@ use Rattle.st_protocol.specs.declared.status.Status.TheVariants.{Done, Usage, Im
 use Rattle.st_protocol.specs.Acknowledged.{Promised}
 use Rattle.st_protocol.specs.Courses.{Course, deeds_of, commits_of, IsEnd}
 use Rattle.st_protocol.specs.Done.{RestsAsOne}
-use Rattle.st_definition.specs.Defining.{installed}
+use Rattle.st_install.specs.Defining.{installed}
 use Rattle.st_recover.specs.Commits.{Commit, OpensAs, all_of}
 use Rattle.st_recover.specs.Openings.{Reopens, RefusesOpening}
 use Rattle.st_recover.specs.Replays.{Replayed}

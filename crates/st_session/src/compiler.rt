@@ -4,13 +4,12 @@ ghost use Rattle.st_model.specs.Births.{Births};
 ghost use Rattle.st_model.specs.Show.{Shows};
 ghost use Rattle.st_frames.specs.declared.frame.Frame.{Frame};
 ghost use Rattle.st_frames.specs.Shown.{IsReady, shown};
-ghost use Rattle.st_definition.specs.Defining.{installed};
+ghost use Rattle.st_install.specs.Defining.{installed};
 ghost use Rattle.st_protocol.specs.Installations.{InstallsAs};
 ghost use Rattle.st_protocol.specs.declared.installation.Installation.TheVariants.{Accepted};
-ghost use Rattle.st_definition.specs.Prepareds.{IsPrepared};
+ghost use Rattle.st_install.specs.Prepareds.{IsPrepared};
 
-use st_definition::{Prepared, Unprepared, prepare};
-use st_install::install;
+use st_install::{Prepared, Unprepared, install, prepare};
 use st_memory::Memory;
 use st_protocol::{Installation, Installer};
 use st_script::Definition;
@@ -35,7 +34,7 @@ pub(crate) fn carry_out<M: Memory>(m: &mut M, prepared: Prepared) -> Vec<u8>
 }
 
 impl Installer for Compiler {
-    ghost use Rattle.st_definition.specs.Defining.{installed};
+    ghost use Rattle.st_install.specs.Defining.{installed};
 
     ghost install = { installed };
 

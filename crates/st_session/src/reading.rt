@@ -14,7 +14,7 @@ ghost use Rattle.st_protocol.specs.Courses.{ended, IsEnd};
 ghost use Rattle.st_protocol.specs.Statuses.{Counts, StatusHasCause};
 ghost use Rattle.st_recover.specs.Commits.{Commit, OpensAs};
 ghost use Rattle.st_recover.specs.Replays.{losses_of};
-ghost use Rattle.st_definition.specs.Defining.{installed};
+ghost use Rattle.st_install.specs.Defining.{installed};
 ghost use Rattle.st_session.specs.Ends.{IsCalm, NoCountFell, SessionEnds, status_in};
 ghost use Rattle.st_call.specs.Telling.{IsOfServing};
 ghost use Rattle.st_session.specs.Keeping.{in_a_store};

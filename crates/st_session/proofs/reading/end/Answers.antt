@@ -1,7 +1,7 @@
 use Rattle.std.proofs.Common.{◌≡◌, subst}
 use Rattle.st_script.specs.Reading.{end_read}
 use Rattle.st_script.specs.Scripts.{asked_by}
-use Rattle.st_definition.specs.Defining.{installed}
+use Rattle.st_install.specs.Defining.{installed}
 use Rattle.st_session.specs.Keeping.{in_a_store}
 use Rattle.st_session.specs.Sessions.{follow}
 use Rattle.st_session.proofs.Points.{GoesAs}

@@ -6,7 +6,7 @@ use Rattle.st_script.specs.Scripts.{told_from, read_through, asked_by}
 use Rattle.st_store.specs.Names.{IsNoFileOf}
 use Rattle.st_protocol.specs.declared.status.Status.{Status}
 use Rattle.st_protocol.proofs.Joins.{counts_behind}
-use Rattle.st_definition.specs.Defining.{installed}
+use Rattle.st_install.specs.Defining.{installed}
 use Rattle.st_recover.specs.Commits.{Commit, OpensAs}
 use Rattle.st_session.specs.Keeping.{in_a_store}
 use Rattle.st_session.specs.Points.{Point}

@@ -1,7 +1,7 @@
 use Rattle.st_script.specs.Scripts.{told_from}
 use Rattle.st_store.specs.Names.{IsNoFileOf}
 use Rattle.st_protocol.specs.declared.status.Status.TheVariants as status
-use Rattle.st_definition.specs.Defining.{installed}
+use Rattle.st_install.specs.Defining.{installed}
 use Rattle.st_recover.specs.Commits.{OpensAs}
 use Rattle.st_session.specs.Keeping.{in_a_store}
 use Rattle.st_session.specs.Standing.{IsAt}

@@ -2,8 +2,8 @@ use Rattle.std.proofs.Common.{◌≡◌, ◌∙◌, refl, ap, sym, subst}
 use Rattle.st_model.specs.Show.{Shows}
 use Rattle.st_frames.specs.Shown.{IsReady, shown}
 use Rattle.st_script.specs.Definitions.{definition_of}
-use Rattle.st_definition.specs.Defining.{installed}
-use Rattle.st_definition.specs.Prepareds.{IsPrepared}
+use Rattle.st_install.specs.Defining.{installed}
+use Rattle.st_install.specs.Prepareds.{IsPrepared}
 use Rattle.st_session.specs.Answers.{definition_course}
 use Rattle.st_session.specs.Keeping.{in_a_store}
 use Rattle.st_call.specs.Replies.{accepted_line}

@@ -3,7 +3,7 @@ use Rattle.st_script.specs.declared.request.Request.TheVariants as request
 use Rattle.st_script.specs.Asks.{ask_of}
 use Rattle.st_script.specs.Definitions.{definition_of}
 use Rattle.st_script.specs.Scripts.{asked_at}
-use Rattle.st_definition.specs.Defining.{installed}
+use Rattle.st_install.specs.Defining.{installed}
 use Rattle.st_session.specs.Answers.{answer}
 use Rattle.st_session.specs.Keeping.{in_a_store}
 use Rattle.st_session.proofs.Lines.{asked_line, asked_look, asked_definition}

@@ -1,11 +1,11 @@
 //! Why nothing is installed.
 
 ghost use Rattle.std.specs.Prelude.{◌≡◌};
-ghost use Rattle.st_definition.specs.Unprepareds.{by_syntax, by_code, by_install};
-ghost use Rattle.st_definition.specs.declared.unprepared.Unprepared.TheVariants.{OutOfMemory};
+ghost use Rattle.st_install.specs.Unprepareds.{by_syntax, by_code, by_install};
+ghost use Rattle.st_install.specs.declared.unprepared.Unprepared.TheVariants.{OutOfMemory};
 
 use st_code::CodeFault;
-use st_install::InstallFault;
+use st_names::InstallFault;
 use st_protocol::Refusal;
 use st_tree::SyntaxFault;
 use std::alloc::AllocError;

@@ -3,8 +3,8 @@ use Rattle.std.proofs.Common.{◌≡◌, ℕ, List, [], Ok, Err, refl, true, Non
 use Rattle.std.specs.Prelude.{codes}
 use Rattle.st_tree.specs.Views.{MethodView, variable, statement, no_statements}
 use Rattle.st_tree.specs.declared.fault.Cause.TheVariants.{Expected, Trailing, Unclosed}
-use Rattle.st_definition.specs.Syntax.{syntax}
-use Rattle.st_definition.proofs.Opened.{opened}
+use Rattle.st_install.specs.Syntax.{syntax}
+use Rattle.st_install.proofs.DefinitionOpened.{opened}
 
 -- a method that returns a variable
 abbrev returning : List ℕ → List ℕ → MethodView

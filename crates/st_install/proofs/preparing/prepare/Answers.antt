@@ -4,11 +4,11 @@ use Rattle.st_tree.specs.Views.{method_view}
 use Rattle.st_emit.specs.NameViews.{names_view}
 use Rattle.st_code.specs.MethodDrafts.{parts_view}
 use Rattle.st_script.specs.Definitions.{definition_of}
-use Rattle.st_definition.specs.Unprepareds.{by_install, by_syntax, by_code}
-use Rattle.st_definition.specs.Prepareds.{PreparesAs}
-use Rattle.st_definition.proofs.Syntaxes.{only}
-use Rattle.st_definition.proofs.Exits.{class_over, class_refuses, syntax_refuses, names_over, names_refuse, code_refuses, code_seen, ready_refuses}
-use Rattle.st_definition.proofs.preparing.prepare.Goals as goal
+use Rattle.st_install.specs.Unprepareds.{by_install, by_syntax, by_code}
+use Rattle.st_install.specs.Prepareds.{PreparesAs}
+use Rattle.st_install.proofs.Syntaxes.{only}
+use Rattle.st_install.proofs.Exits.{class_over, class_refuses, syntax_refuses, names_over, names_refuse, code_refuses, code_seen, ready_refuses}
+use Rattle.st_install.proofs.preparing.prepare.Goals as goal
 
 pub returns-in_err-class : goal.returns-in_err-class
 returns-in_err-class g c =

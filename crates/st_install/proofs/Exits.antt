@@ -31,12 +31,12 @@ use Rattle.st_chunk.specs.Definitions.{Definition}
 use Rattle.st_protocol.specs.declared.refusal.Refusal.{Refusal}
 use Rattle.st_protocol.specs.declared.refusal.Refusal.TheVariants.{Syntax, Code}
 use Rattle.st_protocol.specs.Installing.{Refused}
-use Rattle.st_definition.specs.Syntax.{syntax}
-use Rattle.st_definition.specs.Defining.{of_install, of_code, installed}
-use Rattle.st_definition.specs.Unprepareds.{by_install, by_syntax, by_code}
-use Rattle.st_definition.specs.Prepareds.{IsOver, PreparesAs}
-use Rattle.st_definition.proofs.Syntaxes.{only}
-use Rattle.st_definition.proofs.Joining.{refused_class, refused_syntax, refused_names, refused_code, refused_ready}
+use Rattle.st_install.specs.Syntax.{syntax}
+use Rattle.st_install.specs.Defining.{of_install, of_code, installed}
+use Rattle.st_install.specs.Unprepareds.{by_install, by_syntax, by_code}
+use Rattle.st_install.specs.Prepareds.{IsOver, PreparesAs}
+use Rattle.st_install.proofs.Syntaxes.{only}
+use Rattle.st_install.proofs.Joining.{refused_class, refused_syntax, refused_names, refused_code, refused_ready}
 
 module _ (v : View) (d : Definition) where
   -- refused for this over all births that are shown

@@ -15,11 +15,11 @@ use Rattle.st_install.specs.Readies.{plan_of, HasRoom}
 use Rattle.st_install.specs.Carried.{HasSmallBodies}
 use Rattle.st_chunk.specs.Definitions.{Definition}
 use Rattle.st_protocol.specs.Installing.{Refused}
-use Rattle.st_definition.specs.Syntax.{syntax}
-use Rattle.st_definition.specs.Defining.{installed}
-use Rattle.st_definition.specs.declared.preparing.Prepared.{Prepared}
-use Rattle.st_definition.specs.declared.unprepared.Unprepared.{Unprepared}
-use Rattle.st_definition.specs.declared.unprepared.Unprepared.TheVariants as unprepared
+use Rattle.st_install.specs.Syntax.{syntax}
+use Rattle.st_install.specs.Defining.{installed}
+use Rattle.st_install.specs.declared.preparing.Prepared.{Prepared}
+use Rattle.st_install.specs.declared.unprepared.Unprepared.{Unprepared}
+use Rattle.st_install.specs.declared.unprepared.Unprepared.TheVariants as unprepared
 
 -- a state over what a memory contains
 pub record IsOver (v : View) (c : State Table) : Type 0 where

@@ -6,8 +6,8 @@ use Rattle.st_code.specs.declared.fault.CodeFault.TheVariants as code
 use Rattle.st_names.specs.declared.fault.InstallFault.{InstallFault}
 use Rattle.st_names.specs.declared.fault.InstallFault.TheVariants as fault
 use Rattle.st_protocol.specs.declared.refusal.Refusal.TheVariants as refusal
-use Rattle.st_definition.specs.declared.unprepared.Unprepared.{Unprepared}
-use Rattle.st_definition.specs.declared.unprepared.Unprepared.TheVariants.{Refused, OutOfMemory}
+use Rattle.st_install.specs.declared.unprepared.Unprepared.{Unprepared}
+use Rattle.st_install.specs.declared.unprepared.Unprepared.TheVariants.{Refused, OutOfMemory}
 
 abbrev pub by_syntax : SyntaxFault → Unprepared
 by_syntax (syntax.At place cause) = Refused (refusal.Syntax place cause)

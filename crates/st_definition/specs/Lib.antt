@@ -1,4 +1,0 @@
-pub mod Syntax
-pub mod Defining
-pub mod Unprepareds
-pub mod Prepareds
