@@ -4,7 +4,7 @@ use Rattle.std.specs.Prelude.{Option, Result, IsErr, unwrap_or}
 use Rattle.st_outside.specs.Telling.{Says}
 use Rattle.st_outside.specs.declared.host.Host.{Ghosts}
 use Rattle.st_model.specs.View.{View}
-use Rattle.st_script.specs.Asks.{Ask, Object, Display, Classes, Methods, Source, Bytecodes, Senders}
+use Rattle.st_chunk.specs.Asks.{Ask, Object, Display, Classes, Methods, Source, Bytecodes, Senders}
 use Rattle.st_chunk.specs.Definitions.{Definition}
 use Rattle.st_changes.proofs.Texts.{one_text}
 use Rattle.st_browse.specs.Asked.{Answers, IsTextFor, reply}

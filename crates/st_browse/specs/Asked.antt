@@ -7,7 +7,7 @@ use Rattle.st_outside.specs.declared.host.Host.{Ghosts}
 use Rattle.st_model.specs.Values.{Value, value_of}
 use Rattle.st_model.specs.Table.{Table}
 use Rattle.st_model.specs.View.{View, object_of}
-use Rattle.st_script.specs.Asks.{Side, Ask, Object, Display, Classes, Methods, Source, Bytecodes, Senders}
+use Rattle.st_chunk.specs.Asks.{Side, Ask, Object, Display, Classes, Methods, Source, Bytecodes, Senders}
 use Rattle.st_chunk.specs.Definitions.{Definition}
 use Rattle.st_changes.specs.Last.{IsNowhere, IsLastText}
 use Rattle.st_browse.specs.Naming.{Named}

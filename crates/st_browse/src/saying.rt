@@ -8,7 +8,7 @@ ghost use Rattle.st_outside.specs.Counts.{HasCause};
 ghost use Rattle.st_outside.specs.Runs.{SaysAll};
 ghost use Rattle.st_outside.specs.Telling.{Says};
 ghost use Rattle.st_report.specs.Saying.{Pushes};
-ghost use Rattle.st_script.specs.Asks.{ask_of};
+ghost use Rattle.st_chunk.specs.Asks.{ask_of};
 ghost use Rattle.st_browse.specs.Naming.{in_order};
 ghost use Rattle.st_browse.specs.Classes.{is_class};
 ghost use Rattle.st_browse.specs.Listing.{lines_text, listed};
@@ -27,10 +27,10 @@ use crate::senders::{count_senders, push_senders};
 use crate::sought::{Sought, seek};
 use crate::source::push_source;
 use st_changes::Changes;
+use st_chunk::Ask;
 use st_memory::Memory;
 use st_outside::{Host, SayFault};
 use st_report::{Output, push_long_line, push_object};
-use st_script::Ask;
 
 /// Adds how many names are chosen, and the line of each.
 fn push_names<H: Host, M: Memory>(

@@ -3,7 +3,7 @@
 ghost use Rattle.std.specs.Prelude.{◌≡◌, IfSome, option_and_then, option_map};
 ghost use Rattle.st_model.specs.Values.{value};
 ghost use Rattle.st_names.specs.Texts.{found};
-ghost use Rattle.st_script.specs.Asks.{ask_of, side_of};
+ghost use Rattle.st_chunk.specs.Asks.{ask_of, side_of};
 ghost use Rattle.st_browse.specs.Display.{display_reply};
 ghost use Rattle.st_browse.specs.Replies.{methods_text, object_reply};
 ghost use Rattle.st_browse.specs.Asked.{bytecodes_in, class_of_side, reply, source_in};
@@ -16,9 +16,9 @@ use crate::display::{Form, find_display};
 use crate::methods::methods_of;
 use crate::names::Names;
 use crate::places::first_named;
+use st_chunk::{Ask, Side};
 use st_memory::Memory;
 use st_model::Oop;
-use st_script::{Ask, Side};
 
 /// What is asked for, where it is in the image.
 #[derive(Clone, Copy)]

@@ -7,8 +7,8 @@ use Rattle.st_chunk.specs.Feeding.{start as fed_none}
 use Rattle.st_chunk.specs.Groups.{Header, header_of, header_text, side_text, quoted, quotes_doubled, trimmed, is_name}
 use Rattle.st_chunk.specs.Definitions.{IsDefinition}
 use Rattle.st_chunk.proofs.Cases.{by_test}
-use Rattle.st_script.specs.Scripts.{IsHeading}
-use Rattle.st_script.proofs.Sound.{heading_sound, method_sound}
+use Rattle.st_chunk.specs.Scripts.{IsHeading}
+use Rattle.st_chunk.proofs.Sound.{heading_sound, method_sound}
 use Rattle.st_declarations.specs.declared.place.Place.{Place}
 use Rattle.st_declarations.specs.declared.place.Place.TheVariants.{Declarations, Header as InHeader, Methods, Groups, End}
 use Rattle.st_declarations.specs.declared.shape.Shape.{Shape}

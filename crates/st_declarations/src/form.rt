@@ -13,7 +13,7 @@ use crate::part::{Class, Part, Pool, Side, Start};
 use crate::place::Place;
 use crate::shape::Shape;
 use crate::words::{first_word, is_name, names_in};
-use st_script::{Buffer, is_empty, read_heading, trimmed};
+use st_chunk::{Buffer, is_empty, read_heading, trimmed};
 use std::alloc::{AllocError, Global};
 
 /// The most bytes of a chunk.

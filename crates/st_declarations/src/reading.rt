@@ -11,8 +11,7 @@ use crate::form::part_at;
 use crate::known::Known;
 use crate::part::Part;
 use crate::place::Place;
-use st_chunk::{Chunks, Fed};
-use st_script::is_empty;
+use st_chunk::{Chunks, Fed, is_empty};
 use std::alloc::{AllocError, Global};
 
 /// What the chunks of a kernel text say, one part a chunk, up to the first chunk that is wrong, and why that one is.

@@ -8,7 +8,7 @@ ghost use Rattle.st_declarations.specs.Words.{words, no_blank, names_in};
 ghost use Rattle.st_declarations.specs.Lists.{texts_of};
 
 use crate::part::Text;
-use st_script::{after_blanks, is_blank};
+use st_chunk::{after_blanks, is_blank};
 use std::alloc::{AllocError, Global};
 
 /// How many bytes stand before the first blank.
@@ -33,7 +33,7 @@ pub(crate) fn first_word(text: &[u8]) -> Option<(&[u8], &[u8])>
 }
 
 /// Whether a word begins with a letter.
-#[tactic(auto, using(st_script::proofs::Words::words))]
+#[tactic(auto, using(st_chunk::proofs::Words::words))]
 fn begins_with_letter(word: &[u8]) -> bool
     ensures { result ≡ begins is_ascii_alphabetic word.now }
 {

@@ -2,17 +2,17 @@
 
 ghost use Rattle.std.specs.Prelude.{◌≡◌, ◌≤◌, ◌-◌, ◌^◌, length};
 ghost use Rattle.st_chunk.specs.Definitions.{IsDefinition};
-ghost use Rattle.st_script.specs.Definitions.{definition_of};
+ghost use Rattle.st_chunk.specs.ScriptDefinitions.{definition_of};
 ghost use Rattle.st_install.specs.Prepareds.{PreparesAs};
 
 use crate::plan::Ready;
 use crate::readiness::ready;
 use crate::unprepared::Unprepared;
+use st_chunk::Definition;
 use st_code::compile;
 use st_memory::Memory;
 use st_names::{class_of_name, names};
 use st_parse::parse;
-use st_script::Definition;
 use std::alloc::Global;
 
 /// A method that is ready to be installed.

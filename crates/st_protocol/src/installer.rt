@@ -1,7 +1,7 @@
 // What installs definitions, as a session asks for it.
 ghost use Rattle.std.specs.Prelude.{◌≡◌};
 ghost use Rattle.st_chunk.specs.Definitions.{IsDefinition};
-ghost use Rattle.st_script.specs.Definitions.{definition_of};
+ghost use Rattle.st_chunk.specs.ScriptDefinitions.{definition_of};
 ghost use Rattle.st_model.specs.Machine.{State};
 ghost use Rattle.st_model.specs.Births.{Births};
 ghost use Rattle.st_model.specs.Show.{Shows};
@@ -12,8 +12,8 @@ ghost use Rattle.st_protocol.specs.Installing.{Install};
 ghost use Rattle.st_protocol.specs.Installations.{InstallsAs, Unchanged};
 
 use crate::installation::Installation;
+use st_chunk::Definition;
 use st_memory::Memory;
-use st_script::Definition;
 use std::alloc::Global;
 
 /// Installs definitions.

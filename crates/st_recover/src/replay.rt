@@ -6,15 +6,15 @@ ghost use Rattle.st_model.specs.Show.{Shows};
 ghost use Rattle.st_frames.specs.declared.frame.Frame.{Frame};
 ghost use Rattle.st_frames.specs.Shown.{IsReady, shown};
 ghost use Rattle.st_chunk.specs.Definitions.{IsDefinition};
-ghost use Rattle.st_script.specs.Definitions.{definition_of};
+ghost use Rattle.st_chunk.specs.ScriptDefinitions.{definition_of};
 ghost use Rattle.st_changes.specs.Views.{definition_of as kept_definition, definitions_of};
 ghost use Rattle.st_recover.specs.Replays.{replay, ReplaysAs, Notes};
 
 use crate::opened::{Lost, LostList};
 use st_changes::Definition as KeptDefinition;
+use st_chunk::Definition;
 use st_memory::Memory;
 use st_protocol::{Installation, Installer};
-use st_script::Definition;
 use std::alloc::{AllocError, Global};
 
 /// What comes of definitions that are installed again.

@@ -11,7 +11,7 @@ use Rattle.st_model.specs.Table.{Table, entry}
 use Rattle.st_model.specs.Text.{value_text, values_text, numbers_text, kind_text, colon_text, object_text, escaped, hexadecimal}
 use Rattle.st_model.specs.View.{View, object_of}
 use Rattle.st_model.specs.BitBlt.{Form}
-use Rattle.st_script.specs.Asks.{Ask, Object as AsksObject, Display, Classes, Methods, Source, Bytecodes, Senders}
+use Rattle.st_chunk.specs.Asks.{Ask, Object as AsksObject, Display, Classes, Methods, Source, Bytecodes, Senders}
 use Rattle.st_browse.specs.Naming.{Named}
 use Rattle.st_browse.specs.Classes.{classes}
 use Rattle.st_browse.specs.Methods.{methods, has_method, method_named}

@@ -14,8 +14,8 @@ use Rattle.st_protocol.specs.Statuses.{IsFault, StatusHasCause, EndHasCause}
 use Rattle.st_protocol.proofs.Courses.{deeds_preceded}
 use Rattle.st_protocol.proofs.Joins.{says_did, says_began, did_join, obeys_begun, obeys_says, obeys_spares}
 use Rattle.st_protocol.proofs.Promising.{obeys_promised, obeys_rests, obeys_lines}
-use Rattle.st_script.specs.Reading.{Reading, line_from}
-use Rattle.st_script.specs.Scripts.{asked_from, told_from}
+use Rattle.st_chunk.specs.Reading.{Reading, line_from}
+use Rattle.st_chunk.specs.Scripts.{asked_from, told_from}
 use Rattle.st_protocol.specs.Installing.{Install}
 use Rattle.st_recover.specs.Replays.{Loss}
 use Rattle.st_session.specs.Points.{Point}

@@ -8,8 +8,8 @@ use Rattle.st_outside.specs.Files.{Files}
 use Rattle.st_outside.specs.Runs.{IsAtRest}
 use Rattle.st_outside.specs.declared.host.Host.{Ghosts}
 use Rattle.st_outside.proofs.Telling.{OnlyNow}
-use Rattle.st_script.specs.Reading.{Reading, read, end_read}
-use Rattle.st_script.specs.Scripts.{Asked, asked_by, asked_from, asked_at_end, told_from, read_through}
+use Rattle.st_chunk.specs.Reading.{Reading, read, end_read}
+use Rattle.st_chunk.specs.Scripts.{Asked, asked_by, asked_from, asked_at_end, told_from, read_through}
 use Rattle.st_protocol.specs.declared.status.Status.{Status}
 use Rattle.st_protocol.specs.declared.status.Status.TheVariants as status
 use Rattle.st_protocol.specs.Courses.{Course, Goes, Ends, and_then}

@@ -15,12 +15,12 @@ use Rattle.st_model.specs.Saving.{save}
 use Rattle.st_model.specs.Show.{show}
 use Rattle.st_model.specs.Text.{ran_text, dead_text, space_text, quit_text, debugger_text, said_value, used_text}
 use Rattle.st_chunk.specs.Definitions.{Definition, IsDefinition}
-use Rattle.st_script.specs.declared.request.Request.{Request}
-use Rattle.st_script.specs.declared.request.Request.TheVariants.{Run, Input, Mouse, Clock, Tick, State as ShowState, Used, Snapshot, Browse, End, Define, Wrong}
-use Rattle.st_script.specs.Asks.{Ask}
-use Rattle.st_script.specs.Reading.{Reading, line_from}
-use Rattle.st_script.specs.Scripts.{Asked, Asks, Browses, Defines, IsSound, asked_from, told_from}
-use Rattle.st_script.proofs.Asking.{AreGood, IsGood, asked_good, told_good}
+use Rattle.st_chunk.specs.declared.request.Request.{Request}
+use Rattle.st_chunk.specs.declared.request.Request.TheVariants.{Run, Input, Mouse, Clock, Tick, State as ShowState, Used, Snapshot, Browse, End, Define, Wrong}
+use Rattle.st_chunk.specs.Asks.{Ask}
+use Rattle.st_chunk.specs.Reading.{Reading, line_from}
+use Rattle.st_chunk.specs.Scripts.{Asked, Asks, Browses, Defines, IsSound, asked_from, told_from}
+use Rattle.st_chunk.proofs.Asking.{AreGood, IsGood, asked_good, told_good}
 use Rattle.st_protocol.specs.Acknowledged.{IsLines, AcknowledgesEach}
 use Rattle.st_protocol.proofs.Lawful.{IsLawful, lawful_preceded, lawful_then, law_of}
 use Rattle.st_protocol.specs.Courses.{Deed, Reply, Course, deeds_of, preceded, and_then, replies}

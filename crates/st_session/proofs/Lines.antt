@@ -14,11 +14,11 @@ use Rattle.st_outside.specs.declared.host.Host.{Ghosts}
 use Rattle.st_outside.specs.declared.host.SayFault.{SayFault}
 use Rattle.st_report.specs.Saying.{Pushes}
 use Rattle.st_machine.specs.Asked.{TakenAs}
-use Rattle.st_script.specs.declared.request.Request.{Request}
-use Rattle.st_script.specs.declared.request.Request.TheVariants as request
-use Rattle.st_script.specs.Asks.{Ask}
-use Rattle.st_script.specs.Reading.{Place, Browsed, Defined, CutOff}
-use Rattle.st_script.specs.Scripts.{Asks, Browses, Defines, IsBrowsed, HasAsk, IsDefined, HasDefinition, asked_at}
+use Rattle.st_chunk.specs.declared.request.Request.{Request}
+use Rattle.st_chunk.specs.declared.request.Request.TheVariants as request
+use Rattle.st_chunk.specs.Asks.{Ask}
+use Rattle.st_chunk.specs.Reading.{Place, Browsed, Defined, CutOff}
+use Rattle.st_chunk.specs.Scripts.{Asks, Browses, Defines, IsBrowsed, HasAsk, IsDefined, HasDefinition, asked_at}
 use Rattle.st_chunk.specs.Definitions.{Definition}
 use Rattle.st_protocol.specs.Courses.{Goes, replies}
 use Rattle.st_session.specs.Points.{Point, alive, gone}

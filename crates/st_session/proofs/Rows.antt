@@ -7,8 +7,8 @@ use Rattle.st_model.specs.Values.{Ref}
 use Rattle.st_model.specs.Outcomes.{With, Say}
 use Rattle.st_model.specs.Machine.{State, Went}
 use Rattle.st_model.specs.Births.{Births}
-use Rattle.st_script.specs.Lines.{with_arguments, alone, ask_with, ask_alone, number, line_ask, line_request}
-use Rattle.st_script.specs.Reading.{read, end_read}
+use Rattle.st_chunk.specs.Lines.{with_arguments, alone, ask_with, ask_alone, number, line_ask, line_request}
+use Rattle.st_chunk.specs.Reading.{read, end_read}
 use Rattle.st_protocol.specs.declared.refusal.Refusal.TheVariants.{NoClass}
 use Rattle.st_protocol.specs.declared.status.Status.TheVariants.{Done, Script}
 use Rattle.st_protocol.specs.Courses.{Course, Reply, Goes, Ends, replies}

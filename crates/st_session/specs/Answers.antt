@@ -11,10 +11,10 @@ use Rattle.st_model.specs.Events as events
 use Rattle.st_model.specs.Show.{show}
 use Rattle.st_model.specs.Text.{ran_text, dead_text, space_text, quit_text, debugger_text, said_value, used_text}
 use Rattle.st_chunk.specs.Definitions.{Definition}
-use Rattle.st_script.specs.declared.request.Request.{Request}
-use Rattle.st_script.specs.declared.request.Request.TheVariants.{Run, Input, Mouse, Clock, Tick, State as ShowState, Used, Snapshot, Browse, End, Define, Wrong}
-use Rattle.st_script.specs.Asks.{Ask}
-use Rattle.st_script.specs.Scripts.{Asked, Asks, Browses, Defines}
+use Rattle.st_chunk.specs.declared.request.Request.{Request}
+use Rattle.st_chunk.specs.declared.request.Request.TheVariants.{Run, Input, Mouse, Clock, Tick, State as ShowState, Used, Snapshot, Browse, End, Define, Wrong}
+use Rattle.st_chunk.specs.Asks.{Ask}
+use Rattle.st_chunk.specs.Scripts.{Asked, Asks, Browses, Defines}
 use Rattle.st_protocol.specs.declared.status.Status.TheVariants as status
 use Rattle.st_protocol.specs.Courses.{Course, Reply, Goes, Ends, preceded, and_then, replies}
 use Rattle.st_protocol.specs.Installing.{Installed, Refused, Accepted, Install}

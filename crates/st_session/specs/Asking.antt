@@ -1,6 +1,6 @@
 -- What a line asks for.
-use Rattle.st_script.specs.declared.request.Request.{Request}
-use Rattle.st_script.specs.declared.request.Request.TheVariants.{Run, Snapshot, Browse, End, Define, Wrong}
+use Rattle.st_chunk.specs.declared.request.Request.{Request}
+use Rattle.st_chunk.specs.declared.request.Request.TheVariants.{Run, Snapshot, Browse, End, Define, Wrong}
 
 -- lines are said, and nothing is kept
 abbrev pub IsSaying : Request → Type 0

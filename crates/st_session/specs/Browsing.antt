@@ -5,7 +5,7 @@ use Rattle.st_model.specs.Table.{Table}
 use Rattle.st_model.specs.View.{Held, View}
 use Rattle.st_world.specs.Naming.{filled}
 use Rattle.st_chunk.specs.Definitions.{Definition}
-use Rattle.st_script.specs.Asks.{Ask}
+use Rattle.st_chunk.specs.Asks.{Ask}
 use Rattle.st_browse.specs.Asked.{reply}
 use Rattle.st_call.specs.Replies.{missing_text}
 use Rattle.st_session.specs.Sources.{text_for}

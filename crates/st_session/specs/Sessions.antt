@@ -1,7 +1,7 @@
 -- A session: a script is followed request by request, from the point where it begins.
 use Rattle.std.specs.Prelude.{ℕ, Bool, true, false, nat_le, List, [], ◌∷◌, length, take}
-use Rattle.st_script.specs.Reading.{Reading, line_from}
-use Rattle.st_script.specs.Scripts.{Asked, asked_from, told_from, told}
+use Rattle.st_chunk.specs.Reading.{Reading, line_from}
+use Rattle.st_chunk.specs.Scripts.{Asked, asked_from, told_from, told}
 use Rattle.st_protocol.specs.declared.status.Status.TheVariants.{Done, TooLarge}
 use Rattle.st_protocol.specs.Courses.{Course, Reply, Goes, preceded, and_then, ended}
 use Rattle.st_protocol.specs.Installing.{Install}

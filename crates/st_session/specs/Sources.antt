@@ -4,7 +4,7 @@ use Rattle.std.specs.Bool.{beq}
 use Rattle.st_tree.specs.declared.fault.Fault.{Fault}
 use Rattle.st_tree.specs.Views.{MethodView}
 use Rattle.st_chunk.specs.Definitions.{Definition}
-use Rattle.st_script.specs.Asks.{Side, Ask, Source}
+use Rattle.st_chunk.specs.Asks.{Side, Ask, Source}
 use Rattle.st_install.specs.Syntax.{syntax}
 
 -- the selector of a method's tree, if there is one

@@ -7,7 +7,7 @@ ghost use Rattle.st_model.specs.Show.{Shows};
 ghost use Rattle.st_frames.specs.Shown.{IsReady};
 ghost use Rattle.st_input.specs.Coming.{HasPlace};
 ghost use Rattle.st_report.specs.Saying.{Pushes};
-ghost use Rattle.st_script.specs.Lines.{IsInRange};
+ghost use Rattle.st_chunk.specs.Lines.{IsInRange};
 ghost use Rattle.st_protocol.specs.Statuses.{Counts};
 ghost use Rattle.st_recover.specs.Commits.{Commit};
 ghost use Rattle.st_session.specs.Answers.{event_course, line_course, living_line};
@@ -20,6 +20,7 @@ ghost use Rattle.st_session.specs.Standing.{MayRun, MayGoOn, Follows, StandsAt, 
 
 use crate::saving::{run, snapshot};
 use st_call::{Reply, finish, say_reply};
+use st_chunk::Request;
 use st_machine::Machine;
 use st_memory::Memory;
 use st_model::{Dead, Event, InputFull};
@@ -27,7 +28,6 @@ use st_outside::{Host, SayFault};
 use st_protocol::Status;
 use st_recover::Archive;
 use st_report::{Output, push_held, push_input, push_registers, push_used};
-use st_script::Request;
 
 /// Has an event come, and adds whether it did.
 fn push_event<H: Host, M: Memory>(

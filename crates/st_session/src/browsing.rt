@@ -1,5 +1,5 @@
 ghost use Rattle.std.specs.Prelude.{IfErr};
-ghost use Rattle.st_script.specs.Asks.{ask_of};
+ghost use Rattle.st_chunk.specs.Asks.{ask_of};
 ghost use Rattle.st_protocol.specs.Statuses.{Counts};
 ghost use Rattle.st_session.specs.Answers.{browse_course};
 ghost use Rattle.st_session.specs.Browsing.{asked_text};
@@ -11,12 +11,12 @@ ghost use Rattle.st_call.specs.Telling.{Tells};
 use st_browse::browse;
 use st_call::{Reply, say_reply};
 use st_changes::Changes;
+use st_chunk::Ask;
 use st_machine::Machine;
 use st_memory::Memory;
 use st_outside::{Host, SayFault};
 use st_protocol::Status;
 use st_recover::Archive;
-use st_script::Ask;
 
 /// Says what a memory shows of what is asked for, and these definitions of a method's text, or that it is missing.
 fn say_asked<H: Host, M: Memory>(

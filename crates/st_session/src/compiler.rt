@@ -9,10 +9,10 @@ ghost use Rattle.st_protocol.specs.Installations.{InstallsAs};
 ghost use Rattle.st_protocol.specs.declared.installation.Installation.TheVariants.{Accepted};
 ghost use Rattle.st_install.specs.Prepareds.{IsPrepared};
 
+use st_chunk::Definition;
 use st_install::{Prepared, Unprepared, install, prepare};
 use st_memory::Memory;
 use st_protocol::{Installation, Installer};
-use st_script::Definition;
 use std::alloc::Global;
 
 /// Installs definitions by parsing and compiling their texts.

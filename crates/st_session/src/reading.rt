@@ -5,8 +5,8 @@ ghost use Rattle.st_model.specs.Births.{Births};
 ghost use Rattle.st_model.specs.View.{no_devices};
 ghost use Rattle.st_frames.specs.Shown.{IsFrame};
 ghost use Rattle.st_chunk.specs.Definitions.{entries};
-ghost use Rattle.st_script.specs.Reading.{line_from, read, end_read};
-ghost use Rattle.st_script.specs.Scripts.{told_from, read_through, asked_by, asked_at_end};
+ghost use Rattle.st_chunk.specs.Reading.{line_from, read, end_read};
+ghost use Rattle.st_chunk.specs.Scripts.{told_from, read_through, asked_by, asked_at_end};
 ghost use Rattle.st_store.specs.Names.{IsNoFileOf};
 ghost use Rattle.st_protocol.specs.declared.status.Status.TheVariants.{Done, ReadFault as Unread, TooLarge};
 ghost use Rattle.st_protocol.specs.declared.status.Status.TheVariants.{OutOfMemory};
@@ -24,12 +24,12 @@ ghost use Rattle.st_session.specs.Opening.{IsOpen, session_over, session_so_far_
 
 use crate::first_lines::say_opening;
 use crate::serving::answer_told;
+use st_chunk::Reader;
 use st_machine::Machine;
 use st_memory::Memory;
 use st_outside::{Host, ReadFault, Source};
 use st_protocol::Status;
 use st_recover::{Archive, Lost, Opened};
-use st_script::Reader;
 use st_world::World;
 use std::alloc::{AllocError, Global};
 

@@ -1,9 +1,9 @@
 ghost use Rattle.std.specs.Prelude.{◌≡◌, None, Some, OnOk, IfErr, IfSome};
 ghost use Rattle.st_chunk.specs.Definitions.{IsDefinition};
-ghost use Rattle.st_script.specs.declared.request.Request.TheVariants.{Browse as Browsing, Define as Defining};
-ghost use Rattle.st_script.specs.Definitions.{definition_of};
-ghost use Rattle.st_script.specs.Lines.{IsInRange};
-ghost use Rattle.st_script.specs.Scripts.{IsBrowsed, IsDefined, asked_at, asked_by};
+ghost use Rattle.st_chunk.specs.declared.request.Request.TheVariants.{Browse as Browsing, Define as Defining};
+ghost use Rattle.st_chunk.specs.ScriptDefinitions.{definition_of};
+ghost use Rattle.st_chunk.specs.Lines.{IsInRange};
+ghost use Rattle.st_chunk.specs.Scripts.{IsBrowsed, IsDefined, asked_at, asked_by};
 ghost use Rattle.st_protocol.specs.Statuses.{Counts};
 ghost use Rattle.st_install.specs.Defining.{installed};
 ghost use Rattle.st_install.specs.Prepareds.{IsPrepared};
@@ -17,13 +17,13 @@ use crate::answering::answer_line;
 use crate::browsing::answer_ask;
 use crate::compiler::carry_out;
 use st_call::{Reply, say_reply};
+use st_chunk::{Definition, Reader, Request};
 use st_install::{Prepared, Unprepared, prepare};
 use st_machine::Machine;
 use st_memory::Memory;
 use st_outside::Host;
 use st_protocol::Status;
 use st_recover::Archive;
-use st_script::{Definition, Reader, Request};
 use std::alloc::Global;
 
 /// Keeps a definition that is prepared, and then installs and acknowledges it.

@@ -1,11 +1,11 @@
 //! Scripts, and what they ask for.
 
 ghost use Rattle.std.specs.Prelude.{◌≡◌};
-ghost use Rattle.st_script.specs.declared.request.Request.TheVariants.{Browse as Browses, Define as Defines};
-ghost use Rattle.st_script.specs.Scripts.{IsBrowsed, IsDefined};
+ghost use Rattle.st_chunk.specs.declared.request.Request.TheVariants.{Browse as Browses, Define as Defines};
+ghost use Rattle.st_chunk.specs.Scripts.{IsBrowsed, IsDefined};
 
 use crate::texts::{add_bytes, check_told, written};
-use st_script::{Ask, Definition, Reader, Request, Side};
+use st_chunk::{Ask, Definition, Reader, Request, Side};
 use std::alloc::{AllocError, Global};
 use std::process::Abort;
 use std::test::Fail;

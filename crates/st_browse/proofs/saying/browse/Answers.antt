@@ -3,7 +3,7 @@ use Rattle.std.specs.Prelude.{Option, Ok, true, false, option_map, unwrap_or}
 use Rattle.st_outside.specs.declared.host.SayFault.{SayFault}
 use Rattle.st_outside.specs.Telling.{Says}
 use Rattle.st_outside.proofs.Telling.{says_none}
-use Rattle.st_script.specs.Asks.{ask_of}
+use Rattle.st_chunk.specs.Asks.{ask_of}
 use Rattle.st_browse.specs.Asked.{Answers, reply}
 use Rattle.st_browse.specs.Founds.{sought_text}
 use Rattle.st_browse.proofs.Texts.{one_reply, failed}

@@ -1,6 +1,6 @@
 use Rattle.std.proofs.Common.{Some, refl, ap, sym, ◌∙◌}
 use Rattle.std.specs.Prelude.{option_map}
-use Rattle.st_script.specs.Asks.{ask_of}
+use Rattle.st_chunk.specs.Asks.{ask_of}
 use Rattle.st_browse.specs.Asked.{reply}
 use Rattle.st_browse.proofs.Found.{classes_listed, classes_asked}
 use Rattle.st_browse.proofs.sought.seek.Goals as goal

@@ -1,6 +1,6 @@
 use Rattle.std.proofs.Common.{ℕ, List, ◌∷◌, length, take, drop, sym, ap, ◌∙◌, arith, length-drop}
 use Rattle.std.specs.List.{prefix_len}
-use Rattle.st_script.proofs.Blanks.{tail_whole}
+use Rattle.st_chunk.proofs.Blanks.{tail_whole}
 use Rattle.st_declarations.specs.Words.{words, no_blank}
 use Rattle.st_declarations.proofs.Splitting.{words_behind_blanks, nothing_left, first_is, after_short}
 use Rattle.st_declarations.proofs.words.first_word.Goals as goal

@@ -3,7 +3,7 @@ use Rattle.st_model.specs.Values.{value}
 use Rattle.st_tree.specs.Views.{method_view}
 use Rattle.st_emit.specs.NameViews.{names_view}
 use Rattle.st_code.specs.MethodDrafts.{parts_view}
-use Rattle.st_script.specs.Definitions.{definition_of}
+use Rattle.st_chunk.specs.ScriptDefinitions.{definition_of}
 use Rattle.st_install.specs.Unprepareds.{by_install, by_syntax, by_code}
 use Rattle.st_install.specs.Prepareds.{PreparesAs}
 use Rattle.st_install.proofs.Syntaxes.{only}

@@ -3,7 +3,7 @@ use Rattle.st_model.specs.Show.{show}
 use Rattle.st_model.specs.Text.{dead_text}
 use Rattle.st_model.proofs.Showing.{show_is}
 use Rattle.st_chunk.specs.Definitions.{Definition}
-use Rattle.st_script.specs.Asks.{ask_of}
+use Rattle.st_chunk.specs.Asks.{ask_of}
 use Rattle.st_recover.specs.Commits.{all_of}
 use Rattle.st_session.specs.Answers.{browse_course}
 use Rattle.st_session.specs.Browsing.{asked_text, memory_of}

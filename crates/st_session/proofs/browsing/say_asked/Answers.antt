@@ -1,5 +1,5 @@
 use Rattle.std.proofs.Common.{sym, ◌∙◌}
-use Rattle.st_script.specs.Asks.{ask_of}
+use Rattle.st_chunk.specs.Asks.{ask_of}
 use Rattle.st_browse.specs.Asked.{reply}
 use Rattle.st_call.specs.Replies.{missing_text}
 use Rattle.st_session.specs.Sources.{text_for}

@@ -1,8 +1,8 @@
 use Rattle.std.proofs.Common.{◌≡◌, refl, ◌∷◌, [], ◌++◌, ◌+◌, ◌∙◌, ◌<◌, ℕ, List, take, drop, get_or, length, sym, ap, subst, arith, Ok, Err}
 use Rattle.std.specs.Prelude.{Result}
 use Rattle.std.proofs.lemmas.List.{take_more, take-append-drop}
-use Rattle.st_script.specs.Reading.{read}
-use Rattle.st_script.specs.Scripts.{told_from, read_through, asked_by}
+use Rattle.st_chunk.specs.Reading.{read}
+use Rattle.st_chunk.specs.Scripts.{told_from, read_through, asked_by}
 use Rattle.st_store.specs.Names.{IsNoFileOf}
 use Rattle.st_protocol.specs.declared.status.Status.{Status}
 use Rattle.st_protocol.proofs.Joins.{counts_behind}

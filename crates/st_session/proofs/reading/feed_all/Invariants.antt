@@ -1,5 +1,5 @@
 use Rattle.std.proofs.Common.{◌≡◌, ◌≤◌, take, Ok}
-use Rattle.st_script.specs.Scripts.{told_from, read_through}
+use Rattle.st_chunk.specs.Scripts.{told_from, read_through}
 use Rattle.st_install.specs.Defining.{installed}
 use Rattle.st_recover.specs.Commits.{Commit}
 use Rattle.st_session.specs.Keeping.{in_a_store}

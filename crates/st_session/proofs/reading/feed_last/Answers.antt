@@ -1,4 +1,4 @@
-use Rattle.st_script.specs.Scripts.{told_from}
+use Rattle.st_chunk.specs.Scripts.{told_from}
 use Rattle.st_store.specs.Names.{IsNoFileOf}
 use Rattle.st_protocol.specs.declared.status.Status.TheVariants as status
 use Rattle.st_install.specs.Defining.{installed}

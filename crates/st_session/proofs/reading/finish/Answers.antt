@@ -1,6 +1,6 @@
 use Rattle.std.proofs.Common.{ap, subst, ◌∙◌, Ok, Err}
-use Rattle.st_script.specs.Reading.{end_read}
-use Rattle.st_script.specs.Scripts.{asked_by}
+use Rattle.st_chunk.specs.Reading.{end_read}
+use Rattle.st_chunk.specs.Scripts.{asked_by}
 use Rattle.st_store.specs.Names.{IsNoFileOf}
 use Rattle.st_protocol.specs.declared.status.Status.TheVariants as status
 use Rattle.st_install.specs.Defining.{installed}

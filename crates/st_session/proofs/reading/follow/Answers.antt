@@ -1,8 +1,8 @@
 use Rattle.std.proofs.Common.{◌≡◌, ◌≤◌, ◌<◌, ⊎_elim, ℕ, List, [], ◌++◌, ◌∙◌, take, length, refl, sym, ap, subst, arith, append_assoc, length-append, Ok, Err}
 use Rattle.std.proofs.lemmas.List.{length-take-le}
 use Rattle.st_outside.proofs.Rising.{rose_second}
-use Rattle.st_script.specs.Reading.{line_from}
-use Rattle.st_script.specs.Scripts.{told_from, read_through, asked_at_end}
+use Rattle.st_chunk.specs.Reading.{line_from}
+use Rattle.st_chunk.specs.Scripts.{told_from, read_through, asked_at_end}
 use Rattle.st_store.specs.Names.{IsNoFileOf}
 use Rattle.st_protocol.specs.declared.status.Status.TheVariants as status
 use Rattle.st_protocol.specs.Courses.{ended}

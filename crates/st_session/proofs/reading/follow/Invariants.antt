@@ -1,6 +1,6 @@
 use Rattle.std.proofs.Common.{◌≡◌, ◌≤◌, ◌+◌, ◌++◌, List, ℕ, length, IsTrue, Ok}
-use Rattle.st_script.specs.Reading.{line_from}
-use Rattle.st_script.specs.Scripts.{told_from, read_through}
+use Rattle.st_chunk.specs.Reading.{line_from}
+use Rattle.st_chunk.specs.Scripts.{told_from, read_through}
 use Rattle.st_install.specs.Defining.{installed}
 use Rattle.st_recover.specs.Commits.{Commit}
 use Rattle.st_session.specs.Keeping.{in_a_store}

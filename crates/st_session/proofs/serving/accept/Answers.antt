@@ -1,7 +1,7 @@
 use Rattle.std.proofs.Common.{◌≡◌, ◌∙◌, refl, ap, sym, subst}
 use Rattle.st_model.specs.Show.{Shows}
 use Rattle.st_frames.specs.Shown.{IsReady, shown}
-use Rattle.st_script.specs.Definitions.{definition_of}
+use Rattle.st_chunk.specs.ScriptDefinitions.{definition_of}
 use Rattle.st_install.specs.Defining.{installed}
 use Rattle.st_install.specs.Prepareds.{IsPrepared}
 use Rattle.st_session.specs.Answers.{definition_course}

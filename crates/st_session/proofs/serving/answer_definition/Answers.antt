@@ -1,6 +1,6 @@
 use Rattle.std.proofs.Common.{refl, sym, ◌∙◌}
 use Rattle.st_model.specs.Text.{dead_text}
-use Rattle.st_script.specs.Definitions.{definition_of}
+use Rattle.st_chunk.specs.ScriptDefinitions.{definition_of}
 use Rattle.st_install.specs.Defining.{installed}
 use Rattle.st_session.specs.Answers.{definition_course}
 use Rattle.st_session.specs.Keeping.{in_a_store}

@@ -1,8 +1,8 @@
 use Rattle.std.proofs.Common.{sym, ap, subst}
-use Rattle.st_script.specs.declared.request.Request.TheVariants as request
-use Rattle.st_script.specs.Asks.{ask_of}
-use Rattle.st_script.specs.Definitions.{definition_of}
-use Rattle.st_script.specs.Scripts.{asked_at}
+use Rattle.st_chunk.specs.declared.request.Request.TheVariants as request
+use Rattle.st_chunk.specs.Asks.{ask_of}
+use Rattle.st_chunk.specs.ScriptDefinitions.{definition_of}
+use Rattle.st_chunk.specs.Scripts.{asked_at}
 use Rattle.st_install.specs.Defining.{installed}
 use Rattle.st_session.specs.Answers.{answer}
 use Rattle.st_session.specs.Keeping.{in_a_store}

@@ -1,6 +1,6 @@
 use Rattle.std.proofs.Common.{◌∷◌, [], refl, sym, subst}
 use Rattle.std.specs.Prelude.{Ok}
-use Rattle.st_script.specs.Scripts.{asked_at}
+use Rattle.st_chunk.specs.Scripts.{asked_at}
 use Rattle.st_install.specs.Defining.{installed}
 use Rattle.st_session.specs.Keeping.{in_a_store}
 use Rattle.st_session.proofs.Following.{follow_one}

@@ -1,7 +1,7 @@
 use Rattle.std.proofs.Common.{Err, refl, subst}
 use Rattle.st_protocol.specs.declared.status.Status.TheVariants as status
 use Rattle.st_frames.specs.Shown.{shown}
-use Rattle.st_script.specs.Definitions.{definition_of}
+use Rattle.st_chunk.specs.ScriptDefinitions.{definition_of}
 use Rattle.st_install.specs.Defining.{installed}
 use Rattle.st_install.specs.Prepareds.{PreparesAs}
 use Rattle.st_session.specs.Answers.{definition_course, defined_course}

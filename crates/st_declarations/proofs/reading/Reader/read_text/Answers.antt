@@ -2,7 +2,7 @@ use Rattle.std.proofs.Common.{rules, ◌≡◌, suc, ℕ, List, [], ◌∷◌, �
 use Rattle.std.specs.Prelude.{Result, Err}
 use Rattle.std.proofs.Math.Seq.{drop-cons}
 use Rattle.std.proofs.lemmas.List.{drop_all}
-use Rattle.st_script.proofs.Blanks.{tail_whole}
+use Rattle.st_chunk.proofs.Blanks.{tail_whole}
 use Rattle.st_chunk.specs.Feeding.{State as FeedState, answer}
 use Rattle.st_declarations.specs.declared.cause.Stop.{Stop}
 use Rattle.st_declarations.specs.Texts.{Account, account}

@@ -2,7 +2,7 @@ use Rattle.std.proofs.Common.{◌≡◌, ℕ, List, [], ◌∷◌, ◌++◌, ref
 use Rattle.std.specs.Prelude.{Ok, Err}
 use Rattle.st_outside.specs.Runs.{ChangesBoth}
 use Rattle.st_chunk.specs.Definitions.{Definition, IsDefinition}
-use Rattle.st_script.specs.Definitions.{definition_of}
+use Rattle.st_chunk.specs.ScriptDefinitions.{definition_of}
 use Rattle.st_store.specs.Names.{changes_file, roots_file, IsNoFileOf}
 use Rattle.st_store.specs.Stored.{StoreState}
 use Rattle.st_changes.specs.Views.{definition_of as kept_definition}

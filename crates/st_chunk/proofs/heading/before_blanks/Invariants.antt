@@ -1,0 +1,13 @@
+use Rattle.std.proofs.Common.{◌≡◌, ◌≤◌, length, take}
+use Rattle.st_chunk.specs.Headings.{before_blanks}
+use Rattle.st_chunk.proofs.heading.before_blanks.Given as goal
+
+-- behind this place are blanks alone
+abbrev pub invariant-loop-end : goal.invariant-loop-end
+invariant-loop-end l = record {
+  within : l.end ≤ length l.text;
+  same : before_blanks (take l.end l.text) ≡ before_blanks l.text;
+}
+
+abbrev pub decreases-loop-end : goal.decreases-loop-end
+decreases-loop-end l = l.end

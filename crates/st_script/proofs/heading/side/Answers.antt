@@ -1,5 +1,0 @@
-use Rattle.st_script.proofs.Sound.{class_side_short}
-use Rattle.st_script.proofs.heading.side.Goals as goal
-
-pub returns-clause-within : goal.returns-clause-within
-returns-clause-within c = class_side_short _ _ c.in-Some.ensures
