@@ -7,7 +7,7 @@ use Rattle.std.specs.Cmp.{booleans_Decides}
 use Rattle.std.specs.Cmp.Lexicographic.{bytes_decides}
 use Rattle.std.proofs.lemmas.Bool.{and_parts}
 use Rattle.std.proofs.lemmas.Bool.Decides.{Decides-and}
-use Rattle.st_tree.specs.Views.{MethodView}
+use Rattle.st_scan.specs.Views.{MethodView}
 use Rattle.st_grammar.proofs.Faulty.{tree_determined}
 use Rattle.st_chunk.specs.Texts.{mark, doubled}
 use Rattle.st_chunk.specs.Groups.{header_text}

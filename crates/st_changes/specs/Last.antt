@@ -1,7 +1,7 @@
 -- The last definition of a class, a side of it and a selector, and where its text stands in the changes file.
 use Rattle.std.specs.Prelude.{◌≡◌, ℕ, ◌+◌, ◌-◌, ◌≤◌, Bool, List, ◌∷◌, ◌++◌, length, Option, Some, None, MatchOption, All}
 use Rattle.std.specs.Option.{ForSome}
-use Rattle.st_tree.specs.Views.{MethodView}
+use Rattle.st_scan.specs.Views.{MethodView}
 use Rattle.st_grammar.specs.Texts.{Means}
 use Rattle.st_chunk.specs.Texts.{doubled}
 use Rattle.st_chunk.specs.Groups.{header_text}

@@ -5,7 +5,7 @@ use crate::index::Index;
 use crate::noting::prepare;
 use crate::span::Span;
 use crate::writing::{entry_length, entry_text};
-use st_tree::Text;
+use st_scan::Text;
 use std::alloc::{AllocError, Global};
 use std::marker::Model;
 

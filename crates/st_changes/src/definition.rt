@@ -1,5 +1,5 @@
 // A definition of a method.
-use st_tree::Text;
+use st_scan::Text;
 
 /// A method as a session defines it, and the changes file keeps it.
 #[derive(Drop)]

@@ -6,7 +6,7 @@ ghost use Rattle.st_changes.specs.Entries.{FindsHead, FindsMethod, FindsEntry, i
 use crate::Definition;
 use crate::header::{Header, find_header};
 use crate::run::find_run;
-use st_tree::Text;
+use st_scan::Text;
 use std::alloc::{AllocError, Global};
 
 /// The most bytes of a header and of a method's text.

@@ -6,7 +6,7 @@ ghost use Rattle.st_chunk.specs.Groups.{is_name};
 ghost use Rattle.st_changes.specs.Entries.{FindsSide, FindsHeader};
 
 use crate::run::find_run;
-use st_tree::Text;
+use st_scan::Text;
 use std::alloc::{AllocError, Global};
 
 /// A class, a side of it and a category.

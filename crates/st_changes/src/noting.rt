@@ -11,7 +11,7 @@ use crate::index::Index;
 use crate::selector::find_selector;
 use crate::span::Span;
 use crate::writing::{doubled_length, entry_length};
-use st_tree::Text;
+use st_scan::Text;
 use std::alloc::{AllocError, Global};
 
 /// The selector of a definition, or none where its text means no tree. Takes the memory that noting needs.

@@ -2,7 +2,7 @@
 ghost use Rattle.std.specs.Prelude.{IfOk};
 ghost use Rattle.st_changes.specs.Runs.{FindsRun};
 
-use st_tree::Text;
+use st_scan::Text;
 use std::alloc::{AllocError, Global};
 
 /// The bytes before a mark that stands alone, each doubled mark as one, and how many bytes of the text they and that

@@ -4,7 +4,7 @@ ghost use Rattle.std.specs.Option.{option_map};
 ghost use Rattle.st_changes.specs.Last.{FindsSelector};
 
 use st_parse::parse;
-use st_tree::{MethodTree, SyntaxFault, Text};
+use st_scan::{MethodTree, SyntaxFault, Text};
 use std::alloc::{AllocError, Global};
 
 /// The selector of the tree that a method's text means, or none where it means none.

@@ -7,7 +7,7 @@ ghost use Rattle.st_changes.specs.Views.{definition_of};
 ghost use Rattle.st_changes.specs.Entries.{side_front};
 
 use crate::Definition;
-use st_tree::Text;
+use st_scan::Text;
 use std::alloc::{AllocError, Global};
 
 /// Puts bytes behind a text, each mark doubled.

@@ -1,8 +1,8 @@
 -- The first fault of an expression along its chain: the targets from the outside in, what the chain starts with, and the
 -- messages from the inside out. So the walk is two loops.
 use Rattle.std.proofs.Common.{◌≡◌, List, [], ◌∷◌, Option, Some, None, refl, sym, ap, ◌∙◌}
-use Rattle.st_tree.specs.Views.{ExpressionView}
-use Rattle.st_tree.specs.Chains.{LinkView, assigned, sent, with_link, linked}
+use Rattle.st_scan.specs.Views.{ExpressionView}
+use Rattle.st_scan.specs.Chains.{LinkView, assigned, sent, with_link, linked}
 use Rattle.st_code.specs.declared.fault.Fault.{Fault}
 use Rattle.st_emit.specs.Names.{NamesView, Scope, or_else}
 use Rattle.st_code.specs.Faults.{store_fault, expression_fault, messages_fault}

@@ -1,7 +1,7 @@
 -- The parts that are made of a method's code are those of its tree.
 use Rattle.std.proofs.Common.{◌≡◌, ℕ, ◌+◌, ◌*◌, List, length, Option, sym, ap, ◌∙◌}
 use Rattle.std.proofs.lemmas.List.{length-map}
-use Rattle.st_tree.specs.Views.{MethodView}
+use Rattle.st_scan.specs.Views.{MethodView}
 use Rattle.st_emit.specs.declared.step.Step.{Step}
 use Rattle.st_emit.specs.declared.level.Level.{Level}
 use Rattle.st_emit.specs.Names.{NamesView}

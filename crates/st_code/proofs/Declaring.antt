@@ -2,10 +2,10 @@
 use Rattle.std.proofs.Common.{◌≡◌, ℕ, ◌+◌, ◌<◌, Bool, true, false, ◌||◌, List, [], ◌∷◌, ◌++◌, length, take, drop, get_or, Option, Some, None, refl, sym, ap, ◌∙◌, arith, append_assoc, cond}
 use Rattle.std.specs.Prelude.{is_some, bytes_eq, if◌then◌else◌}
 use Rattle.std.proofs.lemmas.List.{at_drop_more, take_more, length-map, length-take-le}
-use Rattle.st_tree.specs.declared.tree.Name.{Name}
-use Rattle.st_tree.specs.declared.chain.Link.{Link}
-use Rattle.st_tree.specs.Views.{NameView, name_view, names_view}
-use Rattle.st_tree.specs.Chains.{LinkView, link_view, links_view}
+use Rattle.st_scan.specs.declared.tree.Name.{Name}
+use Rattle.st_scan.specs.declared.chain.Link.{Link}
+use Rattle.st_scan.specs.Views.{NameView, name_view, names_view}
+use Rattle.st_scan.specs.Chains.{LinkView, link_view, links_view}
 use Rattle.st_code.specs.declared.fault.Fault.{Fault}
 use Rattle.st_code.specs.declared.fault.Cause.TheVariants.{Twice}
 use Rattle.st_emit.specs.Names.{NamesView, Scope, Declared, numbered, declared, declared_as, or_else, is_among}

@@ -3,8 +3,8 @@ use Rattle.std.proofs.Common.{◌≡◌, List, sym, subst, Option, Some, None, R
 use Rattle.st_code.specs.declared.fault.Fault.{Fault}
 use Rattle.st_code.specs.declared.fault.CodeFault.{CodeFault}
 use Rattle.st_code.specs.declared.fault.CodeFault.TheVariants.{At, OutOfMemory}
-use Rattle.st_tree.specs.Views.{ExpressionView}
-use Rattle.st_tree.specs.Chains.{LinkView, linked}
+use Rattle.st_scan.specs.Views.{ExpressionView}
+use Rattle.st_scan.specs.Chains.{LinkView, linked}
 use Rattle.st_emit.specs.Names.{NamesView, Scope, or_else}
 use Rattle.st_code.specs.Faults.{expression_fault}
 use Rattle.st_code.specs.ChainFaults.{targets_fault, all_sent_fault}

@@ -1,8 +1,8 @@
 -- How far jumps go, by the definitions alone: 1023 bytes forward and 1024 back, and one more.
 use Rattle.std.proofs.Common.{ℕ, zero, suc, true, false, [], ◌∷◌, refl, None}
 use Rattle.std.specs.Prelude.{codes, ◌≡◌}
-use Rattle.st_tree.specs.Views.{NameView, ExpressionView, StatementsView, MethodView, MessagesView, ExpressionsView}
-use Rattle.st_tree.specs.Views as v
+use Rattle.st_scan.specs.Views.{NameView, ExpressionView, StatementsView, MethodView, MessagesView, ExpressionsView}
+use Rattle.st_scan.specs.Views as v
 use Rattle.st_code.specs.declared.fault.Cause.TheVariants.{Jump}
 use Rattle.st_code.specs.Faults.{fault_at}
 use Rattle.st_emit.specs.Names.{NamesView}

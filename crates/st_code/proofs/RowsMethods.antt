@@ -1,9 +1,9 @@
 -- Worked methods of a class with the variables x and y, by the definitions alone: their parts, and their faults.
 use Rattle.std.proofs.Common.{ℕ, Bool, true, false, List, [], ◌∷◌, refl, Some, None}
 use Rattle.std.specs.Prelude.{codes, Ok, Err, ◌≡◌}
-use Rattle.st_tree.specs.declared.token.Signed.{Signed}
-use Rattle.st_tree.specs.Views.{NameView, ContentView, ExpressionView}
-use Rattle.st_tree.specs.Views as v
+use Rattle.st_scan.specs.declared.token.Signed.{Signed}
+use Rattle.st_scan.specs.Views.{NameView, ContentView, ExpressionView}
+use Rattle.st_scan.specs.Views as v
 use Rattle.st_code.specs.declared.fault.Cause.TheVariants.{Unknown, Twice, Store, Primitive, Number, Symbols}
 use Rattle.st_emit.specs.Literals as l
 use Rattle.st_emit.specs.Names.{NamesView}

@@ -1,11 +1,11 @@
 -- Faults of a part of a tree, by what stands around it.
 use Rattle.std.specs.Prelude.{ℕ, List, take, Option}
-use Rattle.st_tree.specs.declared.tree.Expression.{Expression}
-use Rattle.st_tree.specs.declared.tree.Name.{Name}
-use Rattle.st_tree.specs.declared.tree.Statement.{Statement}
-use Rattle.st_tree.specs.declared.chain.Link.{Link}
-use Rattle.st_tree.specs.Views.{ExpressionView, name_view, names_view as list_view, expression_view, statements_view}
-use Rattle.st_tree.specs.Chains.{links_view, linked}
+use Rattle.st_scan.specs.declared.tree.Expression.{Expression}
+use Rattle.st_scan.specs.declared.tree.Name.{Name}
+use Rattle.st_scan.specs.declared.tree.Statement.{Statement}
+use Rattle.st_scan.specs.declared.chain.Link.{Link}
+use Rattle.st_scan.specs.Views.{ExpressionView, name_view, names_view as list_view, expression_view, statements_view}
+use Rattle.st_scan.specs.Chains.{links_view, linked}
 use Rattle.st_emit.specs.declared.names.Around.{Around}
 use Rattle.st_emit.specs.declared.frame.Frame.{Frame}
 use Rattle.st_emit.specs.Names.{NamesView, Scope}

@@ -1,8 +1,8 @@
 -- The faults of an expression along its chain: of the names that it is assigned to, the outermost first, and of its
 -- messages from the inside out; and those of a block.
 use Rattle.std.specs.Prelude.{List, [], ◌∷◌, Option, None, false, is_some, ◌||◌, if◌then◌else◌}
-use Rattle.st_tree.specs.Views.{NameView, StatementsView}
-use Rattle.st_tree.specs.Chains.{LinkView, assigned, sent}
+use Rattle.st_scan.specs.Views.{NameView, StatementsView}
+use Rattle.st_scan.specs.Chains.{LinkView, assigned, sent}
 use Rattle.st_code.specs.declared.fault.Fault.{Fault}
 use Rattle.st_code.specs.declared.fault.Cause.TheVariants.{Twice}
 use Rattle.st_emit.specs.Names.{NamesView, Scope, or_else, declared, declared_as, is_among}

@@ -1,6 +1,6 @@
 -- A method's code as it is made.
 use Rattle.std.specs.Prelude.{◌≡◌, ℕ, ◌+◌, ◌*◌, ◌≤◌, ◌++◌, true, length, Option, Ok}
-use Rattle.st_tree.specs.Views.{MethodView}
+use Rattle.st_scan.specs.Views.{MethodView}
 use Rattle.st_emit.specs.declared.draft.Draft.{Draft}
 use Rattle.st_emit.specs.Names.{NamesView}
 use Rattle.st_emit.specs.Bounds.{most_literals, most_variables}

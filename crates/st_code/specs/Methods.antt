@@ -1,7 +1,7 @@
 -- The code of a method: its header, literals and bytes, or why it has none.
 use Rattle.std.specs.Prelude.{ℕ, ◌+◌, ◌*◌, Bool, true, false, not, ◌&&◌, ◌||◌, ◌==◌, nat_lt, nat_le, List, [], ◌∷◌, ◌++◌, length, Option, Some, None, is_some, Result, Ok, Err, if◌then◌else◌}
-use Rattle.st_tree.specs.declared.token.Signed.{Signed}
-use Rattle.st_tree.specs.Views.{MethodView}
+use Rattle.st_scan.specs.declared.token.Signed.{Signed}
+use Rattle.st_scan.specs.Views.{MethodView}
 use Rattle.st_emit.specs.Bounds.{most_literals, most_variables, small_room, large_room, most_bytes, most_primitive, most_flagged, returned_fields}
 use Rattle.st_code.specs.declared.fault.Fault.{Fault}
 use Rattle.st_code.specs.declared.fault.Cause.{Cause}

@@ -7,7 +7,7 @@ ghost use Rattle.st_emit.specs.Steps.{long_jump, jump_bytes, bytes_of, all_bytes
 ghost use Rattle.st_code.specs.Coded.{code_view};
 
 use st_emit::{Constant, Place, Step};
-use st_tree::Text;
+use st_scan::Text;
 use std::alloc::{AllocError, Global};
 
 /// How far a jump of two bytes goes forward, and back.

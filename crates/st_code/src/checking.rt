@@ -2,10 +2,10 @@
 //! chain: the assigned names from the outside in, what the chain starts with, and the messages from the inside out.
 
 ghost use Rattle.std.specs.Prelude.{◌≡◌, []};
-ghost use Rattle.st_tree.specs.Views.{number, name_view, names_view as list_view, content_view};
-ghost use Rattle.st_tree.specs.Views.{elements_view, expression_view, expressions_view, messages_view};
-ghost use Rattle.st_tree.specs.Views.{statements_view};
-ghost use Rattle.st_tree.specs.Chains.{link_view, links_view, IsStart};
+ghost use Rattle.st_scan.specs.Views.{number, name_view, names_view as list_view, content_view};
+ghost use Rattle.st_scan.specs.Views.{elements_view, expression_view, expressions_view, messages_view};
+ghost use Rattle.st_scan.specs.Views.{statements_view};
+ghost use Rattle.st_scan.specs.Chains.{link_view, links_view, IsStart};
 ghost use Rattle.st_code.specs.Faults.{read_fault, store_fault, declare_fault, content_fault, elements_fault};
 ghost use Rattle.st_code.specs.Faults.{expression_fault, expressions_fault, messages_fault, statements_fault};
 ghost use Rattle.st_emit.specs.NameViews.{scope_view};
@@ -18,7 +18,7 @@ use st_emit::{
     Around, Frame, Variable, constant_named, inner_scope, is_among, is_declared, places_of,
     variable_named,
 };
-use st_tree::{Content, Element, Expression, Link, Message, Name, Signed, Statement};
+use st_scan::{Content, Element, Expression, Link, Message, Name, Signed, Statement};
 use std::alloc::Global;
 
 /// The size of the least number.
@@ -133,7 +133,7 @@ fn elements(es: &[Element]) -> Result<(), CodeFault>
 
 /// A literal.
 #[cycle(literals)]
-#[tactic(auto, using(st_tree::proofs::Views::views))]
+#[tactic(auto, using(st_scan::proofs::Views::views))]
 fn content(place: u32, what: &Content) -> Result<(), CodeFault>
     ensures { Reports (content_fault place (content_view what.now)) result }
 {
@@ -239,7 +239,7 @@ fn block(
 
 /// What a chain starts with.
 #[cycle(faults)]
-#[tactic(auto, using(st_tree::proofs::Views::views))]
+#[tactic(auto, using(st_scan::proofs::Views::views))]
 fn start(alloc: Global, around: Around<'_>, e: &Expression) -> Result<(), CodeFault>
     requires { IsStart (expression_view e.now) }
     ensures { Reports (walked expression_fault around.entry (expression_view e.now)) result }

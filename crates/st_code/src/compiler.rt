@@ -1,7 +1,7 @@
 //! From a method's tree to its header, literals and bytes.
 
 ghost use Rattle.std.specs.Prelude.{◌≡◌, ◌+◌, ◌*◌, ◌++◌, None, IfOk, IfErr, OnOk};
-ghost use Rattle.st_tree.specs.Views.{method_view};
+ghost use Rattle.st_scan.specs.Views.{method_view};
 ghost use Rattle.st_emit.specs.NameViews.{names_view};
 ghost use Rattle.st_emit.specs.Views.{literal_view};
 ghost use Rattle.st_code.specs.Methods.{extension, primitive_fault, fault};
@@ -14,7 +14,7 @@ use crate::method::{MethodDraft, drafted, names_fault};
 use crate::simple::{count_of, flag_of, simple_by};
 use crate::whole::{bounds, primitive, room_bit, symbols};
 use st_emit::{Draft, Literal, LiteralList, Names};
-use st_tree::{MethodTree, Text};
+use st_scan::{MethodTree, Text};
 use std::alloc::{AllocError, Global};
 
 /// A method: its selector, header, literals and bytes. A header with flag 7 has its extension among the literals.

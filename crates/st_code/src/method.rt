@@ -1,7 +1,7 @@
 //! Methods: their names, and their code as it is made.
 
 ghost use Rattle.std.specs.Prelude.{◌≡◌, ◌++◌, IfOk};
-ghost use Rattle.st_tree.specs.Views.{method_view, names_view as list_view};
+ghost use Rattle.st_scan.specs.Views.{method_view, names_view as list_view};
 ghost use Rattle.st_emit.specs.NameViews.{names_view, frame_view, scope_view};
 ghost use Rattle.st_code.specs.Faults.{declare_fault, method_fault};
 ghost use Rattle.st_code.specs.MethodDrafts.{IsBody};
@@ -10,7 +10,7 @@ ghost use Rattle.st_code.specs.Reported.{Reports};
 use crate::checking::{declare, statements};
 use crate::fault::CodeFault;
 use st_emit::{Around, Draft, Frame, Names, inner_scope, method_body, places_of, sum};
-use st_tree::MethodTree;
+use st_scan::MethodTree;
 use std::alloc::{AllocError, Global};
 
 /// A method's code as it is made, and how many variables the method and its blocks have.

@@ -1,12 +1,12 @@
 //! Methods that do no more than to return their receiver, or a variable of it.
 
 ghost use Rattle.std.specs.Prelude.{◌≡◌, ◌≤◌};
-ghost use Rattle.st_tree.specs.Views.{method_view};
+ghost use Rattle.st_scan.specs.Views.{method_view};
 ghost use Rattle.st_code.specs.Methods.{simple_flag, flag_of, count_of};
 ghost use Rattle.st_code.specs.Simple.{simple_by};
 
 use st_emit::{Constant, Place, Step};
-use st_tree::MethodTree;
+use st_scan::MethodTree;
 
 /// What a simple method returns: its receiver, or a variable of the receiver by its number.
 #[derive(Clone, Copy)]

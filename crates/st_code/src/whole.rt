@@ -9,7 +9,7 @@ use crate::bytes::all_reach;
 use crate::fault::{Cause, CodeFault, Fault};
 use crate::method::MethodDraft;
 use st_emit::{Level, Names, sum};
-use st_tree::Signed;
+use st_scan::Signed;
 use std::alloc::AllocError;
 
 /// The words that a small and a large context have room for.

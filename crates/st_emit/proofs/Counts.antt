@@ -2,14 +2,14 @@
 use Rattle.std.proofs.Common.{◌≡◌, ◌+◌, ◌≤◌, length, ap, ◌∙◌, arith}
 use Rattle.std.proofs.lemmas.List.{length-map}
 use Rattle.std.specs.Global.{Vec, Box}
-use Rattle.st_tree.specs.declared.tree.Name.{Name}
-use Rattle.st_tree.specs.declared.tree.Message.{Message}
-use Rattle.st_tree.specs.declared.tree.Statement.{Statement}
-use Rattle.st_tree.specs.declared.tree.Expression.{Expression, size-Expression}
-use Rattle.st_tree.specs.declared.tree.Expression.TheVariants.{Block, Send}
-use Rattle.st_tree.specs.Views.{expression_view, statements_view, messages_view, name_view}
-use Rattle.st_tree.proofs.Views.{expression_view-block, expression_view-send}
-use Rattle.st_tree.proofs.Chains.{size-receiver}
+use Rattle.st_scan.specs.declared.tree.Name.{Name}
+use Rattle.st_scan.specs.declared.tree.Message.{Message}
+use Rattle.st_scan.specs.declared.tree.Statement.{Statement}
+use Rattle.st_scan.specs.declared.tree.Expression.{Expression, size-Expression}
+use Rattle.st_scan.specs.declared.tree.Expression.TheVariants.{Block, Send}
+use Rattle.st_scan.specs.Views.{expression_view, statements_view, messages_view, name_view}
+use Rattle.st_scan.proofs.Views.{expression_view-block, expression_view-send}
+use Rattle.st_scan.proofs.Chains.{size-receiver}
 use Rattle.st_emit.specs.Resolving.{names_in, names_in_statements, names_in_messages}
 
 pub names_in-block : (e : Expression) (names : Vec Name) (body : Vec Statement) → e ≡ Block names body → names_in (expression_view e) ≡ length names.items + names_in_statements (statements_view body.items)

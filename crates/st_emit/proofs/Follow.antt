@@ -1,11 +1,11 @@
 -- One more link behind an expression, and a loop.
 use Rattle.std.proofs.Common.{◌≡◌, ℕ, zero, suc, ◌+◌, ◌<◌, ◌≤◌, Bool, true, false, ◌&&◌, get_or, List, [], ◌∷◌, ◌++◌, length, take, Some, None, refl, sym, ap, ◌∙◌, subst, arith, ◌==◌, ne_eqb, zero-add}
 use Rattle.std.specs.Prelude.{if◌then◌else◌}
-use Rattle.st_tree.specs.declared.chain.Link.{Link}
-use Rattle.st_tree.specs.declared.chain.Link.TheVariants.{Assign, Send}
-use Rattle.st_tree.specs.Views.{NameView, ExpressionView, StatementsView, MessagesView, ExpressionsView, no_messages, message, no_expressions, expression, block, is_super}
-use Rattle.st_tree.specs.Views as views
-use Rattle.st_tree.specs.Chains.{LinkView, assigned, sent, with_link, linked, link_view, links_view, link_size, links_size}
+use Rattle.st_scan.specs.declared.chain.Link.{Link}
+use Rattle.st_scan.specs.declared.chain.Link.TheVariants.{Assign, Send}
+use Rattle.st_scan.specs.Views.{NameView, ExpressionView, StatementsView, MessagesView, ExpressionsView, no_messages, message, no_expressions, expression, block, is_super}
+use Rattle.st_scan.specs.Views as views
+use Rattle.st_scan.specs.Chains.{LinkView, assigned, sent, with_link, linked, link_view, links_view, link_size, links_size}
 use Rattle.st_emit.specs.declared.form.Form.{Form}
 use Rattle.st_emit.specs.declared.form.Form.TheVariants.{Message as Plain, One, Two, Repeated}
 use Rattle.st_emit.specs.declared.form.TwoSided.{TwoSided}

@@ -2,12 +2,12 @@
 use Rattle.std.proofs.Common.{◌≡◌, ℕ, ◌+◌, ◌<◌, Bool, true, false, List, [], ◌∷◌, ◌++◌, length, drop, refl, sym, ap, ◌∙◌, append_assoc, append-nil, arith}
 use Rattle.std.specs.Prelude.{slice_set}
 use Rattle.std.proofs.lemmas.List.{length-map, drop_at}
-use Rattle.st_tree.specs.declared.tree.Name.{Name}
-use Rattle.st_tree.specs.declared.tree.Expression.{Expression}
-use Rattle.st_tree.specs.declared.tree.Message.{Message}
-use Rattle.st_tree.specs.declared.tree.Statement.{Statement}
-use Rattle.st_tree.specs.Views.{NameView, names_view, ExpressionView, StatementsView, MessagesView, ExpressionsView, expression_view, expressions_view, messages_view, statements_view, message, statement, block}
-use Rattle.st_tree.specs.Views as views
+use Rattle.st_scan.specs.declared.tree.Name.{Name}
+use Rattle.st_scan.specs.declared.tree.Expression.{Expression}
+use Rattle.st_scan.specs.declared.tree.Message.{Message}
+use Rattle.st_scan.specs.declared.tree.Statement.{Statement}
+use Rattle.st_scan.specs.Views.{NameView, names_view, ExpressionView, StatementsView, MessagesView, ExpressionsView, expression_view, expressions_view, messages_view, statements_view, message, statement, block}
+use Rattle.st_scan.specs.Views as views
 use Rattle.st_emit.specs.declared.step.Constant.TheVariants.{Nil, Context as ActiveContext}
 use Rattle.st_emit.specs.declared.step.Step.{Step}
 use Rattle.st_emit.specs.declared.step.Step.TheVariants.{PushConstant, Pop, Duplicate, SendSpecial, Jump, JumpBack, JumpIf, JumpPast}

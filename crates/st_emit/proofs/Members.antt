@@ -2,8 +2,8 @@
 use Rattle.std.proofs.Common.{◌≡◌, List, [], ◌∷◌, refl, ap, ◌∙◌, map}
 use Rattle.std.specs.Global.{Vec}
 use mathlib.Core.Former.{Count}
-use Rattle.st_tree.specs.declared.tree.Element.{Element}
-use Rattle.st_tree.specs.Views.{content_view, elements_view}
+use Rattle.st_scan.specs.declared.tree.Element.{Element}
+use Rattle.st_scan.specs.Views.{content_view, elements_view}
 use Rattle.st_emit.specs.declared.literal.Literal.{Literal, Row_of-Literal, end_of-Literal, more_of-Literal, items-the_row-Literal, items_hidden-the_row-Literal-0}
 use Rattle.st_emit.specs.declared.literal.Literal.TheVariants.{Array, Array'}
 use Rattle.st_emit.specs.Literals.{LiteralView, LiteralsView, no_literals, literal, array, literal_of, members_of}

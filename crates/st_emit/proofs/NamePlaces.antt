@@ -11,8 +11,8 @@ use Rattle.std.specs.Cmp.Lexicographic.{slice_cmp, bytes_decides}
 use Rattle.std.proofs.lemmas.List.{take_more}
 use Rattle.std.proofs.lemmas.Map.Text.{is_eq-slice_cmp}
 use Rattle.std.proofs.lemmas.Bool.Decides.{nat_tests}
-use Rattle.st_tree.specs.declared.tree.Name.{Name}
-use Rattle.st_tree.specs.Views.{name_view, names_view}
+use Rattle.st_scan.specs.declared.tree.Name.{Name}
+use Rattle.st_scan.specs.Views.{name_view, names_view}
 use Rattle.st_emit.specs.Names.{or_else, temporary, own_variable, declared_as, numbered, is_among}
 use Rattle.st_emit.specs.NamePlaces.{name_place, text_noted, IsNameIndex, NotesFirst}
 use Rattle.st_emit.proofs.Noting.{at_put, first_put, first_kept}

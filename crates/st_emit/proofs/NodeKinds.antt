@@ -1,10 +1,10 @@
 -- Which nodes a tree has: only assignments are assigned, and only names are constants.
 use Rattle.std.proofs.Common.{◌≡◌, ℕ, Bool, true, false, not, ◌&&◌, List, [], ◌∷◌, ◌++◌, Option, Some, None, refl}
 use Rattle.std.specs.Prelude.{if◌then◌else◌}
-use Rattle.st_tree.specs.declared.token.Signed.{Signed}
-use Rattle.st_tree.specs.Views.{NameView, ContentView, ExpressionView, StatementsView, MessagesView, ExpressionsView, is_super}
-use Rattle.st_tree.specs.Views as views
-use Rattle.st_tree.specs.Chains.{LinkView, assigned, sent}
+use Rattle.st_scan.specs.declared.token.Signed.{Signed}
+use Rattle.st_scan.specs.Views.{NameView, ContentView, ExpressionView, StatementsView, MessagesView, ExpressionsView, is_super}
+use Rattle.st_scan.specs.Views as views
+use Rattle.st_scan.specs.Chains.{LinkView, assigned, sent}
 use Rattle.st_emit.specs.declared.step.Constant.{Constant}
 use Rattle.st_emit.specs.declared.step.Constant.TheVariants.{Receiver, True, False, Nil, Context}
 use Rattle.st_emit.specs.declared.step.Step.TheVariants.{Pop, ReturnTop, ReturnConstant}

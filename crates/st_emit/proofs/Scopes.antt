@@ -4,8 +4,8 @@ use Rattle.std.specs.Prelude.{option_map}
 use Rattle.std.proofs.lemmas.List.{at_drop_more}
 use Rattle.st_emit.specs.declared.names.Variable.{Variable as Kept}
 use Rattle.std.specs.Prelude.{is_some, bytes_eq}
-use Rattle.st_tree.specs.declared.tree.Name.{Name}
-use Rattle.st_tree.specs.Views.{name_view, names_view}
+use Rattle.st_scan.specs.declared.tree.Name.{Name}
+use Rattle.st_scan.specs.Views.{name_view, names_view}
 use Rattle.st_emit.specs.declared.frame.Frame.{Frame}
 use Rattle.st_emit.specs.NameViews.{frame_view, scope_view, variable_view, IsVariable}
 use Rattle.st_emit.specs.Names.{Declared, Scope, declared_as, own_variable, or_else, numbered, is_among}

@@ -1,9 +1,9 @@
 -- Too few or too many arguments or messages for a form.
 use Rattle.std.proofs.Common.{◌≡◌, Bool, true, false, ℕ, ◌<◌, ◌≤◌, List, [], ◌∷◌, length, None, refl, arith}
-use Rattle.st_tree.specs.declared.tree.Expression.{Expression}
-use Rattle.st_tree.specs.declared.tree.Message.{Message}
-use Rattle.st_tree.specs.Views.{ExpressionView, expressions_view, messages_view}
-use Rattle.st_tree.specs.Chains.{sent}
+use Rattle.st_scan.specs.declared.tree.Expression.{Expression}
+use Rattle.st_scan.specs.declared.tree.Message.{Message}
+use Rattle.st_scan.specs.Views.{ExpressionView, expressions_view, messages_view}
+use Rattle.st_scan.specs.Chains.{sent}
 use Rattle.st_emit.specs.declared.form.OneSided.{OneSided}
 use Rattle.st_emit.specs.declared.form.TwoSided.{TwoSided}
 use Rattle.st_emit.specs.Shapes.{plain, one_sided_shape, two_sided_shape, repetition_with, repetition_of, IsCascade}

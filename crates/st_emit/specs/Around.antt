@@ -1,9 +1,9 @@
 -- The parts that are added to a draft, each for a part of a tree.
 use Rattle.std.specs.Prelude.{ℕ, ◌+◌, Bool, false, List, [], ◌∷◌, ◌++◌, length}
-use Rattle.st_tree.specs.declared.token.Signed.{Signed}
-use Rattle.st_tree.specs.Views.{NameView, ContentView, ExpressionView, ExpressionsView, MessagesView, StatementsView}
-use Rattle.st_tree.specs.Views as views
-use Rattle.st_tree.specs.Chains.{LinkView, assigned, sent}
+use Rattle.st_scan.specs.declared.token.Signed.{Signed}
+use Rattle.st_scan.specs.Views.{NameView, ContentView, ExpressionView, ExpressionsView, MessagesView, StatementsView}
+use Rattle.st_scan.specs.Views as views
+use Rattle.st_scan.specs.Chains.{LinkView, assigned, sent}
 use Rattle.st_emit.specs.declared.names.Around.{Around}
 use Rattle.st_emit.specs.declared.step.Step.TheVariants.{PushConstant}
 use Rattle.st_emit.specs.declared.form.TwoSided.TheVariants.{TrueFirst, FalseFirst}

@@ -1,13 +1,13 @@
 -- The parts that are added to a draft, each for a part of a tree as the code holds it; and the number of the next
 -- variable behind that part, in the order of the text.
 use Rattle.std.specs.Prelude.{◌≡◌, ℕ, ◌+◌, List, length, None, take}
-use Rattle.st_tree.specs.declared.tree.Name.{Name}
-use Rattle.st_tree.specs.declared.tree.Expression.{Expression}
-use Rattle.st_tree.specs.declared.tree.Message.{Message}
-use Rattle.st_tree.specs.declared.tree.Statement.{Statement}
-use Rattle.st_tree.specs.declared.chain.Link.{Link}
-use Rattle.st_tree.specs.Views.{ExpressionView, name_view, names_view, expression_view, expressions_view, messages_view, statements_view}
-use Rattle.st_tree.specs.Chains.{link_view, links_view, linked}
+use Rattle.st_scan.specs.declared.tree.Name.{Name}
+use Rattle.st_scan.specs.declared.tree.Expression.{Expression}
+use Rattle.st_scan.specs.declared.tree.Message.{Message}
+use Rattle.st_scan.specs.declared.tree.Statement.{Statement}
+use Rattle.st_scan.specs.declared.chain.Link.{Link}
+use Rattle.st_scan.specs.Views.{ExpressionView, name_view, names_view, expression_view, expressions_view, messages_view, statements_view}
+use Rattle.st_scan.specs.Chains.{link_view, links_view, linked}
 use Rattle.st_emit.specs.declared.names.Around.{Around}
 use Rattle.st_emit.specs.declared.draft.Draft.{Draft}
 use Rattle.st_emit.specs.declared.form.Lookup.{Lookup}

@@ -2,13 +2,13 @@
 use Rattle.std.specs.Prelude.{◌≡◌, ℕ, ◌<◌, false, List, [], length, Option, MatchOption}
 use Rattle.std.specs.Borrow.{Bor}
 use denote.Param.Weighed.{most}
-use Rattle.st_tree.specs.declared.tree.Name.{Name}
-use Rattle.st_tree.specs.declared.tree.Expression.{Expression}
-use Rattle.st_tree.specs.declared.tree.Message.{Message, size-Message}
-use Rattle.st_tree.specs.declared.tree.Statement.{Statement, size-Statement}
-use Rattle.st_tree.specs.declared.chain.Link.{Link}
-use Rattle.st_tree.specs.Views.{name_view, expression_view, expressions_view, messages_view, statements_view, assign, block, statement, message}
-use Rattle.st_tree.specs.Chains.{link_view, links_view, sent}
+use Rattle.st_scan.specs.declared.tree.Name.{Name}
+use Rattle.st_scan.specs.declared.tree.Expression.{Expression}
+use Rattle.st_scan.specs.declared.tree.Message.{Message, size-Message}
+use Rattle.st_scan.specs.declared.tree.Statement.{Statement, size-Statement}
+use Rattle.st_scan.specs.declared.chain.Link.{Link}
+use Rattle.st_scan.specs.Views.{name_view, expression_view, expressions_view, messages_view, statements_view, assign, block, statement, message}
+use Rattle.st_scan.specs.Chains.{link_view, links_view, sent}
 use Rattle.st_emit.specs.declared.form.Lookup.{Lookup}
 use Rattle.st_emit.specs.Nodes.{is_above}
 use Rattle.st_emit.specs.Resolving.{is_plain}

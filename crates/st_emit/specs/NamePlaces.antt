@@ -2,7 +2,7 @@
 use Rattle.std.specs.Prelude.{◌≡◌, ℕ, List, Option, Some, None, if◌then◌else◌, bytes_eq, position}
 use Rattle.std.specs.Global.{Vec}
 use Rattle.std.specs.Map.{lookup}
-use Rattle.st_tree.specs.declared.tree.Name.{Name}
+use Rattle.st_scan.specs.declared.tree.Name.{Name}
 use Rattle.st_emit.specs.Names.{or_else}
 
 -- the place of the first name with a text

@@ -7,7 +7,7 @@ use Rattle.st_emit.specs.declared.names.Names.{Names}
 use Rattle.st_emit.specs.declared.frame.Frame.{Frame}
 use Rattle.st_emit.specs.declared.names.Variable.{Variable as Kept}
 use Rattle.st_emit.specs.declared.names.Variable.TheVariants.{Temporary, Field, Shared}
-use Rattle.st_tree.specs.Views.{name_view}
+use Rattle.st_scan.specs.Views.{name_view}
 use Rattle.st_emit.specs.Names.{NamesView, SharedName, Declared, Scope, numbered, variable_named, Variable, temporary, field, shared}
 
 abbrev pub texts_view : List (Vec ℕ) → List (List ℕ)

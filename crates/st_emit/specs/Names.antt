@@ -1,7 +1,7 @@
 -- What a name means in a method of a class.
 use Rattle.std.specs.Prelude.{ℕ, ◌+◌, Bool, List, [], ◌∷◌, ◌++◌, find, Option, Some, None, option_map, if◌then◌else◌, codes, bytes_eq, nat_lt}
 use Rattle.std.specs.List.{list_any}
-use Rattle.st_tree.specs.Views.{NameView}
+use Rattle.st_scan.specs.Views.{NameView}
 use Rattle.st_emit.specs.Bounds.{most_fields}
 use Rattle.st_emit.specs.declared.step.Constant.{Constant}
 use Rattle.st_emit.specs.declared.step.Constant.TheVariants.{Receiver, True, False, Nil, Context}

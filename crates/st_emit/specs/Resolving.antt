@@ -1,8 +1,8 @@
 -- From a tree to its nodes: what names mean, which numbers variables have, and which places literals have.
 use Rattle.std.specs.Prelude.{ℕ, ◌+◌, Bool, true, false, not, ◌&&◌, ◌==◌, List, [], ◌∷◌, length, map, Option, Some, None, if◌then◌else◌, codes, bytes_eq}
-use Rattle.st_tree.specs.declared.token.Signed.{Signed}
-use Rattle.st_tree.specs.Views.{NameView, ContentView, ElementView, ExpressionView, StatementsView, MessagesView, ExpressionsView, is_super}
-use Rattle.st_tree.specs.Views as views
+use Rattle.st_scan.specs.declared.token.Signed.{Signed}
+use Rattle.st_scan.specs.Views.{NameView, ContentView, ElementView, ExpressionView, StatementsView, MessagesView, ExpressionsView, is_super}
+use Rattle.st_scan.specs.Views as views
 use Rattle.st_emit.specs.declared.step.Constant.{Constant}
 use Rattle.st_emit.specs.declared.step.Place.{Place}
 use Rattle.st_emit.specs.declared.step.Place.TheVariants.{Field, Temporary, Shared}

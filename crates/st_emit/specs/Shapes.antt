@@ -1,8 +1,8 @@
 -- Which form a message has, from its parts in the tree.
 use Rattle.std.specs.Prelude.{◌≡◌, ℕ, Bool, true, false, List, [], ◌∷◌, Option, Some, None, if◌then◌else◌}
-use Rattle.st_tree.specs.Views.{ExpressionView, ExpressionsView, StatementsView, MessagesView, no_statements, statement, no_expressions, expression, message, no_messages, statements_view}
-use Rattle.st_tree.specs.Views as views
-use Rattle.st_tree.specs.Chains.{LinkView, sent}
+use Rattle.st_scan.specs.Views.{ExpressionView, ExpressionsView, StatementsView, MessagesView, no_statements, statement, no_expressions, expression, message, no_messages, statements_view}
+use Rattle.st_scan.specs.Views as views
+use Rattle.st_scan.specs.Chains.{LinkView, sent}
 use Rattle.st_emit.specs.declared.step.Constant.{Constant}
 use Rattle.st_emit.specs.declared.step.Constant.TheVariants.{Context}
 use Rattle.st_emit.specs.declared.form.OneSided.{OneSided}

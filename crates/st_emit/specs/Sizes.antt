@@ -1,7 +1,7 @@
 -- How deep the sides of a form are, by which the walks along a tree end.
 use Rattle.std.specs.Prelude.{ℕ, ◌<◌}
 use denote.Param.Weighed.{most}
-use Rattle.st_tree.specs.declared.tree.Statement.{size-Statement}
+use Rattle.st_scan.specs.declared.tree.Statement.{size-Statement}
 use Rattle.st_emit.specs.declared.shape.Side.{Side}
 use Rattle.st_emit.specs.declared.shape.Side.TheVariants.{Constant, Statements}
 use Rattle.st_emit.specs.declared.shape.Shape.{Shape}

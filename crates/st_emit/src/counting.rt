@@ -1,10 +1,10 @@
 //! How many block arguments a part of a tree declares.
 
 ghost use Rattle.std.specs.Prelude.{◌≡◌, ◌+◌, IfOk};
-ghost use Rattle.st_tree.specs.Views.{expression_view, expressions_view, messages_view, statements_view};
+ghost use Rattle.st_scan.specs.Views.{expression_view, expressions_view, messages_view, statements_view};
 ghost use Rattle.st_emit.specs.Resolving.{names_in, names_in_all, names_in_messages, names_in_statements};
 
-use st_tree::{Expression, Message, Statement};
+use st_scan::{Expression, Message, Statement};
 use std::alloc::AllocError;
 
 /// A sum of counts. One that passes every memory is want of memory.
@@ -41,7 +41,7 @@ fn names_in_messages(start: usize, messages: &[Message]) -> Result<usize, AllocE
 /// The block arguments in an expression, counted on from `start`. It goes down the receivers and the assigned values by
 /// a loop.
 #[cycle(counting)]
-#[tactic(auto, using(st_tree::proofs::Views::views))]
+#[tactic(auto, using(st_scan::proofs::Views::views))]
 fn names_in(start: usize, e: &Expression) -> Result<usize, AllocError>
     ensures { IfOk result (λ n. n ≡ start + names_in (expression_view e.now)) }
 {

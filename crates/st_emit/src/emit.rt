@@ -1,7 +1,7 @@
 //! Names, literals and sends as instructions.
 
 ghost use Rattle.std.specs.Prelude.{◌≡◌, [], ◌∷◌, IfOk, OnOk};
-ghost use Rattle.st_tree.specs.Views.{name_view, content_view};
+ghost use Rattle.st_scan.specs.Views.{name_view, content_view};
 ghost use Rattle.st_emit.specs.Around.{context, name_part, literal_part, number_part, send_part, arguments_part};
 ghost use Rattle.st_emit.specs.Emits.{place_at};
 ghost use Rattle.st_emit.specs.Nodes.{is_above};
@@ -15,7 +15,7 @@ use crate::literal::{Literal, literal_of, small_number};
 use crate::names::{Around, Variable, constant_named, variable_named};
 use crate::selector::special_code;
 use crate::step::{Place, Step};
-use st_tree::{Content, Name, Signed};
+use st_scan::{Content, Name, Signed};
 use std::alloc::{AllocError, Global};
 
 /// The variable of a name. An association is named among the literals.

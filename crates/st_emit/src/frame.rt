@@ -3,7 +3,7 @@
 ghost use Rattle.std.specs.Prelude.{◌≡◌, OnOk, IfOk};
 ghost use Rattle.st_emit.specs.NamePlaces.{name_place, NotesFirst, IsNameIndex};
 
-use st_tree::{Name, Text};
+use st_scan::{Name, Text};
 use std::alloc::{AllocError, Global};
 use std::collections::BTreeMap;
 

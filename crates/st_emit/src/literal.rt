@@ -1,12 +1,12 @@
 //! The literals of a method.
 
 ghost use Rattle.std.specs.Prelude.{◌≡◌, IfOk};
-ghost use Rattle.st_tree.specs.Views.{content_view, elements_view};
+ghost use Rattle.st_scan.specs.Views.{content_view, elements_view};
 ghost use Rattle.st_emit.specs.Literals.{small_number, literal_of, members_of, array};
 ghost use Rattle.st_emit.specs.Views.{literal_view, members_view};
 
 use st_model::Oop;
-use st_tree::{Content, Element, Signed, Text};
+use st_scan::{Content, Element, Signed, Text};
 use std::alloc::{AllocError, Global};
 
 /// The literals of a method in the order of their places, or the members of a literal array.
@@ -63,7 +63,7 @@ fn members_of(alloc: Global, elements: &[Element]) -> Result<LiteralList, AllocE
 
 /// The literal of what stands in a tree. The members of an array stand in it, each a literal of its own.
 #[cycle(arrays)]
-#[tactic(auto, using(st_tree::proofs::Views::views))]
+#[tactic(auto, using(st_scan::proofs::Views::views))]
 pub fn literal_of(alloc: Global, what: &Content) -> Result<Literal, AllocError>
     ensures { IfOk result (λ l. literal_view l ≡ literal_of (content_view what.now)) }
 {

@@ -5,7 +5,7 @@ ghost use Rattle.st_emit.specs.Views.{literal_view, literals_view};
 ghost use Rattle.st_emit.specs.LiteralPlaces.{key_view, IsKeyOf, noted, literal_place, IsNoted};
 
 use crate::literal::{Literal, LiteralList};
-use st_tree::Text;
+use st_scan::Text;
 use std::alloc::{AllocError, Global};
 use std::collections::BTreeMap;
 use std::marker::Model;

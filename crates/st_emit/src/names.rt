@@ -2,14 +2,14 @@
 
 ghost use Rattle.std.specs.Prelude.{◌≡◌, ◌++◌, take, IfOk, option_map, is_some};
 ghost use Rattle.st_emit.specs.Names.{constant_named, field_named, shared_named, declared_as, own_variable, is_among};
-ghost use Rattle.st_tree.specs.Views.{names_view as list_view};
+ghost use Rattle.st_scan.specs.Views.{names_view as list_view};
 ghost use Rattle.st_emit.specs.NameViews.{frame_view, names_view, scope_view, variable_at, pointer_of, IsVariable};
 
 use crate::counting::sum;
 use crate::frame::{Frame, name_place};
 use crate::step::Constant;
 use st_model::Oop;
-use st_tree::Text;
+use st_scan::Text;
 use std::alloc::{AllocError, Global};
 use std::collections::BTreeMap;
 

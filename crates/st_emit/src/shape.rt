@@ -1,10 +1,10 @@
 //! Which form a message has.
 
 ghost use Rattle.std.specs.Prelude.{◌≡◌, ◌<◌, ◌≤◌, IfSome, MatchOption, option_map, length};
-ghost use Rattle.st_tree.specs.declared.tree.Expression.{size-Expression};
-ghost use Rattle.st_tree.specs.declared.tree.Message.{size-Message};
-ghost use Rattle.st_tree.specs.Views.{expression_view, expressions_view, statements_view, is_super};
-ghost use Rattle.st_tree.specs.Chains.{link_size, links_size};
+ghost use Rattle.st_scan.specs.declared.tree.Expression.{size-Expression};
+ghost use Rattle.st_scan.specs.declared.tree.Message.{size-Message};
+ghost use Rattle.st_scan.specs.Views.{expression_view, expressions_view, statements_view, is_super};
+ghost use Rattle.st_scan.specs.Chains.{link_size, links_size};
 ghost use Rattle.st_emit.specs.Shapes.{shape_view, one_sided_shape, two_sided_shape, repetition_view, returning, returned_constant};
 ghost use Rattle.st_emit.specs.Found.{statements_size, messages_size, message_shape, loop_of, loop_by, loop_among, loop_linked};
 ghost use Rattle.st_emit.specs.Found.{first_loop, IsNotPlain, IsPlain, IsUnassigned, IsAssignment, IsBefore, EndsAtOnce};
@@ -15,7 +15,7 @@ use crate::form::{Form, Lookup, Loop, OneSided, TwoSided};
 use crate::names::constant_named;
 use crate::selector::form_named;
 use crate::step::Constant;
-use st_tree::{Expression, Link, Message, Name, Statement};
+use st_scan::{Expression, Link, Message, Name, Statement};
 
 /// A message that is sent, or a conditional form with the statements of its blocks, in the order of the text.
 #[derive(Clone, Copy)]
@@ -61,7 +61,7 @@ pub fn is_super(e: &Expression) -> bool
 }
 
 /// The statements of an expression that is a block without arguments.
-#[tactic(auto, using(st_tree::proofs::Views::views))]
+#[tactic(auto, using(st_scan::proofs::Views::views))]
 fn plain_body(e: &Expression) -> Option<&[Statement]>
     ensures view { MatchOption result (IsNotPlain e.now) (λ b. IsPlain e.now b.now) }
     ensures below { IfSome result (λ b. statements_size b.now < size-Expression e.now) }

@@ -2,8 +2,8 @@
 //! brackets of its text, and not as its receivers and assigned values.
 
 ghost use Rattle.std.specs.Prelude.{◌≡◌, ◌<◌, ◌≤◌, IfOk, OnOk, length, if◌then◌else◌, ◌==◌, false};
-ghost use Rattle.st_tree.specs.Views.{expression_view, statements_view, is_super};
-ghost use Rattle.st_tree.specs.Chains.{IsStart};
+ghost use Rattle.st_scan.specs.Views.{expression_view, statements_view, is_super};
+ghost use Rattle.st_scan.specs.Chains.{IsStart};
 ghost use Rattle.st_emit.specs.Emits.{value_at, effect_at, return_at, values_at, message_at, cascade_at, sent_at, side_at, choice_at};
 ghost use Rattle.st_emit.specs.Emits.{loop_at, link_at, chain_at, body_at, method_at, block_at, code_in};
 ghost use Rattle.st_emit.specs.Emits.{after, after_all, after_messages, after_side, after_loop, after_link, after_chain};
@@ -26,7 +26,7 @@ use crate::shape::{
     only_message, returned_constant, returning, shape_of,
 };
 use crate::step::{Constant, Step, size_of};
-use st_tree::{Expression, Link, Message, Name, Signed, Statement};
+use st_scan::{Expression, Link, Message, Name, Signed, Statement};
 use std::alloc::{AllocError, Global};
 
 /// The values of expressions, one behind the other.

@@ -1,8 +1,8 @@
 -- What is read of blocks, and of everything in brackets.
 use Rattle.std.proofs.Common.{◌≡◌, ℕ, zero, suc, ◌≤◌, Bool, true, false, ◌||◌, ◌&&◌, List, [], ◌∷◌, ◌++◌, ◌⊎◌, inl, inr, Ok, refl, sym, ap, ◌∙◌, append_assoc, arith}
 use Rattle.std.proofs.lemmas.List.{append-nil}
-use Rattle.st_tree.specs.Views.{NameView, ExpressionView, StatementsView}
-use Rattle.st_tree.specs.Views as views
+use Rattle.st_scan.specs.Views.{NameView, ExpressionView, StatementsView}
+use Rattle.st_scan.specs.Views as views
 use Rattle.st_grammar.specs.declared.leaf.Leaf.{Leaf}
 use Rattle.st_grammar.specs.declared.leaf.Kind.{Kind}
 use Rattle.st_grammar.specs.declared.leaf.Kind.TheVariants.{Bar, Return, Period, Colon, Open, Close, OpenBlock, CloseBlock}

@@ -1,6 +1,6 @@
 -- A reader of brackets: an opening leaf, what is inside, where one bracket fewer may be open, and a closing leaf.
 use Rattle.std.proofs.Common.{◌≡◌, ℕ, zero, suc, ◌+◌, ◌≤◌, Bool, true, false, List, [], ◌∷◌, ◌++◌, inl, inr, length, Ok, Err, refl, sym, ap, ◌∙◌, subst, append_assoc, arith}
-use Rattle.st_tree.specs.declared.fault.Cause.TheVariants.{Expected, Deep}
+use Rattle.st_scan.specs.declared.fault.Cause.TheVariants.{Expected, Deep}
 use Rattle.st_grammar.specs.declared.leaf.Leaf.{Leaf}
 use Rattle.st_grammar.specs.declared.leaf.Kind.{Kind}
 use Rattle.st_grammar.specs.Leaves.{among, openings, closings}

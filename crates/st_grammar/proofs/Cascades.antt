@@ -2,8 +2,8 @@
 use Rattle.std.proofs.Common.{◌≡◌, ℕ, ◌<◌, Bool, true, false, ◌||◌, ◌&&◌, List, [], ◌∷◌, ◌++◌, ◌⊎◌, inl, inr, length, Ok, refl, sym, ap, ◌∙◌, append_assoc, length-append, arith}
 use Rattle.std.proofs.lemmas.List.{append-nil}
 use Rattle.std.proofs.lemmas.Bool.{cases_Bool}
-use Rattle.st_tree.specs.Views.{is_super, NameView, ExpressionView, ExpressionsView, with_expression, with_sent}
-use Rattle.st_tree.specs.Views as views
+use Rattle.st_scan.specs.Views.{is_super, NameView, ExpressionView, ExpressionsView, with_expression, with_sent}
+use Rattle.st_scan.specs.Views as views
 use Rattle.st_grammar.specs.declared.leaf.Leaf.{Leaf}
 use Rattle.st_grammar.specs.declared.leaf.Kind.{Kind}
 use Rattle.st_grammar.specs.declared.leaf.Kind.TheVariants.{Semicolon}

@@ -1,9 +1,9 @@
 -- A text has one tree or one fault.
 use Rattle.std.proofs.Common.{◌≡◌, ℕ, ◌-◌, ◌≤◌, List, length, drop, Option, Some, None, refl, sym, ap, ◌∙◌, subst}
-use Rattle.st_tree.specs.declared.fault.Fault.{Fault}
-use Rattle.st_tree.specs.declared.fault.Cause.{Cause}
-use Rattle.st_tree.specs.Faults.{cause_number}
-use Rattle.st_tree.specs.Views.{MethodView}
+use Rattle.st_scan.specs.declared.fault.Fault.{Fault}
+use Rattle.st_scan.specs.declared.fault.Cause.{Cause}
+use Rattle.st_scan.specs.TreeFaults.{cause_number}
+use Rattle.st_scan.specs.Views.{MethodView}
 use Rattle.st_scan.proofs.One.{one}
 use Rattle.st_grammar.specs.declared.leaf.Leaf.{Leaf}
 use Rattle.st_grammar.specs.Leaves.{leaves_of}

@@ -5,11 +5,11 @@ use Rattle.std.specs.Str.{byte}
 use Rattle.std.specs.Str.Parse.{digits_value}
 use Rattle.std.proofs.lemmas.Bool.{and_parts, leb-true}
 use Rattle.std.proofs.lemmas.List.Elements.{All-head, All-tail}
-use Rattle.st_tree.specs.declared.token.Token.{Token}
-use Rattle.st_tree.specs.declared.token.Sort.{Sort}
-use Rattle.st_tree.specs.declared.token.Sort.TheVariants as sorts
-use Rattle.st_tree.specs.Views.{ContentView}
-use Rattle.st_tree.specs.Views as views
+use Rattle.st_scan.specs.declared.token.Token.{Token}
+use Rattle.st_scan.specs.declared.token.Sort.{Sort}
+use Rattle.st_scan.specs.declared.token.Sort.TheVariants as sorts
+use Rattle.st_scan.specs.Views.{ContentView}
+use Rattle.st_scan.specs.Views as views
 use Rattle.st_scan.specs.Pieces.{Digits, Piece, spelling, size, is_allowed, fits, greatest, is_name, is_operator, keywords_text, Stands, SymbolStands, symbol_text}
 use Rattle.st_scan.specs.Pieces as pieces
 use Rattle.st_scan.specs.Scans.{sort_of, IsToken}

@@ -4,8 +4,8 @@ use Rattle.std.specs.Prelude.{IsTrue, IsFalse}
 use Rattle.std.specs.List.{list_all}
 use Rattle.std.specs.Str.{byte}
 use Rattle.std.proofs.lemmas.Bool.{and_from}
-use Rattle.st_tree.specs.Views.{NameView, ExpressionView, ExpressionsView, MessagesView, StatementsView, MethodView, with_message, with_sent, is_super}
-use Rattle.st_tree.specs.Views as views
+use Rattle.st_scan.specs.Views.{NameView, ExpressionView, ExpressionsView, MessagesView, StatementsView, MethodView, with_message, with_sent, is_super}
+use Rattle.st_scan.specs.Views as views
 use Rattle.st_scan.specs.Pieces.{is_name, keywords_text}
 use Rattle.st_scan.proofs.Spans.{are_tokens}
 use Rattle.st_grammar.specs.declared.leaf.Kind.TheVariants.{Joined}

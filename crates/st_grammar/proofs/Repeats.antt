@@ -1,7 +1,7 @@
 -- A loop of a reader, by the list of phrases that it reads.
 use Rattle.std.proofs.Common.{◌≡◌, ℕ, zero, suc, ◌<◌, ◌≤◌, Bool, true, false, cond, ◌||◌, ◌&&◌, List, [], ◌∷◌, ◌++◌, ◌⊎◌, inl, inr, length, Ok, Err, refl, sym, ap, ◌∙◌, subst, append_assoc, length-append, arith}
 use Rattle.std.proofs.lemmas.List.{append-nil}
-use Rattle.st_tree.specs.declared.fault.Cause.TheVariants.{Expected, Deep}
+use Rattle.st_scan.specs.declared.fault.Cause.TheVariants.{Expected, Deep}
 use Rattle.st_grammar.specs.declared.leaf.Leaf.{Leaf}
 use Rattle.st_grammar.specs.Reading.{Stop, Read, stop, ◌>>=◌, first, many}
 use Rattle.st_grammar.specs.Faults.{highest}

@@ -1,11 +1,11 @@
 -- Worked texts, by the definitions alone: their pieces, their phrases, and the trees that they mean.
 use Rattle.std.proofs.Common.{ℕ, ◌+◌, Bool, true, false, List, [], ◌∷◌, refl, arith, None}
 use Rattle.std.specs.Prelude.{codes}
-use Rattle.st_tree.specs.declared.token.Token.{Token}
-use Rattle.st_tree.specs.declared.token.Sort.{Sort}
-use Rattle.st_tree.specs.declared.token.Sort.TheVariants as sorts
-use Rattle.st_tree.specs.Views.{NameView, ExpressionView, ExpressionsView, MessagesView, StatementsView, MethodView}
-use Rattle.st_tree.specs.Views as views
+use Rattle.st_scan.specs.declared.token.Token.{Token}
+use Rattle.st_scan.specs.declared.token.Sort.{Sort}
+use Rattle.st_scan.specs.declared.token.Sort.TheVariants as sorts
+use Rattle.st_scan.specs.Views.{NameView, ExpressionView, ExpressionsView, MessagesView, StatementsView, MethodView}
+use Rattle.st_scan.specs.Views as views
 use Rattle.st_scan.specs.Pieces.{blank, name, keyword, operator, mark}
 use Rattle.st_grammar.specs.declared.leaf.Leaf.{Leaf}
 use Rattle.st_grammar.specs.declared.leaf.Kind.{Kind}

@@ -1,7 +1,7 @@
 -- A step of a loop takes a leaf or more.
 use Rattle.std.proofs.Common.{◌≡◌, ℕ, ◌<◌, Bool, List, [], ◌∷◌, ◌++◌, length, Ok, refl, ap, subst, length-append, arith}
-use Rattle.st_tree.specs.Views.{NameView, ElementsView, ExpressionView}
-use Rattle.st_tree.specs.Views as views
+use Rattle.st_scan.specs.Views.{NameView, ElementsView, ExpressionView}
+use Rattle.st_scan.specs.Views as views
 use Rattle.st_grammar.specs.declared.leaf.Leaf.{Leaf}
 use Rattle.st_grammar.specs.declared.leaf.Kind.TheVariants.{Joined}
 use Rattle.st_grammar.specs.Trees.{bytes, name_at, sent}

@@ -1,6 +1,6 @@
 -- A string's bytes, one after the other; and where tokens begin.
 use Rattle.std.proofs.Common.{◌≡◌, ℕ, suc, zero, ◌+◌, ◌<◌, ◌≤◌, Bool, true, false, eqb, List, [], ◌∷◌, ◌++◌, length, get_or, drop, add-one, drop-cons, refl, sym, ap, ◌∙◌, append_assoc, arith}
-use Rattle.st_tree.specs.declared.token.Token.{Token}
+use Rattle.st_scan.specs.declared.token.Token.{Token}
 use Rattle.st_scan.specs.Scans.{AreSpans}
 use Rattle.st_grammar.specs.Trees.{undoubled}
 

@@ -2,9 +2,9 @@
 -- and true stand in arrays alone, ^ stands in the last statement, and `super` only receives messages.
 use Rattle.std.specs.Prelude.{◌≡◌, ℕ, zero, suc, ◌≤◌, Bool, true, IsTrue, IsFalse, List, [], ◌∷◌, length, ◌⊎◌, Option, Some, None}
 use Rattle.std.specs.List.{list_all}
-use Rattle.st_tree.specs.declared.token.Signed.{Signed}
-use Rattle.st_tree.specs.Views.{NameView, ContentView, ElementsView, ExpressionView, StatementsView, MessagesView, ExpressionsView, MethodView, is_super}
-use Rattle.st_tree.specs.Views as views
+use Rattle.st_scan.specs.declared.token.Signed.{Signed}
+use Rattle.st_scan.specs.Views.{NameView, ContentView, ElementsView, ExpressionView, StatementsView, MessagesView, ExpressionsView, MethodView, is_super}
+use Rattle.st_scan.specs.Views as views
 use Rattle.st_scan.specs.Pieces.{is_name, is_operator, keywords_text, greatest}
 
 -- SELECTORS

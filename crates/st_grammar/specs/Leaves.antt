@@ -2,9 +2,9 @@
 use Rattle.std.specs.Prelude.{ℕ, ◌+◌, ◌-◌, Bool, true, false, ◌&&◌, ◌==◌, List, [], ◌∷◌, take, drop, if◌then◌else◌, Option, Some, None, codes, bytes_eq}
 use Rattle.std.specs.List.{list_any}
 use Rattle.std.specs.Str.{byte}
-use Rattle.st_tree.specs.declared.token.Token.{Token}
-use Rattle.st_tree.specs.declared.token.Sort.{Sort}
-use Rattle.st_tree.specs.declared.token.Sort.TheVariants as sorts
+use Rattle.st_scan.specs.declared.token.Token.{Token}
+use Rattle.st_scan.specs.declared.token.Sort.{Sort}
+use Rattle.st_scan.specs.declared.token.Sort.TheVariants as sorts
 use Rattle.st_grammar.specs.declared.leaf.Leaf.{Leaf}
 use Rattle.st_grammar.specs.declared.leaf.Kind.{Kind}
 use Rattle.st_grammar.specs.declared.leaf.Kind.TheVariants.{Name, Keyword, Joined, Primitive, Operator, Bar, Less, Greater, Number, Constant, Opening, Return, Period, Semicolon, Colon, Assign, Open, Close, OpenBlock, CloseBlock}

@@ -1,8 +1,8 @@
 -- Reading from left to right, with the first fault that is met: what the code does, in steps. The grammar is in Phrases
 -- and Trees; what is read here is what the grammar says.
 use Rattle.std.specs.Prelude.{◌≡◌, ℕ, zero, suc, Bool, true, false, ◌&&◌, cond, if◌then◌else◌, List, [], ◌∷◌, ◌++◌, length, Result, Ok, Err, Option, Some, None}
-use Rattle.st_tree.specs.declared.fault.Cause.{Cause}
-use Rattle.st_tree.specs.declared.fault.Cause.TheVariants.{Expected, Deep, Trailing}
+use Rattle.st_scan.specs.declared.fault.Cause.{Cause}
+use Rattle.st_scan.specs.declared.fault.Cause.TheVariants.{Expected, Deep, Trailing}
 use Rattle.st_grammar.specs.declared.leaf.Leaf.{Leaf}
 use Rattle.st_grammar.specs.declared.leaf.Kind.{Kind}
 use Rattle.st_grammar.specs.declared.leaf.Kind.TheVariants.{Joined, Primitive, Bar, Less, Greater, Number, Opening, Return, Period, Semicolon, Colon, Assign, Open, Close, OpenBlock, CloseBlock}
@@ -11,9 +11,9 @@ use Rattle.st_grammar.specs.declared.read.ReadError.TheVariants as errors
 use Rattle.st_grammar.specs.Leaves.{among, keywords, operators}
 use Rattle.st_grammar.specs.Phrases.{names, constants, plain_elements, first_keywords}
 use Rattle.st_grammar.specs.Trees.{bytes, name_at, constant_at, number_of, sent, sent_if}
-use Rattle.st_tree.specs.declared.token.Signed.{Signed}
-use Rattle.st_tree.specs.Views.{is_super, NameView, ElementView, ElementsView, ExpressionView, ExpressionsView, StatementsView, MethodView, with_element, with_expression, with_statement, with_sent}
-use Rattle.st_tree.specs.Views as views
+use Rattle.st_scan.specs.declared.token.Signed.{Signed}
+use Rattle.st_scan.specs.Views.{is_super, NameView, ElementView, ElementsView, ExpressionView, ExpressionsView, StatementsView, MethodView, with_element, with_expression, with_statement, with_sent}
+use Rattle.st_scan.specs.Views as views
 
 -- a fault, and how many leaves are left there
 pub record Stop : Type 0 where

@@ -1,15 +1,15 @@
 -- What a method's text means, and its first fault.
 use Rattle.std.specs.Prelude.{◌≡◌, ℕ, ◌+◌, ◌-◌, ◌≤◌, Bool, true, false, ◌&&◌, ◌||◌, ◌==◌, nat_lt, if◌then◌else◌, List, [], ◌∷◌, ◌++◌, length, drop, Option, Some, None, Result, Ok, Err}
-use Rattle.st_tree.specs.declared.token.Token.{Token}
-use Rattle.st_tree.specs.declared.token.Sort.TheVariants as sorts
-use Rattle.st_tree.specs.declared.fault.Fault.{Fault}
-use Rattle.st_tree.specs.declared.fault.Cause.{Cause}
-use Rattle.st_tree.specs.declared.fault.Cause.TheVariants as causes
-use Rattle.st_tree.specs.declared.fault.SyntaxFault.{SyntaxFault}
-use Rattle.st_tree.specs.declared.fault.SyntaxFault.TheVariants.{At, OutOfMemory}
-use Rattle.st_tree.specs.Faults.{cause_number}
-use Rattle.st_tree.specs.declared.tree.MethodTree.{MethodTree}
-use Rattle.st_tree.specs.Views.{MethodView, method_view}
+use Rattle.st_scan.specs.declared.token.Token.{Token}
+use Rattle.st_scan.specs.declared.token.Sort.TheVariants as sorts
+use Rattle.st_scan.specs.declared.fault.Fault.{Fault}
+use Rattle.st_scan.specs.declared.fault.Cause.{Cause}
+use Rattle.st_scan.specs.declared.fault.Cause.TheVariants as causes
+use Rattle.st_scan.specs.declared.fault.SyntaxFault.{SyntaxFault}
+use Rattle.st_scan.specs.declared.fault.SyntaxFault.TheVariants.{At, OutOfMemory}
+use Rattle.st_scan.specs.TreeFaults.{cause_number}
+use Rattle.st_scan.specs.declared.tree.MethodTree.{MethodTree}
+use Rattle.st_scan.specs.Views.{MethodView, method_view}
 use Rattle.st_scan.specs.Scans.{ScansTo, HasTokens}
 use Rattle.st_grammar.specs.declared.leaf.Leaf.{Leaf}
 use Rattle.st_grammar.specs.declared.leaf.Kind.TheVariants.{Number}

@@ -1,11 +1,11 @@
 -- What phrases mean: the tree of each, in a text. And which of them fit: the conditions that no form of a row has.
 use Rattle.std.specs.Prelude.{ℕ, ◌-◌, Bool, true, false, ◌==◌, List, [], ◌∷◌, ◌++◌, length, take, drop, if◌then◌else◌, Option, Some, None, IsTrue, IsFalse, codes, bytes_eq}
 use Rattle.std.specs.Str.{byte}
-use Rattle.st_tree.specs.declared.token.Signed.{Signed}
-use Rattle.st_tree.specs.declared.token.Sort.{Sort}
-use Rattle.st_tree.specs.declared.token.Sort.TheVariants as sorts
-use Rattle.st_tree.specs.Views.{NameView, ContentView, ElementsView, ElementView, ExpressionView, StatementsView, MessagesView, ExpressionsView, MethodView, with_sent, is_super}
-use Rattle.st_tree.specs.Views as views
+use Rattle.st_scan.specs.declared.token.Signed.{Signed}
+use Rattle.st_scan.specs.declared.token.Sort.{Sort}
+use Rattle.st_scan.specs.declared.token.Sort.TheVariants as sorts
+use Rattle.st_scan.specs.Views.{NameView, ContentView, ElementsView, ElementView, ExpressionView, StatementsView, MessagesView, ExpressionsView, MethodView, with_sent, is_super}
+use Rattle.st_scan.specs.Views as views
 use Rattle.st_grammar.specs.declared.leaf.Leaf.{Leaf}
 use Rattle.st_grammar.specs.declared.leaf.Kind.{Kind}
 use Rattle.st_grammar.specs.Leaves.{bytes_of}

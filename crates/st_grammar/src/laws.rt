@@ -1,7 +1,7 @@
 //! Laws of the definition.
 
 ghost use Rattle.std.specs.Prelude.{◌≡◌, ℕ, List};
-ghost use Rattle.st_tree.specs.Views.{MethodView};
+ghost use Rattle.st_scan.specs.Views.{MethodView};
 ghost use Rattle.st_grammar.specs.Texts.{Means};
 ghost use Rattle.st_grammar.specs.Laws.{HasOneFault, HasNoFault};
 ghost use Rattle.st_grammar.specs.Formed.{IsWellFormed};

@@ -4,7 +4,7 @@ ghost use Rattle.std.specs.Prelude.{◌≡◌, ◌<◌, ◌-◌, ◌^◌, IfOk, 
 ghost use Rattle.st_scan.specs.Scans.{AreSpans};
 ghost use Rattle.st_grammar.specs.Leaves.{bytes_of, kind_of, mark_kind, operator_kind, keyword_kind, leaves_of, is_joined, kind_number};
 
-use st_tree::{Sort, Token};
+use st_scan::{Sort, Token};
 use std::alloc::{AllocError, Global};
 
 /// What a token is to the grammar. `Joined` is a keyword directly behind a keyword, `Primitive` another one that is

@@ -6,7 +6,7 @@ ghost use Rattle.st_grammar.specs.Reading.{Gives, Fails, stop, first, token_at};
 ghost use Rattle.st_grammar.specs.declared.read.ReadError.TheVariants.{OutOfMemory};
 
 use crate::leaf::{Kind, Leaf};
-use st_tree::Cause;
+use st_scan::Cause;
 use std::alloc::{AllocError, AllocFailed};
 
 /// Why leaves could not be read: a fault, at the leaf that is the first of the last `left` ones, or want of memory.

@@ -8,9 +8,9 @@ use Rattle.st_model.specs.Table.{Table, table}
 use Rattle.st_model.specs.Show.{Shows}
 use Rattle.st_model.specs.View.{View}
 use Rattle.st_model.specs.Calls.{Reads}
-use Rattle.st_tree.specs.declared.fault.SyntaxFault.{SyntaxFault}
-use Rattle.st_tree.specs.declared.fault.SyntaxFault.TheVariants as syntax_at
-use Rattle.st_tree.specs.Views.{MethodView}
+use Rattle.st_scan.specs.declared.fault.SyntaxFault.{SyntaxFault}
+use Rattle.st_scan.specs.declared.fault.SyntaxFault.TheVariants as syntax_at
+use Rattle.st_scan.specs.Views.{MethodView}
 use Rattle.st_grammar.specs.Texts.{IsFaultOf}
 use Rattle.st_emit.specs.Names.{NamesView}
 use Rattle.st_code.specs.declared.fault.Fault.{Fault}

@@ -3,7 +3,7 @@ use Rattle.std.proofs.Common.{◌++◌, Option, Some, None, Bool, Result, Ok, Er
 use Rattle.st_model.specs.Values.{Value}
 use Rattle.st_model.specs.Machine.{Head, State}
 use Rattle.st_model.specs.Table.{Table, table}
-use Rattle.st_tree.specs.Views.{MethodView}
+use Rattle.st_scan.specs.Views.{MethodView}
 use Rattle.st_emit.specs.Names.{NamesView}
 use Rattle.st_names.specs.declared.fault.InstallFault.{InstallFault}
 use Rattle.st_names.specs.declared.fault.InstallFault.TheVariants.{Shape}

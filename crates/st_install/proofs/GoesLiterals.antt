@@ -8,7 +8,7 @@ use Rattle.st_model.specs.declared.page.PageObject.TheVariants.{NilObject, Strin
 use Rattle.st_model.specs.Values.{Value, Small}
 use Rattle.st_model.specs.Machine.{State, Step, is_there}
 use Rattle.st_model.specs.Table.{Table, table, bounded_table}
-use Rattle.st_tree.specs.declared.token.Signed.{Signed}
+use Rattle.st_scan.specs.declared.token.Signed.{Signed}
 use Rattle.st_emit.specs.Literals.{LiteralView, LiteralsView}
 use Rattle.st_emit.specs.Literals as literals
 use Rattle.st_install.specs.Plans.{Part, There, Made, pointers_object, bytes_object}

@@ -8,7 +8,7 @@ use Rattle.st_model.specs.Machine.{Head, State, Step, answer, die, tried, ◌>>=
 use Rattle.st_model.specs.Steps.{of_page, same_value, fetch_field, fetch_fields, count_fields}
 use Rattle.st_model.specs.Lookup.{pointer_if, half_word}
 use Rattle.st_model.specs.Table.{Table, entry, table}
-use Rattle.st_tree.specs.Views.{MethodView}
+use Rattle.st_scan.specs.Views.{MethodView}
 use Rattle.st_emit.specs.Names.{NamesView}
 use Rattle.st_names.specs.declared.fault.InstallFault.{InstallFault}
 use Rattle.st_names.specs.declared.fault.InstallFault.TheVariants.{Shape}

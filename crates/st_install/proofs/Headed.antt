@@ -5,7 +5,7 @@ use Rattle.std.proofs.lemmas.Bool.Decides.{nat_tests}
 use Rattle.st_model.specs.Values.{value_of}
 use Rattle.st_model.specs.Formed.{literals_of}
 use Rattle.st_model.proofs.Words.{literals_of-value_of}
-use Rattle.st_tree.specs.Views.{MethodView}
+use Rattle.st_scan.specs.Views.{MethodView}
 use Rattle.st_emit.specs.Bounds.{small_room}
 use Rattle.st_emit.specs.Names.{NamesView, or_else}
 use Rattle.st_code.specs.declared.fault.Fault.{Fault}

@@ -6,7 +6,7 @@ use Rattle.st_model.specs.Objects.{Object, nil}
 use Rattle.st_model.specs.Machine.{Went, used}
 use Rattle.st_model.specs.Settled.{reclaim}
 use Rattle.st_model.specs.Table.{Table, table}
-use Rattle.st_tree.specs.Views.{MethodView, variable, statement, no_statements}
+use Rattle.st_scan.specs.Views.{MethodView, variable, statement, no_statements}
 use Rattle.st_code.specs.Methods.{PartsView, code}
 use Rattle.st_emit.specs.Names.{NamesView}
 use Rattle.st_names.specs.declared.fault.InstallFault.TheVariants.{NoClass, NoGlobals, NoRoom, Shape}

@@ -7,8 +7,8 @@ use Rattle.st_model.specs.Table.{Table, table, bounded_table}
 use Rattle.st_model.specs.Settled.{reclaim}
 use Rattle.st_model.specs.Show.{Shows}
 use Rattle.st_model.specs.Laws.{Runs}
-use Rattle.st_tree.specs.declared.fault.Fault as syntax_fault
-use Rattle.st_tree.specs.Views.{MethodView}
+use Rattle.st_scan.specs.declared.fault.Fault as syntax_fault
+use Rattle.st_scan.specs.Views.{MethodView}
 use Rattle.st_emit.specs.Names.{NamesView}
 use Rattle.st_code.specs.declared.fault.Fault as code_fault
 use Rattle.st_code.specs.Methods.{PartsView, code}

@@ -6,7 +6,7 @@ use Rattle.st_model.specs.Values.{Small, Ref}
 use Rattle.st_model.specs.Objects.{Object, nil}
 use Rattle.st_model.specs.Machine.{State, Transition, Went, Died}
 use Rattle.st_model.specs.Table.{Table, table, entry}
-use Rattle.st_tree.specs.Views.{MethodView, variable, statement, no_statements}
+use Rattle.st_scan.specs.Views.{MethodView, variable, statement, no_statements}
 use Rattle.st_emit.specs.Literals.{LiteralView, no_literals, literal, number, bytes as string, symbol, array, named, owner, character}
 use Rattle.st_code.specs.Methods.{PartsView}
 use Rattle.st_names.specs.declared.fault.InstallFault.TheVariants.{Shape}

@@ -1,8 +1,8 @@
 -- Worked rows of the syntax of texts, computed from the definitions.
 use Rattle.std.proofs.Common.{◌≡◌, ℕ, List, [], Ok, Err, refl, true, None}
 use Rattle.std.specs.Prelude.{codes}
-use Rattle.st_tree.specs.Views.{MethodView, variable, statement, no_statements}
-use Rattle.st_tree.specs.declared.fault.Cause.TheVariants.{Expected, Trailing, Unclosed}
+use Rattle.st_scan.specs.Views.{MethodView, variable, statement, no_statements}
+use Rattle.st_scan.specs.declared.fault.Cause.TheVariants.{Expected, Trailing, Unclosed}
 use Rattle.st_install.specs.Syntax.{syntax}
 use Rattle.st_install.proofs.DefinitionOpened.{opened}
 

@@ -9,7 +9,7 @@ use Rattle.st_model.specs.Settled.{reclaim}
 use Rattle.st_model.specs.Saving.{settled_after}
 use Rattle.st_model.specs.Show.{pointer_of, IsKept, Shows}
 use Rattle.st_model.specs.Laws.{Runs}
-use Rattle.st_tree.specs.Views.{MethodView}
+use Rattle.st_scan.specs.Views.{MethodView}
 use Rattle.st_emit.specs.Names.{NamesView}
 use Rattle.st_code.specs.Methods.{PartsView}
 use Rattle.st_names.specs.declared.fault.InstallFault.{InstallFault}

@@ -9,7 +9,7 @@ use Rattle.st_model.proofs.Names.{all_append}
 use Rattle.st_model.proofs.Same.{IsLiveOption}
 use Rattle.st_model.proofs.HeapsSame.{same_used}
 use Rattle.st_model.proofs.Started.{naming, heaps_start}
-use Rattle.st_tree.specs.Views.{MethodView}
+use Rattle.st_scan.specs.Views.{MethodView}
 use Rattle.st_code.specs.Methods.{PartsView}
 use Rattle.st_names.specs.declared.fault.InstallFault.{InstallFault}
 use Rattle.st_names.specs.declared.fault.InstallFault.TheVariants.{NoClass, NoRoom}

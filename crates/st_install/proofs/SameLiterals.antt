@@ -7,7 +7,7 @@ use Rattle.st_model.specs.Machine.{Step, answer, ◌>>=◌}
 use Rattle.st_model.specs.Births.{Births, births}
 use Rattle.st_model.specs.Table.{Table, table}
 use Rattle.st_model.specs.Steps.{or_die}
-use Rattle.st_tree.specs.declared.token.Signed.{Signed}
+use Rattle.st_scan.specs.declared.token.Signed.{Signed}
 use Rattle.st_emit.specs.Literals.{LiteralView, LiteralsView}
 use Rattle.st_emit.specs.Literals as literals
 use Rattle.st_install.specs.Plans.{Part, NewObject}

@@ -10,8 +10,8 @@ use Rattle.std.proofs.lemmas.List.Folds.{list_all-append}
 use Rattle.st_model.specs.Values.{Value}
 use Rattle.st_model.specs.Machine.{State, Transition, Died, Went, Step, answer, after, ◌>>=◌, ◌>>◌}
 use Rattle.st_model.specs.Births.{Births, births}
-use Rattle.st_tree.specs.declared.fault.Fault as syntax_fault
-use Rattle.st_tree.specs.Views.{MethodView}
+use Rattle.st_scan.specs.declared.fault.Fault as syntax_fault
+use Rattle.st_scan.specs.Views.{MethodView}
 use Rattle.st_scan.specs.Bytes.{is_operator_byte, begins_operator, is_second_operator_byte}
 use Rattle.st_scan.specs.Pieces.{is_name, is_operator, keywords_text}
 use Rattle.st_grammar.specs.Texts.{Means}

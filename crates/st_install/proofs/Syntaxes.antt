@@ -1,10 +1,10 @@
 -- A text has one tree or one first fault, which is what `syntax` says.
 use Rattle.std.proofs.Common.{◌≡◌, ℕ, List, Option, Some, None, Result, Ok, Err, Bool, true, false, refl, ap}
 use Rattle.std.specs.Prelude.{if◌then◌else◌}
-use Rattle.st_tree.specs.declared.fault.Fault.{Fault}
-use Rattle.st_tree.specs.declared.token.Token.{Token}
-use Rattle.st_tree.specs.Faults.{cause_number}
-use Rattle.st_tree.specs.Views.{MethodView}
+use Rattle.st_scan.specs.declared.fault.Fault.{Fault}
+use Rattle.st_scan.specs.declared.token.Token.{Token}
+use Rattle.st_scan.specs.TreeFaults.{cause_number}
+use Rattle.st_scan.specs.Views.{MethodView}
 use Rattle.st_scan.specs.Scans.{ScansTo, tokens_from}
 use Rattle.st_grammar.specs.Faults.{most}
 use Rattle.st_grammar.specs.Reading.{Stop, whole_at}

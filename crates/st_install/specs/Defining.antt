@@ -5,9 +5,9 @@ use Rattle.st_model.specs.Values.{Value}
 use Rattle.st_model.specs.Machine.{ObjectMemory, Head, State, Transition, Died, Went, Step, answer, ◌>>=◌, ◌>>◌}
 use Rattle.st_model.specs.Births.{Births, births}
 use Rattle.st_model.specs.Settled.{reclaim}
-use Rattle.st_tree.specs.declared.fault.Fault as syntax_fault
-use Rattle.st_tree.specs.Faults as syntax_faults
-use Rattle.st_tree.specs.Views.{MethodView}
+use Rattle.st_scan.specs.declared.fault.Fault as syntax_fault
+use Rattle.st_scan.specs.TreeFaults as syntax_faults
+use Rattle.st_scan.specs.Views.{MethodView}
 use Rattle.st_emit.specs.Names.{NamesView}
 use Rattle.st_code.specs.declared.fault.Fault as code_fault
 use Rattle.st_code.specs.Reported as code_faults

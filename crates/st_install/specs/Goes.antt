@@ -9,7 +9,7 @@ use Rattle.st_model.specs.Machine.{State, Went}
 use Rattle.st_model.specs.Table.{Table, table, bounded_table}
 use Rattle.st_model.specs.View.{View, IsWhole, is_live, object_of}
 use Rattle.st_model.specs.Calls.{Changes, itself}
-use Rattle.st_tree.specs.Views.{MethodView}
+use Rattle.st_scan.specs.Views.{MethodView}
 use Rattle.st_emit.specs.Names.{NamesView}
 use Rattle.st_code.specs.Methods.{PartsView}
 use Rattle.st_install.specs.Plans.{Part, There, Made, NewObject, Plan}

@@ -6,7 +6,7 @@ use Rattle.st_model.specs.declared.page.PageObject.TheVariants.{NilObject, Strin
 use Rattle.st_model.specs.Machine.{ObjectMemory, Step, answer, ◌>>=◌}
 use Rattle.st_model.specs.Steps.{of_page, class_of, or_die, fetch_field, object_at}
 use Rattle.st_model.specs.Primitives.{bytes_within}
-use Rattle.st_tree.specs.declared.token.Signed.{Signed}
+use Rattle.st_scan.specs.declared.token.Signed.{Signed}
 use Rattle.st_emit.specs.Literals.{LiteralView, LiteralsView}
 use Rattle.st_emit.specs.Literals as literals
 use Rattle.st_install.specs.Plans.{Part, There, Made, NewObject, pointers_object, bytes_object}

@@ -6,7 +6,7 @@ use Rattle.st_model.specs.Births.{Births}
 use Rattle.st_model.specs.Table.{Table, table}
 use Rattle.st_model.specs.Show.{Shows}
 use Rattle.st_model.specs.View.{View}
-use Rattle.st_tree.specs.Views.{MethodView}
+use Rattle.st_scan.specs.Views.{MethodView}
 use Rattle.st_emit.specs.Names.{NamesView}
 use Rattle.st_code.specs.Methods.{PartsView, code}
 use Rattle.st_names.specs.Calls.{class_of_name, names}

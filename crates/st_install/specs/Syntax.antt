@@ -1,7 +1,7 @@
 -- The syntax of a method's text: its tree, or its first fault. A text has exactly one of the two.
 use Rattle.std.specs.Prelude.{ℕ, zero, suc, ◌+◌, ◌-◌, List, [], ◌∷◌, length, drop, Option, Some, None, Result, Ok, Err, if◌then◌else◌}
-use Rattle.st_tree.specs.declared.fault.Fault.{Fault}
-use Rattle.st_tree.specs.Views.{MethodView}
+use Rattle.st_scan.specs.declared.fault.Fault.{Fault}
+use Rattle.st_scan.specs.Views.{MethodView}
 use Rattle.st_scan.specs.Pieces.{Piece, spelling}
 use Rattle.st_scan.specs.Fronts.{Found, piece, fault, front_of}
 use Rattle.st_scan.specs.Scans.{Context, start, signs, after, tokens_from}

@@ -1,6 +1,6 @@
 -- Why nothing is installed, by the fault of a call.
-use Rattle.st_tree.specs.declared.fault.SyntaxFault.{SyntaxFault}
-use Rattle.st_tree.specs.declared.fault.SyntaxFault.TheVariants as syntax
+use Rattle.st_scan.specs.declared.fault.SyntaxFault.{SyntaxFault}
+use Rattle.st_scan.specs.declared.fault.SyntaxFault.TheVariants as syntax
 use Rattle.st_code.specs.declared.fault.CodeFault.{CodeFault}
 use Rattle.st_code.specs.declared.fault.CodeFault.TheVariants as code
 use Rattle.st_names.specs.declared.fault.InstallFault.{InstallFault}

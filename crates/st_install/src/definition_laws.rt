@@ -1,8 +1,8 @@
 //! Laws of the definition.
 
 ghost use Rattle.std.specs.Prelude.{◌≡◌, ℕ, List, Result};
-ghost use Rattle.st_tree.specs.declared.fault.Fault.{Fault};
-ghost use Rattle.st_tree.specs.Views.{MethodView};
+ghost use Rattle.st_scan.specs.declared.fault.Fault.{Fault};
+ghost use Rattle.st_scan.specs.Views.{MethodView};
 ghost use Rattle.st_install.specs.Syntax.{IsSyntax, syntax};
 
 /// `syntax` is the tree that a text means, or its first fault, and nothing else is.

@@ -13,7 +13,7 @@ use crate::single::{
 use st_emit::Literal;
 use st_memory::Memory;
 use st_names::Unread;
-use st_tree::Signed;
+use st_scan::Signed;
 use std::alloc::{AllocError, Global};
 
 /// Puts an object behind the others, which are fewer than 2^32.

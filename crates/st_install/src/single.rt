@@ -14,7 +14,7 @@ use crate::plan::{NewObject, Part};
 use st_memory::Memory;
 use st_model::{Dead, Kind, Oop};
 use st_names::{Unread, class_of, fetch_field};
-use st_tree::{Signed, Text};
+use st_scan::{Signed, Text};
 use std::alloc::{AllocError, Global};
 use std::collections::BTreeMap;
 

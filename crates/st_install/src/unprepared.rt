@@ -7,7 +7,7 @@ ghost use Rattle.st_install.specs.declared.unprepared.Unprepared.TheVariants.{Ou
 use st_code::CodeFault;
 use st_names::InstallFault;
 use st_protocol::Refusal;
-use st_tree::SyntaxFault;
+use st_scan::SyntaxFault;
 use std::alloc::AllocError;
 
 /// Why a definition isn't ready to be installed.

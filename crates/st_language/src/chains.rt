@@ -1,6 +1,6 @@
 //! Trees that are as deep as a text can make them.
 
-use st_tree::{Expression, Message, Name};
+use st_scan::{Expression, Message, Name};
 use std::alloc::{AllocError, Global};
 use std::test::Fail;
 

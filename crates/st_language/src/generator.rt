@@ -1,6 +1,6 @@
 //! Texts of methods, by a generator of numbers.
 
-use st_tree::Text;
+use st_scan::Text;
 use std::alloc::{AllocError, Global};
 
 /// What a text begins as. Each @ stands for an expression to come.

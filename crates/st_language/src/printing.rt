@@ -2,7 +2,7 @@
 
 use crate::shape::shape_of;
 use st_parse::{parse, print};
-use st_tree::MethodTree;
+use st_scan::MethodTree;
 use std::alloc::Global;
 use std::process::Abort;
 use std::test::Fail;

@@ -1,8 +1,7 @@
 //! Texts that are scanned: their tokens, or the scanner's first fault.
 
 use crate::parsing::repeated;
-use st_scan::{scan, tokens};
-use st_tree::{Cause, Fault, Sort, Token};
+use st_scan::{Cause, Fault, Sort, Token, scan, tokens};
 use std::alloc::{AllocError, Global};
 use std::process::Abort;
 use std::test::Fail;

@@ -1,6 +1,6 @@
 //! Trees without their places, so that two trees can be compared.
 
-use st_tree::{Content, Expression, Message, MethodTree, Name, Signed, Statement, Text};
+use st_scan::{Content, Expression, Message, MethodTree, Name, Signed, Statement, Text};
 use std::alloc::{AllocError, Global};
 use std::test::Fail;
 

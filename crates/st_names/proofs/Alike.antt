@@ -1,8 +1,8 @@
 -- The code of a method depends on the names of its class only through what they tell of each text.
 use Rattle.std.proofs.Common.{◌≡◌, ℕ, ◌+◌, ◌*◌, List, [], ◌∷◌, ◌++◌, length, Option, Some, None, Bool, true, false, Ok, Err, refl, sym, ◌∙◌}
 use Rattle.std.specs.Prelude.{is_some, option_map, if◌then◌else◌, Result}
-use Rattle.st_tree.specs.Views.{NameView, ExpressionView, StatementsView, MessagesView, ExpressionsView, MethodView, is_super}
-use Rattle.st_tree.specs.Views as views
+use Rattle.st_scan.specs.Views.{NameView, ExpressionView, StatementsView, MessagesView, ExpressionsView, MethodView, is_super}
+use Rattle.st_scan.specs.Views as views
 use Rattle.st_emit.specs.Names.{NamesView, Scope, field, shared, constant_named, declared_as, own_variable, if_named, field_from, variable_named, or_else, declared}
 use Rattle.st_emit.specs.Literals.{LiteralView, Named, given, ◌>>=◌}
 use Rattle.st_emit.specs.Nodes.{Node, Body, Tail, block}

@@ -19,7 +19,7 @@ use Rattle.st_model.specs.Lookup.{half_word, pointer_if}
 use Rattle.st_model.specs.Calls.{Reads, itself}
 use Rattle.st_model.specs.View.{is_live, table_of}
 use Rattle.st_model.proofs.Runs.{run-then, run-next, after-went, run-answer}
-use Rattle.st_tree.specs.Views.{MethodView}
+use Rattle.st_scan.specs.Views.{MethodView}
 use Rattle.st_emit.specs.declared.names.Names.{Names}
 use Rattle.st_emit.specs.Names.{NamesView, SharedName}
 use Rattle.st_emit.specs.NameViews.{names_view, shared_view, pointer_of}

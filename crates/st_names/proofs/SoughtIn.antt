@@ -3,7 +3,7 @@ use Rattle.std.proofs.Common.{◌≡◌, ℕ, Bool, true, false, ◌||◌, List,
 use Rattle.std.specs.Prelude.{bytes_eq, if◌then◌else◌, OnOk, IfSome}
 use Rattle.std.specs.Borrow.{Bor}
 use Rattle.std.proofs.lemmas.List.{take_more, map-append}
-use Rattle.st_tree.specs.declared.tree.Name.{Name}
+use Rattle.st_scan.specs.declared.tree.Name.{Name}
 use Rattle.st_names.specs.Walks.{mentions_of}
 use Rattle.std.specs.Global.{Vec}
 use Rattle.std.specs.declared.cmp.Ordering.{Ordering}

@@ -3,9 +3,9 @@
 use Rattle.std.proofs.Common.{◌≡◌, ℕ, zero, suc, ◌+◌, ◌<◌, List, [], ◌∷◌, ◌++◌, length, take, get_or, Result, Ok, Err, sym, ap, ◌∙◌, arith}
 use Rattle.std.specs.Prelude.{OnOk}
 use Rattle.std.proofs.lemmas.List.{append_assoc, append-nil}
-use Rattle.st_tree.specs.declared.chain.Link.{Link}
-use Rattle.st_tree.specs.Views.{ExpressionView}
-use Rattle.st_tree.specs.Chains.{LinkView, assigned, sent, with_link, linked, link_view, links_view}
+use Rattle.st_scan.specs.declared.chain.Link.{Link}
+use Rattle.st_scan.specs.Views.{ExpressionView}
+use Rattle.st_scan.specs.Chains.{LinkView, assigned, sent, with_link, linked, link_view, links_view}
 use Rattle.st_names.specs.Mentions.{mentioned, mentioned_by}
 use Rattle.st_names.specs.Walks.{target_mentioned, targets_mentioned, all_sent_mentioned}
 

@@ -2,7 +2,7 @@
 use Rattle.std.specs.Prelude.{ℕ, ◌+◌, ◌∷◌, [], ◌++◌, List, Option, Some, None, is_some, Result, Ok, Err, Bool}
 use Rattle.st_model.specs.Values.{Value}
 use Rattle.st_model.specs.Machine.{ObjectMemory, Head, Step, answer, tried, ◌>>=◌, ◌>>◌}
-use Rattle.st_tree.specs.Views.{MethodView}
+use Rattle.st_scan.specs.Views.{MethodView}
 use Rattle.st_emit.specs.Names.{NamesView}
 use Rattle.st_names.specs.declared.fault.InstallFault.{InstallFault}
 use Rattle.st_names.specs.declared.fault.InstallFault.TheVariants.{NoClass, NoGlobals, Shape}

@@ -1,7 +1,7 @@
 -- The names of variables in a method's statements, in the order of the text.
 use Rattle.std.specs.Prelude.{ℕ, List, [], ◌∷◌, ◌++◌}
-use Rattle.st_tree.specs.Views.{ExpressionView, StatementsView, MessagesView, ExpressionsView}
-use Rattle.st_tree.specs.Views as views
+use Rattle.st_scan.specs.Views.{ExpressionView, StatementsView, MessagesView, ExpressionsView}
+use Rattle.st_scan.specs.Views as views
 
 abbrev mutual
   pub mentioned : ExpressionView → List (List ℕ)

@@ -3,7 +3,7 @@ use Rattle.std.specs.Prelude.{◌≡◌, Result, Ok, Err}
 use Rattle.st_model.specs.Machine.{Step}
 use Rattle.st_model.specs.Table.{Table}
 use Rattle.st_model.specs.Calls.{Reads, itself}
-use Rattle.st_tree.specs.Views.{MethodView}
+use Rattle.st_scan.specs.Views.{MethodView}
 use Rattle.st_code.specs.Methods.{code}
 use Rattle.st_emit.specs.declared.names.Names.{Names}
 use Rattle.st_emit.specs.Names.{NamesView}

@@ -16,7 +16,7 @@ use crate::unread::Unread;
 use st_emit::TextList;
 use st_memory::Memory;
 use st_model::{Dead, Oop};
-use st_tree::Text;
+use st_scan::Text;
 use std::alloc::{AllocError, Global};
 
 /// The bytes of an object that has bytes alone.

@@ -2,14 +2,14 @@
 //! assigned names from the outside in, what the chain starts with, and the messages from the inside out.
 
 ghost use Rattle.std.specs.Prelude.{◌≡◌, IfOk, OnOk};
-ghost use Rattle.st_tree.specs.Views.{method_view, expression_view, expressions_view, messages_view};
-ghost use Rattle.st_tree.specs.Views.{statements_view};
-ghost use Rattle.st_tree.specs.Chains.{link_view, links_view, IsStart};
+ghost use Rattle.st_scan.specs.Views.{method_view, expression_view, expressions_view, messages_view};
+ghost use Rattle.st_scan.specs.Views.{statements_view};
+ghost use Rattle.st_scan.specs.Chains.{link_view, links_view, IsStart};
 ghost use Rattle.st_names.specs.Mentions.{mentioned, mentioned_in, mentioned_by, mentioned_among};
 ghost use Rattle.st_names.specs.Walks.{Mentions, mentions_of, target_mentioned, targets_mentioned};
 ghost use Rattle.st_names.specs.Walks.{all_sent_mentioned, chained};
 
-use st_tree::{Expression, Link, Message, MethodTree, Name, Statement};
+use st_scan::{Expression, Link, Message, MethodTree, Name, Statement};
 use std::alloc::{AllocError, Global};
 
 /// Names as they are mentioned.
@@ -85,7 +85,7 @@ fn sent<'t>(alloc: Global, names: &mut Mentions<'t>, links: &[Link<'t>]) -> Resu
 
 /// The names in what a chain starts with.
 #[cycle(mentions)]
-#[tactic(auto, using(st_tree::proofs::Views::views))]
+#[tactic(auto, using(st_scan::proofs::Views::views))]
 fn start<'t>(alloc: Global, names: &mut Mentions<'t>, e: &'t Expression) -> Result<(), AllocError>
     requires { IsStart (expression_view e.now) }
     ensures { OnOk result (Mentions (mentioned (expression_view e.now)) names.old names.new) }

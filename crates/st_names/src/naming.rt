@@ -3,7 +3,7 @@
 ghost use Rattle.std.specs.Prelude.{◌≡◌, ◌++◌, is_some, OnOk};
 ghost use Rattle.st_model.specs.Values.{value};
 ghost use Rattle.st_model.specs.Table.{table};
-ghost use Rattle.st_tree.specs.Views.{method_view};
+ghost use Rattle.st_scan.specs.Views.{method_view};
 ghost use Rattle.st_names.specs.Calls.{as_table, names_seen, names};
 ghost use Rattle.st_names.specs.Meanings.{values_of};
 ghost use Rattle.st_names.specs.Seen.{FindsNames, AnswersNames};
@@ -19,7 +19,7 @@ use crate::unread::Unread;
 use st_emit::Names;
 use st_memory::Memory;
 use st_model::Oop;
-use st_tree::MethodTree;
+use st_scan::MethodTree;
 use std::alloc::{AllocError, Global};
 
 /// Puts the table of globals behind other tables, where there is one.

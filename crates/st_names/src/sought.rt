@@ -8,7 +8,7 @@ use crate::sharing::association_in;
 use st_emit::NamedOops;
 use st_memory::Memory;
 use st_model::Oop;
-use st_tree::{Name, Text};
+use st_scan::{Name, Text};
 use std::alloc::{AllocError, Global};
 use std::collections::BTreeSet;
 

@@ -1,10 +1,10 @@
 -- Names that are assigned to; and messages with arguments.
 use Rattle.std.proofs.Common.{◌≡◌, ℕ, true, false, eqb, List, [], ◌∷◌, ◌++◌, length, refl, sym, ap, ◌∙◌, append_assoc}
 use Rattle.std.proofs.lemmas.List.{append-nil}
-use Rattle.st_tree.specs.declared.tree.Name.{Name}
-use Rattle.st_tree.specs.declared.tree.Expression.{Expression}
-use Rattle.st_tree.specs.Views.{NameView, ExpressionView, name_view, names_view, expressions_view}
-use Rattle.st_tree.specs.Views as views
+use Rattle.st_scan.specs.declared.tree.Name.{Name}
+use Rattle.st_scan.specs.declared.tree.Expression.{Expression}
+use Rattle.st_scan.specs.Views.{NameView, ExpressionView, name_view, names_view, expressions_view}
+use Rattle.st_scan.specs.Views as views
 use Rattle.st_grammar.specs.declared.leaf.Leaf.{Leaf}
 use Rattle.st_grammar.specs.Trees.{name_at, sent, sent_if}
 use Rattle.st_grammar.specs.Reading.{is_target, targets_at, assigned_to}

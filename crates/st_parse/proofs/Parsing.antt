@@ -1,13 +1,13 @@
 -- What parsing answers.
 use Rattle.std.proofs.Common.{◌≡◌, ℕ, ◌-◌, ◌≤◌, List, length, drop, Option, Some, None, Result, Ok, Err, refl, sym, ap, ◌∙◌, subst}
-use Rattle.st_tree.specs.declared.token.Token.{Token}
-use Rattle.st_tree.specs.declared.fault.Fault.{Fault}
-use Rattle.st_tree.specs.declared.fault.Cause.{Cause}
-use Rattle.st_tree.specs.declared.fault.SyntaxFault.{SyntaxFault}
-use Rattle.st_tree.specs.declared.fault.SyntaxFault.TheVariants.{At, OutOfMemory}
-use Rattle.st_tree.specs.declared.tree.MethodTree.{MethodTree}
-use Rattle.st_tree.specs.Faults.{cause_number}
-use Rattle.st_tree.specs.Views.{MethodView, method_view}
+use Rattle.st_scan.specs.declared.token.Token.{Token}
+use Rattle.st_scan.specs.declared.fault.Fault.{Fault}
+use Rattle.st_scan.specs.declared.fault.Cause.{Cause}
+use Rattle.st_scan.specs.declared.fault.SyntaxFault.{SyntaxFault}
+use Rattle.st_scan.specs.declared.fault.SyntaxFault.TheVariants.{At, OutOfMemory}
+use Rattle.st_scan.specs.declared.tree.MethodTree.{MethodTree}
+use Rattle.st_scan.specs.TreeFaults.{cause_number}
+use Rattle.st_scan.specs.Views.{MethodView, method_view}
 use Rattle.std.specs.Prelude.{IfOk, IfErr}
 use Rattle.st_scan.specs.Scans.{ScansTo}
 use Rattle.st_grammar.specs.declared.leaf.Leaf.{Leaf}

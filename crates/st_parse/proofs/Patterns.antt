@@ -1,6 +1,6 @@
 -- Patterns with one more name: the name is read as one more of a list is.
 use Rattle.std.proofs.Common.{◌≡◌, ℕ, List, [], ◌∷◌, ◌++◌, Ok, Err, refl}
-use Rattle.st_tree.specs.Views.{NameView}
+use Rattle.st_scan.specs.Views.{NameView}
 use Rattle.st_grammar.specs.declared.leaf.Leaf.{Leaf}
 use Rattle.st_grammar.specs.Leaves.{keywords, operators}
 use Rattle.st_grammar.specs.Phrases.{names}

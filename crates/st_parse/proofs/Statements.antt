@@ -1,8 +1,8 @@
 -- One more statement, read behind its caret, or where it has none.
 use Rattle.std.proofs.Common.{◌≡◌, ℕ, Bool, true, false, List, [], ◌∷◌, Result, Ok, refl, ap}
 use Rattle.std.specs.Prelude.{◌&&◌, not, if◌then◌else◌}
-use Rattle.st_tree.specs.declared.fault.Cause.TheVariants.{Expected}
-use Rattle.st_tree.specs.Views.{ElementsView, ExpressionView, with_statement}
+use Rattle.st_scan.specs.declared.fault.Cause.TheVariants.{Expected}
+use Rattle.st_scan.specs.Views.{ElementsView, ExpressionView, with_statement}
 use Rattle.st_grammar.specs.declared.leaf.Leaf.{Leaf}
 use Rattle.st_grammar.specs.declared.leaf.Kind.TheVariants.{Return}
 use Rattle.st_grammar.specs.declared.read.ReadError.{ReadError}

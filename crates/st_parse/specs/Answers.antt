@@ -2,13 +2,13 @@
 use Rattle.std.specs.Prelude.{◌≡◌, ℕ, Bool, List, ◌++◌, Result}
 use Rattle.std.specs.Borrow.{Bor}
 use Rattle.std.specs.Global.{Vec}
-use Rattle.st_tree.specs.declared.tree.Name.{Name}
-use Rattle.st_tree.specs.declared.tree.Element.{Element}
-use Rattle.st_tree.specs.declared.tree.Expression.{Expression}
-use Rattle.st_tree.specs.declared.tree.Statement.{Statement}
-use Rattle.st_tree.specs.declared.tree.Message.{Message}
-use Rattle.st_tree.specs.Views.{NameView, ElementView, ElementsView, ExpressionView, ExpressionsView, StatementsView, names_view, element_view, elements_view, expression_view, expressions_view, statements_view, with_expression, with_statement, with_sent}
-use Rattle.st_tree.specs.Views as views
+use Rattle.st_scan.specs.declared.tree.Name.{Name}
+use Rattle.st_scan.specs.declared.tree.Element.{Element}
+use Rattle.st_scan.specs.declared.tree.Expression.{Expression}
+use Rattle.st_scan.specs.declared.tree.Statement.{Statement}
+use Rattle.st_scan.specs.declared.tree.Message.{Message}
+use Rattle.st_scan.specs.Views.{NameView, ElementView, ElementsView, ExpressionView, ExpressionsView, StatementsView, names_view, element_view, elements_view, expression_view, expressions_view, statements_view, with_expression, with_statement, with_sent}
+use Rattle.st_scan.specs.Views as views
 use Rattle.st_grammar.specs.declared.leaf.Leaf.{Leaf}
 use Rattle.st_grammar.specs.declared.read.ReadError.{ReadError}
 use Rattle.st_grammar.specs.Trees.{bytes, sent, sent_if}

@@ -1,5 +1,5 @@
 -- What the parts of a method are while they are read, without where they lie in memory.
-use Rattle.st_tree.specs.Views.{names_view}
+use Rattle.st_scan.specs.Views.{names_view}
 use Rattle.st_parse.specs.declared.method.Pattern.{Pattern}
 use Rattle.st_parse.specs.declared.method.Options.{Options}
 use Rattle.st_grammar.specs.Reading.{PatternView, OptionsView}

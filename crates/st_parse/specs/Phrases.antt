@@ -1,6 +1,6 @@
 -- What the parts of an expression are while they are read, without where they lie in memory.
 use Rattle.std.specs.Prelude.{◌≡◌, Bool, true, false, List, [], ◌∷◌, if◌then◌else◌}
-use Rattle.st_tree.specs.Views.{expressions_view, statements_view}
+use Rattle.st_scan.specs.Views.{expressions_view, statements_view}
 use Rattle.st_grammar.specs.declared.leaf.Leaf.{Leaf}
 use Rattle.st_grammar.specs.declared.leaf.Kind.TheVariants.{Return}
 use Rattle.st_grammar.specs.Leaves.{among}

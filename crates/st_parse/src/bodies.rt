@@ -1,7 +1,7 @@
 //! Statements so far, and how they end.
 
 ghost use Rattle.std.specs.Prelude.{◌≡◌, ◌&&◌, true, not, IfOk};
-ghost use Rattle.st_tree.specs.Views.{expression_view, statements_view, no_statements};
+ghost use Rattle.st_scan.specs.Views.{expression_view, statements_view, no_statements};
 ghost use Rattle.st_grammar.specs.Reading.{first, period_at, statement_looks};
 ghost use Rattle.st_parse.specs.Phrases.{body_view, caret_at};
 ghost use Rattle.st_parse.specs.Answers.{IsBody};
@@ -9,7 +9,7 @@ ghost use Rattle.st_parse.specs.Answers.{IsBody};
 use crate::kinds::STATEMENT_STARTS;
 use st_grammar::leaf::{Kind, Leaf};
 use st_grammar::read::is_among;
-use st_tree::{Statement, StatementList};
+use st_scan::{Statement, StatementList};
 use std::alloc::{AllocError, Global};
 
 /// Statements so far, and whether another one may follow.
@@ -30,7 +30,7 @@ pub fn no_statements(alloc: Global) -> Body
 }
 
 /// One more statement. Another one may follow it behind a period, but none where its value is returned.
-#[tactic(auto, using(st_tree::proofs::Views::views))]
+#[tactic(auto, using(st_scan::proofs::Views::views))]
 pub fn with_statement(
     statements: StatementList,
     statement: Statement,

@@ -2,7 +2,7 @@
 //! leaves behind it, or the first fault. `room` is how many more brackets may be open.
 
 ghost use Rattle.std.specs.Prelude.{◌≡◌, ◌∷◌, [], true, false};
-ghost use Rattle.st_tree.specs.Views.{names_view, expression_view};
+ghost use Rattle.st_scan.specs.Views.{names_view, expression_view};
 ghost use Rattle.st_grammar.specs.Reading.{bracket_at, primary_at, unary_at, operations_step, operations_at};
 ghost use Rattle.st_grammar.specs.Reading.{binary_at, parts_step, parts_at, messages_at, message_at};
 ghost use Rattle.st_grammar.specs.Reading.{cascade_step, cascades_at, sends_at, cascade_at, expression_at};
@@ -21,7 +21,7 @@ use crate::sends::{
 };
 use st_grammar::leaf::{Kind, Leaf};
 use st_grammar::read::{ReadError, starts, token};
-use st_tree::{Expression, NameList, Statement, StatementList};
+use st_scan::{Expression, NameList, Statement, StatementList};
 use std::alloc::Global;
 
 const CONSTANTS: [Kind; 2] = [Kind::Number, Kind::Constant];
@@ -169,7 +169,7 @@ fn binary<'a>(
 
 /// Parts of a keyword message with one more keyword and its argument.
 #[cycle(reading)]
-#[tactic(auto, unfolding(st_grammar::specs::Reading::parts_step), using(st_tree::proofs::Views::views))]
+#[tactic(auto, unfolding(st_grammar::specs::Reading::parts_step), using(st_scan::proofs::Views::views))]
 fn keyword_part<'a>(
     alloc: Global,
     text: &[u8],
@@ -395,7 +395,7 @@ pub fn statements<'a>(
 
 /// A block behind its arguments.
 #[cycle(reading)]
-#[tactic(auto, unfolding(st_grammar::specs::Reading::argument_body_at), using(st_tree::proofs::Views::views))]
+#[tactic(auto, unfolding(st_grammar::specs::Reading::argument_body_at), using(st_scan::proofs::Views::views))]
 fn behind_arguments<'a>(
     alloc: Global,
     text: &[u8],
@@ -416,7 +416,7 @@ fn behind_arguments<'a>(
 
 /// What is inside a block.
 #[cycle(reading)]
-#[tactic(auto, unfolding(st_grammar::specs::Reading::block_at, st_grammar::specs::Reading::argument_block_at, st_grammar::specs::Reading::plain_block_at), using(st_tree::proofs::Views::views))]
+#[tactic(auto, unfolding(st_grammar::specs::Reading::block_at, st_grammar::specs::Reading::argument_block_at, st_grammar::specs::Reading::plain_block_at), using(st_scan::proofs::Views::views))]
 fn block<'a>(
     alloc: Global,
     text: &[u8],

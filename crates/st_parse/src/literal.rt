@@ -1,7 +1,7 @@
 //! Literals.
 
 ghost use Rattle.std.specs.Prelude.{◌≡◌, ◌∷◌, [], false, drop, IfOk};
-ghost use Rattle.st_tree.specs.Views.{content_view, element_view, elements_view, no_elements};
+ghost use Rattle.st_scan.specs.Views.{content_view, element_view, elements_view, no_elements};
 ghost use Rattle.st_grammar.specs.Trees.{undoubled, between_quotes, word_content, content_of, constant_at};
 ghost use Rattle.st_grammar.specs.Reading.{Gives, joined_step, joined_at, keyword_symbol_at};
 ghost use Rattle.st_grammar.specs.Reading.{constant_element_at, nested_at, element_at, elements_step};
@@ -10,7 +10,7 @@ ghost use Rattle.st_parse.specs.Answers.{ReadsLiteral, ReadsArray, nested};
 
 use st_grammar::leaf::{Kind, Leaf, bytes_of};
 use st_grammar::read::{ReadError, starts, token};
-use st_tree::{Cause, Content, Element, ElementList, Sort, Text};
+use st_scan::{Cause, Content, Element, ElementList, Sort, Text};
 use std::alloc::{AllocError, Global};
 
 /// What an element of one token begins with: a literal, a name or an operator.
@@ -187,7 +187,7 @@ fn keyword_symbol<'a>(
 
 /// An array, from a leaf of these kinds on.
 #[cycle(arrays)]
-#[tactic(auto, unfolding(st_grammar::specs::Reading::nested_at), using(st_tree::proofs::Views::views))]
+#[tactic(auto, unfolding(st_grammar::specs::Reading::nested_at), using(st_scan::proofs::Views::views))]
 pub fn nested<'a>(
     alloc: Global,
     text: &[u8],
@@ -226,7 +226,7 @@ fn element<'a>(
 
 /// Elements with one more behind them.
 #[cycle(arrays)]
-#[tactic(auto, unfolding(st_grammar::specs::Reading::elements_step), using(st_tree::proofs::Views::views))]
+#[tactic(auto, unfolding(st_grammar::specs::Reading::elements_step), using(st_scan::proofs::Views::views))]
 fn one_more<'a>(
     alloc: Global,
     text: &[u8],

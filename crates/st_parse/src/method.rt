@@ -1,7 +1,7 @@
 //! Methods. The functions here read as those on expressions do.
 
 ghost use Rattle.std.specs.Prelude.{◌≡◌, ◌∷◌, []};
-ghost use Rattle.st_tree.specs.Views.{names_view, method_view};
+ghost use Rattle.st_scan.specs.Views.{names_view, method_view};
 ghost use Rattle.st_grammar.specs.Faults.{most};
 ghost use Rattle.st_grammar.specs.Trees.{number_of};
 ghost use Rattle.st_grammar.specs.Reading.{Gives, pattern_step, keyword_names_at, pattern_at};
@@ -16,7 +16,7 @@ use crate::kinds::{KEYWORDS, NAMES, OPERATORS};
 use crate::names::one_name;
 use st_grammar::leaf::{Kind, Leaf, bytes_of};
 use st_grammar::read::{ReadError, starts, token};
-use st_tree::{Cause, MethodTree, NameList, Signed, Sort, Text};
+use st_scan::{Cause, MethodTree, NameList, Signed, Sort, Text};
 use std::alloc::Global;
 
 /// The most brackets that may be open.

@@ -1,7 +1,7 @@
 //! Names: of variables, of those that are assigned to, and of a block's arguments.
 
 ghost use Rattle.std.specs.Prelude.{◌≡◌, IfOk, MatchOption};
-ghost use Rattle.st_tree.specs.Views.{name_view, names_view, expression_view};
+ghost use Rattle.st_scan.specs.Views.{name_view, names_view, expression_view};
 ghost use Rattle.st_grammar.specs.Trees.{name_at};
 ghost use Rattle.st_grammar.specs.Reading.{assigned_to, targets_at, name_step, parameters_step, parameters_at};
 ghost use Rattle.st_parse.specs.Phrases.{NoTarget, BeginsWithTarget};
@@ -10,7 +10,7 @@ ghost use Rattle.st_parse.specs.Answers.{ReadsNames, Makes};
 use crate::kinds::NAMES;
 use st_grammar::leaf::{Kind, Leaf, bytes_of};
 use st_grammar::read::{ReadError, is_among, starts, token};
-use st_tree::{Expression, Name, NameList};
+use st_scan::{Expression, Name, NameList};
 use std::alloc::{AllocError, Global};
 
 /// The name that a leaf is.

@@ -3,15 +3,14 @@
 ghost use Rattle.std.specs.Prelude.{◌≡◌, ◌<◌, ◌≤◌, ◌-◌, ◌^◌, IfOk, IfErr, Some};
 ghost use Rattle.std.specs.Prelude.{length, drop};
 ghost use Rattle.st_scan.specs.Scans.{AreSpans};
-ghost use Rattle.st_tree.specs.Views.{MethodView, method_view};
+ghost use Rattle.st_scan.specs.Views.{MethodView, method_view};
 ghost use Rattle.st_grammar.specs.Texts.{Means, IsFaultOf, IsOnly, bad_number, words, place_at, is_before};
 ghost use Rattle.st_grammar.specs.Texts.{first_fault};
 
 use crate::method::whole;
 use st_grammar::leaf::{Kind, Leaf, leaves_of};
 use st_grammar::read::ReadError;
-use st_scan::{Scanned, scan};
-use st_tree::{Cause, Fault, MethodTree, Sort, SyntaxFault, Token};
+use st_scan::{Cause, Fault, MethodTree, Scanned, Sort, SyntaxFault, Token, scan};
 use std::alloc::{AllocError, Global};
 
 /// A number with a fault, from a place on.

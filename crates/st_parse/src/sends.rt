@@ -1,7 +1,7 @@
 //! Messages, and what an expression is with one more.
 
 ghost use Rattle.std.specs.Prelude.{◌≡◌, ◌++◌, IfOk};
-ghost use Rattle.st_tree.specs.Views.{is_super, expression_view, expressions_view};
+ghost use Rattle.st_scan.specs.Views.{is_super, expression_view, expressions_view};
 ghost use Rattle.st_grammar.specs.Leaves.{among};
 ghost use Rattle.st_grammar.specs.Reading.{first, message_starts, checked_at, names_step, names_at};
 ghost use Rattle.st_grammar.specs.Reading.{unary_message_at, no_parts_yet};
@@ -12,7 +12,7 @@ ghost use Rattle.st_parse.specs.Answers.{sent_operator, also_parts, also_operato
 use crate::kinds::{MESSAGE_STARTS, NAMES};
 use st_grammar::leaf::{Leaf, bytes_of};
 use st_grammar::read::{ReadError, starts, token};
-use st_tree::{Expression, ExpressionList, Message, MessageList, Text};
+use st_scan::{Expression, ExpressionList, Message, MessageList, Text};
 use std::alloc::{AllocError, Global};
 
 /// A keyword message's selector and arguments, so far.
@@ -33,7 +33,7 @@ pub fn no_parts(alloc: Global) -> Parts
 }
 
 /// One more keyword with its argument.
-#[tactic(auto, using(st_tree::proofs::Views::views))]
+#[tactic(auto, using(st_scan::proofs::Views::views))]
 pub fn with_part(
     text: &[u8],
     parts: Parts,
@@ -53,7 +53,7 @@ pub fn with_part(
 }
 
 /// One message to a receiver.
-#[tactic(auto, using(st_tree::proofs::Views::views))]
+#[tactic(auto, using(st_scan::proofs::Views::views))]
 fn send(alloc: Global, receiver: Expression, message: Message) -> Result<Expression, AllocError>
     ensures { IfOk result (Makes (sent_message receiver message)) }
 {
@@ -63,7 +63,7 @@ fn send(alloc: Global, receiver: Expression, message: Message) -> Result<Express
 }
 
 /// A keyword message to a receiver, where there are arguments.
-#[tactic(auto, using(st_tree::proofs::Views::views))]
+#[tactic(auto, using(st_scan::proofs::Views::views))]
 pub fn send_if(alloc: Global, receiver: Expression, parts: Parts) -> Result<Expression, AllocError>
     ensures { IfOk result (Makes (sent_parts receiver parts)) }
 {

@@ -2,9 +2,9 @@
 use Rattle.std.proofs.Common.{◌≡◌, ℕ, zero, suc, ◌<◌, ◌≤◌, Bool, true, false, List, [], ◌∷◌, ◌++◌, length, get_or, refl, sym, ap, ◌∙◌, append_assoc, arith}
 use Rattle.std.specs.Str.{byte}
 use Rattle.std.proofs.lemmas.List.{append-nil}
-use Rattle.st_tree.specs.declared.chain.Link.{Link}
-use Rattle.st_tree.specs.Views.{ExpressionView, variable, literal, block, assign, send}
-use Rattle.st_tree.specs.Chains.{LinkView, assigned, sent, with_link, linked, IsStart, link_size, links_size}
+use Rattle.st_scan.specs.declared.chain.Link.{Link}
+use Rattle.st_scan.specs.Views.{ExpressionView, variable, literal, block, assign, send}
+use Rattle.st_scan.specs.Chains.{LinkView, assigned, sent, with_link, linked, IsStart, link_size, links_size}
 use Rattle.st_print.specs.declared.rank.Rank.{Rank}
 use Rattle.st_print.specs.declared.rank.Rank.TheVariants.{Unary, Binary, Any}
 use Rattle.st_print.specs.Words.{Word, name, mark, wrapped}

@@ -1,10 +1,10 @@
 -- Lists of which the first one is put, and then the others.
 use Rattle.std.proofs.Common.{◌≡◌, false, List, [], ◌∷◌, ◌++◌, length, get_or, drop, refl, sym, ap, ◌∙◌, append_assoc}
 use Rattle.std.specs.Prelude.{◌==◌}
-use Rattle.st_tree.specs.declared.tree.Name.{Name}
-use Rattle.st_tree.specs.declared.tree.Statement.{Statement}
-use Rattle.st_tree.specs.declared.tree.Message.{Message}
-use Rattle.st_tree.specs.Views.{names_view, expression_view, expressions_view, statements_view, messages_view}
+use Rattle.st_scan.specs.declared.tree.Name.{Name}
+use Rattle.st_scan.specs.declared.tree.Statement.{Statement}
+use Rattle.st_scan.specs.declared.tree.Message.{Message}
+use Rattle.st_scan.specs.Views.{names_view, expression_view, expressions_view, statements_view, messages_view}
 use Rattle.st_print.specs.Words.{bar}
 use Rattle.st_print.specs.Printed.{parameter_words, parameters_words, names_words, temporaries_words, return_words, expression_words, statements_words, next_statements, messages_words, next_messages, message_words}
 

@@ -1,9 +1,9 @@
 -- The ranks of lists that aren't empty.
 use Rattle.std.proofs.Common.{◌≡◌, ◌≤◌, ℕ, List, [], ◌∷◌, length, get_or, refl, subst, arith}
 use Rattle.std.specs.Prelude.{if◌then◌else◌}
-use Rattle.st_tree.specs.declared.tree.Expression.{Expression}
-use Rattle.st_tree.specs.declared.tree.Message.{Message}
-use Rattle.st_tree.specs.Views.{MessagesView, expressions_view, messages_view, message}
+use Rattle.st_scan.specs.declared.tree.Expression.{Expression}
+use Rattle.st_scan.specs.declared.tree.Message.{Message}
+use Rattle.st_scan.specs.Views.{MessagesView, expressions_view, messages_view, message}
 use Rattle.st_print.specs.declared.rank.Rank.TheVariants.{Binary, Any}
 use Rattle.st_print.specs.Printed.{is_word, rank_of_message, rank_of_messages, receiver_rank}
 

@@ -1,9 +1,9 @@
 -- The text of trees, by the definition alone.
 use Rattle.std.proofs.Common.{ℕ, Bool, true, false, List, [], ◌∷◌, ◌++◌, refl, Some, None}
 use Rattle.std.specs.Prelude.{codes, decimal, ◌≡◌}
-use Rattle.st_tree.specs.declared.token.Signed.{Signed}
-use Rattle.st_tree.specs.Views.{NameView, ContentView, ExpressionView}
-use Rattle.st_tree.specs.Views as v
+use Rattle.st_scan.specs.declared.token.Signed.{Signed}
+use Rattle.st_scan.specs.Views.{NameView, ContentView, ExpressionView}
+use Rattle.st_scan.specs.Views as v
 use Rattle.st_print.specs.Printed.{printed}
 
 abbrev signed : Bool → ℕ → Signed

@@ -5,9 +5,9 @@ use Rattle.std.specs.Str.{byte}
 use Rattle.std.proofs.lemmas.List.{append-nil}
 use Rattle.std.proofs.lemmas.Bool.{eqb-true, eq-eqb}
 use Rattle.std.proofs.Math.Seq.{drop-append_seam}
-use Rattle.st_tree.specs.declared.token.Signed.{Signed}
-use Rattle.st_tree.specs.Views.{ContentView, number, character, bytes, symbol, array, nil_object, false_object, true_object, ExpressionView, variable, literal, block, assign, send}
-use Rattle.st_tree.specs.Chains.{LinkView, assigned, sent, linked, IsStart}
+use Rattle.st_scan.specs.declared.token.Signed.{Signed}
+use Rattle.st_scan.specs.Views.{ContentView, number, character, bytes, symbol, array, nil_object, false_object, true_object, ExpressionView, variable, literal, block, assign, send}
+use Rattle.st_scan.specs.Chains.{LinkView, assigned, sent, linked, IsStart}
 use Rattle.st_print.specs.declared.rank.Rank.{Rank}
 use Rattle.st_print.specs.declared.rank.Rank.TheVariants.{Any}
 use Rattle.st_print.specs.Words.{Word, number_text, spaced, grouped, wrapped, mark}

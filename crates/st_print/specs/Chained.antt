@@ -1,10 +1,10 @@
 -- The words of an expression along its chain: what stands before its start, and what stands behind it.
 use Rattle.std.specs.Prelude.{Bool, true, false, List, [], ◌∷◌, ◌++◌, Option, Some, None, if◌then◌else◌}
 use Rattle.std.specs.Str.{byte}
-use Rattle.st_tree.specs.declared.token.Signed.{Signed}
-use Rattle.st_tree.specs.Views.{ContentView, ExpressionView, MessagesView}
-use Rattle.st_tree.specs.Views as views
-use Rattle.st_tree.specs.Chains.{LinkView, assigned, sent}
+use Rattle.st_scan.specs.declared.token.Signed.{Signed}
+use Rattle.st_scan.specs.Views.{ContentView, ExpressionView, MessagesView}
+use Rattle.st_scan.specs.Views as views
+use Rattle.st_scan.specs.Chains.{LinkView, assigned, sent}
 use Rattle.st_print.specs.declared.rank.Rank.{Rank}
 use Rattle.st_print.specs.declared.rank.Rank.TheVariants.{Any}
 use Rattle.st_print.specs.Words.{Word, name, mark}

@@ -1,12 +1,12 @@
 -- What is put behind a text.
 use Rattle.std.specs.Prelude.{◌≡◌, ℕ, List, ◌++◌}
 use Rattle.std.specs.Global.{Vec}
-use Rattle.st_tree.specs.declared.tree.Name.{Name}
-use Rattle.st_tree.specs.declared.tree.Expression.{Expression}
-use Rattle.st_tree.specs.declared.tree.Statement.{Statement}
-use Rattle.st_tree.specs.declared.tree.Message.{Message}
-use Rattle.st_tree.specs.Views.{MethodView, names_view, expression_view, expressions_view, statements_view}
-use Rattle.st_tree.specs.Views as views
+use Rattle.st_scan.specs.declared.tree.Name.{Name}
+use Rattle.st_scan.specs.declared.tree.Expression.{Expression}
+use Rattle.st_scan.specs.declared.tree.Statement.{Statement}
+use Rattle.st_scan.specs.declared.tree.Message.{Message}
+use Rattle.st_scan.specs.Views.{MethodView, names_view, expression_view, expressions_view, statements_view}
+use Rattle.st_scan.specs.Views as views
 use Rattle.st_print.specs.declared.rank.Rank.{Rank}
 use Rattle.st_print.specs.Words.{Word, spaced}
 use Rattle.st_print.specs.Printed.{return_words, expression_words, statements_words, message_words, keyword_words, rank_of_message, options_words, first_signed, apart, behind_pattern}

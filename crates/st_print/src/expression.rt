@@ -3,8 +3,8 @@
 ghost use Rattle.std.specs.Prelude.{◌≡◌, ◌≤◌, ◌==◌, ◌++◌, not, length, OnOk};
 ghost use Rattle.std.specs.List.{prefix_len};
 ghost use Rattle.std.specs.Str.{byte};
-ghost use Rattle.st_tree.specs.Views.{names_view, expression_view, statements_view, messages_view};
-ghost use Rattle.st_tree.specs.Chains.{link_view, links_view};
+ghost use Rattle.st_scan.specs.Views.{names_view, expression_view, statements_view, messages_view};
+ghost use Rattle.st_scan.specs.Chains.{link_view, links_view};
 ghost use Rattle.st_print.specs.Words.{first_keyword, other_keywords};
 ghost use Rattle.st_print.specs.Printed.{parameter_words, parameters_words, placed, statements_words};
 ghost use Rattle.st_print.specs.Printed.{next_statements, messages_words, next_messages};
@@ -14,7 +14,7 @@ ghost use Rattle.st_print.specs.Putting.{IsPut, block_words, statement_words, se
 use crate::literal::literal;
 use crate::rank::{Rank, is_word, rank_of_link, wanted_by};
 use crate::words::put;
-use st_tree::{Expression, Link, Message, Name, Statement, Text};
+use st_scan::{Expression, Link, Message, Name, Statement, Text};
 use std::alloc::{AllocError, Global};
 
 /// Puts what stands before an expression for one link.
@@ -91,7 +91,7 @@ pub fn split_keyword(selector: &[u8]) -> (&[u8], &[u8])
 
 /// Puts an expression, where one of a rank is wanted.
 #[cycle(printing)]
-#[tactic(auto, using(crate::proofs::Spacing::spacing, st_tree::proofs::Views::views))]
+#[tactic(auto, using(crate::proofs::Spacing::spacing, st_scan::proofs::Views::views))]
 pub fn expression(
     alloc: Global,
     out: &mut Text,

@@ -1,17 +1,17 @@
 //! Literals.
 
 ghost use Rattle.std.specs.Prelude.{◌≡◌, ◌++◌, OnOk};
-ghost use Rattle.st_tree.specs.Views.{array, content_view, elements_view};
+ghost use Rattle.st_scan.specs.Views.{array, content_view, elements_view};
 ghost use Rattle.st_print.specs.Printed.{content_words, elements_words};
 ghost use Rattle.st_print.specs.Putting.{IsPut};
 
 use crate::words::{put, put_number, put_string, put_symbol};
-use st_tree::{Content, Element, Text};
+use st_scan::{Content, Element, Text};
 use std::alloc::AllocError;
 
 /// Puts a literal.
 #[cycle(literals)]
-#[tactic(auto, using(crate::proofs::Spacing::spacing, st_tree::proofs::Views::views))]
+#[tactic(auto, using(crate::proofs::Spacing::spacing, st_scan::proofs::Views::views))]
 pub fn literal(out: &mut Text, content: &Content) -> Result<(), AllocError>
     ensures { OnOk result (IsPut (content_words (content_view content.now)) out.old out.new) }
 {

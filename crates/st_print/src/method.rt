@@ -1,8 +1,8 @@
 //! Methods.
 
 ghost use Rattle.std.specs.Prelude.{◌≡◌, ◌++◌, drop, OnOk, IfOk};
-ghost use Rattle.st_tree.specs.Views.{names_view, content_view, expression_view, statements_view};
-ghost use Rattle.st_tree.specs.Views.{method_view};
+ghost use Rattle.st_scan.specs.Views.{names_view, content_view, expression_view, statements_view};
+ghost use Rattle.st_scan.specs.Views.{method_view};
 ghost use Rattle.st_print.specs.Chained.{signed_content, signed_start};
 ghost use Rattle.st_print.specs.Printed.{pattern_words, keyword_pattern, names_words, temporaries_words};
 ghost use Rattle.st_print.specs.Printed.{primitive_words, expression_words, statements_words, first_signed};
@@ -12,7 +12,7 @@ ghost use Rattle.st_print.specs.Putting.{IsPut, apart_words, rest_words};
 use crate::expression::{before_links, split_keyword, statements};
 use crate::rank::{Rank, is_word};
 use crate::words::{put, put_number};
-use st_tree::{Content, Expression, MethodTree, Name, Signed, Statement, Text};
+use st_scan::{Content, Expression, MethodTree, Name, Signed, Statement, Text};
 use std::alloc::{AllocError, Global};
 
 /// Puts a pattern's keywords, each with the name of its argument.

@@ -1,13 +1,13 @@
 //! How loosely an expression binds.
 
 ghost use Rattle.std.specs.Prelude.{◌≡◌};
-ghost use Rattle.st_tree.specs.Views.{messages_view};
-ghost use Rattle.st_tree.specs.Chains.{link_view, links_view};
+ghost use Rattle.st_scan.specs.Views.{messages_view};
+ghost use Rattle.st_scan.specs.Chains.{link_view, links_view};
 ghost use Rattle.st_print.specs.Printed.{is_loose, is_word, rank_of_messages, receiver_rank};
 ghost use Rattle.st_print.specs.Chained.{rank_of_link, inner_rank, wanted_by};
 ghost use Rattle.st_print.specs.Putting.{sent_rank};
 
-use st_tree::{Expression, Link, Message};
+use st_scan::{Expression, Link, Message};
 
 /// What an expression is: a unary expression, as a primary is; a binary one; or any other, as an assignment, a keyword
 /// expression and a cascade are.

@@ -6,7 +6,7 @@ ghost use Rattle.st_scan.specs.Pieces.{doubled};
 ghost use Rattle.st_print.specs.Words.{number_text, string_text};
 
 use itoa::Buffer;
-use st_tree::{Signed, Text};
+use st_scan::{Signed, Text};
 use std::alloc::AllocError;
 
 /// Puts a word.

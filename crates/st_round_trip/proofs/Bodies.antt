@@ -3,9 +3,9 @@ use Rattle.std.proofs.Common.{◌≡◌, ℕ, Bool, true, false, List, [], ◌�
 use Rattle.std.specs.Prelude.{IsFalse}
 use Rattle.std.specs.Str.{byte}
 use Rattle.std.proofs.lemmas.List.{append-nil}
-use Rattle.st_tree.specs.Views.{NameView, ContentView, ExpressionView, StatementsView, MessagesView, ExpressionsView, MethodView, is_super}
-use Rattle.st_tree.specs.Views as views
-use Rattle.st_tree.specs.Placeless.{placeless_name, placeless_names, placeless, placeless_statements}
+use Rattle.st_scan.specs.Views.{NameView, ContentView, ExpressionView, StatementsView, MessagesView, ExpressionsView, MethodView, is_super}
+use Rattle.st_scan.specs.Views as views
+use Rattle.st_scan.specs.Placeless.{placeless_name, placeless_names, placeless, placeless_statements}
 use Rattle.st_grammar.specs.declared.leaf.Leaf.{Leaf}
 use Rattle.st_grammar.specs.declared.leaf.Kind.TheVariants as kinds
 use Rattle.st_grammar.specs.Phrases.{One, names, Parameter, Primary, Block, Expression, Statements, KeywordName, Pattern, Temporaries, Primitive', Options, Method, ones_text, parameters_text, literal_text, block_text, primary_text, unary_text, expression_text, statements_text, keyword_names_text, pattern_text, temporaries_text, primitive_text, options_text, method_text}

@@ -3,10 +3,10 @@ use Rattle.std.proofs.Common.{◌≡◌, ℕ, ◌+◌, ◌≤◌, max, Bool, tru
 use Rattle.std.specs.Prelude.{IsTrue, codes, bytes_eq}
 use Rattle.std.specs.Str.{byte}
 use Rattle.std.proofs.lemmas.List.{append-nil}
-use Rattle.st_tree.specs.declared.token.Sort.{Sort}
-use Rattle.st_tree.specs.declared.token.Sort.TheVariants as sorts
-use Rattle.st_tree.specs.Views.{ContentView, ExpressionView, ExpressionsView, MessagesView, StatementsView, with_message, with_sent}
-use Rattle.st_tree.specs.Views as views
+use Rattle.st_scan.specs.declared.token.Sort.{Sort}
+use Rattle.st_scan.specs.declared.token.Sort.TheVariants as sorts
+use Rattle.st_scan.specs.Views.{ContentView, ExpressionView, ExpressionsView, MessagesView, StatementsView, with_message, with_sent}
+use Rattle.st_scan.specs.Views as views
 use Rattle.st_grammar.specs.declared.leaf.Leaf.{Leaf}
 use Rattle.st_grammar.specs.declared.leaf.Kind.TheVariants.{Opening, Open, OpenBlock}
 use Rattle.st_grammar.specs.Leaves.{among, keywords, operators, openings}

@@ -2,8 +2,8 @@
 use Rattle.std.proofs.Common.{◌≡◌, ℕ, ◌+◌, ◌-◌, ◌≤◌, Bool, true, false, List, [], ◌∷◌, ◌++◌, refl, sym, ap, subst, arith}
 use Rattle.std.specs.Prelude.{◌||◌, ◌==◌, IsTrue}
 use Rattle.std.specs.Str.{byte}
-use Rattle.st_tree.specs.declared.token.Sort.{Sort}
-use Rattle.st_tree.specs.declared.token.Sort.TheVariants as sorts
+use Rattle.st_scan.specs.declared.token.Sort.{Sort}
+use Rattle.st_scan.specs.declared.token.Sort.TheVariants as sorts
 use Rattle.st_scan.specs.Pieces.{is_name, is_operator, greatest}
 use Rattle.st_scan.specs.Bytes.{is_mark}
 use Rattle.st_scan.specs.Scans.{Context, signs, depth_after}

@@ -2,9 +2,9 @@
 use Rattle.std.proofs.Common.{◌≡◌, ℕ, true, List, [], ◌∷◌, ◌++◌, refl, ap, ◌∙◌}
 use Rattle.std.specs.Prelude.{codes}
 use Rattle.std.specs.Str.{byte}
-use Rattle.st_tree.specs.Views.{ContentView, ElementsView}
-use Rattle.st_tree.specs.Views as views
-use Rattle.st_tree.specs.Placeless.{placeless_content, placeless_elements}
+use Rattle.st_scan.specs.Views.{ContentView, ElementsView}
+use Rattle.st_scan.specs.Views as views
+use Rattle.st_scan.specs.Placeless.{placeless_content, placeless_elements}
 use Rattle.st_grammar.specs.declared.leaf.Leaf.{Leaf}
 use Rattle.st_grammar.specs.declared.leaf.Kind.TheVariants as kinds
 use Rattle.st_grammar.specs.Leaves.{among}

@@ -3,10 +3,10 @@ use Rattle.std.proofs.Common.{◌≡◌, ℕ, suc, Bool, true, false, List, [], 
 use Rattle.std.specs.Prelude.{Option, Some, None, codes, if◌then◌else◌}
 use Rattle.std.specs.Str.{byte}
 use Rattle.std.proofs.lemmas.List.{append-nil}
-use Rattle.st_tree.specs.declared.token.Signed.{Signed}
-use Rattle.st_tree.specs.Views.{NameView, StatementsView, MethodView}
-use Rattle.st_tree.specs.Views as views
-use Rattle.st_tree.specs.Placeless.{placeless_name, placeless_names, placeless_statements, without_places}
+use Rattle.st_scan.specs.declared.token.Signed.{Signed}
+use Rattle.st_scan.specs.Views.{NameView, StatementsView, MethodView}
+use Rattle.st_scan.specs.Views as views
+use Rattle.st_scan.specs.Placeless.{placeless_name, placeless_names, placeless_statements, without_places}
 use Rattle.st_grammar.specs.declared.leaf.Leaf.{Leaf}
 use Rattle.st_grammar.specs.declared.leaf.Kind.{Kind}
 use Rattle.st_grammar.specs.declared.leaf.Kind.TheVariants as kinds

@@ -1,8 +1,8 @@
 -- How many brackets of a printed text are open in one another.
 use Rattle.std.proofs.Common.{ℕ, ◌+◌, max, Bool, true, false, List}
 use Rattle.std.specs.Prelude.{if◌then◌else◌}
-use Rattle.st_tree.specs.Views.{ContentView, ElementsView, ExpressionView, StatementsView, MessagesView, ExpressionsView}
-use Rattle.st_tree.specs.Views as views
+use Rattle.st_scan.specs.Views.{ContentView, ElementsView, ExpressionView, StatementsView, MessagesView, ExpressionsView}
+use Rattle.st_scan.specs.Views as views
 use Rattle.st_print.specs.declared.rank.Rank.{Rank}
 use Rattle.st_print.specs.declared.rank.Rank.TheVariants.{Unary, Binary}
 use Rattle.st_print.specs.Printed.{is_loose, is_word, rank_of, receiver_rank}

@@ -1,6 +1,6 @@
 -- The printed text of what some text means, read again.
 use Rattle.std.proofs.Common.{ℕ, ◌≤◌, List, sym, ap, subst, arith}
-use Rattle.st_tree.specs.Views.{MethodView}
+use Rattle.st_scan.specs.Views.{MethodView}
 use Rattle.st_grammar.specs.Leaves.{leaves_of}
 use Rattle.st_grammar.specs.Faults.{highest, most}
 use Rattle.st_grammar.specs.Texts.{Means}

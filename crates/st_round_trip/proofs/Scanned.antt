@@ -5,8 +5,8 @@ use Rattle.std.specs.Str.{byte}
 use Rattle.std.proofs.lemmas.Bool.{cases_Bool, ne_eqb, and_right}
 use Rattle.std.proofs.lemmas.List.{append-nil, drop-drop}
 use Rattle.std.proofs.Math.Seq.{take-append_seam, drop-append_seam}
-use Rattle.st_tree.specs.declared.token.Token.{Token}
-use Rattle.st_tree.specs.declared.token.Sort.{Sort}
+use Rattle.st_scan.specs.declared.token.Token.{Token}
+use Rattle.st_scan.specs.declared.token.Sort.{Sort}
 use Rattle.st_scan.specs.Pieces.{Piece, IsFormed, Stands, spelling}
 use Rattle.st_scan.specs.Pieces as pieces
 use Rattle.st_scan.specs.Scans.{Context, start, signs, joined, AllStand, with_token, tokens_from, HasTokens}

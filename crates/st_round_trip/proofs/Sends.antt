@@ -3,9 +3,9 @@ use Rattle.std.proofs.Common.{◌≡◌, ℕ, true, false, List, [], ◌∷◌, 
 use Rattle.std.specs.Prelude.{IsFalse}
 use Rattle.std.specs.Str.{byte}
 use Rattle.std.proofs.lemmas.List.{append-nil}
-use Rattle.st_tree.specs.Views.{ExpressionView, MessagesView, ExpressionsView, with_message, with_sent, is_super}
-use Rattle.st_tree.specs.Views as views
-use Rattle.st_tree.specs.Placeless.{placeless, placeless_messages, placeless_expressions}
+use Rattle.st_scan.specs.Views.{ExpressionView, MessagesView, ExpressionsView, with_message, with_sent, is_super}
+use Rattle.st_scan.specs.Views as views
+use Rattle.st_scan.specs.Placeless.{placeless, placeless_messages, placeless_expressions}
 use Rattle.st_grammar.specs.declared.leaf.Leaf.{Leaf}
 use Rattle.st_grammar.specs.declared.leaf.Kind.TheVariants as kinds
 use Rattle.st_grammar.specs.Leaves.{operators}

@@ -5,9 +5,9 @@ use Rattle.std.specs.List.{list_any}
 use Rattle.std.specs.Str.{byte}
 use Rattle.std.proofs.lemmas.Bool.{cases_Bool}
 use Rattle.std.proofs.Math.Seq.{take-append_seam}
-use Rattle.st_tree.specs.declared.token.Sort.{Sort}
-use Rattle.st_tree.specs.Views.{NameView}
-use Rattle.st_tree.specs.Placeless.{placeless_name}
+use Rattle.st_scan.specs.declared.token.Sort.{Sort}
+use Rattle.st_scan.specs.Views.{NameView}
+use Rattle.st_scan.specs.Placeless.{placeless_name}
 use Rattle.st_scan.specs.Pieces.{doubled}
 use Rattle.st_grammar.specs.declared.leaf.Leaf.{Leaf}
 use Rattle.st_grammar.specs.declared.leaf.Kind.{Kind}

@@ -1,9 +1,9 @@
 -- Trees of phrases that grow at their end; and what places have no part in.
 use Rattle.std.proofs.Common.{◌≡◌, ℕ, true, false, List, [], ◌∷◌, ◌++◌, refl, sym, ap, ◌∙◌, append_assoc}
 use Rattle.std.proofs.lemmas.List.{append-nil}
-use Rattle.st_tree.specs.Views.{NameView, ExpressionView, StatementsView, MessagesView, ExpressionsView, with_message, with_sent, is_super}
-use Rattle.st_tree.specs.Views as views
-use Rattle.st_tree.specs.Placeless.{placeless}
+use Rattle.st_scan.specs.Views.{NameView, ExpressionView, StatementsView, MessagesView, ExpressionsView, with_message, with_sent, is_super}
+use Rattle.st_scan.specs.Views as views
+use Rattle.st_scan.specs.Placeless.{placeless}
 use Rattle.st_grammar.specs.declared.leaf.Leaf.{Leaf}
 use Rattle.st_grammar.specs.declared.leaf.Kind.{Kind}
 use Rattle.st_grammar.specs.Leaves.{operators}

@@ -3,9 +3,9 @@ use Rattle.std.proofs.Common.{◌≡◌, ℕ, ◌+◌, ◌<◌, ◌≤◌, Bool,
 use Rattle.std.specs.Prelude.{Option, Some, None, codes, if◌then◌else◌}
 use Rattle.std.specs.Str.{byte}
 use Rattle.std.proofs.lemmas.Bool.{lt-ltb}
-use Rattle.st_tree.specs.declared.token.Signed.{Signed}
-use Rattle.st_tree.specs.Views.{NameView, ContentView, ElementsView, ExpressionView, StatementsView, MessagesView, ExpressionsView, MethodView, is_super}
-use Rattle.st_tree.specs.Views as views
+use Rattle.st_scan.specs.declared.token.Signed.{Signed}
+use Rattle.st_scan.specs.Views.{NameView, ContentView, ElementsView, ExpressionView, StatementsView, MessagesView, ExpressionsView, MethodView, is_super}
+use Rattle.st_scan.specs.Views as views
 use Rattle.st_scan.specs.Scans.{Context, signs}
 use Rattle.st_scan.proofs.Classes.{or_second}
 use Rattle.st_grammar.specs.Formed.{AreKeywords, IsSelector, ContentFormed, ElementsFormed, LiteralFormed, NamesFormed, HasMessage, count_of, ReceiverFormed, StatementsFormed, MessagesFormed, ArgumentsFormed, PrimitiveFormed, IsWellFormed}

@@ -9,8 +9,8 @@ use Rattle.std.specs.Char.{is_ascii_digit, digit_value}
 use Rattle.std.proofs.lemmas.Bool.{and_from, lt-ltb, le-leb}
 use Rattle.std.proofs.lemmas.Fmt.{decimal_is_IsNumeral_wide}
 use Rattle.std.proofs.lemmas.Str.Parse.{digit_from_value}
-use Rattle.st_tree.specs.declared.token.Signed.{Signed}
-use Rattle.st_tree.specs.declared.token.Sort.TheVariants as sorts
+use Rattle.st_scan.specs.declared.token.Signed.{Signed}
+use Rattle.st_scan.specs.declared.token.Sort.TheVariants as sorts
 use Rattle.st_scan.specs.Pieces.{Piece, IsFormed, spelling, is_name, keywords_text, size, are_digits, is_allowed, greatest}
 use Rattle.st_scan.specs.Pieces as pieces
 use Rattle.st_scan.specs.Scans.{Context, after, sort_of}

@@ -1,7 +1,7 @@
 -- What is printed of a tree is read as that tree.
 use Rattle.std.specs.Prelude.{◌≡◌}
-use Rattle.st_tree.specs.Views.{MethodView}
-use Rattle.st_tree.specs.Placeless.{without_places}
+use Rattle.st_scan.specs.Views.{MethodView}
+use Rattle.st_scan.specs.Placeless.{without_places}
 use Rattle.st_grammar.specs.Texts.{Means}
 use Rattle.st_print.specs.Printed.{printed}
 

@@ -1,7 +1,7 @@
 //! The law of printing and parsing.
 
 ghost use Rattle.std.specs.Prelude.{ℕ, List};
-ghost use Rattle.st_tree.specs.Views.{MethodView};
+ghost use Rattle.st_scan.specs.Views.{MethodView};
 ghost use Rattle.st_grammar.specs.Texts.{Means};
 ghost use Rattle.st_round_trip.specs.Printing.{IsPrintedBack};
 

@@ -3,7 +3,7 @@ use Rattle.std.proofs.Common.{◌≡◌, ℕ, Bool, true, false, eqb, ◌&&◌, 
 use Rattle.std.specs.Prelude.{position}
 use Rattle.std.specs.Str.{byte}
 use Rattle.std.specs.Char.{is_ascii_digit, is_ascii_alphabetic}
-use Rattle.st_tree.specs.declared.fault.Cause.TheVariants as causes
+use Rattle.st_scan.specs.declared.fault.Cause.TheVariants as causes
 use Rattle.st_scan.specs.Bytes.{is_blank, begins_operator, is_mark}
 use Rattle.st_scan.specs.Pieces.{blank, operator, begins}
 use Rattle.st_scan.specs.Faults.{begins_piece}

@@ -8,8 +8,8 @@ use Rattle.std.specs.Char.{is_ascii_digit, is_ascii_alphabetic, is_ascii_alphanu
 use Rattle.std.proofs.lemmas.Bool.{cases_Bool, and_parts, and_from, and_left, and_right, or_cases, not-true, eqb-true, lt-ltb, le-ltb}
 use Rattle.std.proofs.lemmas.List.{append-nil, drop-drop}
 use Rattle.std.proofs.Math.Seq.{take-append_seam, drop-append_seam}
-use Rattle.st_tree.specs.declared.fault.Cause.{Cause}
-use Rattle.st_tree.specs.declared.fault.Cause.TheVariants as causes
+use Rattle.st_scan.specs.declared.fault.Cause.{Cause}
+use Rattle.st_scan.specs.declared.fault.Cause.TheVariants as causes
 use Rattle.st_scan.specs.Bytes.{is_radix_digit, is_operator_byte, is_second_operator_byte, begins_operator}
 use Rattle.st_scan.specs.Pieces.{Digits, decimal, radix, Symbol, unary, keywords, binary, Piece, blank, comment, name, keyword, operator, number, character, string, symbol, opening, mark, digits_text, keywords_text, symbol_text, doubled, spelling, is_name, is_operator, operator_ends, is_sign, is_mark_text, mark_ends, begins, begins_keyword, makes_keyword, makes_radix, some_pass, are_digits, digits_end, IsNumber, SymbolStands, Stands}
 use Rattle.st_scan.specs.Faults.{IsFaulty, begins_nothing, begins_piece, goes_with_hash}

@@ -11,3 +11,5 @@ pub mod Scanning
 pub mod Sound
 pub mod Spans
 pub mod Strings
+pub mod Chains
+pub mod Views

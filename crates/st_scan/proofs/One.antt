@@ -1,9 +1,9 @@
 -- A text has one scan.
 use Rattle.std.proofs.Common.{◌≡◌, ℕ, zero, suc, ◌+◌, ◌<◌, ◌≤◌, Bool, true, List, [], ◌∷◌, ◌++◌, length, drop, Option, Some, None, refl, sym, ap, ◌∙◌, subst, arith, inl, inr, append_assoc, length-append}
-use Rattle.st_tree.specs.declared.token.Token.{Token}
-use Rattle.st_tree.specs.declared.fault.Fault.{Fault}
-use Rattle.st_tree.specs.declared.fault.Cause.{Cause}
-use Rattle.st_tree.specs.declared.fault.Cause.TheVariants as causes
+use Rattle.st_scan.specs.declared.token.Token.{Token}
+use Rattle.st_scan.specs.declared.fault.Fault.{Fault}
+use Rattle.st_scan.specs.declared.fault.Cause.{Cause}
+use Rattle.st_scan.specs.declared.fault.Cause.TheVariants as causes
 use Rattle.st_scan.specs.Pieces.{Digits, Piece, spelling, number, sign_text, digits_text, are_digits, Stands}
 use Rattle.st_scan.specs.Faults.{IsFaulty}
 use Rattle.st_scan.specs.Scans.{Context, start, signs, after, after_all, joined, AllStand, tokens_from, EndsBy, ScansTo, HasScan}

@@ -1,12 +1,12 @@
 -- Worked texts, by the definition alone: their pieces, their tokens, and their first fault.
 use Rattle.std.proofs.Common.{ℕ, Bool, true, false, [], ◌∷◌, refl, inl}
 use Rattle.std.specs.Prelude.{codes}
-use Rattle.st_tree.specs.declared.token.Token.{Token}
-use Rattle.st_tree.specs.declared.token.Sort.{Sort}
-use Rattle.st_tree.specs.declared.token.Sort.TheVariants as sorts
-use Rattle.st_tree.specs.declared.fault.Fault.{Fault}
-use Rattle.st_tree.specs.declared.fault.Cause.{Cause}
-use Rattle.st_tree.specs.declared.fault.Cause.TheVariants as causes
+use Rattle.st_scan.specs.declared.token.Token.{Token}
+use Rattle.st_scan.specs.declared.token.Sort.{Sort}
+use Rattle.st_scan.specs.declared.token.Sort.TheVariants as sorts
+use Rattle.st_scan.specs.declared.fault.Fault.{Fault}
+use Rattle.st_scan.specs.declared.fault.Cause.{Cause}
+use Rattle.st_scan.specs.declared.fault.Cause.TheVariants as causes
 use Rattle.st_scan.specs.Pieces.{decimal, radix, keywords, blank, name, operator, number, string, symbol, opening, mark}
 use Rattle.st_scan.specs.Scans.{HasTokens, HasFault}
 

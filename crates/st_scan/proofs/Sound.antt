@@ -9,8 +9,8 @@ use Rattle.std.proofs.lemmas.Bool.{false≢true, cases_Bool, and_parts, and_case
 use Rattle.std.proofs.lemmas.List.{take-append-drop, drop-drop, length-take-le}
 use Rattle.std.proofs.lemmas.List.Sums.{split_at_first, passes_at_first, prefix_len-le-length}
 use Rattle.std.proofs.Math.Seq.{take-length}
-use Rattle.st_tree.specs.declared.fault.Cause.{Cause}
-use Rattle.st_tree.specs.declared.fault.Cause.TheVariants as causes
+use Rattle.st_scan.specs.declared.fault.Cause.{Cause}
+use Rattle.st_scan.specs.declared.fault.Cause.TheVariants as causes
 use Rattle.st_scan.specs.Bytes.{is_blank, is_radix_digit, is_operator_byte, is_second_operator_byte, begins_operator, is_mark}
 use Rattle.st_scan.specs.Pieces.{Digits, decimal, radix, unary, keywords, binary, Piece, blank, comment, name, keyword, operator, number, character, string, symbol, opening, mark, digits_text, sign_text, keywords_text, doubled, spelling, is_name, is_operator, operator_ends, is_sign, begins, begins_keyword, makes_keyword, makes_radix, makes_float, is_allowed, some_pass, are_digits, digits_end, IsNumber, Stands}
 use Rattle.st_scan.specs.Faults.{IsFaulty, StartsWithNumber, begins_nothing, begins_piece}

@@ -4,9 +4,9 @@ use Rattle.std.specs.Prelude.{All}
 use Rattle.std.proofs.Math.Seq.{take-append_seam, drop-append_seam}
 use Rattle.std.proofs.lemmas.List.{append-nil, drop-drop}
 use Rattle.std.proofs.lemmas.List.Elements.{All-nil, All-cons}
-use Rattle.st_tree.specs.declared.token.Token.{Token}
-use Rattle.st_tree.specs.declared.token.Sort.{Sort}
-use Rattle.st_tree.specs.declared.fault.Fault.{Fault}
+use Rattle.st_scan.specs.declared.token.Token.{Token}
+use Rattle.st_scan.specs.declared.token.Sort.{Sort}
+use Rattle.st_scan.specs.declared.fault.Fault.{Fault}
 use Rattle.st_scan.specs.Pieces.{Piece, spelling, Stands}
 use Rattle.st_scan.specs.Scans.{Context, start, signs, after, joined, AllStand, sort_of, with_token, tokens_from, AreSpans, IsToken, IsJoined, ScansTo, HasTokens}
 use Rattle.st_scan.proofs.Scanning.{has_bytes}

@@ -1,8 +1,8 @@
 -- What the code keeps of the tokens so far, and what a token adds by its sort and its first byte.
 use Rattle.std.specs.Prelude.{ℕ, ◌+◌, ◌-◌, Bool, true, false, ◌&&◌, ◌||◌, ◌==◌, nat_lt, if◌then◌else◌}
 use Rattle.std.specs.Str.{byte}
-use Rattle.st_tree.specs.declared.token.Sort.{Sort}
-use Rattle.st_tree.specs.declared.token.Sort.TheVariants.{Keyword, Operator, Opening, Mark}
+use Rattle.st_scan.specs.declared.token.Sort.{Sort}
+use Rattle.st_scan.specs.declared.token.Sort.TheVariants.{Keyword, Operator, Opening, Mark}
 use Rattle.st_scan.specs.declared.scanner.Context.{Context as Kept}
 use Rattle.st_scan.specs.Scans.{Context}
 

@@ -5,3 +5,7 @@ pub mod Fronts
 pub mod Numerals
 pub mod Pieces
 pub mod Scans
+pub mod Chains
+pub mod TreeFaults
+pub mod Views
+pub mod Placeless

@@ -7,10 +7,11 @@ ghost use Rattle.st_scan.specs.Pieces.{begins};
 ghost use Rattle.st_scan.specs.Fronts.{shown, comment_to, mark_at, character_at, front_of};
 
 use crate::bytes::{begins_operator, is_blank, is_mark};
+use crate::fault::Cause;
 use crate::number::number;
 use crate::string::string;
+use crate::token::Sort;
 use crate::word::{hash, operator, word};
-use st_tree::{Cause, Sort};
 
 /// What stands at the front of a text, with its length: a blank or a comment, or a token. Or why nothing does.
 #[derive(Clone, Copy)]

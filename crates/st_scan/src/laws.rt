@@ -1,8 +1,8 @@
 //! Laws of the definition.
 
 ghost use Rattle.std.specs.Prelude.{◌≡◌, ◌∷◌, [], ℕ, Bool, List, Option, All, length};
-ghost use Rattle.st_tree.specs.declared.token.Token.{Token};
-ghost use Rattle.st_tree.specs.declared.fault.Fault.{Fault};
+ghost use Rattle.st_scan.specs.declared.token.Token.{Token};
+ghost use Rattle.st_scan.specs.declared.fault.Fault.{Fault};
 ghost use Rattle.std.specs.Str.{byte};
 ghost use Rattle.st_scan.specs.Pieces.{Piece, IsFormed, Stands};
 ghost use Rattle.st_scan.specs.Scans.{ScansTo, HasScan, HasTokens, AreSpans, IsToken, IsJoined};

@@ -10,8 +10,9 @@ ghost use Rattle.st_scan.specs.Fronts.{shown, number_at, number_before};
 ghost use Rattle.st_scan.specs.Numerals.{digits_of, allowed_size, size_in, with_digit};
 
 use crate::bytes::is_radix_digit;
+use crate::fault::Cause;
 use crate::front::Front;
-use st_tree::{Cause, Signed, Sort};
+use crate::token::{Signed, Sort};
 
 /// The digits of a number: decimal ones, or a radix and those behind its `r`.
 #[derive(Clone, Copy)]

@@ -5,8 +5,9 @@ ghost use Rattle.st_scan.specs.Fronts.{shown, front_of, IsWithin};
 ghost use Rattle.st_scan.specs.Scans.{ScansTo, HasTokens, AreSpans, IsFaultOf, signs};
 ghost use Rattle.st_scan.specs.Contexts.{context_of, is_operand_token, depth_behind};
 
+use crate::fault::{Fault, SyntaxFault};
 use crate::front::{Front, front_of};
-use st_tree::{Fault, Sort, SyntaxFault, Token, TokenList};
+use crate::token::{Sort, Token, TokenList};
 use std::alloc::{AllocError, Global};
 
 /// A text's tokens up to its first fault, and that fault, if there is one.

@@ -6,8 +6,9 @@ ghost use Rattle.std.specs.Str.{byte};
 ghost use Rattle.st_scan.specs.Pieces.{begins, doubled};
 ghost use Rattle.st_scan.specs.Fronts.{shown, inside_of, string_of};
 
+use crate::fault::Cause;
 use crate::front::Front;
-use st_tree::{Cause, Sort};
+use crate::token::Sort;
 
 /// A string, by what stands behind its first quote.
 pub fn string(text: &[u8]) -> Front

@@ -7,8 +7,9 @@ ghost use Rattle.st_scan.specs.Pieces.{begins_keyword, makes_keyword, keywords_t
 ghost use Rattle.st_scan.specs.Fronts.{shown, word_at, operator_of, keywords_of, selector_at, hash_at};
 
 use crate::bytes::{begins_operator, is_operator_byte, is_second_operator_byte};
+use crate::fault::Cause;
 use crate::front::Front;
-use st_tree::{Cause, Sort};
+use crate::token::Sort;
 
 /// A name or a keyword, from its letter on.
 #[tactic(auto, unfolding(crate::specs::Fronts::word_at))]

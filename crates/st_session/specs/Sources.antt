@@ -1,8 +1,8 @@
 -- The text that a session shows of a method: that of its last definition among those that are kept.
 use Rattle.std.specs.Prelude.{ℕ, Bool, false, ◌&&◌, bytes_eq, List, [], ◌∷◌, Option, Some, None, Result, Ok, Err, if◌then◌else◌}
 use Rattle.std.specs.Bool.{beq}
-use Rattle.st_tree.specs.declared.fault.Fault.{Fault}
-use Rattle.st_tree.specs.Views.{MethodView}
+use Rattle.st_scan.specs.declared.fault.Fault.{Fault}
+use Rattle.st_scan.specs.Views.{MethodView}
 use Rattle.st_chunk.specs.Definitions.{Definition}
 use Rattle.st_chunk.specs.Asks.{Side, Ask, Source}
 use Rattle.st_install.specs.Syntax.{syntax}

@@ -1,5 +1,5 @@
 use Rattle.std.proofs.Common.{subst, Err}
-use Rattle.st_tree.specs.declared.fault.SyntaxFault.{SyntaxFault}
+use Rattle.st_scan.specs.declared.fault.SyntaxFault.{SyntaxFault}
 use Rattle.st_grammar.specs.Texts.{IsOnly}
 use Rattle.st_changes.proofs.selector.find_selector.Goals as goal
 

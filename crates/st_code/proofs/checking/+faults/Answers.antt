@@ -1,9 +1,9 @@
 use Rattle.std.proofs.Common.{◌≡◌, get_or, sym, ap, ◌∙◌, subst, arith}
-use Rattle.st_tree.specs.declared.tree.Expression.{size-Expression}
-use Rattle.st_tree.specs.Views.{ExpressionView, names_view as list_view, expression_view, statements_view, block}
-use Rattle.st_tree.specs.Chains.{link_size, links_size}
-use Rattle.st_tree.proofs.Views.{expression_view-block}
-use Rattle.st_tree.proofs.Chains.{links_within}
+use Rattle.st_scan.specs.declared.tree.Expression.{size-Expression}
+use Rattle.st_scan.specs.Views.{ExpressionView, names_view as list_view, expression_view, statements_view, block}
+use Rattle.st_scan.specs.Chains.{link_size, links_size}
+use Rattle.st_scan.proofs.Views.{expression_view-block}
+use Rattle.st_scan.proofs.Chains.{links_within}
 use Rattle.st_emit.specs.NameViews.{names_view, scope_view}
 use Rattle.st_emit.proofs.Follow.{link_within}
 use Rattle.st_code.specs.Faults.{expression_fault}

@@ -1,5 +1,5 @@
 use Rattle.std.proofs.Common.{◌≡◌, drop}
-use Rattle.st_tree.specs.Views.{elements_view}
+use Rattle.st_scan.specs.Views.{elements_view}
 use Rattle.st_code.specs.Faults.{elements_fault}
 use Rattle.st_code.proofs.checking.+literals.Given as goal
 

@@ -1,6 +1,6 @@
 use Rattle.std.proofs.Common.{◌≡◌, false, ◌+◌, ◌++◌, ◌||◌, take, drop, Option, refl, sym, ap, ◌∙◌, subst, rules}
 use Rattle.std.specs.Prelude.{is_some}
-use Rattle.st_tree.specs.Views.{name_view, names_view}
+use Rattle.st_scan.specs.Views.{name_view, names_view}
 use Rattle.st_emit.specs.Names.{or_else, numbered, declared_as, is_among}
 use Rattle.st_emit.specs.NameViews.{scope_view}
 use Rattle.st_code.specs.declared.fault.Fault.{Fault}

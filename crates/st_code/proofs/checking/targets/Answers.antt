@@ -1,5 +1,5 @@
 use Rattle.std.proofs.Common.{◌≡◌, ℕ, ◌+◌, ◌-◌, take, Option, sym, ap, ◌∙◌, subst, arith, rules}
-use Rattle.st_tree.specs.Chains.{link_view, links_view}
+use Rattle.st_scan.specs.Chains.{link_view, links_view}
 use Rattle.st_emit.specs.NameViews.{names_view, scope_view}
 use Rattle.st_emit.specs.Names.{or_else}
 use Rattle.st_code.specs.declared.fault.Fault.{Fault}

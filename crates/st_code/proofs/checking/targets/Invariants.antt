@@ -1,5 +1,5 @@
 use Rattle.std.proofs.Common.{◌≡◌, ◌≤◌, take, length}
-use Rattle.st_tree.specs.Chains.{links_view}
+use Rattle.st_scan.specs.Chains.{links_view}
 use Rattle.st_emit.specs.NameViews.{names_view, scope_view}
 use Rattle.st_code.specs.ChainFaults.{targets_fault}
 use Rattle.st_code.proofs.checking.targets.Given as goal

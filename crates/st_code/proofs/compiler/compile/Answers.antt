@@ -1,5 +1,5 @@
 use Rattle.std.proofs.Common.{ℕ, List, Ok, Result, sym, ap, ◌∙◌}
-use Rattle.st_tree.specs.Views.{method_view}
+use Rattle.st_scan.specs.Views.{method_view}
 use Rattle.st_emit.specs.NameViews.{names_view}
 use Rattle.st_emit.specs.Steps.{all_bytes}
 use Rattle.st_emit.specs.declared.literal.Literal.{Literal}

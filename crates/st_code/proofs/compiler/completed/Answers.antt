@@ -1,5 +1,5 @@
 use Rattle.std.proofs.Common.{◌≡◌, ℕ, ◌++◌, List, ap, ◌∙◌}
-use Rattle.st_tree.specs.Views.{method_view}
+use Rattle.st_scan.specs.Views.{method_view}
 use Rattle.st_emit.specs.declared.step.Step.{Step}
 use Rattle.st_emit.specs.Literals.{LiteralView}
 use Rattle.st_emit.specs.NameViews.{names_view}

@@ -1,5 +1,5 @@
 use Rattle.std.proofs.Common.{◌≡◌, ℕ, ◌+◌, IfOk, length, ap, ◌∙◌, subst, arith}
-use Rattle.st_tree.specs.Views.{expression_view, messages_view, statements_view}
+use Rattle.st_scan.specs.Views.{expression_view, messages_view, statements_view}
 use Rattle.st_emit.specs.Resolving.{names_in, names_in_messages, names_in_statements}
 use Rattle.st_emit.proofs.Counts.{names_in-block, names_in-send, size-inner}
 use Rattle.st_emit.proofs.counting.+counting.Goals as goal

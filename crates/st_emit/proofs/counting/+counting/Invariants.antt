@@ -1,6 +1,6 @@
 use Rattle.std.proofs.Common.{◌≡◌, ◌+◌, ◌≤◌, drop}
-use Rattle.st_tree.specs.declared.tree.Expression.{size-Expression}
-use Rattle.st_tree.specs.Views.{expression_view, expressions_view, messages_view, statements_view}
+use Rattle.st_scan.specs.declared.tree.Expression.{size-Expression}
+use Rattle.st_scan.specs.Views.{expression_view, expressions_view, messages_view, statements_view}
 use Rattle.st_emit.specs.Resolving.{names_in, names_in_all, names_in_messages, names_in_statements}
 use Rattle.st_emit.proofs.counting.+counting.Given as goal
 

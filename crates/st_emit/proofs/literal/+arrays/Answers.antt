@@ -1,6 +1,6 @@
 use Rattle.std.proofs.Common.{◌≡◌, map, arith}
 use Rattle.std.proofs.lemmas.Grind.{common_steps}
-use Rattle.st_tree.specs.Views.{content_view}
+use Rattle.st_scan.specs.Views.{content_view}
 use Rattle.st_emit.specs.Literals.{literal_of}
 use Rattle.st_emit.specs.Views.{literals_view}
 use Rattle.st_emit.proofs.Members.{members_same}

@@ -1,5 +1,5 @@
 use Rattle.std.proofs.Common.{◌≡◌, take, map}
-use Rattle.st_tree.specs.Views.{content_view}
+use Rattle.st_scan.specs.Views.{content_view}
 use Rattle.st_emit.specs.Literals.{literal_of}
 use Rattle.st_emit.specs.Views.{literals_view}
 use Rattle.st_emit.proofs.literal.+arrays.Given as goal

@@ -1,6 +1,6 @@
 use Rattle.std.proofs.Common.{[], sym, ap, ◌∙◌}
-use Rattle.st_tree.specs.Views.{expression_view, names_view, statements_view, block}
-use Rattle.st_tree.proofs.Views.{expression_view-block}
+use Rattle.st_scan.specs.Views.{expression_view, names_view, statements_view, block}
+use Rattle.st_scan.proofs.Views.{expression_view-block}
 use Rattle.st_emit.proofs.Lists.{no_items}
 use Rattle.st_emit.proofs.shape.plain_body.Goals as goal
 

@@ -1,4 +1,4 @@
-use Rattle.st_tree.specs.Views.{expression_view}
+use Rattle.st_scan.specs.Views.{expression_view}
 use Rattle.st_emit.proofs.Shapes.{repetition_of-many}
 use Rattle.st_emit.proofs.shape.repetition_among.Goals as goal
 

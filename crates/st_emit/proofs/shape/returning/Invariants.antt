@@ -1,5 +1,5 @@
 use Rattle.std.proofs.Common.{◌≡◌, drop}
-use Rattle.st_tree.specs.Views.{statements_view}
+use Rattle.st_scan.specs.Views.{statements_view}
 use Rattle.st_emit.specs.Shapes.{returning}
 use Rattle.st_emit.proofs.shape.returning.Given as goal
 

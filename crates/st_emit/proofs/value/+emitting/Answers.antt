@@ -1,10 +1,10 @@
 use Rattle.std.proofs.Common.{◌≡◌, ℕ, ◌+◌, Bool, true, false, List, IfOk, OnOk, length, take, get_or, Some, refl, sym, ap, ◌∙◌, subst, arith, add-one}
 use Rattle.std.proofs.lemmas.Result.{on_ok_weaker}
-use Rattle.st_tree.specs.declared.tree.Expression.{size-Expression}
-use Rattle.st_tree.specs.Views.{ExpressionView, MessagesView, StatementsView, names_view, expression_view, expressions_view, messages_view, statements_view, message, statement, block, no_messages, is_super}
-use Rattle.st_tree.specs.Chains.{LinkView, sent, linked, link_view, links_view, with_link, link_size, links_size}
-use Rattle.st_tree.proofs.Chains.{linked_take, links_within}
-use Rattle.st_tree.proofs.Views.{expression_view-block}
+use Rattle.st_scan.specs.declared.tree.Expression.{size-Expression}
+use Rattle.st_scan.specs.Views.{ExpressionView, MessagesView, StatementsView, names_view, expression_view, expressions_view, messages_view, statements_view, message, statement, block, no_messages, is_super}
+use Rattle.st_scan.specs.Chains.{LinkView, sent, linked, link_view, links_view, with_link, link_size, links_size}
+use Rattle.st_scan.proofs.Chains.{linked_take, links_within}
+use Rattle.st_scan.proofs.Views.{expression_view-block}
 use Rattle.st_emit.specs.declared.step.Step.TheVariants.{Pop, Duplicate}
 use Rattle.st_emit.specs.declared.draft.Draft.{Draft}
 use Rattle.st_emit.specs.Views.{literals_view}

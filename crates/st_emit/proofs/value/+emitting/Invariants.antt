@@ -1,10 +1,10 @@
 use Rattle.std.proofs.Common.{◌≡◌, ◌+◌, ◌*◌, ◌<◌, ◌≤◌, max, take, drop, length}
 use denote.Param.Weighed.{most}
-use Rattle.st_tree.specs.declared.tree.Expression.{size-Expression}
-use Rattle.st_tree.specs.declared.tree.Message.{size-Message}
-use Rattle.st_tree.specs.declared.tree.Statement.{size-Statement}
-use Rattle.st_tree.specs.Views.{expression_view, expressions_view, messages_view, statements_view}
-use Rattle.st_tree.specs.Chains.{linked, links_view, link_size, links_size}
+use Rattle.st_scan.specs.declared.tree.Expression.{size-Expression}
+use Rattle.st_scan.specs.declared.tree.Message.{size-Message}
+use Rattle.st_scan.specs.declared.tree.Statement.{size-Statement}
+use Rattle.st_scan.specs.Views.{expression_view, expressions_view, messages_view, statements_view}
+use Rattle.st_scan.specs.Chains.{linked, links_view, link_size, links_size}
 use Rattle.st_emit.specs.Resolving.{names_in, names_in_all, names_in_messages, names_in_statements}
 use Rattle.st_emit.specs.Around.{context, at_number, values_part, cascade_part, body_part, value_part}
 use Rattle.st_emit.specs.Drafts.{Adds, Goes}

@@ -1,5 +1,5 @@
 use Rattle.std.proofs.Common.{◌≡◌, ◌+◌, drop}
-use Rattle.st_tree.specs.Views.{statements_view}
+use Rattle.st_scan.specs.Views.{statements_view}
 use Rattle.st_emit.specs.Resolving.{names_in_statements}
 use Rattle.st_emit.specs.Around.{context, at_number, method_part}
 use Rattle.st_emit.specs.Drafts.{Goes}

@@ -1,5 +1,5 @@
 use Rattle.std.proofs.Common.{length, arith}
-use Rattle.st_tree.specs.declared.token.Sort.TheVariants as sorts
+use Rattle.st_scan.specs.declared.token.Sort.TheVariants as sorts
 use Rattle.st_grammar.proofs.Unquoting.{span_begins}
 use Rattle.st_grammar.proofs.leaf.leaves_of.Goals as goal
 

@@ -1,6 +1,6 @@
 use Rattle.std.proofs.Common.{rules, ◌≡◌, ◌∙◌, Ok, Err, sym, subst}
 use Rattle.st_model.specs.Values.{value}
-use Rattle.st_tree.specs.Views.{method_view}
+use Rattle.st_scan.specs.Views.{method_view}
 use Rattle.st_emit.specs.NameViews.{names_view}
 use Rattle.st_code.specs.MethodDrafts.{parts_view}
 use Rattle.st_chunk.specs.ScriptDefinitions.{definition_of}

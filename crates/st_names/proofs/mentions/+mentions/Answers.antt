@@ -1,10 +1,10 @@
 use Rattle.std.proofs.Common.{◌≡◌, ◌++◌, get_or, sym, ap, ◌∙◌, subst, arith}
 use Rattle.std.specs.Prelude.{OnOk}
-use Rattle.st_tree.specs.declared.tree.Expression.{size-Expression}
-use Rattle.st_tree.specs.Views.{names_view, expression_view, statements_view, block}
-use Rattle.st_tree.specs.Chains.{link_size, links_size, links_view}
-use Rattle.st_tree.proofs.Views.{expression_view-block}
-use Rattle.st_tree.proofs.Chains.{links_within}
+use Rattle.st_scan.specs.declared.tree.Expression.{size-Expression}
+use Rattle.st_scan.specs.Views.{names_view, expression_view, statements_view, block}
+use Rattle.st_scan.specs.Chains.{link_size, links_size, links_view}
+use Rattle.st_scan.proofs.Views.{expression_view-block}
+use Rattle.st_scan.proofs.Chains.{links_within}
 use Rattle.st_emit.proofs.Follow.{link_within}
 use Rattle.st_names.specs.Mentions.{mentioned}
 use Rattle.st_names.specs.Walks.{mentions_of}

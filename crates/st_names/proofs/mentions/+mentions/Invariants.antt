@@ -1,10 +1,10 @@
 use Rattle.std.proofs.Common.{◌≡◌, ◌+◌, ◌*◌, ◌++◌, max, drop}
 use denote.Param.Weighed.{most}
-use Rattle.st_tree.specs.declared.tree.Expression.{size-Expression}
-use Rattle.st_tree.specs.declared.tree.Message.{size-Message}
-use Rattle.st_tree.specs.declared.tree.Statement.{size-Statement}
-use Rattle.st_tree.specs.Views.{expressions_view, messages_view, statements_view}
-use Rattle.st_tree.specs.Chains.{links_view, links_size}
+use Rattle.st_scan.specs.declared.tree.Expression.{size-Expression}
+use Rattle.st_scan.specs.declared.tree.Message.{size-Message}
+use Rattle.st_scan.specs.declared.tree.Statement.{size-Statement}
+use Rattle.st_scan.specs.Views.{expressions_view, messages_view, statements_view}
+use Rattle.st_scan.specs.Chains.{links_view, links_size}
 use Rattle.st_names.specs.Mentions.{mentioned_among, mentioned_by, mentioned_in}
 use Rattle.st_names.specs.Walks.{mentions_of, all_sent_mentioned}
 use Rattle.st_names.proofs.mentions.+mentions.Given as goal

@@ -1,5 +1,5 @@
 use Rattle.std.proofs.Common.{◌≡◌, ◌≤◌, ◌++◌, take, length}
-use Rattle.st_tree.specs.Chains.{links_view}
+use Rattle.st_scan.specs.Chains.{links_view}
 use Rattle.st_names.specs.Walks.{mentions_of, targets_mentioned}
 use Rattle.st_names.proofs.mentions.targets.Given as goal
 

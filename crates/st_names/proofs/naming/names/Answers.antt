@@ -1,7 +1,7 @@
 use Rattle.std.proofs.Common.{Err, subst}
 use Rattle.st_model.specs.Values.{value}
 use Rattle.st_model.specs.Table.{table}
-use Rattle.st_tree.specs.Views.{method_view}
+use Rattle.st_scan.specs.Views.{method_view}
 use Rattle.st_names.specs.Calls.{names_seen}
 use Rattle.st_names.specs.Seen.{FindsNames}
 use Rattle.st_names.proofs.SeenIn.{answers_seen, answers_shape}

@@ -3,7 +3,7 @@ use Rattle.st_model.specs.Values.{value}
 use Rattle.st_model.specs.Machine.{◌>>◌}
 use Rattle.st_model.specs.Table.{table}
 use Rattle.st_model.specs.Calls.{Reads, itself}
-use Rattle.st_tree.specs.Views.{method_view}
+use Rattle.st_scan.specs.Views.{method_view}
 use Rattle.st_emit.specs.Names.{NamesView}
 use Rattle.st_names.specs.declared.unread.Unread.TheVariants.{Dies}
 use Rattle.st_names.specs.Calls.{names_seen}

@@ -1,5 +1,5 @@
 use Rattle.std.proofs.Common.{◌+◌, ◌*◌, ◌∷◌, [], length}
-use Rattle.st_tree.specs.Views.{expression_view}
+use Rattle.st_scan.specs.Views.{expression_view}
 use Rattle.st_grammar.specs.declared.leaf.Kind.TheVariants.{Semicolon}
 use Rattle.st_grammar.specs.Leaves.{among, keywords, operators}
 use Rattle.st_parse.specs.Phrases.{parts_view, body_view}

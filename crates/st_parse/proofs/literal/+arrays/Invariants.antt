@@ -1,5 +1,5 @@
 use Rattle.std.proofs.Common.{◌+◌, ◌*◌, length}
-use Rattle.st_tree.specs.Views.{elements_view, no_elements}
+use Rattle.st_scan.specs.Views.{elements_view, no_elements}
 use Rattle.st_grammar.specs.Leaves.{among}
 use Rattle.st_grammar.specs.Reading.{element_starts, array_at, elements_step, elements_at}
 use Rattle.st_grammar.proofs.Loops.{Going}

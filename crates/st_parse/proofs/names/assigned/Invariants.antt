@@ -1,5 +1,5 @@
 use Rattle.std.proofs.Common.{◌≡◌, length}
-use Rattle.st_tree.specs.Views.{expression_view, names_view}
+use Rattle.st_scan.specs.Views.{expression_view, names_view}
 use Rattle.st_grammar.specs.Reading.{assigned_to}
 use Rattle.st_parse.proofs.names.assigned.Given as goal
 

@@ -1,5 +1,5 @@
 use Rattle.std.proofs.Common.{◌∷◌, [], length}
-use Rattle.st_tree.specs.Views.{names_view}
+use Rattle.st_scan.specs.Views.{names_view}
 use Rattle.st_grammar.specs.declared.leaf.Kind.TheVariants.{Colon}
 use Rattle.st_grammar.specs.Leaves.{among}
 use Rattle.st_grammar.specs.Reading.{parameters_step, parameters_at}

@@ -1,5 +1,5 @@
 use Rattle.std.proofs.Common.{◌≡◌, ◌++◌, length}
-use Rattle.st_tree.specs.Views.{names_view}
+use Rattle.st_scan.specs.Views.{names_view}
 use Rattle.st_grammar.specs.Reading.{targets_at}
 use Rattle.st_parse.proofs.names.targets.Given as goal
 

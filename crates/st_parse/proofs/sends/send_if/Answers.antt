@@ -1,6 +1,6 @@
 use Rattle.std.proofs.Common.{◌≡◌, sym, subst}
 use Rattle.std.specs.Prelude.{IfOk}
-use Rattle.st_tree.specs.Views.{ExpressionView, expression_view}
+use Rattle.st_scan.specs.Views.{ExpressionView, expression_view}
 use Rattle.st_parse.proofs.Assigning.{sent_if-some}
 use Rattle.st_parse.proofs.sends.send_if.Goals as goal
 

@@ -1,5 +1,5 @@
 use Rattle.std.proofs.Common.{length}
-use Rattle.st_tree.specs.Views.{expression_view}
+use Rattle.st_scan.specs.Views.{expression_view}
 use Rattle.st_grammar.specs.Leaves.{among}
 use Rattle.st_grammar.specs.Phrases.{names}
 use Rattle.st_grammar.specs.Reading.{names_step, names_at}

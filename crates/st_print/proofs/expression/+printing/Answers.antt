@@ -1,15 +1,15 @@
 use Rattle.std.proofs.Common.{◌≡◌, ℕ, ◌+◌, Bool, true, List, [], ◌∷◌, ◌++◌, drop, sym, ap, ◌∙◌, subst, append_assoc, append-nil, arith, Vec, Global}
 use Rattle.std.proofs.lemmas.Result.{on_ok_weaker}
 use Rattle.std.specs.Str.{byte}
-use Rattle.st_tree.specs.declared.tree.Expression.{Expression, size-Expression}
-use Rattle.st_tree.specs.declared.tree.Statement.{Statement}
-use Rattle.st_tree.specs.declared.tree.Message.{Message}
-use Rattle.st_tree.specs.declared.tree.Name.{Name}
-use Rattle.st_tree.specs.declared.chain.Link.{Link}
-use Rattle.st_tree.specs.Views.{names_view, expression_view, expressions_view, statements_view, messages_view, block, ExpressionView}
-use Rattle.st_tree.specs.Chains.{IsStart, link_view, links_view, links_size}
-use Rattle.st_tree.proofs.Views.{expression_view-block}
-use Rattle.st_tree.proofs.Chains.{links_within}
+use Rattle.st_scan.specs.declared.tree.Expression.{Expression, size-Expression}
+use Rattle.st_scan.specs.declared.tree.Statement.{Statement}
+use Rattle.st_scan.specs.declared.tree.Message.{Message}
+use Rattle.st_scan.specs.declared.tree.Name.{Name}
+use Rattle.st_scan.specs.declared.chain.Link.{Link}
+use Rattle.st_scan.specs.Views.{names_view, expression_view, expressions_view, statements_view, messages_view, block, ExpressionView}
+use Rattle.st_scan.specs.Chains.{IsStart, link_view, links_view, links_size}
+use Rattle.st_scan.proofs.Views.{expression_view-block}
+use Rattle.st_scan.proofs.Chains.{links_within}
 use Rattle.st_print.specs.declared.rank.Rank.{Rank}
 use Rattle.st_print.specs.declared.rank.Rank.TheVariants.{Binary}
 use Rattle.st_print.specs.Words.{Word, name, mark, keyword, spaced, first_keyword, other_keywords}

@@ -1,5 +1,5 @@
 use Rattle.std.proofs.Common.{◌≡◌, ◌+◌, ◌-◌, ◌∷◌, ◌++◌, drop, sym, ap, ◌∙◌, arith}
-use Rattle.st_tree.specs.Chains.{link_view, links_view}
+use Rattle.st_scan.specs.Chains.{link_view, links_view}
 use Rattle.st_print.specs.declared.rank.Rank.{Rank}
 use Rattle.st_print.specs.Words.{spaced}
 use Rattle.st_print.specs.Chained.{wanted_by, before_link, before_links}

@@ -1,6 +1,6 @@
 use Rattle.std.proofs.Common.{◌≡◌, ◌≤◌, ◌++◌, drop, length}
 use Rattle.st_print.specs.Words.{spaced}
-use Rattle.st_tree.specs.Chains.{links_view}
+use Rattle.st_scan.specs.Chains.{links_view}
 use Rattle.st_print.specs.Chained.{before_links}
 use Rattle.st_print.proofs.expression.before_links.Given as goal
 

@@ -1,8 +1,8 @@
 use Rattle.std.proofs.Common.{◌+◌, List, [], ◌∷◌, drop, ap}
 use Rattle.std.proofs.lemmas.Result.{on_ok_weaker}
 use Rattle.std.specs.Str.{byte}
-use Rattle.st_tree.specs.declared.tree.Element.{Element}
-use Rattle.st_tree.specs.Views.{content_view, elements_view}
+use Rattle.st_scan.specs.declared.tree.Element.{Element}
+use Rattle.st_scan.specs.Views.{content_view, elements_view}
 use Rattle.st_print.specs.Words.{opening, mark}
 use Rattle.st_print.specs.Printed.{content_words, elements_words}
 use Rattle.st_print.proofs.Turning.{put_word, put_then, turn, drop_at}

@@ -1,6 +1,6 @@
 use Rattle.std.proofs.Common.{◌≡◌, ◌++◌, drop}
 use Rattle.st_print.specs.Words.{spaced}
-use Rattle.st_tree.specs.Views.{elements_view}
+use Rattle.st_scan.specs.Views.{elements_view}
 use Rattle.st_print.specs.Printed.{elements_words}
 use Rattle.st_print.proofs.literal.+literals.Given as goal
 

@@ -1,7 +1,7 @@
 use Rattle.std.proofs.Common.{ℕ, ◌+◌, List, [], ◌∷◌, ◌++◌, drop, ap, ◌∙◌}
 use Rattle.std.specs.Str.{byte}
-use Rattle.st_tree.specs.declared.tree.Name.{Name}
-use Rattle.st_tree.specs.Views.{names_view}
+use Rattle.st_scan.specs.declared.tree.Name.{Name}
+use Rattle.st_scan.specs.Views.{names_view}
 use Rattle.st_print.specs.Words.{name}
 use Rattle.st_print.specs.Printed.{names_words}
 use Rattle.st_print.proofs.Turning.{put_word, turn, drop_at}

@@ -1,6 +1,6 @@
 use Rattle.std.proofs.Common.{◌≡◌, ◌++◌, drop}
 use Rattle.st_print.specs.Words.{spaced}
-use Rattle.st_tree.specs.Views.{names_view}
+use Rattle.st_scan.specs.Views.{names_view}
 use Rattle.st_print.specs.Printed.{names_words}
 use Rattle.st_print.proofs.method.all_names.Given as goal
 

@@ -2,9 +2,9 @@ use Rattle.std.proofs.Common.{◌≡◌, false, List, ◌++◌, length, sym, ap,
 use Rattle.std.proofs.lemmas.Result.{on_ok_weaker}
 use Rattle.std.specs.Prelude.{◌==◌}
 use Rattle.std.proofs.lemmas.Bool.{ne_eqb}
-use Rattle.st_tree.specs.declared.tree.Name.{Name}
-use Rattle.st_tree.specs.declared.tree.Statement.{Statement}
-use Rattle.st_tree.specs.Views.{names_view, statements_view}
+use Rattle.st_scan.specs.declared.tree.Name.{Name}
+use Rattle.st_scan.specs.declared.tree.Statement.{Statement}
+use Rattle.st_scan.specs.Views.{names_view, statements_view}
 use Rattle.st_print.specs.Words.{Word, spaced}
 use Rattle.st_print.specs.Printed.{temporaries_words, primitive_words, options_words, statements_words}
 use Rattle.st_print.proofs.Turning.{put_then}

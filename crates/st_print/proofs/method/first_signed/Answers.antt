@@ -1,8 +1,8 @@
 use Rattle.std.proofs.Common.{◌≡◌, ℕ, List, ◌++◌, length, sym, ap, ◌∙◌}
 use Rattle.std.specs.Prelude.{◌==◌}
-use Rattle.st_tree.specs.declared.chain.Link.{Link}
-use Rattle.st_tree.specs.Views.{expression_view}
-use Rattle.st_tree.specs.Chains.{links_view}
+use Rattle.st_scan.specs.declared.chain.Link.{Link}
+use Rattle.st_scan.specs.Views.{expression_view}
+use Rattle.st_scan.specs.Chains.{links_view}
 use Rattle.st_print.specs.declared.rank.Rank.TheVariants.{Any}
 use Rattle.st_print.specs.Words.{spaced}
 use Rattle.st_print.specs.Chained.{before_links}

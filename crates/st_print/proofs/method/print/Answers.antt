@@ -1,7 +1,7 @@
 use Rattle.std.proofs.Common.{◌≡◌, ℕ, List, [], ◌++◌, drop, sym, ap, ◌∙◌}
 use Rattle.std.proofs.lemmas.Result.{IfOk-weaker}
-use Rattle.st_tree.specs.declared.tree.Name.{Name}
-use Rattle.st_tree.specs.Views.{names_view, statements_view, method_view}
+use Rattle.st_scan.specs.declared.tree.Name.{Name}
+use Rattle.st_scan.specs.Views.{names_view, statements_view, method_view}
 use Rattle.st_print.specs.Words.{spaced}
 use Rattle.st_print.specs.Printed.{pattern_words, behind_pattern, options_words, statements_words, method_words}
 use Rattle.st_print.proofs.Spacing.{text_behind}

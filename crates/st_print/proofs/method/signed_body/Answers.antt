@@ -1,6 +1,6 @@
 use Rattle.std.proofs.Common.{Bool, ◌++◌, drop, sym, ap, ◌∙◌}
 use Rattle.std.proofs.lemmas.Result.{IfOk-weaker}
-use Rattle.st_tree.specs.Views.{expression_view, statements_view}
+use Rattle.st_scan.specs.Views.{expression_view, statements_view}
 use Rattle.st_print.specs.Printed.{return_words, expression_words, next_statements, first_signed}
 use Rattle.st_print.proofs.Firsts.{some_statements}
 use Rattle.st_print.proofs.Signed.{signed_more}

@@ -1,6 +1,6 @@
 use Rattle.std.proofs.Common.{ℕ, ◌-◌, List, ◌∷◌, ◌++◌, length, take, drop, min, sym, ap, ◌∙◌}
 use Rattle.std.specs.Str.{byte}
-use Rattle.st_tree.specs.Views.{statements_view}
+use Rattle.st_scan.specs.Views.{statements_view}
 use Rattle.st_print.specs.Words.{number_text, spaced}
 use Rattle.st_print.specs.Printed.{statements_words}
 use Rattle.st_print.proofs.Signed.{put_apart}

@@ -1,6 +1,6 @@
 use Rattle.std.proofs.Common.{List, [], ◌∷◌, ◌++◌, sym, ap, ◌∙◌}
 use Rattle.std.proofs.lemmas.Result.{on_ok_weaker}
-use Rattle.st_tree.specs.Views.{names_view}
+use Rattle.st_scan.specs.Views.{names_view}
 use Rattle.st_print.specs.Words.{Word, bar, spaced}
 use Rattle.st_print.specs.Printed.{names_words}
 use Rattle.st_print.proofs.Turning.{put_word, put_then}

@@ -3,14 +3,14 @@ use Rattle.std.proofs.Common.{◌≡◌, ℕ, zero, suc, ◌<◌, ◌≤◌, Lis
 use Rattle.std.specs.Global.{Vec, Box}
 use Rattle.std.proofs.lemmas.List.{reverse-append}
 use denote.Param.Weighed.{most}
-use Rattle.st_tree.specs.declared.chain.Link.{Link}
-use Rattle.st_tree.specs.declared.tree.Expression.{Expression, size-Expression}
-use Rattle.st_tree.specs.declared.tree.Expression.TheVariants.{Send}
-use Rattle.st_tree.specs.declared.tree.Expression.TheViews.{sized-Send}
-use Rattle.st_tree.specs.declared.tree.Message.{Message, size-Message}
-use Rattle.st_tree.specs.Views.{ExpressionView}
-use Rattle.st_tree.specs.declared.chain.Link.TheVariants as links
-use Rattle.st_tree.specs.Chains.{linked, links_view, link_view, with_link, link_size, links_size, IsBelow}
+use Rattle.st_scan.specs.declared.chain.Link.{Link}
+use Rattle.st_scan.specs.declared.tree.Expression.{Expression, size-Expression}
+use Rattle.st_scan.specs.declared.tree.Expression.TheVariants.{Send}
+use Rattle.st_scan.specs.declared.tree.Expression.TheViews.{sized-Send}
+use Rattle.st_scan.specs.declared.tree.Message.{Message, size-Message}
+use Rattle.st_scan.specs.Views.{ExpressionView}
+use Rattle.st_scan.specs.declared.chain.Link.TheVariants as links
+use Rattle.st_scan.specs.Chains.{linked, links_view, link_view, with_link, link_size, links_size, IsBelow}
 
 pub linked_turn : (e inner whole : ExpressionView) (links more : List Link) (link : Link)
     → more ≡ links ++ link ∷ [] → with_link (link_view link) inner ≡ e → linked e (links_view (reverse links)) ≡ whole → linked inner (links_view (reverse more)) ≡ whole

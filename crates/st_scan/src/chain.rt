@@ -1,8 +1,8 @@
 //! An expression from the inside out.
 
 ghost use Rattle.std.specs.Prelude.{◌≡◌, IfOk};
-ghost use Rattle.st_tree.specs.Views.{expression_view};
-ghost use Rattle.st_tree.specs.Chains.{IsStart, IsWithin, linked, links_view};
+ghost use Rattle.st_scan.specs.Views.{expression_view};
+ghost use Rattle.st_scan.specs.Chains.{IsStart, IsWithin, linked, links_view};
 
 use crate::tree::{Expression, Message, Name};
 use std::alloc::{AllocError, Global};

@@ -1,7 +1,7 @@
 -- Trees without their places, which two texts of one method share.
 use Rattle.std.specs.Prelude.{ℕ, List, map}
-use Rattle.st_tree.specs.Views.{NameView, ContentView, ElementsView, ElementView, ExpressionView, StatementsView, MessagesView, ExpressionsView, MethodView}
-use Rattle.st_tree.specs.Views as views
+use Rattle.st_scan.specs.Views.{NameView, ContentView, ElementsView, ElementView, ExpressionView, StatementsView, MessagesView, ExpressionsView, MethodView}
+use Rattle.st_scan.specs.Views as views
 
 abbrev pub placeless_name : NameView → NameView
 placeless_name n = record { text = n.text; place = 0 }

@@ -5,7 +5,7 @@
 //! its `chain`.
 
 ghost use Rattle.std.specs.Prelude.{◌≡◌, IfOk};
-ghost use Rattle.st_tree.specs.Views.{expression_view, expressions_view, with_sent};
+ghost use Rattle.st_scan.specs.Views.{expression_view, expressions_view, with_sent};
 
 use crate::token::Signed;
 use std::alloc::AllocError;

@@ -1,15 +1,15 @@
 -- What contracts see of a method's tree: its parts as lists, without where they lie in memory.
 use Rattle.std.specs.Prelude.{ℕ, Bool, false, List, [], ◌∷◌, map, Option, codes, bytes_eq}
-use Rattle.st_tree.specs.declared.token.Signed.{Signed}
-use Rattle.st_tree.specs.declared.tree.Name.{Name}
-use Rattle.st_tree.specs.declared.tree.MethodTree.{MethodTree}
-use Rattle.st_tree.specs.declared.tree.Statement.{Statement}
-use Rattle.st_tree.specs.declared.tree.Message.{Message}
-use Rattle.st_tree.specs.declared.tree.Element.{Element}
-use Rattle.st_tree.specs.declared.tree.Content.{Content, Row_of-Element, end_of-Element, more_of-Element}
-use Rattle.st_tree.specs.declared.tree.Content.TheVariants.{Number, Character, Bytes, Symbol, Array', Nil, False, True}
-use Rattle.st_tree.specs.declared.tree.Expression.{Expression, Row_of-Statement, end_of-Statement, more_of-Statement, Row_of-Message, end_of-Message, more_of-Message, Row_of-Expression, end_of-Expression, more_of-Expression}
-use Rattle.st_tree.specs.declared.tree.Expression.TheVariants.{Variable, Literal, Block', Assign', Send'}
+use Rattle.st_scan.specs.declared.token.Signed.{Signed}
+use Rattle.st_scan.specs.declared.tree.Name.{Name}
+use Rattle.st_scan.specs.declared.tree.MethodTree.{MethodTree}
+use Rattle.st_scan.specs.declared.tree.Statement.{Statement}
+use Rattle.st_scan.specs.declared.tree.Message.{Message}
+use Rattle.st_scan.specs.declared.tree.Element.{Element}
+use Rattle.st_scan.specs.declared.tree.Content.{Content, Row_of-Element, end_of-Element, more_of-Element}
+use Rattle.st_scan.specs.declared.tree.Content.TheVariants.{Number, Character, Bytes, Symbol, Array', Nil, False, True}
+use Rattle.st_scan.specs.declared.tree.Expression.{Expression, Row_of-Statement, end_of-Statement, more_of-Statement, Row_of-Message, end_of-Message, more_of-Message, Row_of-Expression, end_of-Expression, more_of-Expression}
+use Rattle.st_scan.specs.declared.tree.Expression.TheVariants.{Variable, Literal, Block', Assign', Send'}
 
 -- a name, and its place in the text
 pub record NameView : Type 0 where

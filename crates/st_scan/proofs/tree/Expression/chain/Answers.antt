@@ -1,14 +1,14 @@
 use Rattle.std.proofs.Common.{◌<◌, sym, ap, ◌∙◌, arith}
 use Rattle.std.proofs.lemmas.List.Elements.{All-push}
 use denote.Param.Weighed.{most}
-use Rattle.st_tree.specs.declared.tree.Expression.{size-Expression}
-use Rattle.st_tree.specs.declared.tree.Message.{size-Message}
-use Rattle.st_tree.specs.declared.chain.Link.TheVariants.{Send}
-use Rattle.st_tree.specs.Chains.{IsBelow}
-use Rattle.st_tree.specs.Views.{expression_view, send, messages_view}
-use Rattle.st_tree.proofs.Views.{expression_view-send}
-use Rattle.st_tree.proofs.Chains.{linked_turn, size-receiver, size-messages}
-use Rattle.st_tree.proofs.tree.Expression.chain.Goals as goal
+use Rattle.st_scan.specs.declared.tree.Expression.{size-Expression}
+use Rattle.st_scan.specs.declared.tree.Message.{size-Message}
+use Rattle.st_scan.specs.declared.chain.Link.TheVariants.{Send}
+use Rattle.st_scan.specs.Chains.{IsBelow}
+use Rattle.st_scan.specs.Views.{expression_view, send, messages_view}
+use Rattle.st_scan.proofs.Views.{expression_view-send}
+use Rattle.st_scan.proofs.Chains.{linked_turn, size-receiver, size-messages}
+use Rattle.st_scan.proofs.tree.Expression.chain.Goals as goal
 
 pub loop-start-preserved : goal.loop-start-preserved
 loop-start-preserved c =

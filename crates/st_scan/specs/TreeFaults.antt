@@ -1,10 +1,10 @@
 -- How faults are reported.
 use Rattle.std.specs.Prelude.{ℕ, List, ◌++◌, codes}
 use Rattle.std.specs.Fmt.{decimal}
-use Rattle.st_tree.specs.declared.fault.SyntaxFault.{SyntaxFault}
-use Rattle.st_tree.specs.declared.fault.SyntaxFault.TheVariants.{At, OutOfMemory}
-use Rattle.st_tree.specs.declared.fault.Cause.{Cause}
-use Rattle.st_tree.specs.declared.fault.Cause.TheVariants.{Character, Unclosed, Expected, Number, Float, Deep, Trailing}
+use Rattle.st_scan.specs.declared.fault.SyntaxFault.{SyntaxFault}
+use Rattle.st_scan.specs.declared.fault.SyntaxFault.TheVariants.{At, OutOfMemory}
+use Rattle.st_scan.specs.declared.fault.Cause.{Cause}
+use Rattle.st_scan.specs.declared.fault.Cause.TheVariants.{Character, Unclosed, Expected, Number, Float, Deep, Trailing}
 
 -- the number of a cause
 abbrev pub cause_number : Cause → ℕ

@@ -1,12 +1,12 @@
 -- An expression from the inside out.
 use Rattle.std.specs.Prelude.{ℕ, ◌<◌, ◌≤◌, max, List, [], ◌∷◌, map, All}
 use denote.Param.Weighed.{most}
-use Rattle.st_tree.specs.declared.chain.Chain.{Chain}
-use Rattle.st_tree.specs.declared.chain.Link.{Link}
-use Rattle.st_tree.specs.declared.chain.Link.TheVariants.{Assign, Send}
-use Rattle.st_tree.specs.declared.tree.Expression.{Expression, size-Expression}
-use Rattle.st_tree.specs.declared.tree.Message.{size-Message}
-use Rattle.st_tree.specs.Views.{NameView, name_view, ExpressionView, variable, literal, block, assign, send, MessagesView, messages_view}
+use Rattle.st_scan.specs.declared.chain.Chain.{Chain}
+use Rattle.st_scan.specs.declared.chain.Link.{Link}
+use Rattle.st_scan.specs.declared.chain.Link.TheVariants.{Assign, Send}
+use Rattle.st_scan.specs.declared.tree.Expression.{Expression, size-Expression}
+use Rattle.st_scan.specs.declared.tree.Message.{size-Message}
+use Rattle.st_scan.specs.Views.{NameView, name_view, ExpressionView, variable, literal, block, assign, send, MessagesView, messages_view}
 
 -- what is done to an expression
 pub data LinkView : Type 0 where

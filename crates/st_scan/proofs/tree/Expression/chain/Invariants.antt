@@ -1,8 +1,8 @@
 use Rattle.std.proofs.Common.{◌≡◌, ◌≤◌, All, reverse}
-use Rattle.st_tree.specs.declared.tree.Expression.{size-Expression}
-use Rattle.st_tree.specs.Views.{expression_view}
-use Rattle.st_tree.specs.Chains.{linked, links_view, IsBelow}
-use Rattle.st_tree.proofs.tree.Expression.chain.Given as goal
+use Rattle.st_scan.specs.declared.tree.Expression.{size-Expression}
+use Rattle.st_scan.specs.Views.{expression_view}
+use Rattle.st_scan.specs.Chains.{linked, links_view, IsBelow}
+use Rattle.st_scan.proofs.tree.Expression.chain.Given as goal
 
 abbrev pub invariant-loop-start : goal.invariant-loop-start
 invariant-loop-start l = record {

@@ -1,8 +1,8 @@
 //! Trees that are made of their parts.
 
 ghost use Rattle.std.specs.Prelude.{◌≡◌, IfOk};
-ghost use Rattle.st_tree.specs.Views.{name_view, names_view, content_view, array, elements_view};
-ghost use Rattle.st_tree.specs.Views.{expression_view, block, statements_view, assign, send, messages_view};
+ghost use Rattle.st_scan.specs.Views.{name_view, names_view, content_view, array, elements_view};
+ghost use Rattle.st_scan.specs.Views.{expression_view, block, statements_view, assign, send, messages_view};
 
 use crate::tree::{Content, ElementList, Expression, MessageList, Name, NameList, StatementList};
 use std::alloc::{AllocError, Global};

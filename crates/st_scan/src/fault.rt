@@ -1,8 +1,8 @@
 //! Why a text means no method.
 
 ghost use Rattle.std.specs.Prelude.{◌≡◌, Some};
-ghost use Rattle.st_tree.specs.declared.fault.SyntaxFault.TheVariants.{At, OutOfMemory};
-ghost use Rattle.st_tree.specs.Faults.{cause_number, fault_text};
+ghost use Rattle.st_scan.specs.declared.fault.SyntaxFault.TheVariants.{At, OutOfMemory};
+ghost use Rattle.st_scan.specs.TreeFaults.{cause_number, fault_text};
 
 use std::alloc::{AllocError, AllocFailed};
 use std::error::Error;

@@ -1,4 +1,0 @@
-pub mod Chains
-pub mod Faults
-pub mod Views
-pub mod Placeless
