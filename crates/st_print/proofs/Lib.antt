@@ -5,3 +5,18 @@ pub mod Chained
 pub mod Firsts
 pub mod Signed
 mod Rows
+pub mod Backs
+pub mod Bodies
+pub mod Deep
+pub mod Going
+pub mod LiteralBacks
+pub mod MethodBacks
+pub mod Nesting
+pub mod Printing
+pub mod Scanned
+pub mod Selectors
+pub mod Sends
+pub mod Spelled
+pub mod Trees
+pub mod Walks
+pub mod Words

@@ -2,3 +2,4 @@ pub mod Words
 pub mod Printed
 pub mod Chained
 pub mod Putting
+pub mod Printing

@@ -2,9 +2,11 @@
 #![tactic(auto)]
 
 mod expression;
+mod laws;
 mod literal;
 mod method;
 mod rank;
 mod words;
 
+pub use laws::print_back;
 pub use method::print;

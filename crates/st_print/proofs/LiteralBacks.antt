@@ -15,8 +15,8 @@ use Rattle.st_grammar.specs.Formed.{LiteralFormed}
 use Rattle.st_grammar.proofs.KindSets.{sample}
 use Rattle.st_print.specs.Words.{Word, name, number, character, string, symbol, opening, mark, word_text}
 use Rattle.st_print.specs.Printed.{content_words, elements_words}
-use Rattle.st_round_trip.proofs.Going.{word_sort, word_kind}
-use Rattle.st_round_trip.proofs.Spelled.{Spells, First, first_of, spells_nothing, Parted, parted, Inside, inside_of, one_of, constant_is, string_is}
+use Rattle.st_print.proofs.Going.{word_sort, word_kind}
+use Rattle.st_print.proofs.Spelled.{Spells, First, first_of, spells_nothing, Parted, parted, Inside, inside_of, one_of, constant_is, string_is}
 
 module _ (text : List ℕ) where
   pub record ElementBack (what : ContentView) (ts : List Leaf) : Type 0 where

@@ -8,13 +8,13 @@ use Rattle.st_grammar.specs.Formed.{IsWellFormed}
 use Rattle.st_grammar.proofs.FormedLeaves.{Each}
 use Rattle.st_grammar.proofs.FormedTrees.{means_formed, each_of}
 use Rattle.st_print.specs.Printed.{method_words, printed}
-use Rattle.st_round_trip.specs.Printing.{IsPrintedBack}
-use Rattle.st_round_trip.proofs.Nesting.{statements_nesting}
-use Rattle.st_round_trip.proofs.Going.{outside}
-use Rattle.st_round_trip.proofs.Walks.{method_goes}
-use Rattle.st_round_trip.proofs.Scanned.{scanned, open_brackets}
-use Rattle.st_round_trip.proofs.MethodBacks.{method_back}
-use Rattle.st_round_trip.proofs.Deep.{method_deep}
+use Rattle.st_print.specs.Printing.{IsPrintedBack}
+use Rattle.st_print.proofs.Nesting.{statements_nesting}
+use Rattle.st_print.proofs.Going.{outside}
+use Rattle.st_print.proofs.Walks.{method_goes}
+use Rattle.st_print.proofs.Scanned.{scanned, open_brackets}
+use Rattle.st_print.proofs.MethodBacks.{method_back}
+use Rattle.st_print.proofs.Deep.{method_deep}
 
 -- a well-formed tree that nests no deeper than a text may
 pub shallow_back : (t : MethodView) → IsWellFormed t → statements_nesting t.body ≤ most → IsPrintedBack t

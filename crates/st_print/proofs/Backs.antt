@@ -15,8 +15,8 @@ use Rattle.st_print.specs.declared.rank.Rank.{Rank}
 use Rattle.st_print.specs.declared.rank.Rank.TheVariants.{Unary, Binary, Any}
 use Rattle.st_print.specs.Words.{name, mark, grouped, wrapped}
 use Rattle.st_print.specs.Printed.{is_loose, rank_of, expression_words, placed}
-use Rattle.st_round_trip.proofs.Spelled.{Spells, first_of, Inside, inside_of, one_of, name_is}
-use Rattle.st_round_trip.proofs.Trees.{super_same, with_target, with_target-text, with_target-tree, with_target-fits}
+use Rattle.st_print.proofs.Spelled.{Spells, first_of, Inside, inside_of, one_of, name_is}
+use Rattle.st_print.proofs.Trees.{super_same, with_target, with_target-text, with_target-tree, with_target-fits}
 
 module _ (text : List ℕ) where
   -- leaves are a unary expression of a tree; also `super` alone

@@ -14,10 +14,10 @@ use Rattle.st_grammar.specs.Trees.{parameters_tree, block_tree, statements_tree,
 use Rattle.st_grammar.specs.Formed.{MayFollow, ReceiverFormed, StatementsFormed, MessagesFormed, ArgumentsFormed}
 use Rattle.st_print.specs.Words.{name, mark, bar}
 use Rattle.st_print.specs.Printed.{parameter_words, parameters_words, expression_words, statements_words}
-use Rattle.st_round_trip.proofs.Spelled.{Spells, first_of, spells_nothing, parted, inside_of, one_of, name_is}
-use Rattle.st_round_trip.proofs.LiteralBacks.{LiteralBack, literal_back}
-use Rattle.st_round_trip.proofs.Backs.{UnaryBack, Back, from_unary, from_any, assigned_back}
-use Rattle.st_round_trip.proofs.Sends.{ArgumentsBack, MessagesAll, sends_back}
+use Rattle.st_print.proofs.Spelled.{Spells, first_of, spells_nothing, parted, inside_of, one_of, name_is}
+use Rattle.st_print.proofs.LiteralBacks.{LiteralBack, literal_back}
+use Rattle.st_print.proofs.Backs.{UnaryBack, Back, from_unary, from_any, assigned_back}
+use Rattle.st_print.proofs.Sends.{ArgumentsBack, MessagesAll, sends_back}
 
 module _ (text : List ℕ) where
   -- each statement is read back, and nothing follows what is returned

@@ -23,8 +23,8 @@ use Rattle.st_scan.specs.Pieces.{is_name}
 use Rattle.st_print.specs.declared.rank.Rank.{Rank}
 use Rattle.st_print.specs.declared.rank.Rank.TheVariants as ranks
 use Rattle.st_print.specs.Printed.{is_loose, is_word, rank_of}
-use Rattle.st_round_trip.proofs.Selectors.{operator_no_word, name_word}
-use Rattle.st_round_trip.proofs.Nesting.{content_nesting, elements_nesting, wrapped_nesting, argument_rank, nesting, statements_nesting, messages_nesting, arguments_nesting, placed_nesting}
+use Rattle.st_print.proofs.Selectors.{operator_no_word, name_word}
+use Rattle.st_print.proofs.Nesting.{content_nesting, elements_nesting, wrapped_nesting, argument_rank, nesting, statements_nesting, messages_nesting, arguments_nesting, placed_nesting}
 
 -- LEAVES
 

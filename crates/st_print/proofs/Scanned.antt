@@ -17,9 +17,9 @@ use Rattle.st_grammar.specs.Leaves.{bytes_of, kind_of_sort, ends_keyword, is_joi
 use Rattle.st_grammar.specs.Faults.{level, highest}
 use Rattle.st_grammar.proofs.KindSets.{sample}
 use Rattle.st_print.specs.Words.{Word, name, keyword, operator, number, character, string, symbol, opening, mark, word_text, spaced, text_of}
-use Rattle.st_round_trip.proofs.Going.{word_sort, word_kind, after_word, word_level, Goes}
-use Rattle.st_round_trip.proofs.Words.{IsPiece, word_piece}
-use Rattle.st_round_trip.proofs.Spelled.{IsWord, Spells}
+use Rattle.st_print.proofs.Going.{word_sort, word_kind, after_word, word_level, Goes}
+use Rattle.st_print.proofs.Words.{IsPiece, word_piece}
+use Rattle.st_print.proofs.Spelled.{IsWord, Spells}
 
 -- pieces with a blank before each
 abbrev spaced_pieces : List Piece → List Piece

@@ -13,9 +13,9 @@ use Rattle.st_print.specs.declared.rank.Rank.{Rank}
 use Rattle.st_print.specs.declared.rank.Rank.TheVariants.{Unary, Binary}
 use Rattle.st_print.specs.Words.{Word, name, keyword, operator, number, character, string, symbol, opening, mark, bar, wrapped, other_keywords}
 use Rattle.st_print.specs.Printed.{content_words, elements_words, is_loose, rank_of, receiver_rank, parameter_words, parameters_words, return_words, expression_words, statements_words, next_statements, messages_words, next_messages, message_words, keyword_words, placed, names_words, keyword_pattern, pattern_words, temporaries_words, primitive_words, options_words, first_signed, apart, behind_pattern, method_words}
-use Rattle.st_round_trip.proofs.Selectors.{FirstOf, first_of_some, operator_no_word}
-use Rattle.st_round_trip.proofs.Nesting.{content_nesting, elements_nesting, wrapped_nesting, argument_rank, nesting, statements_nesting, messages_nesting, arguments_nesting}
-use Rattle.st_round_trip.proofs.Going.{WordFormed, Goes, goes_append, before, behind, outside, in_parentheses, in_block, in_array}
+use Rattle.st_print.proofs.Selectors.{FirstOf, first_of_some, operator_no_word}
+use Rattle.st_print.proofs.Nesting.{content_nesting, elements_nesting, wrapped_nesting, argument_rank, nesting, statements_nesting, messages_nesting, arguments_nesting}
+use Rattle.st_print.proofs.Going.{WordFormed, Goes, goes_append, before, behind, outside, in_parentheses, in_block, in_array}
 
 -- in a literal array a sign may stand anywhere
 signs_in : (c : Context) → 0 < c.depth → signs c ≡ true

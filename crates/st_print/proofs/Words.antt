@@ -16,7 +16,7 @@ use Rattle.st_scan.specs.Pieces as pieces
 use Rattle.st_scan.specs.Scans.{Context, after, sort_of}
 use Rattle.st_grammar.specs.Formed.{IsSelector}
 use Rattle.st_print.specs.Words.{Word, name, keyword, operator, number, character, string, symbol, opening, mark, word_text}
-use Rattle.st_round_trip.proofs.Going.{word_sort, WordFormed, after_word}
+use Rattle.st_print.proofs.Going.{word_sort, WordFormed, after_word}
 
 -- a piece that a word is
 pub record IsPiece (s : Bool) (w : Word) : Type 0 where

@@ -19,9 +19,9 @@ use Rattle.st_grammar.specs.Formed.{AreKeywords, IsSelector, IsWellFormed}
 use Rattle.st_grammar.proofs.KindSets as sets
 use Rattle.st_print.specs.Words.{Word, name, keyword, operator, number, mark, bar, first_keyword, other_keywords}
 use Rattle.st_print.specs.Printed.{statements_words, names_words, keyword_pattern, pattern_words, temporaries_words, primitive_words, options_words, first_signed, apart, behind_pattern, method_words}
-use Rattle.st_round_trip.proofs.Selectors.{first_of_some, no_keywords, operator_no_word}
-use Rattle.st_round_trip.proofs.Spelled.{Spells, first_of, spells_nothing, parted, inside_of, one_of, fits, keyword_fits, operator_fits, name_is}
-use Rattle.st_round_trip.proofs.Bodies.{StatementsAll, StatementsBack, statements_back, all_statements}
+use Rattle.st_print.proofs.Selectors.{first_of_some, no_keywords, operator_no_word}
+use Rattle.st_print.proofs.Spelled.{Spells, first_of, spells_nothing, parted, inside_of, one_of, fits, keyword_fits, operator_fits, name_is}
+use Rattle.st_print.proofs.Bodies.{StatementsAll, StatementsBack, statements_back, all_statements}
 
 -- A NUMBER IN PARENTHESES
 

@@ -16,7 +16,7 @@ use Rattle.st_grammar.specs.Phrases.{One}
 use Rattle.st_grammar.specs.Trees.{bytes, name_at, constant_at, content_of, undoubled, between_quotes}
 use Rattle.st_grammar.proofs.KindSets.{sample}
 use Rattle.st_print.specs.Words.{Word, name, keyword, operator, word_text, string_text}
-use Rattle.st_round_trip.proofs.Going.{word_sort, word_kind}
+use Rattle.st_print.proofs.Going.{word_sort, word_kind}
 
 -- a leaf of a kind is among those kinds
 pub fits : (ks : List Kind) (x : Leaf) (k : Kind) → x.kind ≡ k → among ks (sample k) ≡ true → IsTrue (among ks x)
