@@ -10,8 +10,7 @@ mod tool;
 
 use crate::tool::exit_code;
 use st_call::{Command, read_command, refuse};
-use st_host::{DirHost, StdinSource};
-use st_outside::Source;
+use st_host::{DirHost, Source, StdinSource};
 use st_protocol::Status;
 use std::alloc::Global;
 use std::fs::File;

@@ -1,9 +1,9 @@
 ghost use Rattle.std.specs.Prelude.{◌≡◌, ℕ, List, map, IsTrue, Some, None};
 ghost use Rattle.std.specs.String.{string_bytes};
 ghost use Rattle.std.specs.Process.{exit_status};
-ghost use Rattle.st_outside.specs.Counts.{Rose};
-ghost use Rattle.st_outside.specs.Files.{bytes_of};
-ghost use Rattle.st_outside.specs.Runs.{ReadsAndSays};
+ghost use Rattle.st_host.specs.Counts.{Rose};
+ghost use Rattle.st_host.specs.Files.{bytes_of};
+ghost use Rattle.st_host.specs.Runs.{ReadsAndSays};
 ghost use Rattle.st_image.specs.declared.head.HeadValues.{HeadValues};
 ghost use Rattle.st_protocol.specs.Statuses.{StatusHasCause, number_of};
 ghost use Rattle.st_protocol.specs.declared.status.Status.TheVariants.{Usage};
@@ -19,8 +19,8 @@ ghost use Rattle.st_call.specs.Words.{command_of, Once, Import, Export, Session,
 
 use st_call::{Command, read_command, refuse};
 use st_counted::CountedLoader;
+use st_host::{Host, Source};
 use st_lookup::CachedLoader;
-use st_outside::{Host, Source};
 use st_protocol::Status;
 use st_session::{build, drill, export, import, once, session};
 use std::alloc::Global;

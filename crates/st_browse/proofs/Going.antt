@@ -4,9 +4,9 @@ use Rattle.std.specs.Prelude.{if◌then◌else◌, Result, IsErr}
 use Rattle.std.specs.List.{filter, filter_map, flat_map, range_with_len, cons_option}
 use Rattle.std.specs.declared.cmp.Ordering.{Ordering}
 use Rattle.std.specs.declared.cmp.Ordering.TheVariants.{Less, Equal, Greater}
-use Rattle.st_outside.specs.declared.host.Host.{Ghosts}
-use Rattle.st_outside.specs.declared.host.SayFault.{SayFault}
-use Rattle.st_outside.proofs.Telling.{OnlyNow}
+use Rattle.st_host.specs.declared.host.Host.{Ghosts}
+use Rattle.st_host.specs.declared.host.SayFault.{SayFault}
+use Rattle.st_host.proofs.Telling.{OnlyNow}
 use Rattle.st_report.specs.Saying.{Pushes}
 use Rattle.st_report.proofs.Pushing.{push_none, push_then, push_begun, push_as}
 use Rattle.st_browse.specs.Naming.{Named, compared, in_order, placed, placed_beside}

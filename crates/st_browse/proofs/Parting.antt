@@ -3,9 +3,9 @@ use Rattle.std.proofs.Common.{◌≡◌, ◌≢◌, ℕ, zero, suc, ◌+◌, ◌
 use Rattle.std.specs.Prelude.{slice_get, ◌||◌, ◌==◌, min, Result, IsErr}
 use Rattle.std.specs.List.{list_any}
 use Rattle.std.proofs.lemmas.Bool.Decides.{nat_tests}
-use Rattle.st_outside.specs.declared.host.Host.{Ghosts}
-use Rattle.st_outside.specs.declared.host.SayFault.{SayFault}
-use Rattle.st_outside.proofs.Telling.{OnlyNow}
+use Rattle.st_host.specs.declared.host.Host.{Ghosts}
+use Rattle.st_host.specs.declared.host.SayFault.{SayFault}
+use Rattle.st_host.proofs.Telling.{OnlyNow}
 use Rattle.st_report.specs.Saying.{Pushes}
 use Rattle.st_report.proofs.Pushing.{push_none, push_then, push_begun, push_as}
 use Rattle.st_browse.specs.Cutting.{code_length, codes_behind, codes_of}

@@ -1,8 +1,8 @@
 -- There is one text that is asked for, and one answer.
 use Rattle.std.proofs.Common.{◌≡◌, ℕ, Bool, List, [], Ok, Err, refl, ap}
 use Rattle.std.specs.Prelude.{Option, Result, IsErr, unwrap_or}
-use Rattle.st_outside.specs.Telling.{Says}
-use Rattle.st_outside.specs.declared.host.Host.{Ghosts}
+use Rattle.st_host.specs.Telling.{Says}
+use Rattle.st_host.specs.declared.host.Host.{Ghosts}
 use Rattle.st_model.specs.View.{View}
 use Rattle.st_chunk.specs.Asks.{Ask, Object, Display, Classes, Methods, Source, Bytecodes, Senders}
 use Rattle.st_chunk.specs.Definitions.{Definition}

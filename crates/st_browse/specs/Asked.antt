@@ -1,9 +1,9 @@
 -- What an image answers to what is asked of it, with the text of the method's last definition where that is asked for; nothing where
 -- what is asked for is missing.
 use Rattle.std.specs.Prelude.{◌≡◌, ℕ, List, [], Option, Some, None, MatchOption, Bool, Result, IfOk, OnOk, is_some, unwrap_or, option_map, option_and_then, if◌then◌else◌, ⊤}
-use Rattle.st_outside.specs.Runs.{SaysAll}
-use Rattle.st_outside.specs.Telling.{Says}
-use Rattle.st_outside.specs.declared.host.Host.{Ghosts}
+use Rattle.st_host.specs.Runs.{SaysAll}
+use Rattle.st_host.specs.Telling.{Says}
+use Rattle.st_host.specs.declared.host.Host.{Ghosts}
 use Rattle.st_model.specs.Values.{Value, value_of}
 use Rattle.st_model.specs.Table.{Table}
 use Rattle.st_model.specs.View.{View, object_of}

@@ -12,9 +12,9 @@ ghost use Rattle.st_browse.specs.Replies.{code_line, codes_text};
 ghost use Rattle.st_browse.specs.Senders.{is_special};
 ghost use Rattle.st_browse.specs.Entries.{IsBody};
 
+use st_host::{Host, SayFault};
 use st_memory::{Memory, count_fields, count_units, unit_at};
 use st_model::{Kind, Oop};
-use st_outside::{Host, SayFault};
 use st_report::{Output, push_number};
 
 /// The code of the first special send.

@@ -12,9 +12,9 @@ ghost use Rattle.st_browse.specs.Display.{answer_in, form_at, form_text, if_held
 ghost use Rattle.st_browse.specs.Shown.{HasWords, IsForm, form_in, words_in};
 
 use crate::fields::field_at;
+use st_host::{Host, SayFault};
 use st_memory::Memory;
 use st_model::{Kind, Oop, RootPlace};
-use st_outside::{Host, SayFault};
 use st_report::{Output, push_line};
 
 /// A Form.

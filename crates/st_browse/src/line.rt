@@ -7,9 +7,9 @@ ghost use Rattle.st_browse.specs.Listing.{line_text};
 ghost use Rattle.st_browse.specs.Replies.{name_line, sender_line, side_text};
 ghost use Rattle.st_browse.specs.Entries.{IsLine, IsName, name_of};
 
+use st_host::{Host, SayFault};
 use st_memory::Memory;
 use st_model::Oop;
-use st_outside::{Host, SayFault};
 use st_report::{Output, push_bytes};
 
 /// What the line of a name says.

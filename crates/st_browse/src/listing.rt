@@ -14,8 +14,8 @@ use crate::named::Named;
 use crate::names::Names;
 use crate::places::next_name;
 use crate::sending::sends;
+use st_host::{Host, SayFault};
 use st_memory::Memory;
-use st_outside::{Host, SayFault};
 use st_report::Output;
 
 /// Whether a name is chosen.

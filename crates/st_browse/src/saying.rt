@@ -4,9 +4,9 @@ ghost use Rattle.std.specs.Prelude.{◌≡◌, ◌≤◌, ◌++◌, ℕ, List, O
 ghost use Rattle.std.specs.List.{filter};
 ghost use Rattle.st_model.specs.Values.{value};
 ghost use Rattle.st_model.specs.View.{object_of};
-ghost use Rattle.st_outside.specs.Counts.{HasCause};
-ghost use Rattle.st_outside.specs.Runs.{SaysAll};
-ghost use Rattle.st_outside.specs.Telling.{Says};
+ghost use Rattle.st_host.specs.Counts.{HasCause};
+ghost use Rattle.st_host.specs.Runs.{SaysAll};
+ghost use Rattle.st_host.specs.Telling.{Says};
 ghost use Rattle.st_report.specs.Saying.{Pushes};
 ghost use Rattle.st_chunk.specs.Asks.{ask_of};
 ghost use Rattle.st_browse.specs.Naming.{in_order};
@@ -28,8 +28,8 @@ use crate::sought::{Sought, seek};
 use crate::source::push_source;
 use st_changes::Changes;
 use st_chunk::Ask;
+use st_host::{Host, SayFault};
 use st_memory::Memory;
-use st_outside::{Host, SayFault};
 use st_report::{Output, push_long_line, push_object};
 
 /// Adds how many names are chosen, and the line of each.

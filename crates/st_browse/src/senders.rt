@@ -19,9 +19,9 @@ use crate::methods::methods_of;
 use crate::named::Named;
 use crate::names::Names;
 use crate::places::next_name;
+use st_host::{Host, SayFault};
 use st_memory::Memory;
 use st_model::Oop;
-use st_outside::{Host, SayFault};
 use st_report::Output;
 
 /// How many methods on one side of a class send a selector.

@@ -5,7 +5,7 @@ ghost use Rattle.std.specs.List.{flat_map};
 ghost use Rattle.st_report.specs.Saying.{Pushes};
 ghost use Rattle.st_browse.specs.Sources.{lines_of, source_byte, source_text};
 
-use st_outside::{Host, SayFault};
+use st_host::{Host, SayFault};
 use st_report::{Output, push_escaped, push_long_line};
 
 /// How many lines a text has.

@@ -1,11 +1,11 @@
 -- Texts that are said, or not.
 use Rattle.std.proofs.Common.{◌≡◌, List, ℕ, refl, arith}
 use Rattle.std.specs.Prelude.{Ok, Err}
-use Rattle.st_outside.specs.declared.host.Host.{Ghosts}
-use Rattle.st_outside.specs.declared.host.SayFault.{SayFault}
-use Rattle.st_outside.specs.Counts.{HasCause}
-use Rattle.st_outside.specs.Runs.{SaysAll}
-use Rattle.st_outside.specs.Telling.{Says}
+use Rattle.st_host.specs.declared.host.Host.{Ghosts}
+use Rattle.st_host.specs.declared.host.SayFault.{SayFault}
+use Rattle.st_host.specs.Counts.{HasCause}
+use Rattle.st_host.specs.Runs.{SaysAll}
+use Rattle.st_host.specs.Telling.{Says}
 use Rattle.st_protocol.specs.declared.status.Status.TheVariants as status
 use Rattle.st_call.specs.Telling.{Tells}
 

@@ -1,7 +1,7 @@
 -- What is read of an image's file, and why it isn't.
 use Rattle.std.proofs.Common.{◌≡◌, ℕ, ◌≤◌, List, length, sym, subst}
 use Rattle.std.specs.Prelude.{Result, Ok, Err, IfErr, IsErrAnd}
-use Rattle.st_outside.specs.declared.host.Host.{Ghosts}
+use Rattle.st_host.specs.declared.host.Host.{Ghosts}
 use Rattle.st_model.specs.Limits.{longest_image}
 use Rattle.st_model.specs.Faults.{IsWellFormed, IsImageFault}
 use Rattle.st_model.specs.declared.fault.ImageFault.{ImageFault}

@@ -1,8 +1,8 @@
 -- The last line of a call that ends in a status, and that nothing else was said.
 use Rattle.std.specs.Prelude.{◌≡◌, ℕ, List, [], ◌∷◌, ◌++◌, codes, decimal, IsTrue}
-use Rattle.st_outside.specs.Counts.{Rose}
-use Rattle.st_outside.specs.Stops.{SaidPart}
-use Rattle.st_outside.specs.declared.host.Host.{Ghosts}
+use Rattle.st_host.specs.Counts.{Rose}
+use Rattle.st_host.specs.Stops.{SaidPart}
+use Rattle.st_host.specs.declared.host.Host.{Ghosts}
 use Rattle.st_model.specs.declared.fault.ImageFault.{ImageFault}
 use Rattle.st_model.specs.declared.fault.ImageFault.TheVariants as fault
 use Rattle.st_model.specs.Text.{numbers_text}

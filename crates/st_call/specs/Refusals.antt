@@ -1,7 +1,7 @@
 -- Why a file, an image or a store isn't there for a call, and the status in which the call ends then.
 use Rattle.std.specs.Prelude.{ℕ, ◌<◌, ◌≤◌, List, length, ⊤}
-use Rattle.st_outside.specs.Counts.{Rose}
-use Rattle.st_outside.specs.declared.host.Host.{Ghosts}
+use Rattle.st_host.specs.Counts.{Rose}
+use Rattle.st_host.specs.declared.host.Host.{Ghosts}
 use Rattle.st_model.specs.declared.fault.ImageFault.{ImageFault}
 use Rattle.st_model.specs.Limits.{longest_image}
 use Rattle.st_model.specs.Faults.{IsWellFormed, IsImageFault}

@@ -1,8 +1,8 @@
 -- A call that says a text, and answers the session's status where that fails.
 use Rattle.std.specs.Prelude.{◌≡◌, ℕ, List, Result, OnOk, Ok, Err, IfErr, ⊤}
-use Rattle.st_outside.specs.Runs.{SaysAll}
-use Rattle.st_outside.specs.Telling.{Says}
-use Rattle.st_outside.specs.declared.host.Host.{Ghosts}
+use Rattle.st_host.specs.Runs.{SaysAll}
+use Rattle.st_host.specs.Telling.{Says}
+use Rattle.st_host.specs.declared.host.Host.{Ghosts}
 use Rattle.st_protocol.specs.declared.status.Status.{Status}
 use Rattle.st_protocol.specs.declared.status.Status.TheVariants.{Done, Usage, Image, Script, ReadFault, SayFault, DiskFault, Store, Kernel, TooLarge, OutOfMemory}
 use Rattle.st_protocol.specs.Statuses.{Counts}

@@ -1,11 +1,11 @@
 //! The reading of a whole file, as the commands read an image and a kernel text.
 
 ghost use Rattle.std.specs.Prelude.{◌≡◌, ◌≤◌, length, IsTrue, IfOk, IfErr, OnOk};
-ghost use Rattle.st_outside.specs.Files.{bytes_of};
-ghost use Rattle.st_outside.specs.Runs.{OnlyReads, ReadsAlike};
+ghost use Rattle.st_host.specs.Files.{bytes_of};
+ghost use Rattle.st_host.specs.Runs.{OnlyReads, ReadsAlike};
 ghost use Rattle.st_call.specs.Refusals.{file_status, IsFileRefusal, FileHasCause};
 
-use st_outside::{Host, HostFault, file_length, read_from};
+use st_host::{Host, HostFault, file_length, read_from};
 use st_protocol::Status;
 use std::alloc::{AllocError, Global};
 

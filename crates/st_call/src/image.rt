@@ -1,6 +1,6 @@
 ghost use Rattle.std.specs.Prelude.{◌≡◌, IsTrue, IfOk, IfErr, OnOk};
-ghost use Rattle.st_outside.specs.Files.{bytes_of};
-ghost use Rattle.st_outside.specs.Runs.{OnlyReads, ReadsAlike};
+ghost use Rattle.st_host.specs.Files.{bytes_of};
+ghost use Rattle.st_host.specs.Runs.{OnlyReads, ReadsAlike};
 ghost use Rattle.st_model.specs.View.{no_devices};
 ghost use Rattle.st_frames.specs.Shown.{IsFrame};
 ghost use Rattle.st_image.specs.Back.{CanStart};
@@ -11,10 +11,10 @@ ghost use Rattle.st_call.specs.Refusals.{IsImageRefusal, RefusalHasCause, IsRead
 use crate::file::read_file;
 use crate::image_refusal::ImageRefusal;
 use st_frames::Loaded;
+use st_host::Host;
 use st_image::{HeadValues, ReadImage, read};
 use st_memory::Loader;
 use st_model::LONGEST_IMAGE;
-use st_outside::Host;
 use std::alloc::Global;
 
 /// The memory and registers of the image in a file, read with these values in place of those of its head, where that has at most

@@ -3,8 +3,8 @@ ghost use Rattle.st_call.specs.Lines.{reply_text};
 ghost use Rattle.st_call.specs.Replies.{accepted_line, refused_text, side_text, why_text};
 ghost use Rattle.st_call.specs.Telling.{Tells};
 
+use st_host::{Host, SayFault};
 use st_model::Dead;
-use st_outside::{Host, SayFault};
 use st_protocol::{Refusal, Status};
 use st_report::{Output, push_line, push_long_line};
 

@@ -3,13 +3,13 @@ use Rattle.std.proofs.Common.{◌≡◌, ◌≢◌, ◌⊎◌, inl, ℕ, ◌+◌
 use Rattle.std.specs.Prelude.{Result, OnOk}
 use Rattle.std.proofs.lemmas.List.{append-nil, get_or-take}
 use Rattle.std.proofs.lemmas.Grind.{same_number_lists}
-use Rattle.st_outside.specs.Files.{Files, bytes_of, IsWritten, KeepsBelow}
-use Rattle.st_outside.specs.Stops.{Comes}
-use Rattle.st_outside.specs.Runs.{Touched, Writes, WritesAbove, IsAtRest, Makes}
-use Rattle.st_outside.specs.declared.host.Host.{Ghosts}
-use Rattle.st_outside.proofs.Joining.{weaker}
-use Rattle.st_outside.proofs.Touching.{write_above}
-use Rattle.st_outside.proofs.Texts.{flushed}
+use Rattle.st_host.specs.Files.{Files, bytes_of, IsWritten, KeepsBelow}
+use Rattle.st_host.specs.Stops.{Comes}
+use Rattle.st_host.specs.Runs.{Touched, Writes, WritesAbove, IsAtRest, Makes}
+use Rattle.st_host.specs.declared.host.Host.{Ghosts}
+use Rattle.st_host.proofs.Joining.{weaker}
+use Rattle.st_host.proofs.Touching.{write_above}
+use Rattle.st_host.proofs.Texts.{flushed}
 use Rattle.st_store.specs.Names.{roots_file, changes_file, image_file}
 use Rattle.st_store.specs.Stored.{Stored, Begins, Opens, IsFirm, IsChosen}
 use Rattle.st_store.proofs.Turning.{came}

@@ -1,7 +1,7 @@
 // Adding a definition to a changes file.
 ghost use Rattle.std.specs.Prelude.{◌≡◌, ◌≤◌, ◌<◌, ◌+◌, ◌-◌, ◌^◌, ◌++◌, ◌∷◌, [], Some, None, IsTrue, IfOk, OnOk, OnErr, length};
-ghost use Rattle.st_outside.specs.Counts.{HasCause};
-ghost use Rattle.st_outside.specs.Runs.{Changes as ChangesFile, ChangesBoth, Makes};
+ghost use Rattle.st_host.specs.Counts.{HasCause};
+ghost use Rattle.st_host.specs.Runs.{Changes as ChangesFile, ChangesBoth, Makes};
 ghost use Rattle.st_store.specs.Names.{roots_file, changes_file};
 ghost use Rattle.st_store.specs.Stored.{Stored, Opens, IsFirm, IsKept};
 ghost use Rattle.st_chunk.specs.Definitions.{IsDefinition, entry, entries};
@@ -11,7 +11,7 @@ ghost use Rattle.st_changes.specs.States.{grown, next_store, FitsBehind};
 use crate::Definition;
 use crate::changes::{Changes, Ready};
 use crate::noting::note;
-use st_outside::{Host, HostFault, write_synced};
+use st_host::{Host, HostFault, write_synced};
 use st_store::{Root, Store};
 
 /// Writes bytes behind the changes that a store has, and syncs them. At each moment the store stays.

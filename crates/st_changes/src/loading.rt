@@ -1,7 +1,7 @@
 // Reading a changes file.
 ghost use Rattle.std.specs.Prelude.{◌≡◌, All, IfOk, IfErr, OnOk, IsTrue, length, take, string_bytes};
-ghost use Rattle.st_outside.specs.Files.{bytes_of};
-ghost use Rattle.st_outside.specs.Runs.{ReadsAlike, OnlyReads, Changes as ChangesFile};
+ghost use Rattle.st_host.specs.Files.{bytes_of};
+ghost use Rattle.st_host.specs.Runs.{ReadsAlike, OnlyReads, Changes as ChangesFile};
 ghost use Rattle.st_store.specs.Names.{changes_file};
 ghost use Rattle.st_store.specs.Refusals.{FaultHasCause};
 ghost use Rattle.st_store.specs.declared.fault.StoreFault.TheVariants.{NotAStore};
@@ -12,7 +12,7 @@ ghost use Rattle.st_changes.specs.Lists.{Lists, StandsAt, RefusesChanges, IsOfLo
 use crate::changes::Changes;
 use crate::listing::list;
 use crate::noting::index_all;
-use st_outside::{Host, read_from};
+use st_host::{Host, read_from};
 use st_store::{Store, StoreFault, StorePlace};
 use std::alloc::{AllocError, Global};
 

@@ -4,7 +4,7 @@ use Rattle.std.specs.Prelude.{◌==◌, ◌*◌, Option, if◌then◌else◌}
 use Rattle.std.proofs.lemmas.List.{length-set, get_or_append_left, get_or-append_right}
 use Rattle.std.proofs.lemmas.Bool.{cases_lt}
 use Rattle.std.proofs.Math.Seq.{take-suc, take-suc-set, take-add}
-use Rattle.st_outside.specs.Files.{bytes_of, IsWritten}
+use Rattle.st_host.specs.Files.{bytes_of, IsWritten}
 use Rattle.st_chunk.specs.Texts.{mark, doubled}
 use Rattle.st_chunk.proofs.Joined.{doubled-one, doubled-append}
 

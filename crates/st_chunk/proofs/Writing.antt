@@ -1,9 +1,9 @@
 -- Writes behind a place of a file.
 use Rattle.std.proofs.Common.{ℕ, ◌≤◌, List, length, IsTrue, arith}
-use Rattle.st_outside.specs.Files.{bytes_of}
-use Rattle.st_outside.specs.Runs.{Writes}
-use Rattle.st_outside.specs.declared.host.Host.{Ghosts}
-use Rattle.st_outside.proofs.Touching.{write_above, above_join}
+use Rattle.st_host.specs.Files.{bytes_of}
+use Rattle.st_host.specs.Runs.{Writes}
+use Rattle.st_host.specs.declared.host.Host.{Ghosts}
+use Rattle.st_host.proofs.Touching.{write_above, above_join}
 use Rattle.st_chunk.specs.Writing.{WritesBehind}
 
 module _ {D : Type 0} (host : Ghosts D) (name : List ℕ) where

@@ -1,13 +1,13 @@
 //! Text that is written with each `!` doubled.
 
 ghost use Rattle.std.specs.Prelude.{◌≡◌, ◌+◌, ◌*◌, ◌<◌, ◌≤◌, ◌^◌, length, take, IsTrue, IfOk, OnOk};
-ghost use Rattle.st_outside.specs.Counts.{HasCause};
-ghost use Rattle.st_outside.specs.Files.{IsWritten};
-ghost use Rattle.st_outside.specs.Runs.{Writes};
+ghost use Rattle.st_host.specs.Counts.{HasCause};
+ghost use Rattle.st_host.specs.Files.{IsWritten};
+ghost use Rattle.st_host.specs.Runs.{Writes};
 ghost use Rattle.st_chunk.specs.Texts.{doubled};
 ghost use Rattle.st_chunk.specs.Writing.{WritesBehind};
 
-use st_outside::{Host, HostFault, write_bytes};
+use st_host::{Host, HostFault, write_bytes};
 
 /// The most bytes of the text that are written at once.
 const PIECE: usize = 256;

@@ -1,13 +1,13 @@
 -- What a call that does a deed to a file, or fails, leaves.
 use Rattle.std.proofs.Common.{◌≡◌, inl, inr, ⊎_elim, ℕ, ◌+◌, max, Bool, if◌then◌else◌, bytes_eq, List, ◌∷◌, length, Option, Some, Result, Ok, Err, OnOk, refl, sym, subst, ap, arith, [], ◌++◌, zero, suc, take, ◌∙◌, length-append, ◌≢◌}
 use Rattle.std.proofs.lemmas.Slice.Eq.{bytes_eq-Decides}
-use Rattle.st_outside.specs.Files.{Files, bytes_of, IsWritten, IsCut}
-use Rattle.st_outside.specs.Stops.{comes, Apart, SameStops, SaidPart, WhileSaying, Follows, TornByWrite, TornByCut, Here, Elapses}
+use Rattle.st_host.specs.Files.{Files, bytes_of, IsWritten, IsCut}
+use Rattle.st_host.specs.Stops.{comes, Apart, SameStops, SaidPart, WhileSaying, Follows, TornByWrite, TornByCut, Here, Elapses}
 use Rattle.st_host.specs.Written.{written, resized, written_is, resized_is}
 use Rattle.st_host.specs.Deeds.{Deed, Wrote, Tore, Cut, Synced, Said, files_after, ForName, MayLeave, MayLeaveDuring, said_after, LeftSince}
 use Rattle.st_host.specs.HostState.{HostState, ChangesOrFails, SaysOrFails, disk_failed, with_deed, counted}
 use Rattle.st_host.specs.MemHost.{reads_now}
-use Rattle.st_outside.proofs.Touching.{torn_same}
+use Rattle.st_host.proofs.Touching.{torn_same}
 use Rattle.st_host.proofs.Leaving.{if_other}
 
 chosen : (n : List ℕ) (one other : Option (List ℕ)) → (if bytes_eq n n then one else other) ≡ one

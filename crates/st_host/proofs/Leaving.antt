@@ -2,10 +2,10 @@
 use Rattle.std.proofs.Common.{◌≡◌, ◌≢◌, inl, inr, ⊎_elim, ℕ, ◌+◌, max, Bool, true, false, if◌then◌else◌, bytes_eq, List, [], ◌∷◌, length, Option, Some, None, refl, sym, subst, ap, ◌∙◌, arith, take, zero, suc}
 use Rattle.std.proofs.lemmas.Slice.Eq.{bytes_eq-Decides}
 use Rattle.std.proofs.lemmas.List.{length-replicate}
-use Rattle.st_outside.specs.Files.{Files, bytes_of}
-use Rattle.st_outside.specs.Stops.{Comes, comes, Torn, TornByWrite, TornByCut}
-use Rattle.st_outside.specs.Names.{same_or_other}
-use Rattle.st_outside.proofs.Touching.{torn_same}
+use Rattle.st_host.specs.Files.{Files, bytes_of}
+use Rattle.st_host.specs.Stops.{Comes, comes, Torn, TornByWrite, TornByCut}
+use Rattle.st_host.specs.Names.{same_or_other}
+use Rattle.st_host.proofs.Touching.{torn_same}
 use Rattle.st_host.specs.Written.{written, resized, written_is, resized_is, written_torn, resized_torn, begun_torn}
 use Rattle.st_host.specs.Deeds.{Deed, Put, Wrote, Tore, Cut, Synced, Said, files_after, ForName, MayLeave, said_after}
 use Rattle.st_host.specs.MemHost.{by_name, reads_now}

@@ -4,3 +4,9 @@ pub mod Windows
 pub mod Doing
 pub mod Leaving
 pub mod Replaying
+pub mod Rising
+pub mod Joining
+pub mod Touching
+pub mod Texts
+pub mod Pushing
+pub mod Telling

@@ -2,7 +2,7 @@
 use Rattle.std.proofs.Common.{◌≡◌, ℕ, List, [], ◌∷◌, ◌++◌, length, take, drop, reverse, slice_index, Option, Some, None, sym, subst, ap, ◌∙◌, arith}
 use Rattle.std.proofs.lemmas.List.{ext_get_or, reverse-append, append_assoc}
 use Rattle.std.proofs.Math.Seq.{take-append_seam}
-use Rattle.st_outside.specs.Files.{bytes_of, length_of}
+use Rattle.st_host.specs.Files.{bytes_of, length_of}
 use Rattle.st_host.specs.Deeds.{Deed, Put}
 use Rattle.st_host.specs.HostState.{HostState}
 use Rattle.st_host.specs.Leave.{with_done, with_copy}

@@ -2,7 +2,7 @@
 use Rattle.std.proofs.Common.{◌≡◌, inl, inr, ⊎_elim, ℕ, ◌+◌, ◌-◌, ◌<◌, ◌≤◌, min, List, ◌++◌, length, take, drop, slice_index, Option, Some, None, unwrap_or, refl, sym, subst, ap, ◌∙◌, arith, length-take, length-drop, length-append}
 use Rattle.std.proofs.lemmas.List.{get_or_append_left, get_or-append_right, get_or-take, get_or-drop, get_or_past, ext_get_or}
 use Rattle.std.proofs.lemmas.Bool.{cases_lt}
-use Rattle.st_outside.specs.Files.{bytes_of, length_of, IsRead}
+use Rattle.st_host.specs.Files.{bytes_of, length_of, IsRead}
 use Rattle.st_host.specs.Written.{written, resized, written_is, resized_is}
 use Rattle.st_host.specs.declared.log.Kind.{Kind}
 use Rattle.st_host.specs.declared.log.Kind.TheVariants.{Wrote as WroteKind, Tore as ToreKind, Cut as CutKind}

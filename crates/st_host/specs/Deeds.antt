@@ -1,7 +1,7 @@
 -- What was done to a host in memory, as a list with the newest deed first, and what its files and its output are then.
 use Rattle.std.specs.Prelude.{◌≡◌, ◌≢◌, ◌⊎◌, ℕ, ◌≤◌, if◌then◌else◌, bytes_eq, List, [], ◌∷◌, ◌++◌, length, take, Option, Some, None}
-use Rattle.st_outside.specs.Files.{Files, bytes_of}
-use Rattle.st_outside.specs.Stops.{Comes, TornByWrite, TornByCut, Here, WhileSaying}
+use Rattle.st_host.specs.Files.{Files, bytes_of}
+use Rattle.st_host.specs.Stops.{Comes, TornByWrite, TornByCut, Here, WhileSaying}
 use Rattle.st_host.specs.Written.{written, resized}
 
 -- A file of this name was put there with these bytes; bytes were written into it at a place; so many first ones of bytes were,

@@ -1,6 +1,6 @@
 -- A host in memory as contracts see it, and when its calls fail.
 use Rattle.std.specs.Prelude.{◌≡◌, ◌⊎◌, ◌↔◌, ℕ, ◌-◌, ◌^◌, ◌<◌, ◌≤◌, ◌==◌, ◌&&◌, ◌||◌, nat_lt, Bool, is_some, IsSome, Option, Some, None, if◌then◌else◌, List, [], ◌∷◌, length, take, Contains, Result, IsErr, OnOk, OnErr}
-use Rattle.st_outside.specs.Counts.{one_more}
+use Rattle.st_host.specs.Counts.{one_more}
 use Rattle.st_host.specs.Deeds.{Deed, Put, Said}
 
 pub record HostState : Type 0 where

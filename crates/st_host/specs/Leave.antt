@@ -1,7 +1,7 @@
 -- Three of the states that a stop may leave: each file as at its last sync, as it reads, and as it reads with each byte
 -- written since the sync as 0xFF. And a host that has one of them.
 use Rattle.std.specs.Prelude.{◌≡◌, ◌↔◌, ℕ, if◌then◌else◌, bytes_eq, List, [], ◌∷◌, length, take, replicate, Option, Some, None}
-use Rattle.st_outside.specs.Files.{Files, bytes_of}
+use Rattle.st_host.specs.Files.{Files, bytes_of}
 use Rattle.st_host.specs.Written.{written, resized}
 use Rattle.st_host.specs.Deeds.{Deed, Put, Wrote, Tore, Cut, Synced, Said, files_after, MayLeave, said_after}
 use Rattle.st_host.specs.HostState.{HostState, fresh}

@@ -7,3 +7,10 @@ pub mod MemHost
 pub mod Replay
 pub mod SourceState
 pub mod Untold
+pub mod Counts
+pub mod Files
+pub mod Names
+pub mod Stops
+pub mod Runs
+pub mod Pieces
+pub mod Telling

@@ -2,7 +2,7 @@
 use Rattle.std.specs.Prelude.{◌≡◌, ◌⊎◌, ℕ, ◌+◌, ◌-◌, ◌<◌, ◌≤◌, length, reverse, Vec, vec_capacity, List, [], ◌∷◌, ◌++◌, take, drop, slice_index, if◌then◌else◌, bytes_eq, Option, Some}
 use Rattle.std.specs.declared.alloc.Global.{Global}
 use Rattle.st_host.specs.Deeds.{Deed, Put, Wrote, Tore, Cut, Synced, Said, said_after}
-use Rattle.st_outside.specs.Files.{bytes_of}
+use Rattle.st_host.specs.Files.{bytes_of}
 use Rattle.st_host.specs.Written.{written, resized}
 use Rattle.st_host.specs.declared.log.Entry.{Entry}
 use Rattle.st_host.specs.declared.log.Kind.{Kind}

@@ -2,10 +2,10 @@
 use Rattle.std.specs.Prelude.{◌≡◌, ℕ, ◌≤◌, Bool, true, false, if◌then◌else◌, bytes_eq, List, [], ◌∷◌, length, take, Option, Some, refl}
 use Rattle.std.proofs.Common.{inl, inr, ⊎_elim, sym, ◌∙◌, arith, true≢false}
 use Rattle.std.proofs.lemmas.Slice.Eq.{bytes_eq-Decides}
-use Rattle.st_outside.specs.Files.{Files, bytes_of}
-use Rattle.st_outside.specs.Stops.{Comes, comes, TornByWrite, TornByCut, Here}
+use Rattle.st_host.specs.Files.{Files, bytes_of}
+use Rattle.st_host.specs.Stops.{Comes, comes, TornByWrite, TornByCut, Here}
 use Rattle.st_host.specs.Written.{written, resized, written_torn, resized_torn, begun_torn}
-use Rattle.st_outside.specs.Names.{same_or_other}
+use Rattle.st_host.specs.Names.{same_or_other}
 use Rattle.st_host.specs.Deeds.{Deed, Put, Wrote, Tore, Cut, Synced, Said, files_after, ForName, MayLeave, said_after, LeftSince}
 
 -- a fact of a choice by name, from one of each of the two

@@ -1,6 +1,6 @@
 -- A source in memory as contracts see it, and when its calls fail.
 use Rattle.std.specs.Prelude.{◌≡◌, ◌↔◌, ℕ, min, List, length, take, drop, Contains, Result, IsErr, IfOk, OnErr}
-use Rattle.st_outside.specs.Counts.{one_more}
+use Rattle.st_host.specs.Counts.{one_more}
 
 pub record SourceState : Type 0 where
   -- the bytes that are left

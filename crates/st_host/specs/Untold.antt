@@ -1,6 +1,6 @@
 -- Of what isn't told anything may be said. What is known of a host that tells nothing are its counts.
 use Rattle.std.specs.Prelude.{◌≡◌, ℕ, false, IsTrue, Result, OnOk, OnErr}
-use Rattle.st_outside.specs.Counts.{one_more}
+use Rattle.st_host.specs.Counts.{one_more}
 use Rattle.std.proofs.Common.{true≢false, sym}
 
 pub untold : {A : Type 0} → IsTrue false → A

@@ -3,8 +3,8 @@ use Rattle.std.specs.Prelude.{◌≡◌, ℕ, ◌+◌, ◌-◌, ◌<◌, List, �
 use Rattle.std.proofs.Common.{⊎_elim, inl, inr, sym, ◌∙◌, ap, arith, length-append, length-drop, length-take}
 use Rattle.std.proofs.lemmas.List.{get_or_append_left, get_or-append_right, get_or-take, get_or-drop, get_or-replicate, get_or_past, length-replicate}
 use Rattle.std.proofs.lemmas.Bool.{cases_lt}
-use Rattle.st_outside.specs.Files.{bytes_of, IsWritten, IsCut}
-use Rattle.st_outside.specs.Stops.{TornByWrite, TornByCut}
+use Rattle.st_host.specs.Files.{bytes_of, IsWritten, IsCut}
+use Rattle.st_host.specs.Stops.{TornByWrite, TornByCut}
 
 -- these bytes written at a place, with zero bytes up to it
 abbrev pub written : ℕ → List ℕ → List ℕ → List ℕ

@@ -1,10 +1,10 @@
 // The host of the real program. It tells nothing of what files and output hold.
 ghost use Rattle.std.specs.Prelude.{◌≡◌, ◌≤◌, false, None, [], length, IfOk};
-ghost use Rattle.st_outside.specs.Counts.{HasCause};
+ghost use Rattle.st_host.specs.Counts.{HasCause};
 ghost use Rattle.st_host.specs.Untold.{untold, CountsOnce};
 
 use crate::guard::{Guard, Place, Refusal};
-use st_outside::{Host, HostFault, SayFault};
+use crate::host::{Host, HostFault, SayFault};
 use std::alloc::AllocError;
 use std::fs::{File, OpenOptions};
 use std::io::{self, ErrorKind, Read, Seek, SeekFrom, Write};

@@ -1,6 +1,6 @@
 // That no store is lost by a mistake. No clause says so, since none says what files hold.
+use crate::host::{Host, HostFault};
 use crate::{DirHost, Refusal};
-use st_outside::{Host, HostFault};
 use std::fs;
 use std::process::Abort;
 use std::test::Fail;

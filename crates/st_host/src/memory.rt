@@ -1,13 +1,13 @@
 // A host in memory. It keeps each deed, so that a stop may leave all that the contract of a host allows.
 ghost use Rattle.std.specs.Prelude.{◌≡◌, ◌⊎◌, ◌↔◌, ◌++◌, ◌∷◌, [], ◌+◌, ◌-◌, ◌<◌, ◌≤◌, ℕ, min, List, length, take, reverse, IsTrue, true, IfOk, OnOk, OnErr, IsErr, IsSome, Option, Some, None, vec_len, vec_capacity};
-ghost use Rattle.st_outside.specs.Counts.{one_more, Rose, HasCause};
+ghost use Rattle.st_host.specs.Counts.{one_more, Rose, HasCause};
 ghost use Rattle.st_host.specs.declared.memory.Next.TheVariants.{Does, Fails, Stops};
 ghost use Rattle.st_host.specs.HostState.{comes_first};
-ghost use Rattle.st_outside.specs.Files.{length_of, bytes_of, IsRead};
+ghost use Rattle.st_host.specs.Files.{length_of, bytes_of, IsRead};
 
+use crate::host::{Host, HostFault, SayFault};
 use crate::log::{Entry, Kind, append, append_file, append_said, window};
 use crate::replay::{Leave, replayed};
-use st_outside::{Host, HostFault, SayFault};
 use std::alloc::{AllocError, Global};
 use std::marker::Model;
 

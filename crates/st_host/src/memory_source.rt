@@ -1,8 +1,8 @@
 // A source in memory.
 ghost use Rattle.std.specs.Prelude.{◌≡◌, ◌⊎◌, ◌≤◌, ◌<◌, [], length, IfOk};
-ghost use Rattle.st_outside.specs.Counts.{HasCause};
+ghost use Rattle.st_host.specs.Counts.{HasCause};
 
-use st_outside::{ReadFault, Source};
+use crate::source::{ReadFault, Source};
 use std::alloc::{AllocError, Global};
 use std::marker::Model;
 

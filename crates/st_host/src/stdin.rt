@@ -1,7 +1,7 @@
 // The source of the real program. It tells nothing of what it reads.
 ghost use Rattle.std.specs.Prelude.{◌≡◌, false, []};
 
-use st_outside::{ReadFault, Source};
+use crate::source::{ReadFault, Source};
 use std::io::Read;
 
 /// Standard input.

@@ -1,7 +1,10 @@
 // What no clause says: that calls succeed, and that the outside itself is reached. All is called through the traits,
 // so that the same is asked of each host.
+use crate::host::{Host, HostFault, SayFault};
+use crate::reads::{file_length, read_from};
+use crate::says::say_all;
+use crate::source::{ReadFault, Source};
 use crate::{DirHost, Leave, MemHost, MemSource, StdinSource};
-use st_outside::{Host, HostFault, ReadFault, SayFault, Source, file_length, read_from, say_all};
 use std::alloc::{AllocError, Global};
 use std::fs;
 use std::process::Abort;

@@ -2,8 +2,8 @@
 use Rattle.std.proofs.Common.{◌≡◌, ◌⊎◌, inl, inr, ⊎_elim, ℕ, zero, suc, ◌+◌, ◌≤◌, Bool, true, false, List, [], ◌∷◌, ◌++◌, length, take, drop, refl, sym, ap, ◌∙◌, subst, arith, append_assoc}
 use Rattle.std.specs.Prelude.{◌==◌, if◌then◌else◌}
 use Rattle.std.proofs.lemmas.List.{append-nil, take-append-drop}
-use Rattle.st_outside.specs.Files.{Files}
-use Rattle.st_outside.specs.Stops.{SaidPart}
+use Rattle.st_host.specs.Files.{Files}
+use Rattle.st_host.specs.Stops.{SaidPart}
 use Rattle.st_protocol.specs.Courses.{Deed, Reply, Keep, said_of, commits_of}
 use Rattle.st_protocol.specs.Acknowledged.{counts, acknowledged_from, acknowledged, rest_from, AcknowledgesEach, Promised}
 use Rattle.st_protocol.specs.Underway.{Underway}

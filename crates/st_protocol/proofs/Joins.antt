@@ -1,15 +1,15 @@
 -- Deeds that are done one after the other are done together.
 use Rattle.std.proofs.Common.{◌≡◌, ◌⊎◌, inl, inr, ⊎_elim, ℕ, ◌≤◌, List, [], ◌∷◌, ◌++◌, IsTrue, refl, sym, ap, ◌∙◌, subst, arith, append_assoc, append-nil}
 use Rattle.std.specs.Prelude.{Result, Ok, Err, IsErrOf}
-use Rattle.st_outside.specs.Files.{Files}
-use Rattle.st_outside.specs.Stops.{SaidPart, WhileSaying}
-use Rattle.st_outside.specs.Runs.{LeavesOnly, SaysAll, Spares, IsAtRest, Makes}
-use Rattle.st_outside.specs.Telling.{Says}
-use Rattle.st_outside.specs.declared.host.Host.{Ghosts}
-use Rattle.st_outside.proofs.Joining.{weaker, moments_join, all_join}
-use Rattle.st_outside.proofs.Rising.{rose_second}
-use Rattle.st_outside.proofs.Telling.{OnlyNow}
-use Rattle.st_outside.proofs.Touching.{spares_join, spares_none}
+use Rattle.st_host.specs.Files.{Files}
+use Rattle.st_host.specs.Stops.{SaidPart, WhileSaying}
+use Rattle.st_host.specs.Runs.{LeavesOnly, SaysAll, Spares, IsAtRest, Makes}
+use Rattle.st_host.specs.Telling.{Says}
+use Rattle.st_host.specs.declared.host.Host.{Ghosts}
+use Rattle.st_host.proofs.Joining.{weaker, moments_join, all_join}
+use Rattle.st_host.proofs.Rising.{rose_second}
+use Rattle.st_host.proofs.Telling.{OnlyNow}
+use Rattle.st_host.proofs.Touching.{spares_join, spares_none}
 use Rattle.st_protocol.specs.declared.status.Status.{Status}
 use Rattle.st_protocol.specs.declared.status.Status.TheVariants as status
 use Rattle.st_protocol.specs.Courses.{Deed, Reply, Keep, Course, Goes, Ends, deeds_of, said_of, commits_of, last_of, preceded, and_then, replies}

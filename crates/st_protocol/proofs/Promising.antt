@@ -2,11 +2,11 @@
 use Rattle.std.proofs.Common.{◌≡◌, ◌⊎◌, ⊎_elim, ℕ, suc, ◌+◌, ◌≤◌, List, [], ◌∷◌, ◌++◌, IsTrue, refl, sym, ap, ◌∙◌, subst, arith, append_assoc, append-nil}
 use Rattle.std.specs.Prelude.{Result, Ok, Err, IsErrOf, slice_get, Some}
 use Rattle.std.proofs.lemmas.List.{append_cancel_left}
-use Rattle.st_outside.specs.Files.{Files}
-use Rattle.st_outside.specs.Stops.{Here, SaidPart, WhileSaying}
-use Rattle.st_outside.specs.Runs.{LeavesOnly, ReadsAndSays, IsAtRest}
-use Rattle.st_outside.specs.declared.host.Host.{Ghosts}
-use Rattle.st_outside.proofs.Joining.{weaker, moments_join}
+use Rattle.st_host.specs.Files.{Files}
+use Rattle.st_host.specs.Stops.{Here, SaidPart, WhileSaying}
+use Rattle.st_host.specs.Runs.{LeavesOnly, ReadsAndSays, IsAtRest}
+use Rattle.st_host.specs.declared.host.Host.{Ghosts}
+use Rattle.st_host.proofs.Joining.{weaker, moments_join}
 use Rattle.st_protocol.specs.declared.status.Status.{Status}
 use Rattle.st_protocol.specs.declared.status.Status.TheVariants as status
 use Rattle.st_protocol.specs.Acknowledged.{acknowledged, acknowledged_from, rest_from, SaysLines, AcknowledgesEach, Promised}

@@ -3,8 +3,8 @@ use Rattle.std.proofs.Common.{◌≡◌, ◌≤◌, inl, inr, ⊎_elim, ℕ, Lis
 use Rattle.std.proofs.lemmas.List.{take-append-le, take_all}
 use Rattle.std.proofs.lemmas.Bool.{cases_lt}
 use Rattle.std.proofs.Math.Seq.{take-append_seam}
-use Rattle.st_outside.specs.Files.{Files}
-use Rattle.st_outside.specs.Stops.{SaidPart}
+use Rattle.st_host.specs.Files.{Files}
+use Rattle.st_host.specs.Stops.{SaidPart}
 use Rattle.st_protocol.specs.Courses.{Deed, Reply, Keep, said_of, commits_of, last_of}
 use Rattle.st_protocol.specs.Underway.{Underway}
 

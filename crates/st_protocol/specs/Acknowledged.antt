@@ -1,7 +1,7 @@
 -- How many commits are acknowledged by what was said: the number of whole lines that begin with `accepted ` or `snapshot `.
 use Rattle.std.specs.Prelude.{◌≡◌, ◌⊎◌, ℕ, suc, ◌+◌, ◌==◌, ◌||◌, nat_eq, List, [], ◌∷◌, ◌++◌, codes, slice_get, Some, if◌then◌else◌}
 use Rattle.std.specs.List.{starts_with}
-use Rattle.st_outside.specs.Files.{Files}
+use Rattle.st_host.specs.Files.{Files}
 use Rattle.st_protocol.specs.Courses.{Deed, Reply, Keep}
 
 -- a whole line, without its end

@@ -1,9 +1,9 @@
 -- What a run of calls has done of some deeds.
 use Rattle.std.specs.Prelude.{◌≡◌, ◌⊎◌, ℕ, List, ◌∷◌, ◌++◌, slice_get, Some, IsTrue, ⊤}
-use Rattle.st_outside.specs.Files.{Files}
-use Rattle.st_outside.specs.Stops.{SaidPart}
-use Rattle.st_outside.specs.Runs.{LeavesOnly, SaysAll, Spares, IsAtRest}
-use Rattle.st_outside.specs.declared.host.Host.{Ghosts}
+use Rattle.st_host.specs.Files.{Files}
+use Rattle.st_host.specs.Stops.{SaidPart}
+use Rattle.st_host.specs.Runs.{LeavesOnly, SaysAll, Spares, IsAtRest}
+use Rattle.st_host.specs.declared.host.Host.{Ghosts}
 use Rattle.st_protocol.specs.declared.status.Status.{Status}
 use Rattle.st_protocol.specs.declared.status.Status.TheVariants.{DiskFault, SayFault}
 use Rattle.st_protocol.specs.Courses.{Deed, Keep, said_of, last_of}

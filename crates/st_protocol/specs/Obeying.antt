@@ -1,7 +1,7 @@
 -- That a call does what a course says.
 use Rattle.std.specs.Prelude.{◌≡◌, ◌⊎◌, ℕ, List, Result, Ok, Err}
-use Rattle.st_outside.specs.Files.{Files}
-use Rattle.st_outside.specs.declared.host.Host.{Ghosts}
+use Rattle.st_host.specs.Files.{Files}
+use Rattle.st_host.specs.declared.host.Host.{Ghosts}
 use Rattle.st_protocol.specs.declared.status.Status.{Status}
 use Rattle.st_protocol.specs.Courses.{Course, Goes, Ends, last_of}
 use Rattle.st_protocol.specs.Done.{Did, Began}

@@ -1,7 +1,7 @@
 -- What a stop leaves while deeds are done.
 use Rattle.std.specs.Prelude.{◌≡◌, ◌⊎◌, ℕ, List, [], ◌∷◌, ◌++◌}
-use Rattle.st_outside.specs.Files.{Files}
-use Rattle.st_outside.specs.Stops.{SaidPart}
+use Rattle.st_host.specs.Files.{Files}
+use Rattle.st_host.specs.Stops.{SaidPart}
 use Rattle.st_protocol.specs.Courses.{Deed, Reply, Keep}
 
 module _ {C : Type 0} (opens : C → Files → Type 0) where

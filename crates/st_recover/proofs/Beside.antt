@@ -2,11 +2,11 @@
 use Rattle.std.proofs.Common.{◌≡◌, ◌≢◌, inl, ℕ, zero, suc, ◌-◌, ◌≤◌, List, length, codes, get_or, Option, IsTrue, sym, subst, ap, ◌∙◌, arith}
 use Rattle.std.specs.Prelude.{◌⊎◌, Some, Result}
 use Rattle.std.proofs.lemmas.List.{append-nil, append_cancel_left, take_all}
-use Rattle.st_outside.specs.Files.{Files}
-use Rattle.st_outside.specs.Runs.{Elsewhere, Changes, WritesAbove, IsSynced, IsAtRest, Makes}
-use Rattle.st_outside.specs.declared.host.Host.{Ghosts}
-use Rattle.st_outside.proofs.Joining.{weaker, on_ok}
-use Rattle.st_outside.proofs.Touching.{above_changes}
+use Rattle.st_host.specs.Files.{Files}
+use Rattle.st_host.specs.Runs.{Elsewhere, Changes, WritesAbove, IsSynced, IsAtRest, Makes}
+use Rattle.st_host.specs.declared.host.Host.{Ghosts}
+use Rattle.st_host.proofs.Joining.{weaker, on_ok}
+use Rattle.st_host.proofs.Touching.{above_changes}
 use Rattle.st_chunk.specs.Definitions.{entries}
 use Rattle.st_store.specs.Names.{roots_file, changes_file, image_file}
 use Rattle.st_store.specs.Stored.{StoreState, Stored, Begins, Opens, IsFirm, IsChosen, IsKept}

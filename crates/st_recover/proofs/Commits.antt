@@ -2,10 +2,10 @@
 use Rattle.std.proofs.Common.{◌≡◌, inl, inr, ⊎_elim, ℕ, ◌+◌, ◌-◌, List, [], ◌∷◌, ◌++◌, length, IsTrue, sym, ap, ◌∙◌, append_assoc, length-append}
 use Rattle.std.specs.Prelude.{◌⊎◌, Result, Ok, Err, OnOk}
 use Rattle.std.proofs.lemmas.List.{append-nil}
-use Rattle.st_outside.specs.Files.{Files}
-use Rattle.st_outside.specs.Runs.{IsAtRest, Makes}
-use Rattle.st_outside.specs.declared.host.Host.{Ghosts}
-use Rattle.st_outside.proofs.Joining.{weaker}
+use Rattle.st_host.specs.Files.{Files}
+use Rattle.st_host.specs.Runs.{IsAtRest, Makes}
+use Rattle.st_host.specs.declared.host.Host.{Ghosts}
+use Rattle.st_host.proofs.Joining.{weaker}
 use Rattle.st_chunk.specs.Definitions.{Definition, entry, entries}
 use Rattle.st_store.specs.Stored.{Opens}
 use Rattle.st_store.proofs.Turning.{rests}

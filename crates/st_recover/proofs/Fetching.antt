@@ -1,11 +1,11 @@
 -- What is read of a store once it is open.
 use Rattle.std.proofs.Common.{◌≡◌, ◌≤◌, ℕ, List, take, Option, IsTrue, ap, subst, ◌∙◌}
-use Rattle.st_outside.specs.Files.{Files, bytes_of}
-use Rattle.st_outside.specs.Stops.{Here}
-use Rattle.st_outside.specs.Runs.{LeavesOnly, ReadsAlike, Narrows, NarrowsBut, Changes, Spares}
-use Rattle.st_outside.specs.declared.host.Host.{Ghosts}
-use Rattle.st_outside.proofs.Joining.{moments_join}
-use Rattle.st_outside.proofs.Touching.{narrows_but, but_join, changes_spare, spares_join}
+use Rattle.st_host.specs.Files.{Files, bytes_of}
+use Rattle.st_host.specs.Stops.{Here}
+use Rattle.st_host.specs.Runs.{LeavesOnly, ReadsAlike, Narrows, NarrowsBut, Changes, Spares}
+use Rattle.st_host.specs.declared.host.Host.{Ghosts}
+use Rattle.st_host.proofs.Joining.{moments_join}
+use Rattle.st_host.proofs.Touching.{narrows_but, but_join, changes_spare, spares_join}
 use Rattle.st_store.specs.Names.{roots_file, changes_file, image_file, IsNoFileOf}
 use Rattle.st_store.specs.Stored.{Stored, StoreState, Opens, IsKept}
 use Rattle.st_store.proofs.Turning.{rests}

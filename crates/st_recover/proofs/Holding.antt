@@ -2,9 +2,9 @@
 use Rattle.std.proofs.Common.{◌≡◌, ℕ, ◌-◌, List, [], ◌∷◌, ◌++◌, length, Option, IsTrue, sym, subst, ap, ◌∙◌, arith, length-append}
 use Rattle.std.specs.Prelude.{All, Some, Result, IsErr, unwrap_or}
 use Rattle.std.proofs.lemmas.List.{append-nil}
-use Rattle.st_outside.specs.Runs.{WritesAbove, IsSynced, Makes}
-use Rattle.st_outside.specs.declared.host.Host.{Ghosts}
-use Rattle.st_outside.proofs.Joining.{makes_then, makes_failed}
+use Rattle.st_host.specs.Runs.{WritesAbove, IsSynced, Makes}
+use Rattle.st_host.specs.declared.host.Host.{Ghosts}
+use Rattle.st_host.proofs.Joining.{makes_then, makes_failed}
 use Rattle.st_chunk.specs.Definitions.{Definition, IsDefinition, entry, entries}
 use Rattle.st_store.specs.Names.{image_file}
 use Rattle.st_store.specs.Stored.{StoreState, Stored, Opens, IsFirm, IsKept}

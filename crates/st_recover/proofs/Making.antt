@@ -1,12 +1,12 @@
 -- What a stop leaves while a store is made.
 use Rattle.std.proofs.Common.{◌≡◌, ◌≢◌, inl, inr, ⊎_elim, ℕ, List, [], length, Option, IsTrue, refl, sym, subst, ap, ◌∙◌}
 use Rattle.std.specs.Prelude.{◌⊎◌, Some, None, Result}
-use Rattle.st_outside.specs.Files.{Files, bytes_of}
-use Rattle.st_outside.specs.Stops.{Here}
-use Rattle.st_outside.specs.Runs.{LeavesOnly, Elsewhere, Changes, ChangesBoth, Spares, IsSynced, Makes}
-use Rattle.st_outside.specs.declared.host.Host.{Ghosts}
-use Rattle.st_outside.proofs.Joining.{weaker, moments_join}
-use Rattle.st_outside.proofs.Touching.{changes_spare, spares_join}
+use Rattle.st_host.specs.Files.{Files, bytes_of}
+use Rattle.st_host.specs.Stops.{Here}
+use Rattle.st_host.specs.Runs.{LeavesOnly, Elsewhere, Changes, ChangesBoth, Spares, IsSynced, Makes}
+use Rattle.st_host.specs.declared.host.Host.{Ghosts}
+use Rattle.st_host.proofs.Joining.{weaker, moments_join}
+use Rattle.st_host.proofs.Touching.{changes_spare, spares_join}
 use Rattle.st_store.specs.Names.{roots_file, changes_file, image_file}
 use Rattle.st_store.specs.Roots.{HasLetters}
 use Rattle.st_store.specs.Stored.{StoreState, Stored, Begins, Leaves, IsKept}

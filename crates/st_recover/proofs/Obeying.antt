@@ -2,10 +2,10 @@
 use Rattle.std.proofs.Common.{◌≡◌, ⊎_elim, ℕ, ◌+◌, ◌^◌, List, length, IsTrue, refl, sym, subst, ap, arith}
 use Rattle.std.proofs.lemmas.Bool.{cases_lt, le-leb, lt-leb}
 use Rattle.std.specs.Prelude.{Bool, true, false, Result, Ok, Err}
-use Rattle.st_outside.specs.Files.{Files}
-use Rattle.st_outside.specs.Runs.{Spares, IsAtRest, Makes}
-use Rattle.st_outside.specs.declared.host.Host.{Ghosts}
-use Rattle.st_outside.proofs.Telling.{OnlyNow}
+use Rattle.st_host.specs.Files.{Files}
+use Rattle.st_host.specs.Runs.{Spares, IsAtRest, Makes}
+use Rattle.st_host.specs.declared.host.Host.{Ghosts}
+use Rattle.st_host.proofs.Telling.{OnlyNow}
 use Rattle.st_chunk.specs.Definitions.{Definition, entry, entries}
 use Rattle.st_protocol.specs.Obeying.{Obeys}
 use Rattle.st_protocol.specs.declared.status.Status.{Status}

@@ -2,9 +2,9 @@
 use Rattle.std.proofs.Common.{◌≡◌, ◌≤◌, ◌<◌, ℕ, List, length, refl, sym, subst, arith, length-take}
 use Rattle.std.specs.Prelude.{Err}
 use Rattle.st_model.specs.Limits.{longest_image}
-use Rattle.st_outside.specs.Files.{Files, bytes_of}
-use Rattle.st_outside.specs.declared.host.Host.{Ghosts}
-use Rattle.st_outside.proofs.Rising.{rose_second}
+use Rattle.st_host.specs.Files.{Files, bytes_of}
+use Rattle.st_host.specs.declared.host.Host.{Ghosts}
+use Rattle.st_host.proofs.Rising.{rose_second}
 use Rattle.st_store.specs.Names.{image_file}
 use Rattle.st_store.specs.Refusals.{Refuses, IsOfOpening, FaultHasCause}
 use Rattle.st_store.specs.Stored.{Stored, StoreState, Opens, stored_in}

@@ -1,6 +1,6 @@
 -- What a session keeps, as contracts see it.
 use Rattle.std.specs.Prelude.{◌≡◌, ℕ, List, length, Option, Some, IsTrue, All, ⊤}
-use Rattle.st_outside.specs.declared.host.Host.{Ghosts}
+use Rattle.st_host.specs.declared.host.Host.{Ghosts}
 use Rattle.st_chunk.specs.Definitions.{Definition, IsDefinition, entries}
 use Rattle.st_store.specs.Stored.{StoreState, IsKept}
 use Rattle.st_protocol.specs.declared.status.Status.{Status}

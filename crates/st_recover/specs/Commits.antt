@@ -1,6 +1,6 @@
 -- What a store holds, and how a session changes that: by one definition more, or by a snapshot.
 use Rattle.std.specs.Prelude.{ℕ, ◌+◌, ◌^◌, Bool, true, false, nat_le, List, [], ◌∷◌, ◌++◌, length}
-use Rattle.st_outside.specs.Files.{Files}
+use Rattle.st_host.specs.Files.{Files}
 use Rattle.st_model.specs.Machine.{Head}
 use Rattle.st_model.specs.Table.{Table}
 use Rattle.st_model.specs.View.{View, nothing_held}

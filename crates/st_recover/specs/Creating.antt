@@ -1,7 +1,7 @@
 -- What the files of a name open as while a store is made.
 use Rattle.std.specs.Prelude.{◌≡◌, ◌≢◌, ◌⊎◌, ℕ, List, [], length, Option, Some, None}
-use Rattle.st_outside.specs.Files.{Files, bytes_of}
-use Rattle.st_outside.specs.declared.host.Host.{Ghosts}
+use Rattle.st_host.specs.Files.{Files, bytes_of}
+use Rattle.st_host.specs.declared.host.Host.{Ghosts}
 use Rattle.st_store.specs.Names.{roots_file, changes_file, image_file}
 use Rattle.st_store.specs.Roots.{HasLetters}
 use Rattle.st_store.specs.Founding.{IsNoStore, first_root, first_file}

@@ -1,6 +1,6 @@
 -- What is read of a store before any of its definitions is installed.
 use Rattle.std.specs.Prelude.{ℕ, List}
-use Rattle.st_outside.specs.declared.host.Host.{Ghosts}
+use Rattle.st_host.specs.declared.host.Host.{Ghosts}
 use Rattle.st_model.specs.View.{View}
 use Rattle.st_model.specs.Image.{image_head}
 use Rattle.st_image.specs.Reading.{IsStart}

@@ -1,8 +1,8 @@
 -- What the opening of a store answers.
 use Rattle.std.specs.Prelude.{◌≡◌, ◌<◌, ℕ, List, length, take, ⊤, All}
-use Rattle.st_outside.specs.Counts.{Rose}
-use Rattle.st_outside.specs.Files.{Files, bytes_of}
-use Rattle.st_outside.specs.declared.host.Host.{Ghosts}
+use Rattle.st_host.specs.Counts.{Rose}
+use Rattle.st_host.specs.Files.{Files, bytes_of}
+use Rattle.st_host.specs.declared.host.Host.{Ghosts}
 use Rattle.st_model.specs.Limits.{longest_image}
 use Rattle.st_model.specs.Objects.{nil}
 use Rattle.st_model.specs.Machine.{State, Went, empty_world}

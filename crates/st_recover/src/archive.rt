@@ -1,7 +1,7 @@
 // What a session keeps.
 ghost use Rattle.std.specs.Prelude.{◌≡◌, ◌-◌, ℕ, List, Some, IsTrue, IfErr, IfOk, OnOk, IsSome, length};
-ghost use Rattle.st_outside.specs.Counts.{HasCause};
-ghost use Rattle.st_outside.specs.Runs.{Makes, Spares};
+ghost use Rattle.st_host.specs.Counts.{HasCause};
+ghost use Rattle.st_host.specs.Runs.{Makes, Spares};
 ghost use Rattle.st_image.specs.Back.{CanStart};
 ghost use Rattle.st_chunk.specs.Definitions.{IsDefinition, entries};
 ghost use Rattle.st_chunk.specs.ScriptDefinitions.{definition_of};
@@ -15,8 +15,8 @@ ghost use Rattle.st_recover.specs.Commits.{Commit, OpensAs, accepting, imaged, i
 
 use st_changes::{Changes, Definition as KeptDefinition};
 use st_chunk::Definition;
+use st_host::{Host, HostFault};
 use st_memory::Memory;
-use st_outside::{Host, HostFault};
 use st_protocol::Status;
 use st_scan::Text;
 use st_store::{Root, Store};

@@ -1,7 +1,7 @@
 // Making a store.
 ghost use Rattle.std.specs.Prelude.{◌≡◌, ℕ, List, IsTrue, IfErr, IfOk, OnOk};
-ghost use Rattle.st_outside.specs.Files.{Files, bytes_of};
-ghost use Rattle.st_outside.specs.Runs.{LeavesOnly, Narrows, Spares};
+ghost use Rattle.st_host.specs.Files.{Files, bytes_of};
+ghost use Rattle.st_host.specs.Runs.{LeavesOnly, Narrows, Spares};
 ghost use Rattle.st_image.specs.Back.{CanStart};
 ghost use Rattle.st_store.specs.Names.{roots_file};
 ghost use Rattle.st_store.specs.Roots.{HasLetters};
@@ -12,8 +12,8 @@ ghost use Rattle.st_recover.specs.Archives.{store_of};
 ghost use Rattle.st_recover.specs.Commits.{stored_of, image_in};
 ghost use Rattle.st_recover.specs.Creating.{first_commit, IsMade, IsNoFirstFile, AreFirstFiles};
 
+use st_host::Host;
 use st_memory::Memory;
-use st_outside::Host;
 use st_store::{Store, StoreFault, clear, found};
 use st_writer::write;
 use std::alloc::Global;

@@ -1,6 +1,6 @@
 // Why a store isn't opened.
+use st_host::HostFault;
 use st_model::ImageFault;
-use st_outside::HostFault;
 use st_store::StoreFault;
 use std::alloc::AllocError;
 

@@ -1,7 +1,7 @@
 //! Laws of the definitions.
 
 ghost use Rattle.std.specs.Prelude.{◌≡◌, ℕ, List, All};
-ghost use Rattle.st_outside.specs.Files.{Files};
+ghost use Rattle.st_host.specs.Files.{Files};
 ghost use Rattle.st_chunk.specs.Definitions.{IsDefinition};
 ghost use Rattle.st_protocol.specs.Installing.{Install};
 ghost use Rattle.st_recover.specs.Commits.{Commit, OpensAs, all_of};

@@ -1,7 +1,7 @@
 // Opening a store again, with its definitions replayed.
 ghost use Rattle.std.specs.Prelude.{◌≡◌, ◌≤◌, ◌<◌, ◌^◌, ℕ, List, length, All, IsTrue, IfOk, IfErr, OnOk};
-ghost use Rattle.st_outside.specs.Files.{Files};
-ghost use Rattle.st_outside.specs.Runs.{LeavesOnly, ReadsAlike, OnlyReads, Narrows, NarrowsBut, Changes as ChangesFile, Spares};
+ghost use Rattle.st_host.specs.Files.{Files};
+ghost use Rattle.st_host.specs.Runs.{LeavesOnly, ReadsAlike, OnlyReads, Narrows, NarrowsBut, Changes as ChangesFile, Spares};
 ghost use Rattle.st_model.specs.Limits.{longest_image};
 ghost use Rattle.st_model.specs.Image.{image_head};
 ghost use Rattle.st_model.specs.View.{no_devices};
@@ -24,10 +24,10 @@ use crate::opened::Opened;
 use crate::replay::{Replay, replay_all};
 use st_changes::{Changes, load};
 use st_frames::Loaded;
+use st_host::{Host, read_from};
 use st_image::{HeadValues, ReadImage, read};
 use st_memory::{Loader, Memory};
 use st_model::LONGEST_IMAGE;
-use st_outside::{Host, read_from};
 use st_protocol::Installer;
 use st_store::{Store, open_store};
 use std::alloc::{AllocError, Global};

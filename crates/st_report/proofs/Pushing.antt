@@ -4,12 +4,12 @@ use Rattle.std.specs.Prelude.{Result, Ok, Err, OnOk, OnErr, IsErr, Some, slice_g
 use Rattle.std.specs.List.{flat_map}
 use Rattle.std.proofs.lemmas.List.{take_more, take-append-drop, length-map, get_or-map}
 use Rattle.std.proofs.lemmas.Option.{slice_get-get_or}
-use Rattle.st_outside.specs.Runs.{SaysAll}
-use Rattle.st_outside.specs.Telling.{Says}
-use Rattle.st_outside.specs.declared.host.Host.{Ghosts}
-use Rattle.st_outside.proofs.Joining.{all_join}
-use Rattle.st_outside.proofs.Telling.{OnlyNow, says_begun, says_then, says_none}
-use Rattle.st_outside.proofs.Rising.{cause_after}
+use Rattle.st_host.specs.Runs.{SaysAll}
+use Rattle.st_host.specs.Telling.{Says}
+use Rattle.st_host.specs.declared.host.Host.{Ghosts}
+use Rattle.st_host.proofs.Joining.{all_join}
+use Rattle.st_host.proofs.Telling.{OnlyNow, says_begun, says_then, says_none}
+use Rattle.st_host.proofs.Rising.{cause_after}
 use Rattle.st_report.specs.Saying.{Adds, Pushes}
 
 -- what is held back between two texts is said with the second one

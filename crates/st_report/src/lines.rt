@@ -5,8 +5,8 @@ ghost use Rattle.st_report.specs.Saying.{Pushes};
 
 use crate::Output;
 use crate::words::{push_long_number, push_number, push_value};
+use st_host::{Host, SayFault};
 use st_model::Oop;
-use st_outside::{Host, SayFault};
 
 /// Adds each of the values after a space.
 pub fn push_values<H: Host>(out: &mut Output, host: &mut H, values: &[Oop]) -> Result<(), SayFault>

@@ -7,9 +7,9 @@ ghost use Rattle.st_report.specs.Saying.{Pushes};
 
 use crate::Output;
 use crate::words::{push_number, push_value};
+use st_host::{Host, SayFault};
 use st_memory::{Memory, count_fields, count_units, unit_at};
 use st_model::{Kind, Oop};
-use st_outside::{Host, SayFault};
 
 /// Adds the fields of an object.
 fn push_fields<H: Host, M: Memory>(

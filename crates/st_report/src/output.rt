@@ -1,10 +1,10 @@
 ghost use Rattle.std.specs.Prelude.{◌≡◌, ◌<◌, ◌++◌, [], ◌∷◌, length, OnOk};
-ghost use Rattle.st_outside.specs.Counts.{HasCause};
-ghost use Rattle.st_outside.specs.Runs.{SaysAll};
-ghost use Rattle.st_outside.specs.Telling.{Says};
+ghost use Rattle.st_host.specs.Counts.{HasCause};
+ghost use Rattle.st_host.specs.Runs.{SaysAll};
+ghost use Rattle.st_host.specs.Telling.{Says};
 ghost use Rattle.st_report.specs.Saying.{Pushes};
 
-use st_outside::{Host, SayFault, say_all};
+use st_host::{Host, SayFault, say_all};
 use std::marker::Model;
 
 /// Bytes that are still to be said, at most 512. Clauses see them as a list.

@@ -6,9 +6,9 @@ ghost use Rattle.st_model.specs.Text.{hexadecimal, escaped_byte, escaped};
 ghost use Rattle.st_report.specs.Saying.{Pushes, said_in};
 
 use crate::Output;
+use st_host::{Host, SayFault};
 use st_memory::Memory;
 use st_model::{Kind, Oop};
-use st_outside::{Host, SayFault};
 
 /// The digit of a number below 16: `0` to `9`, or `a` to `f`.
 fn hexadecimal(digit: u8) -> u8

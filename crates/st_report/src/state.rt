@@ -8,9 +8,9 @@ use crate::lines::{push_line, push_values, push_values_line};
 use crate::objects::push_objects;
 use crate::words::{push_integer, push_number};
 use st_frames::Frame;
+use st_host::{Host, SayFault};
 use st_memory::Memory;
 use st_model::RootPlace;
-use st_outside::{Host, SayFault};
 use st_world::World;
 
 /// Adds an instruction pointer and a stack pointer, and the line's end.

@@ -6,8 +6,8 @@ ghost use Rattle.st_report.specs.Saying.{Pushes};
 
 use crate::Output;
 use itoa::Buffer;
+use st_host::{Host, SayFault};
 use st_model::Oop;
-use st_outside::{Host, SayFault};
 
 /// Adds a number after a space.
 pub fn push_number<H: Host>(out: &mut Output, host: &mut H, n: u32) -> Result<(), SayFault>

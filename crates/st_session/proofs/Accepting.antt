@@ -5,8 +5,8 @@ use Rattle.st_model.specs.Machine.{State}
 use Rattle.st_model.specs.Births.{Births}
 use Rattle.st_model.specs.Show.{Shows}
 use Rattle.st_model.specs.View.{View}
-use Rattle.st_outside.specs.Runs.{IsAtRest}
-use Rattle.st_outside.specs.declared.host.Host.{Ghosts}
+use Rattle.st_host.specs.Runs.{IsAtRest}
+use Rattle.st_host.specs.declared.host.Host.{Ghosts}
 use Rattle.st_machine.specs.declared.machine.Machine.{Machine}
 use Rattle.st_chunk.specs.Definitions.{Definition}
 use Rattle.st_store.specs.Names.{IsNoFileOf}

@@ -2,13 +2,13 @@
 use Rattle.std.proofs.Common.{◌≡◌, ◌⊎◌, inl, inr, ⊎_elim, ℕ, ◌≤◌, List, [], ◌∷◌, ◌++◌, length, ◌∙◌, IsTrue, Ok, Err, refl, sym, ap, subst, arith, append-nil, length-append}
 use Rattle.std.specs.Prelude.{All, Some}
 use Rattle.std.proofs.Math.Seq.{take-append_seam}
-use Rattle.st_outside.specs.Counts.{Rose}
-use Rattle.st_outside.specs.Files.{Files, bytes_of}
-use Rattle.st_outside.specs.Runs.{LeavesOnly, ReadsAlike, ReadsAndSays, Spares, IsAtRest}
-use Rattle.st_outside.specs.Stops.{Here, SaidPart, WhileSaying}
-use Rattle.st_outside.specs.declared.host.Host.{Ghosts}
-use Rattle.st_outside.proofs.Joining.{weaker, moments_join}
-use Rattle.st_outside.proofs.Rising.{rose_first, rose_second}
+use Rattle.st_host.specs.Counts.{Rose}
+use Rattle.st_host.specs.Files.{Files, bytes_of}
+use Rattle.st_host.specs.Runs.{LeavesOnly, ReadsAlike, ReadsAndSays, Spares, IsAtRest}
+use Rattle.st_host.specs.Stops.{Here, SaidPart, WhileSaying}
+use Rattle.st_host.specs.declared.host.Host.{Ghosts}
+use Rattle.st_host.proofs.Joining.{weaker, moments_join}
+use Rattle.st_host.proofs.Rising.{rose_first, rose_second}
 use Rattle.st_model.specs.Machine.{State, Transition, Went}
 use Rattle.st_model.specs.Births.{Births}
 use Rattle.st_model.specs.View.{View}

@@ -16,9 +16,9 @@ use Rattle.st_model.specs.Cycles.{cycle, run, run_of, finished, finished_of, and
 use Rattle.st_model.specs.Foreseen.{EndsShown}
 use Rattle.st_model.specs.Show.{Shows, IsKept, pointer_of}
 use Rattle.st_model.specs.Text.{ran_text, dead_text, space_text, quit_text, debugger_text, said_value}
-use Rattle.st_outside.specs.declared.host.Host.{Ghosts}
-use Rattle.st_outside.specs.declared.host.SayFault.{SayFault}
-use Rattle.st_outside.proofs.Telling.{OnlyNow}
+use Rattle.st_host.specs.declared.host.Host.{Ghosts}
+use Rattle.st_host.specs.declared.host.SayFault.{SayFault}
+use Rattle.st_host.proofs.Telling.{OnlyNow}
 use Rattle.st_report.specs.Saying.{Pushes, said_in}
 use Rattle.st_report.proofs.Pushing.{push_none, push_then, push_begun, push_as}
 use Rattle.st_machine.specs.declared.ending.RunEnd.{RunEnd}

@@ -1,10 +1,10 @@
 -- The machine of a drill begins, and what is said of it.
 use Rattle.std.proofs.Common.{◌≡◌, inl, inr, ◌∙◌, ℕ, ◌≤◌, ◌^◌, List, length, refl, sym, ap, subst, arith}
 use Rattle.std.specs.Prelude.{Result, Ok, Err}
-use Rattle.st_outside.specs.Counts.{Rose}
-use Rattle.st_outside.specs.Runs.{ReadsAlike, SaysAll}
-use Rattle.st_outside.specs.Telling.{Says}
-use Rattle.st_outside.specs.declared.host.Host.{Ghosts}
+use Rattle.st_host.specs.Counts.{Rose}
+use Rattle.st_host.specs.Runs.{ReadsAlike, SaysAll}
+use Rattle.st_host.specs.Telling.{Says}
+use Rattle.st_host.specs.declared.host.Host.{Ghosts}
 use Rattle.st_model.specs.declared.dead.Dead.{Dead}
 use Rattle.st_model.specs.Objects.{nil}
 use Rattle.st_model.specs.Machine.{State, World, Transition, Died, Went, empty_world}

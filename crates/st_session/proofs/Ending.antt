@@ -1,9 +1,9 @@
 -- How a session ends.
 use Rattle.std.proofs.Common.{◌≡◌, ◌⊎◌, inl, inr, ⊎_elim, ℕ, List, [], ◌∷◌, Bool, true, false, IsTrue, refl, sym, ap, subst, ◌∙◌}
 use Rattle.std.specs.Prelude.{Result, Ok, Err, IfErr, IsErrOf, nat_le, length, take}
-use Rattle.st_outside.specs.Files.{Files}
-use Rattle.st_outside.specs.Runs.{SaysAll, IsAtRest}
-use Rattle.st_outside.specs.declared.host.Host.{Ghosts}
+use Rattle.st_host.specs.Files.{Files}
+use Rattle.st_host.specs.Runs.{SaysAll, IsAtRest}
+use Rattle.st_host.specs.declared.host.Host.{Ghosts}
 use Rattle.st_protocol.specs.declared.status.Status.{Status}
 use Rattle.st_protocol.specs.declared.status.Status.TheVariants as status
 use Rattle.st_protocol.specs.Acknowledged.{AcknowledgesEach}

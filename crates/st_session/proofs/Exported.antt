@@ -1,15 +1,15 @@
 -- How an export ends, from its parts: the store is opened, what it opens as is saved, its image is written, and a line is said.
 use Rattle.std.proofs.Common.{◌≡◌, ◌≢◌, ◌⊎◌, inl, inr, ℕ, ◌≤◌, List, [], ◌∷◌, ◌++◌, ◌∙◌, IsTrue, Option, refl, sym, ap, subst, arith, append-nil}
 use Rattle.std.specs.Prelude.{Some, None, Result, Ok, Err, IfErr, All}
-use Rattle.st_outside.specs.Files.{Files}
-use Rattle.st_outside.specs.Runs.{LeavesOnly, ReadsAlike, ReadsAndSays, Changes, Spares, IsAtRest}
-use Rattle.st_outside.specs.Stops.{SaidPart, WhileSaying}
-use Rattle.st_outside.specs.Telling.{Says}
-use Rattle.st_outside.specs.declared.host.Host.{Ghosts}
-use Rattle.st_outside.proofs.Joining.{weaker, moments_join}
-use Rattle.st_outside.proofs.Rising.{rose_second}
-use Rattle.st_outside.proofs.Telling.{OnlyNow, says_none}
-use Rattle.st_outside.proofs.Touching.{changes_spare}
+use Rattle.st_host.specs.Files.{Files}
+use Rattle.st_host.specs.Runs.{LeavesOnly, ReadsAlike, ReadsAndSays, Changes, Spares, IsAtRest}
+use Rattle.st_host.specs.Stops.{SaidPart, WhileSaying}
+use Rattle.st_host.specs.Telling.{Says}
+use Rattle.st_host.specs.declared.host.Host.{Ghosts}
+use Rattle.st_host.proofs.Joining.{weaker, moments_join}
+use Rattle.st_host.proofs.Rising.{rose_second}
+use Rattle.st_host.proofs.Telling.{OnlyNow, says_none}
+use Rattle.st_host.proofs.Touching.{changes_spare}
 use Rattle.st_model.specs.declared.dead.Dead.{Dead}
 use Rattle.st_model.specs.Machine.{State, Transition, Died, Went}
 use Rattle.st_model.specs.Births.{Births}

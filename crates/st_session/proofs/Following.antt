@@ -4,10 +4,10 @@ use Rattle.std.specs.Prelude.{nat_le, Result, Ok, Err}
 use Rattle.std.proofs.lemmas.Bool.Decides.{nat_tests}
 use Rattle.std.proofs.Math.Seq.{take-append-add}
 use Rattle.std.proofs.lemmas.List.{take-append-le}
-use Rattle.st_outside.specs.Files.{Files}
-use Rattle.st_outside.specs.Runs.{IsAtRest}
-use Rattle.st_outside.specs.declared.host.Host.{Ghosts}
-use Rattle.st_outside.proofs.Telling.{OnlyNow}
+use Rattle.st_host.specs.Files.{Files}
+use Rattle.st_host.specs.Runs.{IsAtRest}
+use Rattle.st_host.specs.declared.host.Host.{Ghosts}
+use Rattle.st_host.proofs.Telling.{OnlyNow}
 use Rattle.st_chunk.specs.Reading.{Reading, read, end_read}
 use Rattle.st_chunk.specs.Scripts.{Asked, asked_by, asked_from, asked_at_end, told_from, read_through}
 use Rattle.st_protocol.specs.declared.status.Status.{Status}

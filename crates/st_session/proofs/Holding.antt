@@ -1,9 +1,9 @@
 -- A store that is held is held while bytes are said.
 use Rattle.std.proofs.Common.{◌≡◌, ◌∙◌, ℕ, List, IsTrue, refl, sym, ap, subst}
 use Rattle.std.specs.Prelude.{Option, Some, IsSome}
-use Rattle.st_outside.specs.Runs.{IsAtRest}
-use Rattle.st_outside.specs.Telling.{Says}
-use Rattle.st_outside.specs.declared.host.Host.{Ghosts}
+use Rattle.st_host.specs.Runs.{IsAtRest}
+use Rattle.st_host.specs.Telling.{Says}
+use Rattle.st_host.specs.declared.host.Host.{Ghosts}
 use Rattle.st_store.specs.Names.{roots_file, changes_file, image_file}
 use Rattle.st_store.specs.Stored.{Stored, StoreState, IsKept}
 use Rattle.st_store.proofs.Turning.{rests}

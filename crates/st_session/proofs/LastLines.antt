@@ -2,7 +2,7 @@
 use Rattle.std.proofs.Common.{◌≡◌, ℕ, List, [], ◌∷◌, ◌++◌, refl, sym, ap, ◌∙◌, subst, append-nil, arith}
 use Rattle.std.specs.Prelude.{codes, decimal, slice_index}
 use Rattle.std.proofs.lemmas.List.{append_cancel_left}
-use Rattle.st_outside.specs.Stops.{SaidPart}
+use Rattle.st_host.specs.Stops.{SaidPart}
 use Rattle.st_model.specs.declared.fault.ImageFault.{ImageFault}
 use Rattle.st_model.specs.Text.{numbers_text}
 use Rattle.st_store.specs.declared.fault.StoreFault.{StoreFault}

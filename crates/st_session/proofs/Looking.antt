@@ -3,13 +3,13 @@ use Rattle.std.proofs.Common.{◌≡◌, ◌≤◌, List, ℕ, [], Bool, true, f
 use Rattle.std.specs.Prelude.{Option, Some, None, is_some, unwrap_or, Result, Ok, Err, OnOk}
 use Rattle.st_model.specs.View.{View}
 use Rattle.st_world.specs.declared.world.World.{World}
-use Rattle.st_outside.specs.declared.host.Host.{Ghosts}
-use Rattle.st_outside.specs.declared.host.SayFault.{SayFault}
-use Rattle.st_outside.specs.Counts.{HasCause}
-use Rattle.st_outside.specs.Runs.{SaysAll}
-use Rattle.st_outside.specs.Telling.{Says}
-use Rattle.st_outside.proofs.Joining.{all_join}
-use Rattle.st_outside.proofs.Telling.{says_begun, says_then}
+use Rattle.st_host.specs.declared.host.Host.{Ghosts}
+use Rattle.st_host.specs.declared.host.SayFault.{SayFault}
+use Rattle.st_host.specs.Counts.{HasCause}
+use Rattle.st_host.specs.Runs.{SaysAll}
+use Rattle.st_host.specs.Telling.{Says}
+use Rattle.st_host.proofs.Joining.{all_join}
+use Rattle.st_host.proofs.Telling.{says_begun, says_then}
 use Rattle.st_frames.specs.declared.frame.Frame.{Frame}
 use Rattle.st_frames.specs.Shown.{IsReady, shown}
 use Rattle.st_protocol.specs.declared.status.Status.{Status}

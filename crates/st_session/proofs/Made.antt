@@ -1,13 +1,13 @@
 -- How the making of a store ends, from its parts: something is read, the store is made of it, and a line is said.
 use Rattle.std.proofs.Common.{◌≡◌, ◌⊎◌, inl, inr, ⊎_elim, ℕ, ◌≤◌, List, ◌++◌, ◌∙◌, IsTrue, refl, sym, ap, subst}
-use Rattle.st_outside.specs.Counts.{Rose}
-use Rattle.st_outside.specs.Files.{Files, bytes_of}
-use Rattle.st_outside.specs.Runs.{LeavesOnly, OnlyReads, ReadsAlike, ReadsAndSays, SaysAll, Spares, IsAtRest}
-use Rattle.st_outside.specs.Stops.{Here, SaidPart, WhileSaying}
-use Rattle.st_outside.specs.Telling.{Says}
-use Rattle.st_outside.specs.declared.host.Host.{Ghosts}
-use Rattle.st_outside.proofs.Joining.{weaker, moments_join}
-use Rattle.st_outside.proofs.Rising.{rose_second}
+use Rattle.st_host.specs.Counts.{Rose}
+use Rattle.st_host.specs.Files.{Files, bytes_of}
+use Rattle.st_host.specs.Runs.{LeavesOnly, OnlyReads, ReadsAlike, ReadsAndSays, SaysAll, Spares, IsAtRest}
+use Rattle.st_host.specs.Stops.{Here, SaidPart, WhileSaying}
+use Rattle.st_host.specs.Telling.{Says}
+use Rattle.st_host.specs.declared.host.Host.{Ghosts}
+use Rattle.st_host.proofs.Joining.{weaker, moments_join}
+use Rattle.st_host.proofs.Rising.{rose_second}
 use Rattle.st_store.specs.Names.{roots_file}
 use Rattle.st_store.specs.Roots.{HasLetters}
 use Rattle.st_store.specs.Stored.{StoreState, IsKept}

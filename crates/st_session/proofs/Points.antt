@@ -12,8 +12,8 @@ use Rattle.st_frames.specs.declared.frame.Frame.{Frame}
 use Rattle.st_frames.specs.Shown.{IsFrame, IsReady, filled}
 use Rattle.st_frames.proofs.Closed.{is_closed}
 use Rattle.st_machine.specs.declared.machine.Machine.{Machine}
-use Rattle.st_outside.specs.Runs.{IsAtRest}
-use Rattle.st_outside.specs.declared.host.Host.{Ghosts}
+use Rattle.st_host.specs.Runs.{IsAtRest}
+use Rattle.st_host.specs.declared.host.Host.{Ghosts}
 use Rattle.st_store.specs.Names.{IsNoFileOf}
 use Rattle.st_protocol.specs.declared.status.Status.{Status}
 use Rattle.st_protocol.specs.Courses.{Course}

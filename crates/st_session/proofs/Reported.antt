@@ -13,9 +13,9 @@ use Rattle.st_model.specs.Text.{dead_text, quit_text, debugger_text, space_text,
 use Rattle.st_model.proofs.Showing.{show_is}
 use Rattle.st_protocol.specs.Courses.{Reply, Goes, Ends, deeds_of, said_of, preceded}
 use Rattle.st_protocol.proofs.Courses.{said_of_both, deeds_preceded}
-use Rattle.st_outside.specs.declared.host.Host.{Ghosts}
-use Rattle.st_outside.specs.declared.host.SayFault.{SayFault}
-use Rattle.st_outside.specs.Runs.{SaysAll}
+use Rattle.st_host.specs.declared.host.Host.{Ghosts}
+use Rattle.st_host.specs.declared.host.SayFault.{SayFault}
+use Rattle.st_host.specs.Runs.{SaysAll}
 use Rattle.st_report.specs.Saying.{Pushes}
 use Rattle.st_report.proofs.Pushing.{push_then, push_begun, push_as, pushed_all}
 use Rattle.st_session.specs.Points.{Being, Alive, Gone, Point}

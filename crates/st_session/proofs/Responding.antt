@@ -4,10 +4,10 @@ use Rattle.std.specs.Prelude.{Result, Ok, Err, Some}
 use Rattle.st_model.specs.declared.dead.Dead.{Dead}
 use Rattle.st_model.specs.Text.{dead_text}
 use Rattle.st_model.specs.View.{View}
-use Rattle.st_outside.specs.Runs.{IsAtRest}
-use Rattle.st_outside.specs.declared.host.Host.{Ghosts}
-use Rattle.st_outside.specs.declared.host.SayFault.{SayFault}
-use Rattle.st_outside.proofs.Telling.{OnlyNow}
+use Rattle.st_host.specs.Runs.{IsAtRest}
+use Rattle.st_host.specs.declared.host.Host.{Ghosts}
+use Rattle.st_host.specs.declared.host.SayFault.{SayFault}
+use Rattle.st_host.proofs.Telling.{OnlyNow}
 use Rattle.st_machine.specs.declared.machine.Machine.{Machine}
 use Rattle.st_store.specs.Names.{IsNoFileOf}
 use Rattle.st_protocol.specs.declared.status.Status.{Status}

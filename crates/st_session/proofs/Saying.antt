@@ -4,15 +4,15 @@ use Rattle.std.specs.Prelude.{Option, Result, Ok, Err, OnOk}
 use Rattle.st_model.specs.declared.dead.Dead.{Dead}
 use Rattle.st_model.specs.Machine.{State}
 use Rattle.st_model.specs.Table.{Table}
-use Rattle.st_outside.specs.declared.host.Host.{Ghosts}
-use Rattle.st_outside.specs.declared.host.SayFault.{SayFault}
-use Rattle.st_outside.specs.Counts.{HasCause}
-use Rattle.st_outside.specs.Files.{Files}
-use Rattle.st_outside.specs.Runs.{SaysAll, IsAtRest}
-use Rattle.st_outside.specs.Telling.{Says}
-use Rattle.st_outside.proofs.Joining.{all_join}
-use Rattle.st_outside.proofs.Rising.{rose_second}
-use Rattle.st_outside.proofs.Telling.{says_then}
+use Rattle.st_host.specs.declared.host.Host.{Ghosts}
+use Rattle.st_host.specs.declared.host.SayFault.{SayFault}
+use Rattle.st_host.specs.Counts.{HasCause}
+use Rattle.st_host.specs.Files.{Files}
+use Rattle.st_host.specs.Runs.{SaysAll, IsAtRest}
+use Rattle.st_host.specs.Telling.{Says}
+use Rattle.st_host.proofs.Joining.{all_join}
+use Rattle.st_host.proofs.Rising.{rose_second}
+use Rattle.st_host.proofs.Telling.{says_then}
 use Rattle.st_report.specs.Saying.{Pushes}
 use Rattle.st_report.proofs.Pushing.{pushed_all, pushed_says, pushed_part}
 use Rattle.st_protocol.specs.declared.status.Status.{Status}

@@ -9,10 +9,10 @@ use Rattle.st_model.specs.Saving.{save}
 use Rattle.st_model.specs.Show.{Shows, show}
 use Rattle.st_model.specs.Text.{dead_text}
 use Rattle.st_model.specs.View.{View}
-use Rattle.st_outside.specs.Files.{Files}
-use Rattle.st_outside.specs.Runs.{IsAtRest, Makes, Spares}
-use Rattle.st_outside.specs.declared.host.Host.{Ghosts}
-use Rattle.st_outside.proofs.Telling.{OnlyNow}
+use Rattle.st_host.specs.Files.{Files}
+use Rattle.st_host.specs.Runs.{IsAtRest, Makes, Spares}
+use Rattle.st_host.specs.declared.host.Host.{Ghosts}
+use Rattle.st_host.proofs.Telling.{OnlyNow}
 use Rattle.st_image.specs.Back.{CanStart}
 use Rattle.st_image.proofs.Saved.{saved_starts}
 use Rattle.st_machine.specs.declared.machine.Machine.{Machine}

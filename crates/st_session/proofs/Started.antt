@@ -1,7 +1,7 @@
 -- What the reading of an image says of the file that its bytes come from.
 use Rattle.std.proofs.Common.{◌≡◌, ℕ, ◌≤◌, ◌^◌, List, length, refl, sym, subst, ◌∙◌, arith}
 use Rattle.std.specs.Prelude.{Result, Ok, Err, IfErr, IsErrAnd}
-use Rattle.st_outside.specs.declared.host.Host.{Ghosts}
+use Rattle.st_host.specs.declared.host.Host.{Ghosts}
 use Rattle.st_model.specs.Image.{image_head}
 use Rattle.st_model.specs.Start.{start_view}
 use Rattle.st_model.specs.Faults.{IsWellFormed, IsImageFault}

@@ -10,9 +10,9 @@ use Rattle.st_model.specs.Table.{Table}
 use Rattle.st_model.specs.Cycles.{cycle}
 use Rattle.st_model.specs.Show.{Shows}
 use Rattle.st_model.specs.Text.{said_value}
-use Rattle.st_outside.specs.declared.host.Host.{Ghosts}
-use Rattle.st_outside.specs.declared.host.SayFault.{SayFault}
-use Rattle.st_outside.proofs.Telling.{OnlyNow}
+use Rattle.st_host.specs.declared.host.Host.{Ghosts}
+use Rattle.st_host.specs.declared.host.SayFault.{SayFault}
+use Rattle.st_host.proofs.Telling.{OnlyNow}
 use Rattle.st_report.specs.Saying.{Pushes}
 use Rattle.st_report.proofs.Pushing.{push_none, push_then, push_begun, push_as}
 use Rattle.st_protocol.specs.Courses.{Deed, Reply, Keep, Course, Goes, Ends, deeds_of, said_of, commits_of, preceded, and_then, replies}

@@ -1,8 +1,8 @@
 -- How a call of the program ends.
 use Rattle.std.specs.Prelude.{◌≡◌, ℕ, List, Option, Some, None, ⊤}
-use Rattle.st_outside.specs.Files.{bytes_of}
-use Rattle.st_outside.specs.Runs.{ReadsAndSays}
-use Rattle.st_outside.specs.declared.host.Host.{Ghosts}
+use Rattle.st_host.specs.Files.{bytes_of}
+use Rattle.st_host.specs.Runs.{ReadsAndSays}
+use Rattle.st_host.specs.declared.host.Host.{Ghosts}
 use Rattle.st_image.specs.declared.head.HeadValues.{HeadValues}
 use Rattle.st_protocol.specs.declared.status.Status.{Status}
 use Rattle.st_protocol.specs.declared.status.Status.TheVariants as status

@@ -1,8 +1,8 @@
 -- How a call of the program ends: its status, and what it says and does.
 use Rattle.std.specs.Prelude.{◌≡◌, ℕ, ◌<◌, List, length, ◌++◌, IsTrue, Option}
-use Rattle.st_outside.specs.Counts.{Rose}
-use Rattle.st_outside.specs.Stops.{SaidPart}
-use Rattle.st_outside.specs.declared.host.Host.{Ghosts}
+use Rattle.st_host.specs.Counts.{Rose}
+use Rattle.st_host.specs.Stops.{SaidPart}
+use Rattle.st_host.specs.declared.host.Host.{Ghosts}
 use Rattle.st_model.specs.Limits.{longest_image}
 use Rattle.st_model.specs.Machine.{State, Went}
 use Rattle.st_model.specs.Image.{image_head}

@@ -1,9 +1,9 @@
 -- How a drill ends: the image of its kernel text is built in memory, and a million cycles of its machine are run. No file is touched.
 use Rattle.std.specs.Prelude.{◌≡◌, ◌⊎◌, ℕ, List, ◌++◌, IsTrue, ⊤}
-use Rattle.st_outside.specs.Counts.{Rose}
-use Rattle.st_outside.specs.Runs.{ReadsAlike, SaysAll}
-use Rattle.st_outside.specs.Stops.{SaidPart}
-use Rattle.st_outside.specs.declared.host.Host.{Ghosts}
+use Rattle.st_host.specs.Counts.{Rose}
+use Rattle.st_host.specs.Runs.{ReadsAlike, SaysAll}
+use Rattle.st_host.specs.Stops.{SaidPart}
+use Rattle.st_host.specs.declared.host.Host.{Ghosts}
 use Rattle.st_model.specs.Objects.{nil}
 use Rattle.st_model.specs.Machine.{State, Went, empty_world}
 use Rattle.st_model.specs.Births.{Births, births}

@@ -1,10 +1,10 @@
 -- How a session ends.
 use Rattle.std.specs.Prelude.{◌≡◌, ℕ, ◌≤◌, List, ◌∷◌, ◌++◌, IsTrue, Result, Ok, Err}
-use Rattle.st_outside.specs.Counts.{Rose}
-use Rattle.st_outside.specs.Files.{Files}
-use Rattle.st_outside.specs.Runs.{LeavesOnly, SaysAll, Spares}
-use Rattle.st_outside.specs.Stops.{SaidPart}
-use Rattle.st_outside.specs.declared.host.Host.{Ghosts}
+use Rattle.st_host.specs.Counts.{Rose}
+use Rattle.st_host.specs.Files.{Files}
+use Rattle.st_host.specs.Runs.{LeavesOnly, SaysAll, Spares}
+use Rattle.st_host.specs.Stops.{SaidPart}
+use Rattle.st_host.specs.declared.host.Host.{Ghosts}
 use Rattle.st_protocol.specs.declared.status.Status.{Status}
 use Rattle.st_protocol.specs.declared.status.Status.TheVariants.{Done, ReadFault, SayFault, DiskFault}
 use Rattle.st_protocol.specs.Courses.{Course, deeds_of, said_of, commits_of, IsEnd}

@@ -1,6 +1,6 @@
 -- How the import of an image into a store ends.
 use Rattle.std.specs.Prelude.{◌≡◌, ℕ, ◌<◌, List, length, IsTrue}
-use Rattle.st_outside.specs.declared.host.Host.{Ghosts}
+use Rattle.st_host.specs.declared.host.Host.{Ghosts}
 use Rattle.st_model.specs.Limits.{longest_image}
 use Rattle.st_model.specs.Start.{start_view}
 use Rattle.st_image.specs.declared.head.HeadValues.{HeadValues}

@@ -1,10 +1,10 @@
 -- How the making of a store of an image ends, whatever the image comes from.
 use Rattle.std.specs.Prelude.{◌≡◌, ◌⊎◌, ℕ, List, [], ◌∷◌, ◌++◌, codes, IsTrue, ⊤}
-use Rattle.st_outside.specs.Counts.{Rose}
-use Rattle.st_outside.specs.Files.{Files, bytes_of}
-use Rattle.st_outside.specs.Runs.{LeavesOnly, IsAtRest}
-use Rattle.st_outside.specs.Stops.{SaidPart}
-use Rattle.st_outside.specs.declared.host.Host.{Ghosts}
+use Rattle.st_host.specs.Counts.{Rose}
+use Rattle.st_host.specs.Files.{Files, bytes_of}
+use Rattle.st_host.specs.Runs.{LeavesOnly, IsAtRest}
+use Rattle.st_host.specs.Stops.{SaidPart}
+use Rattle.st_host.specs.declared.host.Host.{Ghosts}
 use Rattle.st_model.specs.Objects.{one, words_of}
 use Rattle.st_model.specs.Machine.{Head}
 use Rattle.st_model.specs.Table.{Table, total_used}

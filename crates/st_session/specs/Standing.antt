@@ -1,6 +1,6 @@
 -- That a machine stands at a point.
 use Rattle.std.specs.Prelude.{◌≡◌, Option, Some, None, IsSome, Result, ℕ, List}
-use Rattle.st_outside.specs.declared.host.Host.{Ghosts}
+use Rattle.st_host.specs.declared.host.Host.{Ghosts}
 use Rattle.st_model.specs.declared.dead.Dead.{Dead}
 use Rattle.st_model.specs.Machine.{State}
 use Rattle.st_model.specs.Table.{Table}

@@ -1,10 +1,10 @@
 -- How a session over a store ends.
 use Rattle.std.specs.Prelude.{◌≡◌, ◌⊎◌, ℕ, List, ◌∷◌, IsTrue, ⊤, All}
-use Rattle.st_outside.specs.Counts.{Rose}
-use Rattle.st_outside.specs.Files.{Files}
-use Rattle.st_outside.specs.Runs.{LeavesOnly, ReadsAndSays, NarrowsBut, Spares, IsAtRest}
-use Rattle.st_outside.specs.Stops.{SaidPart}
-use Rattle.st_outside.specs.declared.host.Host.{Ghosts}
+use Rattle.st_host.specs.Counts.{Rose}
+use Rattle.st_host.specs.Files.{Files}
+use Rattle.st_host.specs.Runs.{LeavesOnly, ReadsAndSays, NarrowsBut, Spares, IsAtRest}
+use Rattle.st_host.specs.Stops.{SaidPart}
+use Rattle.st_host.specs.declared.host.Host.{Ghosts}
 use Rattle.st_chunk.specs.Definitions.{IsDefinition}
 use Rattle.st_store.specs.Names.{roots_file, IsNoFileOf}
 use Rattle.st_store.specs.Stored.{IsOpening}

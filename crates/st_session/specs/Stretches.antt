@@ -1,7 +1,7 @@
 -- What a run says up to the first bytecode that asks for a snapshot, or up to its end, and where it stops then.
 use Rattle.std.specs.Prelude.{◌≡◌, ℕ, zero, suc, List, [], ◌∷◌, ◌++◌, Option, Some, None, Result, Ok, Err, IfOk}
 use Rattle.std.specs.List.{flat_map}
-use Rattle.st_outside.specs.declared.host.Host.{Ghosts}
+use Rattle.st_host.specs.declared.host.Host.{Ghosts}
 use Rattle.st_model.specs.declared.dead.Dead.{Dead}
 use Rattle.st_model.specs.Outcomes.{Ending, With, Space}
 use Rattle.st_model.specs.Outcomes as outcome

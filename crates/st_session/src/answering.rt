@@ -1,5 +1,5 @@
 ghost use Rattle.std.specs.Prelude.{◌≡◌, IfErr, None, Some, OnOk};
-ghost use Rattle.st_outside.specs.Telling.{Says};
+ghost use Rattle.st_host.specs.Telling.{Says};
 ghost use Rattle.st_model.specs.Machine.{State};
 ghost use Rattle.st_model.specs.Births.{Births, births};
 ghost use Rattle.st_model.specs.Events.{event};
@@ -21,10 +21,10 @@ ghost use Rattle.st_session.specs.Standing.{MayRun, MayGoOn, Follows, StandsAt, 
 use crate::saving::{run, snapshot};
 use st_call::{Reply, finish, say_reply};
 use st_chunk::Request;
+use st_host::{Host, SayFault};
 use st_machine::Machine;
 use st_memory::Memory;
 use st_model::{Dead, Event, InputFull};
-use st_outside::{Host, SayFault};
 use st_protocol::Status;
 use st_recover::Archive;
 use st_report::{Output, push_held, push_input, push_registers, push_used};

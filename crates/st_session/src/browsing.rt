@@ -12,9 +12,9 @@ use st_browse::browse;
 use st_call::{Reply, say_reply};
 use st_changes::Changes;
 use st_chunk::Ask;
+use st_host::{Host, SayFault};
 use st_machine::Machine;
 use st_memory::Memory;
-use st_outside::{Host, SayFault};
 use st_protocol::Status;
 use st_recover::Archive;
 

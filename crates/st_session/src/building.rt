@@ -1,8 +1,8 @@
 //! The command `build`.
 
 ghost use Rattle.std.specs.Prelude.{◌≡◌, IsTrue, IfOk, IfErr, OnOk};
-ghost use Rattle.st_outside.specs.Files.{bytes_of};
-ghost use Rattle.st_outside.specs.Runs.{OnlyReads, ReadsAlike};
+ghost use Rattle.st_host.specs.Files.{bytes_of};
+ghost use Rattle.st_host.specs.Runs.{OnlyReads, ReadsAlike};
 ghost use Rattle.st_image.specs.Back.{CanStart};
 ghost use Rattle.st_protocol.specs.Statuses.{StatusHasCause};
 ghost use Rattle.st_session.specs.Makings.{contents_in, IsUnread};
@@ -11,9 +11,9 @@ ghost use Rattle.st_session.specs.Builds.{Builds, IsWrongKernel, BuildEnds, kern
 use crate::compiler::Compiler;
 use crate::making::{Origin, make};
 use st_call::{read_file, refuse};
+use st_host::Host;
 use st_kernel::KernelFault;
 use st_memory::{Loader, Memory};
-use st_outside::Host;
 use st_protocol::Status;
 use std::alloc::Global;
 

@@ -1,9 +1,9 @@
 //! The command `drill`.
 
 ghost use Rattle.std.specs.Prelude.{◌≡◌, ℕ, List, IfOk, IfErr, OnOk, None};
-ghost use Rattle.st_outside.specs.Counts.{HasCause};
-ghost use Rattle.st_outside.specs.Runs.{ReadsAndSays, SaysAll};
-ghost use Rattle.st_outside.specs.Telling.{Says};
+ghost use Rattle.st_host.specs.Counts.{HasCause};
+ghost use Rattle.st_host.specs.Runs.{ReadsAndSays, SaysAll};
+ghost use Rattle.st_host.specs.Telling.{Says};
 ghost use Rattle.st_model.specs.Machine.{State};
 ghost use Rattle.st_model.specs.Births.{Births};
 ghost use Rattle.st_model.specs.Show.{Shows};
@@ -21,10 +21,10 @@ use crate::making::{Origin, push_made};
 use crate::running::push_run;
 use st_call::refuse;
 use st_frames::{Loaded, fetch_scheduled};
+use st_host::{Host, SayFault};
 use st_kernel::{KernelFault, build, drill_text};
 use st_machine::Machine;
 use st_memory::{Loader, Memory};
-use st_outside::{Host, SayFault};
 use st_protocol::Status;
 use st_report::{Output, push_used};
 use st_world::World;

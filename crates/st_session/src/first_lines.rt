@@ -8,7 +8,7 @@ ghost use Rattle.st_call.specs.Telling.{Tells};
 ghost use Rattle.st_session.specs.FirstLines.{lost_text, opening_text};
 
 use st_call::{finish, push_why};
-use st_outside::{Host, SayFault};
+use st_host::{Host, SayFault};
 use st_protocol::Status;
 use st_recover::Lost;
 use st_report::{Output, push_line, push_number};

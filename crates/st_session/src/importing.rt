@@ -1,14 +1,14 @@
 //! The command `import`.
 
-ghost use Rattle.st_outside.specs.Files.{bytes_of};
+ghost use Rattle.st_host.specs.Files.{bytes_of};
 ghost use Rattle.st_protocol.specs.Statuses.{StatusHasCause};
 ghost use Rattle.st_session.specs.Imports.{ImportEnds};
 
 use crate::making::{Origin, make};
 use st_call::{read_image, refuse};
+use st_host::Host;
 use st_image::HeadValues;
 use st_memory::Loader;
-use st_outside::Host;
 use st_protocol::Status;
 use std::alloc::Global;
 

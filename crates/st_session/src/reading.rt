@@ -1,5 +1,5 @@
 ghost use Rattle.std.specs.Prelude.{◌≡◌, ◌⊎◌, ◌<◌, ◌^◌, length, IsTrue, IfErr, OnOk, IsErrOf};
-ghost use Rattle.st_outside.specs.Counts.{Rose};
+ghost use Rattle.st_host.specs.Counts.{Rose};
 ghost use Rattle.st_model.specs.Machine.{State};
 ghost use Rattle.st_model.specs.Births.{Births};
 ghost use Rattle.st_model.specs.View.{no_devices};
@@ -25,9 +25,9 @@ ghost use Rattle.st_session.specs.Opening.{IsOpen, session_over, session_so_far_
 use crate::first_lines::say_opening;
 use crate::serving::answer_told;
 use st_chunk::Reader;
+use st_host::{Host, ReadFault, Source};
 use st_machine::Machine;
 use st_memory::Memory;
-use st_outside::{Host, ReadFault, Source};
 use st_protocol::Status;
 use st_recover::{Archive, Lost, Opened};
 use st_world::World;

@@ -9,9 +9,9 @@ ghost use Rattle.st_session.specs.Standing.{MayRun, shown_by};
 ghost use Rattle.st_session.specs.Reports.{text_of, run_text};
 
 use crate::running::push_run;
+use st_host::{Host, SayFault};
 use st_machine::Machine;
 use st_memory::Memory;
-use st_outside::{Host, SayFault};
 use st_report::{Output, push_state};
 
 /// Adds what a machine shows, where it isn't dead.

@@ -11,9 +11,9 @@ ghost use Rattle.st_session.specs.Runs.{end_text};
 ghost use Rattle.st_session.specs.Standing.{MayRun, StandsAt, shown_by};
 ghost use Rattle.st_session.specs.Stretches.{PushesStretch, stretch};
 
+use st_host::{Host, SayFault};
 use st_machine::{Machine, RunEnd};
 use st_memory::Memory;
-use st_outside::{Host, SayFault};
 use st_report::{Output, push_line, say_at_once};
 
 /// Adds the line of a run's end, where so many cycles are finished in all. A snapshot has none, and what is said

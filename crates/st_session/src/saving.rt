@@ -18,9 +18,9 @@ ghost use Rattle.st_session.specs.Stretches.{SaysStretch, stretch, went};
 
 use crate::running::push_stretch;
 use st_call::{Reply, finish, say_reply};
+use st_host::{Host, HostFault, SayFault};
 use st_machine::Machine;
 use st_memory::Memory;
-use st_outside::{Host, HostFault, SayFault};
 use st_protocol::Status;
 use st_recover::Archive;
 use st_report::Output;

@@ -1,6 +1,6 @@
 ghost use Rattle.std.specs.Prelude.{◌≡◌, IsTrue, IfOk, IfErr, None};
-ghost use Rattle.st_outside.specs.Files.{bytes_of};
-ghost use Rattle.st_outside.specs.Runs.{OnlyReads};
+ghost use Rattle.st_host.specs.Files.{bytes_of};
+ghost use Rattle.st_host.specs.Runs.{OnlyReads};
 ghost use Rattle.st_model.specs.Objects.{nil};
 ghost use Rattle.st_model.specs.Machine.{empty_world};
 ghost use Rattle.st_model.specs.Image.{image_head};
@@ -10,10 +10,10 @@ ghost use Rattle.st_recover.specs.Openings.{IsReadable, IsFaulty};
 ghost use Rattle.st_call.specs.Refusals.{IsImageRefusal, RefusalHasCause};
 
 use st_call::{ImageRefusal, read_image};
+use st_host::Host;
 use st_image::HeadValues;
 use st_machine::Machine;
 use st_memory::Loader;
-use st_outside::Host;
 use st_world::World;
 use std::alloc::Global;
 

@@ -3,7 +3,7 @@ use Rattle.std.proofs.Common.{◌≡◌, ℕ, zero, suc, ◌+◌, ◌<◌, ◌�
 use Rattle.std.proofs.lemmas.List.{get_or-drop}
 use Rattle.byteorder.specs.Endian.{big_from, big_bytes, big_number}
 use Rattle.byteorder.specs.Numbers.{big_number-reads_back}
-use Rattle.st_outside.specs.Files.{bytes_of, IsWritten}
+use Rattle.st_host.specs.Files.{bytes_of, IsWritten}
 use Rattle.st_store.specs.Roots.{root_at, root_bytes, Fits}
 use Rattle.st_store.specs.declared.root.Root.{Root}
 

@@ -1,9 +1,9 @@
 -- The causes of faults, where a run of calls ends.
 use Rattle.std.proofs.Common.{◌≡◌, ◌≢◌, ℕ, ◌≤◌, Result, IsErr, refl, sym, subst, arith}
 use Rattle.std.specs.Prelude.{Ok, Err}
-use Rattle.st_outside.specs.Counts.{Rose, HasCause}
-use Rattle.st_outside.specs.declared.host.HostFault.{HostFault}
-use Rattle.st_outside.proofs.Rising.{rose_second}
+use Rattle.st_host.specs.Counts.{Rose, HasCause}
+use Rattle.st_host.specs.declared.host.HostFault.{HostFault}
+use Rattle.st_host.proofs.Rising.{rose_second}
 use Rattle.st_store.specs.Refusals.{FaultHasCause}
 use Rattle.st_store.specs.declared.fault.StoreFault.{StoreFault}
 use Rattle.st_store.specs.declared.fault.StoreFault.TheVariants.{Disk}

@@ -3,12 +3,12 @@ use Rattle.std.proofs.Common.{◌≡◌, ◌≢◌, ◌⊎◌, inl, inr, ⊎_eli
 use Rattle.std.specs.Prelude.{◌↔◌, Some, None, MatchOption, is_some, not}
 use Rattle.std.proofs.lemmas.List.{get_or-take, get_or-drop, get_or_past}
 use Rattle.std.proofs.lemmas.Bool.{cases_lt, cases_eq}
-use Rattle.st_outside.specs.Files.{Files, bytes_of, IsRead, IsCut}
-use Rattle.st_outside.specs.Stops.{TornByCut, Here}
-use Rattle.st_outside.specs.Runs.{LeavesOnly, Narrows, Changes, Elsewhere, ReadsAlike, Touched, Cuts, IsSynced}
-use Rattle.st_outside.specs.declared.host.Host.{Ghosts}
-use Rattle.st_outside.proofs.Joining.{weaker, moments_join}
-use Rattle.st_outside.proofs.Touching.{cut_changes, changes_join}
+use Rattle.st_host.specs.Files.{Files, bytes_of, IsRead, IsCut}
+use Rattle.st_host.specs.Stops.{TornByCut, Here}
+use Rattle.st_host.specs.Runs.{LeavesOnly, Narrows, Changes, Elsewhere, ReadsAlike, Touched, Cuts, IsSynced}
+use Rattle.st_host.specs.declared.host.Host.{Ghosts}
+use Rattle.st_host.proofs.Joining.{weaker, moments_join}
+use Rattle.st_host.proofs.Touching.{cut_changes, changes_join}
 use Rattle.st_store.specs.Names.{roots_file}
 use Rattle.st_store.specs.Roots.{HasLetters}
 use Rattle.st_store.specs.Refusals.{IsWrongLetter}

@@ -2,7 +2,7 @@
 use Rattle.std.proofs.Common.{◌≡◌, ℕ, ◌^◌, ◌<◌, ◌≤◌, List, length, sym, ap, ◌∙◌, subst, arith, inl, inr, ◌⊎◌, ⊎_elim, true≢false}
 use Rattle.std.specs.Prelude.{Option, Some, None, IsSome}
 use Rattle.std.proofs.lemmas.Bool.{cases_lt}
-use Rattle.st_outside.specs.Files.{Files, bytes_of}
+use Rattle.st_host.specs.Files.{Files, bytes_of}
 use Rattle.st_store.specs.Names.{roots_file, changes_file, image_file}
 use Rattle.st_store.specs.Roots.{place, root_at, HasLetters, Chooses}
 use Rattle.st_store.specs.Refusals.{IsWrongLetter, IsWrongFront, IsWrongRoots, IsWrongNumber, NamesTooMuch}

@@ -4,11 +4,11 @@ use Rattle.std.specs.Prelude.{Some, None, Result, OnOk, replicate}
 use Rattle.std.proofs.lemmas.List.{get_or_append_left, get_or-append_right, get_or_past}
 use Rattle.std.proofs.lemmas.Bool.{cases_lt}
 use Rattle.std.proofs.lemmas.Grind.{same_number_lists}
-use Rattle.st_outside.specs.Files.{bytes_of, IsWritten}
-use Rattle.st_outside.specs.Stops.{TornByWrite, TornByCut}
-use Rattle.st_outside.specs.Runs.{Touched, Writes, Cuts, ChangesBoth, IsAtRest, Makes}
-use Rattle.st_outside.specs.declared.host.Host.{Ghosts}
-use Rattle.st_outside.proofs.Joining.{weaker}
+use Rattle.st_host.specs.Files.{bytes_of, IsWritten}
+use Rattle.st_host.specs.Stops.{TornByWrite, TornByCut}
+use Rattle.st_host.specs.Runs.{Touched, Writes, Cuts, ChangesBoth, IsAtRest, Makes}
+use Rattle.st_host.specs.declared.host.Host.{Ghosts}
+use Rattle.st_host.proofs.Joining.{weaker}
 use Rattle.st_store.specs.Names.{roots_file, changes_file, image_file}
 use Rattle.st_store.specs.Roots.{root_at, root_bytes, Fits, Chooses}
 use Rattle.st_store.specs.Stored.{Stored, Begins, Leaves, IsFirm}

@@ -4,7 +4,7 @@ use Rattle.std.proofs.Math.Nat.{mod-lt}
 use Rattle.std.proofs.lemmas.List.{get_or-take, get_or-drop, get_or_past}
 use Rattle.std.proofs.lemmas.Bool.{cases_lt}
 use Rattle.std.specs.Prelude.{None, IsSome, is_some}
-use Rattle.st_outside.specs.Files.{bytes_of, length_of, IsRead}
+use Rattle.st_host.specs.Files.{bytes_of, length_of, IsRead}
 use Rattle.st_store.specs.Roots.{place, root_at, chosen_number, Chooses}
 use Rattle.st_store.specs.Refusals.{IsWrongFront}
 use Rattle.st_store.specs.declared.root.Root.{Root}

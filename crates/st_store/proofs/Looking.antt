@@ -1,9 +1,9 @@
 -- What a run of reads and syncs keeps, whole, so that a longer one is proved by one more call.
 use Rattle.std.proofs.Common.{◌≢◌, ℕ, List}
-use Rattle.st_outside.specs.Runs.{OnlyReads, Narrows, Changes, Spares, Syncs}
-use Rattle.st_outside.specs.declared.host.Host.{Ghosts}
-use Rattle.st_outside.proofs.Joining.{reads_narrow, narrows_join}
-use Rattle.st_outside.proofs.Touching.{sync_changes, changes_spare, spares_join, narrows_but}
+use Rattle.st_host.specs.Runs.{OnlyReads, Narrows, Changes, Spares, Syncs}
+use Rattle.st_host.specs.declared.host.Host.{Ghosts}
+use Rattle.st_host.proofs.Joining.{reads_narrow, narrows_join}
+use Rattle.st_host.proofs.Touching.{sync_changes, changes_spare, spares_join, narrows_but}
 
 module _ {D : Type 0} (host : Ghosts D) where
   -- A run that only reads and syncs, and changes none of the files of these names.

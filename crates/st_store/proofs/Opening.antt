@@ -1,12 +1,12 @@
 -- What a stop leaves while a store is opened.
 use Rattle.std.proofs.Common.{◌≡◌, ◌≢◌, ◌⊎◌, inl, inr, ⊎_elim, ℕ, ◌+◌, ◌-◌, ◌<◌, ◌≤◌, List, [], ◌∷◌, length, slice_index, Option, IsTrue, refl, sym, subst, ◌∙◌, arith, lit<}
 use Rattle.std.specs.Prelude.{Result}
-use Rattle.st_outside.specs.Files.{Files, bytes_of, IsWritten}
-use Rattle.st_outside.specs.Stops.{Here}
-use Rattle.st_outside.specs.Runs.{LeavesOnly, Narrows, NarrowsBut, Changes, Spares, ReadsAlike, IsSynced, Makes}
-use Rattle.st_outside.specs.declared.host.Host.{Ghosts}
-use Rattle.st_outside.proofs.Joining.{weaker, moments_join, alike_join, synced_on}
-use Rattle.st_outside.proofs.Touching.{narrows_but, changes_but, but_join, changes_spare, spares_join, spares_fewer}
+use Rattle.st_host.specs.Files.{Files, bytes_of, IsWritten}
+use Rattle.st_host.specs.Stops.{Here}
+use Rattle.st_host.specs.Runs.{LeavesOnly, Narrows, NarrowsBut, Changes, Spares, ReadsAlike, IsSynced, Makes}
+use Rattle.st_host.specs.declared.host.Host.{Ghosts}
+use Rattle.st_host.proofs.Joining.{weaker, moments_join, alike_join, synced_on}
+use Rattle.st_host.proofs.Touching.{narrows_but, changes_but, but_join, changes_spare, spares_join, spares_fewer}
 use Rattle.st_store.specs.Names.{roots_file, changes_file, image_file, IsNoFileOf}
 use Rattle.st_store.specs.Roots.{place, Chooses, IsFresh}
 use Rattle.st_store.specs.Refusals.{Fit, RefusesFront, RefusesNumbers, Refuses}

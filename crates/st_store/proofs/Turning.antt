@@ -2,11 +2,11 @@
 use Rattle.std.proofs.Common.{◌≡◌, ◌≢◌, ◌⊎◌, inl, inr, ⊎_elim, ℕ, zero, suc, ◌+◌, ◌-◌, ◌%◌, ◌<◌, ◌≤◌, List, [], ◌∷◌, length, slice_index, Option, IsTrue, refl, sym, subst, ◌∙◌, ap, arith, lit<}
 use Rattle.std.specs.Prelude.{Result, OnOk}
 use Rattle.std.proofs.Math.Nat.{mod-eq_of_lt, mod-lt}
-use Rattle.st_outside.specs.Files.{Files, bytes_of, IsWritten}
-use Rattle.st_outside.specs.Stops.{Apart, Comes, comes, TornByWrite}
-use Rattle.st_outside.specs.Runs.{Touched, Writes, IsSynced, IsAtRest, Makes}
-use Rattle.st_outside.specs.declared.host.Host.{Ghosts}
-use Rattle.st_outside.proofs.Joining.{weaker}
+use Rattle.st_host.specs.Files.{Files, bytes_of, IsWritten}
+use Rattle.st_host.specs.Stops.{Apart, Comes, comes, TornByWrite}
+use Rattle.st_host.specs.Runs.{Touched, Writes, IsSynced, IsAtRest, Makes}
+use Rattle.st_host.specs.declared.host.Host.{Ghosts}
+use Rattle.st_host.proofs.Joining.{weaker}
 use Rattle.st_store.specs.Names.{roots_file, changes_file, image_file}
 use Rattle.st_store.specs.Roots.{place, root_at, root_bytes, IsWhole, Chooses, Fits}
 use Rattle.st_store.specs.Stored.{Stored, Opens, Leaves, IsFirm, IsChosen, IsStaged}

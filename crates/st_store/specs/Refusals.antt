@@ -1,7 +1,7 @@
 -- Where the files of a name are no store's: the first wrong place of the roots file.
 use Rattle.std.specs.Prelude.{◌≡◌, ◌≢◌, ◌⊎◌, ℕ, ◌+◌, ◌^◌, ◌<◌, ◌≤◌, List, length, slice_index, codes, Option, Some, None, IsSome, Result, IsErrOf, ⊤}
-use Rattle.st_outside.specs.Counts.{Rose}
-use Rattle.st_outside.specs.Files.{Files, bytes_of}
+use Rattle.st_host.specs.Counts.{Rose}
+use Rattle.st_host.specs.Files.{Files, bytes_of}
 use Rattle.st_store.specs.Names.{roots_file, changes_file, image_file}
 use Rattle.st_store.specs.Roots.{place, root_at, HasLetters, IsWhole, chosen_number, Chooses}
 use Rattle.st_store.specs.declared.root.Root.{Root}

@@ -2,7 +2,7 @@
 -- one of them, and its other bits mean nothing. All numbers are big-endian.
 use Rattle.std.specs.Prelude.{◌≡◌, ◌≤◌, ◌<◌, ◌+◌, ◌-◌, ◌*◌, ◌%◌, ◌^◌, ℕ, List, ◌++◌, length, drop, slice_index, Option, codes}
 use Rattle.byteorder.specs.Endian.{big_bytes, big_number}
-use Rattle.st_outside.specs.Files.{bytes_of}
+use Rattle.st_host.specs.Files.{bytes_of}
 use Rattle.st_store.specs.declared.root.Root.{Root}
 
 -- the place of a root, 0 or 1

@@ -1,8 +1,8 @@
 // Making a store, in steps of a few calls.
 ghost use Rattle.std.specs.Prelude.{◌≡◌, ◌↔◌, ℕ, List, [], IsTrue, IfOk, IfErr, OnOk, Option, Some, None, string_bytes};
-ghost use Rattle.st_outside.specs.Counts.{HasCause};
-ghost use Rattle.st_outside.specs.Files.{bytes_of};
-ghost use Rattle.st_outside.specs.Runs.{LeavesOnly, ReadsAlike, Narrows, Changes, ChangesBoth, IsSynced, Makes};
+ghost use Rattle.st_host.specs.Counts.{HasCause};
+ghost use Rattle.st_host.specs.Files.{bytes_of};
+ghost use Rattle.st_host.specs.Runs.{LeavesOnly, ReadsAlike, Narrows, Changes, ChangesBoth, IsSynced, Makes};
 ghost use Rattle.st_store.specs.Names.{roots_file, changes_file, image_file};
 ghost use Rattle.st_store.specs.Roots.{HasLetters, Fits};
 ghost use Rattle.st_store.specs.Founding.{OpensMaybe, IsCleared, IsBlank, first_root, first_stored, first_bytes, first_file};
@@ -14,7 +14,7 @@ use crate::front::{LETTERS, find_wrong_letter};
 use crate::names::Names;
 use crate::root::bytes_of_root;
 use crate::{Root, Store, StoreFault};
-use st_outside::{Host, HostFault, cut_synced, read_from, sync_file, write_synced};
+use st_host::{Host, HostFault, cut_synced, read_from, sync_file, write_synced};
 use std::alloc::Global;
 use std::marker::Model;
 

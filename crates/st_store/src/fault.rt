@@ -1,5 +1,5 @@
 // Why a store isn't opened or made.
-use st_outside::HostFault;
+use st_host::HostFault;
 use std::alloc::AllocError;
 
 /// A place in a file of a store, in bytes.

@@ -1,7 +1,7 @@
 //! Laws of the definitions.
 
 ghost use Rattle.std.specs.Prelude.{◌≡◌, ℕ, List};
-ghost use Rattle.st_outside.specs.Files.{Files};
+ghost use Rattle.st_host.specs.Files.{Files};
 ghost use Rattle.st_store.specs.Refusals.{Refuses};
 ghost use Rattle.st_store.specs.Stored.{Stored, Opens};
 ghost use Rattle.st_store.specs.declared.fault.StorePlace.TheVariants.{Roots};

@@ -1,7 +1,7 @@
 // Opening a store, in steps of a few calls.
 ghost use Rattle.std.specs.Prelude.{◌≡◌, ◌≢◌, ◌≤◌, ◌<◌, ◌+◌, ◌^◌, IsTrue, IfOk, IfErr, OnOk, MatchOption, length};
-ghost use Rattle.st_outside.specs.Files.{bytes_of};
-ghost use Rattle.st_outside.specs.Runs.{LeavesOnly, ReadsAlike, Narrows, NarrowsBut, Changes, Spares, IsSynced};
+ghost use Rattle.st_host.specs.Files.{bytes_of};
+ghost use Rattle.st_host.specs.Runs.{LeavesOnly, ReadsAlike, Narrows, NarrowsBut, Changes, Spares, IsSynced};
 ghost use Rattle.st_store.specs.Names.{roots_file, IsNoFileOf};
 ghost use Rattle.st_store.specs.Roots.{Chooses, IsFresh};
 ghost use Rattle.st_store.specs.Refusals.{IsWrongNumber, Fit, RefusesFront, RefusesNumbers, Refuses, IsOfOpening, FaultHasCause};
@@ -13,7 +13,7 @@ use crate::front::{Chosen, choose};
 use crate::names::Names;
 use crate::steps::{stage, turn};
 use crate::{Store, StoreFault, StorePlace};
-use st_outside::{Host, file_length, read_from, sync_file};
+use st_host::{Host, file_length, read_from, sync_file};
 use std::alloc::Global;
 
 fn damaged(at: u64) -> StoreFault

@@ -1,15 +1,15 @@
 // The two steps of a commit, which opening takes too: the other root, and the gate.
 ghost use Rattle.std.specs.Prelude.{◌≡◌, ◌≤◌, ◌-◌, ◌∷◌, ℕ, [], IsTrue, OnOk, string_bytes};
-ghost use Rattle.st_outside.specs.Counts.{HasCause};
-ghost use Rattle.st_outside.specs.Files.{IsWritten};
-ghost use Rattle.st_outside.specs.Runs.{Makes, Changes};
+ghost use Rattle.st_host.specs.Counts.{HasCause};
+ghost use Rattle.st_host.specs.Files.{IsWritten};
+ghost use Rattle.st_host.specs.Runs.{Makes, Changes};
 ghost use Rattle.st_store.specs.Names.{roots_file};
 ghost use Rattle.st_store.specs.Stored.{Stored, Opens, IsFirm, IsChosen, IsStaged};
 
 use crate::Root;
 use crate::names::Names;
 use crate::root::bytes_of_root;
-use st_outside::{Host, HostFault, write_synced};
+use st_host::{Host, HostFault, write_synced};
 
 /// Writes the root that isn't chosen, and syncs it. Where one root is chosen and what both name is firm, the chosen one stays
 /// at each moment.

@@ -1,13 +1,13 @@
 // A store that is open.
 ghost use Rattle.std.specs.Prelude.{◌≡◌, ◌≤◌, ◌-◌, IsTrue, IfOk, slice_index};
-ghost use Rattle.st_outside.specs.Counts.{HasCause};
-ghost use Rattle.st_outside.specs.Files.{bytes_of};
+ghost use Rattle.st_host.specs.Counts.{HasCause};
+ghost use Rattle.st_host.specs.Files.{bytes_of};
 ghost use Rattle.st_store.specs.Names.{roots_file, changes_file, image_file};
 
 use crate::Root;
 use crate::names::Names;
 use crate::steps::{stage, turn};
-use st_outside::{Host, HostFault};
+use st_host::{Host, HostFault};
 use std::marker::Model;
 
 /// A store that is open: its name, the number of the root that its gate chooses, and this root.
@@ -30,7 +30,7 @@ impl Model for Store {
 }
 
 impl Store {
-    ghost use Rattle.st_outside.specs.Runs.{Makes, Changes};
+    ghost use Rattle.st_host.specs.Runs.{Makes, Changes};
     ghost use Rattle.st_store.specs.Stored.{Stored, Opens, IsFirm, IsKept};
 
     /// The chosen root.

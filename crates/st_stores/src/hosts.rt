@@ -1,7 +1,6 @@
 //! Hosts in memory, and what their files have.
 
-use st_host::MemHost;
-use st_outside::{file_length, read_from};
+use st_host::{MemHost, file_length, read_from};
 use std::alloc::{AllocError, Global};
 use std::process::Abort;
 use std::test::Fail;

@@ -1,10 +1,10 @@
 ghost use Rattle.std.specs.Prelude.{◌≡◌, ◌≤◌, ◌^◌};
-ghost use Rattle.st_outside.specs.Pieces.{end_of, Pushes};
+ghost use Rattle.st_host.specs.Pieces.{end_of, Pushes};
 ghost use Rattle.st_writer.specs.Written.{head_bytes};
 
 use crate::numbers::push_longs;
+use st_host::{Host, HostFault, Piece};
 use st_memory::Memory;
-use st_outside::{Host, HostFault, Piece};
 
 /// The letters `ST80`, as a number.
 const LETTERS: u32 = 0x5354_3830;

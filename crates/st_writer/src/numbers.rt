@@ -1,10 +1,10 @@
 ghost use Rattle.std.specs.Prelude.{◌≡◌, ◌<◌, ◌≤◌, ◌^◌, length};
 ghost use Rattle.std.specs.List.{flat_map};
-ghost use Rattle.st_outside.specs.Pieces.{end_of, Pushes};
+ghost use Rattle.st_host.specs.Pieces.{end_of, Pushes};
 ghost use Rattle.st_writer.specs.Written.{word_bytes, long_bytes, zeros};
 
 use byteorder::{BigEndian, ByteOrder};
-use st_outside::{Host, HostFault, Piece};
+use st_host::{Host, HostFault, Piece};
 
 /// Adds a word, the higher byte first.
 pub fn push_word<H: Host>(

@@ -2,14 +2,14 @@ ghost use Rattle.std.specs.Prelude.{◌≡◌, ◌*◌, ◌≤◌, ◌^◌, ◌+
 ghost use Rattle.st_model.specs.Values.{value, Ref};
 ghost use Rattle.st_model.specs.Objects.{words_of};
 ghost use Rattle.st_model.specs.View.{is_live, object_of};
-ghost use Rattle.st_outside.specs.Pieces.{end_of, Pushes};
+ghost use Rattle.st_host.specs.Pieces.{end_of, Pushes};
 ghost use Rattle.st_writer.specs.Written.{word_bytes, marks, unit_words, object_bytes};
 
 use crate::numbers::push_word;
 use crate::units::{push_fields, push_units};
+use st_host::{Host, HostFault, Piece};
 use st_memory::{Memory, count_fields, count_units};
 use st_model::{Kind, Oop};
-use st_outside::{Host, HostFault, Piece};
 
 /// How many words so many words or bytes take.
 fn count_unit_words(kind: Kind, units: u32) -> u32

@@ -1,14 +1,14 @@
 ghost use Rattle.std.specs.Prelude.{◌≡◌, ◌*◌, ◌<◌, ◌≤◌, ◌^◌, length};
 ghost use Rattle.st_model.specs.Values.{value, Ref};
 ghost use Rattle.st_model.specs.Table.{entry};
-ghost use Rattle.st_outside.specs.Pieces.{end_of, Pushes};
+ghost use Rattle.st_host.specs.Pieces.{end_of, Pushes};
 ghost use Rattle.st_writer.specs.Written.{bytes_at, words_at, entry_bytes, space_below, entries_below, words_below, used_below};
 
 use crate::numbers::{push_long, push_word};
 use crate::object::{count_words, marks_of, push_object};
+use st_host::{Host, HostFault, Piece};
 use st_memory::Memory;
 use st_model::Oop;
-use st_outside::{Host, HostFault, Piece};
 
 /// The pointer of a place of the table.
 #[tactic(auto, unfolding(st_model::specs::Values::value_of))]

@@ -3,13 +3,13 @@ ghost use Rattle.std.specs.List.{flat_map};
 ghost use Rattle.st_model.specs.Values.{value};
 ghost use Rattle.st_model.specs.Objects.{is_words, is_pointers};
 ghost use Rattle.st_model.specs.View.{is_live, object_of};
-ghost use Rattle.st_outside.specs.Pieces.{end_of, Pushes};
+ghost use Rattle.st_host.specs.Pieces.{end_of, Pushes};
 ghost use Rattle.st_writer.specs.Written.{word_bytes, word_of, filler, unit_bytes};
 
 use crate::numbers::push_word;
+use st_host::{Host, HostFault, Piece};
 use st_memory::{Memory, count_fields, count_units};
 use st_model::{Kind, Oop};
-use st_outside::{Host, HostFault, Piece};
 
 /// Adds the fields of an object.
 pub fn push_fields<M: Memory, H: Host>(

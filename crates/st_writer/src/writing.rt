@@ -1,15 +1,15 @@
 ghost use Rattle.std.specs.Prelude.{◌≡◌, ◌≤◌, length, IsTrue, IfOk, OnOk, Some};
 ghost use Rattle.st_model.specs.Limits.{most_words};
-ghost use Rattle.st_outside.specs.Counts.{HasCause};
-ghost use Rattle.st_outside.specs.Runs.{WritesAbove, IsSynced};
-ghost use Rattle.st_outside.specs.Pieces.{end_of, Pushes};
+ghost use Rattle.st_host.specs.Counts.{HasCause};
+ghost use Rattle.st_host.specs.Runs.{WritesAbove, IsSynced};
+ghost use Rattle.st_host.specs.Pieces.{end_of, Pushes};
 ghost use Rattle.st_writer.specs.Written.{image_of, padding};
 
 use crate::head::push_head;
 use crate::numbers::push_zeros;
 use crate::table::{count_entries, push_entries, push_objects};
+use st_host::{Host, HostFault, Piece};
 use st_memory::Memory;
-use st_outside::{Host, HostFault, Piece};
 
 /// How many bytes are missing from so many words to a multiple of 512 bytes.
 fn padding(words: u32) -> usize

@@ -1,5 +1,5 @@
 use Rattle.std.proofs.Common.{◌≡◌, ◌∙◌, ℕ, List, [], Option, Some, sym, ap, subst}
-use Rattle.st_outside.specs.Files.{bytes_of}
+use Rattle.st_host.specs.Files.{bytes_of}
 use Rattle.st_call.specs.declared.words.Command as declared
 use Rattle.st_call.specs.CommandViews.{command_view}
 use Rattle.st_image.specs.declared.head.HeadValues.{HeadValues}

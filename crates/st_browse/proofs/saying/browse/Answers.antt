@@ -1,8 +1,8 @@
 use Rattle.std.proofs.Common.{List, [], ℕ, refl, sym, ap, subst, ◌∙◌, append-nil}
 use Rattle.std.specs.Prelude.{Option, Ok, true, false, option_map, unwrap_or}
-use Rattle.st_outside.specs.declared.host.SayFault.{SayFault}
-use Rattle.st_outside.specs.Telling.{Says}
-use Rattle.st_outside.proofs.Telling.{says_none}
+use Rattle.st_host.specs.declared.host.SayFault.{SayFault}
+use Rattle.st_host.specs.Telling.{Says}
+use Rattle.st_host.proofs.Telling.{says_none}
 use Rattle.st_chunk.specs.Asks.{ask_of}
 use Rattle.st_browse.specs.Asked.{Answers, reply}
 use Rattle.st_browse.specs.Founds.{sought_text}

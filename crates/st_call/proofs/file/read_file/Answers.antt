@@ -1,4 +1,4 @@
-use Rattle.st_outside.proofs.Joining.{alike_join, reads_join}
+use Rattle.st_host.proofs.Joining.{alike_join, reads_join}
 use Rattle.st_call.proofs.file.read_file.Goals as goal
 
 pub returns-in_err-count-clause-reads : goal.returns-in_err-count-clause-reads

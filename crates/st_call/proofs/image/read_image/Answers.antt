@@ -1,5 +1,5 @@
 use Rattle.std.proofs.Common.{◌≡◌, ◌≤◌, List, ℕ, length, IsTrue, sym, subst, ◌∙◌}
-use Rattle.st_outside.specs.Files.{bytes_of}
+use Rattle.st_host.specs.Files.{bytes_of}
 use Rattle.st_model.specs.Limits.{longest_image}
 use Rattle.st_image.specs.HeadValues.{head_over}
 use Rattle.st_image.specs.Rows.{IsReadFault}

@@ -1,5 +1,5 @@
 use Rattle.std.proofs.Common.{ℕ, List, length, sym, ap, ◌∙◌, subst}
-use Rattle.st_outside.specs.Runs.{IsSynced}
+use Rattle.st_host.specs.Runs.{IsSynced}
 use Rattle.st_store.specs.Names.{changes_file}
 use Rattle.st_store.specs.declared.root.Root.{Root}
 use Rattle.st_changes.proofs.Growing.{behind_makes, kept_on, behind_firm, writes_to, written_to}

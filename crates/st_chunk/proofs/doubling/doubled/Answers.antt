@@ -1,6 +1,6 @@
 use Rattle.std.proofs.Common.{◌≡◌, ◌+◌, ◌-◌, ◌≤◌, ◌++◌, List, ℕ, length, take, drop, sym, ap, ◌∙◌, subst, arith, length-append, length-take, length-drop}
 use Rattle.std.proofs.lemmas.List.{length-take-le}
-use Rattle.st_outside.specs.Files.{IsWritten}
+use Rattle.st_host.specs.Files.{IsWritten}
 use Rattle.st_chunk.specs.Texts.{doubled}
 use Rattle.st_chunk.proofs.Pieces.{doubled-piece, doubled-short, written_more}
 use Rattle.st_chunk.proofs.Writing.{written_behind, write_more}

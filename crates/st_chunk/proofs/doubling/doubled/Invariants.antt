@@ -1,5 +1,5 @@
 use Rattle.std.proofs.Common.{◌≡◌, ◌-◌, ◌*◌, ◌≤◌, length, take, IsTrue}
-use Rattle.st_outside.specs.Files.{IsWritten}
+use Rattle.st_host.specs.Files.{IsWritten}
 use Rattle.st_chunk.specs.Texts.{doubled}
 use Rattle.st_chunk.specs.Writing.{WritesBehind}
 use Rattle.st_chunk.proofs.doubling.doubled.Given as goal

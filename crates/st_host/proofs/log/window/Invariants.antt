@@ -1,5 +1,5 @@
 use Rattle.std.proofs.Common.{◌≡◌, length, List, ℕ, Option, None}
-use Rattle.st_outside.specs.Files.{bytes_of, length_of}
+use Rattle.st_host.specs.Files.{bytes_of, length_of}
 use Rattle.st_host.specs.Log.{arena_size, file_of, IsWindow}
 use Rattle.st_host.proofs.log.window.Given as goal
 

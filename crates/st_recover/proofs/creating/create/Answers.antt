@@ -1,9 +1,9 @@
 use Rattle.std.proofs.Common.{◌≡◌, ◌∙◌, ℕ, List, true, IsTrue, length, refl, subst, ap, arith}
 use Rattle.std.proofs.lemmas.Result.{err_from_is_err_and}
 use Rattle.std.specs.Prelude.{Some, Err}
-use Rattle.st_outside.specs.Runs.{Changes}
-use Rattle.st_outside.proofs.Rising.{rose_second}
-use Rattle.st_outside.proofs.Touching.{above_changes}
+use Rattle.st_host.specs.Runs.{Changes}
+use Rattle.st_host.proofs.Rising.{rose_second}
+use Rattle.st_host.proofs.Touching.{above_changes}
 use Rattle.st_store.specs.Names.{image_file}
 use Rattle.st_store.specs.declared.fault.StoreFault.TheVariants.{Disk}
 use Rattle.st_recover.specs.Commits.{image_with}

@@ -1,7 +1,7 @@
 use Rattle.std.proofs.Common.{◌≡◌, ◌∙◌, ℕ, List, IsTrue, subst, arith}
 use Rattle.std.proofs.lemmas.Result.{err_from_is_err_and}
-use Rattle.st_outside.specs.Files.{Files}
-use Rattle.st_outside.proofs.Joining.{reads_narrow, narrows_join}
+use Rattle.st_host.specs.Files.{Files}
+use Rattle.st_host.proofs.Joining.{reads_narrow, narrows_join}
 use Rattle.st_model.specs.Image.{image_head}
 use Rattle.st_image.specs.Reading.{IsStart}
 use Rattle.st_store.specs.Stored.{IsOpening, stored_in}

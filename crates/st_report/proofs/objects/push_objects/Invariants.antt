@@ -1,5 +1,5 @@
 use Rattle.std.proofs.Common.{◌+◌, ◌-◌, ◌/◌, take, Ok}
-use Rattle.st_outside.specs.declared.host.SayFault.{SayFault}
+use Rattle.st_host.specs.declared.host.SayFault.{SayFault}
 use Rattle.st_model.specs.Text.{objects_text}
 use Rattle.st_report.specs.Saying.{Pushes}
 use Rattle.st_report.proofs.objects.push_objects.Given as goal

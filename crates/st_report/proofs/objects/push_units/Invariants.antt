@@ -1,5 +1,5 @@
 use Rattle.std.proofs.Common.{take, Ok}
-use Rattle.st_outside.specs.declared.host.SayFault.{SayFault}
+use Rattle.st_host.specs.declared.host.SayFault.{SayFault}
 use Rattle.st_model.specs.Values.{value}
 use Rattle.st_model.specs.View.{object_of}
 use Rattle.st_model.specs.Text.{numbers_text}

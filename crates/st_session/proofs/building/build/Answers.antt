@@ -1,5 +1,5 @@
 use Rattle.std.proofs.Common.{◌≡◌, IsTrue}
-use Rattle.st_outside.specs.Files.{bytes_of}
+use Rattle.st_host.specs.Files.{bytes_of}
 use Rattle.st_session.specs.Builds.{Builds, IsWrongKernel}
 use Rattle.st_session.specs.Makings.{contents_in}
 use Rattle.st_session.specs.declared.making.Origin.TheVariants as origin

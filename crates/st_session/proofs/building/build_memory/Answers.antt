@@ -1,5 +1,5 @@
 use Rattle.std.proofs.Common.{◌≤◌, ◌^◌, ◌∙◌, ℕ, List, IsTrue, length, sym, subst}
-use Rattle.st_outside.specs.Files.{bytes_of}
+use Rattle.st_host.specs.Files.{bytes_of}
 use Rattle.st_session.proofs.Built.{kernel_wrong, wrong_cause}
 use Rattle.st_session.proofs.building.build_memory.Goals as goal
 

@@ -1,6 +1,6 @@
 use Rattle.std.proofs.Common.{◌≡◌, List, ℕ, ◌++◌, ◌∙◌, refl, sym, ap, subst}
-use Rattle.st_outside.specs.declared.host.Host.{Ghosts}
-use Rattle.st_outside.proofs.Joining.{reads_first}
+use Rattle.st_host.specs.declared.host.Host.{Ghosts}
+use Rattle.st_host.proofs.Joining.{reads_first}
 use Rattle.st_model.specs.Objects.{nil}
 use Rattle.st_model.specs.Machine.{World, empty_world}
 use Rattle.st_model.specs.Image.{image_head}

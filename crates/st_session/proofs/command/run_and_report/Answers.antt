@@ -1,6 +1,6 @@
 use Rattle.std.proofs.Common.{refl}
-use Rattle.st_outside.specs.Runs.{SaysAll}
-use Rattle.st_outside.proofs.Rising.{cause_after}
+use Rattle.st_host.specs.Runs.{SaysAll}
+use Rattle.st_host.proofs.Rising.{cause_after}
 use Rattle.st_model.specs.Text.{state_text}
 use Rattle.st_report.proofs.Pushing.{pushed_says, pushed_part}
 use Rattle.st_session.specs.Reports.{run_text}

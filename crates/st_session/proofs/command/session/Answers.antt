@@ -1,6 +1,6 @@
 use Rattle.std.proofs.Common.{◌≡◌, ◌⊎◌, List, ℕ, ◌∙◌, IsTrue, inl, inr, refl, sym, ap, subst}
-use Rattle.st_outside.specs.Counts.{Rose}
-use Rattle.st_outside.specs.Runs.{IsAtRest}
+use Rattle.st_host.specs.Counts.{Rose}
+use Rattle.st_host.specs.Runs.{IsAtRest}
 use Rattle.st_store.specs.Names.{IsNoFileOf}
 use Rattle.st_protocol.specs.declared.status.Status.{Status}
 use Rattle.st_protocol.specs.declared.status.Status.TheVariants as status

@@ -1,6 +1,6 @@
 use Rattle.std.proofs.Common.{◌≡◌, ◌≢◌, ◌⊎◌, IsTrue, inl, inr, sym, subst, arith}
-use Rattle.st_outside.specs.Counts.{Rose}
-use Rattle.st_outside.proofs.Touching.{spares_join, spares_fewer}
+use Rattle.st_host.specs.Counts.{Rose}
+use Rattle.st_host.proofs.Touching.{spares_join, spares_fewer}
 use Rattle.st_store.specs.Names.{IsNoFileOf}
 use Rattle.st_protocol.specs.declared.status.Status.{Status}
 use Rattle.st_protocol.specs.declared.status.Status.TheVariants as status

@@ -1,5 +1,5 @@
 use Rattle.std.proofs.Common.{List, ℕ, refl, subst, arith}
-use Rattle.st_outside.proofs.Touching.{above_changes}
+use Rattle.st_host.proofs.Touching.{above_changes}
 use Rattle.st_recover.proofs.Images.{image_is}
 use Rattle.st_session.specs.Exports.{exporting, HasExported}
 use Rattle.st_call.specs.Replies.{exported_text}

@@ -1,6 +1,6 @@
 use Rattle.std.proofs.Common.{take, Ok}
 use Rattle.std.specs.List.{flat_map}
-use Rattle.st_outside.specs.declared.host.SayFault.{SayFault}
+use Rattle.st_host.specs.declared.host.SayFault.{SayFault}
 use Rattle.st_report.specs.Saying.{Pushes}
 use Rattle.st_recover.specs.Replays.{losses_of}
 use Rattle.st_session.specs.FirstLines.{lost_text}

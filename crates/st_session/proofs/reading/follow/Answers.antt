@@ -1,6 +1,6 @@
 use Rattle.std.proofs.Common.{◌≡◌, ◌≤◌, ◌<◌, ⊎_elim, ℕ, List, [], ◌++◌, ◌∙◌, take, length, refl, sym, ap, subst, arith, append_assoc, length-append, Ok, Err}
 use Rattle.std.proofs.lemmas.List.{length-take-le}
-use Rattle.st_outside.proofs.Rising.{rose_second}
+use Rattle.st_host.proofs.Rising.{rose_second}
 use Rattle.st_chunk.specs.Reading.{line_from}
 use Rattle.st_chunk.specs.Scripts.{told_from, read_through, asked_at_end}
 use Rattle.st_store.specs.Names.{IsNoFileOf}

@@ -1,7 +1,7 @@
 use Rattle.std.proofs.Common.{◌≡◌, ◌∙◌, ℕ, List, IsTrue, refl, sym, ap, subst, arith}
 use Rattle.std.specs.Prelude.{Some, Ok, Err}
-use Rattle.st_outside.specs.Counts.{Rose}
-use Rattle.st_outside.specs.declared.host.Host.{Ghosts}
+use Rattle.st_host.specs.Counts.{Rose}
+use Rattle.st_host.specs.declared.host.Host.{Ghosts}
 use Rattle.st_model.specs.Births.{Births}
 use Rattle.st_model.specs.Machine.{State, empty_world}
 use Rattle.st_model.specs.Objects.{nil}

@@ -1,5 +1,5 @@
 use Rattle.std.proofs.Common.{IsTrue, sym, subst}
-use Rattle.st_outside.specs.Files.{bytes_of}
+use Rattle.st_host.specs.Files.{bytes_of}
 use Rattle.st_model.specs.Image.{image_head}
 use Rattle.st_model.specs.View.{View}
 use Rattle.st_frames.specs.declared.frame.Frame.{Frame}

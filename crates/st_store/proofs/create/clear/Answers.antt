@@ -1,7 +1,7 @@
 use Rattle.std.proofs.Common.{◌≡◌, List, ℕ, sym, ap, subst, ◌∙◌, true≢false, refl, arith, IsTrue}
 use Rattle.std.proofs.lemmas.Result.{err_from_is_err_and}
-use Rattle.st_outside.specs.Files.{bytes_of, IsCut}
-use Rattle.st_outside.specs.Runs.{Changes, IsSynced}
+use Rattle.st_host.specs.Files.{bytes_of, IsCut}
+use Rattle.st_host.specs.Runs.{Changes, IsSynced}
 use Rattle.st_store.specs.Names.{roots_file}
 use Rattle.st_store.specs.Roots.{HasLetters}
 use Rattle.st_store.specs.declared.fault.StoreFault.TheVariants.{Exists, OutOfMemory}

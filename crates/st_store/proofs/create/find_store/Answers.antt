@@ -1,8 +1,8 @@
 use Rattle.std.proofs.Common.{◌≢◌, List, ℕ, IsTrue, subst, ap, arith}
 use Rattle.std.proofs.lemmas.Result.{err_from_is_err_and}
 use Rattle.std.specs.Prelude.{◌↔◌}
-use Rattle.st_outside.specs.Files.{bytes_of}
-use Rattle.st_outside.proofs.Joining.{alike_join, synced_on}
+use Rattle.st_host.specs.Files.{bytes_of}
+use Rattle.st_host.proofs.Joining.{alike_join, synced_on}
 use Rattle.st_store.specs.Roots.{HasLetters}
 use Rattle.st_store.proofs.Clearing.{letters_found}
 use Rattle.st_store.proofs.Causes.{cause_of_call, no_cause}

@@ -1,9 +1,9 @@
 use Rattle.std.proofs.Common.{◌≡◌, ℕ, List, [], string_bytes, refl, sym, subst, ◌∙◌}
 use Rattle.std.specs.Prelude.{Some, None}
-use Rattle.st_outside.specs.Files.{bytes_of}
-use Rattle.st_outside.specs.Runs.{ChangesBoth}
-use Rattle.st_outside.proofs.Joining.{makes_then, makes_failed, makes_of}
-use Rattle.st_outside.proofs.Touching.{both_more}
+use Rattle.st_host.specs.Files.{bytes_of}
+use Rattle.st_host.specs.Runs.{ChangesBoth}
+use Rattle.st_host.proofs.Joining.{makes_then, makes_failed, makes_of}
+use Rattle.st_host.proofs.Touching.{both_more}
 use Rattle.st_store.specs.Names.{roots_file, changes_file, image_file}
 use Rattle.st_store.specs.Stored.{Begins, Leaves}
 use Rattle.st_store.specs.Founding.{OpensMaybe, first_root, first_stored, first_file}

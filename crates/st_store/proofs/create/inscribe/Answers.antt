@@ -1,7 +1,7 @@
 use Rattle.std.proofs.Common.{◌≡◌, ℕ, List, length, codes, Option, string_bytes, refl, sym, subst, ap, ◌∙◌, arith}
 use Rattle.std.specs.Prelude.{Some, None}
-use Rattle.st_outside.proofs.Joining.{on_ok, on_err, makes_then, makes_failed}
-use Rattle.st_outside.proofs.Touching.{write_changes, changes_join}
+use Rattle.st_host.proofs.Joining.{on_ok, on_err, makes_then, makes_failed}
+use Rattle.st_host.proofs.Touching.{write_changes, changes_join}
 use Rattle.st_store.specs.Names.{roots_file}
 use Rattle.st_store.specs.Roots.{Fits, Chooses}
 use Rattle.st_store.specs.Stored.{Leaves, IsChosen}

@@ -1,8 +1,8 @@
 use Rattle.std.proofs.Common.{ℕ, List, [], ◌∷◌, string_bytes, refl, sym, subst, ◌∙◌}
 use Rattle.std.specs.Prelude.{None}
-use Rattle.st_outside.specs.Files.{IsCut}
-use Rattle.st_outside.proofs.Joining.{on_ok, on_err, makes_then}
-use Rattle.st_outside.proofs.Touching.{cut_changes, write_changes, both_begun, both_join}
+use Rattle.st_host.specs.Files.{IsCut}
+use Rattle.st_host.proofs.Joining.{on_ok, on_err, makes_then}
+use Rattle.st_host.proofs.Touching.{cut_changes, write_changes, both_begun, both_join}
 use Rattle.st_store.specs.Names.{roots_file, changes_file}
 use Rattle.st_store.specs.Founding.{OpensMaybe, IsBlank}
 use Rattle.st_store.proofs.Others.{changes_roots}

@@ -1,8 +1,8 @@
 use Rattle.std.proofs.Common.{◌≡◌, ◌≢◌, ◌∙◌, List, ℕ, Option, IsSome, sym, ap, subst, arith}
 use Rattle.std.proofs.lemmas.Result.{err_from_is_err_and}
 use Rattle.std.specs.Prelude.{not}
-use Rattle.st_outside.specs.Files.{bytes_of}
-use Rattle.st_outside.proofs.Joining.{alike_join, synced_on}
+use Rattle.st_host.specs.Files.{bytes_of}
+use Rattle.st_host.proofs.Joining.{alike_join, synced_on}
 use Rattle.st_store.specs.Refusals.{RefusesFront, IsOfOpening}
 use Rattle.st_store.specs.declared.fault.StoreFault.{StoreFault}
 use Rattle.st_store.specs.declared.fault.StoreFault.TheVariants.{NotAStore, Missing}

@@ -1,7 +1,7 @@
 use Rattle.std.proofs.Common.{◌≢◌, List, ℕ, ◌∙◌, ap, sym, subst, length, Option, arith}
 use Rattle.std.proofs.lemmas.Result.{err_from_is_err_and}
-use Rattle.st_outside.proofs.Joining.{reads_narrow, narrows_join, alike_join, synced_on}
-use Rattle.st_outside.specs.Files.{bytes_of}
+use Rattle.st_host.proofs.Joining.{reads_narrow, narrows_join, alike_join, synced_on}
+use Rattle.st_host.specs.Files.{bytes_of}
 use Rattle.st_store.specs.Refusals.{Fit, IsOfOpening, IsWrongNumber, RefusesNumbers}
 use Rattle.st_store.proofs.Fronts.{length_read}
 use Rattle.st_store.proofs.Causes.{fault_of_call, no_fault, other_fault}

@@ -1,8 +1,8 @@
 use Rattle.std.proofs.lemmas.Result.{err_from_is_err_and}
 use Rattle.std.proofs.Common.{◌≡◌, ◌∙◌, List, ℕ, IsTrue, refl, string_bytes, subst, arith}
-use Rattle.st_outside.specs.Runs.{LeavesOnly, NarrowsBut, Spares}
-use Rattle.st_outside.proofs.Joining.{narrows_join, alike_join, makes_then}
-use Rattle.st_outside.proofs.Touching.{narrows_but, changes_join, spares_none, changes_spare}
+use Rattle.st_host.specs.Runs.{LeavesOnly, NarrowsBut, Spares}
+use Rattle.st_host.proofs.Joining.{narrows_join, alike_join, makes_then}
+use Rattle.st_host.proofs.Touching.{narrows_but, changes_join, spares_none, changes_spare}
 use Rattle.st_store.specs.Names.{roots_file, IsNoFileOf}
 use Rattle.st_store.specs.Roots.{IsFresh}
 use Rattle.st_store.specs.Refusals.{RefusesFront, Refuses}

@@ -1,6 +1,6 @@
 use Rattle.std.proofs.Common.{◌≡◌, ◌-◌, ◌∙◌, length, string_bytes, sym, ap, subst}
-use Rattle.st_outside.proofs.Joining.{on_err}
-use Rattle.st_outside.proofs.Touching.{write_changes}
+use Rattle.st_host.proofs.Joining.{on_err}
+use Rattle.st_host.proofs.Touching.{write_changes}
 use Rattle.st_store.specs.Names.{roots_file}
 use Rattle.st_store.specs.Roots.{root_bytes, place, Fits}
 use Rattle.st_store.proofs.Turning.{staging, staged, rests, writes_as, written_as, synced_as}

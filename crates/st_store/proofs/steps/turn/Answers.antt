@@ -1,7 +1,7 @@
 use Rattle.std.proofs.Common.{◌∙◌, ℕ, [], ◌∷◌, refl, string_bytes, ap}
-use Rattle.st_outside.proofs.Joining.{on_err}
-use Rattle.st_outside.proofs.Touching.{write_changes}
-use Rattle.st_outside.specs.Files.{bytes_of}
+use Rattle.st_host.proofs.Joining.{on_err}
+use Rattle.st_host.proofs.Touching.{write_changes}
+use Rattle.st_host.specs.Files.{bytes_of}
 use Rattle.st_store.specs.Names.{roots_file}
 use Rattle.st_store.specs.Roots.{place, root_at}
 use Rattle.st_store.proofs.Turning.{turning, turned, rests, writes_as, written_as, synced_as}

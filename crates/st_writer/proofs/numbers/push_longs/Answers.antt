@@ -2,7 +2,7 @@ use Rattle.std.proofs.Common.{◌∙◌, [], ◌∷◌, take, get_or, ap, arith}
 use Rattle.std.specs.List.{flat_map}
 use Rattle.std.proofs.lemmas.Grind.{flat_map-append}
 use Rattle.std.proofs.lemmas.List.{take_more}
-use Rattle.st_outside.proofs.Pushing.{push_none, push_then, push_cut}
+use Rattle.st_host.proofs.Pushing.{push_none, push_then, push_cut}
 use Rattle.st_writer.specs.Written.{long_bytes}
 use Rattle.st_writer.proofs.numbers.push_longs.Goals as goal
 

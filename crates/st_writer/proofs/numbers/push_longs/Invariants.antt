@@ -1,7 +1,7 @@
 use Rattle.std.proofs.Common.{◌≡◌, ◌+◌, ◌*◌, take, Ok}
 use Rattle.std.specs.List.{flat_map}
-use Rattle.st_outside.specs.declared.host.HostFault.{HostFault}
-use Rattle.st_outside.specs.Pieces.{end_of, Pushes}
+use Rattle.st_host.specs.declared.host.HostFault.{HostFault}
+use Rattle.st_host.specs.Pieces.{end_of, Pushes}
 use Rattle.st_writer.specs.Written.{long_bytes}
 use Rattle.st_writer.proofs.numbers.push_longs.Given as goal
 

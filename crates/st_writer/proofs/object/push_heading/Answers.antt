@@ -1,7 +1,7 @@
 use Rattle.std.proofs.Common.{◌≡◌, ◌*◌, ◌++◌, sym}
 use Rattle.st_model.specs.Values.{value}
 use Rattle.st_model.specs.View.{object_of}
-use Rattle.st_outside.proofs.Pushing.{push_then}
+use Rattle.st_host.proofs.Pushing.{push_then}
 use Rattle.st_writer.specs.Written.{word_bytes}
 use Rattle.st_writer.proofs.Places.{pointer_word}
 use Rattle.st_writer.proofs.object.push_heading.Goals as goal

@@ -5,7 +5,7 @@ use Rattle.st_memory.proofs.Bodies.{most_units}
 use Rattle.st_model.specs.Objects.{words_of}
 use Rattle.st_model.specs.Values.{value}
 use Rattle.st_model.specs.View.{object_of}
-use Rattle.st_outside.proofs.Pushing.{push_then, push_cut}
+use Rattle.st_host.proofs.Pushing.{push_then, push_cut}
 use Rattle.st_writer.specs.Written.{word_bytes, word_of, unit_bytes}
 use Rattle.st_writer.proofs.Bytes.{length-words}
 use Rattle.st_writer.proofs.object.push_object.Goals as goal

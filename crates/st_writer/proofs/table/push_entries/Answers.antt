@@ -1,6 +1,6 @@
 use Rattle.std.proofs.Common.{◌≡◌, ◌+◌, suc, ℕ, sym, ap, ◌∙◌, ◌++◌, arith}
 use Rattle.st_model.specs.Table.{entry}
-use Rattle.st_outside.proofs.Pushing.{push_none, push_then, push_cut}
+use Rattle.st_host.proofs.Pushing.{push_none, push_then, push_cut}
 use Rattle.st_writer.specs.Written.{entry_bytes, entries_below, words_below, words_at}
 use Rattle.st_writer.proofs.Bytes.{joined_next}
 use Rattle.st_writer.proofs.Placing.{length-entry}

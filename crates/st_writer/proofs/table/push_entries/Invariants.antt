@@ -1,6 +1,6 @@
 use Rattle.std.proofs.Common.{◌≡◌, ◌+◌, ◌*◌, ◌≤◌, Ok}
-use Rattle.st_outside.specs.declared.host.HostFault.{HostFault}
-use Rattle.st_outside.specs.Pieces.{end_of, Pushes}
+use Rattle.st_host.specs.declared.host.HostFault.{HostFault}
+use Rattle.st_host.specs.Pieces.{end_of, Pushes}
 use Rattle.st_writer.specs.Written.{entries_below, words_below}
 use Rattle.st_writer.proofs.table.push_entries.Given as goal
 

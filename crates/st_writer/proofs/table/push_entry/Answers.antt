@@ -4,7 +4,7 @@ use Rattle.st_model.specs.Objects.{Object}
 use Rattle.st_model.specs.Values.{value}
 use Rattle.st_model.specs.Table.{entry}
 use Rattle.st_model.specs.View.{object_of}
-use Rattle.st_outside.proofs.Pushing.{push_then}
+use Rattle.st_host.proofs.Pushing.{push_then}
 use Rattle.st_writer.specs.Written.{word_bytes, long_bytes, entry_bytes}
 use Rattle.st_writer.proofs.Places.{there, absent}
 use Rattle.st_writer.proofs.table.push_entry.Goals as goal

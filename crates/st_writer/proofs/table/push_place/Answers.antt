@@ -1,8 +1,8 @@
 use Rattle.std.proofs.Common.{sym, ap, ◌∙◌, subst, ℕ, List, Ok}
-use Rattle.st_outside.specs.declared.host.HostFault.{HostFault}
+use Rattle.st_host.specs.declared.host.HostFault.{HostFault}
 use Rattle.st_model.specs.Values.{value}
-use Rattle.st_outside.specs.Pieces.{Pushes}
-use Rattle.st_outside.proofs.Pushing.{push_none}
+use Rattle.st_host.specs.Pieces.{Pushes}
+use Rattle.st_host.proofs.Pushing.{push_none}
 use Rattle.st_writer.specs.Written.{bytes_at}
 use Rattle.st_writer.proofs.Places.{there, absent}
 use Rattle.st_writer.proofs.table.push_place.Goals as goal

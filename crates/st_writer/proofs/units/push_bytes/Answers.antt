@@ -3,7 +3,7 @@ use Rattle.std.specs.Prelude.{slice_get}
 use Rattle.st_memory.proofs.Bodies.{most_units}
 use Rattle.st_model.specs.Values.{value}
 use Rattle.st_model.specs.View.{object_of}
-use Rattle.st_outside.proofs.Pushing.{push_none, push_then, push_cut}
+use Rattle.st_host.proofs.Pushing.{push_none, push_then, push_cut}
 use Rattle.st_writer.proofs.Places.{bytes_more}
 use Rattle.st_writer.proofs.units.push_bytes.Goals as goal
 

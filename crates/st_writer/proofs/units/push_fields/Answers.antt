@@ -2,7 +2,7 @@ use Rattle.std.proofs.Common.{take, map, arith}
 use Rattle.std.specs.List.{flat_map}
 use Rattle.st_model.specs.Values.{value}
 use Rattle.st_model.specs.View.{object_of}
-use Rattle.st_outside.proofs.Pushing.{push_none, push_then, push_cut}
+use Rattle.st_host.proofs.Pushing.{push_none, push_then, push_cut}
 use Rattle.st_writer.specs.Written.{word_bytes, word_of}
 use Rattle.st_writer.proofs.Places.{fields_more}
 use Rattle.st_writer.proofs.units.push_fields.Goals as goal

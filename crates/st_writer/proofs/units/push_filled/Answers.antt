@@ -1,7 +1,7 @@
 use Rattle.std.proofs.Common.{ℕ, ◌++◌, sym, ap}
 use Rattle.st_model.specs.Values.{value}
 use Rattle.st_model.specs.View.{object_of}
-use Rattle.st_outside.proofs.Pushing.{push_then}
+use Rattle.st_host.proofs.Pushing.{push_then}
 use Rattle.st_writer.specs.Written.{filler}
 use Rattle.st_writer.proofs.units.push_filled.Goals as goal
 

@@ -1,6 +1,6 @@
 use Rattle.std.proofs.Common.{◌≡◌, ◌%◌, ◌==◌, false}
 use Rattle.std.proofs.lemmas.Bool.{ne_eqb}
-use Rattle.st_outside.proofs.Pushing.{push_none}
+use Rattle.st_host.proofs.Pushing.{push_none}
 use Rattle.st_writer.proofs.units.push_filler.Goals as goal
 
 pub returns-else-count-eq1 : goal.returns-else-count-eq1

@@ -2,7 +2,7 @@ use Rattle.std.proofs.Common.{sym, ap, ◌∙◌}
 use Rattle.st_model.specs.declared.kind.Kind.{Kind}
 use Rattle.st_model.specs.Values.{value}
 use Rattle.st_model.specs.View.{object_of}
-use Rattle.st_outside.proofs.Pushing.{push_none}
+use Rattle.st_host.proofs.Pushing.{push_none}
 use Rattle.st_writer.specs.Written.{unit_bytes}
 use Rattle.st_writer.proofs.units.push_units.Goals as goal
 

@@ -1,9 +1,9 @@
 use Rattle.std.proofs.Common.{◌≡◌, ◌+◌, ◌*◌, take, Ok}
 use Rattle.std.specs.List.{flat_map}
-use Rattle.st_outside.specs.declared.host.HostFault.{HostFault}
+use Rattle.st_host.specs.declared.host.HostFault.{HostFault}
 use Rattle.st_model.specs.Values.{value}
 use Rattle.st_model.specs.View.{object_of}
-use Rattle.st_outside.specs.Pieces.{end_of, Pushes}
+use Rattle.st_host.specs.Pieces.{end_of, Pushes}
 use Rattle.st_writer.specs.Written.{word_bytes}
 use Rattle.st_writer.proofs.units.push_words.Given as goal
 

@@ -2,7 +2,7 @@ use Rattle.std.proofs.Common.{◌≡◌, ◌≤◌, ◌+◌, ◌^◌, length-app
 use Rattle.std.specs.Prelude.{All, Option, Some, unwrap_or}
 use Rattle.std.proofs.lemmas.List.{map-append}
 use Rattle.st_store.specs.declared.root.Root.{Root}
-use Rattle.st_outside.proofs.Joining.{makes_then, makes_failed, makes_of}
+use Rattle.st_host.proofs.Joining.{makes_then, makes_failed, makes_of}
 use Rattle.st_store.specs.Stored.{Opens, IsFirm}
 use Rattle.st_chunk.specs.Definitions.{Definition, IsDefinition, entry, entries}
 use Rattle.st_changes.specs.Views.{definition_of, definitions_of}

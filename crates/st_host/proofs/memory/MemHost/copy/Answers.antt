@@ -1,5 +1,5 @@
 use Rattle.std.proofs.Common.{◌∙◌}
-use Rattle.st_outside.specs.Files.{bytes_of}
+use Rattle.st_host.specs.Files.{bytes_of}
 use Rattle.st_host.specs.Deeds.{files_after}
 use Rattle.st_host.proofs.Replaying.{copied_done, written_over}
 use Rattle.st_host.proofs.memory.MemHost.copy.Goals as goal

@@ -1,5 +1,5 @@
 use Rattle.std.proofs.Common.{◌≡◌, ◌-◌, ℕ, List, Option, subst, ap, ◌∙◌}
-use Rattle.st_outside.specs.Files.{bytes_of, IsRead}
+use Rattle.st_host.specs.Files.{bytes_of, IsRead}
 use Rattle.st_host.specs.Deeds.{files_after}
 use Rattle.st_host.specs.HostState.{HostState}
 use Rattle.st_host.proofs.Windows.{window_read, length_is}

@@ -1,6 +1,6 @@
 use Rattle.std.proofs.Common.{◌≡◌, ℕ, List, [], ◌∷◌, ◌++◌, refl, sym, subst, ap, ◌∙◌, true≢false}
 use Rattle.std.specs.Prelude.{Ok, Err}
-use Rattle.st_outside.specs.Runs.{ChangesBoth}
+use Rattle.st_host.specs.Runs.{ChangesBoth}
 use Rattle.st_chunk.specs.Definitions.{Definition, IsDefinition}
 use Rattle.st_chunk.specs.ScriptDefinitions.{definition_of}
 use Rattle.st_store.specs.Names.{changes_file, roots_file, IsNoFileOf}

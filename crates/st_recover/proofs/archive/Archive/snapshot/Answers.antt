@@ -1,6 +1,6 @@
 use Rattle.std.proofs.Common.{◌≡◌, ◌-◌, length, Some, refl, sym, ap, ◌∙◌}
 use Rattle.std.specs.Prelude.{Ok}
-use Rattle.st_outside.proofs.Joining.{makes_of}
+use Rattle.st_host.proofs.Joining.{makes_of}
 use Rattle.st_store.specs.Stored.{Opens}
 use Rattle.st_store.specs.declared.root.Root.{Root}
 use Rattle.st_recover.specs.Archives.{ArchiveState}

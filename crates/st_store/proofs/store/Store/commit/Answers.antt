@@ -1,6 +1,6 @@
 use Rattle.std.proofs.Common.{refl, string_bytes, sym, ap, subst, lit<}
-use Rattle.st_outside.specs.Runs.{Makes}
-use Rattle.st_outside.proofs.Joining.{makes_then, makes_failed, makes_of}
+use Rattle.st_host.specs.Runs.{Makes}
+use Rattle.st_host.proofs.Joining.{makes_then, makes_failed, makes_of}
 use Rattle.st_store.specs.Stored.{StoreState, Opens, IsFirm, IsChosen}
 use Rattle.st_store.proofs.Turning.{makes_as}
 use Rattle.st_store.proofs.store.Store.commit.Goals as goal
