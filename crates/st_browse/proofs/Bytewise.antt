@@ -12,7 +12,7 @@ use Rattle.st_model.specs.Table.{Table}
 use Rattle.st_names.specs.Tables.{is_text}
 use Rattle.st_names.specs.Texts.{text_at}
 use Rattle.st_model.specs.View.{View, IsWhole, object_of}
-use Rattle.st_report.proofs.Escaping.{first_none, size_is, unit_is}
+use Rattle.st_call.proofs.Escaping.{first_none, size_is, unit_is}
 use Rattle.st_browse.specs.Naming.{compared}
 use Rattle.st_browse.specs.Entries.{IsName}
 

@@ -5,17 +5,17 @@ ghost use Rattle.std.specs.List.{list_any};
 ghost use Rattle.st_model.specs.Values.{value};
 ghost use Rattle.st_model.specs.Text.{numbers_text};
 ghost use Rattle.st_model.specs.View.{object_of};
-ghost use Rattle.st_report.specs.Saying.{Pushes};
+ghost use Rattle.st_call.specs.Saying.{Pushes};
 ghost use Rattle.st_browse.specs.Cutting.{code_length, codes_of};
 ghost use Rattle.st_browse.specs.Methods.{has_method};
 ghost use Rattle.st_browse.specs.Replies.{code_line, codes_text};
 ghost use Rattle.st_browse.specs.Senders.{is_special};
 ghost use Rattle.st_browse.specs.Entries.{IsBody};
 
+use st_call::{Output, push_number};
 use st_host::{Host, SayFault};
 use st_memory::{Memory, count_fields, count_units, unit_at};
 use st_model::{Kind, Oop};
-use st_report::{Output, push_number};
 
 /// The code of the first special send.
 const FIRST_SPECIAL: u32 = 176;

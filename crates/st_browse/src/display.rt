@@ -7,15 +7,15 @@ ghost use Rattle.st_model.specs.BitBlt.{fetch_positive, fetch_words};
 ghost use Rattle.st_model.specs.Pixels.{row_words};
 ghost use Rattle.st_model.specs.Table.{table};
 ghost use Rattle.st_model.specs.Text.{hexadecimal};
-ghost use Rattle.st_report.specs.Saying.{Pushes};
+ghost use Rattle.st_call.specs.Saying.{Pushes};
 ghost use Rattle.st_browse.specs.Display.{answer_in, form_at, form_text, if_held, row_line, row_of, rows_text, word_text};
 ghost use Rattle.st_browse.specs.Shown.{HasWords, IsForm, form_in, words_in};
 
 use crate::fields::field_at;
+use st_call::{Output, push_line};
 use st_host::{Host, SayFault};
 use st_memory::Memory;
 use st_model::{Kind, Oop, RootPlace};
-use st_report::{Output, push_line};
 
 /// A Form.
 #[derive(Clone, Copy)]

@@ -3,7 +3,7 @@
 ghost use Rattle.std.specs.Prelude.{◌≡◌, ◌≤◌, ◌∷◌, [], length};
 ghost use Rattle.std.specs.List.{filter};
 ghost use Rattle.st_model.specs.Values.{value};
-ghost use Rattle.st_report.specs.Saying.{Pushes};
+ghost use Rattle.st_call.specs.Saying.{Pushes};
 ghost use Rattle.st_browse.specs.Listing.{is_chosen, lines_text, listed};
 ghost use Rattle.st_browse.specs.Entries.{IsLine, IsName, count_of, named_of};
 
@@ -14,9 +14,9 @@ use crate::named::Named;
 use crate::names::Names;
 use crate::places::next_name;
 use crate::sending::sends;
+use st_call::Output;
 use st_host::{Host, SayFault};
 use st_memory::Memory;
-use st_report::Output;
 
 /// Whether a name is chosen.
 fn is_chosen<M: Memory>(m: &M, choice: Choice<'_>, n: Named) -> bool

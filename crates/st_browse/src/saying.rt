@@ -7,7 +7,7 @@ ghost use Rattle.st_model.specs.View.{object_of};
 ghost use Rattle.st_host.specs.Counts.{HasCause};
 ghost use Rattle.st_host.specs.Runs.{SaysAll};
 ghost use Rattle.st_host.specs.Telling.{Says};
-ghost use Rattle.st_report.specs.Saying.{Pushes};
+ghost use Rattle.st_call.specs.Saying.{Pushes};
 ghost use Rattle.st_chunk.specs.Asks.{ask_of};
 ghost use Rattle.st_browse.specs.Naming.{in_order};
 ghost use Rattle.st_browse.specs.Classes.{is_class};
@@ -26,11 +26,11 @@ use crate::names::Names;
 use crate::senders::{count_senders, push_senders};
 use crate::sought::{Sought, seek};
 use crate::source::push_source;
+use st_call::{Output, push_long_line, push_object};
 use st_changes::Changes;
 use st_chunk::Ask;
 use st_host::{Host, SayFault};
 use st_memory::Memory;
-use st_report::{Output, push_long_line, push_object};
 
 /// Adds how many names are chosen, and the line of each.
 fn push_names<H: Host, M: Memory>(

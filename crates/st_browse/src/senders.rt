@@ -4,7 +4,7 @@ ghost use Rattle.std.specs.Prelude.{◌≡◌, ◌≤◌, ◌+◌, ◌∷◌, []
 ghost use Rattle.std.specs.List.{filter, flat_map};
 ghost use Rattle.st_model.specs.Values.{value};
 ghost use Rattle.st_model.specs.View.{is_live};
-ghost use Rattle.st_report.specs.Saying.{Pushes};
+ghost use Rattle.st_call.specs.Saying.{Pushes};
 ghost use Rattle.st_browse.specs.Naming.{in_order};
 ghost use Rattle.st_browse.specs.Classes.{is_class, on_side};
 ghost use Rattle.st_browse.specs.Senders.{senders};
@@ -19,10 +19,10 @@ use crate::methods::methods_of;
 use crate::named::Named;
 use crate::names::Names;
 use crate::places::next_name;
+use st_call::Output;
 use st_host::{Host, SayFault};
 use st_memory::Memory;
 use st_model::Oop;
-use st_report::Output;
 
 /// How many methods on one side of a class send a selector.
 fn count_side<M: Memory>(m: &M, class: Oop, meta: bool, selector: &[u8]) -> u32

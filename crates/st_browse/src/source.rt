@@ -2,11 +2,11 @@
 
 ghost use Rattle.std.specs.Prelude.{◌≡◌, length};
 ghost use Rattle.std.specs.List.{flat_map};
-ghost use Rattle.st_report.specs.Saying.{Pushes};
+ghost use Rattle.st_call.specs.Saying.{Pushes};
 ghost use Rattle.st_browse.specs.Sources.{lines_of, source_byte, source_text};
 
+use st_call::{Output, push_escaped, push_long_line};
 use st_host::{Host, SayFault};
-use st_report::{Output, push_escaped, push_long_line};
 
 /// How many lines a text has.
 fn count_lines(text: &[u8]) -> usize

@@ -2,3 +2,6 @@ pub mod Digits
 pub mod Saying
 mod Spoken
 pub mod Started
+pub mod Escaping
+pub mod Listing
+pub mod Pushing

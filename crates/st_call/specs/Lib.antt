@@ -6,3 +6,4 @@ pub mod Words
 pub mod CommandViews
 pub mod LastLines
 pub mod Refusals
+pub mod Saying

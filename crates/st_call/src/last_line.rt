@@ -2,13 +2,14 @@ ghost use Rattle.std.specs.Prelude.{◌≡◌, OnOk};
 ghost use Rattle.st_host.specs.Counts.{HasCause};
 ghost use Rattle.st_host.specs.Runs.{ReadsAlike, ReadsAndSays, SaysAll};
 ghost use Rattle.st_host.specs.Telling.{Says};
-ghost use Rattle.st_report.specs.Saying.{Pushes};
+ghost use Rattle.st_call.specs.Saying.{Pushes};
 ghost use Rattle.st_call.specs.LastLines.{fault_line, place_line, store_line, last_line, SaysLastLine};
 
+use crate::lines::{push_line, push_long_line};
+use crate::output::Output;
 use st_host::{Host, SayFault};
 use st_model::ImageFault;
 use st_protocol::Status;
-use st_report::{Output, push_line, push_long_line};
 use st_store::{StoreFault, StorePlace};
 
 /// Adds the line of an image's fault: its row, then its pointer, and its second pointer or its index.

@@ -1,12 +1,13 @@
-ghost use Rattle.st_report.specs.Saying.{Pushes};
+ghost use Rattle.st_call.specs.Saying.{Pushes};
 ghost use Rattle.st_call.specs.Lines.{reply_text};
 ghost use Rattle.st_call.specs.Replies.{accepted_line, refused_text, side_text, why_text};
 ghost use Rattle.st_call.specs.Telling.{Tells};
 
+use crate::lines::{push_line, push_long_line};
+use crate::output::Output;
 use st_host::{Host, SayFault};
 use st_model::Dead;
 use st_protocol::{Refusal, Status};
-use st_report::{Output, push_line, push_long_line};
 
 /// A line that a session says, which shows nothing of the machine's objects.
 #[derive(Clone, Copy)]

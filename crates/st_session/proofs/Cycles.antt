@@ -19,8 +19,8 @@ use Rattle.st_model.specs.Text.{ran_text, dead_text, space_text, quit_text, debu
 use Rattle.st_host.specs.declared.host.Host.{Ghosts}
 use Rattle.st_host.specs.declared.host.SayFault.{SayFault}
 use Rattle.st_host.proofs.Telling.{OnlyNow}
-use Rattle.st_report.specs.Saying.{Pushes, said_in}
-use Rattle.st_report.proofs.Pushing.{push_none, push_then, push_begun, push_as}
+use Rattle.st_call.specs.Saying.{Pushes, said_in}
+use Rattle.st_call.proofs.Pushing.{push_none, push_then, push_begun, push_as}
 use Rattle.st_machine.specs.declared.ending.RunEnd.{RunEnd}
 use Rattle.st_machine.specs.declared.ending.RunEnd.TheVariants as end
 use Rattle.st_machine.specs.Runs.{EndsAs, cycles_of, transition_at, death_of}

@@ -12,7 +12,7 @@ use Rattle.st_model.specs.Show.{Shows}
 use Rattle.st_model.specs.Text.{dead_text}
 use Rattle.st_host.specs.declared.host.Host.{Ghosts}
 use Rattle.st_host.specs.declared.host.SayFault.{SayFault}
-use Rattle.st_report.specs.Saying.{Pushes}
+use Rattle.st_call.specs.Saying.{Pushes}
 use Rattle.st_machine.specs.Asked.{TakenAs}
 use Rattle.st_chunk.specs.declared.request.Request.{Request}
 use Rattle.st_chunk.specs.declared.request.Request.TheVariants as request

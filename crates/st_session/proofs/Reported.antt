@@ -16,8 +16,8 @@ use Rattle.st_protocol.proofs.Courses.{said_of_both, deeds_preceded}
 use Rattle.st_host.specs.declared.host.Host.{Ghosts}
 use Rattle.st_host.specs.declared.host.SayFault.{SayFault}
 use Rattle.st_host.specs.Runs.{SaysAll}
-use Rattle.st_report.specs.Saying.{Pushes}
-use Rattle.st_report.proofs.Pushing.{push_then, push_begun, push_as, pushed_all}
+use Rattle.st_call.specs.Saying.{Pushes}
+use Rattle.st_call.proofs.Pushing.{push_then, push_begun, push_as, pushed_all}
 use Rattle.st_session.specs.Points.{Being, Alive, Gone, Point}
 use Rattle.st_session.specs.Keeping.{keeps_nothing}
 use Rattle.st_session.specs.Answers.{cycle_course, run_course}

@@ -13,8 +13,8 @@ use Rattle.st_host.specs.Telling.{Says}
 use Rattle.st_host.proofs.Joining.{all_join}
 use Rattle.st_host.proofs.Rising.{rose_second}
 use Rattle.st_host.proofs.Telling.{says_then}
-use Rattle.st_report.specs.Saying.{Pushes}
-use Rattle.st_report.proofs.Pushing.{pushed_all, pushed_says, pushed_part}
+use Rattle.st_call.specs.Saying.{Pushes}
+use Rattle.st_call.proofs.Pushing.{pushed_all, pushed_says, pushed_part}
 use Rattle.st_protocol.specs.declared.status.Status.{Status}
 use Rattle.st_protocol.specs.declared.status.Status.TheVariants as status
 use Rattle.st_protocol.specs.Courses.{Course, Goes, Ends, deeds_of, said_of, commits_of, last_of, replies}

@@ -13,8 +13,8 @@ use Rattle.st_model.specs.Text.{said_value}
 use Rattle.st_host.specs.declared.host.Host.{Ghosts}
 use Rattle.st_host.specs.declared.host.SayFault.{SayFault}
 use Rattle.st_host.proofs.Telling.{OnlyNow}
-use Rattle.st_report.specs.Saying.{Pushes}
-use Rattle.st_report.proofs.Pushing.{push_none, push_then, push_begun, push_as}
+use Rattle.st_call.specs.Saying.{Pushes}
+use Rattle.st_call.proofs.Pushing.{push_none, push_then, push_begun, push_as}
 use Rattle.st_protocol.specs.Courses.{Deed, Reply, Keep, Course, Goes, Ends, deeds_of, said_of, commits_of, preceded, and_then, replies}
 use Rattle.st_protocol.proofs.Courses.{said_of_both, preceded_none, preceded_both, deeds_preceded}
 use Rattle.st_session.specs.Points.{Being, Alive, Gone, Point, alive}

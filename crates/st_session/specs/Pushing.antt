@@ -1,7 +1,7 @@
 -- That a call adds what a course says to what is still to be said.
 use Rattle.std.specs.Prelude.{ℕ, List, Result, OnOk}
 use Rattle.st_host.specs.declared.host.Host.{Ghosts}
-use Rattle.st_report.specs.Saying.{Pushes}
+use Rattle.st_call.specs.Saying.{Pushes}
 use Rattle.st_protocol.specs.Courses.{Course, Goes, Ends, deeds_of, said_of}
 
 -- the course leads somewhere, of which this holds

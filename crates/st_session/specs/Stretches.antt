@@ -11,7 +11,7 @@ use Rattle.st_model.specs.Cycles.{cycle}
 use Rattle.st_model.specs.Table.{Table}
 use Rattle.st_model.specs.Show.{Shows}
 use Rattle.st_model.specs.Text.{ran_text, dead_text, space_text, quit_text, debugger_text, said_value}
-use Rattle.st_report.specs.Saying.{Pushes}
+use Rattle.st_call.specs.Saying.{Pushes}
 use Rattle.st_session.specs.Points.{Being, Alive, Gone}
 use Rattle.st_session.specs.Standing.{IsBeing}
 use Rattle.st_call.specs.Telling.{Tells}

@@ -6,7 +6,7 @@ ghost use Rattle.st_model.specs.Events.{event};
 ghost use Rattle.st_model.specs.Show.{Shows};
 ghost use Rattle.st_frames.specs.Shown.{IsReady};
 ghost use Rattle.st_input.specs.Coming.{HasPlace};
-ghost use Rattle.st_report.specs.Saying.{Pushes};
+ghost use Rattle.st_call.specs.Saying.{Pushes};
 ghost use Rattle.st_chunk.specs.Lines.{IsInRange};
 ghost use Rattle.st_protocol.specs.Statuses.{Counts};
 ghost use Rattle.st_recover.specs.Commits.{Commit};
@@ -19,7 +19,7 @@ ghost use Rattle.st_call.specs.Replies.{machine_text};
 ghost use Rattle.st_session.specs.Standing.{MayRun, MayGoOn, Follows, StandsAt, shown_by};
 
 use crate::saving::{run, snapshot};
-use st_call::{Reply, finish, say_reply};
+use st_call::{Output, Reply, finish, push_held, push_input, push_registers, push_used, say_reply};
 use st_chunk::Request;
 use st_host::{Host, SayFault};
 use st_machine::Machine;
@@ -27,7 +27,6 @@ use st_memory::Memory;
 use st_model::{Dead, Event, InputFull};
 use st_protocol::Status;
 use st_recover::Archive;
-use st_report::{Output, push_held, push_input, push_registers, push_used};
 
 /// Has an event come, and adds whether it did.
 fn push_event<H: Host, M: Memory>(

@@ -18,13 +18,12 @@ use crate::opening_refusal::opening_status;
 use crate::reading::serve;
 use crate::report::push_report;
 use crate::starting::start;
-use st_call::refuse;
+use st_call::{Output, refuse};
 use st_host::{Host, SayFault, Source};
 use st_machine::Machine;
 use st_memory::{Loader, Memory};
 use st_protocol::Status;
 use st_recover::reopen;
-use st_report::Output;
 use std::alloc::Global;
 
 /// Runs cycles of a machine that was just booted, and says what is said of them, and how they end.

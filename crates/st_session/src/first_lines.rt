@@ -2,16 +2,15 @@
 
 ghost use Rattle.std.specs.Prelude.{◌<◌, ◌^◌, length};
 ghost use Rattle.std.specs.List.{flat_map};
-ghost use Rattle.st_report.specs.Saying.{Pushes};
+ghost use Rattle.st_call.specs.Saying.{Pushes};
 ghost use Rattle.st_recover.specs.Replays.{loss_of, losses_of};
 ghost use Rattle.st_call.specs.Telling.{Tells};
 ghost use Rattle.st_session.specs.FirstLines.{lost_text, opening_text};
 
-use st_call::{finish, push_why};
+use st_call::{Output, finish, push_line, push_number, push_why};
 use st_host::{Host, SayFault};
 use st_protocol::Status;
 use st_recover::Lost;
-use st_report::{Output, push_line, push_number};
 
 /// Adds the line of a definition that was lost when the store was opened.
 fn push_lost<H: Host>(out: &mut Output, host: &mut H, lost: &Lost) -> Result<(), SayFault>

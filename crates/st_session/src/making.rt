@@ -5,16 +5,15 @@ ghost use Rattle.st_host.specs.Counts.{HasCause};
 ghost use Rattle.st_host.specs.Runs.{SaysAll};
 ghost use Rattle.st_host.specs.Telling.{Says};
 ghost use Rattle.st_image.specs.Back.{CanStart};
-ghost use Rattle.st_report.specs.Saying.{Pushes};
+ghost use Rattle.st_call.specs.Saying.{Pushes};
 ghost use Rattle.st_protocol.specs.Statuses.{StatusHasCause};
 ghost use Rattle.st_session.specs.Makings.{contents_in, made_word, made_text, MakingEnds};
 
-use st_call::{refuse, store_status};
+use st_call::{Output, push_line, refuse, store_status};
 use st_host::{Host, SayFault};
 use st_memory::Memory;
 use st_protocol::Status;
 use st_recover::create;
-use st_report::{Output, push_line};
 use std::alloc::Global;
 
 /// What the image of a new store comes from.

@@ -4,15 +4,15 @@ ghost use Rattle.st_model.specs.Births.{Births};
 ghost use Rattle.st_model.specs.Show.{Shows};
 ghost use Rattle.st_model.specs.Text.{state_text};
 ghost use Rattle.st_frames.specs.Shown.{IsReady};
-ghost use Rattle.st_report.specs.Saying.{Pushes};
+ghost use Rattle.st_call.specs.Saying.{Pushes};
 ghost use Rattle.st_session.specs.Standing.{MayRun, shown_by};
 ghost use Rattle.st_session.specs.Reports.{text_of, run_text};
 
 use crate::running::push_run;
+use st_call::{Output, push_state};
 use st_host::{Host, SayFault};
 use st_machine::Machine;
 use st_memory::Memory;
-use st_report::{Output, push_state};
 
 /// Adds what a machine shows, where it isn't dead.
 fn push_shown<H: Host, M: Memory>(

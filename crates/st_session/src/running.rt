@@ -3,7 +3,7 @@ ghost use Rattle.st_model.specs.Machine.{State};
 ghost use Rattle.st_model.specs.Births.{Births};
 ghost use Rattle.st_model.specs.Show.{Shows};
 ghost use Rattle.st_frames.specs.Shown.{IsReady};
-ghost use Rattle.st_report.specs.Saying.{Pushes};
+ghost use Rattle.st_call.specs.Saying.{Pushes};
 ghost use Rattle.st_session.specs.Answers.{run_course};
 ghost use Rattle.st_session.specs.Keeping.{keeps_nothing};
 ghost use Rattle.st_session.specs.Pushing.{PushesCourse};
@@ -11,10 +11,10 @@ ghost use Rattle.st_session.specs.Runs.{end_text};
 ghost use Rattle.st_session.specs.Standing.{MayRun, StandsAt, shown_by};
 ghost use Rattle.st_session.specs.Stretches.{PushesStretch, stretch};
 
+use st_call::{Output, push_line, say_at_once};
 use st_host::{Host, SayFault};
 use st_machine::{Machine, RunEnd};
 use st_memory::Memory;
-use st_report::{Output, push_line, say_at_once};
 
 /// Adds the line of a run's end, where so many cycles are finished in all. A snapshot has none, and what is said
 /// neither.

@@ -17,13 +17,12 @@ ghost use Rattle.st_session.specs.Standing.{MayRun, MayGoOn, Follows, shown_by};
 ghost use Rattle.st_session.specs.Stretches.{SaysStretch, stretch, went};
 
 use crate::running::push_stretch;
-use st_call::{Reply, finish, say_reply};
+use st_call::{Output, Reply, finish, say_reply};
 use st_host::{Host, HostFault, SayFault};
 use st_machine::Machine;
 use st_memory::Memory;
 use st_protocol::Status;
 use st_recover::Archive;
-use st_report::Output;
 
 /// Keeps the image of a memory from which a machine can start, and then says its length.
 fn keep_image<H: Host, M: Memory>(host: &mut H, m: &M, archive: &mut Archive) -> Result<(), Status>

@@ -4,7 +4,7 @@ use Rattle.std.specs.Fmt.{decimal}
 use Rattle.st_model.specs.Values.{value}
 use Rattle.st_model.specs.View.{object_of}
 use Rattle.st_model.specs.Text.{numbers_text}
-use Rattle.st_report.proofs.Pushing.{push_none, push_next, push_stopped, push_as}
+use Rattle.st_call.proofs.Pushing.{push_none, push_next, push_stopped, push_as}
 use Rattle.st_browse.proofs.Parting.{unit_of, taken_all}
 use Rattle.st_browse.proofs.codes.push_units.Goals as goal
 

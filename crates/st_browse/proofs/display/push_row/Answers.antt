@@ -2,7 +2,7 @@ use Rattle.std.proofs.Common.{◌*◌, take, drop, ap}
 use Rattle.std.specs.Prelude.{codes}
 use Rattle.std.specs.List.{flat_map}
 use Rattle.st_model.specs.Values.{value}
-use Rattle.st_report.proofs.Pushing.{push_then, push_begun, push_as}
+use Rattle.st_call.proofs.Pushing.{push_then, push_begun, push_as}
 use Rattle.st_browse.specs.Display.{word_text}
 use Rattle.st_browse.specs.Shown.{words_in}
 use Rattle.st_browse.proofs.display.push_row.Goals as goal

@@ -1,4 +1,4 @@
-use Rattle.st_report.proofs.Pushing.{push_then, push_begun}
+use Rattle.st_call.proofs.Pushing.{push_then, push_begun}
 use Rattle.st_browse.proofs.line.push_name_line.Goals as goal
 
 pub returns-in_err-push : goal.returns-in_err-push

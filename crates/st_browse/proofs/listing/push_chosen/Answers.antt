@@ -1,4 +1,4 @@
-use Rattle.st_report.proofs.Pushing.{push_none, push_as}
+use Rattle.st_call.proofs.Pushing.{push_none, push_as}
 use Rattle.st_browse.specs.Listing.{is_chosen, line_text}
 use Rattle.st_browse.specs.Entries.{named_of}
 use Rattle.st_browse.proofs.Going.{none_chosen}

@@ -1,5 +1,5 @@
 use Rattle.std.proofs.Common.{◌∙◌, ap}
-use Rattle.st_report.proofs.Pushing.{push_then, push_begun, push_as}
+use Rattle.st_call.proofs.Pushing.{push_then, push_begun, push_as}
 use Rattle.st_browse.specs.Replies.{count_text}
 use Rattle.st_browse.proofs.saying.push_names.Goals as goal
 

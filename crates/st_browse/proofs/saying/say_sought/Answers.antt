@@ -1,4 +1,4 @@
-use Rattle.st_report.proofs.Pushing.{pushed_says, pushed_part}
+use Rattle.st_call.proofs.Pushing.{pushed_says, pushed_part}
 use Rattle.st_browse.proofs.saying.say_sought.Goals as goal
 
 pub returns-in_err-push_sought-clause-says : goal.returns-in_err-push_sought-clause-says

@@ -1,4 +1,4 @@
-use Rattle.st_report.proofs.Pushing.{push_then, push_begun}
+use Rattle.st_call.proofs.Pushing.{push_then, push_begun}
 use Rattle.st_browse.proofs.senders.push_both.Goals as goal
 
 pub returns-in_err-push_side : goal.returns-in_err-push_side

@@ -1,4 +1,4 @@
-use Rattle.st_report.proofs.Pushing.{push_none, push_as}
+use Rattle.st_call.proofs.Pushing.{push_none, push_as}
 use Rattle.st_browse.specs.Classes.{is_class}
 use Rattle.st_browse.specs.Replies.{both_lines}
 use Rattle.st_browse.specs.Entries.{named_of}

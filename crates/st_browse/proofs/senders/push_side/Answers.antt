@@ -1,7 +1,7 @@
 use Rattle.std.proofs.Common.{ap}
 use Rattle.std.specs.List.{flat_map}
 use Rattle.st_model.specs.Values.{value}
-use Rattle.st_report.proofs.Pushing.{push_as}
+use Rattle.st_call.proofs.Pushing.{push_as}
 use Rattle.st_browse.specs.Classes.{on_side}
 use Rattle.st_browse.specs.Replies.{sender_line}
 use Rattle.st_browse.specs.Entries.{name_of}

@@ -1,7 +1,7 @@
 use Rattle.std.proofs.Common.{◌++◌, length, ap, sym}
 use Rattle.std.specs.Prelude.{codes}
 use Rattle.std.specs.List.{flat_map}
-use Rattle.st_report.proofs.Pushing.{push_then, push_begun, push_as}
+use Rattle.st_call.proofs.Pushing.{push_then, push_begun, push_as}
 use Rattle.st_browse.specs.Replies.{count_text}
 use Rattle.st_browse.specs.Sources.{lines_of, source_byte}
 use Rattle.st_browse.proofs.Sourcing.{lines_are}

@@ -1,6 +1,6 @@
 use Rattle.std.proofs.Common.{◌<◌, length, arith}
 use Rattle.std.proofs.lemmas.Option.{slice_get-get_or}
-use Rattle.st_report.proofs.Pushing.{push_none, push_next, push_stopped}
+use Rattle.st_call.proofs.Pushing.{push_none, push_next, push_stopped}
 use Rattle.st_browse.specs.Sources.{source_byte}
 use Rattle.st_browse.proofs.source.push_source_bytes.Goals as goal
 

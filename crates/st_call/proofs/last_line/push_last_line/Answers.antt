@@ -1,5 +1,5 @@
 use Rattle.std.proofs.Common.{◌≡◌, [], ⊎_elim, sym, ap}
-use Rattle.st_report.proofs.Pushing.{push_none, push_as}
+use Rattle.st_call.proofs.Pushing.{push_none, push_as}
 use Rattle.st_call.specs.LastLines.{last_line}
 use Rattle.st_call.proofs.last_line.push_last_line.Goals as goal
 

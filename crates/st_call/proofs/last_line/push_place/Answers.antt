@@ -1,5 +1,5 @@
 use Rattle.std.proofs.Common.{sym, ap}
-use Rattle.st_report.proofs.Pushing.{push_as}
+use Rattle.st_call.proofs.Pushing.{push_as}
 use Rattle.st_call.specs.LastLines.{place_line}
 use Rattle.st_call.proofs.last_line.push_place.Goals as goal
 

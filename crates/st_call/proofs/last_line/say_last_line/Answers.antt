@@ -1,4 +1,4 @@
-use Rattle.st_report.proofs.Pushing.{pushed_says, pushed_part}
+use Rattle.st_call.proofs.Pushing.{pushed_says, pushed_part}
 use Rattle.st_call.proofs.last_line.say_last_line.Goals as goal
 
 pub returns-in_err-push_last_line-clause-says : goal.returns-in_err-push_last_line-clause-says

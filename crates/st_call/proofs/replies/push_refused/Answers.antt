@@ -1,4 +1,4 @@
-use Rattle.st_report.proofs.Pushing.{push_then, push_begun}
+use Rattle.st_call.proofs.Pushing.{push_then, push_begun}
 use Rattle.st_call.proofs.replies.push_refused.Goals as goal
 
 pub returns-in_err-push : goal.returns-in_err-push

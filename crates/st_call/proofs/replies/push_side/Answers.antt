@@ -1,4 +1,4 @@
-use Rattle.st_report.proofs.Pushing.{push_none}
+use Rattle.st_call.proofs.Pushing.{push_none}
 use Rattle.st_call.proofs.replies.push_side.Goals as goal
 
 pub returns-else-meta : goal.returns-else-meta

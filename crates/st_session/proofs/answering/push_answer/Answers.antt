@@ -4,7 +4,7 @@ use Rattle.st_model.specs.Machine.{State}
 use Rattle.st_model.specs.Table.{Table}
 use Rattle.st_model.specs.Show.{show}
 use Rattle.st_model.proofs.Showing.{show_is}
-use Rattle.st_report.proofs.Pushing.{push_as}
+use Rattle.st_call.proofs.Pushing.{push_as}
 use Rattle.st_session.specs.Points.{alive}
 use Rattle.st_call.specs.Replies.{machine_text}
 use Rattle.st_session.specs.Standing.{shown_by, StandsAt}

@@ -2,7 +2,7 @@ use Rattle.std.proofs.Common.{refl}
 use Rattle.st_host.specs.Runs.{SaysAll}
 use Rattle.st_host.proofs.Rising.{cause_after}
 use Rattle.st_model.specs.Text.{state_text}
-use Rattle.st_report.proofs.Pushing.{pushed_says, pushed_part}
+use Rattle.st_call.proofs.Pushing.{pushed_says, pushed_part}
 use Rattle.st_session.specs.Reports.{run_text}
 use Rattle.st_session.proofs.Points.{shown_births}
 use Rattle.st_session.proofs.Reported.{none_said, all_said}

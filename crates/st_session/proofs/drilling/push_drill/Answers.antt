@@ -1,6 +1,6 @@
 use Rattle.std.proofs.Common.{ap}
 use Rattle.st_session.specs.declared.making.Origin.TheVariants.{Kernel}
-use Rattle.st_report.proofs.Pushing.{push_then, push_begun, push_as}
+use Rattle.st_call.proofs.Pushing.{push_then, push_begun, push_as}
 use Rattle.st_session.specs.Drills.{use_text}
 use Rattle.st_session.specs.Makings.{contents_in, made_text}
 use Rattle.st_session.specs.Reports.{run_text}

@@ -1,5 +1,5 @@
 use Rattle.std.proofs.Common.{◌≡◌, Some, sym, ap, ◌∙◌}
-use Rattle.st_report.proofs.Pushing.{push_none, push_as}
+use Rattle.st_call.proofs.Pushing.{push_none, push_as}
 use Rattle.st_session.specs.Drills.{use_text}
 use Rattle.st_session.specs.Reports.{text_of}
 use Rattle.st_session.specs.Standing.{shown_by}

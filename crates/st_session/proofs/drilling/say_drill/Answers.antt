@@ -1,7 +1,7 @@
 use Rattle.std.proofs.Common.{refl}
 use Rattle.st_host.specs.Runs.{SaysAll}
 use Rattle.st_host.proofs.Rising.{cause_after}
-use Rattle.st_report.proofs.Pushing.{pushed_says, pushed_part}
+use Rattle.st_call.proofs.Pushing.{pushed_says, pushed_part}
 use Rattle.st_session.specs.Drills.{drill_said}
 use Rattle.st_session.specs.Makings.{contents_in}
 use Rattle.st_session.proofs.Points.{shown_births}

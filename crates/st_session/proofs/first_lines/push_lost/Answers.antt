@@ -1,6 +1,6 @@
 use Rattle.std.proofs.Common.{◌++◌, sym, append-nil}
 use Rattle.std.specs.Prelude.{codes, decimal}
-use Rattle.st_report.proofs.Pushing.{push_then, push_begun, push_as}
+use Rattle.st_call.proofs.Pushing.{push_then, push_begun, push_as}
 use Rattle.st_session.proofs.first_lines.push_lost.Goals as goal
 
 pub returns-in_err-push : goal.returns-in_err-push

@@ -1,6 +1,6 @@
 use Rattle.std.proofs.Common.{◌≡◌, Some, sym, ap, ◌∙◌}
 use Rattle.st_model.specs.Text.{state_text}
-use Rattle.st_report.proofs.Pushing.{push_none, push_as}
+use Rattle.st_call.proofs.Pushing.{push_none, push_as}
 use Rattle.st_session.specs.Reports.{text_of}
 use Rattle.st_session.specs.Standing.{shown_by}
 use Rattle.st_session.proofs.report.push_shown.Goals as goal

@@ -1,5 +1,5 @@
 use Rattle.std.proofs.Common.{◌≡◌, [], ⊎_elim, sym, ap}
-use Rattle.st_report.proofs.Pushing.{push_none, push_as}
+use Rattle.st_call.proofs.Pushing.{push_none, push_as}
 use Rattle.st_session.specs.Runs.{end_text}
 use Rattle.st_session.proofs.running.push_end.Goals as goal
 

@@ -3,8 +3,8 @@ use Rattle.st_model.specs.Values.{value}
 use Rattle.st_machine.specs.declared.ending.RunEnd.{RunEnd}
 use Rattle.st_machine.specs.declared.ending.RunEnd.TheVariants as end
 use Rattle.st_machine.specs.Runs.{cycles_of, death_of}
-use Rattle.st_report.specs.Saying.{said_in}
-use Rattle.st_report.proofs.Pushing.{push_as}
+use Rattle.st_call.specs.Saying.{said_in}
+use Rattle.st_call.proofs.Pushing.{push_as}
 use Rattle.st_session.specs.Runs.{end_text}
 use Rattle.st_session.specs.Standing.{shown_by}
 use Rattle.st_session.specs.Stretches.{PushesStretch, stretch}

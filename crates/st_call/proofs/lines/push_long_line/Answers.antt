@@ -1,0 +1,11 @@
+use Rattle.st_call.proofs.Pushing.{push_then, push_begun}
+use Rattle.st_call.proofs.lines.push_long_line.Goals as goal
+
+pub returns-in_err-push : goal.returns-in_err-push
+returns-in_err-push g c = push_begun _ c.from_residual.ensures.0 c.in_err-push.ensures
+
+pub returns-in_err-push_long_number : goal.returns-in_err-push_long_number
+returns-in_err-push_long_number g c = push_then c.in_ok-push.ensures (push_begun _ c.from_residual-in_err-push_long_number.ensures.0 c.in_err-push_long_number.ensures)
+
+pub returns : goal.returns
+returns g c = push_then c.in_ok-push.ensures (push_then c.in_ok-push_long_number.ensures c.push-2.ensures)

@@ -1,0 +1,13 @@
+use Rattle.std.proofs.Common.{take, Ok}
+use Rattle.st_host.specs.declared.host.SayFault.{SayFault}
+use Rattle.st_model.specs.Values.{value}
+use Rattle.st_model.specs.View.{object_of}
+use Rattle.st_model.specs.Text.{numbers_text}
+use Rattle.st_call.specs.Saying.{Pushes}
+use Rattle.st_call.proofs.objects.push_units.Given as goal
+
+-- the words or bytes so far were added
+abbrev pub invariant-loop-i : goal.invariant-loop-i
+invariant-loop-i g l =
+    let units = (object_of (g.M.Memory.view l.m).objects (value l.o)).units in
+    Pushes {E = SayFault} g.H.Host (numbers_text (take l.i units)) l.initial.host l.host l.initial.out l.out (Ok tt)
