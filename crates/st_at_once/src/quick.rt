@@ -6,11 +6,10 @@ ghost use Rattle.st_at_once.specs.AtOnce.{was_done, IsDoneBut, IsDoneAtOnce};
 use crate::at_once::row_at_once;
 use crate::ending::RowEnd;
 use crate::near::Near;
-use st_frames::{Frame, Registers, load};
+use st_frames::{Frame, Registers, World, load};
 use st_input::carry_out;
 use st_memory::Memory;
 use st_model::Dead;
-use st_world::World;
 
 /// Does the next bytecode at once, from registers that are those of the frame, or answers that it is to be foreseen, and then
 /// objects and frame are as they were. Where it was done, the registers are again those of the frame, and a deed may be left to

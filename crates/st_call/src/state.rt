@@ -7,11 +7,10 @@ use crate::Output;
 use crate::lines::{push_line, push_values, push_values_line};
 use crate::objects::push_objects;
 use crate::report_words::{push_integer, push_number};
-use st_frames::Frame;
+use st_frames::{Frame, World};
 use st_host::{Host, SayFault};
 use st_memory::Memory;
 use st_model::RootPlace;
-use st_world::World;
 
 /// Adds an instruction pointer and a stack pointer, and the line's end.
 fn push_pointers<H: Host>(out: &mut Output, host: &mut H, ip: i32, sp: u32) -> Result<(), SayFault>

@@ -6,7 +6,7 @@ use Rattle.st_model.specs.Machine.{Registers, World, State, Step, Went, Died}
 use Rattle.st_model.specs.Table.{Table}
 use Rattle.st_model.specs.Calls.{Does}
 use Rattle.st_model.specs.View.{View, IsKnown}
-pub use Rattle.st_world.specs.Naming.{filled}
+pub use Rattle.st_frames.specs.Naming.{filled}
 use Rattle.st_frames.specs.declared.frame.Frame.{Frame}
 
 abbrev pub registers_of : Frame → Registers

@@ -12,9 +12,9 @@ use crate::context::{are_there, read_registers, read_scheduled_context};
 use crate::fetched::Fetched;
 use crate::frame::Frame;
 use crate::registers::Registers;
+use crate::world::World;
 use st_memory::{Memory, live_value};
 use st_model::{Dead, Oop, RootPlace, Word};
-use st_world::World;
 
 /// The registers, as the row of a bytecode works on them.
 pub fn load<'a, M: Memory>(m: &M, f: &Frame, w: &'a World) -> Registers<'a>

@@ -17,6 +17,7 @@ mod numbers;
 mod registers;
 mod stack;
 mod words;
+mod world;
 
 pub use answer::Answer;
 pub use answering::{answer_with, succeed_leaving, succeed_with};
@@ -34,3 +35,4 @@ pub use numbers::{
 pub use registers::Registers;
 pub use stack::{drop_words, jump, look_at_words, pop, push, set_stack_pointer, top, under};
 pub use words::{small, small_integer};
+pub use world::World;

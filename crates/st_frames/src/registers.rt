@@ -1,8 +1,8 @@
 ghost use Rattle.std.specs.Prelude.{◌≤◌, ◌≤ℤ◌, pos, negsuc};
 ghost use Rattle.st_frames.specs.Narrow.{IsNarrow};
 
+use crate::world::World;
 use st_model::Word;
-use st_world::World;
 
 /// The registers of the interpreter (chapter 27), as the rows of bytecodes work on them, and the world, which no row changes.
 #[derive(Clone, Copy)]

@@ -14,7 +14,7 @@ use Rattle.st_model.specs.Machine.{Devices, World}
 use Rattle.st_model.specs.Surroundings.{held_by, holding, newest_of, changed_world, Hold, AddSignal, TakeSignal}
 use Rattle.st_model.specs.View.{View, Held, IsKnown, IsWhole, with_held}
 use Rattle.st_model.proofs.Words.{value_of-nil}
-use Rattle.st_world.specs.Naming.{filled, IsNaming, naming}
+use Rattle.st_frames.specs.Naming.{filled, IsNaming, naming}
 
 pub known_nil : {v : View} → IsWhole v → IsKnown v.objects (value_of 2)
 known_nil {v} whole = subst (λ (x : Value). IsKnown v.objects x) (sym value_of-nil) (λ big. whole.complete.page NilObject)

@@ -1,15 +1,15 @@
 ghost use Rattle.std.specs.Prelude.{◌≡◌};
 ghost use Rattle.st_model.specs.Deeds.{deed_done, world_done};
-ghost use Rattle.st_world.specs.Naming.{IsNaming, naming};
+ghost use Rattle.st_frames.specs.Naming.{IsNaming, naming};
 
 use crate::bytes::replace_bytes;
 use crate::methods::{store_header, store_literal};
 use crate::pixels::copy_pixels;
 use crate::units::{store_byte, store_number, store_time, store_word};
 use crate::world::change_world;
+use st_frames::World;
 use st_memory::Memory;
 use st_model::Deed;
-use st_world::World;
 
 /// Does what a primitive left to be done on objects.
 fn change_objects<M: Memory>(m: &mut M, deed: Deed)

@@ -2,13 +2,13 @@ ghost use Rattle.std.specs.Prelude.{◌≡◌, OnErr};
 ghost use Rattle.st_model.specs.Objects.{nil};
 ghost use Rattle.st_model.specs.Machine.{World as Surroundings};
 ghost use Rattle.st_model.specs.Events.{comes, is_due, word_comes, time_comes};
-ghost use Rattle.st_world.specs.Naming.{IsNaming, naming};
+ghost use Rattle.st_frames.specs.Naming.{IsNaming, naming};
 ghost use Rattle.st_input.specs.Coming.{HasPlace, came};
 
 use crate::naming::{add_signal, signal_once};
+use st_frames::World;
 use st_memory::Memory;
 use st_model::{Device, Event, InputFull};
-use st_world::World;
 
 /// What events come to.
 pub trait Events {

@@ -14,5 +14,5 @@ mod world;
 pub use carry::carry_out;
 pub use coming::Events;
 pub use naming::{add_signal, hold, signal_once, take_newest_signal};
+pub use st_frames::World;
 pub use st_model::{Event, InputFull, Outcome, Tried};
-pub use st_world::World;

@@ -5,11 +5,11 @@ ghost use Rattle.st_model.specs.Objects.{nil};
 ghost use Rattle.st_model.specs.Surroundings.{holding, newest_of, changed_world, Hold, AddSignal, TakeSignal};
 ghost use Rattle.st_model.specs.Events.{signalled_once};
 ghost use Rattle.st_model.specs.View.{Held, IsKnown, IsPlace, with_held};
-ghost use Rattle.st_world.specs.Naming.{IsNaming, naming};
+ghost use Rattle.st_frames.specs.Naming.{IsNaming, naming};
 
+use st_frames::World;
 use st_memory::Memory;
 use st_model::{Device, Oop, RootPlace};
-use st_world::World;
 
 /// The place at which a memory holds what a device holds.
 fn place_of(device: Device) -> RootPlace

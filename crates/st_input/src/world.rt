@@ -2,12 +2,12 @@ ghost use Rattle.std.specs.Prelude.{◌≡◌, ◌&&◌, nat_le, if◌then◌els
 ghost use Rattle.st_model.specs.declared.deed.Deed.TheVariants as deed;
 ghost use Rattle.st_model.specs.Surroundings.{changed_world, MoveMouse};
 ghost use Rattle.st_model.specs.Deeds.{world_done};
-ghost use Rattle.st_world.specs.Naming.{IsNaming, naming};
+ghost use Rattle.st_frames.specs.Naming.{IsNaming, naming};
 
 use crate::naming::{add_signal, hold};
+use st_frames::World;
 use st_memory::{Memory, live_value};
 use st_model::{Deed, Device, Oop, Word};
-use st_world::World;
 
 /// A device holds what a word names, where that is there.
 fn hold_named<M: Memory>(m: &mut M, w: &mut World, device: Device, object: Word)

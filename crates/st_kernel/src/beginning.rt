@@ -11,10 +11,9 @@ ghost use Rattle.st_kernel.specs.Following.{IsQuiet, Ends};
 use crate::finding::{global_value, method_of};
 use crate::scheduling::{Run, in_new_process};
 use st_declarations::Start;
-use st_frames::{Frame, fetch_scheduled, load};
+use st_frames::{Frame, World, fetch_scheduled, load};
 use st_memory::Memory;
 use st_model::{Dead, Oop, Word};
-use st_world::World;
 
 /// The registers before they are fetched: all name nil.
 const IDLE: Frame = Frame {

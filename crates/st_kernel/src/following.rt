@@ -12,9 +12,9 @@ use crate::beginning::begin;
 use crate::fault::{KernelFault, cause_number, unfinished};
 use crate::part::{Heading, Next, follow_part};
 use st_declarations::{Cause, Kernel, Start};
+use st_frames::World;
 use st_memory::Memory;
 use st_protocol::Installer;
-use st_world::World;
 use std::alloc::Global;
 
 /// Begins the first process by the start, which is the chunk of this number, where the text is over behind it.

@@ -27,7 +27,7 @@ use Rattle.st_model.specs.Deeds.{deed_done, world_done, with_deed}
 use Rattle.st_model.specs.Processes.{signal, enter_process, leave_process, switch_to_process}
 use Rattle.st_model.specs.Cycles.{signal_if_any, signal_next, signal_newest, switch_unless_nil, switch_if_waiting, check_process_switch}
 use Rattle.st_model.specs.View.{View, Held, IsWhole}
-use Rattle.st_world.specs.Naming.{naming}
+use Rattle.st_frames.specs.Naming.{naming}
 use Rattle.st_frames.specs.declared.frame.Frame.{Frame}
 use Rattle.st_frames.specs.declared.registers.Registers.{Registers as Words}
 use Rattle.st_frames.specs.Rows.{row_state, registers_in}

@@ -3,11 +3,10 @@ ghost use Rattle.st_frames.specs.Shown.{IsReady, shown};
 ghost use Rattle.st_input.specs.Coming.{HasPlace};
 ghost use Rattle.st_machine.specs.Asked.{ComesFrom};
 
-use st_frames::Frame;
+use st_frames::{Frame, World};
 use st_input::Events;
 use st_memory::Memory;
 use st_model::{Event, InputFull};
-use st_world::World;
 
 /// An event comes. The input is full, and nothing changes, where it is a word and 256 wait, or where it has a signal added and
 /// 4096 are pending.

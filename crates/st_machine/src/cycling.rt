@@ -3,7 +3,7 @@ ghost use Rattle.st_model.specs.Table.{table};
 ghost use Rattle.st_model.specs.Machine.{used};
 ghost use Rattle.st_model.specs.Objects.{nil};
 ghost use Rattle.st_model.specs.Cycles.{less, capacity_of, is_low, warned_if_low};
-ghost use Rattle.st_world.specs.Naming.{IsNaming, naming};
+ghost use Rattle.st_frames.specs.Naming.{IsNaming, naming};
 ghost use Rattle.st_model.specs.Foreseen.{foreseen_cycle};
 ghost use Rattle.st_model.specs.Calls.{transition_of};
 ghost use Rattle.st_frames.specs.Shown.{IsFrame, IsReady, shown};
@@ -12,12 +12,11 @@ ghost use Rattle.st_machine.specs.Runs.{ending_of};
 
 use crate::switching::check_process_switch;
 use st_at_once::step_at_once;
-use st_frames::Frame;
+use st_frames::{Frame, World};
 use st_input::signal_once;
 use st_memory::Memory;
 use st_model::{Dead, Demand, Device, Outcome};
 use st_step::{plan, step};
-use st_world::World;
 
 /// How a cycle ended in which the machine didn't die.
 #[derive(Clone, Copy)]

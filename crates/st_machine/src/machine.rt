@@ -12,10 +12,9 @@ use crate::coming::come;
 use crate::ending::RunEnd;
 use crate::running;
 use crate::saving::save;
-use st_frames::{Frame, Loaded};
+use st_frames::{Frame, Loaded, World};
 use st_memory::Memory;
 use st_model::{Dead, Event, InputFull};
-use st_world::World;
 
 /// A machine: its objects, its registers, and what lies round it; and, once it is dead, the cause. A run asks that it is
 /// dead, or ready: the memory holds the registers at their places, and what the world names. `boot` and `run` leave it so;

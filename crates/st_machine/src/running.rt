@@ -5,10 +5,9 @@ ghost use Rattle.st_machine.specs.Runs.{EndsFrom, CountsCycles, run_end, death_o
 use crate::cycling::CycleEnd;
 use crate::ending::RunEnd;
 use crate::stride::advance;
-use st_frames::Frame;
+use st_frames::{Frame, World};
 use st_memory::Memory;
 use st_model::{Dead, Outcome};
-use st_world::World;
 
 /// The end of the run whose cycle after so many ended so; none where the run goes on.
 fn run_end(end: Result<CycleEnd, Dead>, done: u32) -> Option<RunEnd>

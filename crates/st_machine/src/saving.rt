@@ -3,10 +3,9 @@ ghost use Rattle.st_frames.specs.Shown.{IsReady, shown};
 ghost use Rattle.st_machine.specs.Asked.{SavesFrom};
 
 use crate::switch_saving::store_process;
-use st_frames::Frame;
+use st_frames::{Frame, World};
 use st_memory::Memory;
 use st_model::Dead;
-use st_world::World;
 
 /// Makes the memory one that an image can be written of: a process switch that waits is carried out, the active context is
 /// stored with its process, the registers are fetched again from there, and what nothing supports is dropped.

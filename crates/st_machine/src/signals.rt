@@ -6,12 +6,11 @@ ghost use Rattle.st_model.specs.Cycles.{signal_next, signal_newest};
 ghost use Rattle.st_model.specs.Calls.{Does, itself};
 ghost use Rattle.st_frames.specs.Shown.{IsReady, shown};
 
-use st_frames::{Frame, load};
+use st_frames::{Frame, World, load};
 use st_input::{carry_out, take_newest_signal};
 use st_memory::Memory;
 use st_model::{Dead, Oop, Word};
 use st_process::signal;
-use st_world::World;
 
 /// Signals a semaphore.
 fn make_signal<M: Memory>(m: &mut M, f: &Frame, w: &mut World, semaphore: Oop) -> Result<(), Dead>

@@ -6,10 +6,9 @@ ghost use Rattle.st_machine.specs.Strides.{GoesOn};
 
 use crate::cycling::needs_warning;
 use st_at_once::{Near, RowEnd, step_from};
-use st_frames::{Frame, Registers, load};
+use st_frames::{Frame, Registers, World, load};
 use st_memory::Memory;
 use st_model::{Dead, Deed};
-use st_world::World;
 
 /// Why a stretch ended before as many cycles were done as were asked for.
 #[derive(Clone, Copy)]

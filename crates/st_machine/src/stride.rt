@@ -6,11 +6,10 @@ ghost use Rattle.st_machine.specs.Strides.{Follows, Strides};
 
 use crate::cycling::{CycleEnd, cycle, do_next, finish, foresee, warn};
 use crate::stretch::{StretchEnd, go_on};
-use st_frames::Frame;
+use st_frames::{Frame, World};
 use st_input::carry_out;
 use st_memory::Memory;
 use st_model::{Dead, Device, Outcome};
-use st_world::World;
 
 /// Cycles after which the machine went on, and the one that followed them.
 #[derive(Clone, Copy)]

@@ -6,11 +6,10 @@ ghost use Rattle.st_frames.specs.Shown.{IsReady, shown};
 ghost use Rattle.st_frames.specs.Rows.{RowDoes, Takes};
 
 use crate::switching::switch_if_waiting;
-use st_frames::{Frame, Registers, fetch_scheduled, load, store_context_registers};
+use st_frames::{Frame, Registers, World, fetch_scheduled, load, store_context_registers};
 use st_memory::{Memory, Objects};
 use st_model::Dead;
 use st_process::scheduled_process;
-use st_world::World;
 
 /// Stores the registers, and the active context with the scheduler's process.
 #[tactic(auto, using(st_frames::proofs::Doing::rows), unfolding(st_model::specs::Saving::store_active))]

@@ -7,12 +7,11 @@ ghost use Rattle.st_model.specs.Calls.{Does, itself};
 ghost use Rattle.st_frames.specs.Shown.{IsReady, shown};
 
 use crate::signals::signal_newest;
-use st_frames::{Frame, hold, load};
+use st_frames::{Frame, World, hold, load};
 use st_input::carry_out;
 use st_memory::Memory;
 use st_model::{Dead, Device, Oop, Word};
 use st_process::{enter_process, leave_process};
-use st_world::World;
 
 /// Keeps the active context in the scheduler's process, whose place another one takes; none waits any more.
 fn leave<M: Memory>(m: &mut M, f: &Frame, w: &mut World, process: Oop) -> Result<(), Dead>

@@ -3,7 +3,7 @@ use Rattle.std.proofs.Common.{◌≡◌, refl, sym, ap, ◌∙◌}
 use Rattle.st_model.specs.Objects.{nil}
 use Rattle.st_model.specs.Machine.{World, empty_world}
 use Rattle.st_model.specs.View.{View, no_devices}
-use Rattle.st_world.specs.Naming.{filled}
+use Rattle.st_frames.specs.Naming.{filled}
 use Rattle.st_frames.specs.declared.frame.Frame.{Frame}
 use Rattle.st_frames.specs.Shown.{IsFrame, IsReady}
 

@@ -1,6 +1,6 @@
 //! Events, as tables.
 
-ghost use Rattle.st_world.specs.Naming.{IsNaming};
+ghost use Rattle.st_frames.specs.Naming.{IsNaming};
 
 use crate::image::quiet_b;
 use st_counted::CountedLoader;

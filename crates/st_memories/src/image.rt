@@ -3,7 +3,7 @@ ghost use Rattle.st_model.specs.Formed.{IsMakeable, fresh};
 ghost use Rattle.st_model.specs.Objects.{words_of};
 ghost use Rattle.st_model.specs.View.{no_devices};
 ghost use Rattle.st_frames.specs.Shown.{IsFrame, IsReady};
-ghost use Rattle.st_world.specs.Naming.{IsNaming};
+ghost use Rattle.st_frames.specs.Naming.{IsNaming};
 
 use st_frames::Loaded;
 use st_image::{HeadValues, ReadImage, read};

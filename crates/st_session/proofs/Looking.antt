@@ -2,7 +2,7 @@
 use Rattle.std.proofs.Common.{◌≡◌, ◌≤◌, List, ℕ, [], Bool, true, false, refl, sym, arith}
 use Rattle.std.specs.Prelude.{Option, Some, None, is_some, unwrap_or, Result, Ok, Err, OnOk}
 use Rattle.st_model.specs.View.{View}
-use Rattle.st_world.specs.declared.world.World.{World}
+use Rattle.st_frames.specs.declared.world.World.{World}
 use Rattle.st_host.specs.declared.host.Host.{Ghosts}
 use Rattle.st_host.specs.declared.host.SayFault.{SayFault}
 use Rattle.st_host.specs.Counts.{HasCause}

@@ -3,7 +3,7 @@ use Rattle.std.specs.Prelude.{ℕ, List, unwrap_or}
 use Rattle.st_model.specs.Machine.{State}
 use Rattle.st_model.specs.Table.{Table}
 use Rattle.st_model.specs.View.{Held, View}
-use Rattle.st_world.specs.Naming.{filled}
+use Rattle.st_frames.specs.Naming.{filled}
 use Rattle.st_chunk.specs.Definitions.{Definition}
 use Rattle.st_chunk.specs.Asks.{Ask}
 use Rattle.st_browse.specs.Asked.{reply}

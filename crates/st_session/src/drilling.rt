@@ -20,13 +20,12 @@ use crate::compiler::Compiler;
 use crate::making::{Origin, push_made};
 use crate::running::push_run;
 use st_call::{Output, push_used, refuse};
-use st_frames::{Loaded, fetch_scheduled};
+use st_frames::{Loaded, World, fetch_scheduled};
 use st_host::{Host, SayFault};
 use st_kernel::{KernelFault, build, drill_text};
 use st_machine::Machine;
 use st_memory::{Loader, Memory};
 use st_protocol::Status;
-use st_world::World;
 use std::alloc::Global;
 
 /// How many cycles of a drill are run.

@@ -18,14 +18,13 @@ use crate::compiler::Compiler;
 use crate::opening_refusal::opening_status;
 use crate::reading::status_of;
 use st_call::{Reply, refuse, say_reply};
-use st_frames::Loaded;
+use st_frames::{Loaded, World};
 use st_host::{Host, HostFault};
 use st_image::write;
 use st_machine::Machine;
 use st_memory::{Loader, Memory};
 use st_protocol::Status;
 use st_recover::reopen;
-use st_world::World;
 use std::alloc::{AllocError, Global};
 
 /// Writes the image of a memory to a file, and says its length.

@@ -25,12 +25,12 @@ ghost use Rattle.st_session.specs.Opening.{IsOpen, session_over, session_so_far_
 use crate::first_lines::say_opening;
 use crate::serving::answer_told;
 use st_chunk::Reader;
+use st_frames::World;
 use st_host::{Host, ReadFault, Source};
 use st_machine::Machine;
 use st_memory::Memory;
 use st_protocol::Status;
 use st_recover::{Archive, Lost, Opened};
-use st_world::World;
 use std::alloc::{AllocError, Global};
 
 /// The most bytes that a script may have, 2^32.

@@ -10,11 +10,11 @@ ghost use Rattle.st_recover.specs.Openings.{IsReadable, IsFaulty};
 ghost use Rattle.st_call.specs.Refusals.{IsImageRefusal, RefusalHasCause};
 
 use st_call::{ImageRefusal, read_image};
+use st_frames::World;
 use st_host::Host;
 use st_image::HeadValues;
 use st_machine::Machine;
 use st_memory::Loader;
-use st_world::World;
 use std::alloc::Global;
 
 /// A machine at the start of the image in a file, where that has at most 2^27 bytes and is well-formed.

@@ -31,7 +31,7 @@ use Rattle.st_frames.specs.declared.registers.Registers.{Registers as Words}
 use Rattle.st_frames.specs.Narrow.{IsNarrow}
 use Rattle.st_frames.specs.Rows.{row_state, registers_in, with_left}
 use Rattle.st_frames.specs.Shown.{shown, registers_of, IsFrame, IsReady}
-use Rattle.st_world.specs.Naming as world
+use Rattle.st_frames.specs.Naming as world
 use Rattle.st_frames.proofs.Closed.{is_closed}
 use Rattle.st_step.specs.Planned.{PlansOver, Plans, PlansBirths, plus}
 

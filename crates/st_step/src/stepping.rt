@@ -10,11 +10,10 @@ ghost use Rattle.st_control.specs.Foreseen.{IsForeseen};
 ghost use Rattle.st_step.specs.Planned.{Plans, PlansBirths, TopSaid};
 
 use crate::rows::step_row;
-use st_frames::{Frame, hold, load};
+use st_frames::{Frame, World, hold, load};
 use st_input::carry_out;
 use st_memory::{Draft, Memory};
 use st_model::{Dead, Deed, Demand, Outcome, StepEnd};
-use st_world::World;
 
 /// What the next bytecode would take of the capacities, or the cause of which the machine would die, also over births that
 /// memory, registers and world show. Nothing is changed.

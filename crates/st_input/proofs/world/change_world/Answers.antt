@@ -1,6 +1,6 @@
 use Rattle.std.proofs.Common.{sym, ap, ◌∙◌}
 use Rattle.st_model.specs.Machine.{Devices}
-use Rattle.st_world.specs.Naming.{filled}
+use Rattle.st_frames.specs.Naming.{filled}
 use Rattle.st_input.proofs.world.change_world.Goals as goal
 
 pub returns-in-MoveMouse-clause-held : goal.returns-in-MoveMouse-clause-held

@@ -1,4 +1,4 @@
-use Rattle.st_world.specs.Naming.{IsNaming}
+use Rattle.st_frames.specs.Naming.{IsNaming}
 use Rattle.st_memories.proofs.events.events_come.Given as goal
 
 -- the memory holds what the world names

@@ -1,6 +1,6 @@
 use Rattle.std.proofs.Common.{refl}
 use Rattle.st_model.specs.Values.{value_of}
-use Rattle.st_world.proofs.world.World.new.Goals as goal
+use Rattle.st_frames.proofs.world.World.new.Goals as goal
 
 pub returns : goal.returns
 unfolding value_of
