@@ -13,5 +13,5 @@ pub mod Beginning
 mod Holding
 pub mod Instances
 mod Nothing
-pub mod Counting
+pub mod ZeroList
 mod Linked

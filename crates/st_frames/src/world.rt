@@ -109,7 +109,7 @@ impl World {
     }
 
     /// Whether a device holds something.
-    #[tactic(auto, using(crate::proofs::Holding::holds_value))]
+    #[tactic(auto, using(crate::proofs::DeviceHolds::holds_value))]
     pub fn holds(&self, device: Device) -> bool
         ensures { result ≡ is_held nil (held_by self.now.devices device) }
     {

@@ -1,4 +1,4 @@
-pub mod Named
+pub mod HoldsNamed
 pub mod Copied
 pub mod Done
 pub mod Headers

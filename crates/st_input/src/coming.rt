@@ -28,7 +28,7 @@ pub trait Events {
 }
 
 /// An input word comes.
-#[tactic(auto, using(crate::proofs::Named::knowns))]
+#[tactic(auto, using(crate::proofs::HoldsNamed::knowns))]
 fn add_word<M: Memory>(m: &mut M, w: &mut World, word: u16) -> Result<(), InputFull>
     requires named { IsNaming (M.view m.old).held w.old }
     ensures comes { word_comes nil word w.old ≡ came result w.new }

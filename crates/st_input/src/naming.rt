@@ -41,7 +41,7 @@ pub fn hold<M: Memory>(m: &mut M, w: &mut World, device: Device, object: Oop)
 }
 
 /// A semaphore's signal is pending, behind all others, in the world and in the memory.
-#[tactic(auto, using(crate::proofs::Named::knowns, crate::proofs::Named::signals))]
+#[tactic(auto, using(crate::proofs::HoldsNamed::knowns, crate::proofs::HoldsNamed::signals))]
 pub fn add_signal<M: Memory>(m: &mut M, w: &mut World, semaphore: Oop)
     requires known { IsKnown (M.view m.old).objects (value semaphore) }
     requires room { length w.old.devices.pending < 4096 }
@@ -57,7 +57,7 @@ pub fn add_signal<M: Memory>(m: &mut M, w: &mut World, semaphore: Oop)
 
 /// The newest pending signal is taken away, in the world and in the memory. Its semaphore, where one was pending, is the
 /// answer.
-#[tactic(auto, using(crate::proofs::Named::knowns, crate::proofs::Named::signals))]
+#[tactic(auto, using(crate::proofs::HoldsNamed::knowns, crate::proofs::HoldsNamed::signals))]
 pub fn take_newest_signal<M: Memory>(m: &mut M, w: &mut World) -> Option<Oop>
     requires named { IsNaming (M.view m.old).held w.old }
     ensures newest { option_map value result ≡ newest_of w.old.devices.pending }
@@ -74,7 +74,7 @@ pub fn take_newest_signal<M: Memory>(m: &mut M, w: &mut World) -> Option<Oop>
 }
 
 /// The signal of what a device holds is pending, and it is let go, in the world and in the memory.
-#[tactic(auto, using(crate::proofs::Named::knowns, crate::proofs::Named::signals))]
+#[tactic(auto, using(crate::proofs::HoldsNamed::knowns, crate::proofs::HoldsNamed::signals))]
 pub fn signal_once<M: Memory>(m: &mut M, w: &mut World, device: Device)
     requires room { length w.old.devices.pending < 4096 }
     requires named { IsNaming (M.view m.old).held w.old }

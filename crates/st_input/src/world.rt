@@ -37,7 +37,7 @@ fn set_timer<M: Memory>(m: &mut M, w: &mut World, semaphore: Word, due: u32)
 }
 
 /// A semaphore's signal is pending and the timer is let go, where the semaphore is there and there is room for a signal.
-#[tactic(auto, using(crate::proofs::Named::known_nil))]
+#[tactic(auto, using(crate::proofs::HoldsNamed::known_nil))]
 fn ring_timer<M: Memory>(m: &mut M, w: &mut World, semaphore: Word)
     requires named { IsNaming (M.view m.old).held w.old }
     ensures world { w.new ≡ world_done (deed.RingTimer semaphore) (M.view m.old).objects w.old }

@@ -19,4 +19,4 @@ pub mod Sends
 pub mod Spelled
 pub mod Trees
 pub mod Walks
-pub mod Words
+pub mod WordPieces

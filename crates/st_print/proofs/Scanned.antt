@@ -18,7 +18,7 @@ use Rattle.st_grammar.specs.Faults.{level, highest}
 use Rattle.st_grammar.proofs.KindSets.{sample}
 use Rattle.st_print.specs.Words.{Word, name, keyword, operator, number, character, string, symbol, opening, mark, word_text, spaced, text_of}
 use Rattle.st_print.proofs.Going.{word_sort, word_kind, after_word, word_level, Goes}
-use Rattle.st_print.proofs.Words.{IsPiece, word_piece}
+use Rattle.st_print.proofs.WordPieces.{IsPiece, word_piece}
 use Rattle.st_print.proofs.Spelled.{IsWord, Spells}
 
 -- pieces with a blank before each

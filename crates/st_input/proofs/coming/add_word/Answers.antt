@@ -1,5 +1,5 @@
 use Rattle.st_model.specs.declared.device.Device.TheVariants as device
-use Rattle.st_input.proofs.Named.{known_device}
+use Rattle.st_input.proofs.HoldsNamed.{known_device}
 use Rattle.st_input.proofs.coming.add_word.Goals as goal
 
 pub add_signal-requires-clause-known : goal.add_signal-requires-clause-known

@@ -1,6 +1,6 @@
 use Rattle.std.proofs.Common.{◌<◌, Some, true, refl, sym, subst, ◌∙◌, length-set}
 use Rattle.st_counted.specs.Counts.{count_at, is_unused}
-use Rattle.st_counted.proofs.Counting.{relisted, absent_zero, none_still}
+use Rattle.st_counted.proofs.ZeroList.{relisted, absent_zero, none_still}
 use Rattle.st_counted.proofs.counts.Counts.enter.Goals as goal
 
 pub invariant_of-self : goal.invariant_of-self

@@ -1,5 +1,5 @@
 use Rattle.st_counted.specs.Counts.{is_unused}
-use Rattle.st_counted.proofs.Counting.{first_passes, none_passes}
+use Rattle.st_counted.proofs.ZeroList.{first_passes, none_passes}
 use Rattle.st_counted.proofs.counts.Counts.first_unused.Goals as goal
 
 pub returns-then-self-eq0-clause-none : goal.returns-then-self-eq0-clause-none

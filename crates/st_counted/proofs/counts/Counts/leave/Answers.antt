@@ -1,6 +1,6 @@
 use Rattle.std.proofs.Common.{None, false, refl, ◌∙◌, length-set}
 use Rattle.st_counted.specs.Counts.{count_at, is_unused}
-use Rattle.st_counted.proofs.Counting.{relisted, zero_counted, counted_within, none_still, not_here}
+use Rattle.st_counted.proofs.ZeroList.{relisted, zero_counted, counted_within, none_still, not_here}
 use Rattle.st_counted.proofs.counts.Counts.leave.Goals as goal
 
 pub invariant_of-self : goal.invariant_of-self

@@ -1,6 +1,6 @@
 use Rattle.std.proofs.Common.{ℕ, List, Option, None, ap, ◌∙◌, length}
 use Rattle.st_counted.specs.Counts.{count_at, is_zero, is_unused}
-use Rattle.st_counted.proofs.Counting.{nothing_counted}
+use Rattle.st_counted.proofs.ZeroList.{nothing_counted}
 use Rattle.std.proofs.lemmas.List.{length-replicate}
 use Rattle.st_counted.proofs.counts.Counts.new.Goals as goal
 

@@ -1,7 +1,7 @@
 use Rattle.std.proofs.Common.{◌≢◌, ◌+◌, Some, false, sym, ◌∙◌, length-set, arith}
 use Rattle.st_counted.specs.Counts.{count_at, number_at, is_unused}
 use Rattle.st_counted.proofs.Linked.{test_other}
-use Rattle.st_counted.proofs.Counting.{relisted, listed_still, counted_within, none_still, not_here, number_zero, test_of}
+use Rattle.st_counted.proofs.ZeroList.{relisted, listed_still, counted_within, none_still, not_here, number_zero, test_of}
 use Rattle.st_counted.proofs.counts.Counts.raise.Goals as goal
 
 pub invariant_of-self : goal.invariant_of-self
