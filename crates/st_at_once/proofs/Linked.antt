@@ -8,12 +8,12 @@ use Rattle.st_model.specs.Bytecodes.{step}
 use Rattle.st_model.specs.Show.{Shows, raised}
 use Rattle.st_model.specs.Foreseen.{Foretells}
 use Rattle.st_model.specs.View.{View, IsWhole}
-use Rattle.st_model.proofs.Same.{TransitionSame}
-use Rattle.st_model.proofs.BytecodesSame.{step-same}
-use Rattle.st_model.proofs.HeapsSame.{cycle_simulation, same_used}
-use Rattle.st_model.proofs.Started.{naming, states_start}
+use Rattle.st_simulation.proofs.Same.{TransitionSame}
+use Rattle.st_simulation.proofs.BytecodesSame.{step-same}
+use Rattle.st_simulation.proofs.HeapsSame.{cycle_simulation, same_used}
+use Rattle.st_simulation.proofs.Started.{naming, states_start}
 use Rattle.st_model.proofs.Raised.{raised_shown}
-use Rattle.st_model.proofs.CyclesShown.{foretells}
+use Rattle.st_simulation.proofs.CyclesShown.{foretells}
 use Rattle.st_frames.specs.declared.frame.Frame.{Frame}
 use Rattle.st_frames.specs.Shown.{shown, IsReady}
 use Rattle.st_frames.proofs.Closed.{is_closed}

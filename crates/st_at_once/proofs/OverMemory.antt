@@ -8,8 +8,8 @@ use Rattle.st_model.specs.declared.word.Word.{Word}
 use Rattle.st_model.specs.Values.{Small, Ref, value_of, word, is_small, IsLive}
 use Rattle.st_model.specs.Show.{IsUsed}
 use Rattle.st_model.specs.Deeds.{deed_done, with_deed}
-use Rattle.st_model.proofs.Closed.{step_closed}
-use Rattle.st_model.proofs.Deeds.{deed_uses, deed_leaves_there}
+use Rattle.st_simulation.proofs.Closed.{step_closed}
+use Rattle.st_simulation.proofs.Deeds.{deed_uses, deed_leaves_there}
 use Rattle.st_frames.specs.Narrow.{IsNarrow}
 use Rattle.st_model.specs.Objects.{one, words_of}
 use Rattle.st_model.specs.Outcomes.{Outcome}

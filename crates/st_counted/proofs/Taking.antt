@@ -10,7 +10,7 @@ use Rattle.st_model.specs.Settled.{IsRoot, IsReferredFrom, SupportsItself, IsSet
 use Rattle.st_model.proofs.SettledIs.{or_cases, below_true, object_is, is_object, root_is, is_root-of}
 use Rattle.st_model.proofs.SettledLemmas.{some_is}
 use Rattle.st_model.proofs.BirthLemmas.{borne_before}
-use Rattle.st_model.proofs.Reclaimed.{table_finite_in}
+use Rattle.st_simulation.proofs.Reclaimed.{table_finite_in}
 use Rattle.st_counted.specs.Taking.{IsUnsupported, without, TakesAway, TakesNoneSupported, LeftSupportsItself, TakingSettles}
 
 or_left : (a b : Bool) → IsTrue a → IsTrue (or a b)

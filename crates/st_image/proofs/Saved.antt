@@ -17,10 +17,10 @@ use Rattle.st_model.specs.Contexts.{fetch_scheduled_registers}
 use Rattle.st_model.specs.Cycles.{switch_if_waiting}
 use Rattle.st_model.specs.Saving.{store_active, store_process, settled_after, save}
 use Rattle.st_model.specs.Calls.{itself}
-use Rattle.st_model.proofs.Same.{TransitionSame, Anything}
-use Rattle.st_model.proofs.ContextsSame.{fetch_scheduled_registers-same}
-use Rattle.st_model.proofs.HeapsSame.{cycle_simulation}
-use Rattle.st_model.proofs.Started.{naming, states_start}
+use Rattle.st_simulation.proofs.Same.{TransitionSame, Anything}
+use Rattle.st_simulation.proofs.ContextsSame.{fetch_scheduled_registers-same}
+use Rattle.st_simulation.proofs.HeapsSame.{cycle_simulation}
+use Rattle.st_simulation.proofs.Started.{naming, states_start}
 use Rattle.st_model.proofs.BirthLemmas.{borne_before}
 use Rattle.st_model.proofs.SettledLemmas.{some_is, is_some-of, settled-borne, bearer-borne, object_born-settled}
 use Rattle.st_model.proofs.SettledIs.{settled_is}

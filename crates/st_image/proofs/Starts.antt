@@ -14,7 +14,7 @@ use Rattle.st_model.specs.Foreseen.{ShownAgain}
 use Rattle.st_model.specs.Contexts.{fetch_scheduled_registers}
 use Rattle.st_model.specs.Start.{start_view, start, begin, idle_state, idle_registers}
 use Rattle.st_model.specs.Faults.{Fails, row, Sooner, short_fails, IsImageFault, IsWellFormed}
-use Rattle.st_model.proofs.Again.{begin_shown}
+use Rattle.st_simulation.proofs.Again.{begin_shown}
 use Rattle.st_frames.specs.declared.frame.Frame.{Frame}
 use Rattle.st_frames.specs.Shown.{StaysFrame, FetchesFrame, shown}
 use Rattle.st_frames.proofs.Closed.{closed_idle}

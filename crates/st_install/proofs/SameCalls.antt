@@ -6,9 +6,9 @@ use Rattle.st_model.specs.Machine.{Head, State, Transition, Died, Went, Step, an
 use Rattle.st_model.specs.Births.{Births, births}
 use Rattle.st_model.specs.Table.{Table, table}
 use Rattle.st_model.proofs.Names.{all_append}
-use Rattle.st_model.proofs.Same.{IsLiveOption}
-use Rattle.st_model.proofs.HeapsSame.{same_used}
-use Rattle.st_model.proofs.Started.{naming, heaps_start}
+use Rattle.st_simulation.proofs.Same.{IsLiveOption}
+use Rattle.st_simulation.proofs.HeapsSame.{same_used}
+use Rattle.st_simulation.proofs.Started.{naming, heaps_start}
 use Rattle.st_scan.specs.Views.{MethodView}
 use Rattle.st_code.specs.Methods.{PartsView}
 use Rattle.st_names.specs.declared.fault.InstallFault.{InstallFault}

@@ -6,9 +6,9 @@ use Rattle.st_model.specs.declared.kind.Kind.TheVariants as kind
 use Rattle.st_model.specs.Values.{Value, Small, Ref, renamed, renamed_all, IsLive, AllLive}
 use Rattle.st_model.specs.Machine.{ObjectMemory, Step, answer}
 use Rattle.st_model.specs.Steps.{store_fields}
-use Rattle.st_model.proofs.Same.{Simulation, ValueSame, ValuesSame, Same, SameValue, SameValues, SameAnswer, length-renamed, then-same, then_value-same, then_values-same, then_unit-same, answer-same, answer_values-same, values-same, steps_same}
-use Rattle.st_model.proofs.StepsSame.{make-same, parts_same}
-use Rattle.st_model.proofs.LookupSame.{half_word-same}
+use Rattle.st_simulation.proofs.Same.{Simulation, ValueSame, ValuesSame, Same, SameValue, SameValues, SameAnswer, length-renamed, then-same, then_value-same, then_values-same, then_unit-same, answer-same, answer_values-same, values-same, steps_same}
+use Rattle.st_simulation.proofs.StepsSame.{make-same, parts_same}
+use Rattle.st_simulation.proofs.LookupSame.{half_word-same}
 use Rattle.st_install.specs.Plans.{Part, There, Made, NewObject, Store, Plan}
 use Rattle.st_install.specs.Dictionaries.{Ending, Holds, Vacant, Nowhere, ends_at, seek_at, seek_among, seek_from, count_places, seek, place_of_selector, put_method, put_at, refill_unless, refill_from, refill_among, refill, raised_tally}
 use Rattle.st_install.specs.Installing.{size_by, literals_by, make_new, make_all, part_value, part_values, store_method_fields, fill_method, fill_by, fill_all, store_all, Placing, target, find_place, adopt, add_at, store_planned, fill_and_store, install}

@@ -11,16 +11,16 @@ use Rattle.st_model.specs.Calls.{itself}
 use Rattle.st_model.specs.Saving.{settled_after}
 use Rattle.st_model.specs.Show.{pointer_of, IsKept}
 use Rattle.st_model.specs.Foreseen.{IsSound}
-use Rattle.st_model.specs.Laws.{Runs}
+use Rattle.st_simulation.specs.Laws.{Runs}
 use Rattle.st_model.proofs.BirthLemmas.{pointer_of-borne}
 use Rattle.st_model.proofs.Names.{map_live, same_value}
-use Rattle.st_model.proofs.Same.{TransitionSame, Anything, SameAnswer}
-use Rattle.st_model.proofs.HeapsSame.{cycle_simulation, same_used}
-use Rattle.st_model.proofs.Started.{lives, named, named-kept, naming, states_start, heaps_start}
-use Rattle.st_model.proofs.Again.{shows_now}
-use Rattle.st_model.proofs.Reclaimed.{went_step}
+use Rattle.st_simulation.proofs.Same.{TransitionSame, Anything, SameAnswer}
+use Rattle.st_simulation.proofs.HeapsSame.{cycle_simulation, same_used}
+use Rattle.st_simulation.proofs.Started.{lives, named, named-kept, naming, states_start, heaps_start}
+use Rattle.st_simulation.proofs.Again.{shows_now}
+use Rattle.st_simulation.proofs.Reclaimed.{went_step}
 use Rattle.st_model.proofs.Reclaiming.{reclaim_sound, reclaim_head}
-use Rattle.st_model.proofs.Closed.{sound_simulation, stays_sound}
+use Rattle.st_simulation.proofs.Closed.{sound_simulation, stays_sound}
 use Rattle.st_code.specs.Methods.{PartsView}
 use Rattle.st_install.specs.Plans.{Part, There, Made, NewObject, Store, Plan, words_of_all, demand_of_all}
 use Rattle.st_install.specs.Calls.{both, is_crowded, room_or, with_room, planned, ready}

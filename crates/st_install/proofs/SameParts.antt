@@ -5,7 +5,7 @@ use Rattle.std.specs.Prelude.{map, replicate, slice_set}
 use Rattle.st_model.specs.declared.kind.Kind.TheVariants.{Pointers, Bytes, Method}
 use Rattle.st_model.specs.Values.{Value, renamed, renamed_all, AllLive}
 use Rattle.st_model.specs.Objects.{is_words, is_method}
-use Rattle.st_model.proofs.Same.{ValueNamed, ValuesNamed}
+use Rattle.st_simulation.proofs.Same.{ValueNamed, ValuesNamed}
 use Rattle.st_install.specs.Plans.{Part, There, Made, NewObject, Store, pointers_object, bytes_object, method_object}
 use Rattle.st_install.specs.SamePlans.{renamed_part, renamed_parts, renamed_new, renamed_objects, renamed_store, renamed_stores, IsLivePart, AllLiveParts, IsLiveNew, AllLiveObjects, IsLiveStore, AllLiveStores}
 

@@ -7,7 +7,7 @@ use Rattle.st_model.specs.Machine.{Step, answer, ◌>>=◌}
 use Rattle.st_model.specs.Steps.{or_die}
 use Rattle.st_model.specs.Births.{Births, births}
 use Rattle.st_model.specs.Table.{Table, table}
-use Rattle.st_model.proofs.Same.{ValueNamed}
+use Rattle.st_simulation.proofs.Same.{ValueNamed}
 use Rattle.st_code.specs.Methods.{PartsView}
 use Rattle.st_install.specs.Plans.{Part, Made, NewObject, Plan}
 use Rattle.st_install.specs.Symbols.{Symbols, symbols_in, symbol_part}

@@ -12,7 +12,7 @@ use Rattle.st_model.specs.Calls.{itself}
 use Rattle.st_model.specs.Steps.{same_value}
 use Rattle.st_model.specs.Show.{pointer_of, IsKept, Shows, renamed_option}
 use Rattle.st_model.proofs.BirthLemmas.{pointer_of-borne}
-use Rattle.st_model.proofs.Same.{Anything, IsLiveOption, ValueNamed, ValuesNamed, OptionNamed, length-renamed}
+use Rattle.st_simulation.proofs.Same.{Anything, IsLiveOption, ValueNamed, ValuesNamed, OptionNamed, length-renamed}
 
 -- births, and a table that shows them
 pub record Shown : Type 0 where

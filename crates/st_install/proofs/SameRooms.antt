@@ -14,8 +14,8 @@ use Rattle.st_model.specs.Steps.{of_page, new_of, made, make_named, make}
 use Rattle.st_model.specs.Table.{Table, table, bounded_table, placed, total_used}
 use Rattle.st_model.specs.Calls.{itself}
 use Rattle.st_model.proofs.Names.{AnyName, any_value, any_values}
-use Rattle.st_model.proofs.Same.{TransitionSame, Anything, strict, strict_states}
-use Rattle.st_model.proofs.Bounded.{same_name, value-itself, values-itself, total-placed, bounded_simulation, bounded_start, state_is}
+use Rattle.st_simulation.proofs.Same.{TransitionSame, Anything, strict, strict_states}
+use Rattle.st_simulation.proofs.Bounded.{same_name, value-itself, values-itself, total-placed, bounded_simulation, bounded_start, state_is}
 use Rattle.st_install.specs.Plans.{Part, There, Made, NewObject, Store, Plan, words_of_new, words_of_all}
 use Rattle.st_install.specs.Installing.{size_by, literals_by, make_new, make_all, fill_and_store, install}
 use Rattle.st_install.specs.SamePlans.{renamed_part, renamed_parts, renamed_objects, renamed_stores, renamed_plan, IsLivePart, AllLiveParts, AllLiveObjects, AllLiveStores, IsLivePlan}

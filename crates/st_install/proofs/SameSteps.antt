@@ -13,7 +13,7 @@ use Rattle.st_model.specs.Steps.{found, object_named, object, named_or_not, obje
 use Rattle.st_model.specs.Lookup.{half_word}
 use Rattle.st_model.specs.Primitives.{check_class, bits_or_die}
 use Rattle.st_model.proofs.BirthLemmas.{borne_before, pointer_of-borne, object_there, borne-bearer, is_borne-of}
-use Rattle.st_model.proofs.Same.{IsLiveOption}
+use Rattle.st_simulation.proofs.Same.{IsLiveOption}
 use Rattle.st_install.proofs.SameReads.{Shown, lives, name, Alike, ValueAlike, OptionalAlike, AlikeValue, AlikeValues, AlikeOption, AlikeObject, AlikeAnswer, joins_alike}
 
 -- a kept birth's object, in both

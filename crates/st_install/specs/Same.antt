@@ -7,7 +7,7 @@ use Rattle.st_model.specs.Births.{Births, births}
 use Rattle.st_model.specs.Table.{Table, table, bounded_table}
 use Rattle.st_model.specs.Show.{pointer_of, IsKept, Shows}
 use Rattle.st_model.specs.Saving.{settled_after}
-use Rattle.st_model.specs.Laws.{Runs}
+use Rattle.st_simulation.specs.Laws.{Runs}
 use Rattle.st_scan.specs.Views.{MethodView}
 use Rattle.st_code.specs.Methods.{PartsView}
 use Rattle.st_install.specs.Plans.{Plan}

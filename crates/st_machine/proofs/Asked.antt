@@ -15,9 +15,9 @@ use Rattle.st_model.specs.Events.{comes, event, in_world}
 use Rattle.st_model.specs.Settled.{reclaim}
 use Rattle.st_model.specs.Saving.{store_process, settled_after, save}
 use Rattle.st_model.specs.View.{View, IsWhole}
-use Rattle.st_model.proofs.Outside.{event_shown}
-use Rattle.st_model.proofs.Between.{shows_settled}
-use Rattle.st_model.proofs.CyclesSame.{store_process-same}
+use Rattle.st_simulation.proofs.Outside.{event_shown}
+use Rattle.st_simulation.proofs.Between.{shows_settled}
+use Rattle.st_simulation.proofs.CyclesSame.{store_process-same}
 use Rattle.st_input.specs.Coming.{came}
 use Rattle.st_frames.specs.declared.frame.Frame.{Frame}
 use Rattle.st_frames.specs.Shown.{shown, registers_of, IsReady}

@@ -17,8 +17,8 @@ use Rattle.st_model.specs.Contexts.{fetch_scheduled_registers}
 use Rattle.st_model.specs.Saving.{store_active, store_process}
 use Rattle.st_model.specs.Show.{IsUsed}
 use Rattle.st_model.specs.Foreseen.{IsSound}
-use Rattle.st_model.proofs.Between.{as_table, switched_sound}
-use Rattle.st_model.proofs.ContextsSame.{fetch_scheduled_registers-same}
+use Rattle.st_simulation.proofs.Between.{as_table, switched_sound}
+use Rattle.st_simulation.proofs.ContextsSame.{fetch_scheduled_registers-same}
 use Rattle.st_frames.specs.Narrow.{IsNarrow}
 use Rattle.st_frames.proofs.Closed.{is_closed}
 use Rattle.st_model.specs.Events.{is_held}

@@ -11,7 +11,7 @@ use Rattle.st_model.specs.Cycles.{cycle, run, run_of, finished, finished_of}
 use Rattle.st_model.specs.Show.{Shows, IsKept}
 use Rattle.st_model.specs.Foreseen.{foreseen_cycle, IsSound, EndsShown}
 use Rattle.st_model.specs.Calls.{transition_of}
-use Rattle.st_model.proofs.CyclesShown.{sound_shown}
+use Rattle.st_simulation.proofs.CyclesShown.{sound_shown}
 use Rattle.st_model.specs.declared.outcome.Outcome.TheVariants as code_outcome
 use Rattle.st_model.specs.Values.{value}
 use Rattle.st_machine.specs.declared.cycling.CycleEnd.{CycleEnd}

@@ -11,7 +11,7 @@ use Rattle.st_model.specs.Table.{Table, table, settled_table}
 use Rattle.st_model.specs.Settled.{AnyRefTo, IsRefTo, IsRoot, held_root, page_root, IsSettled, settled_set, reclaim}
 use Rattle.st_model.specs.View.{View, SettlesTo, view_roots}
 use Rattle.st_model.proofs.SettledIs.{settled_is, settled_once}
-use Rattle.st_model.proofs.Reclaimed.{table_finite_in}
+use Rattle.st_simulation.proofs.Reclaimed.{table_finite_in}
 use Rattle.st_model.proofs.Roots.{any_either, any_left, any_right, any_replicate, settled_alike}
 use Rattle.st_frames.specs.declared.frame.Frame.{Frame}
 use Rattle.st_frames.specs.Shown.{shown, registers_of, filled, IsReady}

@@ -42,4 +42,3 @@ pub mod Text
 pub mod Image
 pub mod Start
 pub mod Faults
-pub mod Laws

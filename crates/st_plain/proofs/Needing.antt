@@ -8,7 +8,7 @@ use Rattle.st_model.specs.Settled.{Refers, AnyRefTo, IsRoot, held_root, page_roo
 use Rattle.st_model.specs.View.{View, SettlesTo, view_roots}
 use Rattle.st_model.proofs.SettledIs.{or_cases, below_true, object_is, is_object, root_is, is_root-of}
 use Rattle.st_model.proofs.SettledLemmas.{is_some-of, some_is}
-use Rattle.st_model.proofs.Reclaimed.{table_finite_in}
+use Rattle.st_simulation.proofs.Reclaimed.{table_finite_in}
 use Rattle.st_model.proofs.Settling.{DropsTo, left, left_is, settled}
 use Rattle.st_model.proofs.Rounds.{KeepsNeeded, all_kept, settled_all, moved_roots}
 use Rattle.st_plain.specs.Held.{register_roots, names_held}

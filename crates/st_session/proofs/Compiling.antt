@@ -6,7 +6,7 @@ use Rattle.st_model.specs.Births.{Births}
 use Rattle.st_model.specs.Table.{Table, table, bounded_table}
 use Rattle.st_model.specs.Settled.{reclaim}
 use Rattle.st_model.specs.Show.{Shows}
-use Rattle.st_model.specs.Laws.{Runs}
+use Rattle.st_simulation.specs.Laws.{Runs}
 use Rattle.st_model.specs.View.{View, IsWhole, SettlesTo}
 use Rattle.st_frames.specs.declared.frame.Frame.{Frame}
 use Rattle.st_frames.specs.Shown.{IsFrame, IsReady, shown}

@@ -15,7 +15,7 @@ use Rattle.st_model.specs.View.{View, IsWhole}
 use Rattle.st_model.specs.Contexts.{fetch_scheduled_registers}
 use Rattle.st_model.specs.Start.{idle_registers, idle_state}
 use Rattle.st_model.specs.Foreseen.{ShownAgain}
-use Rattle.st_model.proofs.Again.{fetched_shown}
+use Rattle.st_simulation.proofs.Again.{fetched_shown}
 use Rattle.st_frames.specs.declared.frame.Frame.{Frame}
 use Rattle.st_frames.specs.Shown.{FetchesFrame, shown}
 use Rattle.st_frames.proofs.Closed.{closed_idle}

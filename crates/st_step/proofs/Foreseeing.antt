@@ -11,7 +11,7 @@ use Rattle.st_model.specs.Show.{Shows, raised}
 use Rattle.st_model.specs.Foreseen.{Foretells}
 use Rattle.st_model.specs.View.{View, IsWhole}
 use Rattle.st_model.proofs.Raised.{raised_shown}
-use Rattle.st_model.proofs.CyclesShown.{foretells, does_as_births}
+use Rattle.st_simulation.proofs.CyclesShown.{foretells, does_as_births}
 use Rattle.st_frames.specs.declared.frame.Frame.{Frame}
 use Rattle.st_frames.specs.Shown.{shown, IsReady}
 use Rattle.st_frames.proofs.Closed.{is_closed}

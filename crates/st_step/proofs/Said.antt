@@ -9,7 +9,7 @@ use Rattle.st_model.specs.Machine.{State, Died, Went, after, ◌>>=◌, ◌>>◌
 use Rattle.st_model.specs.Steps.{get_sp, get_active, found, object_named, object, check, or_die, fetch_field, top, under}
 use Rattle.st_model.specs.Table.{Table, table, bounded_table}
 use Rattle.st_model.specs.Bytecodes.{step}
-use Rattle.st_model.proofs.Going.{step_names_top}
+use Rattle.st_simulation.proofs.Going.{step_names_top}
 
 less_none : (n : ℕ) → n - 0 ≡ n
 less_none n = omega arith

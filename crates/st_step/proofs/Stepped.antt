@@ -21,11 +21,11 @@ use Rattle.st_model.specs.Bytecodes.{step}
 use Rattle.st_model.specs.Show.{Shows, IsUsed}
 use Rattle.st_model.specs.Foreseen.{Foretells}
 use Rattle.st_model.specs.View.{View, Held, IsWhole}
-use Rattle.st_model.proofs.HeapsSame.{same_used}
-use Rattle.st_model.proofs.Started.{naming, heaps_start}
-use Rattle.st_model.proofs.CyclesShown.{foretells}
-use Rattle.st_model.proofs.Closed.{step_closed}
-use Rattle.st_model.proofs.Deeds.{deed_uses, deed_leaves_there}
+use Rattle.st_simulation.proofs.HeapsSame.{same_used}
+use Rattle.st_simulation.proofs.Started.{naming, heaps_start}
+use Rattle.st_simulation.proofs.CyclesShown.{foretells}
+use Rattle.st_simulation.proofs.Closed.{step_closed}
+use Rattle.st_simulation.proofs.Deeds.{deed_uses, deed_leaves_there}
 use Rattle.st_frames.specs.declared.frame.Frame.{Frame}
 use Rattle.st_frames.specs.declared.registers.Registers.{Registers as Words}
 use Rattle.st_frames.specs.Narrow.{IsNarrow}

@@ -8,7 +8,7 @@ use Rattle.st_model.specs.Table.{Table, IsTabular}
 use Rattle.st_model.specs.Steps.{fetch_field, store_field}
 use Rattle.st_model.specs.Storage.{Standing, Putting, store_element, stream_element, take_next, put_next}
 use Rattle.st_model.specs.Deeds.{copies_pixels, deed_done, world_done, with_deed}
-use Rattle.st_model.proofs.Deeds.{deed_leaves, store_field-commutes}
+use Rattle.st_simulation.proofs.Deeds.{deed_leaves, store_field-commutes}
 use Rattle.st_frames.proofs.Commuting.{went, died}
 
 module _ (m : ObjectMemory Table) (tabular : IsTabular m) (d : Deed) (plain : copies_pixels d ≡ false) where

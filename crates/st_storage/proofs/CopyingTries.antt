@@ -12,7 +12,7 @@ use Rattle.st_model.specs.Calls.{Reads}
 use Rattle.st_model.specs.Steps.{top}
 use Rattle.st_model.specs.BitBlt.{Copy, read_copy, primitive_copy_bits}
 use Rattle.st_model.specs.Deeds.{is_done, deed_of_trial}
-use Rattle.st_model.proofs.BitBltLeft.{bits-copied, bits-failed}
+use Rattle.st_simulation.proofs.BitBltLeft.{bits-copied, bits-failed}
 use Rattle.st_memory.specs.declared.objects.Objects.{Ghosts}
 use Rattle.st_frames.specs.declared.registers.Registers.{Registers as Words}
 use Rattle.st_frames.specs.Rows.{row_state, state_of, RowLeaves}

@@ -9,7 +9,7 @@ use st_memory::Objects;
 use st_model::{Dead, Deed, Tried};
 
 /// Primitive 96: the pixels are copied that the receiver tells, a BitBlt. It is the answer, and stays where it stands.
-#[tactic(auto, using(st_frames::proofs::Doing::rows, st_model::proofs::BitBltLeft::bits))]
+#[tactic(auto, using(st_frames::proofs::Doing::rows, st_simulation::proofs::BitBltLeft::bits))]
 pub fn primitive_copy_bits<O: Objects>(m: &O, r: &Registers) -> Result<Tried, Dead>
     ensures does { RowLeaves O.Objects.own (primitive_copy_bits O.names)
         is_done deed_of_trial m.now r.now result m.now r.now }

@@ -1,6 +1,0 @@
--- The law is a lemma.
-use Rattle.st_model.proofs.Again.{fetched_shown}
-use Rattle.st_model.proofs.start_shows_births.Goals as goal
-
-pub returns : goal.returns
-returns c = fetched_shown
