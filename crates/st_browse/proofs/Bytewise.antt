@@ -9,8 +9,8 @@ use Rattle.std.proofs.lemmas.Map.Text.{is_eq-slice_cmp}
 use Rattle.st_model.specs.Values.{Value}
 use Rattle.st_model.specs.Objects.{size_of, first_unit}
 use Rattle.st_model.specs.Table.{Table}
-use Rattle.st_names.specs.Tables.{is_text}
-use Rattle.st_names.specs.Texts.{text_at}
+use Rattle.st_scope.specs.Tables.{is_text}
+use Rattle.st_scope.specs.Texts.{text_at}
 use Rattle.st_model.specs.View.{View, IsWhole, object_of}
 use Rattle.st_call.proofs.Escaping.{first_none, size_is, unit_is}
 use Rattle.st_browse.specs.Naming.{compared}

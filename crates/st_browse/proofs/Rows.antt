@@ -6,7 +6,7 @@ use Rattle.st_model.specs.Values.{Value, Small, Ref}
 use Rattle.st_model.specs.Objects.{Object, nil}
 use Rattle.st_model.specs.Table.{Table}
 use Rattle.st_model.specs.View.{is_live, object_of}
-use Rattle.st_names.specs.Texts.{text_at}
+use Rattle.st_scope.specs.Texts.{text_at}
 use Rattle.st_browse.specs.Fields.{field_at, fields_in, named}
 use Rattle.st_browse.specs.Classes.{member, global_at, globals_in, is_class, classes, on_side}
 use Rattle.st_browse.specs.Methods.{formed, dictionary_of, if_method, method_at, methods_in, method_named, methods}

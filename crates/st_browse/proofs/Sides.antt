@@ -4,7 +4,7 @@ use Rattle.std.specs.Prelude.{◌&&◌, nat_le, if◌then◌else◌}
 use Rattle.st_model.specs.Objects.{is_pointers}
 use Rattle.st_model.specs.Table.{Table}
 use Rattle.st_model.specs.View.{is_live, object_of}
-use Rattle.st_names.specs.Tables.{is_text}
+use Rattle.st_scope.specs.Tables.{is_text}
 use Rattle.st_browse.specs.Naming.{Named}
 use Rattle.st_browse.specs.Fields.{fields_in}
 use Rattle.st_browse.specs.Classes.{is_class, text_in}

@@ -7,8 +7,8 @@ use Rattle.st_model.specs.Values.{Value, Small, Ref, value_of}
 use Rattle.st_model.specs.Objects.{is_bytes}
 use Rattle.st_model.specs.Table.{Table}
 use Rattle.st_model.specs.View.{is_live, object_of}
-use Rattle.st_names.specs.Tables.{is_text}
-use Rattle.st_names.specs.Texts.{text_at}
+use Rattle.st_scope.specs.Tables.{is_text}
+use Rattle.st_scope.specs.Texts.{text_at}
 use Rattle.st_browse.proofs.Parting.{dropped}
 
 -- what has a text is there

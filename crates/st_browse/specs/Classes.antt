@@ -4,8 +4,8 @@ use Rattle.std.specs.List.{filter_map, range_with_len}
 use Rattle.st_model.specs.Values.{Value, Ref}
 use Rattle.st_model.specs.Table.{Table}
 use Rattle.st_model.specs.View.{object_of}
-use Rattle.st_names.specs.Tables.{is_text}
-use Rattle.st_names.specs.Texts.{text_at}
+use Rattle.st_scope.specs.Tables.{is_text}
+use Rattle.st_scope.specs.Texts.{text_at}
 use Rattle.st_browse.specs.Naming.{Named, in_order, first_named}
 use Rattle.st_browse.specs.Fields.{field_at, fields_in, named}
 

@@ -4,7 +4,7 @@ use Rattle.st_model.specs.Values.{Value}
 use Rattle.st_model.specs.Objects.{is_pointers}
 use Rattle.st_model.specs.Table.{Table}
 use Rattle.st_model.specs.View.{is_live, object_of}
-use Rattle.st_names.specs.Texts.{text_at}
+use Rattle.st_scope.specs.Texts.{text_at}
 use Rattle.st_browse.specs.Naming.{Named}
 
 -- field i of an object of kind Pointers

@@ -6,7 +6,7 @@ use Rattle.st_model.specs.Values.{Value, is_small}
 use Rattle.st_model.specs.Objects.{is_method}
 use Rattle.st_model.specs.Table.{Table}
 use Rattle.st_model.specs.View.{is_live, object_of}
-use Rattle.st_names.specs.Shapes.{is_power_of_two}
+use Rattle.st_scope.specs.Shapes.{is_power_of_two}
 use Rattle.st_browse.specs.Naming.{Named, in_order, first_named}
 use Rattle.st_browse.specs.Fields.{field_at, fields_in, named}
 

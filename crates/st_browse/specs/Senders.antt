@@ -6,8 +6,8 @@ use Rattle.st_model.specs.declared.page.PageObject.TheVariants.{SymbolClass}
 use Rattle.st_model.specs.Objects.{place_of}
 use Rattle.st_model.specs.Table.{Table}
 use Rattle.st_model.specs.View.{object_of}
-use Rattle.st_names.specs.Tables.{is_text}
-use Rattle.st_names.specs.Texts.{text_at}
+use Rattle.st_scope.specs.Tables.{is_text}
+use Rattle.st_scope.specs.Texts.{text_at}
 use Rattle.st_emit.specs.Resolving.{special_selector, first_special}
 use Rattle.st_browse.specs.Naming.{Named}
 use Rattle.st_browse.specs.Methods.{methods, has_method}

@@ -2,15 +2,15 @@
 
 ghost use Rattle.std.specs.Prelude.{◌≡◌, bytes_eq};
 ghost use Rattle.st_model.specs.Values.{value};
-ghost use Rattle.st_names.specs.Tables.{is_text};
-ghost use Rattle.st_names.specs.Texts.{text_at};
+ghost use Rattle.st_scope.specs.Tables.{is_text};
+ghost use Rattle.st_scope.specs.Texts.{text_at};
 ghost use Rattle.st_browse.specs.Naming.{compared};
 ghost use Rattle.st_browse.specs.Entries.{IsName, name_of};
 
 use crate::fields::is_name;
 use st_memory::Memory;
 use st_model::Oop;
-use st_names::is_text;
+use st_scope::is_text;
 use std::cmp::Ordering;
 
 /// How two names stand to each other by their bytes.
@@ -55,7 +55,7 @@ pub fn is_same<M: Memory>(m: &M, name: Oop, o: Oop) -> bool
 }
 
 /// Whether a name has these bytes.
-#[tactic(auto, using(crate::proofs::Bytewise::same_bytes), unfolding(st_names::specs::Texts::text_at))]
+#[tactic(auto, using(crate::proofs::Bytewise::same_bytes), unfolding(st_scope::specs::Texts::text_at))]
 pub fn has_text<M: Memory>(m: &M, name: Oop, text: &[u8]) -> bool
     requires { IsName (M.view m.now).objects (value name) }
     ensures { result ≡ bytes_eq (name_of (M.view m.now).objects name) text.now }

@@ -3,7 +3,7 @@
 ghost use Rattle.std.specs.Prelude.{◌≡◌, ◌≤◌, true, false, Some, None, IfSome};
 ghost use Rattle.st_model.specs.Values.{value};
 ghost use Rattle.st_model.specs.View.{IsKnown};
-ghost use Rattle.st_names.specs.Texts.{found, text_at};
+ghost use Rattle.st_scope.specs.Texts.{found, text_at};
 ghost use Rattle.st_browse.specs.Fields.{field_at, fields_in, named};
 ghost use Rattle.st_browse.specs.Entries.{IsName, name_of, named_if};
 
@@ -47,7 +47,7 @@ pub fn count_fields<M: Memory>(m: &M, o: Oop) -> u32
 }
 
 /// Whether an object of kind Bytes is there.
-#[tactic(auto, unfolding(st_names::specs::Texts::text_at))]
+#[tactic(auto, unfolding(st_scope::specs::Texts::text_at))]
 pub fn is_name<M: Memory>(m: &M, o: Oop) -> bool
     ensures name { result ≡ true → IsName (M.view m.now).objects (value o) }
     ensures text { let t = (M.view m.now).objects in

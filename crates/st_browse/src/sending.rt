@@ -13,7 +13,7 @@ ghost use Rattle.st_browse.specs.Entries.{IsBody};
 use crate::codes::{Body, body_of, has_special};
 use st_memory::Memory;
 use st_model::Oop;
-use st_names::is_text;
+use st_scope::is_text;
 
 /// The pointer of the class of Symbols.
 const SYMBOL_CLASS: u16 = 56;

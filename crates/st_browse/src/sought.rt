@@ -2,7 +2,7 @@
 
 ghost use Rattle.std.specs.Prelude.{◌≡◌, IfSome, option_and_then, option_map};
 ghost use Rattle.st_model.specs.Values.{value};
-ghost use Rattle.st_names.specs.Texts.{found};
+ghost use Rattle.st_scope.specs.Texts.{found};
 ghost use Rattle.st_chunk.specs.Asks.{ask_of, side_of};
 ghost use Rattle.st_browse.specs.Display.{display_reply};
 ghost use Rattle.st_browse.specs.Replies.{methods_text, object_reply};

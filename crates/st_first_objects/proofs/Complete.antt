@@ -5,7 +5,7 @@ use Rattle.std.specs.List.{position}
 use Rattle.std.proofs.Math.Seq.{drop-length}
 use Rattle.std.proofs.lemmas.Bool.{ne_eqb, both_ways}
 use Rattle.std.proofs.lemmas.List.Quantifiers.{position-Some}
-use Rattle.st_declarations.specs.Parts.{Part}
+use Rattle.st_kernel_text.specs.Parts.{Part}
 use Rattle.st_model.specs.Limits.{most_words}
 use Rattle.st_model.specs.Values.{Value, Ref, value_of, AllLive}
 use Rattle.st_model.specs.declared.oop.Oop.{Oop}

@@ -4,7 +4,7 @@ use Rattle.std.specs.Prelude.{◌&&◌, not, Result, Ok, Err, IsErrAnd}
 use Rattle.st_first_objects.specs.declared.unmade.Unmade.{Unmade}
 use Rattle.st_first_objects.specs.declared.unmade.Unmade.TheVariants.{NoRoom, OutOfMemory}
 use Rattle.st_first_objects.specs.Ordered.{Becomes, IsOrder}
-use Rattle.st_declarations.specs.Parts.{Part}
+use Rattle.st_kernel_text.specs.Parts.{Part}
 use Rattle.st_first_objects.specs.declared.thing.What.TheVariants as what
 use Rattle.st_first_objects.specs.Things.{Thing, numbered, is}
 use Rattle.st_first_objects.specs.Orders.{Order, is_made, put, with_symbol, want, want_all, wanted_by, want_parts, order, last_things, first_things, empty, selectors, selector_symbols, scheduling, lists}

@@ -1,8 +1,8 @@
 -- What is found among the classes.
 use Rattle.std.proofs.Common.{◌≡◌, ℕ, Bool, true, false, cond, List, [], ◌∷◌, ◌++◌, Some, None, Option, is_some, Bor, refl, sym, ap, ◌∙◌}
 use Rattle.std.proofs.Common.{inl, inr, ◌⊎◌, arith, ◌+◌, ◌<◌, ◌≤◌, length, Vec, Global}
-use Rattle.st_declarations.specs.Lists.{texts_of}
-use Rattle.st_declarations.proofs.Listed.{texts_long}
+use Rattle.st_kernel_text.specs.Lists.{texts_of}
+use Rattle.st_kernel_text.proofs.Listed.{texts_long}
 use Rattle.std.proofs.lemmas.Bool.{le-leb}
 use Rattle.std.proofs.lemmas.Bool.Decides.{leb_tells}
 use Rattle.std.specs.Prelude.{nat_le, bytes_eq, option_map}

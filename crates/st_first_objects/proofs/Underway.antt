@@ -8,8 +8,8 @@ use Rattle.std.proofs.lemmas.Option.{unwrap_or-slice_get, slice_get_within}
 use Rattle.std.specs.Prelude.{unwrap_or}
 use Rattle.std.proofs.lemmas.List.{length-replicate}
 use Rattle.std.proofs.Math.ListN.{length-set}
-use Rattle.st_declarations.specs.declared.shape.Shape.{Shape}
-use Rattle.st_declarations.specs.declared.shape.Shape.TheVariants as shape
+use Rattle.st_kernel_text.specs.declared.shape.Shape.{Shape}
+use Rattle.st_kernel_text.specs.declared.shape.Shape.TheVariants as shape
 use Rattle.st_model.specs.Limits.{most_words}
 use Rattle.st_model.specs.Values.{Ref, value_of}
 use Rattle.st_model.specs.Objects.{Object, one, words_of}

@@ -5,7 +5,7 @@ use Rattle.std.proofs.lemmas.Bool.{both_ways}
 use Rattle.std.specs.Prelude.{◌||◌, ◌&&◌, bytes_eq}
 use Rattle.std.proofs.lemmas.Slice.Eq.{bytes_eq-Decides}
 use Rattle.st_chunk.proofs.Cases.{by_test}
-use Rattle.st_declarations.specs.Lists.{texts_of}
+use Rattle.st_kernel_text.specs.Lists.{texts_of}
 use Rattle.st_first_objects.specs.Classes.{is_none}
 use Rattle.st_first_objects.specs.Things.{Thing, numbered}
 use Rattle.st_first_objects.specs.declared.thing.What.{What}

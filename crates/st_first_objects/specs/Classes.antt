@@ -2,10 +2,10 @@
 use Rattle.std.specs.Prelude.{ℕ, ◌+◌, suc, nat_le, bytes_eq, ◌&&◌, not, Bool, true, false, List, [], ◌∷◌, ◌++◌, length, codes, Option, unwrap_or, if◌then◌else◌, is_some}
 use Rattle.std.specs.List.{list_any}
 use Rattle.std.specs.Map.{lookup}
-use Rattle.st_declarations.specs.declared.shape.Shape.{Shape}
-use Rattle.st_declarations.specs.declared.shape.Shape.TheVariants.{Fixed}
-use Rattle.st_declarations.specs.Words.{is_word}
-use Rattle.st_declarations.specs.Parts.{Class, Part, class, pool}
+use Rattle.st_kernel_text.specs.declared.shape.Shape.{Shape}
+use Rattle.st_kernel_text.specs.declared.shape.Shape.TheVariants.{Fixed}
+use Rattle.st_kernel_text.specs.Words.{is_word}
+use Rattle.st_kernel_text.specs.Parts.{Class, Part, class, pool}
 
 -- a class by the part that declares it: that part's number, the superclass's name, the shape and number of fields of its instances, and
 -- the names of its own variables

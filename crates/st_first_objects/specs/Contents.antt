@@ -1,8 +1,8 @@
 -- What is in each of the first objects.
 use Rattle.std.specs.Prelude.{ℕ, zero, suc, ◌+◌, ◌&&◌, bytes_eq, Bool, List, [], ◌∷◌, filter, map, replicate, slice_get, codes, Option, Some, if◌then◌else◌}
-use Rattle.st_declarations.specs.declared.shape.Shape.{Shape}
-use Rattle.st_declarations.specs.declared.shape.Shape.TheVariants as shape
-use Rattle.st_declarations.specs.Parts.{Part, pool}
+use Rattle.st_kernel_text.specs.declared.shape.Shape.{Shape}
+use Rattle.st_kernel_text.specs.declared.shape.Shape.TheVariants as shape
+use Rattle.st_kernel_text.specs.Parts.{Part, pool}
 use Rattle.st_first_objects.specs.declared.thing.What.{What}
 use Rattle.st_first_objects.specs.declared.thing.What.TheVariants as what
 use Rattle.st_first_objects.specs.Things.{Thing, only, named, numbered, within, is, symbol, class as class_thing}

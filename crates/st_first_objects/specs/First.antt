@@ -6,7 +6,7 @@ use Rattle.st_model.specs.Objects.{words_of}
 use Rattle.st_model.specs.Machine.{Head}
 use Rattle.st_model.specs.Table.{Table}
 use Rattle.st_model.specs.View.{View, with_object, empty_view}
-use Rattle.st_declarations.specs.Parts.{Part}
+use Rattle.st_kernel_text.specs.Parts.{Part}
 use Rattle.st_first_objects.specs.declared.thing.What.TheVariants as what
 use Rattle.st_first_objects.specs.Things.{Thing, only}
 use Rattle.st_first_objects.specs.Plans.{Plan, plan}

@@ -2,7 +2,7 @@
 use Rattle.std.specs.Prelude.{ℕ, ◌+◌, ◌*◌, zero, suc, nat_eq, ◌&&◌, not, Bool, List, [], ◌∷◌, ◌++◌, map, codes, if◌then◌else◌}
 use Rattle.std.specs.List.{list_any}
 use Rattle.st_emit.specs.Selectors.{special_sends}
-use Rattle.st_declarations.specs.Parts.{Class, Pool, Part, class, pool, global}
+use Rattle.st_kernel_text.specs.Parts.{Class, Pool, Part, class, pool, global}
 use Rattle.st_first_objects.specs.declared.thing.What.{What}
 use Rattle.st_first_objects.specs.declared.thing.What.TheVariants as what
 use Rattle.st_first_objects.specs.Things.{Thing, only, named, numbered, within, is, same, symbol, class as class_thing}

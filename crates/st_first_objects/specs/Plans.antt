@@ -1,6 +1,6 @@
 -- All that the contents of the first objects follow from.
 use Rattle.std.specs.Prelude.{List}
-use Rattle.st_declarations.specs.Parts.{Part}
+use Rattle.st_kernel_text.specs.Parts.{Part}
 use Rattle.st_first_objects.specs.Classes.{Classes, classes}
 use Rattle.st_first_objects.specs.Orders.{Order, order}
 

@@ -2,7 +2,7 @@
 use Rattle.std.specs.Prelude.{ℕ, Bool, List, map, bytes_eq}
 use Rattle.std.specs.List.{list_any}
 use Rattle.std.specs.Borrow.{Bor}
-use Rattle.st_declarations.specs.Lists.{texts_of}
+use Rattle.st_kernel_text.specs.Lists.{texts_of}
 use Rattle.st_first_objects.specs.declared.thing.Thing as declared_thing
 use Rattle.st_first_objects.specs.declared.classes.Declared as declared_class
 use Rattle.st_first_objects.specs.declared.thing.What.{What}

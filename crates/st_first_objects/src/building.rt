@@ -1,6 +1,6 @@
 // The order of all things of a kernel text.
 ghost use Rattle.std.specs.Prelude.{◌≡◌, ◌≤◌, length, IfOk, OnOk, Result};
-ghost use Rattle.st_declarations.specs.Views.{parts_of};
+ghost use Rattle.st_kernel_text.specs.Views.{parts_of};
 ghost use Rattle.st_emit.specs.Selectors.{sends_now};
 ghost use Rattle.st_first_objects.specs.Orders.{want_all, page, numbered_from, selectors, selector_symbols, first_things, last_things, want_parts, order};
 ghost use Rattle.st_first_objects.specs.Views.{named_of};
@@ -11,8 +11,8 @@ use crate::pools::Pools;
 use crate::thing::{Thing, What};
 use crate::unmade::Unmade;
 use crate::wanted::want_part;
-use st_declarations::Part;
 use st_emit::SPECIAL_SENDS;
+use st_kernel_text::Part;
 use std::alloc::{AllocError, Global};
 
 /// The root page, in the order of its pointers.

@@ -1,13 +1,13 @@
 // The classes that a text declares.
 ghost use Rattle.std.specs.Prelude.{◌≡◌, ◌+◌, [], ◌∷◌, ◌++◌, false, length, is_some, IfOk, OnOk};
-ghost use Rattle.st_declarations.specs.Parts.{Class};
-ghost use Rattle.st_declarations.specs.Lists.{texts_of};
-ghost use Rattle.st_declarations.specs.Views.{class_of, part_of, parts_of};
+ghost use Rattle.st_kernel_text.specs.Parts.{Class};
+ghost use Rattle.st_kernel_text.specs.Lists.{texts_of};
+ghost use Rattle.st_kernel_text.specs.Views.{class_of, part_of, parts_of};
 ghost use Rattle.st_first_objects.specs.Classes.{undeclared, found, declared, is_nil, limited, inherited, declared_in, with_class, with_part, classes};
 ghost use Rattle.st_first_objects.specs.Views.{declared_of};
 
 use indexmap::IndexMap;
-use st_declarations::{Class, Part, Shape, Text};
+use st_kernel_text::{Class, Part, Shape, Text};
 use std::alloc::{AllocError, Global};
 use std::marker::Model;
 

@@ -1,7 +1,7 @@
 // The memory of the first objects.
 ghost use Rattle.std.specs.Prelude.{◌≡◌, ◌≤◌, false, true, OnOk, IfOk, IfErr};
 ghost use Rattle.st_model.specs.Limits.{most_words};
-ghost use Rattle.st_declarations.specs.Views.{parts_of};
+ghost use Rattle.st_kernel_text.specs.Views.{parts_of};
 ghost use Rattle.st_first_objects.specs.declared.unmade.Unmade.TheVariants.{NoRoom};
 ghost use Rattle.st_first_objects.specs.First.{first_view, has_room};
 ghost use Rattle.st_first_objects.specs.Placing.{IsBegun, PlacesAll, HasWords};
@@ -10,7 +10,7 @@ use crate::placing::{place_content, pointer, pointer_at};
 use crate::plan::Plan;
 use crate::thing::{Thing, What};
 use crate::unmade::Unmade;
-use st_declarations::Part;
+use st_kernel_text::Part;
 use st_memory::Loader;
 use st_model::{Demand, MOST_WORDS};
 use std::alloc::Global;

@@ -1,7 +1,7 @@
 // What is in each of the first objects.
 ghost use Rattle.std.specs.Prelude.{◌≡◌, replicate, map, slice_get, IfOk};
-ghost use Rattle.st_declarations.specs.Views.{part_of, parts_of};
-ghost use Rattle.st_declarations.specs.Lists.{texts_of};
+ghost use Rattle.st_kernel_text.specs.Views.{part_of, parts_of};
+ghost use Rattle.st_kernel_text.specs.Lists.{texts_of};
 ghost use Rattle.st_first_objects.specs.declared.thing.What.TheVariants.{Variable, Symbol};
 ghost use Rattle.st_first_objects.specs.Things.{within, is};
 ghost use Rattle.st_emit.specs.Selectors.{sends_now};
@@ -23,8 +23,8 @@ use crate::content::{Body, Content, Field, PLACES, empty_fields};
 use crate::order::Order;
 use crate::thing::{Thing, What};
 use crate::unmade::Unmade;
-use st_declarations::{Part, Shape, Text};
 use st_emit::SPECIAL_SENDS;
+use st_kernel_text::{Part, Shape, Text};
 use std::alloc::{AllocError, Global};
 use std::marker::Model;
 
@@ -209,7 +209,7 @@ pub(crate) struct Plan<'a> {
 }
 
 impl<'a> Model for Plan<'a> {
-    ghost use Rattle.st_declarations.specs.Views.{parts_of};
+    ghost use Rattle.st_kernel_text.specs.Views.{parts_of};
     ghost use Rattle.st_first_objects.specs.Plans.{Plan};
 
     ghost Value = { Plan };

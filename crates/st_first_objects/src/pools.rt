@@ -1,11 +1,11 @@
 // The classes that have class variables.
 ghost use Rattle.std.specs.Prelude.{◌≡◌, ℕ, ◌||◌, List, IfOk, OnOk};
-ghost use Rattle.st_declarations.specs.Views.{part_of, parts_of};
+ghost use Rattle.st_kernel_text.specs.Views.{part_of, parts_of};
 ghost use Rattle.st_first_objects.specs.Classes.{shares, has_pool};
 ghost use Rattle.st_first_objects.specs.Views.{is_listed};
 
 use indexmap::IndexSet;
-use st_declarations::Part;
+use st_kernel_text::Part;
 use std::alloc::{AllocError, Global};
 use std::marker::Model;
 
@@ -18,8 +18,8 @@ pub(crate) struct Pools<'a> {
 
 impl<'a> Model for Pools<'a> {
     ghost use Rattle.std.specs.Prelude.{◌≡◌, ℕ, List};
-    ghost use Rattle.st_declarations.specs.Parts.{Part};
-    ghost use Rattle.st_declarations.specs.Views.{parts_of};
+    ghost use Rattle.st_kernel_text.specs.Parts.{Part};
+    ghost use Rattle.st_kernel_text.specs.Views.{parts_of};
     ghost use Rattle.st_first_objects.specs.Classes.{has_pool};
     ghost use Rattle.st_first_objects.specs.Views.{is_listed};
 

@@ -1,8 +1,8 @@
 // What each part makes.
 ghost use Rattle.std.specs.Prelude.{◌≡◌, ◌++◌, ℕ, List, IfOk, OnOk, map};
-ghost use Rattle.st_declarations.specs.Parts.{Part};
-ghost use Rattle.st_declarations.specs.Lists.{texts_of};
-ghost use Rattle.st_declarations.specs.Views.{class_of, pool_of, part_of};
+ghost use Rattle.st_kernel_text.specs.Parts.{Part};
+ghost use Rattle.st_kernel_text.specs.Lists.{texts_of};
+ghost use Rattle.st_kernel_text.specs.Views.{class_of, pool_of, part_of};
 ghost use Rattle.st_first_objects.specs.declared.thing.What.TheVariants.{Variable};
 ghost use Rattle.st_first_objects.specs.Things.{within};
 ghost use Rattle.st_first_objects.specs.Orders.{want_all, class_things, names_things, shared_things, pool_things, wanted_by};
@@ -11,7 +11,7 @@ ghost use Rattle.st_first_objects.specs.Views.{thing_of, things_of};
 use crate::order::Order;
 use crate::pools::Pools;
 use crate::thing::{Thing, What};
-use st_declarations::{Class, Part, Pool, Text};
+use st_kernel_text::{Class, Part, Pool, Text};
 use std::alloc::AllocError;
 
 /// A class, its metaclass, their dictionaries and its name are wanted.

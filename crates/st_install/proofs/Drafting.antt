@@ -16,7 +16,7 @@ use Rattle.st_code.specs.Methods.{PartsView}
 use Rattle.st_install.specs.declared.planning.PlanDraft.{PlanDraft}
 use Rattle.st_install.specs.declared.planning.Growth.{Growth}
 use Rattle.st_install.specs.declared.plan.NewObject.{NewObject as CodeObject}
-use Rattle.st_names.specs.declared.unread.Unread.TheVariants.{Dies}
+use Rattle.st_scope.specs.declared.unread.Unread.TheVariants.{Dies}
 use Rattle.st_install.specs.Plans.{Made, NewObject, Store, Plan}
 use Rattle.st_install.specs.Symbols.{Symbols}
 use Rattle.st_install.specs.Literals.{PlacedAll}

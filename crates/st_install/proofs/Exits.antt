@@ -18,15 +18,15 @@ use Rattle.st_code.specs.declared.fault.CodeFault.{CodeFault}
 use Rattle.st_code.specs.declared.fault.CodeFault.TheVariants as code_at
 use Rattle.st_code.specs.Methods.{PartsView, code, fault, parts_or}
 use Rattle.st_code.specs.Reported.{IsFault, reported}
-use Rattle.st_names.specs.declared.fault.InstallFault.{InstallFault}
-use Rattle.st_names.specs.declared.fault.InstallFault.TheVariants as fault_of
-use Rattle.st_names.specs.Calls.{class_of_name, names}
+use Rattle.st_scope.specs.declared.fault.InstallFault.{InstallFault}
+use Rattle.st_scope.specs.declared.fault.InstallFault.TheVariants as fault_of
+use Rattle.st_scope.specs.Calls.{class_of_name, names}
 use Rattle.st_install.specs.Calls.{ready}
-use Rattle.st_names.specs.Meanings.{class_found}
+use Rattle.st_scope.specs.Meanings.{class_found}
 use Rattle.st_install.specs.Rooms.{TellsReady}
-use Rattle.st_names.specs.Seen.{AnswersNames}
-use Rattle.st_names.specs.Alike.{SeesAlike}
-use Rattle.st_names.proofs.Alike.{code_alike}
+use Rattle.st_scope.specs.Seen.{AnswersNames}
+use Rattle.st_scope.specs.Alike.{SeesAlike}
+use Rattle.st_scope.proofs.Alike.{code_alike}
 use Rattle.st_chunk.specs.Definitions.{Definition}
 use Rattle.st_protocol.specs.declared.refusal.Refusal.{Refusal}
 use Rattle.st_protocol.specs.declared.refusal.Refusal.TheVariants.{Syntax, Code}

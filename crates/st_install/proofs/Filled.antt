@@ -15,7 +15,7 @@ use Rattle.st_model.specs.View.{View}
 use Rattle.st_install.specs.declared.plan.Part.{Part as CodePart}
 use Rattle.st_install.specs.declared.plan.Part.TheVariants as part
 use Rattle.st_install.specs.declared.plan.NewObject.{NewObject as CodeObject}
-use Rattle.st_names.specs.Meanings.{values}
+use Rattle.st_scope.specs.Meanings.{values}
 use Rattle.st_install.specs.Readies.{part_of, parts_of, objects_of}
 use Rattle.st_install.specs.Readies.{object_of as planned_of}
 use Rattle.st_install.specs.Carried.{Goes, Becomes, KeepsFields, IsPlannable, IsShaped, AreShaped}

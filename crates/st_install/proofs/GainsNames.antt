@@ -5,11 +5,11 @@ use Rattle.st_model.specs.Machine.{Head, State}
 use Rattle.st_model.specs.Table.{Table, table}
 use Rattle.st_scan.specs.Views.{MethodView}
 use Rattle.st_emit.specs.Names.{NamesView}
-use Rattle.st_names.specs.declared.fault.InstallFault.{InstallFault}
-use Rattle.st_names.specs.declared.fault.InstallFault.TheVariants.{Shape}
-use Rattle.st_names.specs.Mentions.{mentioned_in}
-use Rattle.st_names.specs.Shapes.{check_symbol_table, check_symbols}
-use Rattle.st_names.specs.Calls.{or_fault, as_table, names_seen, names}
+use Rattle.st_scope.specs.declared.fault.InstallFault.{InstallFault}
+use Rattle.st_scope.specs.declared.fault.InstallFault.TheVariants.{Shape}
+use Rattle.st_scope.specs.Mentions.{mentioned_in}
+use Rattle.st_scope.specs.Shapes.{check_symbol_table, check_symbols}
+use Rattle.st_scope.specs.Calls.{or_fault, as_table, names_seen, names}
 use Rattle.st_install.proofs.GoesStoring.{HasFields}
 use Rattle.st_install.proofs.GoesReading.{Gives, gives_answer, gives_then, gives_next, gives_less, Any, IfAny, gives_tried, IsField, gives_field, IsSoundTable}
 use Rattle.st_install.proofs.GoesSymbols.{gives_checked}

@@ -10,14 +10,14 @@ use Rattle.st_model.specs.Lookup.{pointer_if, half_word}
 use Rattle.st_model.specs.Table.{Table, entry, table}
 use Rattle.st_scan.specs.Views.{MethodView}
 use Rattle.st_emit.specs.Names.{NamesView}
-use Rattle.st_names.specs.declared.fault.InstallFault.{InstallFault}
-use Rattle.st_names.specs.declared.fault.InstallFault.TheVariants.{Shape}
-use Rattle.st_names.specs.Tables.{check_fields, bytes_of, member_named}
-use Rattle.st_names.specs.Classes.{none_if, until_nil, superclass, class_and, chain_within, chain, instance_lineage, metaclass_lineage, lineage}
-use Rattle.st_names.specs.Mentions.{mentioned_in}
-use Rattle.st_names.specs.Variables.{fields_unless, fields_or_none, name_unless, name_of, names_of, own_names, field_names, pool_unless, pool_or_none, own_pools, pools, member_if_any, or_later, association_in, shared_by, shared_names}
-use Rattle.st_names.specs.Shapes.{check_symbol_table, check_symbols}
-use Rattle.st_names.specs.Calls.{or_fault, as_table, names_seen, names}
+use Rattle.st_scope.specs.declared.fault.InstallFault.{InstallFault}
+use Rattle.st_scope.specs.declared.fault.InstallFault.TheVariants.{Shape}
+use Rattle.st_scope.specs.Tables.{check_fields, bytes_of, member_named}
+use Rattle.st_scope.specs.Classes.{none_if, until_nil, superclass, class_and, chain_within, chain, instance_lineage, metaclass_lineage, lineage}
+use Rattle.st_scope.specs.Mentions.{mentioned_in}
+use Rattle.st_scope.specs.Variables.{fields_unless, fields_or_none, name_unless, name_of, names_of, own_names, field_names, pool_unless, pool_or_none, own_pools, pools, member_if_any, or_later, association_in, shared_by, shared_names}
+use Rattle.st_scope.specs.Shapes.{check_symbol_table, check_symbols}
+use Rattle.st_scope.specs.Calls.{or_fault, as_table, names_seen, names}
 use Rattle.st_install.proofs.GoesReading.{Gives, gives_told, gives_answer, gives_dead, gives_then, gives_next, gives_less, Any, IfAny, gives_tried, gives_page, gives_field, gives_count, IsSoundTable}
 use Rattle.st_install.proofs.GoesSymbols.{gives_bytes, gives_checked, gives_member, fetch_gives}
 use Rattle.st_install.proofs.GoesPlanning.{HasDictionary, gives_dictionary}

@@ -14,15 +14,15 @@ use Rattle.st_model.specs.Objects.{nil as nil_value}
 use Rattle.st_model.specs.Machine.{Head, State, Step, is_there, used, is_over}
 use Rattle.st_model.specs.Table.{Table, table, bounded_table}
 use Rattle.st_code.specs.Methods.{PartsView}
-use Rattle.st_names.specs.declared.fault.InstallFault.{InstallFault}
-use Rattle.st_names.specs.declared.fault.InstallFault.TheVariants.{Shape}
+use Rattle.st_scope.specs.declared.fault.InstallFault.{InstallFault}
+use Rattle.st_scope.specs.declared.fault.InstallFault.TheVariants.{Shape}
 use Rattle.st_install.specs.Plans.{Part, There, Made, NewObject, Plan, method_object, pointers_object, words_of_all, demand_of_all}
 use Rattle.st_install.specs.Goes.{IsHeaded}
-use Rattle.st_names.specs.Classes.{class_fields, class_association}
+use Rattle.st_scope.specs.Classes.{class_fields, class_association}
 use Rattle.st_install.specs.Symbols.{Symbols, symbols_in, symbol_part}
 use Rattle.st_install.specs.Literals.{PlacedAll, place_owner}
 use Rattle.st_install.specs.Dictionaries.{Ending, Holds, Vacant, Nowhere, count_places, count_vacant, place_of_selector, is_nearly_full, grows_at, grows_for, dictionary_objects, grown_objects}
-use Rattle.st_names.specs.Shapes.{is_power_of_two, check_dictionary}
+use Rattle.st_scope.specs.Shapes.{is_power_of_two, check_dictionary}
 use Rattle.st_install.specs.Shapes.{check_size}
 use Rattle.st_install.specs.Planning.{method_number, objects_with_method, grown_number, grown_if, sized, plan_objects, plan}
 use Rattle.st_install.specs.Calls.{both, is_crowded, room_or, with_room, planned, ready}

@@ -13,7 +13,7 @@ use Rattle.st_model.specs.Primitives.{check_class}
 use Rattle.st_model.specs.Objects.{is_bytes}
 use Rattle.st_model.specs.Table.{Table, table, bounded_table}
 use Rattle.st_install.specs.Plans.{Part, There, Made, bytes_object, pointers_object}
-use Rattle.st_names.specs.Tables.{check_fields, bytes_of, member_key, member_name, has_name, found_or, first_from, first_field, member_named}
+use Rattle.st_scope.specs.Tables.{check_fields, bytes_of, member_key, member_name, has_name, found_or, first_from, first_field, member_named}
 use Rattle.st_install.specs.Symbols.{symbol_text, is_symbol, symbol_named, NamedSymbol, symbol_part, Symbols, vacant_field, grown_fields, symbol_in_field, symbol_in_array, with_new_symbol, make_symbol, found_or_made, seek_unless, with_symbol, with_symbols, symbols_there, symbols_for}
 use Rattle.st_install.proofs.GoesMaking.{IsClassFor, CanMake}
 use Rattle.st_install.proofs.GoesStoring.{HasFields}

@@ -19,9 +19,9 @@ use Rattle.st_install.specs.Plans.{There, Made, pointers_object}
 use Rattle.st_install.specs.Dictionaries.{one_more_if, count_places, count_vacant, grows_for, grown_objects}
 use Rattle.st_install.specs.Planning.{grown_if}
 use Rattle.st_install.specs.Readies.{part_of, parts_of, object_of, objects_of}
-use Rattle.st_names.specs.declared.unread.Unread.{Unread}
-use Rattle.st_names.specs.declared.unread.Unread.TheVariants.{Dies, OutOfMemory}
-use Rattle.st_names.specs.Findings.{Finds}
+use Rattle.st_scope.specs.declared.unread.Unread.{Unread}
+use Rattle.st_scope.specs.declared.unread.Unread.TheVariants.{Dies, OutOfMemory}
+use Rattle.st_scope.specs.Findings.{Finds}
 use Rattle.st_install.specs.Naming.{nil}
 use Rattle.st_install.specs.Growing.{objects_in, IsGrown, Grows}
 

@@ -17,8 +17,8 @@ use Rattle.st_install.specs.declared.planning.PlanDraft.{PlanDraft}
 use Rattle.st_install.specs.declared.planning.Growth.{Growth}
 use Rattle.st_install.specs.Shapes.{check_size}
 use Rattle.st_install.specs.Readies.{part_of, object_of, objects_of, plan_of}
-use Rattle.st_names.specs.declared.unread.Unread.{Unread}
-use Rattle.st_names.specs.declared.unread.Unread.TheVariants.{Dies, OutOfMemory}
+use Rattle.st_scope.specs.declared.unread.Unread.{Unread}
+use Rattle.st_scope.specs.declared.unread.Unread.TheVariants.{Dies, OutOfMemory}
 use Rattle.st_install.specs.Plans.{Part, Made, NewObject}
 use Rattle.st_install.specs.Growing.{Grows}
 use Rattle.st_install.specs.PlanDrafts.{TellsGrowth, IsGrowth, plan_from, TellsPlan}

@@ -9,9 +9,9 @@ use Rattle.st_model.specs.Table.{Table, table}
 use Rattle.st_scan.specs.Views.{MethodView, variable, statement, no_statements}
 use Rattle.st_code.specs.Methods.{PartsView, code}
 use Rattle.st_emit.specs.Names.{NamesView}
-use Rattle.st_names.specs.declared.fault.InstallFault.TheVariants.{NoClass, NoGlobals, NoRoom, Shape}
+use Rattle.st_scope.specs.declared.fault.InstallFault.TheVariants.{NoClass, NoGlobals, NoRoom, Shape}
 use Rattle.st_install.specs.Plans.{Plan, There, Made, bytes_object, method_object, pointers_object}
-use Rattle.st_names.specs.Calls.{class_of_name, names}
+use Rattle.st_scope.specs.Calls.{class_of_name, names}
 use Rattle.st_install.specs.Calls.{ready}
 use Rattle.st_install.specs.Installing.{install}
 use Rattle.st_install.proofs.Opened.{opened}

@@ -12,9 +12,9 @@ use Rattle.st_scan.specs.Views.{MethodView}
 use Rattle.st_emit.specs.Names.{NamesView}
 use Rattle.st_code.specs.declared.fault.Fault as code_fault
 use Rattle.st_code.specs.Methods.{PartsView, code}
-use Rattle.st_names.specs.declared.fault.InstallFault.{InstallFault}
+use Rattle.st_scope.specs.declared.fault.InstallFault.{InstallFault}
 use Rattle.st_install.specs.Plans.{Plan}
-use Rattle.st_names.specs.Calls.{class_of_name, names}
+use Rattle.st_scope.specs.Calls.{class_of_name, names}
 use Rattle.st_install.specs.Calls.{ready}
 use Rattle.st_install.specs.Installing.{install}
 use Rattle.st_install.proofs.SameAnswers.{class_answered, class_refused, names_answered, ready_answered, ready_refused, install_answered}

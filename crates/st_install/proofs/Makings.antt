@@ -25,7 +25,7 @@ use Rattle.st_install.specs.Plans.{Part, There, Made, NewObject, words_of_new, w
 use Rattle.st_install.specs.Carried.{HasGone, Goes, Becomes, Makes, IsPlannable, IsShaped, AreShaped}
 use Rattle.st_install.specs.Goes.{HasHeader}
 use Rattle.st_install.specs.Installing.{size_by, literals_by, make_new, make_all}
-use Rattle.st_names.specs.Meanings.{values}
+use Rattle.st_scope.specs.Meanings.{values}
 use Rattle.st_install.specs.Readies.{objects_of}
 use Rattle.st_install.specs.Readies.{object_of as planned_of}
 use Rattle.st_install.proofs.Going.{gone_first, same_state, state_of}

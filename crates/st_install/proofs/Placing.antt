@@ -22,8 +22,8 @@ use Rattle.st_emit.specs.Views.{literal_view, literals_view, members_view}
 use Rattle.st_install.specs.declared.plan.Part.{Part as CodePart}
 use Rattle.st_install.specs.declared.plan.NewObject.{NewObject as CodeObject}
 use Rattle.st_install.specs.declared.single.Owner.{Owner}
-use Rattle.st_names.specs.declared.unread.Unread.{Unread}
-use Rattle.st_names.specs.declared.unread.Unread.TheVariants.{Dies, OutOfMemory}
+use Rattle.st_scope.specs.declared.unread.Unread.{Unread}
+use Rattle.st_scope.specs.declared.unread.Unread.TheVariants.{Dies, OutOfMemory}
 use Rattle.st_install.specs.Plans.{Part, Made, NewObject, pointers_object}
 use Rattle.st_install.specs.Symbols.{NamedSymbol}
 use Rattle.st_install.specs.Literals.{Placed, PlacedAll, then_placed, none_placed, place_number, place_character, place_string, place_symbol, place_pointer, place_array, place_literal, place_members, place_literals}

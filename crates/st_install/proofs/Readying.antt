@@ -19,23 +19,23 @@ use Rattle.st_emit.specs.Views.{literals_view}
 use Rattle.st_code.specs.declared.compiler.MethodParts.{MethodParts}
 use Rattle.st_code.specs.Methods.{PartsView}
 use Rattle.st_code.specs.MethodDrafts.{parts_view}
-use Rattle.st_names.specs.declared.fault.InstallFault.{InstallFault}
-use Rattle.st_names.specs.declared.fault.InstallFault.TheVariants as fault
+use Rattle.st_scope.specs.declared.fault.InstallFault.{InstallFault}
+use Rattle.st_scope.specs.declared.fault.InstallFault.TheVariants as fault
 use Rattle.st_install.specs.declared.plan.NewObject.{NewObject as CodeObject}
 use Rattle.st_install.specs.declared.plan.Part.{Part as CodePart}
 use Rattle.st_install.specs.declared.plan.Ready.{Ready}
 use Rattle.st_install.specs.declared.planning.PlanDraft.{PlanDraft}
 use Rattle.st_install.specs.declared.single.Owner.{Owner}
 use Rattle.st_install.specs.declared.symbol_plan.SymbolPlan.{SymbolPlan}
-use Rattle.st_names.specs.declared.unread.Unread.{Unread}
-use Rattle.st_names.specs.declared.unread.Unread.TheVariants.{Dies, OutOfMemory}
+use Rattle.st_scope.specs.declared.unread.Unread.{Unread}
+use Rattle.st_scope.specs.declared.unread.Unread.TheVariants.{Dies, OutOfMemory}
 use Rattle.st_install.specs.Plans.{There, Plan, method_object}
 use Rattle.st_install.specs.Symbols.{symbol_part, symbols_in, symbols_for}
-use Rattle.st_names.specs.Classes.{class_association}
+use Rattle.st_scope.specs.Classes.{class_association}
 use Rattle.st_install.specs.Literals.{PlacedAll}
 use Rattle.st_install.specs.Calls.{planned, ready, with_room}
 use Rattle.st_install.specs.Readies.{part_of, parts_of, object_of, objects_of, stores_of, plan_of}
-use Rattle.st_names.specs.Findings.{Finds}
+use Rattle.st_scope.specs.Findings.{Finds}
 use Rattle.st_install.specs.Told.{named_of, ArePlaced, PlacesAll, literals_step}
 use Rattle.st_install.specs.Naming.{Names, TellsNames}
 use Rattle.st_install.specs.Rooms.{TellsReady}

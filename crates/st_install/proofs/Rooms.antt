@@ -9,7 +9,7 @@ use Rattle.st_model.specs.Machine.{State, Went, used, is_over, answer, after, â—
 use Rattle.st_model.specs.Objects.{one, words_of}
 use Rattle.st_model.specs.Table.{Table, table, total_used}
 use Rattle.st_model.specs.View.{View, fits}
-use Rattle.st_names.specs.declared.fault.InstallFault.TheVariants.{NoRoom}
+use Rattle.st_scope.specs.declared.fault.InstallFault.TheVariants.{NoRoom}
 use Rattle.st_install.specs.declared.plan.NewObject.{NewObject as CodeObject}
 use Rattle.st_install.specs.Readies.{object_of, objects_of}
 use Rattle.st_install.specs.Plans.{NewObject, Plan, words_of_new, words_of_all, demand_of_all}

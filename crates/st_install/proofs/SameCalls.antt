@@ -11,10 +11,10 @@ use Rattle.st_simulation.proofs.HeapsSame.{same_used}
 use Rattle.st_simulation.proofs.Started.{naming, heaps_start}
 use Rattle.st_scan.specs.Views.{MethodView}
 use Rattle.st_code.specs.Methods.{PartsView}
-use Rattle.st_names.specs.declared.fault.InstallFault.{InstallFault}
-use Rattle.st_names.specs.declared.fault.InstallFault.TheVariants.{NoClass, NoRoom}
+use Rattle.st_scope.specs.declared.fault.InstallFault.{InstallFault}
+use Rattle.st_scope.specs.declared.fault.InstallFault.TheVariants.{NoClass, NoRoom}
 use Rattle.st_install.specs.Plans.{NewObject, Plan, words_of_all, demand_of_all}
-use Rattle.st_names.specs.Calls.{or_fault, class_among, class_of_name, as_table, names_seen, names}
+use Rattle.st_scope.specs.Calls.{or_fault, class_among, class_of_name, as_table, names_seen, names}
 use Rattle.st_install.specs.Calls.{both, is_crowded, room_or, with_room, planned, ready}
 use Rattle.st_install.specs.SamePlans.{renamed_objects, renamed_plan, renamed_class, IsLiveClass, renamed_ready, IsLiveReady, as_it_was, IsNameless}
 use Rattle.st_install.specs.Same.{AnswersAlike, HasHeader, ClassShows, NamesShow, ReadyShows}

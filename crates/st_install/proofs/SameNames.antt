@@ -6,8 +6,8 @@ use Rattle.st_model.specs.Births.{Births, births}
 use Rattle.st_model.specs.Table.{Table, table}
 use Rattle.st_model.specs.Show.{renamed_option}
 use Rattle.st_simulation.proofs.Same.{IsLiveOption}
-use Rattle.st_names.specs.Variables.{fields_unless, fields_or_none, name_unless, name_of, names_of, own_names, field_names, pool_unless, pool_or_none, own_pools, pools, joined, member_if_any, or_later, association_in, shared_by, shared_names}
-use Rattle.st_names.specs.Shapes.{check_dictionary, check_symbol_table, check_symbols}
+use Rattle.st_scope.specs.Variables.{fields_unless, fields_or_none, name_unless, name_of, names_of, own_names, field_names, pool_unless, pool_or_none, own_pools, pools, joined, member_if_any, or_later, association_in, shared_by, shared_names}
+use Rattle.st_scope.specs.Shapes.{check_dictionary, check_symbol_table, check_symbols}
 use Rattle.st_install.proofs.SameReads.{Shown, lives, name, ValueAlike, ValuesAlike, OptionalAlike, AlikeValues, AlikeOption, AlikeAnswer, IsLiveAny, any_renamed, then-alike, then_option-alike, answer_option-alike, none-alike, tried-alike, joins_alike}
 use Rattle.st_install.proofs.SameSteps.{reads_alike}
 use Rattle.st_install.proofs.SameTables.{check_fields-alike, bytes_of-alike, member_named-alike}

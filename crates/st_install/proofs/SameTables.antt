@@ -4,8 +4,8 @@ use Rattle.st_model.specs.Values.{Value, AllLive, renamed_all}
 use Rattle.st_model.specs.Machine.{Step, answer, ◌>>=◌}
 use Rattle.st_model.specs.Births.{Births, births}
 use Rattle.st_model.specs.Table.{Table, table}
-use Rattle.st_names.specs.Tables.{check_fields, bytes_of, member_key, member_name, has_name, found_or, first_from, first_field, member_named}
-use Rattle.st_names.specs.Classes.{class_association, class_on_side, class_named, none_if, until_nil, superclass, class_and, chain_within, chain, Lineage, instance_lineage, metaclass_lineage, lineage}
+use Rattle.st_scope.specs.Tables.{check_fields, bytes_of, member_key, member_name, has_name, found_or, first_from, first_field, member_named}
+use Rattle.st_scope.specs.Classes.{class_association, class_on_side, class_named, none_if, until_nil, superclass, class_and, chain_within, chain, Lineage, instance_lineage, metaclass_lineage, lineage}
 use Rattle.st_install.proofs.SameReads.{Shown, lives, name, Alike, ValueAlike, ValuesAlike, AlikeValue, AlikeValues, AlikeOption, AlikeAnswer, then_value-alike, then_answer-alike, then-alike, answer-alike, joins_alike}
 use Rattle.st_install.proofs.SameSteps.{reads_alike, fetch_field-alike}
 

@@ -20,8 +20,8 @@ use Rattle.st_grammar.proofs.FormedTrees.{means_formed}
 use Rattle.st_emit.specs.Names.{NamesView}
 use Rattle.st_code.specs.declared.fault.Fault as code_fault
 use Rattle.st_code.specs.Methods.{fault, parts_or}
-use Rattle.st_names.specs.declared.fault.InstallFault.{InstallFault}
-use Rattle.st_names.specs.Calls.{class_of_name, names}
+use Rattle.st_scope.specs.declared.fault.InstallFault.{InstallFault}
+use Rattle.st_scope.specs.Calls.{class_of_name, names}
 use Rattle.st_install.specs.Calls.{ready}
 use Rattle.st_install.specs.Installing.{install}
 use Rattle.st_install.specs.Plans.{Plan}

@@ -13,10 +13,10 @@ use Rattle.st_model.specs.Primitives.{check_class}
 use Rattle.st_model.specs.Table.{Table, table}
 use Rattle.st_model.specs.Calls.{Reads, itself}
 use Rattle.st_model.proofs.Runs.{run-then, run-next, after-went, after-died}
-use Rattle.st_names.specs.Tables.{is_text}
+use Rattle.st_scope.specs.Tables.{is_text}
 use Rattle.st_install.specs.Symbols.{symbol_text, is_symbol}
-use Rattle.st_names.specs.Texts.{text_at}
-use Rattle.st_names.proofs.TextsAt.{tried_bytes}
+use Rattle.st_scope.specs.Texts.{text_at}
+use Rattle.st_scope.proofs.TextsAt.{tried_bytes}
 
 same_if : (w : ℕ) (b : Bool) → (w % 2 == 1) ≡ b → w ≡ 56 → same_value (if b then Small (w / 2) else Ref (w / 2)) (Ref 28) ≡ true
 same_if w true e q = let z : w % 2 ≡ 1 = grind (arith, nat_tests) in absurd (omega (arith, z, q))

@@ -27,12 +27,12 @@ use Rattle.st_emit.proofs.Noting.{at_put}
 use Rattle.st_install.specs.declared.plan.Part.{Part as CodePart}
 use Rattle.st_install.specs.declared.plan.Part.TheVariants as part
 use Rattle.st_install.specs.declared.plan.NewObject.{NewObject as CodeObject}
-use Rattle.st_names.specs.declared.unread.Unread.{Unread}
-use Rattle.st_names.specs.declared.unread.Unread.TheVariants.{Dies, OutOfMemory}
+use Rattle.st_scope.specs.declared.unread.Unread.{Unread}
+use Rattle.st_scope.specs.declared.unread.Unread.TheVariants.{Dies, OutOfMemory}
 use Rattle.st_install.specs.declared.symbol_plan.SymbolPlan.{SymbolPlan}
 use Rattle.st_install.specs.Plans.{Part, There, Made, NewObject, bytes_object, pointers_object}
 use Rattle.st_install.specs.Symbols.{Symbols, NamedSymbol, is_vacant, grown_size, symbol_part, symbols_of, symbols_among, symbols_in, symbol_named, make_symbol, found_or_made, seek_unless, with_symbol, with_symbols, symbols_there, symbols_for}
-use Rattle.st_names.specs.Texts.{found}
+use Rattle.st_scope.specs.Texts.{found}
 use Rattle.st_install.specs.Readies.{part_of, parts_of, object_of, objects_of, store_of, stores_of}
 use Rattle.st_install.specs.Told.{named_of}
 use Rattle.st_install.specs.Naming.{nil, all_fields, AreFields, IsNamed, Becomes, with_named, in_field, grown_with, in_array, with_made, Names, TellsFields, TellsNaming, TellsNames, naming}

@@ -6,9 +6,9 @@ use Rattle.st_model.specs.Values.{Value}
 use Rattle.st_model.specs.Machine.{ObjectMemory, Head, Step, Went, answer, tried, used, is_over, ◌>>=◌, ◌>>◌}
 use Rattle.st_model.specs.Steps.{or_die}
 use Rattle.st_code.specs.Methods.{PartsView}
-use Rattle.st_names.specs.declared.fault.InstallFault.{InstallFault}
-use Rattle.st_names.specs.declared.fault.InstallFault.TheVariants.{NoRoom, Shape}
-use Rattle.st_names.specs.Classes.{class_association}
+use Rattle.st_scope.specs.declared.fault.InstallFault.{InstallFault}
+use Rattle.st_scope.specs.declared.fault.InstallFault.TheVariants.{NoRoom, Shape}
+use Rattle.st_scope.specs.Classes.{class_association}
 use Rattle.st_install.specs.Plans.{Plan, demand_of_all}
 use Rattle.st_install.specs.Planning.{plan}
 

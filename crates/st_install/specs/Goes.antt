@@ -13,7 +13,7 @@ use Rattle.st_scan.specs.Views.{MethodView}
 use Rattle.st_emit.specs.Names.{NamesView}
 use Rattle.st_code.specs.Methods.{PartsView}
 use Rattle.st_install.specs.Plans.{Part, There, Made, NewObject, Plan}
-use Rattle.st_names.specs.Calls.{names}
+use Rattle.st_scope.specs.Calls.{names}
 use Rattle.st_install.specs.Calls.{ready}
 use Rattle.st_install.specs.Installing.{install}
 

@@ -5,8 +5,8 @@ use Rattle.st_model.specs.Values.{Value}
 use Rattle.st_model.specs.Machine.{State, Died, Went, Step, ◌>>=◌}
 use Rattle.st_model.specs.Table.{Table, table}
 use Rattle.st_install.specs.declared.plan.NewObject.{NewObject as CodeObject}
-use Rattle.st_names.specs.declared.unread.Unread.{Unread}
-use Rattle.st_names.specs.declared.unread.Unread.TheVariants.{Dies, OutOfMemory}
+use Rattle.st_scope.specs.declared.unread.Unread.{Unread}
+use Rattle.st_scope.specs.declared.unread.Unread.TheVariants.{Dies, OutOfMemory}
 use Rattle.st_install.specs.Plans.{Part, NewObject, Plan}
 use Rattle.st_install.specs.Dictionaries.{grows_for}
 use Rattle.st_install.specs.Planning.{grown_if}

@@ -8,8 +8,8 @@ use Rattle.st_model.specs.Objects.{place_of}
 use Rattle.st_model.specs.Machine.{State, Died, Went, Step, ◌>>=◌}
 use Rattle.st_model.specs.Steps.{count_fields, fetch_fields}
 use Rattle.st_model.specs.Table.{Table, table}
-use Rattle.st_names.specs.declared.unread.Unread.{Unread}
-use Rattle.st_names.specs.declared.unread.Unread.TheVariants.{Dies, OutOfMemory}
+use Rattle.st_scope.specs.declared.unread.Unread.{Unread}
+use Rattle.st_scope.specs.declared.unread.Unread.TheVariants.{Dies, OutOfMemory}
 use Rattle.st_install.specs.declared.plan.Part.{Part as CodePart}
 use Rattle.st_install.specs.declared.symbol_plan.SymbolPlan.{SymbolPlan}
 use Rattle.st_install.specs.Plans.{Part, There, Made, pointers_object}

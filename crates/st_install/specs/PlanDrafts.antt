@@ -11,8 +11,8 @@ use Rattle.st_install.specs.declared.plan.Ready.{Ready}
 use Rattle.st_install.specs.declared.planning.PlanDraft.{PlanDraft}
 use Rattle.st_install.specs.declared.planning.Growth.{Growth}
 use Rattle.st_install.specs.declared.single.Owner.{Owner}
-use Rattle.st_names.specs.declared.unread.Unread.{Unread}
-use Rattle.st_names.specs.declared.unread.Unread.TheVariants.{Dies, OutOfMemory}
+use Rattle.st_scope.specs.declared.unread.Unread.{Unread}
+use Rattle.st_scope.specs.declared.unread.Unread.TheVariants.{Dies, OutOfMemory}
 use Rattle.st_install.specs.Plans.{Part, There, Made, NewObject, Plan, method_object}
 use Rattle.st_install.specs.Symbols.{Symbols}
 use Rattle.st_install.specs.Literals.{PlacedAll}

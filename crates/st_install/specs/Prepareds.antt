@@ -9,7 +9,7 @@ use Rattle.st_model.specs.View.{View}
 use Rattle.st_scan.specs.Views.{MethodView}
 use Rattle.st_emit.specs.Names.{NamesView}
 use Rattle.st_code.specs.Methods.{PartsView, code}
-use Rattle.st_names.specs.Calls.{class_of_name, names}
+use Rattle.st_scope.specs.Calls.{class_of_name, names}
 use Rattle.st_install.specs.Calls.{ready}
 use Rattle.st_install.specs.Readies.{plan_of, HasRoom}
 use Rattle.st_install.specs.Carried.{HasSmallBodies}

@@ -1,7 +1,7 @@
 -- What the code's plans mean.
 use Rattle.std.specs.Prelude.{◌≡◌, List, map, length, Result, Ok, Err}
 use Rattle.st_model.specs.Values.{value}
-use Rattle.st_names.specs.declared.fault.InstallFault.{InstallFault}
+use Rattle.st_scope.specs.declared.fault.InstallFault.{InstallFault}
 use Rattle.st_install.specs.declared.plan.Part.{Part as CodePart}
 use Rattle.st_install.specs.declared.plan.Part.TheVariants as part
 use Rattle.st_install.specs.declared.plan.NewObject.{NewObject as CodeObject}

@@ -11,7 +11,7 @@ use Rattle.st_simulation.specs.Laws.{Runs}
 use Rattle.st_scan.specs.Views.{MethodView}
 use Rattle.st_code.specs.Methods.{PartsView}
 use Rattle.st_install.specs.Plans.{Plan}
-use Rattle.st_names.specs.Calls.{class_of_name, names}
+use Rattle.st_scope.specs.Calls.{class_of_name, names}
 use Rattle.st_install.specs.Calls.{ready}
 use Rattle.st_install.specs.Installing.{install}
 use Rattle.st_install.specs.SamePlans.{renamed_class, IsLiveClass, renamed_ready, IsLiveReady, renamed_plan, as_it_was, IsNameless}

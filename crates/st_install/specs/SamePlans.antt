@@ -1,7 +1,7 @@
 -- Plans with their names changed, and what a plan names; the same of what the calls answer.
 use Rattle.std.specs.Prelude.{ℕ, List, [], ◌∷◌, Result, Ok, Err}
 use Rattle.st_model.specs.Values.{Value, renamed, IsLive}
-use Rattle.st_names.specs.declared.fault.InstallFault.{InstallFault}
+use Rattle.st_scope.specs.declared.fault.InstallFault.{InstallFault}
 use Rattle.st_install.specs.Plans.{Part, There, Made, NewObject, Store, Plan}
 
 -- NAMES CHANGED

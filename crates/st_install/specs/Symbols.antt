@@ -9,7 +9,7 @@ use Rattle.st_model.specs.Steps.{of_page, same_value, fetch_field, fetch_fields,
 use Rattle.st_model.specs.Primitives.{check_class}
 use Rattle.st_emit.specs.Literals.{LiteralView, LiteralsView}
 use Rattle.st_emit.specs.Literals as literals
-use Rattle.st_names.specs.Tables.{bytes_of, is_text, first_field}
+use Rattle.st_scope.specs.Tables.{bytes_of, is_text, first_field}
 use Rattle.st_install.specs.Plans.{Part, There, Made, NewObject, bytes_object, pointers_object, Store}
 
 -- SYMBOLS THAT ARE THERE

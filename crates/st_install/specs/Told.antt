@@ -4,8 +4,8 @@ use Rattle.std.specs.Global.{Vec}
 use Rattle.st_model.specs.Machine.{State, Died, Went, Step}
 use Rattle.st_model.specs.Table.{Table, table}
 use Rattle.st_model.specs.Values.{value}
-use Rattle.st_names.specs.declared.unread.Unread.{Unread}
-use Rattle.st_names.specs.declared.unread.Unread.TheVariants.{Dies, OutOfMemory}
+use Rattle.st_scope.specs.declared.unread.Unread.{Unread}
+use Rattle.st_scope.specs.declared.unread.Unread.TheVariants.{Dies, OutOfMemory}
 use Rattle.st_install.specs.declared.plan.Part.{Part as CodePart}
 use Rattle.st_install.specs.declared.plan.NewObject.{NewObject as CodeObject}
 use Rattle.st_install.specs.declared.single.Single.{Single}

@@ -3,8 +3,8 @@ use Rattle.st_scan.specs.declared.fault.SyntaxFault.{SyntaxFault}
 use Rattle.st_scan.specs.declared.fault.SyntaxFault.TheVariants as syntax
 use Rattle.st_code.specs.declared.fault.CodeFault.{CodeFault}
 use Rattle.st_code.specs.declared.fault.CodeFault.TheVariants as code
-use Rattle.st_names.specs.declared.fault.InstallFault.{InstallFault}
-use Rattle.st_names.specs.declared.fault.InstallFault.TheVariants as fault
+use Rattle.st_scope.specs.declared.fault.InstallFault.{InstallFault}
+use Rattle.st_scope.specs.declared.fault.InstallFault.TheVariants as fault
 use Rattle.st_protocol.specs.declared.refusal.Refusal.TheVariants as refusal
 use Rattle.st_install.specs.declared.unprepared.Unprepared.{Unprepared}
 use Rattle.st_install.specs.declared.unprepared.Unprepared.TheVariants.{Refused, OutOfMemory}

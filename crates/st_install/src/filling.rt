@@ -10,7 +10,7 @@ ghost use Rattle.st_model.specs.Steps.{store_fields, store_bytes};
 ghost use Rattle.st_install.specs.Carried.{Goes, Becomes, KeepsFields, IsShaped, AreShaped, IsPlannable};
 ghost use Rattle.st_install.specs.Goes.{HasHeader};
 ghost use Rattle.st_install.specs.Installing.{part_value, part_values, store_method_fields, fill_method, fill_by, fill_all};
-ghost use Rattle.st_names.specs.Meanings.{values};
+ghost use Rattle.st_scope.specs.Meanings.{values};
 ghost use Rattle.st_install.specs.Readies.{part_of, parts_of, object_of as planned_of, objects_of};
 
 use crate::plan::{NewObject, Part};

@@ -8,7 +8,7 @@ ghost use Rattle.st_model.specs.Calls.{Reads, itself};
 ghost use Rattle.st_install.specs.Plans.{There};
 ghost use Rattle.st_install.specs.Dictionaries.{one_more_if, count_vacant, is_nearly_full, grows_for, grown_objects};
 ghost use Rattle.st_install.specs.Readies.{part_of, parts_of};
-ghost use Rattle.st_names.specs.Findings.{Finds};
+ghost use Rattle.st_scope.specs.Findings.{Finds};
 ghost use Rattle.st_install.specs.Naming.{nil};
 ghost use Rattle.st_install.specs.Growing.{objects_in, Grows};
 
@@ -17,7 +17,7 @@ use crate::plan::{NewObject, Part};
 use crate::single::{ARRAY_CLASS, pointers_object};
 use st_memory::Memory;
 use st_model::{Dead, Oop};
-use st_names::{Unread, class_of, fetch_field};
+use st_scope::{Unread, class_of, fetch_field};
 use std::alloc::{AllocError, Global};
 
 /// 1 where it is nil, and else 0.

@@ -7,7 +7,7 @@ ghost use Rattle.st_model.specs.Table.{table, bounded_table};
 ghost use Rattle.st_install.specs.Carried.{Goes, Becomes, IsPlannable, AreShaped, HasSmallBodies};
 ghost use Rattle.st_install.specs.Goes.{IsReadyFor};
 ghost use Rattle.st_install.specs.Installing.{fill_and_store, install};
-ghost use Rattle.st_names.specs.Meanings.{values};
+ghost use Rattle.st_scope.specs.Meanings.{values};
 ghost use Rattle.st_install.specs.Readies.{HasRoom, objects_of, plan_of};
 
 use crate::filling::{fill_all, part_value};

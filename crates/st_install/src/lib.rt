@@ -32,6 +32,6 @@ pub use laws::{install_gains, install_shows_births};
 pub use plan::Ready;
 pub use preparing::{Prepared, prepare};
 pub use readiness::ready;
-pub use st_names::{InstallFault, class_of_name, names};
+pub use st_scope::{InstallFault, class_of_name, names};
 pub use symbols::symbol_named;
 pub use unprepared::Unprepared;

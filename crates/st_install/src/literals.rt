@@ -12,8 +12,8 @@ use crate::single::{
 };
 use st_emit::Literal;
 use st_memory::Memory;
-use st_names::Unread;
 use st_scan::Signed;
+use st_scope::Unread;
 use std::alloc::{AllocError, Global};
 
 /// Puts an object behind the others, which are fewer than 2^32.

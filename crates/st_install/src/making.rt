@@ -7,7 +7,7 @@ ghost use Rattle.st_model.specs.Table.{bounded_table};
 ghost use Rattle.st_model.specs.View.{fits};
 ghost use Rattle.st_install.specs.Carried.{Goes, Becomes, Makes, IsPlannable, AreShaped};
 ghost use Rattle.st_install.specs.Installing.{size_by, literals_by, make_new, make_all};
-ghost use Rattle.st_names.specs.Meanings.{values};
+ghost use Rattle.st_scope.specs.Meanings.{values};
 ghost use Rattle.st_install.specs.Plans.{demand_of_all};
 ghost use Rattle.st_install.specs.Readies.{object_of as planned_of, objects_of};
 

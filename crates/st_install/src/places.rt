@@ -10,7 +10,7 @@ ghost use Rattle.st_install.specs.Endings.{SeeksAt, SeeksFrom, ending_of, IsSmal
 
 use st_memory::Memory;
 use st_model::{Dead, Oop};
-use st_names::{count_fields, fetch_field};
+use st_scope::{count_fields, fetch_field};
 
 /// The place at which a search ends, counted from 0.
 #[derive(Clone, Copy, Debug, PartialEq, Eq)]

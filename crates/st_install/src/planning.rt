@@ -6,7 +6,7 @@ ghost use Rattle.st_model.specs.Table.{table};
 ghost use Rattle.st_code.specs.MethodDrafts.{parts_view};
 ghost use Rattle.st_install.specs.Readies.{part_of, object_of, plan_of, HasRoom};
 ghost use Rattle.st_install.specs.Carried.{HasSmallBodies};
-ghost use Rattle.st_names.specs.Findings.{Finds};
+ghost use Rattle.st_scope.specs.Findings.{Finds};
 ghost use Rattle.st_install.specs.PlanDrafts.{plan_from, plan_step, TellsGrowth, TellsPlan};
 
 use crate::growing::grown_for;
@@ -18,7 +18,7 @@ use crate::symbol_plan::symbols_for;
 use st_code::MethodParts;
 use st_memory::Memory;
 use st_model::{Dead, Oop};
-use st_names::{Unread, fetch_field};
+use st_scope::{Unread, fetch_field};
 use std::alloc::{AllocError, Global};
 
 /// A plan up to the method: the objects before it.

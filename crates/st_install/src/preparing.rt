@@ -11,8 +11,8 @@ use crate::unprepared::Unprepared;
 use st_chunk::Definition;
 use st_code::compile;
 use st_memory::Memory;
-use st_names::{class_of_name, names};
 use st_parse::parse;
+use st_scope::{class_of_name, names};
 use std::alloc::Global;
 
 /// A method that is ready to be installed.

@@ -6,7 +6,7 @@ ghost use Rattle.st_model.specs.Table.{table};
 ghost use Rattle.st_code.specs.MethodDrafts.{parts_view};
 ghost use Rattle.st_install.specs.Calls.{planned, ready};
 ghost use Rattle.st_install.specs.Readies.{plan_of, HasRoom};
-ghost use Rattle.st_names.specs.Findings.{Finds};
+ghost use Rattle.st_scope.specs.Findings.{Finds};
 ghost use Rattle.st_install.specs.Carried.{HasSmallBodies};
 ghost use Rattle.st_install.specs.Rooms.{TellsReady};
 
@@ -17,7 +17,7 @@ use crate::single::Owner;
 use st_code::MethodParts;
 use st_memory::Memory;
 use st_model::{Dead, Oop};
-use st_names::{InstallFault, Unread, class_association};
+use st_scope::{InstallFault, Unread, class_association};
 use std::alloc::Global;
 
 /// The plan for parts that were compiled for a class, which was found by its name.

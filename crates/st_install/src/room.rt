@@ -2,7 +2,7 @@
 
 ghost use Rattle.std.specs.Prelude.{◌≡◌, ◌<◌, ◌≤◌, ◌^◌, length, Some, Err, IfSome, IfNone, IfOk};
 ghost use Rattle.st_model.specs.Table.{table};
-ghost use Rattle.st_names.specs.declared.fault.InstallFault.TheVariants.{OutOfMemory};
+ghost use Rattle.st_scope.specs.declared.fault.InstallFault.TheVariants.{OutOfMemory};
 ghost use Rattle.st_install.specs.Plans.{words_of_new, words_of_all, demand_of_all};
 ghost use Rattle.st_install.specs.Calls.{with_room};
 ghost use Rattle.st_install.specs.Readies.{object_of, objects_of, plan_of, HasRoom};
@@ -12,7 +12,7 @@ ghost use Rattle.st_install.specs.Rooms.{TellsReady};
 use crate::plan::{NewObject, Ready};
 use st_memory::Memory;
 use st_model::Demand;
-use st_names::InstallFault;
+use st_scope::InstallFault;
 
 /// The words of a new object, where they are below 2^32.
 fn words_of_new(object: &NewObject) -> Option<u32>

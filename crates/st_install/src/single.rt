@@ -13,8 +13,8 @@ ghost use Rattle.st_install.specs.Told.{IsSingle, TellsSingle, part_placed, owne
 use crate::plan::{NewObject, Part};
 use st_memory::Memory;
 use st_model::{Dead, Kind, Oop};
-use st_names::{Unread, class_of, fetch_field};
 use st_scan::{Signed, Text};
+use st_scope::{Unread, class_of, fetch_field};
 use std::alloc::{AllocError, Global};
 use std::collections::BTreeMap;
 

@@ -9,7 +9,7 @@ ghost use Rattle.st_install.specs.Carried.{Goes, Becomes};
 ghost use Rattle.st_install.specs.Dictionaries.{raised_tally};
 ghost use Rattle.st_install.specs.Endings.{ending_of, IsSmallPlace};
 ghost use Rattle.st_install.specs.Installing.{store_all, target, find_place, adopt, add_at, store_planned};
-ghost use Rattle.st_names.specs.Meanings.{values};
+ghost use Rattle.st_scope.specs.Meanings.{values};
 ghost use Rattle.st_install.specs.Placings.{placing_of};
 ghost use Rattle.st_install.specs.Readies.{stores_of, plan_of};
 

@@ -17,7 +17,7 @@ use crate::symbols::symbol_named;
 use st_emit::Literal;
 use st_memory::Memory;
 use st_model::Oop;
-use st_names::{Unread, count_fields, fetch_field};
+use st_scope::{Unread, count_fields, fetch_field};
 use std::alloc::{AllocError, Global};
 use std::collections::BTreeMap;
 

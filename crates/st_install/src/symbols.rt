@@ -7,11 +7,11 @@ ghost use Rattle.st_model.specs.Calls.{Reads, itself};
 ghost use Rattle.st_model.specs.declared.page.PageObject.TheVariants.{SymbolClass};
 ghost use Rattle.st_model.specs.Primitives.{check_class};
 ghost use Rattle.st_install.specs.Symbols.{is_symbol, symbol_named};
-ghost use Rattle.st_names.specs.Texts.{found};
+ghost use Rattle.st_scope.specs.Texts.{found};
 
 use st_memory::Memory;
 use st_model::{Dead, Oop};
-use st_names::{class_of, count_fields, fetch_field, is_text};
+use st_scope::{class_of, count_fields, fetch_field, is_text};
 
 /// It is an instance of Symbol.
 #[tactic(auto, using(st_model::proofs::Runs::runs, crate::proofs::SymbolsAt::classes), unfolding(st_model::specs::Primitives::check_class))]

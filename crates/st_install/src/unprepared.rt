@@ -5,9 +5,9 @@ ghost use Rattle.st_install.specs.Unprepareds.{by_syntax, by_code, by_install};
 ghost use Rattle.st_install.specs.declared.unprepared.Unprepared.TheVariants.{OutOfMemory};
 
 use st_code::CodeFault;
-use st_names::InstallFault;
 use st_protocol::Refusal;
 use st_scan::SyntaxFault;
+use st_scope::InstallFault;
 use std::alloc::AllocError;
 
 /// Why a definition isn't ready to be installed.

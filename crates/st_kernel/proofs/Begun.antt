@@ -17,7 +17,7 @@ use Rattle.st_frames.specs.declared.frame.Frame.{Frame}
 use Rattle.st_frames.specs.declared.registers.Registers.{Registers as Words}
 use Rattle.st_frames.specs.Rows.{row_state, registers_in}
 use Rattle.st_frames.specs.Shown.{IsReady, registers_of, shown, FetchesFrame}
-use Rattle.st_declarations.specs.Parts.{Start}
+use Rattle.st_kernel_text.specs.Parts.{Start}
 use Rattle.st_kernel.specs.Starting.{global_value, method_of, in_new_process, fetch_if, begin_by}
 use Rattle.st_kernel.specs.Built.{IsBegun}
 use Rattle.st_kernel.specs.Following.{idle_frame, Ends}

@@ -6,8 +6,8 @@ use Rattle.st_model.specs.Table.{Table}
 use Rattle.st_model.specs.View.{View}
 use Rattle.st_model.specs.Start.{idle_state}
 use Rattle.st_model.proofs.Showing.{show_is}
-use Rattle.st_declarations.specs.declared.cause.Cause.{Cause}
-use Rattle.st_declarations.specs.Parts.{Side, Start, Part, start}
+use Rattle.st_kernel_text.specs.declared.cause.Cause.{Cause}
+use Rattle.st_kernel_text.specs.Parts.{Side, Start, Part, start}
 use Rattle.st_protocol.specs.Installing.{Install}
 use Rattle.st_kernel.specs.Starting.{begin_by}
 use Rattle.st_kernel.specs.Built.{Built, Fault, fault_at, cause_number, finished, begun_as, begun_in, built_from}

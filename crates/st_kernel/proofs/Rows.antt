@@ -12,10 +12,10 @@ use Rattle.st_model.specs.Steps.{found, object_named, object, stored_at, store_a
 use Rattle.st_model.specs.Methods.{method_header}
 use Rattle.st_model.specs.Storage.{check_not_method_class}
 use Rattle.st_protocol.specs.declared.refusal.Refusal.TheVariants.{NoClass}
-use Rattle.st_declarations.specs.declared.shape.Shape.TheVariants.{Fixed}
-use Rattle.st_declarations.specs.declared.cause.Cause.TheVariants.{Form}
-use Rattle.st_declarations.specs.Parts.{Part, class, opening, header, method, closing, start}
-use Rattle.st_declarations.specs.Texts.{account}
+use Rattle.st_kernel_text.specs.declared.shape.Shape.TheVariants.{Fixed}
+use Rattle.st_kernel_text.specs.declared.cause.Cause.TheVariants.{Form}
+use Rattle.st_kernel_text.specs.Parts.{Part, class, opening, header, method, closing, start}
+use Rattle.st_kernel_text.specs.Texts.{account}
 use Rattle.st_first_objects.specs.First.{has_room}
 use Rattle.st_protocol.specs.Installing.{Install, Refused, Accepted}
 use Rattle.st_kernel.specs.Starting.{first_words, fill_first_context, schedule, schedule_method, in_new_context, in_new_process}

@@ -8,8 +8,8 @@ use Rattle.st_model.specs.Show.{raised}
 use Rattle.st_model.specs.Start.{idle_state}
 use Rattle.st_model.proofs.Raised.{raised_shown}
 use Rattle.st_frames.proofs.Closed.{closed_idle}
-use Rattle.st_declarations.specs.Parts.{Part}
-use Rattle.st_declarations.specs.Texts.{Account, account}
+use Rattle.st_kernel_text.specs.Parts.{Part}
+use Rattle.st_kernel_text.specs.Texts.{Account, account}
 use Rattle.st_first_objects.specs.First.{first_view, view_of, has_room}
 use Rattle.st_protocol.specs.Installing.{Install}
 use Rattle.st_kernel.specs.Built.{Built, Fault, no_side, built_from, without_room, built_by, built}

@@ -10,11 +10,11 @@ use Rattle.st_model.specs.View.{View}
 use Rattle.st_model.specs.Start.{idle_state}
 use Rattle.st_frames.specs.declared.frame.Frame.{Frame}
 use Rattle.st_frames.specs.Shown.{IsReady, shown}
-use Rattle.st_declarations.specs.declared.cause.Cause.{Cause}
-use Rattle.st_declarations.specs.declared.cause.Cause.TheVariants.{Form, Name, Variables, Missing}
-use Rattle.st_declarations.specs.Parts.{Side, Start, Part, class, pool, global, opening, header, method, closing, start}
-use Rattle.st_declarations.specs.Definitions.{definition_by}
-use Rattle.st_declarations.specs.Texts.{Account, account}
+use Rattle.st_kernel_text.specs.declared.cause.Cause.{Cause}
+use Rattle.st_kernel_text.specs.declared.cause.Cause.TheVariants.{Form, Name, Variables, Missing}
+use Rattle.st_kernel_text.specs.Parts.{Side, Start, Part, class, pool, global, opening, header, method, closing, start}
+use Rattle.st_kernel_text.specs.Definitions.{definition_by}
+use Rattle.st_kernel_text.specs.Texts.{Account, account}
 use Rattle.st_first_objects.specs.First.{first_view, has_room}
 use Rattle.st_protocol.specs.Installing.{Install, Installed, Refused, Accepted}
 use Rattle.st_kernel.specs.declared.fault.KernelFault.{KernelFault}

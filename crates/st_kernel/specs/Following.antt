@@ -10,10 +10,10 @@ use Rattle.st_model.specs.Show.{Shows}
 use Rattle.st_model.specs.Start.{idle_state}
 use Rattle.st_frames.specs.declared.frame.Frame.{Frame}
 use Rattle.st_frames.specs.Shown.{IsReady}
-use Rattle.st_declarations.specs.declared.cause.Cause.{Cause}
-use Rattle.st_declarations.specs.Parts.{Side, Part, start}
-use Rattle.st_declarations.specs.Definitions.{AreDefinitions}
-use Rattle.st_declarations.specs.Views.{start_of}
+use Rattle.st_kernel_text.specs.declared.cause.Cause.{Cause}
+use Rattle.st_kernel_text.specs.Parts.{Side, Part, start}
+use Rattle.st_kernel_text.specs.Definitions.{AreDefinitions}
+use Rattle.st_kernel_text.specs.Views.{start_of}
 use Rattle.st_protocol.specs.Installing.{Install}
 use Rattle.st_kernel.specs.declared.fault.KernelFault.{KernelFault}
 use Rattle.st_kernel.specs.declared.part.Heading.{Heading}

@@ -11,9 +11,9 @@ use Rattle.st_model.specs.Lookup.{find}
 use Rattle.st_model.specs.Storage.{check_not_method_class}
 use Rattle.st_model.specs.Contexts.{fetch_scheduled_registers}
 use Rattle.st_model.specs.Table.{Table, table, bounded_table}
-use Rattle.st_names.specs.Tables.{member_named}
+use Rattle.st_scope.specs.Tables.{member_named}
 use Rattle.st_install.specs.Symbols.{symbol_named}
-use Rattle.st_declarations.specs.Parts.{Start}
+use Rattle.st_kernel_text.specs.Parts.{Start}
 
 -- WHAT IS THERE
 

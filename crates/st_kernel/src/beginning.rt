@@ -3,15 +3,15 @@ ghost use Rattle.std.specs.Prelude.{◌≡◌, ◌+◌, true, Ok, Option, Result
 ghost use Rattle.st_model.specs.Objects.{nil};
 ghost use Rattle.st_model.specs.Machine.{empty_world};
 ghost use Rattle.st_model.specs.Start.{idle_state};
-ghost use Rattle.st_declarations.specs.Views.{start_of};
+ghost use Rattle.st_kernel_text.specs.Views.{start_of};
 ghost use Rattle.st_kernel.specs.Starting.{begin_by};
 ghost use Rattle.st_kernel.specs.Built.{IsBegun};
 ghost use Rattle.st_kernel.specs.Following.{IsQuiet, Ends};
 
 use crate::finding::{global_value, method_of};
 use crate::scheduling::{Run, in_new_process};
-use st_declarations::Start;
 use st_frames::{Frame, World, fetch_scheduled, load};
+use st_kernel_text::Start;
 use st_memory::Memory;
 use st_model::{Dead, Oop, Word};
 

@@ -1,15 +1,15 @@
 // The image of a kernel text.
 ghost use Rattle.std.specs.Prelude.{◌≡◌, ◌≤◌, ◌+◌, ◌-◌, ◌^◌, ◌∷◌, List, Option, length, IfOk, IfErr, MatchResult};
 ghost use Rattle.st_image.specs.Back.{CanStart};
-ghost use Rattle.st_declarations.specs.declared.cause.Cause.{Cause as ACause};
-ghost use Rattle.st_declarations.specs.Parts.{Part as APart};
-ghost use Rattle.st_declarations.specs.Views.{part_of, parts_of};
+ghost use Rattle.st_kernel_text.specs.declared.cause.Cause.{Cause as ACause};
+ghost use Rattle.st_kernel_text.specs.Parts.{Part as APart};
+ghost use Rattle.st_kernel_text.specs.Views.{part_of, parts_of};
 ghost use Rattle.st_kernel.specs.Built.{built, without_room, IsBuilt, IsBegun, IsFaultOf};
 
 use crate::fault::{KernelFault, unfinished};
 use crate::following::follow;
-use st_declarations::{Kernel, Part, read};
 use st_first_objects::{Unmade, make_first};
+use st_kernel_text::{Kernel, Part, read};
 use st_memory::{Loader, Memory};
 use st_protocol::Installer;
 use std::alloc::Global;

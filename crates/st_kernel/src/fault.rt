@@ -3,7 +3,7 @@ ghost use Rattle.std.specs.Prelude.{◌≡◌};
 ghost use Rattle.st_kernel.specs.declared.fault.KernelFault.TheVariants.{OutOfMemory};
 ghost use Rattle.st_kernel.specs.Built.{cause_number, unfinished, IsFaultOf};
 
-use st_declarations::Cause;
+use st_kernel_text::Cause;
 use std::alloc::AllocError;
 
 /// Why a kernel text gives no image.

@@ -6,7 +6,7 @@ ghost use Rattle.st_model.specs.Steps.{or_die};
 ghost use Rattle.st_model.specs.Table.{Table, table};
 ghost use Rattle.st_model.specs.Calls.{Reads};
 ghost use Rattle.st_model.specs.View.{IsKnown, is_live, table_of};
-ghost use Rattle.st_names.specs.Texts.{found};
+ghost use Rattle.st_scope.specs.Texts.{found};
 ghost use Rattle.st_kernel.specs.Starting.{global_value, symbol_of, unary_method, method_of};
 
 use st_install::symbol_named;
@@ -14,7 +14,7 @@ use st_lookup::find;
 use st_memory::Memory;
 use st_method::method_arguments;
 use st_model::{Dead, Oop, Word};
-use st_names::{class_of, fetch_field, member_named};
+use st_scope::{class_of, fetch_field, member_named};
 
 /// The pointer of a table of names, where there is one.
 #[tactic(auto, using(crate::proofs::Tables::tables))]

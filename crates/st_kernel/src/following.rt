@@ -1,18 +1,18 @@
 // Following a kernel text over the memory of its first objects.
 ghost use Rattle.std.specs.Prelude.{◌≡◌, ◌≤◌, ◌<◌, ◌-◌, ◌^◌, ◌∷◌, List, Result, IfOk, IfErr, length};
-ghost use Rattle.st_declarations.specs.Parts.{Part as APart, start};
-ghost use Rattle.st_declarations.specs.Views.{start_of, parts_of};
+ghost use Rattle.st_kernel_text.specs.Parts.{Part as APart, start};
+ghost use Rattle.st_kernel_text.specs.Views.{start_of, parts_of};
 ghost use Rattle.st_protocol.specs.Installing.{Install};
-ghost use Rattle.st_declarations.specs.Parts.{Side as ASide};
-ghost use Rattle.st_declarations.specs.Definitions.{AreDefinitions};
+ghost use Rattle.st_kernel_text.specs.Parts.{Side as ASide};
+ghost use Rattle.st_kernel_text.specs.Definitions.{AreDefinitions};
 ghost use Rattle.st_kernel.specs.Built.{Built, Fault, no_side, IsBegun, IsFaultOf};
 ghost use Rattle.st_kernel.specs.Following.{side_in, IsUnderway, Finishes, IsQuiet};
 
 use crate::beginning::begin;
 use crate::fault::{KernelFault, cause_number, unfinished};
 use crate::part::{Heading, Next, follow_part};
-use st_declarations::{Cause, Kernel, Start};
 use st_frames::World;
+use st_kernel_text::{Cause, Kernel, Start};
 use st_memory::Memory;
 use st_protocol::Installer;
 use std::alloc::Global;

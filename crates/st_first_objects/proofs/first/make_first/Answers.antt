@@ -1,6 +1,6 @@
 use Rattle.std.proofs.Common.{◌∙◌, arith, ap, length}
 use Rattle.std.specs.Prelude.{slice_get}
-use Rattle.st_declarations.specs.Views.{parts_of}
+use Rattle.st_kernel_text.specs.Views.{parts_of}
 use Rattle.st_model.specs.View.{View, empty_view}
 use Rattle.st_first_objects.specs.Plans.{Plan}
 use Rattle.st_first_objects.specs.Views.{thing_of}

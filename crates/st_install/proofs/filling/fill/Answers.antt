@@ -7,7 +7,7 @@ use Rattle.st_model.specs.Steps.{store_fields, store_bytes}
 use Rattle.st_install.specs.declared.plan.Part.{Part}
 use Rattle.st_install.specs.Carried.{Goes, Becomes}
 use Rattle.st_install.specs.Installing.{part_values, fill_method}
-use Rattle.st_names.specs.Meanings.{values}
+use Rattle.st_scope.specs.Meanings.{values}
 use Rattle.st_install.specs.Readies.{parts_of}
 use Rattle.st_install.proofs.Filled.{fills_pointers, fills_bytes, fills_method}
 use Rattle.st_install.proofs.filling.fill.Goals as goal

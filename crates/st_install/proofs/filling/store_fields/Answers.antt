@@ -3,7 +3,7 @@ use Rattle.st_model.specs.Values.{Value, value}
 use Rattle.st_model.specs.Table.{table}
 use Rattle.st_model.specs.Steps.{store_field}
 use Rattle.st_install.specs.Carried.{Goes, Becomes}
-use Rattle.st_names.specs.Meanings.{values}
+use Rattle.st_scope.specs.Meanings.{values}
 use Rattle.st_install.proofs.Going.{left_goes, left_next, left_done}
 use Rattle.st_install.proofs.Filled.{fields_from, fields_turn, fields_end}
 use Rattle.st_install.proofs.filling.store_fields.Goals as goal

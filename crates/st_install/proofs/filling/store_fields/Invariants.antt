@@ -1,5 +1,5 @@
 use Rattle.st_model.specs.Values.{value}
-use Rattle.st_names.specs.Meanings.{values}
+use Rattle.st_scope.specs.Meanings.{values}
 use Rattle.st_install.proofs.Going.{Left}
 use Rattle.st_install.proofs.Filled.{fields_from}
 use Rattle.st_install.proofs.filling.store_fields.Given as goal

@@ -1,5 +1,5 @@
 use Rattle.std.proofs.Common.{◌≡◌, Err, rules}
-use Rattle.st_names.specs.declared.unread.Unread.TheVariants.{Dies}
+use Rattle.st_scope.specs.declared.unread.Unread.TheVariants.{Dies}
 use Rattle.st_install.proofs.Growth.{grow_dies, grow_not, grow_then}
 use Rattle.st_install.proofs.growing.grown_for.Goals as goal
 

@@ -6,7 +6,7 @@ use Rattle.st_model.specs.Calls.{Reads}
 use Rattle.st_install.specs.declared.plan.NewObject.{NewObject}
 use Rattle.st_install.specs.Carried.{Goes, Becomes}
 use Rattle.st_install.specs.Installing.{fill_all, find_place}
-use Rattle.st_names.specs.Meanings.{values}
+use Rattle.st_scope.specs.Meanings.{values}
 use Rattle.st_install.specs.Placings.{placing_of}
 use Rattle.st_install.specs.Readies.{objects_of, plan_of}
 use Rattle.st_install.proofs.Carryings.{fill_goes, target_goes, place_goes, stores_go, all_done}

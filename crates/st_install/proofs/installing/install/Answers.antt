@@ -8,7 +8,7 @@ use Rattle.st_model.specs.View.{fits}
 use Rattle.st_install.specs.declared.plan.NewObject.{NewObject}
 use Rattle.st_install.specs.Carried.{Goes, Becomes, IsPlannable}
 use Rattle.st_install.specs.Installing.{make_all, fill_and_store}
-use Rattle.st_names.specs.Meanings.{values}
+use Rattle.st_scope.specs.Meanings.{values}
 use Rattle.st_install.specs.Plans.{demand_of_all}
 use Rattle.st_install.specs.Readies.{objects_of, plan_of}
 use Rattle.st_install.proofs.Carryings.{make_goes, rest_goes, installed, ready_goes, ready_plannable, ready_room}

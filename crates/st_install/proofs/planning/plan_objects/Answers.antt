@@ -1,6 +1,6 @@
 use Rattle.std.proofs.Common.{rules, ◌≡◌, List, Err, Ok, ◌∙◌, sym, ap, subst}
 use Rattle.st_model.specs.Calls.{Reads, itself}
-use Rattle.st_names.specs.declared.unread.Unread.TheVariants.{Dies}
+use Rattle.st_scope.specs.declared.unread.Unread.TheVariants.{Dies}
 use Rattle.st_install.specs.Plans.{NewObject, Plan}
 use Rattle.st_install.specs.Shapes.{check_size}
 use Rattle.st_install.specs.Rooms.{AreSmall}

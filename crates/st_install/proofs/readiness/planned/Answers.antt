@@ -2,7 +2,7 @@ use Rattle.std.proofs.Common.{◌≡◌, Err, refl, rules}
 use Rattle.st_model.specs.Values.{value, value_of}
 use Rattle.st_code.specs.MethodDrafts.{parts_view}
 use Rattle.st_install.specs.declared.single.Owner.{Owner}
-use Rattle.st_names.specs.declared.unread.Unread.TheVariants.{Dies}
+use Rattle.st_scope.specs.declared.unread.Unread.TheVariants.{Dies}
 use Rattle.st_install.proofs.Readying.{head_none, head_some, no_globals, no_association, no_symbols, planned_by}
 use Rattle.st_install.proofs.readiness.planned.Goals as goal
 

@@ -1,6 +1,6 @@
 use Rattle.std.proofs.Common.{◌≡◌, true, Err, rules}
 use Rattle.st_model.specs.Values.{value}
-use Rattle.st_names.specs.declared.unread.Unread.TheVariants.{Dies}
+use Rattle.st_scope.specs.declared.unread.Unread.TheVariants.{Dies}
 use Rattle.st_install.proofs.Singles.{owner_dies}
 use Rattle.st_install.proofs.single.place_owner.Goals as goal
 

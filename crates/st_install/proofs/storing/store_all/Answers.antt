@@ -5,7 +5,7 @@ use Rattle.st_model.specs.Steps.{store_field}
 use Rattle.st_install.specs.declared.plan.SymbolStore.{SymbolStore}
 use Rattle.st_install.specs.declared.plan.Part.TheVariants as part
 use Rattle.st_install.specs.Carried.{Goes, Becomes}
-use Rattle.st_names.specs.Meanings.{values}
+use Rattle.st_scope.specs.Meanings.{values}
 use Rattle.st_install.proofs.Going.{part_goes, remains_next, all_done}
 use Rattle.st_install.proofs.Stores.{stores_from, stores_turn, stores_end}
 use Rattle.st_install.proofs.storing.store_all.Goals as goal

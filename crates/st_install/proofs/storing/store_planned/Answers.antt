@@ -6,7 +6,7 @@ use Rattle.st_install.specs.declared.plan.SymbolStore.{SymbolStore}
 use Rattle.st_install.specs.Carried.{Goes, Becomes}
 use Rattle.st_install.specs.Installing.{store_all, add_at}
 use Rattle.st_install.specs.Endings.{ending_of}
-use Rattle.st_names.specs.Meanings.{values}
+use Rattle.st_scope.specs.Meanings.{values}
 use Rattle.st_install.specs.Placings.{placing_of}
 use Rattle.st_install.specs.Readies.{plan_of, stores_of}
 use Rattle.st_install.proofs.Stores.{planned_first, planned_second, planned_third, planned_all}

@@ -5,7 +5,7 @@ use Rattle.st_model.specs.Table.{table}
 use Rattle.st_install.specs.Carried.{Goes, Becomes}
 use Rattle.st_install.specs.Dictionaries.{refill}
 use Rattle.st_install.specs.Installing.{target}
-use Rattle.st_names.specs.Meanings.{values}
+use Rattle.st_scope.specs.Meanings.{values}
 use Rattle.st_install.proofs.Stores.{target_old, target_refills, target_new}
 use Rattle.st_install.proofs.storing.target.Goals as goal
 

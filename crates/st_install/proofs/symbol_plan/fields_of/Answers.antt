@@ -1,5 +1,5 @@
 use Rattle.std.proofs.Common.{◌≡◌, ◌≤◌, Err, rules, arith}
-use Rattle.st_names.specs.declared.unread.Unread.TheVariants.{Dies}
+use Rattle.st_scope.specs.declared.unread.Unread.TheVariants.{Dies}
 use Rattle.st_install.proofs.SymbolsOf.{no_fields, values_begin, values_die, values_more, values_end}
 use Rattle.st_install.proofs.symbol_plan.fields_of.Goals as goal
 

@@ -3,9 +3,9 @@ use Rattle.st_model.specs.declared.oop.Oop.{Oop}
 use Rattle.st_model.specs.Values.{value}
 use Rattle.st_model.specs.Table.{table}
 use Rattle.st_model.specs.Calls.{Reads}
-use Rattle.st_names.specs.declared.unread.Unread.TheVariants.{Dies}
+use Rattle.st_scope.specs.declared.unread.Unread.TheVariants.{Dies}
 use Rattle.st_install.specs.Symbols.{symbol_named}
-use Rattle.st_names.specs.Texts.{found}
+use Rattle.st_scope.specs.Texts.{found}
 use Rattle.st_install.proofs.SymbolsOf.{seek_dies, name_found, name_made}
 use Rattle.st_install.proofs.symbol_plan.seek_symbol.Goals as goal
 

@@ -2,7 +2,7 @@ use Rattle.std.proofs.Common.{◌≡◌, Err, refl, rules}
 use Rattle.st_emit.specs.Views.{literals_view}
 use Rattle.st_install.specs.declared.plan.Part.TheVariants as part
 use Rattle.st_install.specs.declared.symbol_plan.SymbolPlan.{SymbolPlan}
-use Rattle.st_names.specs.declared.unread.Unread.TheVariants.{Dies}
+use Rattle.st_scope.specs.declared.unread.Unread.TheVariants.{Dies}
 use Rattle.st_install.specs.Symbols.{symbols_in}
 use Rattle.st_install.proofs.SymbolsOf.{no_table, fields_fail, there_now, selector_fails, literals_fail, all_named}
 use Rattle.st_install.proofs.symbol_plan.symbols_for.Goals as goal

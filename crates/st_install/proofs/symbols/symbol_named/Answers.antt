@@ -1,7 +1,7 @@
 use Rattle.std.proofs.Common.{◌≡◌, ◌≤◌, Err, rules, arith}
 use Rattle.st_model.specs.Table.{table}
 use Rattle.st_install.specs.Symbols.{is_symbol, symbol_named}
-use Rattle.st_names.proofs.FirstFields.{uncounted, all_left, none_left, field_dies, field_holds, field_passed}
+use Rattle.st_scope.proofs.FirstFields.{uncounted, all_left, none_left, field_dies, field_holds, field_passed}
 use Rattle.st_install.proofs.symbols.symbol_named.Goals as goal
 
 pub returns-in_err-count : goal.returns-in_err-count

@@ -1,6 +1,6 @@
 use Rattle.st_model.specs.Table.{table}
 use Rattle.st_install.specs.Symbols.{is_symbol}
-use Rattle.st_names.proofs.FirstFields.{LeftFields}
+use Rattle.st_scope.proofs.FirstFields.{LeftFields}
 use Rattle.st_install.proofs.symbols.symbol_named.Given as goal
 
 -- no field so far is a Symbol of this text

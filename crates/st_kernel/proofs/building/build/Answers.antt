@@ -4,10 +4,10 @@ use Rattle.std.proofs.Math.ListN.{length-map}
 use Rattle.st_model.specs.Objects.{nil}
 use Rattle.st_model.specs.Machine.{empty_world}
 use Rattle.st_frames.specs.Shown.{shown}
-use Rattle.st_declarations.specs.Definitions.{AreDefinitions}
-use Rattle.st_declarations.specs.Texts.{Account}
-use Rattle.st_declarations.specs.Views.{account_of, part_of, parts_of}
-use Rattle.st_declarations.proofs.Account.{few_parts, good_parts}
+use Rattle.st_kernel_text.specs.Definitions.{AreDefinitions}
+use Rattle.st_kernel_text.specs.Texts.{Account}
+use Rattle.st_kernel_text.specs.Views.{account_of, part_of, parts_of}
+use Rattle.st_kernel_text.proofs.Account.{few_parts, good_parts}
 use Rattle.st_first_objects.specs.First.{first_view, has_room}
 use Rattle.st_kernel.specs.Built.{built, no_side, IsBuilt, IsFaultOf}
 use Rattle.st_kernel.proofs.Whole.{first_quiet, first_underway, followed, with_room, roomless}

@@ -1,5 +1,5 @@
 use Rattle.std.proofs.Common.{rules, ◌≡◌, ◌-◌, Ok, Err, length, take, drop, subst, sym}
-use Rattle.st_declarations.specs.Views.{parts_of}
+use Rattle.st_kernel_text.specs.Views.{parts_of}
 use Rattle.st_kernel.specs.Built.{IsFaultOf}
 use Rattle.st_kernel.specs.Following.{side_in, IsUnderway, GoesOn, Finishes}
 use Rattle.st_kernel.proofs.Rests.{rest_parts, rest_none}

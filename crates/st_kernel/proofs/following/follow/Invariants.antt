@@ -1,7 +1,7 @@
 use Rattle.std.proofs.Common.{◌≤◌, ◌+◌, ◌-◌, ◌^◌, length}
 use Rattle.std.specs.Prelude.{Result}
-use Rattle.st_declarations.specs.Views.{parts_of}
-use Rattle.st_declarations.specs.Definitions.{AreDefinitions}
+use Rattle.st_kernel_text.specs.Views.{parts_of}
+use Rattle.st_kernel_text.specs.Definitions.{AreDefinitions}
 use Rattle.st_kernel.specs.Built.{Built, Fault, no_side}
 use Rattle.st_kernel.specs.Following.{side_in, IsUnderway, IsQuiet}
 use Rattle.st_kernel.proofs.following.follow.Given as goal

@@ -1,6 +1,6 @@
 use Rattle.std.proofs.Common.{rules, ◌≡◌, ◌∷◌, ◌+◌, Err, sym, subst}
-use Rattle.st_declarations.specs.Parts.{header, method}
-use Rattle.st_declarations.specs.Views.{part_of, side_of}
+use Rattle.st_kernel_text.specs.Parts.{header, method}
+use Rattle.st_kernel_text.specs.Views.{part_of, side_of}
 use Rattle.st_kernel.specs.Following.{side_in, IsUnderway, GoesOn}
 use Rattle.st_kernel.proofs.Underway.{header_passed, plain_passed}
 use Rattle.st_kernel.proofs.part.follow_part.Goals as goal

@@ -1,5 +1,5 @@
 use Rattle.std.proofs.Common.{ap, List, ◌∙◌}
-use Rattle.st_declarations.specs.Parts.{Part}
+use Rattle.st_kernel_text.specs.Parts.{Part}
 use Rattle.st_first_objects.specs.Classes.{has_pool}
 use Rattle.st_first_objects.proofs.pools.Pools.has.Goals as goal
 

@@ -1,7 +1,0 @@
-use Rattle.std.proofs.Common.{◌≡◌, drop}
-use Rattle.st_declarations.specs.Known.{has_all}
-use Rattle.st_declarations.specs.Lists.{needs_of}
-use Rattle.st_declarations.proofs.known.Known.has_all.Given as goal
-
-abbrev pub invariant-loop-name : goal.invariant-loop-name
-invariant-loop-name l = has_all l.self (needs_of (drop l.name-index l.needs)) ≡ has_all l.self (needs_of l.needs)

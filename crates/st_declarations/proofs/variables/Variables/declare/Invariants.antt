@@ -1,7 +1,0 @@
-use Rattle.std.proofs.Common.{◌≡◌, drop}
-use Rattle.st_declarations.specs.Known.{with_variables}
-use Rattle.st_declarations.specs.Lists.{texts_of}
-use Rattle.st_declarations.proofs.variables.Variables.declare.Given as goal
-
-abbrev pub invariant-loop-name : goal.invariant-loop-name
-invariant-loop-name l = with_variables l.class (texts_of (drop l.name-index l.names)) l.self ≡ with_variables l.class (texts_of l.names) l.fn.self

@@ -1,0 +1,7 @@
+use Rattle.std.proofs.Common.{◌≡◌, drop}
+use Rattle.st_kernel_text.specs.Known.{has_all}
+use Rattle.st_kernel_text.specs.Lists.{needs_of}
+use Rattle.st_kernel_text.proofs.known.Known.has_all.Given as goal
+
+abbrev pub invariant-loop-name : goal.invariant-loop-name
+invariant-loop-name l = has_all l.self (needs_of (drop l.name-index l.needs)) ≡ has_all l.self (needs_of l.needs)

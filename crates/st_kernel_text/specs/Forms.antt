@@ -1,0 +1,105 @@
+-- The form of a kernel text: declarations, then groups, then the start.
+use Rattle.std.specs.Prelude.{ℕ, ◌&&◌, nat_le, List, [], ◌∷◌, length, codes, Option, Some, None, option_map, if◌then◌else◌}
+use Rattle.st_chunk.specs.Texts.{most, is_empty}
+use Rattle.st_chunk.specs.Groups.{is_name, trimmed, header_of, Header}
+use Rattle.st_kernel_text.specs.declared.shape.Shape.{Shape}
+use Rattle.st_kernel_text.specs.declared.shape.Shape.TheVariants.{Fixed, Indexed, Words, Bytes}
+use Rattle.st_kernel_text.specs.declared.keyword.Keyword.{Keyword}
+use Rattle.st_kernel_text.specs.declared.keyword.Keyword.TheVariants.{Class, Pool, Global, Start}
+use Rattle.st_kernel_text.specs.declared.place.Place.{Place}
+use Rattle.st_kernel_text.specs.declared.place.Place.TheVariants.{Declarations, Header as InHeader, Methods, Groups, End}
+use Rattle.st_kernel_text.specs.Words.{words, is_word, names_in}
+use Rattle.st_kernel_text.specs.Parts.{Side, Part, class, pool, global, opening, header, method, closing, start}
+
+-- WORDS
+
+abbrev pub shape_named : List ℕ → Option Shape
+shape_named word =
+    if is_word (codes "fixed") word then Some Fixed
+    else (if is_word (codes "indexed") word then Some Indexed
+    else (if is_word (codes "words") word then Some Words
+    else (if is_word (codes "bytes") word then Some Bytes else None)))
+
+-- with which word a declaration, or the start, begins
+abbrev pub keyword_named : List ℕ → Option Keyword
+keyword_named word =
+    if is_word (codes "class") word then Some Class
+    else (if is_word (codes "pool") word then Some Pool
+    else (if is_word (codes "global") word then Some Global
+    else (if is_word (codes "start") word then Some Start else None)))
+
+-- NAME super NAME KIND names
+abbrev pub class_with : (name above : List ℕ) → Option Shape → Option (List (List ℕ)) → Option Part
+class_with name above (Some shape) (Some variables) = Some (class (record { name = name; above = above; shape = shape; variables = variables }))
+class_with name above _ _ = None
+
+abbrev pub class_by : (name link above kind : List ℕ) → List (List ℕ) → Option Part
+class_by name link above kind names =
+    if (is_name name && is_word (codes "super") link) && is_name above then class_with name above (shape_named kind) (names_in names) else None
+
+abbrev pub class_in : List (List ℕ) → Option Part
+class_in (name ∷ link ∷ above ∷ kind ∷ names) = class_by name link above kind names
+class_in _ = None
+
+-- NAME names
+abbrev pub pool_with : (name : List ℕ) → Option (List (List ℕ)) → Option Part
+pool_with name (Some variables) = Some (pool (record { class = name; variables = variables }))
+pool_with name None = None
+
+abbrev pub pool_in : List (List ℕ) → Option Part
+pool_in (name ∷ names) = if is_name name then pool_with name (names_in names) else None
+pool_in _ = None
+
+-- NAME
+abbrev pub global_in : List (List ℕ) → Option Part
+global_in (name ∷ []) = if is_name name then Some (global name) else None
+global_in _ = None
+
+-- NAME SELECTOR
+abbrev pub start_in : List (List ℕ) → Option Part
+start_in (name ∷ selector ∷ []) = if is_name name then Some (start (record { receiver = name; selector = selector })) else None
+start_in _ = None
+
+-- behind a group only the start may stand
+abbrev pub start_by : Option Keyword → List (List ℕ) → Option Part
+start_by (Some Start) words = start_in words
+start_by _ words = None
+
+abbrev pub declaration_by : Option Keyword → List (List ℕ) → Option Part
+declaration_by (Some Class) words = class_in words
+declaration_by (Some Pool) words = pool_in words
+declaration_by (Some Global) words = global_in words
+declaration_by (Some Start) words = start_in words
+declaration_by None words = None
+
+abbrev pub by_words : (Option Keyword → List (List ℕ) → Option Part) → List (List ℕ) → Option Part
+by_words says (word ∷ words) = says (keyword_named word) words
+by_words says [] = None
+
+-- CHUNKS
+
+abbrev pub side_of : Header → Side
+side_of h = record { class = h.class; meta = h.meta }
+
+-- what a chunk says by where it stands, if it has the form that is asked there
+abbrev pub part_at : Place → List ℕ → Option Part
+part_at Declarations chunk = if is_empty chunk then Some opening else by_words declaration_by (words chunk)
+part_at Groups chunk = if is_empty chunk then Some opening else by_words start_by (words chunk)
+part_at InHeader chunk = option_map (λ h. header (side_of h)) (header_of chunk)
+part_at Methods chunk = if is_empty chunk then Some closing else Some (method (trimmed chunk))
+part_at End chunk = None
+
+-- it has at most 65,536 bytes
+abbrev pub formed_at : Place → List ℕ → Option Part
+formed_at place chunk = if nat_le (length chunk) most then part_at place chunk else None
+
+-- where the chunk behind it stands
+abbrev pub behind_part : Part → Place
+behind_part (class c) = Declarations
+behind_part (pool p) = Declarations
+behind_part (global name) = Declarations
+behind_part opening = InHeader
+behind_part (header side) = Methods
+behind_part (method text) = Methods
+behind_part closing = Groups
+behind_part (start s) = End

@@ -1,0 +1,227 @@
+// What is declared so far.
+ghost use Rattle.std.specs.Prelude.{◌≡◌, ◌+◌, false, length, Ok, Some};
+ghost use Rattle.st_kernel_text.specs.Known.{nothing, named, is_known, inherited, most_fields, with_name, with_layout, with_inherited};
+ghost use Rattle.st_kernel_text.specs.Known.{with_class, with_pool, with_global, is_met, has_all, complete, if_known, known_behind};
+ghost use Rattle.st_kernel_text.specs.Views.{class_of, pool_of, part_of};
+ghost use Rattle.st_kernel_text.specs.Lists.{needs_of, texts_of};
+ghost use Rattle.st_kernel_text.specs.Reading.{Leaves};
+
+use crate::cause::{Cause, Stop};
+use crate::named::{Layout, Named};
+use crate::needs::{NEEDS, Need};
+use crate::part::{Class, Part, Pool, Text};
+use crate::place::Place;
+use crate::shape::Shape;
+use crate::variables::Variables;
+use indexmap::IndexMap;
+use std::alloc::Global;
+use std::marker::Model;
+
+/// The most fields that an instance of this shape has.
+fn most_fields(shape: Shape) -> usize
+    ensures { result ≡ most_fields shape }
+{
+    match shape {
+        Shape::Fixed | Shape::Indexed => 64,
+        Shape::Words | Shape::Bytes => 0,
+    }
+}
+
+/// How many fields a class has in all that has these variables and inherits so many.
+#[tactic(auto, using(crate::proofs::Listed::texts_long))]
+fn fields_below(inherited: u8, variables: &[Text]) -> usize
+    ensures { result ≡ inherited + length (texts_of variables.now) }
+{
+    usize::from(inherited) + variables.len()
+}
+
+/// Whether what a name is that of is a class as it is wanted.
+fn is_met(wanted: Option<(Shape, u8)>, named: Option<Named>) -> bool
+    ensures { result ≡ is_met wanted named }
+{
+    let Some(Named::Class(layout)) = named else {
+        return false;
+    };
+    match wanted {
+        None => true,
+        Some((shape, fields)) => shape == layout.shape && fields == layout.fields,
+    }
+}
+
+/// What is declared so far. A name's place is its number.
+#[derive(Drop)]
+pub(crate) struct Known {
+    names: IndexMap<Text, Named>,
+    fields: Variables,
+    shared: Variables,
+}
+
+impl Model for Known {
+    ghost use Rattle.st_kernel_text.specs.Known.{Known};
+    ghost use Rattle.st_kernel_text.specs.Lists.{names_of};
+
+    ghost Value = { Known };
+
+    ghost view = { λ k. record { names = names_of k.names.entries; fields = k.fields; shared = k.shared } };
+}
+
+impl Known {
+    /// Nothing is declared.
+    pub(crate) fn new(alloc: Global) -> Known
+        ensures { result ≡ nothing }
+    {
+        Known {
+            names: IndexMap::new(alloc),
+            fields: Variables::new(alloc),
+            shared: Variables::new(alloc),
+        }
+    }
+
+    /// What a name is that of, if it is declared.
+    fn named(&self, name: &[u8]) -> Option<Named>
+        ensures { result ≡ named self.now name.now }
+    {
+        self.names.get(name).copied()
+    }
+
+    /// How many fields a class inherits from this superclass, or from none, where it is `nil`.
+    fn inherited(&self, above: &[u8]) -> Option<u8>
+        ensures { result ≡ inherited self.now above.now }
+    {
+        if above == b"nil".as_slice() {
+            return Some(0);
+        }
+        match self.named(above) {
+            Some(Named::Class(layout)) => Some(layout.fields),
+            _ => None,
+        }
+    }
+
+    /// A name more.
+    fn add_name(&mut self, alloc: Global, name: &[u8], named: Named) -> Result<(), Stop>
+        requires { is_known self.old name.now ≡ false }
+        ensures { Leaves (Ok (with_name self.old name.now named)) self.new result }
+    {
+        self.names.insert(name.to_vec(alloc)?, named)?;
+        Ok(())
+    }
+
+    /// How many names are declared.
+    #[tactic(auto, using(crate::proofs::Listed::names_long))]
+    fn count(&self) -> usize
+        ensures { result ≡ length self.now.names }
+    {
+        self.names.len()
+    }
+
+    /// A class is declared whose instances have so many fields.
+    fn add_layout(&mut self, alloc: Global, class: &Class, fields: usize) -> Result<(), Stop>
+        requires { is_known self.old class.now.name.items ≡ false }
+        ensures { Leaves (with_layout self.old (class_of class.now) fields self.old.fields) self.new result }
+    {
+        if fields > most_fields(class.shape) {
+            return Err(Stop::At(Cause::Variables));
+        }
+        let layout = Layout {
+            number: self.count(),
+            shape: class.shape,
+            fields: fields as u8,
+        };
+        self.add_name(alloc, &class.name, Named::Class(layout))
+    }
+
+    /// A class is declared whose superclass has so many fields.
+    fn add_below(&mut self, alloc: Global, class: &Class, inherited: u8) -> Result<(), Stop>
+        requires { is_known self.old class.now.name.items ≡ false }
+        ensures { Leaves (with_inherited self.old (class_of class.now) (Some inherited)) self.new result }
+    {
+        let number = self.count();
+        self.fields.declare(alloc, number, &class.variables)?;
+        self.add_layout(alloc, class, fields_below(inherited, &class.variables))
+    }
+
+    /// A class is declared.
+    fn add_class(&mut self, alloc: Global, class: &Class) -> Result<(), Stop>
+        ensures { Leaves (with_class self.old (class_of class.now)) self.new result }
+    {
+        if self.named(&class.name).is_some() {
+            return Err(Stop::At(Cause::Name));
+        }
+        match self.inherited(&class.above) {
+            Some(inherited) => self.add_below(alloc, class, inherited),
+            None => Err(Stop::At(Cause::Name)),
+        }
+    }
+
+    /// Class variables are declared.
+    fn add_pool(&mut self, alloc: Global, pool: &Pool) -> Result<(), Stop>
+        ensures { Leaves (with_pool self.old (pool_of pool.now)) self.new result }
+    {
+        match self.named(&pool.class) {
+            Some(Named::Class(layout)) => {
+                self.shared.declare(alloc, layout.number, &pool.variables)
+            }
+            _ => Err(Stop::At(Cause::Name)),
+        }
+    }
+
+    /// A global is declared.
+    fn add_global(&mut self, alloc: Global, name: &[u8]) -> Result<(), Stop>
+        ensures { Leaves (with_global self.old name.now) self.new result }
+    {
+        if self.named(name).is_some() {
+            return Err(Stop::At(Cause::Name));
+        }
+        self.add_name(alloc, name, Named::Global)
+    }
+
+    /// Whether all of these classes are declared as they are needed.
+    fn has_all(&self, needs: &[Need]) -> bool
+        ensures { result ≡ has_all self.now (needs_of needs.now) }
+    {
+        for (name, wanted) in needs {
+            if !is_met(*wanted, self.named(name)) {
+                return false;
+            }
+        }
+        true
+    }
+
+    /// The needed classes are declared, where the declarations end.
+    fn check_complete(&self, place: Place) -> Result<(), Stop>
+        ensures { Leaves (complete place self.now) self.now result }
+    {
+        if place == Place::Declarations && !self.has_all(&NEEDS) {
+            return Err(Stop::At(Cause::Missing));
+        }
+        Ok(())
+    }
+
+    /// A name is declared.
+    fn check_known(&self, name: &[u8]) -> Result<(), Stop>
+        ensures { Leaves (if_known self.now name.now (Ok self.now)) self.now result }
+    {
+        match self.named(name) {
+            Some(_) => Ok(()),
+            None => Err(Stop::At(Cause::Name)),
+        }
+    }
+
+    /// What a part declares is known, where the part may stand behind what is declared.
+    pub(crate) fn add(&mut self, alloc: Global, place: Place, part: &Part) -> Result<(), Stop>
+        ensures { Leaves (known_behind place self.old (part_of part.now)) self.new result }
+    {
+        match part {
+            Part::Class(class) => self.add_class(alloc, class),
+            Part::Pool(pool) => self.add_pool(alloc, pool),
+            Part::Global(name) => self.add_global(alloc, name),
+            Part::Opening => self.check_complete(place),
+            Part::Header(side) => self.check_known(&side.class),
+            Part::Method(_) | Part::Closing => Ok(()),
+            Part::Start(start) => {
+                self.check_known(&start.receiver)?;
+                self.check_complete(place)
+            }
+        }
+    }
+}

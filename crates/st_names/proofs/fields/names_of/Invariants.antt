@@ -1,6 +1,0 @@
-use Rattle.st_names.proofs.TextsOf.{LeftNames}
-use Rattle.st_names.proofs.fields.names_of.Given as goal
-
--- the names so far, and those from the next one on
-abbrev pub invariant-loop-o : goal.invariant-loop-o
-invariant-loop-o g l = LeftNames l.list (g.M.Memory.view l.m).objects l.o-index l.names.items

@@ -1,5 +1,0 @@
-use Rattle.st_names.proofs.SeenIn.{symbols_there}
-use Rattle.st_names.proofs.naming.has_symbols.Goals as goal
-
-pub returns : goal.returns
-returns g c = symbols_there c.symbols.result.0 (g.M.Memory.view c.args.m.now).head.symbols c.symbols.ensures
