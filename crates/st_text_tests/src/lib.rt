@@ -1,11 +1,15 @@
-//! The crates of method texts together. There is nothing here but tests: of texts that are scanned, parsed, printed and
-//! compiled.
+//! The crates of texts together. There is nothing here but tests: of method texts that are scanned, parsed, printed and
+//! compiled, of chunks, scripts and kernel texts, of stores, and of the changes that they keep.
 #![tactic(auto)]
 
 #[cfg(test)]
 mod chains;
 #[cfg(test)]
+mod changes;
+#[cfg(test)]
 mod checker;
+#[cfg(test)]
+mod chunks;
 #[cfg(test)]
 mod compiling;
 #[cfg(test)]
@@ -17,10 +21,20 @@ mod generated;
 #[cfg(test)]
 mod generator;
 #[cfg(test)]
+mod hosts;
+#[cfg(test)]
+mod kernels;
+#[cfg(test)]
 mod parsing;
 #[cfg(test)]
 mod printing;
 #[cfg(test)]
 mod scanning;
 #[cfg(test)]
+mod scripts;
+#[cfg(test)]
 mod shape;
+#[cfg(test)]
+mod stores;
+#[cfg(test)]
+mod texts;

@@ -1,6 +1,6 @@
 use Rattle.std.proofs.Common.{List, ℕ, refl, sym, subst, codes, false, lit≤}
 use Rattle.st_chunk.specs.Definitions.{IsDefinition}
-use Rattle.st_store_tests.proofs.changes.definition.Goals as goal
+use Rattle.st_text_tests.proofs.changes.definition.Goals as goal
 
 good : IsDefinition (record { class = codes "Point"; meta = false; category = codes "it's!"; text = codes "x ^'!'" })
 good = record { named = refl; there = lit≤ tt; short = lit≤ tt; front = refl; back = refl; header = lit≤ tt }
