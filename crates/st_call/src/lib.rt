@@ -1,6 +1,6 @@
 //! A call of the program, whatever its command: the words that say the command, the file that it names, read whole, the lines
-//! that it says, replies of a session and the last line of a status, and the status where a file, an image or a store isn't there
-//! for it.
+//! that it says (a report, replies of a session, the last line of a status), and the status where a file, an image or a store
+//! isn't there for it. Lines are added to an `Output`, from which they are said.
 #![tactic(auto)]
 
 mod arguments;

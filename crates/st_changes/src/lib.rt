@@ -1,4 +1,5 @@
-//! The changes file: entries of definitions, read back exactly, and added whole or not at all.
+//! The changes file: entries of definitions, read back exactly, and added whole or not at all; with an index of the span that was
+//! noted last of each class, side of it and selector.
 #![tactic(auto)]
 
 mod appending;

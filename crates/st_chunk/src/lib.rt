@@ -1,4 +1,5 @@
-//! Chunk text: pieces of text that single exclamation marks end, read byte by byte, and written.
+//! Chunk text: pieces of text that single exclamation marks end, read byte by byte, and written; and the script of a session, read
+//! so: lines, and groups of methods between them.
 #![tactic(auto)]
 
 mod ask;

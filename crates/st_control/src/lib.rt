@@ -1,5 +1,6 @@
-//! Sends, what activates a method, the number of its primitive, returns, jumps with a condition (chapter 28), and blocks (chapter 29),
-//! over any objects. Sends, and returns and jumps that come to send, answer what they call.
+//! The rows of bytecodes, but for executing a method (chapters 28 and 29), over any objects: pushes, stores, jumps, and primitives on
+//! two SmallIntegers, which call nothing; sends, what activates a method, the number of its primitive, returns, jumps with a
+//! condition, and blocks. Sends, and returns and jumps that come to send, answer what they call.
 #![tactic(auto)]
 
 mod activation;

@@ -1,4 +1,5 @@
-//! An object memory that keeps its objects as words of a heap, and a count of the references to each.
+//! An object memory that keeps its objects as words of a heap, and a count of the references to each, with the list of the places to
+//! which there are none.
 #![tactic(auto)]
 
 mod contents;

@@ -1,5 +1,6 @@
 //! The registers, in a row and between bytecodes; the contexts that they are fetched from, and the stack (chapter 27). The numbers
-//! that primitives take, and the answers that they push (chapter 29).
+//! that primitives take, and the answers that they push; and what lies round the machine: the input words that wait, the mouse,
+//! the clocks, and what devices hold (chapter 29).
 #![tactic(auto)]
 
 mod answer;

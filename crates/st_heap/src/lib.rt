@@ -1,4 +1,5 @@
-//! The heap: blocks of words, each with the pointer that owns it, and the holes between them.
+//! The heap: blocks of words, each with the pointer that owns it, and the holes between them; and objects as words of it: size,
+//! class and body of each are in a block of its own, which an entry of the table names.
 #![tactic(auto)]
 
 mod adding;

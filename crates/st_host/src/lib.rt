@@ -1,4 +1,5 @@
-//! The outside of the machine, in memory and for real: hosts of files and output, and sources of input.
+//! The outside of the machine: files by name, bytes that are said, bytes that are read in, as a machine asks for them; and what
+//! answers, in memory and for real: hosts of files and output, and sources of input.
 #![tactic(auto)]
 
 mod dir;

@@ -1,4 +1,5 @@
-//! Reads an image file: its fault, or its objects. Writes one, and says that what is written is read back.
+//! Reads an image file: its fault, the first two objects that share a word among them, or its objects. Writes one, and says that
+//! what is written is read back.
 #![tactic(auto)]
 
 mod checks;

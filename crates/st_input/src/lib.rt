@@ -1,4 +1,5 @@
-//! Input (chapter 29): what comes from outside, and how a memory goes on holding what the world names.
+//! Input (chapter 29): what comes from outside, and how a memory goes on holding what the world names. What a primitive leaves to be
+//! done on a memory and on what lies round it is done here; where there is no such object or no such place, nothing is done.
 #![tactic(auto)]
 
 mod bytes;

@@ -1,7 +1,7 @@
-//! The installation of a definition in an image: `class_of_name` finds its class, `names` the names that its method sees, `ready`
-//! says whether the method can be installed and makes the plan of that, and `install` carries the plan out.
-//! `install_shows_births` is the law that joins all of them over a table to the same over births, and `install_gains` the one
-//! of what is found afterwards.
+//! Definitions of methods: what comes of one is that it is installed in an image, or refused with its cause. `class_of_name` finds
+//! its class, `names` the names that its method sees, `ready` says whether the method can be installed and makes the plan of that,
+//! and `install` carries the plan out. `install_shows_births` is the law that joins all of them over a table to the same over
+//! births, and `install_gains` the one of what is found afterwards.
 #![tactic(auto)]
 
 mod definition_laws;

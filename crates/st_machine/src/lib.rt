@@ -1,4 +1,5 @@
-//! The cycle, one bytecode with what goes before and after it, and runs of cycles (chapter 28).
+//! The cycle, one bytecode with what goes before and after it, and runs of cycles (chapter 28). Between bytecodes the signals that
+//! are pending are made, and the machine switches to a process that waits (chapter 29).
 #![tactic(auto)]
 
 mod coming;

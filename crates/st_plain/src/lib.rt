@@ -1,4 +1,5 @@
-//! An object memory that keeps its objects in plain lists.
+//! An object memory that keeps its objects in plain lists: fields and units as runs of two of them, and marks of their names. No
+//! program runs on it.
 #![tactic(auto)]
 
 mod adding;

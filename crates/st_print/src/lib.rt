@@ -1,4 +1,4 @@
-//! The printer: from a method's tree to its text.
+//! The printer: from a method's tree to its text. What is printed of a text's tree means this tree again, places aside.
 #![tactic(auto)]
 
 mod expression;

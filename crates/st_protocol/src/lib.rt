@@ -1,6 +1,7 @@
 //! What a session does, as a course of deeds: what is said and what is kept, one after the other, and where that leads, or
 //! the status in which the session ends. What a stop leaves while they are done, and which commits the replies acknowledge.
-//! With the statuses of the program's calls, and why a definition is refused.
+//! With the statuses of the program's calls, and why a definition is refused; and what installs definitions, as a session and the
+//! opening of a store ask for it.
 #![tactic(auto)]
 
 mod installation;

@@ -1,4 +1,4 @@
-//! The scanner: from the bytes of a method's text to its tokens.
+//! The tokens and trees of methods, and the scanner: from the bytes of a method's text to its tokens.
 #![tactic(auto)]
 
 mod bytes;

@@ -1,5 +1,5 @@
-//! The law between the book's machine and the code's: a machine over a table shows, step by step and run by run, what the machine over
-//! births does, in which nothing is ever reclaimed or moved.
+//! The law between the book's machine and the code's: a machine over a table shows, step by step and run by run, what the machine
+//! over births does, in which nothing is ever reclaimed or moved.
 #![tactic(auto)]
 
 ghost use Rattle.st_model.specs.Table.{bounded_table};
