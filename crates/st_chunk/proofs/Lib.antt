@@ -8,7 +8,7 @@ mod Rows
 pub mod Asking
 pub mod Blanks
 mod Digits
-mod Fed
+mod FedBytes
 pub mod Headers
 pub mod Held
 pub mod Places

@@ -17,7 +17,7 @@ use Rattle.st_chunk.specs.Asks.{Ask}
 use Rattle.st_chunk.specs.Lines.{IsInRange, digits_after, at_most, number, is_word, place_of, mouse_at, with_arguments, alone, by_words, first_word, arguments, line_ask, line_request, without_return}
 use Rattle.st_chunk.specs.Reading.{Place, InLine, Browsed, Opened, InHeader, InMethods, Defined, CutOff, InBlanks, BehindBlanks, Over, Reading, Told, line_behind, line_from, over, wrong, behind_line, line_asking, line_ended, line_byte, begun, opened_byte, start_with, too_long, blanks_byte, behind_blanks_byte, header_ended, header_told, method_ended, method_told, byte_in, read, header_at_end, last_header, method_at_end, end_in, end_read}
 use Rattle.st_chunk.specs.Scripts.{IsBrowsed, IsDefined, IsHeading, IsSound}
-use Rattle.st_chunk.proofs.Fed.{short_fed}
+use Rattle.st_chunk.proofs.FedBytes.{short_fed}
 use Rattle.st_chunk.proofs.Sound.{heading_sound, method_sound}
 
 by_test : {P : Type 0} (t : Bool) → (t ≡ true → P) → (t ≡ false → P) → P

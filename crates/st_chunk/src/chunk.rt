@@ -41,7 +41,7 @@ impl Chunk {
     }
 
     /// One byte more, and what it tells.
-    #[tactic(auto, using(crate::proofs::Fed::fed_rules))]
+    #[tactic(auto, using(crate::proofs::FedBytes::fed_rules))]
     pub(crate) fn feed(&mut self, byte: u8) -> Fed
         requires { MayGoOn self.old.phase }
         ensures read { self.new ≡ fed self.old byte }
@@ -57,7 +57,7 @@ impl Chunk {
     }
 
     /// Begins the next chunk with the byte that told the end of this one.
-    #[tactic(auto, using(crate::proofs::Fed::fed_rules))]
+    #[tactic(auto, using(crate::proofs::FedBytes::fed_rules))]
     pub(crate) fn carry(&mut self)
         requires { IsTold self.old.phase }
         ensures carried { self.new ≡ carried_from self.old.phase }
