@@ -8,7 +8,7 @@ use Rattle.st_model.specs.Table.{table, bounded_table}
 use Rattle.st_memory.specs.Tabular.{bounded_tabular}
 use Rattle.st_at_once.specs.AtOnce.{literal_send_at_once, arithmetic_at_once, long_jump_at_once, return_receiver_at_once, return_constant_at_once, return_top_to_sender_at_once, return_top_to_caller_at_once, unsent_at_once, bytecode_at_once, step_at_once}
 use Rattle.st_at_once.proofs.Alike.{literal-is, next_byte-is, top-is, under-is, pop-is, push-is, store_operand-is, constant_value-as, push_operand-is, store_and_pop-is, arithmetic_by-is, primitive-as, jump_on-is, sender-is, caller-is}
-use Rattle.st_at_once.proofs.Entered.{send-is}
+use Rattle.st_at_once.proofs.Sent.{send-is}
 
 unsent-as : (b : Bytecode) → unsent_at_once bounded_table b ≡ unsent_at_once table b
 unfolding unsent_at_once push_receiver push_constant extended_push extended_store extended_store_and_pop pop_stack duplicate_top push_active_context long_unconditional_jump arithmetic_at_once long_jump_at_once return_receiver_at_once return_constant_at_once return_top_to_sender_at_once return_top_to_caller_at_once

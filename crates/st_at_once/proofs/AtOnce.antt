@@ -1,7 +1,7 @@
 -- What is done at once is the bytecode: it dies of the same cause, or goes on to the same state.
-use Rattle.std.proofs.Common.{◌≡◌, ℕ, Bool, true, false, Option, Some, None, refl, sym, subst, arith}
+use Rattle.std.proofs.Common.{◌≡◌, ◌≤◌, ℕ, Bool, true, false, Option, Some, None, refl, sym, ap, ◌∙◌, subst, arith}
 use Rattle.std.proofs.lemmas.Bool.Decides.{nat_tests}
-use Rattle.std.specs.Prelude.{◌==◌, if◌then◌else◌, ℤ, pos, ◌+◌, ◌*◌}
+use Rattle.std.specs.Prelude.{◌==◌, nat_lt, if◌then◌else◌, ℤ, pos, ◌+◌, ◌*◌}
 use Rattle.st_model.specs.declared.dead.Dead.{Dead}
 use Rattle.st_model.specs.declared.bytecode.Bytecode.{Bytecode}
 use Rattle.st_model.specs.declared.bytecode.Bytecode.TheVariants as code
@@ -12,10 +12,10 @@ use Rattle.st_model.specs.declared.page.PageObject.{PageObject}
 use Rattle.st_model.specs.declared.page.PageObject.TheVariants.{FalseObject, TrueObject}
 use Rattle.st_model.specs.Outcomes.{Outcome}
 use Rattle.st_model.specs.Outcomes as outcome
-use Rattle.st_model.specs.Machine.{ObjectMemory, State, Transition, Died, Went, Step, answer, after, ◌>>=◌, ◌>>◌}
+use Rattle.st_model.specs.Machine.{ObjectMemory, State, Transition, Died, Went, Step, answer, tried, or_left, after, ◌>>=◌, ◌>>◌}
 use Rattle.st_model.specs.Steps.{same_value, jump, next_byte, get_free}
-use Rattle.st_model.specs.Sends.{Call, call_found, send_from, send}
-use Rattle.st_model.specs.Methods.{flag_of}
+use Rattle.st_model.specs.Sends.{Call, replace_by_message, call_not_understood, not_understood, call_found, send_from, send}
+use Rattle.st_model.specs.Methods.{method_header, flag_of}
 use Rattle.st_model.specs.Contexts.{activate}
 use Rattle.st_model.specs.Returns.{calls_nothing, return_into, return_to_context, return_to, return_to_sender, return_to_caller, jump_on}
 use Rattle.st_model.specs.Primitives.{succeed, primitive}
@@ -27,7 +27,8 @@ use Rattle.st_model.specs.Table.{Table}
 use Rattle.st_model.proofs.Runs.{run-tried_went, run-tried_died}
 use Rattle.st_control.specs.AtOnce.{at_once, enter_context, context_space, activate_at_once, jump_at_once, return_to_context_at_once, return_at_once, return_to_sender_at_once, return_to_caller_at_once}
 use Rattle.st_frames.proofs.Doing.{rows}
-use Rattle.st_at_once.specs.AtOnce.{respond_at_once, execute_at_once_by, execute_at_once, found_at_once, send_from_at_once, send_at_once, literal_send_at_once, answered_at_once, arithmetic_at_once_by, arithmetic_at_once, primitive_at_once, long_jump_at_once, return_receiver_at_once, return_constant_at_once, return_top_to_sender_at_once, return_top_to_caller_at_once, unsent_at_once, bytecode_at_once, step_at_once}
+use Rattle.st_at_once.specs.AtOnce.{respond_at_once, execute_at_once_by, execute_at_once, message_space, enter_with_message, with_message_at_once, answer_at_once, call_not_understood_at_once, not_understood_at_once, found_at_once, send_from_at_once, send_at_once, literal_send_at_once, answered_at_once, arithmetic_at_once_by, arithmetic_at_once, primitive_at_once, long_jump_at_once, return_receiver_at_once, return_constant_at_once, return_top_to_sender_at_once, return_top_to_caller_at_once, unsent_at_once, bytecode_at_once, step_at_once}
+use Rattle.st_at_once.proofs.Messages.{HeaderStays}
 
 -- a primitive on SmallIntegers that is tried
 
@@ -152,6 +153,13 @@ space-as : {A : Type 0} (m : ObjectMemory Table) (x : A) (f : Bool → Step Tabl
 unfolding context_space get_free ◌>>=◌ after answer
 space-as m x f q h s = h _ s
 
+other_flag : (f k : ℕ) → nat_lt f 5 ≡ true → 5 ≤ k → (f == k) ≡ false
+other_flag f k e l = grind (arith, nat_tests, e, l)
+
+-- the method for doesNotUnderstand: is called with the Message
+abbrev answering : Value → Call
+answering method = record { method = method; arguments = 1 }
+
 module _ (m : ObjectMemory Table) where
   -- what is called is executed
 
@@ -205,18 +213,79 @@ module _ (m : ObjectMemory Table) where
       (if-as _ (flag_of header == 6) _ _ _ _ (goes_on-as _)
       (if-as _ (flag_of header == 7) _ _ _ _ (respond-as (record { method = method; arguments = n }) header) (activate-as method header n))))
 
-  found-as : (class selector : Value) (n : ℕ) (method : Option Value) → IsAs outcome.Went (found_at_once m n method) (executed m (call_found m class selector n method))
-  unfolding found_at_once call_found
-  found-as class selector n None = not-as _ _
-  found-as class selector n (Some method) = called-as _ _ (execute-as method n)
+  -- a message that isn't understood
 
-  send-as : (selector : Value) (n : ℕ) → IsAs outcome.Went (send_at_once m selector n) (executed m (send m selector n))
-  unfolding send_at_once send_from_at_once send send_from
-  send-as selector n = calls-as _ _ _ (λ receiver. calls-as _ _ _ (λ class. calls-as _ _ _ (found-as class selector n)))
+  few-by : (respond : ℕ → Step Table Outcome) (call : Call) (header : Value) (flag : ℕ) → nat_lt flag 5 ≡ true
+      → execute_by m respond call header flag ≡ goes_on (activate m call.method header call.arguments)
+  unfolding execute_by
+  few-by respond call header flag e = rw (other_flag flag 5 e (omega arith), other_flag flag 6 e (omega arith), other_flag flag 7 e (omega arith)) refl
 
-  literal_send-as : (i n : ℕ) → IsAs outcome.Went (literal_send_at_once m i n) (executed m (send_literal m i n))
-  unfolding literal_send_at_once send_literal
-  literal_send-as i n = calls-as _ _ _ (λ selector. send-as selector n)
+  module _ (stays : HeaderStays m) where
+    activated-on : (method header selector : Value) (n : ℕ) (s u : State Table) (o : Transition (State Table) Unit) → (replace_by_message m selector n).run s ≡ o
+        → (method_header m method).run s ≡ Went header u → nat_lt (flag_of header) 5 ≡ true
+        → As outcome.Went (after (after o (λ a t. (activate m method header 1).run t)) (λ a t. Went true t)) (after (after o (λ a t. Went (answering method) t)) (λ c t. (execute m c).run t))
+    unfolding after execute at_once answer ◌>>◌ ◌>>=◌
+    activated-on method header selector n s u (Died cause) e h l = refl
+    activated-on method header selector n s u (Went a t) e h l =
+        let again : (method_header m method).run t ≡ Went header t = stays.stays method header selector n s u t h e in
+        let call = answering method in
+        let by_header : Value → State Table → Transition (State Table) Outcome = λ x y. (execute_by m (respond_or_perform m call x) call x (flag_of x)).run y in
+        let executing : (execute m call).run t ≡ (goes_on (activate m method header 1)).run t =
+        ap (λ y. after y by_header) again ∙ ap (λ (y : Step Table Outcome). y.run t) (few-by (respond_or_perform m call header) call header (flag_of header) l) in
+        subst (λ y. As outcome.Went (after ((activate m method header 1).run t) (λ x z. Went true z)) y) (sym executing) (goes_on-as (activate m method header 1) t)
+
+    entered-on : (method header selector : Value) (n : ℕ) (s u : State Table) → (method_header m method).run s ≡ Went header u → nat_lt (flag_of header) 5 ≡ true
+        → As outcome.Went ((at_once (enter_with_message m method header selector n)).run s) ((executed m (call_not_understood m selector n (Some method))).run s)
+    unfolding at_once enter_with_message executed call_not_understood answer ◌>>◌ ◌>>=◌
+    entered-on method header selector n s u h l = activated-on method header selector n s u ((replace_by_message m selector n).run s) refl h l
+
+    space-on : (method header selector : Value) (n : ℕ) (s u : State Table) (b : Bool) → (method_header m method).run s ≡ Went header u → nat_lt (flag_of header) 5 ≡ true
+        → As outcome.Went ((if b then at_once (enter_with_message m method header selector n) else answer false).run s) ((executed m (call_not_understood m selector n (Some method))).run s)
+    unfolding answer
+    space-on method header selector n s u true h l = entered-on method header selector n s u h l
+    space-on method header selector n s u false h l = tt
+
+    message-on : (method header selector : Value) (n : ℕ) (s u : State Table) → (method_header m method).run s ≡ Went header u → nat_lt (flag_of header) 5 ≡ true
+        → As outcome.Went ((with_message_at_once m method header selector n).run s) ((executed m (call_not_understood m selector n (Some method))).run s)
+    unfolding with_message_at_once message_space get_free ◌>>=◌ after answer
+    message-on method header selector n s u h l = space-on method header selector n s u _ h l
+
+    flag-on : (method header selector : Value) (n : ℕ) (s u : State Table) (b : Bool) → (method_header m method).run s ≡ Went header u → nat_lt (flag_of header) 5 ≡ b
+        → As outcome.Went ((if b then with_message_at_once m method header selector n else answer false).run s) ((executed m (call_not_understood m selector n (Some method))).run s)
+    unfolding answer
+    flag-on method header selector n s u true h l = message-on method header selector n s u h l
+    flag-on method header selector n s u false h l = tt
+
+    header-on : (method selector : Value) (n : ℕ) (s : State Table) (x : Transition (State Table) Value) → (method_header m method).run s ≡ x
+        → As outcome.Went (after (or_left s x) (λ h t. (answer_at_once m method selector n h).run t)) ((executed m (call_not_understood m selector n (Some method))).run s)
+    unfolding after answer_at_once answer
+    header-on method selector n s (Died cause) e = tt
+    header-on method selector n s (Went header u) e =
+        let same : u ≡ s = stays.still method header s u e in
+        subst (λ t. As outcome.Went ((answer_at_once m method selector n (Some header)).run t) ((executed m (call_not_understood m selector n (Some method))).run s)) (sym same)
+        (flag-on method header selector n s u (nat_lt (flag_of header) 5) e refl)
+
+    call-as : (selector : Value) (n : ℕ) (method : Option Value) → IsAs outcome.Went (call_not_understood_at_once m selector n method) (executed m (call_not_understood m selector n method))
+    unfolding call_not_understood_at_once tried ◌>>=◌
+    call-as selector n None = not-as _ _
+    call-as selector n (Some method) = λ s. header-on method selector n s ((method_header m method).run s) refl
+
+    not_understood-as : (class selector : Value) (n : ℕ) → IsAs outcome.Went (not_understood_at_once m class selector n) (executed m (not_understood m class selector n))
+    unfolding not_understood_at_once not_understood
+    not_understood-as class selector n = calls-as _ _ _ (λ understand. calls-as _ _ _ (call-as selector n))
+
+    found-as : (class selector : Value) (n : ℕ) (method : Option Value) → IsAs outcome.Went (found_at_once m class selector n method) (executed m (call_found m class selector n method))
+    unfolding found_at_once call_found
+    found-as class selector n None = not_understood-as class selector n
+    found-as class selector n (Some method) = called-as _ _ (execute-as method n)
+
+    send-as : (selector : Value) (n : ℕ) → IsAs outcome.Went (send_at_once m selector n) (executed m (send m selector n))
+    unfolding send_at_once send_from_at_once send send_from
+    send-as selector n = calls-as _ _ _ (λ receiver. calls-as _ _ _ (λ class. calls-as _ _ _ (found-as class selector n)))
+
+    literal_send-as : (i n : ℕ) → IsAs outcome.Went (literal_send_at_once m i n) (executed m (send_literal m i n))
+    unfolding literal_send_at_once send_literal
+    literal_send-as i n = calls-as _ _ _ (λ selector. send-as selector n)
 
   answered-as : (a : Option IntAnswer) → IsAs true (answered_at_once m a) (succeed m 1 (value_of_answer m) a)
   unfolding answered_at_once
@@ -295,11 +364,11 @@ module _ (m : ObjectMemory Table) where
   unsent-as (code.PrimitiveSend k) = primitive-as k
   unsent-as (code.LiteralSend i n) = not-as _ _
 
-  bytecode-as : (b : Bytecode) → IsAs outcome.Went (bytecode_at_once m b) (bytecode m b)
+  bytecode-as : HeaderStays m → (b : Bytecode) → IsAs outcome.Went (bytecode_at_once m b) (bytecode m b)
   unfolding bytecode_at_once bytecode
-  bytecode-as (code.LiteralSend i n) = literal_send-as i n
-  bytecode-as b = unsent-as b
+  bytecode-as stays (code.LiteralSend i n) = literal_send-as stays i n
+  bytecode-as stays b = unsent-as b
 
-  pub step-as : IsAs outcome.Went (step_at_once m) (step m)
+  pub step-as : HeaderStays m → IsAs outcome.Went (step_at_once m) (step m)
   unfolding step_at_once step
-  step-as = then-as _ _ _ _ (λ b. bytecode-as _)
+  step-as stays = then-as _ _ _ _ (λ b. bytecode-as stays _)

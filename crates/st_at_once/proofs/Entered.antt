@@ -1,5 +1,5 @@
--- A send that is done at once over a bounded table is what it is over the table: the search for the method reads alike, and there
--- is room for the context.
+-- What a send needs that is done at once over a bounded table is what it is over the table: the search for the method reads alike,
+-- and where there is room for the context, so does what activates it.
 use Rattle.std.proofs.Common.{◌≡◌, ◌≤◌, ◌+◌, ℕ, zero, suc, Bool, true, false, Option, Some, None, refl, ap, arith}
 use mathlib.Core.Path.{fun_ext}
 use Rattle.std.proofs.Math.ListN.{length-replicate}
@@ -14,18 +14,15 @@ use Rattle.st_model.specs.Steps.{of_page, get_free, made, make_named, make, new_
 use Rattle.st_model.specs.Methods.{is_large, context_size, method_header}
 use Rattle.st_model.specs.Lookup.{half_word, checked_method, method_at, place_says, look_at_place, look_at_places, search_from, search_dictionary, or_above, method_in_class, look_in_class, end_at_nil, find_within, find}
 use Rattle.st_model.specs.Contexts.{fill_context, new_context, pass_words}
-use Rattle.st_model.specs.Executing.{answer_field}
 use Rattle.st_model.specs.Table.{Table, table, bounded_table, total_used}
 use Rattle.st_model.proofs.Tabular.{method_header-as}
 use Rattle.st_memory.specs.Tabular.{bounded_tabular}
 use Rattle.st_control.specs.AtOnce.{at_once, enter_context, context_space, activate_at_once}
-use Rattle.st_at_once.specs.AtOnce.{execute_at_once_by, execute_at_once, found_at_once, send_from_at_once, send_at_once}
-use Rattle.st_at_once.proofs.AlikeProcesses.{respond-is}
-use Rattle.st_at_once.proofs.Alike.{page-is, class-is, field-is, count-is, store-is, transfer-is, top-is, under-is, pop-is, push-is, switch-is}
+use Rattle.st_at_once.proofs.Alike.{page-is, field-is, count-is, store-is, transfer-is, top-is, under-is, switch-is}
 
 -- the search for a method
 
-header-is : method_header bounded_table ≡ method_header table
+pub header-is : method_header bounded_table ≡ method_header table
 header-is = fun_ext (method_header-as bounded_tabular)
 
 half_word-as : (v : Value) → half_word bounded_table v ≡ half_word table v
@@ -95,7 +92,7 @@ find-as : (class v : Value) → find bounded_table class v ≡ find table class 
 unfolding find
 find-as class v = find_within-as v 32767 class
 
-find-is : find bounded_table ≡ find table
+pub find-is : find bounded_table ≡ find table
 find-is = fun_ext (λ class. fun_ext (λ v. find-as class v))
 
 -- a context is made
@@ -133,14 +130,14 @@ fill-as : (context method header : Value) → fill_context bounded_table context
 unfolding fill_context
 fill-as context method header = rw (store-is bounded_tabular) refl
 
-fill-is : fill_context bounded_table ≡ fill_context table
+pub fill-is : fill_context bounded_table ≡ fill_context table
 fill-is = fun_ext (λ context. fun_ext (λ method. fun_ext (λ header. fill-as context method header)))
 
 pass-as : (context : Value) (n : ℕ) → pass_words bounded_table context n ≡ pass_words table context n
 unfolding pass_words
 pass-as context n = rw (transfer-is bounded_tabular) refl
 
-pass-is : pass_words bounded_table ≡ pass_words table
+pub pass-is : pass_words bounded_table ≡ pass_words table
 pass-is = fun_ext (λ context. fun_ext (λ n. pass-as context n))
 
 enter_alike : (s : State Table) (method header : Value) (n : ℕ) → space s ≡ true → (enter_context bounded_table method header n).run s ≡ (enter_context table method header n).run s
@@ -169,30 +166,5 @@ activate-as : (method header : Value) (n : ℕ) → activate_at_once bounded_tab
 unfolding activate_at_once
 activate-as method header n = rw (look-as n, enters-as method header n) refl
 
-activate-is : activate_at_once bounded_table ≡ activate_at_once table
+pub activate-is : activate_at_once bounded_table ≡ activate_at_once table
 activate-is = fun_ext (λ method. fun_ext (λ header. fun_ext (λ n. activate-as method header n)))
-
--- a send
-
-answer_field-as : (i : ℕ) → answer_field bounded_table i ≡ answer_field table i
-unfolding answer_field
-answer_field-as i = rw (pop-is bounded_tabular, field-is bounded_tabular, push-is bounded_tabular) refl
-
-answer_field-is : answer_field bounded_table ≡ answer_field table
-answer_field-is = fun_ext answer_field-as
-
-execute-as : (method : Value) (n : ℕ) → execute_at_once bounded_table method n ≡ execute_at_once table method n
-unfolding execute_at_once execute_at_once_by
-execute-as method n = rw (header-is, answer_field-is, respond-is bounded_tabular, activate-is) refl
-
-found-as : (n : ℕ) (method : Option Value) → found_at_once bounded_table n method ≡ found_at_once table n method
-unfolding found_at_once
-found-as n None = refl
-found-as n (Some method) = execute-as method n
-
-send-as : (selector : Value) (n : ℕ) → send_at_once bounded_table selector n ≡ send_at_once table selector n
-unfolding send_at_once send_from_at_once
-send-as selector n = rw (under-is bounded_tabular, class-is bounded_tabular, find-is, fun_ext (found-as n)) refl
-
-pub send-is : send_at_once bounded_table ≡ send_at_once table
-send-is = fun_ext (λ selector. fun_ext (λ n. send-as selector n))

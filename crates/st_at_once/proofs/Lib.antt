@@ -1,7 +1,11 @@
+pub mod Staying
 pub mod AtOnce
 pub mod Alike
 pub mod AlikeProcesses
 pub mod Entered
+pub mod Messages
+pub mod Sent
+pub mod Headers
 pub mod AlikeRows
 pub mod Linked
 pub mod OverMemory

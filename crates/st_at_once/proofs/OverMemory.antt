@@ -16,7 +16,8 @@ use Rattle.st_model.specs.Outcomes.{Outcome}
 use Rattle.st_model.specs.Outcomes as outcome
 use Rattle.st_model.specs.Machine.{World, Head, State, Step, Transition, Died, Went, is_there, used, is_over}
 use Rattle.st_model.specs.Steps.{are_there}
-use Rattle.st_model.specs.Table.{Table, table, apart, bounded_table, total_used}
+use Rattle.st_model.specs.Table.{Table, table, apart, bounded_table, total_used, IsTabular}
+use Rattle.st_memory.specs.Tabular.{bounded_tabular}
 use Rattle.st_model.specs.Calls.{transition_of}
 use Rattle.st_model.specs.Bytecodes.{step}
 use Rattle.st_model.specs.View.{View, IsWhole}
@@ -29,9 +30,13 @@ use Rattle.st_at_once.specs.declared.ending.RowEnd.{RowEnd}
 use Rattle.st_at_once.specs.declared.ending.RowEnd.TheVariants.{ToForesee, Done, Leaves}
 use Rattle.st_at_once.specs.AtOnce.{was_done, deed_left, GoesOn, IsDoneBut, step_at_once}
 use Rattle.st_at_once.proofs.AtOnce.{As, step-as}
+use Rattle.st_at_once.proofs.Messages.{header_stays}
 use Rattle.st_at_once.proofs.AlikeRows.{same_at_once}
 use Rattle.st_at_once.proofs.Linked.{Linked, linked}
 use Rattle.st_frames.proofs.Closed.{is_closed}
+
+table_tabular : IsTabular table
+table_tabular = record { read = refl; replace = refl; exchange = refl; named = refl }
 
 within_if : (a b c d : ℕ) → a ≤ b → c ≤ d → (if nat_lt b a then true else nat_lt d c) ≡ false
 within_if a b c d l k = grind (arith, nat_tests, l, k)
@@ -45,10 +50,10 @@ within v a whole e =
 
 module _ (c : State Table) (x : Result RowEnd Dead) (d : State Table) (does : (step_at_once bounded_table).run c ≡ transition_of was_done x d) where
   bounded_as : As outcome.Went (transition_of was_done x d) ((step bounded_table).run c)
-  bounded_as = subst (λ o. As outcome.Went o ((step bounded_table).run c)) does (step-as bounded_table c)
+  bounded_as = subst (λ o. As outcome.Went o ((step bounded_table).run c)) does (step-as bounded_table (header_stays bounded_table bounded_tabular refl) c)
 
   table_as : As outcome.Went (transition_of was_done x d) ((step table).run c)
-  table_as = subst (λ o. As outcome.Went o ((step table).run c)) (ap (λ (m : Step Table Bool). m.run c) same_at_once ∙ does) (step-as table c)
+  table_as = subst (λ o. As outcome.Went o ((step table).run c)) (ap (λ (m : Step Table Bool). m.run c) same_at_once ∙ does) (step-as table (header_stays table table_tabular refl) c)
 
   pub quick_done : (end : RowEnd) → x ≡ Ok end → was_done end ≡ true → (step bounded_table).run c ≡ Went outcome.Went d
   quick_done end q b =
@@ -117,7 +122,13 @@ pub quick_ready : (u v : View) (f g : Frame) (w : World) → IsReady u f w → S
 quick_ready u v f g w ready stays = record { frame = stays.frame; devices = stays.devices ∙ ready.devices }
 
 -- a bytecode that was done, but for what it leaves
-pub done_but : (c d : State Table) (end : RowEnd) → was_done end ≡ true → GoesOn c (with_deed (deed_left end) d) → IsDoneBut c (Ok end) d
-done_but c d ToForesee b h = cc
-done_but c d Done b h = h
-done_but c d (Leaves deed) b h = h
+pub done_but : (c d : State Table) (left : Deed) (end : RowEnd) → was_done end ≡ true → GoesOn c (with_deed (deed_left left end) d) → IsDoneBut c left (Ok end) d
+done_but c d left ToForesee b h = cc
+done_but c d left Done b h = h
+done_but c d left Leaves b h = h
+
+-- a bytecode that wasn't
+pub undone : (c d : State Table) (left : Deed) (end : RowEnd) → was_done end ≡ false → d ≡ c → IsDoneBut c left (Ok end) d
+undone c d left ToForesee b h = h
+undone c d left Done b h = cc
+undone c d left Leaves b h = cc

@@ -1,7 +1,7 @@
 -- Bytecodes that are done at once, without being foreseen: most of those that make no object; and sends by 208 to 255 that activate
--- a method, where there is room for its context, or do a primitive on processes. Each answers whether it was such a one. Where it
+-- a method, where there is room for its context, also that for doesNotUnderstand: with a Message, or do a primitive on processes. Each answers whether it was such a one. Where it
 -- wasn't, what it leaves is of no use: the bytecode is to be foreseen.
-use Rattle.std.specs.Prelude.{◌≡◌, ℕ, ◌+◌, ◌*◌, ◌-◌, ◌==◌, Bool, true, false, Option, Some, None, Result, Ok, Err, if◌then◌else◌, pos, IfOk}
+use Rattle.std.specs.Prelude.{◌≡◌, ℕ, ◌+◌, ◌*◌, ◌-◌, ◌==◌, Bool, true, false, Option, Some, None, Result, Ok, Err, if◌then◌else◌, ◌&&◌, nat_le, nat_lt, pos, IfOk}
 use Rattle.st_model.specs.declared.dead.Dead.{Dead}
 use Rattle.st_model.specs.declared.deed.Deed.{Deed}
 use Rattle.st_model.specs.declared.deed.Deed.TheVariants.{Nothing}
@@ -12,14 +12,16 @@ use Rattle.st_model.specs.declared.integers.IntAnswer.{IntAnswer}
 use Rattle.st_model.specs.declared.integers.IntAnswer.TheVariants.{Number, Truth, Point}
 use Rattle.st_model.specs.Values.{Value, Small, Ref}
 use Rattle.st_model.specs.declared.page.PageObject.{PageObject}
-use Rattle.st_model.specs.declared.page.PageObject.TheVariants.{FalseObject, TrueObject}
+use Rattle.st_model.specs.declared.page.PageObject.TheVariants.{FalseObject, TrueObject, NotUnderstood}
 use Rattle.st_model.specs.Decoded.{decoded}
 use Rattle.st_model.specs.Outcomes.{Outcome}
 use Rattle.st_model.specs.Outcomes as outcome
-use Rattle.st_model.specs.Machine.{ObjectMemory, State, Died, Went, Step, answer, tried, ◌>>=◌}
-use Rattle.st_model.specs.Steps.{get_receiver, class_of, under, pop, next_byte}
+use Rattle.st_model.specs.Machine.{ObjectMemory, State, Died, Went, Step, answer, tried, ◌>>=◌, ◌>>◌}
+use Rattle.st_model.specs.Steps.{get_receiver, get_free, of_page, class_of, under, pop, next_byte}
 use Rattle.st_model.specs.Methods.{method_header, method_primitive, temporary_count, flag_of}
 use Rattle.st_model.specs.Lookup.{find}
+use Rattle.st_model.specs.Contexts.{activate}
+use Rattle.st_model.specs.Sends.{replace_by_message}
 use Rattle.st_model.specs.Executing.{answer_field}
 use Rattle.st_model.specs.Primitives.{succeed}
 use Rattle.st_model.specs.Arithmetic.{integer_answer, value_of_answer, arithmetic_number, equivalence, receiver_class}
@@ -28,6 +30,7 @@ use Rattle.st_model.specs.Processes.{processes}
 use Rattle.st_model.specs.Deeds.{with_deed}
 use Rattle.st_model.specs.Bytecodes.{fetch_literal_constant, push_operand, store_and_pop, push_receiver, push_constant, constant_value, extended_push, extended_store, extended_store_and_pop, pop_stack, duplicate_top, push_active_context, short_unconditional_jump, long_unconditional_jump, step}
 use Rattle.st_model.specs.Table.{Table, apart, bounded_table}
+use Rattle.st_frames.specs.Rows.{send_changes, activation_changes}
 use Rattle.st_control.specs.Foreseen.{IsForeseen}
 use Rattle.st_at_once.specs.declared.ending.RowEnd.{RowEnd}
 use Rattle.st_at_once.specs.declared.ending.RowEnd.TheVariants.{ToForesee, Done, Leaves}
@@ -109,15 +112,51 @@ execute_at_once m method n = do
   header ← method_header m method
   execute_at_once_by m method header n (flag_of header)
 
--- a message that isn't understood would have to be made
-unfoldable pub found_at_once : {H : Type 0} → ObjectMemory H → ℕ → Option Value → Step H Bool
-found_at_once m n None = answer false
-found_at_once m n (Some method) = execute_at_once m method n
+-- there is room for a Message of n arguments and for their Array, which take 6 + n words, and for a context
+unfoldable pub message_space : {H : Type 0} → ObjectMemory H → ℕ → Step H Bool
+message_space m n = do
+  free ← get_free m
+  answer (nat_le 3 free.entries && nat_le (46 + n) free.words)
+
+-- a Message takes the place of the n arguments, and a new context of the method becomes the active one
+unfoldable pub enter_with_message : {H : Type 0} → ObjectMemory H → Value → Value → Value → ℕ → Step H Unit
+enter_with_message m method header selector n = do
+  replace_by_message m selector n
+  activate m method header 1
+
+-- the same where there is room for it
+unfoldable pub with_message_at_once : {H : Type 0} → ObjectMemory H → Value → Value → Value → ℕ → Step H Bool
+with_message_at_once m method header selector n = do
+  space ← message_space m n
+  if space then at_once (enter_with_message m method header selector n) else answer false
+
+-- the same where the method has this header, and is one that is activated
+unfoldable pub answer_at_once : {H : Type 0} → ObjectMemory H → Value → Value → ℕ → Option Value → Step H Bool
+answer_at_once m method selector n None = answer false
+answer_at_once m method selector n (Some header) =
+    if nat_lt (flag_of header) 5 then with_message_at_once m method header selector n else answer false
+
+-- the same with the method for doesNotUnderstand:, if there is one
+unfoldable pub call_not_understood_at_once : {H : Type 0} → ObjectMemory H → Value → ℕ → Option Value → Step H Bool
+call_not_understood_at_once m selector n None = answer false
+call_not_understood_at_once m selector n (Some method) = do
+  header ← tried (method_header m method)
+  answer_at_once m method selector n header
+
+unfoldable pub not_understood_at_once : {H : Type 0} → ObjectMemory H → Value → Value → ℕ → Step H Bool
+not_understood_at_once m class selector n = do
+  understand ← of_page m NotUnderstood
+  method ← find m class understand
+  call_not_understood_at_once m selector n method
+
+unfoldable pub found_at_once : {H : Type 0} → ObjectMemory H → Value → Value → ℕ → Option Value → Step H Bool
+found_at_once m class selector n None = not_understood_at_once m class selector n
+found_at_once m class selector n (Some method) = execute_at_once m method n
 
 unfoldable pub send_from_at_once : {H : Type 0} → ObjectMemory H → Value → Value → ℕ → Step H Bool
 send_from_at_once m class selector n = do
   method ← find m class selector
-  found_at_once m n method
+  found_at_once m class selector n method
 
 unfoldable pub send_at_once : {H : Type 0} → ObjectMemory H → Value → ℕ → Step H Bool
 send_at_once m selector n = do
@@ -177,13 +216,13 @@ step_at_once m = do
 abbrev pub was_done : RowEnd → Bool
 was_done ToForesee = false
 was_done Done = true
-was_done (Leaves deed) = true
+was_done Leaves = true
 
--- and what it leaves to be done
-abbrev pub deed_left : RowEnd → Deed
-deed_left ToForesee = Nothing
-deed_left Done = Nothing
-deed_left (Leaves deed) = deed
+-- and which deed it leaves to be done, where this is the one that was left
+abbrev pub deed_left : Deed → RowEnd → Deed
+deed_left left ToForesee = Nothing
+deed_left left Done = Nothing
+deed_left left Leaves = left
 
 -- where it is to be foreseen, the objects are as they were
 abbrev pub StillToForesee : {M : Type 0} → Ghosts M → M → Result RowEnd Dead → M → Type 0
@@ -194,15 +233,19 @@ abbrev pub GoesOn : State Table → State Table → Type 0
 GoesOn c d = IsForeseen c × ((step bounded_table).run c ≡ Went outcome.Went d)
 
 -- What the next bytecode comes to that was tried at once: the machine dies of this cause, as it would be foreseen; or it is to
--- be foreseen, and nothing was changed; or it was done, perhaps but for a deed.
-abbrev pub IsDoneBut : State Table → Result RowEnd Dead → State Table → Type 0
-IsDoneBut c (Err cause) d = (step apart).run c ≡ Died cause
-IsDoneBut c (Ok ToForesee) d = d ≡ c
-IsDoneBut c (Ok Done) d = GoesOn c d
-IsDoneBut c (Ok (Leaves deed)) d = GoesOn c (with_deed deed d)
+-- be foreseen, and nothing was changed; or it was done, perhaps but for the deed that is left.
+abbrev pub IsDoneBut : State Table → Deed → Result RowEnd Dead → State Table → Type 0
+IsDoneBut c left (Err cause) d = (step apart).run c ≡ Died cause
+IsDoneBut c left (Ok ToForesee) d = d ≡ c
+IsDoneBut c left (Ok Done) d = GoesOn c d
+IsDoneBut c left (Ok Leaves) d = GoesOn c (with_deed left d)
 
 -- the same once the deed is done, where one is left
 abbrev pub IsDoneAtOnce : State Table → Result Bool Dead → State Table → Type 0
 IsDoneAtOnce c (Err cause) d = (step apart).run c ≡ Died cause
 IsDoneAtOnce c (Ok false) d = d ≡ c
 IsDoneAtOnce c (Ok true) d = GoesOn c d
+
+-- a bound of how many changes a bytecode makes that is done at once: it makes a Message and activates a method
+abbrev pub changes_at_once : ℕ
+changes_at_once = send_changes + activation_changes

@@ -5,12 +5,13 @@ ghost use Rattle.st_model.specs.Decoded.{IsNumbered};
 ghost use Rattle.st_ints.specs.Answers.{IsOfSmall};
 ghost use Rattle.st_model.specs.declared.page.PageObject.TheVariants.{FalseObject, TrueObject};
 ghost use Rattle.st_control.specs.AtOnce.{IsStill, at_once, activate_at_once, jump_at_once, return_to_sender_at_once};
-ghost use Rattle.st_at_once.specs.AtOnce.{was_done, deed_left, StillToForesee, respond_at_once, execute_at_once_by, execute_at_once, found_at_once, send_from_at_once, send_at_once, literal_send_at_once, answered_at_once, arithmetic_at_once_by, arithmetic_at_once, primitive_at_once, long_jump_at_once, return_receiver_at_once, return_constant_at_once, return_top_to_sender_at_once, return_top_to_caller_at_once, unsent_at_once, bytecode_at_once, step_at_once};
+ghost use Rattle.st_at_once.specs.AtOnce.{was_done, deed_left, StillToForesee, respond_at_once, execute_at_once_by, execute_at_once, found_at_once, send_from_at_once, send_at_once, literal_send_at_once, answered_at_once, arithmetic_at_once_by, arithmetic_at_once, primitive_at_once, long_jump_at_once, return_receiver_at_once, return_constant_at_once, return_top_to_sender_at_once, return_top_to_caller_at_once, unsent_at_once, bytecode_at_once, step_at_once, changes_at_once, not_understood_at_once};
 ghost use Rattle.st_model.specs.Methods.{flag_of};
 ghost use Rattle.st_lookup.specs.Places.{found_word};
 ghost use Rattle.st_frames.specs.Rows.{RowMoves, RowDoes, RowLeaves, Takes, activation_changes};
 
 use crate::ending::RowEnd;
+use crate::unanswered::not_understood_at_once;
 use st_control::{
     activate_at_once, answer_field, answer_pair, arithmetic_number, constant_value, duplicate_top,
     equivalence, extended_push, extended_store, extended_store_and_pop, fetch_literal_constant,
@@ -23,7 +24,7 @@ use st_frames::{Registers, next_byte, page, pop, under};
 use st_ints::IntAnswer;
 use st_memory::Objects;
 use st_method::Header;
-use st_model::{Bytecode, Constant, Dead, PageObject, Tried, Word, decode};
+use st_model::{Bytecode, Constant, Dead, Deed, PageObject, Tried, Word, decode};
 use st_process::try_process;
 
 /// A number or a truth takes the place of receiver and argument. Answers whether it was one: a Point isn't made.
@@ -214,29 +215,6 @@ fn return_top_to_caller_at_once<O: Objects>(m: &mut O, r: &mut Registers) -> Res
     return_to_caller_at_once(m, r, x)
 }
 
-/// A new context of the method becomes the active one, where there is room for it.
-#[tactic(auto, using(st_frames::proofs::Doing::rows))]
-fn activated_at_once<O: Objects>(
-    m: &mut O,
-    r: &mut Registers,
-    method: Word,
-    header: Header,
-    n: u32,
-) -> Result<RowEnd, Dead>
-    requires few { n < 16384 }
-    requires room { activation_changes ≤ O.room m.old }
-    ensures does { RowLeaves O.Objects.own (activate_at_once O.names (word method) (word header.0) n)
-        was_done deed_left m.old r.old result m.new r.new }
-    ensures takes { Takes O.Objects.own activation_changes m.old m.new }
-    ensures still { StillToForesee O.Objects.own m.old result m.new }
-{
-    if activate_at_once(m, r, method, header, n)? {
-        Ok(RowEnd::Done)
-    } else {
-        Ok(RowEnd::ToForesee)
-    }
-}
-
 /// Does a method's primitive, where that is one on processes and doesn't fail.
 #[tactic(auto, using(st_frames::proofs::Doing::rows), unfolding(crate::specs::AtOnce::respond_at_once))]
 fn respond_at_once<O: Objects>(
@@ -244,16 +222,20 @@ fn respond_at_once<O: Objects>(
     r: &mut Registers,
     method: Word,
     n: u32,
+    left: &mut Deed,
 ) -> Result<RowEnd, Dead>
     requires room { activation_changes ≤ O.room m.old }
     ensures does { RowLeaves O.Objects.own (respond_at_once O.names (word method) n)
-        was_done deed_left m.old r.old result m.new r.new }
+        was_done (deed_left left.new) m.old r.old result m.new r.new }
     ensures takes { Takes O.Objects.own activation_changes m.old m.new }
     ensures still { StillToForesee O.Objects.own m.old result m.new }
 {
     let primitive = method_primitive(m, r, method)?;
     match try_process(m, r, primitive, n)? {
-        Tried::Done(deed) => Ok(RowEnd::Leaves(deed)),
+        Tried::Done(deed) => {
+            *left = deed;
+            Ok(RowEnd::Leaves)
+        }
         Tried::Failed => Ok(RowEnd::ToForesee),
     }
 }
@@ -267,12 +249,13 @@ fn execute_at_once_by<O: Objects>(
     method: Word,
     header: Header,
     n: u32,
+    left: &mut Deed,
 ) -> Result<RowEnd, Dead>
     requires few { n < 16384 }
     requires room { activation_changes ≤ O.room m.old }
     ensures does { RowLeaves O.Objects.own
         (execute_at_once_by O.names (word method) (word header.0) n (flag_of (word header.0)))
-        was_done deed_left m.old r.old result m.new r.new }
+        was_done (deed_left left.new) m.old r.old result m.new r.new }
     ensures takes { Takes O.Objects.own activation_changes m.old m.new }
     ensures still { StillToForesee O.Objects.own m.old result m.new }
 {
@@ -282,8 +265,14 @@ fn execute_at_once_by<O: Objects>(
             answer_field(m, r, header.temporaries())?;
             Ok(RowEnd::Done)
         }
-        7 => respond_at_once(m, r, method, n),
-        _ => activated_at_once(m, r, method, header, n),
+        7 => respond_at_once(m, r, method, n, left),
+        _ => {
+            if activate_at_once(m, r, method, header, n)? {
+                Ok(RowEnd::Done)
+            } else {
+                Ok(RowEnd::ToForesee)
+            }
+        }
     }
 }
 
@@ -294,36 +283,46 @@ fn execute_at_once<O: Objects>(
     r: &mut Registers,
     method: Word,
     n: u32,
+    left: &mut Deed,
 ) -> Result<RowEnd, Dead>
     requires few { n < 16384 }
     requires room { activation_changes ≤ O.room m.old }
     ensures does { RowLeaves O.Objects.own (execute_at_once O.names (word method) n)
-        was_done deed_left m.old r.old result m.new r.new }
+        was_done (deed_left left.new) m.old r.old result m.new r.new }
     ensures takes { Takes O.Objects.own activation_changes m.old m.new }
     ensures still { StillToForesee O.Objects.own m.old result m.new }
 {
     let header = Header(m.method_header(method)?);
-    execute_at_once_by(m, r, method, header, n)
+    execute_at_once_by(m, r, method, header, n, left)
 }
 
-/// Executes the method that was found, if one was, with n arguments.
+/// Executes the method that was found with n arguments; where none was, the message isn't understood.
 #[tactic(auto, using(st_frames::proofs::Doing::rows), unfolding(crate::specs::AtOnce::found_at_once))]
 fn found_at_once<O: Objects>(
     m: &mut O,
     r: &mut Registers,
+    class: Word,
+    selector: Word,
     n: u32,
     method: Option<Word>,
+    left: &mut Deed,
 ) -> Result<RowEnd, Dead>
     requires few { n < 16384 }
-    requires room { activation_changes ≤ O.room m.old }
-    ensures does { RowLeaves O.Objects.own (found_at_once O.names n (found_word method))
-        was_done deed_left m.old r.old result m.new r.new }
-    ensures takes { Takes O.Objects.own activation_changes m.old m.new }
+    requires room { changes_at_once ≤ O.room m.old }
+    ensures does { RowLeaves O.Objects.own (found_at_once O.names (word class) (word selector) n (found_word method))
+        was_done (deed_left left.new) m.old r.old result m.new r.new }
+    ensures takes { Takes O.Objects.own changes_at_once m.old m.new }
     ensures still { StillToForesee O.Objects.own m.old result m.new }
 {
     match method {
-        Some(method) => execute_at_once(m, r, method, n),
-        None => Ok(RowEnd::ToForesee),
+        Some(method) => execute_at_once(m, r, method, n, left),
+        None => {
+            if not_understood_at_once(m, r, class, selector, n)? {
+                Ok(RowEnd::Done)
+            } else {
+                Ok(RowEnd::ToForesee)
+            }
+        }
     }
 }
 
@@ -335,16 +334,17 @@ fn send_from_at_once<O: Objects>(
     class: Word,
     selector: Word,
     n: u32,
+    left: &mut Deed,
 ) -> Result<RowEnd, Dead>
     requires few { n < 16384 }
-    requires room { activation_changes ≤ O.room m.old }
+    requires room { changes_at_once ≤ O.room m.old }
     ensures does { RowLeaves O.Objects.own (send_from_at_once O.names (word class) (word selector) n)
-        was_done deed_left m.old r.old result m.new r.new }
-    ensures takes { Takes O.Objects.own activation_changes m.old m.new }
+        was_done (deed_left left.new) m.old r.old result m.new r.new }
+    ensures takes { Takes O.Objects.own changes_at_once m.old m.new }
     ensures still { StillToForesee O.Objects.own m.old result m.new }
 {
     let method = find_method(m, r, class, selector)?;
-    found_at_once(m, r, n, method)
+    found_at_once(m, r, class, selector, n, method, left)
 }
 
 /// Sends the selector with n arguments to the word n words below the top.
@@ -354,17 +354,18 @@ fn send_at_once<O: Objects>(
     r: &mut Registers,
     selector: Word,
     n: u32,
+    left: &mut Deed,
 ) -> Result<RowEnd, Dead>
     requires few { n < 16384 }
-    requires room { activation_changes ≤ O.room m.old }
+    requires room { changes_at_once ≤ O.room m.old }
     ensures does { RowLeaves O.Objects.own (send_at_once O.names (word selector) n)
-        was_done deed_left m.old r.old result m.new r.new }
-    ensures takes { Takes O.Objects.own activation_changes m.old m.new }
+        was_done (deed_left left.new) m.old r.old result m.new r.new }
+    ensures takes { Takes O.Objects.own changes_at_once m.old m.new }
     ensures still { StillToForesee O.Objects.own m.old result m.new }
 {
     let receiver = under(m, r, n)?;
     let class = m.fetch_class(receiver)?;
-    send_from_at_once(m, r, class, selector, n)
+    send_from_at_once(m, r, class, selector, n, left)
 }
 
 /// Sends literal i with n arguments.
@@ -374,16 +375,17 @@ fn literal_send_at_once<O: Objects>(
     r: &mut Registers,
     i: u32,
     n: u32,
+    left: &mut Deed,
 ) -> Result<RowEnd, Dead>
     requires few { n < 16384 }
-    requires room { activation_changes ≤ O.room m.old }
+    requires room { changes_at_once ≤ O.room m.old }
     ensures does { RowLeaves O.Objects.own (literal_send_at_once O.names i n)
-        was_done deed_left m.old r.old result m.new r.new }
-    ensures takes { Takes O.Objects.own activation_changes m.old m.new }
+        was_done (deed_left left.new) m.old r.old result m.new r.new }
+    ensures takes { Takes O.Objects.own changes_at_once m.old m.new }
     ensures still { StillToForesee O.Objects.own m.old result m.new }
 {
     let selector = fetch_literal_constant(m, r, i)?;
-    send_at_once(m, r, selector, n)
+    send_at_once(m, r, selector, n, left)
 }
 
 /// Does the row of a bytecode that is no send by 208 to 255, where that is done at once. Answers whether that is so.
@@ -437,16 +439,17 @@ fn bytecode_at_once<O: Objects>(
     m: &mut O,
     r: &mut Registers,
     code: Bytecode,
+    left: &mut Deed,
 ) -> Result<RowEnd, Dead>
     requires numbered { IsNumbered code }
-    requires room { activation_changes ≤ O.room m.old }
+    requires room { changes_at_once ≤ O.room m.old }
     ensures does { RowLeaves O.Objects.own (bytecode_at_once O.names code)
-        was_done deed_left m.old r.old result m.new r.new }
-    ensures takes { Takes O.Objects.own activation_changes m.old m.new }
+        was_done (deed_left left.new) m.old r.old result m.new r.new }
+    ensures takes { Takes O.Objects.own changes_at_once m.old m.new }
     ensures still { StillToForesee O.Objects.own m.old result m.new }
 {
     if let Bytecode::LiteralSend { literal, arguments } = code {
-        return literal_send_at_once(m, r, u32::from(literal), u32::from(arguments));
+        return literal_send_at_once(m, r, u32::from(literal), u32::from(arguments), left);
     }
     if unsent_at_once(m, r, code)? {
         Ok(RowEnd::Done)
@@ -458,13 +461,17 @@ fn bytecode_at_once<O: Objects>(
 /// Does the next bytecode, where that is done at once.
 #[inline(always)]
 #[tactic(auto, using(st_frames::proofs::Doing::rows), unfolding(crate::specs::AtOnce::step_at_once))]
-pub fn row_at_once<O: Objects>(m: &mut O, r: &mut Registers) -> Result<RowEnd, Dead>
-    requires room { activation_changes ≤ O.room m.old }
+pub fn row_at_once<O: Objects>(
+    m: &mut O,
+    r: &mut Registers,
+    left: &mut Deed,
+) -> Result<RowEnd, Dead>
+    requires room { changes_at_once ≤ O.room m.old }
     ensures does { RowLeaves O.Objects.own (step_at_once O.names)
-        was_done deed_left m.old r.old result m.new r.new }
-    ensures takes { Takes O.Objects.own activation_changes m.old m.new }
+        was_done (deed_left left.new) m.old r.old result m.new r.new }
+    ensures takes { Takes O.Objects.own changes_at_once m.old m.new }
     ensures still { StillToForesee O.Objects.own m.old result m.new }
 {
     let byte = next_byte(m, r)?;
-    bytecode_at_once(m, r, decode(byte))
+    bytecode_at_once(m, r, decode(byte), left)
 }

@@ -1,12 +1,25 @@
-use st_model::Deed;
+ghost use Rattle.std.specs.Prelude.{◌≡◌};
+ghost use Rattle.st_at_once.specs.AtOnce.{was_done};
 
-/// How a bytecode came out that was tried at once.
+/// How a bytecode came out that was tried at once. The deed itself stands elsewhere, since few bytecodes leave one.
 #[derive(Clone, Copy)]
 pub enum RowEnd {
     /// It is to be foreseen, and the objects are as they were.
     ToForesee,
     /// It was done.
     Done,
-    /// It was done but for this, which is left to be done.
-    Leaves(Deed),
+    /// It was done but for a deed, which is left to be done.
+    Leaves,
+}
+
+impl RowEnd {
+    /// Whether it was done, perhaps but for a deed.
+    pub(crate) fn was_done(self) -> bool
+        ensures { result ≡ was_done self }
+    {
+        match self {
+            RowEnd::ToForesee => false,
+            RowEnd::Done | RowEnd::Leaves => true,
+        }
+    }
 }

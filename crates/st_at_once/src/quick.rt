@@ -9,37 +9,32 @@ use crate::near::Near;
 use st_frames::{Frame, Registers, World, load};
 use st_input::carry_out;
 use st_memory::Memory;
-use st_model::Dead;
+use st_model::{Dead, Deed};
 
 /// Does the next bytecode at once, from registers that are those of the frame, or answers that it is to be foreseen, and then
 /// objects and frame are as they were. Where it was done, the registers are again those of the frame, and a deed may be left to
-/// be done; else the registers are of no more use. What a machine that dies leaves isn't said.
+/// be done, which stands in `left`; else the registers are of no more use. What a machine that dies leaves isn't said.
 #[inline(always)]
 pub fn step_from<M: Memory>(
     near: &mut Near<M>,
     f: &mut Frame,
     r: &mut Registers,
+    left: &mut Deed,
 ) -> Result<RowEnd, Dead>
     requires same { registers_in r.old ≡ registers_of f.old }
     requires ready { IsReady (M.view near.old.memory.now) f.old r.old.world.now }
-    ensures done { IsDoneBut (shown (M.view near.old.memory.now) f.old r.old.world.now) result
+    ensures done { IsDoneBut (shown (M.view near.old.memory.now) f.old r.old.world.now) left.new result
         (shown (M.view near.new.memory.now) f.new r.old.world.now) }
     ensures ready { IfOk result (λ end. IsReady (M.view near.new.memory.now) f.new r.old.world.now) }
     ensures same { IfOk result (λ end. was_done end ≡ true → registers_in r.new ≡ registers_of f.new) }
     ensures world { r.new.world.now ≡ r.old.world.now }
     ensures same_memory { near.new.memory.ghost_name ≡ near.old.memory.ghost_name }
 {
-    match row_at_once(near, r)? {
-        RowEnd::ToForesee => Ok(RowEnd::ToForesee),
-        RowEnd::Done => {
-            near.hold_again(f, r);
-            Ok(RowEnd::Done)
-        }
-        RowEnd::Leaves(deed) => {
-            near.hold_again(f, r);
-            Ok(RowEnd::Leaves(deed))
-        }
+    let end = row_at_once(near, r, left)?;
+    if end.was_done() {
+        near.hold_again(f, r);
     }
+    Ok(end)
 }
 
 /// Does the next bytecode at once, and what it leaves to be done, or answers that it is to be foreseen, and then nothing is
@@ -52,11 +47,12 @@ pub fn step_at_once<M: Memory>(m: &mut M, f: &mut Frame, w: &mut World) -> Resul
 {
     let mut r = load(m, f, w);
     let mut near = Near::new(m, f);
-    match step_from(&mut near, f, &mut r)? {
+    let mut left = Deed::Nothing;
+    match step_from(&mut near, f, &mut r, &mut left)? {
         RowEnd::ToForesee => Ok(false),
         RowEnd::Done => Ok(true),
-        RowEnd::Leaves(deed) => {
-            carry_out(m, w, deed);
+        RowEnd::Leaves => {
+            carry_out(m, w, left);
             Ok(true)
         }
     }

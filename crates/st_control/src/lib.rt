@@ -28,6 +28,7 @@ pub use blocks::{primitive_block_copy, try_blocks};
 pub use finding::find_method;
 pub use jump::{long_unconditional_jump, short_unconditional_jump};
 pub use jumps::jump_on;
+pub use messages::replace_by_message;
 pub use operands::{constant_value, fetch_literal_constant};
 pub use passing::Passing;
 pub use primitive::method_primitive;

@@ -2,6 +2,7 @@
 use Rattle.std.proofs.Common.{◌≡◌, ℕ, ◌+◌, Option, Some, None, Ok, Err, sym, subst}
 use Rattle.std.specs.Prelude.{Result, OnOk}
 use Rattle.st_model.specs.declared.dead.Dead.{Dead}
+use Rattle.st_model.specs.declared.deed.Deed.{Deed}
 use Rattle.st_model.specs.declared.outcome.Outcome.TheVariants as code_outcome
 use Rattle.st_model.specs.Outcomes.{Ending, With}
 use Rattle.st_model.specs.Outcomes as outcome
@@ -39,30 +40,32 @@ module _ (v : View) (f : Frame) (w : World) (whole : IsWhole v) (ready : IsReady
   calm_next : (k : ℕ) (s : State Births) (o : Transition (State Table) Ending) → IsCalm w → SoFar k s (shown v f w) → foreseen_step (shown v f w) ≡ o → NextEnds k s o
   calm_next k s o calm far e = shown_next k s (shown v f w) sound whole.most_entries far o (calm_cycle (shown v f w) o calm e)
 
-  pub calm_goes : (k : ℕ) (s : State Births) (d : State Table) → IsCalm w → SoFar k s (shown v f w) → GoesCalmly (shown v f w) (Ok None) d → SoFar (k + 1) s d
-  calm_goes k s d calm far e = one_more k s d (calm_next k s (Went (With outcome.Went) d) calm far e)
+  pub calm_goes : (k : ℕ) (s : State Births) (left : Deed) (d : State Table) → IsCalm w → SoFar k s (shown v f w) → GoesCalmly (shown v f w) left (Ok None) d → SoFar (k + 1) s d
+  calm_goes k s left d calm far e = one_more k s d (calm_next k s (Went (With outcome.Went) d) calm far e)
 
-  pub calm_dies : (k : ℕ) (s : State Births) (cause : Dead) (d : State Table) → IsCalm w → SoFar k s (shown v f w) → GoesCalmly (shown v f w) (Err cause) d → StretchEnds k s (Err cause) d
-  calm_dies k s cause d calm far e = calm_next k s (Died cause) calm far e
+  pub calm_dies : (k : ℕ) (s : State Births) (left : Deed) (cause : Dead) (d : State Table) → IsCalm w → SoFar k s (shown v f w) → GoesCalmly (shown v f w) left (Err cause) d
+      → StretchEnds k s left (Err cause) d
+  calm_dies k s left cause d calm far e = calm_next k s (Died cause) calm far e
 
-  calm_left : (k : ℕ) (s : State Births) (left : State Table → Type 0) → IsCalm w → SoFar k s (shown v f w) → GoesBy (foreseen_step (shown v f w)) left → NextGoesBy k s left
-  calm_left k s left calm far h d l = calm_next k s (Went (With outcome.Went) d) calm far (h d l)
+  calm_left : (k : ℕ) (s : State Births) (rest : State Table → Type 0) → IsCalm w → SoFar k s (shown v f w) → GoesBy (foreseen_step (shown v f w)) rest → NextGoesBy k s rest
+  calm_left k s rest calm far h d l = calm_next k s (Went (With outcome.Went) d) calm far (h d l)
 
   -- a stretch that ends in it
-  pub calm_ends : (k : ℕ) (s : State Births) (end : StretchEnd) (d : State Table) → IsCalm w → SoFar k s (shown v f w) → GoesCalmly (shown v f w) (Ok (Some end)) d → StretchEnds k s (Ok (Some end)) d
-  calm_ends k s ToForesee d calm far h = subst (λ y. SoFar k s y) (sym h) far
-  calm_ends k s (Leaves deed) d calm far h = calm_left k s (Finishes (with_deed deed d)) calm far h
-  calm_ends k s Warns d calm far h = calm_left k s (λ e. warned table d ≡ e) calm far h
+  pub calm_ends : (k : ℕ) (s : State Births) (left : Deed) (end : StretchEnd) (d : State Table) → IsCalm w → SoFar k s (shown v f w) → GoesCalmly (shown v f w) left (Ok (Some end)) d
+      → StretchEnds k s left (Ok (Some end)) d
+  calm_ends k s left ToForesee d calm far h = subst (λ y. SoFar k s y) (sym h) far
+  calm_ends k s left Leaves d calm far h = calm_left k s (Finishes (with_deed left d)) calm far h
+  calm_ends k s left Warns d calm far h = calm_left k s (λ e. warned table d ≡ e) calm far h
 
 -- the cycle after a stretch, or the rest of one
 module _ (k : ℕ) (s : State Births) where
-  rest_goes : (left : State Table → Type 0) (x : Result CycleEnd Dead) (d : State Table) → NextGoesBy k s left → (x ≡ Ok (cycle_end.With code_outcome.Went)) × left d → NextEnds k s (transition_of ending_of x d)
-  rest_goes left x d h e = subst (λ y. NextEnds k s (transition_of ending_of y d)) (sym e.0) (h d e.1)
+  rest_goes : (rest : State Table → Type 0) (x : Result CycleEnd Dead) (d : State Table) → NextGoesBy k s rest → (x ≡ Ok (cycle_end.With code_outcome.Went)) × rest d → NextEnds k s (transition_of ending_of x d)
+  rest_goes rest x d h e = subst (λ y. NextEnds k s (transition_of ending_of y d)) (sym e.0) (h d e.1)
 
-  pub after_stretch : (v : View) (f : Frame) (w : World) (end : Result (Option StretchEnd) Dead) (x : Result CycleEnd Dead) (d : State Table)
-      → IsWhole v → IsCalm w → OnOk end (IsReady v f w) → StretchEnds k s end (shown v f w) → Follows end (shown v f w) x d → NextEnds k s (transition_of ending_of x d)
-  after_stretch v f w (Ok None) x d whole calm ready far e = calm_next v f w whole ready k s (transition_of ending_of x d) calm far e
-  after_stretch v f w (Ok (Some ToForesee)) x d whole calm ready far e = calm_next v f w whole ready k s (transition_of ending_of x d) calm far e
-  after_stretch v f w (Ok (Some (Leaves deed))) x d whole calm ready far e = rest_goes (Finishes (with_deed deed (shown v f w))) x d far e
-  after_stretch v f w (Ok (Some Warns)) x d whole calm ready far e = rest_goes (λ y. warned table (shown v f w) ≡ y) x d far e
-  after_stretch v f w (Err cause) x d whole calm ready next e = subst (λ y. NextEnds k s (transition_of ending_of y d)) (sym e) next
+  pub after_stretch : (v : View) (f : Frame) (w : World) (left : Deed) (end : Result (Option StretchEnd) Dead) (x : Result CycleEnd Dead) (d : State Table)
+      → IsWhole v → IsCalm w → OnOk end (IsReady v f w) → StretchEnds k s left end (shown v f w) → Follows left end (shown v f w) x d → NextEnds k s (transition_of ending_of x d)
+  after_stretch v f w left (Ok None) x d whole calm ready far e = calm_next v f w whole ready k s (transition_of ending_of x d) calm far e
+  after_stretch v f w left (Ok (Some ToForesee)) x d whole calm ready far e = calm_next v f w whole ready k s (transition_of ending_of x d) calm far e
+  after_stretch v f w left (Ok (Some Leaves)) x d whole calm ready far e = rest_goes (Finishes (with_deed left (shown v f w))) x d far e
+  after_stretch v f w left (Ok (Some Warns)) x d whole calm ready far e = rest_goes (λ y. warned table (shown v f w) ≡ y) x d far e
+  after_stretch v f w left (Err cause) x d whole calm ready next e = subst (λ y. NextEnds k s (transition_of ending_of y d)) (sym e) next

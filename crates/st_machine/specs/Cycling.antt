@@ -1,6 +1,7 @@
 -- Parts of a cycle.
 use Rattle.std.specs.Prelude.{◌≡◌, ◌==◌, ◌&&◌, not, nat_lt, length, Bool, true, false, Result, Ok, Err, Option, Some, None}
 use Rattle.st_model.specs.declared.dead.Dead.{Dead}
+use Rattle.st_model.specs.declared.deed.Deed.{Deed}
 use Rattle.st_model.specs.declared.demand.Demand.{Demand}
 use Rattle.st_model.specs.Outcomes.{Ending, With}
 use Rattle.st_model.specs.Outcomes as outcome
@@ -43,10 +44,10 @@ abbrev pub GoesBy : Transition (State Table) Ending → (State Table → Type 0)
 GoesBy o left = (d : State Table) → left d → o ≡ Went (With outcome.Went) d
 
 -- In a calm world a bytecode that is tried at once dies as the cycle does, or goes on as that does, or changes nothing; or of the
--- cycle is still to be done a deed and what comes after a bytecode, or the warning alone.
-abbrev pub GoesCalmly : State Table → Result (Option StretchEnd) Dead → State Table → Type 0
-GoesCalmly c (Err cause) d = foreseen_step c ≡ Died cause
-GoesCalmly c (Ok None) d = foreseen_step c ≡ Went (With outcome.Went) d
-GoesCalmly c (Ok (Some ToForesee)) d = d ≡ c
-GoesCalmly c (Ok (Some (Leaves deed))) d = GoesBy (foreseen_step c) (Finishes (with_deed deed d))
-GoesCalmly c (Ok (Some Warns)) d = GoesBy (foreseen_step c) (λ e. warned table d ≡ e)
+-- cycle is still to be done the deed that is left and what comes after a bytecode, or the warning alone.
+abbrev pub GoesCalmly : State Table → Deed → Result (Option StretchEnd) Dead → State Table → Type 0
+GoesCalmly c left (Err cause) d = foreseen_step c ≡ Died cause
+GoesCalmly c left (Ok None) d = foreseen_step c ≡ Went (With outcome.Went) d
+GoesCalmly c left (Ok (Some ToForesee)) d = d ≡ c
+GoesCalmly c left (Ok (Some Leaves)) d = GoesBy (foreseen_step c) (Finishes (with_deed left d))
+GoesCalmly c left (Ok (Some Warns)) d = GoesBy (foreseen_step c) (λ e. warned table d ≡ e)

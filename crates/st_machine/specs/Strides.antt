@@ -1,6 +1,7 @@
 -- Cycles of the book's machine after which it goes on, and the one that follows.
 use Rattle.std.specs.Prelude.{◌≡◌, ℕ, Result, Ok, Err, Option, Some, None}
 use Rattle.st_model.specs.declared.dead.Dead.{Dead}
+use Rattle.st_model.specs.declared.deed.Deed.{Deed}
 use Rattle.st_model.specs.declared.outcome.Outcome.TheVariants as code_outcome
 use Rattle.st_model.specs.Outcomes.{Ending, With}
 use Rattle.st_model.specs.Outcomes as outcome
@@ -39,24 +40,24 @@ NextGoesBy k s left = (d : State Table) → left d → NextEnds k s (Went (With 
 
 -- What a stretch of k cycles from s leaves is shown; or its bytecode was done in the next one, of which the rest is still to be
 -- done; or the next one dies.
-abbrev pub StretchEnds : ℕ → State Births → Result (Option StretchEnd) Dead → State Table → Type 0
-StretchEnds k s (Ok None) c = SoFar k s c
-StretchEnds k s (Ok (Some ToForesee)) c = SoFar k s c
-StretchEnds k s (Ok (Some (Leaves deed))) c = NextGoesBy k s (Finishes (with_deed deed c))
-StretchEnds k s (Ok (Some Warns)) c = NextGoesBy k s (λ d. warned table c ≡ d)
-StretchEnds k s (Err cause) c = NextEnds k s (Died cause)
+abbrev pub StretchEnds : ℕ → State Births → Deed → Result (Option StretchEnd) Dead → State Table → Type 0
+StretchEnds k s left (Ok None) c = SoFar k s c
+StretchEnds k s left (Ok (Some ToForesee)) c = SoFar k s c
+StretchEnds k s left (Ok (Some Leaves)) c = NextGoesBy k s (Finishes (with_deed left c))
+StretchEnds k s left (Ok (Some Warns)) c = NextGoesBy k s (λ d. warned table c ≡ d)
+StretchEnds k s left (Err cause) c = NextEnds k s (Died cause)
 
 -- what follows a stretch: a cycle from its bytecode on, or the rest of one
-abbrev pub Follows : Result (Option StretchEnd) Dead → State Table → Result CycleEnd Dead → State Table → Type 0
-Follows (Ok None) c result d = foreseen_step c ≡ transition_of ending_of result d
-Follows (Ok (Some ToForesee)) c result d = foreseen_step c ≡ transition_of ending_of result d
-Follows (Ok (Some (Leaves deed))) c result d = (result ≡ Ok (cycle_end.With code_outcome.Went)) × Finishes (with_deed deed c) d
-Follows (Ok (Some Warns)) c result d = (result ≡ Ok (cycle_end.With code_outcome.Went)) × (warned table c ≡ d)
-Follows (Err cause) c result d = result ≡ Err cause
+abbrev pub Follows : Deed → Result (Option StretchEnd) Dead → State Table → Result CycleEnd Dead → State Table → Type 0
+Follows left (Ok None) c result d = foreseen_step c ≡ transition_of ending_of result d
+Follows left (Ok (Some ToForesee)) c result d = foreseen_step c ≡ transition_of ending_of result d
+Follows left (Ok (Some Leaves)) c result d = (result ≡ Ok (cycle_end.With code_outcome.Went)) × Finishes (with_deed left c) d
+Follows left (Ok (Some Warns)) c result d = (result ≡ Ok (cycle_end.With code_outcome.Went)) × (warned table c ≡ d)
+Follows left (Err cause) c result d = result ≡ Err cause
 
 -- so a stretch goes from each state over births that is shown first
 abbrev pub GoesOn : State Table → Stretch → State Table → Type 0
-GoesOn first t last = (s : State Births) → Shows first s → StretchEnds t.done s t.end last
+GoesOn first t last = (s : State Births) → Shows first s → StretchEnds t.done s t.left t.end last
 
 -- so a stride goes from each state over births that is shown first, and its last cycle ends
 abbrev pub Strides : State Table → Stride → State Table → Type 0

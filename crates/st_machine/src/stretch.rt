@@ -15,8 +15,8 @@ use st_model::{Dead, Deed};
 pub enum StretchEnd {
     /// The next bytecode is to be foreseen.
     ToForesee,
-    /// The next bytecode was done but for this, which is left to be done; and then what comes after it.
-    Leaves(Deed),
+    /// The next bytecode was done but for a deed, which is left to be done; and then what comes after it.
+    Leaves,
     /// The next bytecode was done, and what nothing supports was dropped; that space is low is to be told.
     Warns,
 }
@@ -28,6 +28,8 @@ pub struct Stretch {
     pub done: u32,
     /// Why there were no more, if as many were asked for; or what the machine died of in the next one.
     pub end: Result<Option<StretchEnd>, Dead>,
+    /// The deed that is left to be done, where one is.
+    pub left: Deed,
 }
 
 /// The next bytecode is done at once, and then what comes after it where the world is calm: what nothing supports any more is
@@ -37,19 +39,20 @@ fn do_calmly<M: Memory>(
     near: &mut Near<M>,
     f: &mut Frame,
     r: &mut Registers,
+    left: &mut Deed,
 ) -> Result<Option<StretchEnd>, Dead>
     requires same { registers_in r.old ≡ registers_of f.old }
     requires ready { IsReady (M.view near.old.memory.now) f.old r.old.world.now }
-    ensures step { GoesCalmly (shown (M.view near.old.memory.now) f.old r.old.world.now) result
+    ensures step { GoesCalmly (shown (M.view near.old.memory.now) f.old r.old.world.now) left.new result
         (shown (M.view near.new.memory.now) f.new r.old.world.now) }
     ensures ready { IfOk result (λ end. IsReady (M.view near.new.memory.now) f.new r.old.world.now) }
     ensures same { result ≡ Ok None → registers_in r.new ≡ registers_of f.new }
     ensures world { r.new.world.now ≡ r.old.world.now }
     ensures same_memory { near.new.memory.ghost_name ≡ near.old.memory.ghost_name }
 {
-    match step_from(near, f, r)? {
+    match step_from(near, f, r, left)? {
         RowEnd::ToForesee => Ok(Some(StretchEnd::ToForesee)),
-        RowEnd::Leaves(deed) => Ok(Some(StretchEnd::Leaves(deed))),
+        RowEnd::Leaves => Ok(Some(StretchEnd::Leaves)),
         RowEnd::Done => {
             near.settle();
             if needs_warning(near.memory, r.world) {
@@ -72,19 +75,22 @@ pub fn go_on<M: Memory>(m: &mut M, f: &mut Frame, w: &World, n: u32) -> Stretch
 {
     let mut r = load(m, f, w);
     let mut near = Near::new(m, f);
+    let mut left = Deed::Nothing;
     for done in 0..n {
-        match do_calmly(&mut near, f, &mut r) {
+        match do_calmly(&mut near, f, &mut r, &mut left) {
             Ok(None) => {}
             Ok(Some(end)) => {
                 return Stretch {
                     done,
                     end: Ok(Some(end)),
+                    left,
                 };
             }
             Err(cause) => {
                 return Stretch {
                     done,
                     end: Err(cause),
+                    left,
                 };
             }
         }
@@ -92,5 +98,6 @@ pub fn go_on<M: Memory>(m: &mut M, f: &mut Frame, w: &World, n: u32) -> Stretch
     Stretch {
         done: n,
         end: Ok(None),
+        left,
     }
 }

@@ -9,7 +9,7 @@ use crate::stretch::{StretchEnd, go_on};
 use st_frames::{Frame, World};
 use st_input::carry_out;
 use st_memory::Memory;
-use st_model::{Dead, Device, Outcome};
+use st_model::{Dead, Deed, Device, Outcome};
 
 /// Cycles after which the machine went on, and the one that followed them.
 #[derive(Clone, Copy)]
@@ -34,17 +34,18 @@ fn do_after<M: Memory>(
     f: &mut Frame,
     w: &mut World,
     end: Result<Option<StretchEnd>, Dead>,
+    left: Deed,
 ) -> Result<CycleEnd, Dead>
     requires ready { OnOk end (IsReady (M.view m.old) f.old w.old) }
-    ensures follows { Follows end (shown (M.view m.old) f.old w.old) result
+    ensures follows { Follows left end (shown (M.view m.old) f.old w.old) result
         (shown (M.view m.new) f.new w.new) }
     ensures ready { OnOk result (IsReady (M.view m.new) f.new w.new) }
 {
     match end? {
         None => return do_next(m, f, w),
         Some(StretchEnd::ToForesee) => return foresee(m, f, w),
-        Some(StretchEnd::Leaves(deed)) => {
-            carry_out(m, w, deed);
+        Some(StretchEnd::Leaves) => {
+            carry_out(m, w, left);
             finish(m, f, w);
         }
         Some(StretchEnd::Warns) => warn(m, w),
@@ -67,7 +68,7 @@ pub fn advance<M: Memory>(m: &mut M, f: &mut Frame, w: &mut World, n: u32) -> St
         return Stride { before: 0, end };
     }
     let stretch = go_on(m, f, w, n - 1);
-    let end = do_after(m, f, w, stretch.end);
+    let end = do_after(m, f, w, stretch.end, stretch.left);
     Stride {
         before: stretch.done,
         end,

@@ -16,14 +16,14 @@ returns-in_err-step_from-clause-step g c =
     let d = shown (g.M.Memory.view c.step_from.new.near.memory.now) c.step_from.new.f c.args.r.now.world.now in
     let k = c.in_err-step_from.field-0.0 in
     let e : c.from_residual.result ≡ Err k = search rules in
-    subst (λ y. GoesCalmly s y d) (sym e) (dies_at_once s k c.in_err-step_from.ensures.done)
+    subst (λ y. GoesCalmly s c.step_from.new.left y d) (sym e) (dies_at_once s k c.in_err-step_from.ensures.done)
 
 pub returns-in-Leaves-clause-step : goal.returns-in-Leaves-clause-step
 returns-in-Leaves-clause-step g c =
     let w = c.args.r.now.world.now in
     let s = shown (g.M.Memory.view c.args.near.now.memory.now) c.args.f.now w in
     let d = shown (g.M.Memory.view c.step_from.new.near.memory.now) c.step_from.new.f w in
-    goes_by s (with_deed c.in-Leaves.deed d) (subst (λ y. IsDoneBut s (Ok y) d) c.in-Leaves.is c.in_ok-step_from.ensures.done)
+    goes_by s (with_deed c.step_from.new.left d) (subst (λ y. IsDoneBut s c.step_from.new.left (Ok y) d) c.in-Leaves.is c.in_ok-step_from.ensures.done)
 
 pub returns-then-needs_warning-clause-step : goal.returns-then-needs_warning-clause-step
 returns-then-needs_warning-clause-step g c = λ e l.
@@ -32,7 +32,7 @@ returns-then-needs_warning-clause-step g c = λ e l.
     let f = c.step_from.new.f in
     let w = c.args.r.now.world.now in
     let start = shown (g.M.Memory.view c.args.near.now.memory.now) c.args.f.now w in
-    let done = subst (λ y. IsDoneBut start (Ok y) (shown u f w)) c.in-Done.is c.in_ok-step_from.ensures.done in
+    let done = subst (λ y. IsDoneBut start c.step_from.new.left (Ok y) (shown u f w)) c.in-Done.is c.in_ok-step_from.ensures.done in
     let settled = settled_same u k f w c.in_ok-step_from.ensures.ready c.settle.ensures.settles in
     goes_by start (shown u f w) done e (ap (warned table) settled ∙ l)
 
@@ -43,7 +43,7 @@ returns-else-needs_warning-clause-step g c =
     let f = c.step_from.new.f in
     let w = c.args.r.now.world.now in
     let start = shown (g.M.Memory.view c.args.near.now.memory.now) c.args.f.now w in
-    let done = subst (λ y. IsDoneBut start (Ok y) (shown u f w)) c.in-Done.is c.in_ok-step_from.ensures.done in
+    let done = subst (λ y. IsDoneBut start c.step_from.new.left (Ok y) (shown u f w)) c.in-Done.is c.in_ok-step_from.ensures.done in
     let settled = settled_same u k f w c.in_ok-step_from.ensures.ready c.settle.ensures.settles in
     goes_by start (shown u f w) done (shown k f w)
     (ap (warned table) settled ∙ unwarned (shown k f w)

@@ -28,10 +28,10 @@ returns-in-Ok-Some-clause-goes g c = λ s h.
     let w = c.args.w.now in
     let far = c.loop-done.invariant in
     let end : c.do_calmly.result ≡ Ok (Some c.in-Ok-Some.end) = c.in-Ok-Some.is ∙ ap (λ x. Ok x) c.in-Ok-Some.field-0-is in
-    let step = subst (λ y. GoesCalmly (shown v f c.loop-done.r.world.now) y (shown u q c.loop-done.r.world.now)) end c.do_calmly.ensures.step in
-    subst (λ y. StretchEnds c.loop-done.done s (Ok (Some c.in-Ok-Some.end)) (shown (g.M.Memory.view y) q w)) (search rules)
-    (calm_ends v f w (g.met.M.Memory.whole c.loop-done.near.memory.now) far.ready c.loop-done.done s c.in-Ok-Some.end (shown u q w) c.requires.calm (far.shows s h)
-    (subst (λ x. GoesCalmly (shown v f x) (Ok (Some c.in-Ok-Some.end)) (shown u q x)) far.world step))
+    let step = subst (λ y. GoesCalmly (shown v f c.loop-done.r.world.now) c.do_calmly.new.left y (shown u q c.loop-done.r.world.now)) end c.do_calmly.ensures.step in
+    subst (λ y. StretchEnds c.loop-done.done s c.do_calmly.new.left (Ok (Some c.in-Ok-Some.end)) (shown (g.M.Memory.view y) q w)) (search rules)
+    (calm_ends v f w (g.met.M.Memory.whole c.loop-done.near.memory.now) far.ready c.loop-done.done s c.do_calmly.new.left c.in-Ok-Some.end (shown u q w) c.requires.calm (far.shows s h)
+    (subst (λ x. GoesCalmly (shown v f x) c.do_calmly.new.left (Ok (Some c.in-Ok-Some.end)) (shown u q x)) far.world step))
 
 pub returns-in-Err-clause-goes : goal.returns-in-Err-clause-goes
 returns-in-Err-clause-goes g c = λ s h.
@@ -41,8 +41,8 @@ returns-in-Err-clause-goes g c = λ s h.
     let q = c.do_calmly.new.f in
     let w = c.args.w.now in
     let far = c.loop-done.invariant in
-    calm_dies v f w (g.met.M.Memory.whole c.loop-done.near.memory.now) far.ready c.loop-done.done s c.in-Err.cause (shown u q w) c.requires.calm (far.shows s h)
-    (subst (λ x. GoesCalmly (shown v f x) (Err c.in-Err.cause) (shown u q x)) far.world c.in-Err.ensures.step)
+    calm_dies v f w (g.met.M.Memory.whole c.loop-done.near.memory.now) far.ready c.loop-done.done s c.do_calmly.new.left c.in-Err.cause (shown u q w) c.requires.calm (far.shows s h)
+    (subst (λ x. GoesCalmly (shown v f x) c.do_calmly.new.left (Err c.in-Err.cause) (shown u q x)) far.world c.in-Err.ensures.step)
 
 pub loop-done-preserved : goal.loop-done-preserved
 loop-done-preserved g c =
@@ -54,12 +54,12 @@ loop-done-preserved g c =
     let far = c.loop-done.invariant in
     let one = c.do_calmly.ensures in
     let end : c.do_calmly.result ≡ Ok None = c.in-Ok-None.is ∙ ap (λ x. Ok x) c.in-Ok-None.field-0-is in
-    let step = subst (λ y. GoesCalmly (shown v f c.loop-done.r.world.now) y (shown u q c.loop-done.r.world.now)) end one.step in
+    let step = subst (λ y. GoesCalmly (shown v f c.loop-done.r.world.now) c.do_calmly.new.left y (shown u q c.loop-done.r.world.now)) end one.step in
     record {
       ready = subst (λ x. IsReady u q x) far.world c.in-Ok-None.ensures.ready;
       same = one.same end;
       world = one.world ∙ far.world;
       name = one.same_memory ∙ far.name;
-      shows = λ s h. calm_goes v f w (g.met.M.Memory.whole c.loop-done.near.memory.now) far.ready c.loop-done.done s (shown u q w) c.requires.calm (far.shows s h)
-          (subst (λ x. GoesCalmly (shown v f x) (Ok None) (shown u q x)) far.world step);
+      shows = λ s h. calm_goes v f w (g.met.M.Memory.whole c.loop-done.near.memory.now) far.ready c.loop-done.done s c.do_calmly.new.left (shown u q w) c.requires.calm (far.shows s h)
+          (subst (λ x. GoesCalmly (shown v f x) c.do_calmly.new.left (Ok None) (shown u q x)) far.world step);
     }

@@ -18,5 +18,5 @@ returns-clause-strides g c = λ s h.
     let t = c.go_on-stretch in
     let last = c.do_after-end in
     let calm : IsCalm c.args.w.now = sym c.if-not-is_calm.ensures in
-    after_stretch t.result.done s (g.M.Memory.view t.new.m) t.new.f c.args.w.now t.result.end last.result (shown (g.M.Memory.view last.new.m) last.new.f last.new.w)
+    after_stretch t.result.done s (g.M.Memory.view t.new.m) t.new.f c.args.w.now t.result.left t.result.end last.result (shown (g.M.Memory.view last.new.m) last.new.f last.new.w)
     (g.met.M.Memory.whole t.new.m) calm t.ensures.ready (t.ensures.goes s h) last.ensures.follows
