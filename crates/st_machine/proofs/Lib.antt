@@ -5,4 +5,7 @@ mod Calm
 mod Runs
 mod Strides
 mod Asked
+mod Keeping
+pub mod Once
+mod Prepares
 pub mod Done

@@ -6,6 +6,7 @@ mod coming;
 mod cycling;
 mod ending;
 mod machine;
+mod preparing;
 mod running;
 mod saving;
 mod signals;
@@ -16,3 +17,4 @@ mod switching;
 
 pub use ending::RunEnd;
 pub use machine::Machine;
+pub use preparing::prepared_goes_on;

@@ -5,11 +5,13 @@ ghost use Rattle.st_frames.specs.Shown.{IsReady, shown};
 ghost use Rattle.st_machine.specs.Machines.{lends_memory};
 ghost use Rattle.st_input.specs.Coming.{HasPlace};
 ghost use Rattle.st_machine.specs.Asked.{ComesFrom, SavesFrom, death_by};
+ghost use Rattle.st_machine.specs.Prepared.{PreparesFrom};
 ghost use Rattle.st_machine.specs.Runs.{EndsFrom, CountsCycles, death_of};
 ghost use Rattle.st_machine.specs.declared.ending.RunEnd.TheVariants.{Dead as DeadEnd};
 
 use crate::coming::come;
 use crate::ending::RunEnd;
+use crate::preparing::prepare;
 use crate::running;
 use crate::saving::save;
 use st_frames::{Frame, Loaded, World};
@@ -114,6 +116,30 @@ impl<M: Memory> Machine<M> {
             self.death = Some(cause);
         }
         saved
+    }
+
+    /// Does what comes before the next bytecode: makes the signals that are pending, and carries out a process switch that waits.
+    /// It does what the first two parts of a cycle do from each state over births that the machine shows, and answers the cause
+    /// where they die. The cycle that follows is the one that would have followed without this, by `prepared_goes_on`. A dead
+    /// machine stays as it is.
+    pub fn prepare(&mut self) -> Option<Dead>
+        requires ready { self.old.death ≡ None
+            → IsReady (M.view self.old.memory) self.old.frame self.old.world }
+        ensures ready { self.new.death ≡ None
+            → IsReady (M.view self.new.memory) self.new.frame self.new.world }
+        ensures prepares { let first = shown (M.view self.old.memory) self.old.frame self.old.world in
+            let last = shown (M.view self.new.memory) self.new.frame self.new.world in
+            self.old.death ≡ None → PreparesFrom first result last }
+        ensures death { self.old.death ≡ None → self.new.death ≡ result }
+        ensures dead { (cause : _) → self.old.death ≡ Some cause
+            → (result ≡ Some cause) × (self.new ≡ self.old) }
+    {
+        if let Some(cause) = self.death {
+            return Some(cause);
+        }
+        let died = prepare(&mut self.memory, &mut self.frame, &mut self.world);
+        self.death = died;
+        died
     }
 
     /// The objects, to be changed.

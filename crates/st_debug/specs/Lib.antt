@@ -1,0 +1,3 @@
+pub mod Watched
+pub mod Stack
+pub mod Calls
