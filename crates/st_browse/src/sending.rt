@@ -1,82 +1,20 @@
 //! Whether a method sends a selector.
 
-ghost use Rattle.std.specs.Prelude.{◌≡◌, ◌<◌, ◌≤◌, ◌||◌, IfSome, drop, length};
+ghost use Rattle.std.specs.Prelude.{◌≡◌, ◌||◌, drop};
 ghost use Rattle.std.specs.List.{list_any};
 ghost use Rattle.st_model.specs.Values.{value};
 ghost use Rattle.st_model.specs.View.{object_of};
-ghost use Rattle.st_emit.specs.Names.{field_from};
-ghost use Rattle.st_emit.specs.NameViews.{texts_now};
-ghost use Rattle.st_emit.specs.Resolving.{special_selector};
 ghost use Rattle.st_browse.specs.Senders.{is_sent, is_symbol, sends};
 ghost use Rattle.st_browse.specs.Entries.{IsBody};
 
 use crate::codes::{Body, body_of, has_special};
+use st_emit::special_selector;
 use st_memory::Memory;
 use st_model::Oop;
 use st_scope::is_text;
 
 /// The pointer of the class of Symbols.
 const SYMBOL_CLASS: u16 = 56;
-
-/// The selectors of the special sends, in the order of their codes from 176 on.
-const SPECIAL_SELECTORS: [&[u8]; 32] = [
-    b"+",
-    b"-",
-    b"<",
-    b">",
-    b"<=",
-    b">=",
-    b"=",
-    b"~=",
-    b"*",
-    b"/",
-    b"\\\\",
-    b"@",
-    b"bitShift:",
-    b"//",
-    b"bitAnd:",
-    b"bitOr:",
-    b"at:",
-    b"at:put:",
-    b"size",
-    b"next",
-    b"nextPut:",
-    b"atEnd",
-    b"==",
-    b"class",
-    b"blockCopy:",
-    b"value",
-    b"value:",
-    b"do:",
-    b"new",
-    b"new:",
-    b"x",
-    b"y",
-];
-
-/// The place of the first of these texts that is this one.
-fn place_in(texts: &[&[u8]], text: &[u8]) -> Option<usize>
-    ensures place { result ≡ field_from 0 (texts_now texts.now) text.now }
-    ensures within { IfSome result (λ k. k < length texts.now) }
-{
-    for (i, other) in texts.iter().enumerate() {
-        if *other == text {
-            return Some(i);
-        }
-    }
-    None
-}
-
-/// The number of the special send of a selector, at most 31.
-fn special_selector(text: &[u8]) -> Option<u32>
-    ensures place { result ≡ special_selector text.now }
-    ensures few { IfSome result (λ k. k ≤ 31) }
-{
-    match place_in(&SPECIAL_SELECTORS, text) {
-        Some(place) => Some(place as u32),
-        None => None,
-    }
-}
 
 /// Whether a value is a Symbol of this text.
 #[tactic(auto, using(crate::proofs::Symbols::symbols), unfolding(crate::specs::Senders::is_symbol))]
@@ -112,7 +50,7 @@ fn is_sent<M: Memory>(m: &M, body: Body, selector: &[u8]) -> bool
         result ≡ is_sent selector.now units }
 {
     match special_selector(selector) {
-        Some(k) => has_special(m, body, k),
+        Some(k) => has_special(m, body, k as u32),
         None => false,
     }
 }

@@ -16,3 +16,4 @@ pub mod Forms
 pub mod Members
 pub mod Sizes
 pub mod SpecialSelectors
+mod InstructionRows

@@ -71,3 +71,4 @@ mod Rows
 pub mod Selectors
 pub mod Scanned
 pub mod Syntaxes
+pub mod Arities

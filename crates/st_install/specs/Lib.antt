@@ -23,3 +23,4 @@ pub mod Syntax
 pub mod Defining
 pub mod Unprepareds
 pub mod Prepareds
+pub mod Messages

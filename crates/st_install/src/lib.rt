@@ -26,7 +26,7 @@ mod symbol_plan;
 mod symbols;
 mod unprepared;
 
-pub use definition_laws::one_syntax;
+pub use definition_laws::{one_syntax, special_messages};
 pub use installing::install;
 pub use laws::{install_gains, install_shows_births};
 pub use plan::Ready;

@@ -9,3 +9,4 @@ pub mod Whole
 pub mod Drills
 mod DrillRows
 mod Rows
+pub mod Found

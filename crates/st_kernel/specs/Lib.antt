@@ -2,3 +2,4 @@ pub mod Starting
 pub mod Built
 pub mod Following
 pub mod Drills
+pub mod Found

@@ -6,6 +6,7 @@ ghost use Rattle.st_model.specs.Start.{idle_state};
 ghost use Rattle.st_kernel_text.specs.Views.{start_of};
 ghost use Rattle.st_kernel.specs.Starting.{begin_by};
 ghost use Rattle.st_kernel.specs.Built.{IsBegun};
+ghost use Rattle.st_kernel.specs.Found.{IsMissing};
 ghost use Rattle.st_kernel.specs.Following.{IsQuiet, Ends};
 
 use crate::finding::{global_value, method_of};
@@ -26,13 +27,14 @@ const IDLE: Frame = Frame {
 };
 
 /// Begins the first process by a start, in an empty world, and fetches the registers from it, or says that there is no room for it
-/// and its context. Dead where anything that is asked for isn't there.
+/// and its context. Dead where the start isn't found, or there is no scheduler.
 pub(crate) fn begin<M: Memory>(m: &mut M, world: &World, start: &Start) -> Result<bool, Dead>
     requires quiet { IsQuiet (M.view m.old) }
     requires world { world.now ≡ empty_world nil }
     ensures begins { let v = M.view m.old in
         Ends ((begin_by v.head (start_of start.now)).run (idle_state v)) result (M.view m.new) }
     ensures begun { result ≡ Ok true → IsBegun (M.view m.new) }
+    ensures missing { IfErr result (λ dead. IsMissing (M.view m.old) (start_of start.now)) }
 {
     let receiver = global_value(m, &start.receiver)?;
     let method = method_of(m, receiver, &start.selector)?;

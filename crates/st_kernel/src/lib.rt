@@ -8,9 +8,11 @@ mod drilling;
 mod fault;
 mod finding;
 mod following;
+mod laws;
 mod part;
 mod scheduling;
 
 pub use building::build;
 pub use drilling::drill_text;
 pub use fault::KernelFault;
+pub use laws::found_starts_begin;

@@ -7,6 +7,7 @@ use Rattle.st_model.specs.View.{View}
 use Rattle.st_frames.specs.Shown.{IsReady, shown}
 use Rattle.st_kernel_text.specs.Views.{start_of}
 use Rattle.st_kernel.proofs.Begun.{died, went, makes_row, no_receiver, no_method, no_class, no_process, no_room, no_registers, all_made, fetched_idle, lost_idle, begun_again}
+use Rattle.st_kernel.proofs.Found.{died_missing}
 use Rattle.st_kernel.proofs.beginning.begin.Goals as goal
 
 pub returns-in_err-receiver-clause-begins : goal.returns-in_err-receiver-clause-begins
@@ -107,3 +108,33 @@ returns-clause-begun g c = λ all.
       devices = stays.devices ∙ (ap (λ (x : View). x.held.devices) c.in_ok-in_new_process.ensures.takes.fixed ∙ c.requires.quiet.devices);
     } in
     begun_again u w c.in_ok-fetch_scheduled.field-0 c.in_ok-fetch_scheduled.ensures.objects c.in_ok-fetch_scheduled.ensures.head ready c.in_ok-fetch_scheduled.ensures.registers
+
+pub returns-in_err-receiver-clause-missing : goal.returns-in_err-receiver-clause-missing
+returns-in_err-receiver-clause-missing g c =
+    let e : c.from_residual.result ≡ Err c.in_err-receiver.field-0.0 = search rules in
+    died_missing (g.M.Memory.view c.args.m.now) (g.M.Memory.view c.args.m.now) (start_of c.args.start.now) c.from_residual.result c.in_err-receiver.field-0.0 (g.met.M.Memory.whole c.args.m.now)
+    (returns-in_err-receiver-clause-begins g c) e
+
+pub returns-in_err-method-clause-missing : goal.returns-in_err-method-clause-missing
+returns-in_err-method-clause-missing g c =
+    let e : c.from_residual-in_err-method.result ≡ Err c.in_err-method.field-0.0 = search rules in
+    died_missing (g.M.Memory.view c.args.m.now) (g.M.Memory.view c.args.m.now) (start_of c.args.start.now) c.from_residual-in_err-method.result c.in_err-method.field-0.0 (g.met.M.Memory.whole c.args.m.now)
+    (returns-in_err-method-clause-begins g c) e
+
+pub returns-in_err-class-clause-missing : goal.returns-in_err-class-clause-missing
+returns-in_err-class-clause-missing g c =
+    let e : c.from_residual-in_err-class.result ≡ Err c.in_err-class.field-0.0 = search rules in
+    died_missing (g.M.Memory.view c.args.m.now) (g.M.Memory.view c.args.m.now) (start_of c.args.start.now) c.from_residual-in_err-class.result c.in_err-class.field-0.0 (g.met.M.Memory.whole c.args.m.now)
+    (returns-in_err-class-clause-begins g c) e
+
+pub returns-in_err-in_new_process-clause-missing : goal.returns-in_err-in_new_process-clause-missing
+returns-in_err-in_new_process-clause-missing g c =
+    let e : c.from_residual-in_err-in_new_process.result ≡ Err c.in_err-in_new_process.field-0.0 = search rules in
+    died_missing (g.M.Memory.view c.args.m.now) (g.M.Memory.view c.in_new_process.new.m) (start_of c.args.start.now) c.from_residual-in_err-in_new_process.result c.in_err-in_new_process.field-0.0 (g.met.M.Memory.whole c.args.m.now)
+    (returns-in_err-in_new_process-clause-begins g c) e
+
+pub returns-in_err-fetch_scheduled-clause-missing : goal.returns-in_err-fetch_scheduled-clause-missing
+returns-in_err-fetch_scheduled-clause-missing g c =
+    let e : c.from_residual-in_err-fetch_scheduled.result ≡ Err c.in_err-fetch_scheduled.field-0.0 = search rules in
+    died_missing (g.M.Memory.view c.args.m.now) (g.M.Memory.view c.fetch_scheduled.new.m) (start_of c.args.start.now) c.from_residual-in_err-fetch_scheduled.result c.in_err-fetch_scheduled.field-0.0 (g.met.M.Memory.whole c.args.m.now)
+    (returns-in_err-fetch_scheduled-clause-begins g c) e
