@@ -1,0 +1,5 @@
+use Rattle.st_decompile.proofs.Decompiled.{found}
+use Rattle.st_decompile.proofs.laws.code_is_read_back.Goals as goal
+
+pub returns : goal.returns
+returns c = λ names p t s. found names p t s

@@ -1,0 +1,9 @@
+pub mod Items
+pub mod Choosing
+pub mod Reading
+pub mod Back
+pub mod Calling
+pub mod Whole
+pub mod Formed
+pub mod Names
+pub mod Answers
