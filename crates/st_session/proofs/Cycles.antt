@@ -66,7 +66,7 @@ stretch_is (suc k) n s = onward (cycle births s) (λ t. stretch_is k (suc n) t)
 -- an ending that names nothing is the same under other names
 
 -- what the births end as where the table ends so
-abbrev Back : (ℕ → ℕ) → Ending → Ending → Type 0
+abbrev pub Back : (ℕ → ℕ) → Ending → Ending → Type 0
 Back f (With outcome.Went) x = x ≡ With outcome.Went
 Back f (With outcome.Snapshot) x = x ≡ With outcome.Snapshot
 Back f (With outcome.Quit) x = x ≡ With outcome.Quit
@@ -82,7 +82,7 @@ back_itself f (With outcome.Debugger) = refl
 back_itself f (With (outcome.Say v)) = (v, refl, refl)
 back_itself f (Space demand left) = refl
 
-back : (f : ℕ → ℕ) (a x : Ending) → a ≡ renamed_ending f x → Back f a x
+pub back : (f : ℕ → ℕ) (a x : Ending) → a ≡ renamed_ending f x → Back f a x
 back f a x e = rw e (back_itself f x)
 
 -- what is said of a kept object is what is said of the one that is shown
@@ -101,7 +101,7 @@ borne_is [] n p e = cc
 borne_is (b ∷ h) zero p e = kept_is b.kept b.pointer p e
 borne_is (b ∷ h) (suc n) p e = borne_is h n p e
 
-value_said : (c : State Table) (s : State Births) (v : Value) → Shows c s → IsLive (IsKept s.memory) v → said_value s.memory v ≡ said_in c.memory (renamed (pointer_of s.memory) v)
+pub value_said : (c : State Table) (s : State Births) (v : Value) → Shows c s → IsLive (IsKept s.memory) v → said_value s.memory v ≡ said_in c.memory (renamed (pointer_of s.memory) v)
 value_said c s (Small n) w live = refl
 value_said c s (Ref n) w live =
     let o = born_kept s.memory n live.0 live.1 in
