@@ -1,5 +1,5 @@
 -- How the export of what a store holds ends.
-use Rattle.std.specs.Prelude.{◌≡◌, ◌≢◌, ◌⊎◌, ℕ, List, ◌++◌, length, Option, Some, None, IsTrue, Result, Ok, Err, ⊤, All}
+use Rattle.std.specs.Prelude.{◌≡◌, ◌≢◌, ◌⊎◌, ℕ, List, ◌++◌, length, Option, Some, None, IsTrue, Result, Ok, Err, ⊤}
 use Rattle.st_outside.specs.Files.{Files}
 use Rattle.st_outside.specs.Runs.{LeavesOnly, Spares, IsAtRest}
 use Rattle.st_outside.specs.Stops.{SaidPart}
@@ -8,12 +8,11 @@ use Rattle.st_model.specs.Machine.{State, Transition, Died, Went}
 use Rattle.st_model.specs.Births.{Births, births}
 use Rattle.st_model.specs.Saving.{save}
 use Rattle.st_model.specs.Text.{dead_text}
-use Rattle.st_chunk.specs.Definitions.{IsDefinition}
 use Rattle.st_store.specs.Names.{IsNoFileOf}
 use Rattle.st_course.specs.declared.status.Status.{Status}
 use Rattle.st_course.specs.declared.status.Status.TheVariants.{Done, Script, ReadFault, SayFault, DiskFault, OutOfMemory}
 use Rattle.st_definition.specs.Defining.{installed}
-use Rattle.st_recover.specs.Commits.{Commit, OpensAs, all_of}
+use Rattle.st_recover.specs.Commits.{Commit, OpensAs}
 use Rattle.st_recover.specs.Openings.{Reopens}
 use Rattle.st_recover.specs.Replays.{Replayed}
 use Rattle.st_call.specs.LastLines.{SaysLastLine}
@@ -83,7 +82,6 @@ IsOfExport told store f status = IsOfSession told store f status
 
 -- these files open as this commit, which opens as this
 pub record OpensWhole (store : List ℕ) (f : Files) (c : Commit) (r : Replayed) : Type 0 where
-  pub good : All IsDefinition (all_of c)
   pub opens : OpensAs store c f
   pub reopens : Reopens installed c r
 
@@ -112,7 +110,7 @@ module _ {D : Type 0} (host : Ghosts D) (store image : List ℕ) where
   pub record ExportEnds (old new : D) (status : Status) : Type 0 where
     pub over : IsTrue host.is_told → IsRefused host store old new status ⊎ IsExported old new status
     -- where each state that a stop could leave before opens as one commit
-    pub stays : IsTrue host.is_told → IsNoFileOf store image → (c : Commit) → All IsDefinition (all_of c) → IsAtRest host (OpensAs store) c old → Stays host store c old new
+    pub stays : IsTrue host.is_told → IsNoFileOf store image → (c : Commit) → IsAtRest host (OpensAs store) c old → Stays host store c old new
     -- without a fault of the host a store that opens is exported, or there was no memory
     pub complete : IsTrue host.is_told → (c : Commit) (r : Replayed) → OpensWhole store (host.files old) c r → IsCalm host ⊥ old new
         → (status ≡ Done) ⊎ (status ≡ OutOfMemory)

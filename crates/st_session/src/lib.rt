@@ -30,5 +30,5 @@ pub use compiler::Compiler;
 pub use drilling::drill;
 pub use exporting::export;
 pub use importing::import;
-pub use laws::run_is_said;
+pub use laws::{calls_join, run_is_said};
 pub use reading::serve;
