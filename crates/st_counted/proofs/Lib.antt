@@ -13,3 +13,4 @@ pub mod Beginning
 mod Holding
 pub mod Instances
 mod Nothing
+mod InBlocks

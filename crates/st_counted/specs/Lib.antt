@@ -3,3 +3,4 @@ pub mod References
 pub mod Taking
 pub mod Held
 pub mod Words
+pub mod Standing
