@@ -112,4 +112,5 @@ def current_image(store):
 
 def changes_of(store):
     """The bytes of a store's changes file, up to the length that the chosen root says."""
-    return pathlib.Path(f"{store}.changes").read_bytes()[: root_of(store)[3]]
+    slot, *_, length = root_of(store)
+    return pathlib.Path(f"{store}.changes{'2' if slot > 1 else ''}").read_bytes()[:length]

@@ -1,28 +1,16 @@
-ghost use Rattle.std.specs.Prelude.{◌≡◌, ℕ, List, map, IsTrue, Some, None};
+ghost use Rattle.std.specs.Prelude.{◌≡◌, map, IsTrue};
 ghost use Rattle.std.specs.String.{string_bytes};
 ghost use Rattle.std.specs.Process.{exit_status};
 ghost use Rattle.st_outside.specs.Counts.{Rose};
-ghost use Rattle.st_outside.specs.Files.{bytes_of};
-ghost use Rattle.st_outside.specs.Runs.{ReadsAndSays};
-ghost use Rattle.st_image.specs.declared.head.HeadValues.{HeadValues};
-ghost use Rattle.st_course.specs.Statuses.{StatusHasCause, number_of};
-ghost use Rattle.st_course.specs.declared.status.Status.TheVariants.{Usage};
-ghost use Rattle.st_session.specs.Builds.{BuildEnds};
-ghost use Rattle.st_session.specs.Calls.{OnlySays, CallEnds};
-ghost use Rattle.st_session.specs.Commands.{OnceEnds};
-ghost use Rattle.st_session.specs.Drills.{DrillEnds};
-ghost use Rattle.st_call.specs.LastLines.{SaysLastLine};
-ghost use Rattle.st_session.specs.Exports.{ExportEnds};
-ghost use Rattle.st_session.specs.Imports.{ImportEnds};
-ghost use Rattle.st_session.specs.StoreSessions.{SessionCommandEnds};
-ghost use Rattle.st_call.specs.Words.{command_of, Once, Import, Export, Session, Build, Drill};
+ghost use Rattle.st_course.specs.Statuses.{number_of};
+ghost use Rattle.st_session.specs.Calls.{CallEnds};
 
 use st_call::{Command, read_command, refuse};
 use st_counted::CountedLoader;
 use st_course::Status;
 use st_lookup::CachedLoader;
 use st_outside::{Host, Source};
-use st_session::{build, drill, export, import, once, session};
+use st_session::{Extent, build, condense, drill, export, import, once, session};
 use std::alloc::Global;
 use std::process::ExitCode;
 
@@ -33,10 +21,10 @@ type ProgramLoader = CachedLoader<CountedLoader>;
 ///
 /// `once IMAGE N` reads the image file IMAGE, runs N cycles of its machine, and says the run's end and what the machine shows
 /// then. `import IMAGE STORE` makes a store of an image, with the values of options in place of those of its head. `export STORE
-/// IMAGE` writes an image of what a store holds. `session STORE` opens a store, and follows a script over what it holds, whose bytes
+/// IMAGE` writes an image of what a store holds, and `clean STORE IMAGE` one of what can be reached there. `session STORE` opens a store, and follows a script over what it holds, whose bytes
 /// are taken from the source. `build KERNEL STORE` makes a store of the image that a kernel text builds. `drill N` runs a million cycles
 /// of an image that is built in memory from the number N, which decides how large it is. No file is changed but the store's, and the
-/// image's by `export`.
+/// image's by `export` and `clean`.
 ///
 /// For every well-formed image, script and n, after n bytecodes the kept objects, display, input state and output are those of
 /// the book's interpreter over objects never reclaimed or moved. A halt for space comes exactly where the table or the heap
@@ -48,30 +36,9 @@ pub fn tool<H: Host, S: Source>(
     host: &mut H,
     script: &mut S,
 ) -> Status
-    ensures usage { command_of (map string_bytes words.now) ≡ None →
-        (result ≡ Usage) × SaysLastLine H.Host.own Usage host.old host.new }
-    ensures once { (image : List ℕ) (n : ℕ) → command_of (map string_bytes words.now) ≡ Some (Once image n)
-        → OnceEnds H.Host.own (bytes_of (H.files host.old image)) n host.old host.new result }
-    ensures imports { (image store : List ℕ) (over : HeadValues)
-        → command_of (map string_bytes words.now) ≡ Some (Import image store over)
-        → ImportEnds H.Host.own over (bytes_of (H.files host.old image)) store
-        host.old host.new result }
-    ensures exports { (store image : List ℕ)
-        → command_of (map string_bytes words.now) ≡ Some (Export store image)
-        → ExportEnds H.Host.own store image host.old host.new result }
-    ensures session { let reads = Rose (S.read_faults script.old) (S.read_faults script.new) in
-        (store : List ℕ) → command_of (map string_bytes words.now) ≡ Some (Session store)
-        → SessionCommandEnds H.Host.own store (IsTrue S.is_told) reads
+    ensures ends { let reads = Rose (S.read_faults script.old) (S.read_faults script.new) in
+        CallEnds H.Host.own (map string_bytes words.now) (IsTrue S.is_told) reads
         (S.remaining script.old) (S.remaining script.new) host.old host.new result }
-    ensures builds { (kernel store : List ℕ)
-        → command_of (map string_bytes words.now) ≡ Some (Build kernel store)
-        → BuildEnds H.Host.own (bytes_of (H.files host.old kernel)) store host.old host.new result }
-    ensures drills { (n : ℕ) → command_of (map string_bytes words.now) ≡ Some (Drill n)
-        → DrillEnds H.Host.own n host.old host.new result }
-    ensures cause { StatusHasCause H.Host.own (Rose (S.read_faults script.old) (S.read_faults script.new))
-        host.old host.new result }
-    ensures says { OnlySays (command_of (map string_bytes words.now))
-        → (text : List ℕ) × ReadsAndSays H.Host.own text host.old host.new }
 {
     match read_command(words) {
         Some(Command::Once { image, cycles }) => {
@@ -81,8 +48,12 @@ pub fn tool<H: Host, S: Source>(
             import::<H, ProgramLoader>(alloc, host, image, store, &over)
         }
         Some(Command::Export { store, image }) => {
-            export::<H, ProgramLoader>(alloc, host, store, image)
+            export::<H, ProgramLoader>(alloc, host, Extent::Kept, store, image)
         }
+        Some(Command::Clean { store, image }) => {
+            export::<H, ProgramLoader>(alloc, host, Extent::Reachable, store, image)
+        }
+        Some(Command::Condense { store }) => condense::<H, ProgramLoader>(alloc, host, store),
         Some(Command::Session { store }) => {
             session::<H, ProgramLoader, S>(alloc, host, script, store)
         }

@@ -4,7 +4,7 @@ ghost use Rattle.st_call.specs.Replies.{accepted_line, refused_text, side_text, 
 ghost use Rattle.st_call.specs.Telling.{Tells};
 
 use st_course::{Refusal, Status};
-use st_model::Dead;
+use st_model::{Dead, Demand};
 use st_outside::{Host, SayFault};
 use st_report::{Output, push_line, push_long_line};
 
@@ -15,6 +15,13 @@ pub enum Reply<'a> {
     Snapshot(u64),
     /// An image of so many bytes was exported.
     Exported(u64),
+    /// A clean image of so many objects and words was written.
+    Cleaned(Demand),
+    /// Of so many definitions so many are left.
+    Condensed {
+        before: u32,
+        after: u32,
+    },
     /// The machine is dead of this cause; so many cycles of the line are finished.
     Died {
         finished: u32,
@@ -95,6 +102,12 @@ fn push_reply<H: Host>(out: &mut Output, host: &mut H, reply: Reply<'_>) -> Resu
     match reply {
         Reply::Snapshot(length) => push_long_line(out, host, b"snapshot", length),
         Reply::Exported(length) => push_long_line(out, host, b"exported", length),
+        Reply::Cleaned(Demand { entries, words }) => {
+            push_line(out, host, b"cleaned", &[entries, words])
+        }
+        Reply::Condensed { before, after } => {
+            push_line(out, host, b"condensed", &[before, after])
+        }
         Reply::Died { finished, cause } => {
             push_line(out, host, b"dead", &[finished, u32::from(cause.number())])
         }

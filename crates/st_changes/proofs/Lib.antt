@@ -8,3 +8,7 @@ pub mod Lasts
 pub mod Determined
 pub mod Places
 pub mod Texts
+pub mod Superseding
+pub mod Extending
+pub mod OtherFile
+pub mod KeptLast

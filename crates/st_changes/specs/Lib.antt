@@ -5,3 +5,5 @@ pub mod Lists
 pub mod Last
 pub mod Readying
 pub mod States
+pub mod Condensing
+pub mod Writing

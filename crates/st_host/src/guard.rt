@@ -11,6 +11,9 @@ const ROOTS: &str = ".roots";
 
 const OTHERS: [&str; 3] = [".changes", ".a", ".b"];
 
+/// The ending of the second changes file, which the making of a store leaves as it is.
+const SECOND: &str = ".changes2";
+
 /// Why a call on a file failed that the file itself would allow.
 #[derive(Clone, Copy, Debug, PartialEq, Eq)]
 pub enum Refusal {
@@ -181,7 +184,7 @@ fn is_named_in_a_store<R: Files<File = File> + AllocGlobal>(
     if name.ends_with(ROOTS) {
         return Ok(is_there(rt, name));
     }
-    for ending in OTHERS {
+    for ending in [OTHERS[0], OTHERS[1], OTHERS[2], SECOND] {
         if let Some(stem) = name.strip_suffix(ending) {
             return Ok(is_there(rt, &format!(in rt.alloc(); "{stem}{ROOTS}")?));
         }
@@ -195,7 +198,7 @@ fn is_file_of<R: Files<File = File> + AllocGlobal>(
     store: &str,
     name: &str,
 ) -> Result<bool, AllocError> {
-    for ending in [ROOTS, OTHERS[0], OTHERS[1], OTHERS[2]] {
+    for ending in [ROOTS, OTHERS[0], OTHERS[1], OTHERS[2], SECOND] {
         if is_same_file(rt, name, &format!(in rt.alloc(); "{store}{ending}")?) {
             return Ok(true);
         }

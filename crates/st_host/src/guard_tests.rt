@@ -75,15 +75,17 @@ fn a_file_that_is_no_stores_stays(rt: HostRuntime) -> Result<(), Fail> {
 }
 
 // The images that an export from the store `st_host_own` is refused, where that is there and a store `st_host_other`.
-const IMAGES: [(&str, bool); 11] = [
+const IMAGES: [(&str, bool); 13] = [
     ("st_host_own.roots", true),
     ("st_host_own.changes", true),
+    ("st_host_own.changes2", true),
     ("st_host_own.a", true),
     ("st_host_own.b", true),
     ("./st_host_own.b", true),
     ("st_host_alias", true),
     ("st_host_other.roots", true),
     ("st_host_other.changes", true),
+    ("st_host_other.changes2", true),
     ("st_host_absent.a", false),
     ("st_host_own", false),
     ("st_host_free", false),

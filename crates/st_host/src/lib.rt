@@ -16,6 +16,8 @@ pub use memory_source::MemSource;
 pub use replay::Leave;
 pub use stdin::StdinSource;
 
+pub use st_outside::{Host, HostFault, ReadFault, SayFault, Source};
+
 #[cfg(test)]
 mod guard_tests;
 #[cfg(test)]

@@ -2,7 +2,7 @@
 use Rattle.std.proofs.Common.{◌≡◌, ◌≤◌, ℕ, List, take, Option, IsTrue, ap, subst, ◌∙◌}
 use Rattle.st_outside.specs.Files.{Files, bytes_of}
 use Rattle.st_outside.specs.Stops.{Here}
-use Rattle.st_outside.specs.Runs.{LeavesOnly, ReadsAlike, Narrows, NarrowsBut, Changes, Spares}
+use Rattle.st_outside.specs.Runs.{LeavesOnly, ReadsAlike, Narrows, NarrowsBut, Changes, Spares, IsAtRest}
 use Rattle.st_outside.specs.declared.host.Host.{Ghosts}
 use Rattle.st_outside.proofs.Joining.{moments_join}
 use Rattle.st_outside.proofs.Touching.{narrows_but, but_join, changes_spare, spares_join}
@@ -11,6 +11,7 @@ use Rattle.st_store.specs.Stored.{Stored, StoreState, Opens, IsKept}
 use Rattle.st_store.proofs.Turning.{rests}
 use Rattle.st_changes.specs.Lists.{kept_changes}
 use Rattle.st_recover.specs.Openings.{image_in}
+use Rattle.st_recover.proofs.Determined.{one_stored}
 
 module _ {D : Type 0} (host : Ghosts D) where
   -- what is read of a store that is kept is what it has
@@ -23,8 +24,8 @@ module _ {D : Type 0} (host : Ghosts D) where
 
     pub changes_are : (m : D) → ReadsAlike host b m → kept_changes store (host.files m) ≡ c.changes
     changes_are m alike =
-        ap (λ (x : Option (List ℕ)). take store.root.length (bytes_of x)) (alike.same told (changes_file store.name))
-        ∙ subst (λ root. take root.length (bytes_of (host.files b (changes_file store.name))) ≡ c.changes) kept.root here_opens.changes.is
+        ap (λ (x : Option (List ℕ)). take store.root.length (bytes_of x)) (alike.same told (changes_file store.name store.root.slot))
+        ∙ subst (λ root. take root.length (bytes_of (host.files b (changes_file store.name root.slot))) ≡ c.changes) kept.root here_opens.changes.is
 
   -- reading leaves it so
   pub kept_on : (store : StoreState) (c : Stored) (b d : D) → IsTrue host.is_told → Narrows host b d → IsKept host b store c → IsKept host d store c
@@ -36,9 +37,17 @@ module _ {D : Type 0} (host : Ghosts D) where
       firm = record {
         sound = kept.is.firm.sound;
         image = λ x can. kept.is.firm.image x (narrows.fewer told (image_file store.name c.root.slot) x can);
-        changes = λ x can. kept.is.firm.changes x (narrows.fewer told (changes_file store.name) x can);
+        changes = λ x can. kept.is.firm.changes x (narrows.fewer told (changes_file store.name c.root.slot) x can);
       };
     };
+  }
+
+  -- so each state that a stop may leave opens as what was read
+  pub rests_as_read : (name : List ℕ) (store : StoreState) (c : Stored) (a d : D) (x : Stored) → IsTrue host.is_told → store.name ≡ name → Opens name c (host.files a) → Opens name x (host.files a) → IsKept host d store c
+      → IsAtRest host (Opens name) x d
+  rests_as_read name store c a d x told named was is kept = record {
+    opens_as = λ f can. subst (λ (y : Stored). Opens name y f) (one_stored name c x (host.files a) was is)
+        (subst (λ (n : List ℕ). Opens n c f) named (rests host store.name d store.chosen c f kept.is can));
   }
 
   -- A run that only reads behind a run: each state that a stop may leave is one that could be left before.
@@ -58,7 +67,7 @@ module _ {D : Type 0} (host : Ghosts D) where
       spares_join host (IsNoFileOf name) a b m first
       (changes_spare host (image_file other slot) (IsNoFileOf name) b m (λ n no e. no.image slot (e ∙ ap (λ x. image_file x slot) same)) changes)
 
-  pub spares_changes : (name other : List ℕ) (a m d : D) → other ≡ name → Spares host (IsNoFileOf name) a m → Changes host (changes_file other) m d → Spares host (IsNoFileOf name) a d
-  spares_changes name other a m d same first changes =
+  pub spares_changes : (name other : List ℕ) (slot : ℕ) (a m d : D) → other ≡ name → Spares host (IsNoFileOf name) a m → Changes host (changes_file other slot) m d → Spares host (IsNoFileOf name) a d
+  spares_changes name other slot a m d same first changes =
       spares_join host (IsNoFileOf name) a m d first
-      (changes_spare host (changes_file other) (IsNoFileOf name) m d (λ n no e. no.changes (e ∙ ap changes_file same)) changes)
+      (changes_spare host (changes_file other slot) (IsNoFileOf name) m d (λ n no e. no.changes slot (e ∙ ap (λ x. changes_file x slot) same)) changes)

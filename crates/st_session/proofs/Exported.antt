@@ -1,6 +1,6 @@
 -- How an export ends, from its parts: the store is opened, what it opens as is saved, its image is written, and a line is said.
 use Rattle.std.proofs.Common.{◌≡◌, ◌≢◌, ◌⊎◌, inl, inr, ℕ, ◌≤◌, List, [], ◌∷◌, ◌++◌, ◌∙◌, IsTrue, Option, refl, sym, ap, subst, arith, append-nil}
-use Rattle.std.specs.Prelude.{Some, None, Result, Ok, Err, IfErr, All}
+use Rattle.std.specs.Prelude.{Some, None, Result, Ok, Err, IfErr}
 use Rattle.st_outside.specs.Files.{Files}
 use Rattle.st_outside.specs.Runs.{LeavesOnly, ReadsAlike, ReadsAndSays, Changes, Spares, IsAtRest}
 use Rattle.st_outside.specs.Stops.{SaidPart, WhileSaying}
@@ -17,7 +17,6 @@ use Rattle.st_model.specs.Table.{Table}
 use Rattle.st_model.specs.Show.{Shows, show}
 use Rattle.st_model.specs.Text.{dead_text}
 use Rattle.st_machine.specs.Asked.{SavedAs}
-use Rattle.st_chunk.specs.Definitions.{IsDefinition}
 use Rattle.st_store.specs.Names.{roots_file, changes_file, image_file, IsNoFileOf}
 use Rattle.st_store.specs.Stored.{StoreState, IsKept, IsOpening}
 use Rattle.st_store.specs.declared.fault.StoreFault.TheVariants as unmade
@@ -25,8 +24,7 @@ use Rattle.st_course.specs.declared.status.Status.{Status}
 use Rattle.st_course.specs.declared.status.Status.TheVariants as status
 use Rattle.st_course.specs.Statuses.{StatusHasCause, EndHasCause, Counts}
 use Rattle.st_course.proofs.Counting.{front_of}
-use Rattle.st_recover.specs.Images.{IsReadable}
-use Rattle.st_recover.specs.Commits.{Commit, OpensAs, all_of, stored_of, image_with}
+use Rattle.st_recover.specs.Commits.{Commit, OpensAs, stored_of}
 use Rattle.st_recover.specs.Openings.{RefusesOpening, IsOfReopening}
 use Rattle.st_recover.specs.declared.fault.OpenFault.{OpenFault}
 use Rattle.st_recover.specs.declared.fault.OpenFault.TheVariants as opening
@@ -35,22 +33,22 @@ use Rattle.st_call.specs.LastLines.{last_line, SaysLastLine}
 use Rattle.st_session.specs.Commands.{opening_status}
 use Rattle.st_session.specs.Ends.{IsCalm, status_in}
 use Rattle.st_call.specs.Telling.{Tells}
-use Rattle.st_session.specs.Exports.{Export, exporting, exporting_saved, written, IsOfExporting, IsOfExport, LeavesOthers, HasExported, HasImage, ExportHas, Stays}
+use Rattle.st_session.specs.Exports.{Export, ExportsImage, ExportsSaved, written, IsOfExporting, IsOfExport, LeavesOthers, HasExported, HasImage, ExportHas, Stays}
+use Rattle.st_session.specs.declared.extent.Extent.{Extent}
 use Rattle.st_session.proofs.Commanded.{cause_between, opens_still}
-use Rattle.st_session.proofs.Snapshots.{image_shown}
 
 -- WHAT SAVING COMES TO
 
-pub saved_export : (c : State Table) (x : Transition (State Births) Unit) → SavedAs (Ok tt) c x → ((s : State Births) → Shows c s → show s ≡ c) → exporting (image_with c.memory c.head) ≡ exporting_saved x
-saved_export c (Died k) w shown = absurd w
-saved_export c (Went u s) w shown = ap exporting (sym (image_shown s c (shown s w)))
+pub saved_export : (extent : Extent) (c : State Table) (x : Transition (State Births) Unit) → SavedAs (Ok tt) c x → ((s : State Births) → Shows c s → show s ≡ c) → (y : Export) → ExportsImage extent c.memory c.head y → ExportsSaved extent x y
+saved_export extent c (Died k) w shown y is = absurd w
+saved_export extent c (Went u s) w shown y is = subst (λ (d : State Table). ExportsImage extent d.memory d.head y) (sym (shown s w)) is
 
-pub died_export : (cause : Dead) (c : State Table) (x : Transition (State Births) Unit) → SavedAs (Err cause) c x → record { image = None; text = dead_text 0 cause } ≡ exporting_saved x
-died_export cause c (Died k) w = λ i. exporting_saved (Died (sym w i))
-died_export cause c (Went u s) w = absurd w
+pub died_export : (extent : Extent) (cause : Dead) (c : State Table) (x : Transition (State Births) Unit) → SavedAs (Err cause) c x → ExportsSaved extent x (record { image = None; text = dead_text 0 cause })
+died_export extent cause c (Died k) w = λ i. record { image = None; text = dead_text 0 (sym w i) }
+died_export extent cause c (Went u s) w = absurd w
 
 -- nothing more was said
-none_more : (before now : List ℕ) → SaidPart before [] now → now ≡ before
+pub none_more : (before now : List ℕ) → SaidPart before [] now → now ≡ before
 none_more before now part =
     let front = front_of before [] now part in
     front.1 ∙ ap (λ (t : List ℕ). before ++ t) (none_in front.0 (front.2).0 (front.2).1) ∙ append-nil before
@@ -107,12 +105,36 @@ module _ {D : Type 0} (host : Ghosts D) (name : List ℕ) where
   told_kind text mid new (Err e) tells = subst IsOfExporting (sym tells.fault) tt
 
   -- the file has been written, and the text is said
-  pub has_told : (x : Export) (old mid new : D) (result : Result Unit Status) → IsTrue host.is_told → host.files mid name ≡ written x.image (host.files old name) → host.said mid ≡ host.said old
-      → Tells host x.text mid new result → HasExported host name x old new result
-  has_told x old mid new (Ok u) told file quiet tells = (tells.says.alike.same told name ∙ file, tells.all.is told ∙ ap (λ (t : List ℕ). t ++ x.text) quiet)
-  has_told x old mid new (Err e) told file quiet tells =
-      subst (λ (d : Status). HasExported host name x old new (Err d)) (sym tells.fault)
-      (tells.says.alike.same told name ∙ file, subst (λ (t : List ℕ). SaidPart t x.text (host.said new)) quiet (tells.says.part.part told))
+  pub has_told : (exports : Export → Type 0) (x : Export) (old mid new : D) (result : Result Unit Status) → exports x → IsTrue host.is_told → host.files mid name ≡ written x.image (host.files old name) → host.said mid ≡ host.said old
+      → Tells host x.text mid new result → HasExported host name exports old new result
+  has_told exports x old mid new (Ok u) is told file quiet tells = record {
+    export = x;
+    is = is;
+    file = tells.says.alike.same told name ∙ file;
+    said = tells.all.is told ∙ ap (λ (t : List ℕ). t ++ x.text) quiet;
+  }
+  has_told exports x old mid new (Err e) is told file quiet tells =
+      subst (λ (d : Status). HasExported host name exports old new (Err d)) (sym tells.fault) (record {
+        export = x;
+        is = is;
+        file = tells.says.alike.same told name ∙ file;
+        said = subst (λ (t : List ℕ). SaidPart t x.text (host.said new)) quiet (tells.says.part.part told);
+      })
+
+  -- an export of some is one of others
+  pub exported_as : (some others : Export → Type 0) (old new : D) (result : Result Unit Status) → ((x : Export) → some x → others x) → HasExported host name some old new result → HasExported host name others old new result
+  exported_as some others old new (Ok u) are h = record { export = h.export; is = are h.export h.is; file = h.file; said = h.said }
+  exported_as some others old new (Err status.SayFault) are h = record { export = h.export; is = are h.export h.is; file = h.file; said = h.said }
+  exported_as some others old new (Err status.DiskFault) are h = h
+  exported_as some others old new (Err status.OutOfMemory) are h = h
+  exported_as some others old new (Err status.Done) are h = h
+  exported_as some others old new (Err status.Usage) are h = h
+  exported_as some others old new (Err (status.Image f)) are h = h
+  exported_as some others old new (Err (status.Script n)) are h = h
+  exported_as some others old new (Err status.ReadFault) are h = h
+  exported_as some others old new (Err (status.Store f)) are h = h
+  exported_as some others old new (Err (status.Kernel chunk cause)) are h = h
+  exported_as some others old new (Err status.TooLarge) are h = h
 
 -- BEHIND THE OPENING
 
@@ -163,7 +185,7 @@ done_or_full host old new (Err status.TooLarge) kind h calm = absurd kind
 
 module _ {D : Type 0} (host : Ghosts D) (store image : List ℕ) where
   -- a last line behind them
-  line_behind : (e : Status) (old closed new : D) → host.said closed ≡ host.said old → host.say_faults old ≤ host.say_faults closed → SaysLastLine host e closed new → SaysLastLine host e old new
+  pub line_behind : (e : Status) (old closed new : D) → host.said closed ≡ host.said old → host.say_faults old ≤ host.say_faults closed → SaysLastLine host e closed new → SaysLastLine host e old new
   line_behind e old closed new quiet low line = record {
     part = λ told. subst (λ (t : List ℕ). SaidPart t (last_line e) (host.said new)) quiet (line.part told);
     whole = λ calm told. line.whole (λ rose. calm (rose_second (host.say_faults old) (host.say_faults closed) (host.say_faults new) low rose)) told ∙ ap (λ (t : List ℕ). t ++ last_line e) quiet;
@@ -174,48 +196,55 @@ module _ {D : Type 0} (host : Ghosts D) (store image : List ℕ) where
   has_image (Some bytes) old mid new is same = is
 
   -- what is so of what was done, with the last line behind it
-  pub export_has : (x : Export) (r : Result Unit Status) (old mid closed new : D) → IsTrue host.is_told → IfErr r IsOfExporting → HasExported host image x mid closed r
+  pub export_has : (exports : Export → Type 0) (r : Result Unit Status) (old mid closed new : D) → IsTrue host.is_told → IfErr r IsOfExporting → HasExported host image exports mid closed r
       → (IsNoFileOf store image → host.files mid image ≡ host.files old image) → host.said mid ≡ host.said old → host.say_faults old ≤ host.say_faults closed
-      → ReadsAlike host closed new → SaysLastLine host (status_in r) closed new → ExportHas host store image x old new (status_in r)
-  export_has x (Ok u) old mid closed new told kind has same quiet low alike line =
-      (has_image x.image old mid new (alike.same told image ∙ has.0) same, none_more (host.said closed) (host.said new) (line.part told) ∙ has.1 ∙ ap (λ (t : List ℕ). t ++ x.text) quiet)
-  export_has x (Err status.SayFault) old mid closed new told kind has same quiet low alike line = (
-    has_image x.image old mid new (alike.same told image ∙ has.0) same,
-    subst (SaidPart (host.said old) x.text) (sym (none_more (host.said closed) (host.said new) (line.part told))) (subst (λ (t : List ℕ). SaidPart t x.text (host.said closed)) quiet has.1),
-  )
-  export_has x (Err status.DiskFault) old mid closed new told kind has same quiet low alike line = line_behind status.DiskFault old closed new (has ∙ quiet) low line
-  export_has x (Err status.OutOfMemory) old mid closed new told kind has same quiet low alike line = line_behind status.OutOfMemory old closed new (has ∙ quiet) low line
-  export_has x (Err status.Done) old mid closed new told kind has same quiet low alike line = absurd kind
-  export_has x (Err status.Usage) old mid closed new told kind has same quiet low alike line = absurd kind
-  export_has x (Err (status.Image f)) old mid closed new told kind has same quiet low alike line = absurd kind
-  export_has x (Err (status.Script n)) old mid closed new told kind has same quiet low alike line = absurd kind
-  export_has x (Err status.ReadFault) old mid closed new told kind has same quiet low alike line = absurd kind
-  export_has x (Err (status.Store f)) old mid closed new told kind has same quiet low alike line = absurd kind
-  export_has x (Err (status.Kernel chunk cause)) old mid closed new told kind has same quiet low alike line = absurd kind
-  export_has x (Err status.TooLarge) old mid closed new told kind has same quiet low alike line = absurd kind
+      → ReadsAlike host closed new → SaysLastLine host (status_in r) closed new → ExportHas host store image exports old new (status_in r)
+  export_has exports (Ok u) old mid closed new told kind has same quiet low alike line = record {
+    export = has.export;
+    is = has.is;
+    image = has_image has.export.image old mid new (alike.same told image ∙ has.file) same;
+    said = none_more (host.said closed) (host.said new) (line.part told) ∙ has.said ∙ ap (λ (t : List ℕ). t ++ has.export.text) quiet;
+  }
+  export_has exports (Err status.SayFault) old mid closed new told kind has same quiet low alike line = record {
+    export = has.export;
+    is = has.is;
+    image = has_image has.export.image old mid new (alike.same told image ∙ has.file) same;
+    said = subst (SaidPart (host.said old) has.export.text) (sym (none_more (host.said closed) (host.said new) (line.part told))) (subst (λ (t : List ℕ). SaidPart t has.export.text (host.said closed)) quiet has.said);
+  }
+  export_has exports (Err status.DiskFault) old mid closed new told kind has same quiet low alike line = line_behind status.DiskFault old closed new (has ∙ quiet) low line
+  export_has exports (Err status.OutOfMemory) old mid closed new told kind has same quiet low alike line = line_behind status.OutOfMemory old closed new (has ∙ quiet) low line
+  export_has exports (Err status.Done) old mid closed new told kind has same quiet low alike line = absurd kind
+  export_has exports (Err status.Usage) old mid closed new told kind has same quiet low alike line = absurd kind
+  export_has exports (Err (status.Image f)) old mid closed new told kind has same quiet low alike line = absurd kind
+  export_has exports (Err (status.Script n)) old mid closed new told kind has same quiet low alike line = absurd kind
+  export_has exports (Err status.ReadFault) old mid closed new told kind has same quiet low alike line = absurd kind
+  export_has exports (Err (status.Store f)) old mid closed new told kind has same quiet low alike line = absurd kind
+  export_has exports (Err (status.Kernel chunk cause)) old mid closed new told kind has same quiet low alike line = absurd kind
+  export_has exports (Err status.TooLarge) old mid closed new told kind has same quiet low alike line = absurd kind
 
   -- THE STORE STAYS
 
   -- a kept store opens from files of which its own are as a stop may leave them
-  kept_opens : (h : D) (s : StoreState) (slot : ℕ) (c : Commit) → s.name ≡ store → IsReadable c.image → IsKept host h s (stored_of slot c) → IsNoFileOf store image → (f : Files) → ((n : List ℕ) → n ≢ image → host.may_leave h n (f n)) → OpensAs store c f
-  kept_opens h s slot c named readable kept apart f can = subst (λ (n : List ℕ). OpensAs n c f) named (record {
+  kept_opens : {g : Files} (h : D) (s : StoreState) (slot : ℕ) (c : Commit) → s.name ≡ store → OpensAs store c g → IsKept host h s (stored_of slot c) → IsNoFileOf store image → (f : Files) → ((n : List ℕ) → n ≢ image → host.may_leave h n (f n)) → OpensAs store c f
+  kept_opens h s slot c named opened kept apart f can = subst (λ (n : List ℕ). OpensAs n c f) named (record {
     slot = slot;
     opens = record {
       number = s.chosen;
       chosen = kept.is.roots (f (roots_file s.name)) (can (roots_file s.name) (λ e. apart.roots (sym e ∙ ap roots_file named)));
       sound = kept.is.firm.sound;
       image = kept.is.firm.image (f _) (can _ (λ e. apart.image slot (sym e ∙ ap (λ (n : List ℕ). image_file n slot) named)));
-      changes = kept.is.firm.changes (f _) (can _ (λ e. apart.changes (sym e ∙ ap changes_file named)));
+      changes = kept.is.firm.changes (f _) (can _ (λ e. apart.changes slot (sym e ∙ ap (λ (n : List ℕ). changes_file n slot) named)));
     };
-    readable = readable;
+    readable = opened.readable;
+    good = opened.good;
   })
 
-  pub exported_stays : (c d : Commit) (s : StoreState) (slot : ℕ) (text : List ℕ) (old mid closed new : D) → IsNoFileOf store image → All IsDefinition (all_of c) → IsAtRest host (OpensAs store) c old
-      → ((n : List ℕ) → host.may_leave old n (host.files old n)) → All IsDefinition (all_of d) → OpensAs store d (host.files old) → s.name ≡ store → IsKept host mid s (stored_of slot d)
+  pub exported_stays : (c d : Commit) (s : StoreState) (slot : ℕ) (text : List ℕ) (old mid closed new : D) → IsNoFileOf store image → IsAtRest host (OpensAs store) c old
+      → ((n : List ℕ) → host.may_leave old n (host.files old n)) → OpensAs store d (host.files old) → s.name ≡ store → IsKept host mid s (stored_of slot d)
       → IsTrue host.is_told → LeavesOnly host old mid (λ f t. (t ≡ host.said old) × IsOpening host old store f) → LeavesOthers host image mid closed → ReadsAndSays host text closed new → Stays host store c old new
-  exported_stays c d s slot text old mid closed new apart good rest reads same_good opened named kept told moments others line =
-      let one = same_commit store d c (host.files old) same_good good opened (rest.opens_as (host.files old) reads) in
-      let at : (f : Files) → ((n : List ℕ) → n ≢ image → host.may_leave mid n (f n)) → OpensAs store c f = λ f can. subst (λ (x : Commit). OpensAs store x f) one (kept_opens mid s slot d named opened.readable kept apart f can) in
+  exported_stays c d s slot text old mid closed new apart rest reads opened named kept told moments others line =
+      let one = same_commit store d c (host.files old) opened (rest.opens_as (host.files old) reads) in
+      let at : (f : Files) → ((n : List ℕ) → n ≢ image → host.may_leave mid n (f n)) → OpensAs store c f = λ f can. subst (λ (x : Commit). OpensAs store x f) one (kept_opens mid s slot d named opened kept apart f can) in
       record {
         moments = moments_join host old closed new (λ f t. OpensAs store c f) (WhileSaying (host.may_leave closed) (host.said closed) text)
             (moments_join host old mid closed (λ f t. OpensAs store c f) (Others host image mid)

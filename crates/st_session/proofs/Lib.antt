@@ -1,14 +1,17 @@
 pub mod Accepting
 pub mod BrowsedLines
 pub mod Built
+pub mod Called
 pub mod Commanded
 pub mod Compiling
 pub mod Cycles
 pub mod Drilled
 pub mod Ending
 pub mod Exported
+pub mod Condensed
 pub mod Following
 pub mod Holding
+pub mod Joining
 pub mod LastLines
 pub mod Lawful
 pub mod Lines
@@ -22,5 +25,6 @@ pub mod Saying
 pub mod Snapshots
 pub mod Sources
 pub mod Started
+pub mod Starving
 pub mod Stretches
 pub mod WholeLines

@@ -8,6 +8,7 @@ pub mod Browsing
 pub mod Asking
 pub mod Answers
 pub mod Sessions
+pub mod Resting
 pub mod Ends
 pub mod Standing
 pub mod Stretches
@@ -19,5 +20,7 @@ pub mod Builds
 pub mod Drills
 pub mod StoreSessions
 pub mod Exports
+pub mod Condensings
+pub mod Joining
 pub mod Calls
 pub mod Reports

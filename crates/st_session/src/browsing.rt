@@ -1,6 +1,7 @@
-ghost use Rattle.std.specs.Prelude.{IfErr};
+ghost use Rattle.std.specs.Prelude.{IfErr, IsErrOf};
 ghost use Rattle.st_script.specs.Asks.{ask_of};
 ghost use Rattle.st_course.specs.Statuses.{Counts};
+ghost use Rattle.st_course.specs.declared.status.Status.TheVariants.{OutOfMemory};
 ghost use Rattle.st_session.specs.Answers.{browse_course};
 ghost use Rattle.st_session.specs.Browsing.{asked_text};
 ghost use Rattle.st_call.specs.Telling.{IsOfServing};
@@ -48,6 +49,7 @@ pub(crate) fn answer_ask<H: Host, M: Memory>(
         machine.now archive.now host.old result machine.now archive.now host.new }
     ensures counts { Counts H.Host.own ⊥ host.old host.new result }
     ensures served { IfErr result IsOfServing }
+    ensures ample { IsErrOf result OutOfMemory → ⊥ }
 {
     match machine.death() {
         Some(cause) => say_reply(host, Reply::Died { finished: 0, cause }),

@@ -1,7 +1,7 @@
 //! A session over a store: a script is followed line by line, each line and each method of a group is answered, and what is
 //! accepted is in the store before it is said. And the commands of the program: `once`, which runs cycles of an image's machine
-//! and says how they end and what it shows then, `import`, which makes a store of an image, `export`, which writes one out of a
-//! store, `session`, `build`, which makes a store of the image that a kernel text builds, and `drill`, which runs one that a number
+//! and says how they end and what it shows then, `import`, which makes a store of an image, `export` and `clean`, which write
+//! one out of a store, `condense`, which drops a store's superseded definitions, `session`, `build`, which makes a store of the image that a kernel text builds, and `drill`, which runs one that a number
 //! gives.
 #![tactic(auto)]
 
@@ -10,8 +10,10 @@ mod browsing;
 mod building;
 mod command;
 mod compiler;
+mod condensing;
 mod drilling;
 mod exporting;
+mod extent;
 mod first_lines;
 mod importing;
 mod laws;
@@ -27,8 +29,10 @@ mod starting;
 pub use building::build;
 pub use command::{once, session};
 pub use compiler::Compiler;
+pub use condensing::condense;
 pub use drilling::drill;
 pub use exporting::export;
+pub use extent::Extent;
 pub use importing::import;
-pub use laws::run_is_said;
+pub use laws::{calls_join, run_is_said};
 pub use reading::serve;

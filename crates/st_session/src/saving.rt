@@ -1,5 +1,5 @@
 // Runs and snapshots of a session, which keep images in the store.
-ghost use Rattle.std.specs.Prelude.{◌≡◌, ◌-◌, ◌≤◌, ◌<◌, IfErr, IfOk, IfSome, IsSome, None, OnOk};
+ghost use Rattle.std.specs.Prelude.{◌≡◌, ◌-◌, ◌≤◌, ◌<◌, IfErr, IfOk, IfSome, IsErrOf, IsSome, None, OnOk};
 ghost use Rattle.st_model.specs.Machine.{State};
 ghost use Rattle.st_model.specs.Births.{Births};
 ghost use Rattle.st_model.specs.Show.{Shows};
@@ -8,6 +8,7 @@ ghost use Rattle.st_image.specs.Back.{CanStart};
 ghost use Rattle.st_store.specs.Names.{IsNoFileOf};
 ghost use Rattle.st_course.specs.Obeying.{Obeys};
 ghost use Rattle.st_course.specs.Statuses.{Counts};
+ghost use Rattle.st_course.specs.declared.status.Status.TheVariants.{OutOfMemory};
 ghost use Rattle.st_recover.specs.Archives.{Holds};
 ghost use Rattle.st_recover.specs.Commits.{Commit, OpensAs, image_with};
 ghost use Rattle.st_session.specs.Answers.{run_course, going_on};
@@ -37,6 +38,7 @@ fn keep_image<H: Host, M: Memory>(host: &mut H, m: &M, archive: &mut Archive) ->
         (Holds H.Host.own host.new archive.new) (λ d. d) c (imaging c image) result host.old host.new }
     ensures counts { Counts H.Host.own ⊥ host.old host.new result }
     ensures served { IfErr result IsOfServing }
+    ensures ample { IsErrOf result OutOfMemory → ⊥ }
 {
     match archive.snapshot(host, m) {
         Ok(length) => say_reply(host, Reply::Snapshot(length)),
@@ -61,6 +63,7 @@ pub(crate) fn snapshot<H: Host, M: Memory>(
         machine.old archive.old host.old result machine.new archive.new host.new }
     ensures counts { Counts H.Host.own ⊥ host.old host.new result }
     ensures served { IfErr result IsOfServing }
+    ensures ample { IsErrOf result OutOfMemory → ⊥ }
 {
     match machine.save() {
         Ok(()) => keep_image(host, machine.memory(), archive),
@@ -87,6 +90,7 @@ fn say_stretch<H: Host, M: Memory>(
         (stretch finished (cycles - finished) s) host.old host.new result }
     ensures counts { Counts H.Host.own ⊥ host.old host.new (went result) }
     ensures served { IfErr result IsOfServing }
+    ensures ample { IsErrOf result OutOfMemory → ⊥ }
 {
     let mut out = Output::new();
     match push_stretch(&mut out, host, machine, finished, cycles) {
@@ -114,6 +118,7 @@ pub(crate) fn run<H: Host, M: Memory>(
         machine.old archive.old host.old result machine.new archive.new host.new }
     ensures counts { Counts H.Host.own ⊥ host.old host.new result }
     ensures served { IfErr result IsOfServing }
+    ensures ample { IsErrOf result OutOfMemory → ⊥ }
 {
     let mut finished = 0;
     'stretches: loop {

@@ -4,7 +4,7 @@ use Rattle.st_outside.proofs.Joining.{makes_of}
 use Rattle.st_store.specs.Stored.{Opens}
 use Rattle.st_store.specs.declared.root.Root.{Root}
 use Rattle.st_recover.specs.Archives.{ArchiveState}
-use Rattle.st_recover.specs.Commits.{image_with}
+use Rattle.st_recover.specs.Commits.{image_with, other_image}
 use Rattle.st_recover.proofs.Images.{image_is, image_readable}
 use Rattle.st_recover.proofs.Holding.{unwritten_makes, snapshot_makes, snapshot_holds}
 use Rattle.st_recover.proofs.archive.Archive.snapshot.Goals as goal
@@ -19,8 +19,8 @@ returns-in_err-image_length-clause-makes g c x told holds =
     let old = c.args.self.now in
     let st = c.in-Some.store in
     let there = ap (λ (s : ArchiveState). s.store) (sym c.self.view_is) ∙ sym c.take.ensures.value ∙ c.in-Some.is in
-    let at = c.saturating_sub-other.result in
-    let at_is : at ≡ 1 - st.root.slot = c.saturating_sub-other.ensures ∙ ap (λ (r : Root). 1 - r.slot) c.root-slot.ensures in
+    let at = c.other_image-other.result in
+    let at_is : at ≡ other_image st.root.slot = c.other_image-other.ensures ∙ ap (λ (r : Root). other_image r.slot) c.root-slot.ensures in
     let file = c.image_name.result.now in
     unwritten_makes H a old st x holds there b image file (image_readable v (g.met.M.Memory.whole c.args.m.now) c.requires.starts) st.root at at_is c.image_name.ensures c.write.ensures.writes c.write.result c.from_residual.result c.from_residual.ensures.0 told
 
@@ -34,8 +34,8 @@ returns-in_err-commit-clause-makes g c x told holds =
     let old = c.args.self.now in
     let st = c.in-Some.store in
     let there = ap (λ (s : ArchiveState). s.store) (sym c.self.view_is) ∙ sym c.take.ensures.value ∙ c.in-Some.is in
-    let at = c.saturating_sub-other.result in
-    let at_is : at ≡ 1 - st.root.slot = c.saturating_sub-other.ensures ∙ ap (λ (r : Root). 1 - r.slot) c.root-slot.ensures in
+    let at = c.other_image-other.result in
+    let at_is : at ≡ other_image st.root.slot = c.other_image-other.ensures ∙ ap (λ (r : Root). other_image r.slot) c.root-slot.ensures in
     let file = c.image_name.result.now in
     let l = c.in_ok-image_length.image_length in
     let n = c.root-slot.result.length in
@@ -62,8 +62,8 @@ returns-clause-makes g c x told holds =
     let old = c.args.self.now in
     let st = c.in-Some.store in
     let there = ap (λ (s : ArchiveState). s.store) (sym c.self.view_is) ∙ sym c.take.ensures.value ∙ c.in-Some.is in
-    let at = c.saturating_sub-other.result in
-    let at_is : at ≡ 1 - st.root.slot = c.saturating_sub-other.ensures ∙ ap (λ (r : Root). 1 - r.slot) c.root-slot.ensures in
+    let at = c.other_image-other.result in
+    let at_is : at ≡ other_image st.root.slot = c.other_image-other.ensures ∙ ap (λ (r : Root). other_image r.slot) c.root-slot.ensures in
     let file = c.image_name.result.now in
     let l = c.in_ok-image_length.image_length in
     let n = c.root-slot.result.length in
@@ -85,8 +85,8 @@ returns-clause-holds g c x holds =
     let old = c.args.self.now in
     let st = c.in-Some.store in
     let there = ap (λ (s : ArchiveState). s.store) (sym c.self.view_is) ∙ sym c.take.ensures.value ∙ c.in-Some.is in
-    let at = c.saturating_sub-other.result in
-    let at_is : at ≡ 1 - st.root.slot = c.saturating_sub-other.ensures ∙ ap (λ (r : Root). 1 - r.slot) c.root-slot.ensures in
+    let at = c.other_image-other.result in
+    let at_is : at ≡ other_image st.root.slot = c.other_image-other.ensures ∙ ap (λ (r : Root). other_image r.slot) c.root-slot.ensures in
     let file = c.image_name.result.now in
     let l = c.in_ok-image_length.image_length in
     let n = c.root-slot.result.length in

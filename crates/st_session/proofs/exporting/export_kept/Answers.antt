@@ -1,11 +1,12 @@
-use Rattle.std.proofs.Common.{List, ℕ, refl, subst, arith}
+use Rattle.std.proofs.Common.{List, ℕ, refl, ap, subst, arith}
 use Rattle.st_outside.proofs.Touching.{above_changes}
 use Rattle.st_recover.proofs.Images.{image_is}
-use Rattle.st_session.specs.Exports.{exporting, HasExported}
+use Rattle.st_session.specs.Exports.{exporting, ExportsImage}
+use Rattle.st_session.specs.declared.extent.Extent.TheVariants.{Kept}
 use Rattle.st_call.specs.Replies.{exported_text}
 use Rattle.st_call.specs.Telling.{Tells}
 use Rattle.st_session.proofs.Exported.{others_changed, others_said, counts_behind, told_kind, has_told}
-use Rattle.st_session.proofs.exporting.export_image.Goals as goal
+use Rattle.st_session.proofs.exporting.export_kept.Goals as goal
 
 pub returns-in-Ok-clause-has : goal.returns-in-Ok-clause-has
 returns-in-Ok-clause-has g c told =
@@ -16,8 +17,8 @@ returns-in-Ok-clause-has g c told =
     let new = c.say_reply.new.host in
     let result = c.say_reply.result in
     let tells = subst (λ n. Tells host (exported_text n) mid new result) c.in-Ok.ensures.length c.say_reply.ensures in
-    subst (λ (b : List ℕ). HasExported host name (exporting b) old new result) (image_is (g.M.Memory.view c.args.m.now))
-    (has_told host name (exporting _) old mid new result told (c.in-Ok.ensures.file told) (c.write.ensures.writes.run.quiet told) tells)
+    let v = g.M.Memory.view c.args.m.now in
+    has_told host name (ExportsImage Kept v.objects v.head) (exporting _) old mid new result (ap exporting (image_is v)) told (c.in-Ok.ensures.file told) (c.write.ensures.writes.run.quiet told) tells
 
 pub returns-in-Ok-clause-others : goal.returns-in-Ok-clause-others
 returns-in-Ok-clause-others g c =
