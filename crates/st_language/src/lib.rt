@@ -11,6 +11,8 @@ mod compiling;
 #[cfg(test)]
 mod decoder;
 #[cfg(test)]
+mod decompiling;
+#[cfg(test)]
 mod differential;
 #[cfg(test)]
 mod generated;

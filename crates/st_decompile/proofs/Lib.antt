@@ -1,0 +1,39 @@
+mod Cuts
+mod Stacking
+mod Running
+mod Sameness
+mod NameTurns
+mod StepTurns
+mod SelfTurns
+mod ActRows
+mod Moves
+mod Pieces
+mod Regions
+mod Messages
+mod Nodes
+mod Same
+mod Renamed
+mod Contents
+mod Sends
+mod Backs
+mod Leaves
+mod Choices
+mod Blocks
+mod Forms
+mod Trees
+mod Bodies
+pub mod Wholes
+mod Alike
+mod Clean
+pub mod Final
+pub mod Complete
+mod Depth
+mod Words
+mod Usable
+mod Making
+mod Nested
+mod Written
+mod ReadTrees
+pub mod Answered
+mod Decompiled
+mod Tested

@@ -1,0 +1,15 @@
+pub mod Items
+pub mod Choosing
+pub mod Reading
+pub mod Back
+pub mod Calling
+pub mod Whole
+pub mod Formed
+pub mod Stacks
+pub mod Read
+pub mod Names
+pub mod Decoded
+pub mod Methods
+pub mod Comparing
+pub mod Answers
+pub mod Sent

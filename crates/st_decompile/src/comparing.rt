@@ -1,0 +1,60 @@
+//! Whether two methods are the same.
+
+ghost use Rattle.std.specs.Prelude.{◌≡◌};
+ghost use Rattle.st_emit.specs.Views.{literal_view, members_view};
+ghost use Rattle.st_code.specs.MethodDrafts.{parts_view};
+ghost use Rattle.st_decompile.specs.Comparing.{same_literal, same_members, same_parts};
+
+use st_code::MethodParts;
+use st_emit::Literal;
+
+/// Whether two literal arrays have the same members.
+#[cycle(comparing)]
+fn same_members(a: &[Literal], b: &[Literal]) -> bool
+    ensures { result ≡ same_members (members_view a.now) (members_view b.now) }
+{
+    let mut rest = b;
+    for x in a {
+        let [y, others @ ..] = rest else {
+            return false;
+        };
+        if !same_literal(x, y) {
+            return false;
+        }
+        rest = others;
+    }
+    rest.is_empty()
+}
+
+/// Whether two literals are the same.
+#[cycle(comparing)]
+fn same_literal(a: &Literal, b: &Literal) -> bool
+    ensures { result ≡ same_literal (literal_view a.now) (literal_view b.now) }
+{
+    match (a, b) {
+        (
+            Literal::Number { minus, size },
+            Literal::Number {
+                minus: other,
+                size: more,
+            },
+        ) => *minus == *other && *size == *more,
+        (Literal::Character(x), Literal::Character(y)) => *x == *y,
+        (Literal::Bytes(x), Literal::Bytes(y)) => x.as_slice() == y.as_slice(),
+        (Literal::Symbol(x), Literal::Symbol(y)) => x.as_slice() == y.as_slice(),
+        (Literal::Array(x), Literal::Array(y)) => same_members(x, y),
+        (Literal::Named(x), Literal::Named(y)) => x.0 == y.0,
+        (Literal::Owner, Literal::Owner) => true,
+        _ => false,
+    }
+}
+
+/// Whether two methods are the same: their selectors, headers, literals and bytes.
+pub fn same_parts(a: &MethodParts, b: &MethodParts) -> bool
+    ensures { result ≡ same_parts (parts_view a.now) (parts_view b.now) }
+{
+    a.header == b.header
+        && a.selector.as_slice() == b.selector.as_slice()
+        && a.bytes.as_slice() == b.bytes.as_slice()
+        && same_members(&a.literals, &b.literals)
+}

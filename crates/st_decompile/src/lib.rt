@@ -1,0 +1,18 @@
+//! The decompiler: from the header, literals and bytes of a method to a tree that has this code.
+#![tactic(auto)]
+
+mod comparing;
+mod decompiler;
+mod instruction;
+mod item;
+mod make;
+mod naming;
+mod reading;
+mod sending;
+mod whole;
+
+pub use decompiler::decompile;
+pub use item::{Item, Piece, Stack, Statements};
+pub use naming::Calling;
+pub use reading::Reading;
+pub use sending::{Arguments, Received};
