@@ -1,0 +1,174 @@
+-- Worked rows of traces and walks, by the definitions alone: each method's list is the same from its tree and from its code.
+use Rattle.std.proofs.Common.{ℕ, Bool, true, false, List, [], ◌∷◌, refl, None}
+use Rattle.std.specs.Prelude.{codes, pos, ◌≡◌}
+use Rattle.st_tree.specs.declared.token.Signed.{Signed}
+use Rattle.st_tree.specs.Views.{NameView, ContentView, ExpressionView, MethodView}
+use Rattle.st_tree.specs.Views as v
+use Rattle.st_emit.specs.declared.step.Constant.TheVariants.{Receiver, True, False}
+use Rattle.st_emit.specs.declared.step.Place.TheVariants.{Field, Temporary}
+use Rattle.st_emit.specs.Names.{NamesView}
+use Rattle.st_code.specs.Methods.{body, parts}
+use Rattle.st_meaning.specs.declared.deed.Value.{Value}
+use Rattle.st_meaning.specs.declared.deed.Value.TheVariants.{Number, Constant, First, Block}
+use Rattle.st_meaning.specs.Values.{AnswerView, sent, assigned, made, returned, unsure}
+use Rattle.st_meaning.specs.Runs.{Outcome, over, long, did, assign_to, answer_to, make_block, return_value, be_unsure, jump_back}
+use Rattle.st_meaning.specs.Walks.{walk}
+use Rattle.st_meaning.specs.Blocks.{block_trace, block_walk}
+use Rattle.st_emit.specs.Nodes.{Body, returned as answered, body_of}
+use Rattle.st_meaning.specs.Meanings.{most, Trace, Walk, trace_of, walk_of}
+
+abbrev signed : Bool → ℕ → Signed
+signed minus size = record { minus = minus; size = size }
+
+abbrev nm : List ℕ → ℕ → NameView
+nm text place = record { text = text; place = place }
+
+abbrev lit : ℕ → ContentView → ExpressionView
+lit place what = v.literal (record { place = place; what = what })
+
+abbrev point : NamesView
+point = (record { fields = ((codes "x") ∷ (codes "y") ∷ []); shared = ((record { text = codes "Point"; association = 100 }) ∷ (record { text = codes "Gone"; association = 102 }) ∷ []); symbols = true })
+
+abbrev trace_by : MethodView → List AnswerView → Outcome Value
+trace_by m answers = Trace m point answers
+
+abbrev walk_by : MethodView → List AnswerView → Outcome Value
+walk_by m answers = Walk (parts m point) answers
+
+abbrev gives : Value → AnswerView
+gives x = record { value = x; changes = [] }
+
+abbrev self : Value
+self = Constant Receiver
+
+abbrev num : ℕ → Value
+num n = Number (pos n)
+
+-- max: a ^self > a ifTrue: [self] ifFalse: [a]
+abbrev max : MethodView
+max = (record { selector = codes "max:"; arguments = ((nm (codes "a") 6) ∷ []); temporaries = []; primitive = None; body = (v.statement true (v.send (v.send (v.variable (nm (codes "self") 9)) (v.message (codes ">") (v.expression (v.variable (nm (codes "a") 16)) v.no_expressions) v.no_messages)) (v.message (codes "ifTrue:ifFalse:") (v.expression (v.block [] (v.statement false (v.variable (nm (codes "self") 27)) v.no_statements)) (v.expression (v.block [] (v.statement false (v.variable (nm (codes "a") 43)) v.no_statements)) v.no_expressions)) v.no_messages)) v.no_statements) })
+
+-- count | n | n _ 0. [n < 3] whileTrue: [n _ n + 1]. ^n
+abbrev count_up : MethodView
+count_up = (record { selector = codes "count"; arguments = []; temporaries = ((nm (codes "n") 9) ∷ []); primitive = None; body = (v.statement false (v.assign (nm (codes "n") 13) (lit 17 (v.number (signed false 0)))) (v.statement false (v.send (v.block [] (v.statement false (v.send (v.variable (nm (codes "n") 21)) (v.message (codes "<") (v.expression (lit 25 (v.number (signed false 3))) v.no_expressions) v.no_messages)) v.no_statements)) (v.message (codes "whileTrue:") (v.expression (v.block [] (v.statement false (v.assign (nm (codes "n") 40) (v.send (v.variable (nm (codes "n") 44)) (v.message (codes "+") (v.expression (lit 48 (v.number (signed false 1))) v.no_expressions) v.no_messages))) v.no_statements)) v.no_expressions) v.no_messages)) (v.statement true (v.variable (nm (codes "n") 53)) v.no_statements))) })
+
+-- foo ^x and: [y]
+abbrev both : MethodView
+both = (record { selector = codes "foo"; arguments = []; temporaries = []; primitive = None; body = (v.statement true (v.send (v.variable (nm (codes "x") 6)) (v.message (codes "and:") (v.expression (v.block [] (v.statement false (v.variable (nm (codes "y") 14)) v.no_statements)) v.no_expressions) v.no_messages)) v.no_statements) })
+
+-- foo ^x at: 1 put: 2; foo; yourself
+abbrev casc : MethodView
+casc = (record { selector = codes "foo"; arguments = []; temporaries = []; primitive = None; body = (v.statement true (v.send (v.variable (nm (codes "x") 6)) (v.message (codes "at:put:") (v.expression (lit 12 (v.number (signed false 1))) (v.expression (lit 19 (v.number (signed false 2))) v.no_expressions)) (v.message (codes "foo") v.no_expressions (v.message (codes "yourself") v.no_expressions v.no_messages)))) v.no_statements) })
+
+-- foo [true] whileTrue: [nil]
+abbrev without_end : MethodView
+without_end = (record { selector = codes "foo"; arguments = []; temporaries = []; primitive = None; body = (v.statement false (v.send (v.block [] (v.statement false (v.variable (nm (codes "true") 6)) v.no_statements)) (v.message (codes "whileTrue:") (v.expression (v.block [] (v.statement false (v.variable (nm (codes "nil") 24)) v.no_statements)) v.no_expressions) v.no_messages)) v.no_statements) })
+
+-- foo ^[:a | a + 1]
+abbrev with_block : MethodView
+with_block = (record { selector = codes "foo"; arguments = []; temporaries = []; primitive = None; body = (v.statement true (v.block ((nm (codes "a") 7) ∷ []) (v.statement false (v.send (v.variable (nm (codes "a") 11)) (v.message (codes "+") (v.expression (lit 15 (v.number (signed false 1))) v.no_expressions) v.no_messages)) v.no_statements)) v.no_statements) })
+
+-- the statements of a block that is returned
+abbrev statements_of : Body → Body
+statements_of (answered n) = body_of n
+statements_of b = b
+
+max_true_trace : trace_by max (gives (Constant True) ∷ []) ≡ over (sent self (codes ">") (First (Temporary 0) ∷ []) false ∷ returned self ∷ [])
+unfolding did assign_to answer_to make_block return_value be_unsure jump_back walk
+max_true_trace = refl
+
+max_true_walk : walk_by max (gives (Constant True) ∷ []) ≡ over (sent self (codes ">") (First (Temporary 0) ∷ []) false ∷ returned self ∷ [])
+unfolding did assign_to answer_to make_block return_value be_unsure jump_back walk
+max_true_walk = refl
+
+max_7_trace : trace_by max (gives (num 7) ∷ []) ≡ over (sent self (codes ">") (First (Temporary 0) ∷ []) false ∷ unsure (num 7) ∷ [])
+unfolding did assign_to answer_to make_block return_value be_unsure jump_back walk
+max_7_trace = refl
+
+max_7_walk : walk_by max (gives (num 7) ∷ []) ≡ over (sent self (codes ">") (First (Temporary 0) ∷ []) false ∷ unsure (num 7) ∷ [])
+unfolding did assign_to answer_to make_block return_value be_unsure jump_back walk
+max_7_walk = refl
+
+count_trace : trace_by count_up (gives (Constant True) ∷ gives (num 1) ∷ gives (Constant False) ∷ []) ≡ over (assigned (Temporary 0) (num 0) ∷ sent (num 0) (codes "<") (num 3 ∷ []) false ∷ sent (num 0) (codes "+") (num 1 ∷ []) false ∷ assigned (Temporary 0) (num 1) ∷ sent (num 1) (codes "<") (num 3 ∷ []) false ∷ returned (num 1) ∷ [])
+unfolding did assign_to answer_to make_block return_value be_unsure jump_back walk
+count_trace = refl
+
+count_walk : walk_by count_up (gives (Constant True) ∷ gives (num 1) ∷ gives (Constant False) ∷ []) ≡ over (assigned (Temporary 0) (num 0) ∷ sent (num 0) (codes "<") (num 3 ∷ []) false ∷ sent (num 0) (codes "+") (num 1 ∷ []) false ∷ assigned (Temporary 0) (num 1) ∷ sent (num 1) (codes "<") (num 3 ∷ []) false ∷ returned (num 1) ∷ [])
+unfolding did assign_to answer_to make_block return_value be_unsure jump_back walk
+count_walk = refl
+
+count_cut_trace : trace_by count_up (gives (Constant True) ∷ []) ≡ over (assigned (Temporary 0) (num 0) ∷ sent (num 0) (codes "<") (num 3 ∷ []) false ∷ sent (num 0) (codes "+") (num 1 ∷ []) false ∷ [])
+unfolding did assign_to answer_to make_block return_value be_unsure jump_back walk
+count_cut_trace = refl
+
+count_cut_walk : walk_by count_up (gives (Constant True) ∷ []) ≡ over (assigned (Temporary 0) (num 0) ∷ sent (num 0) (codes "<") (num 3 ∷ []) false ∷ sent (num 0) (codes "+") (num 1 ∷ []) false ∷ [])
+unfolding did assign_to answer_to make_block return_value be_unsure jump_back walk
+count_cut_walk = refl
+
+and_unsure_trace : trace_by both ([]) ≡ over (unsure (First (Field 0)) ∷ [])
+unfolding did assign_to answer_to make_block return_value be_unsure jump_back walk
+and_unsure_trace = refl
+
+and_unsure_walk : walk_by both ([]) ≡ over (unsure (First (Field 0)) ∷ [])
+unfolding did assign_to answer_to make_block return_value be_unsure jump_back walk
+and_unsure_walk = refl
+
+cascade_trace : trace_by casc (gives (num 5) ∷ gives (num 6) ∷ gives (num 7) ∷ []) ≡ over (sent (First (Field 0)) (codes "at:put:") (num 1 ∷ num 2 ∷ []) false ∷ sent (First (Field 0)) (codes "foo") [] false ∷ sent (First (Field 0)) (codes "yourself") [] false ∷ returned (num 7) ∷ [])
+unfolding did assign_to answer_to make_block return_value be_unsure jump_back walk
+cascade_trace = refl
+
+cascade_walk : walk_by casc (gives (num 5) ∷ gives (num 6) ∷ gives (num 7) ∷ []) ≡ over (sent (First (Field 0)) (codes "at:put:") (num 1 ∷ num 2 ∷ []) false ∷ sent (First (Field 0)) (codes "foo") [] false ∷ sent (First (Field 0)) (codes "yourself") [] false ∷ returned (num 7) ∷ [])
+unfolding did assign_to answer_to make_block return_value be_unsure jump_back walk
+cascade_walk = refl
+
+-- with at most 5 jumps back
+loop_trace : trace_of 5 0 (body without_end point).part [] ≡ long
+unfolding did assign_to answer_to make_block return_value be_unsure jump_back walk
+loop_trace = refl
+
+loop_walk : walk_of 5 0 (parts without_end point).literals (parts without_end point).bytes [] ≡ long
+unfolding did assign_to answer_to make_block return_value be_unsure jump_back walk
+loop_walk = refl
+
+-- with at most 2 deeds: as many are a list, and one more is too many
+two_trace : trace_of 2 0 (body casc point).part (gives (num 5) ∷ []) ≡ over (sent (First (Field 0)) (codes "at:put:") (num 1 ∷ num 2 ∷ []) false ∷ sent (First (Field 0)) (codes "foo") [] false ∷ [])
+unfolding did assign_to answer_to make_block return_value be_unsure jump_back walk
+two_trace = refl
+
+two_walk : walk_of 2 0 (parts casc point).literals (parts casc point).bytes (gives (num 5) ∷ []) ≡ over (sent (First (Field 0)) (codes "at:put:") (num 1 ∷ num 2 ∷ []) false ∷ sent (First (Field 0)) (codes "foo") [] false ∷ [])
+unfolding did assign_to answer_to make_block return_value be_unsure jump_back walk
+two_walk = refl
+
+three_trace : trace_of 2 0 (body casc point).part (gives (num 5) ∷ gives (num 6) ∷ []) ≡ long
+unfolding did assign_to answer_to make_block return_value be_unsure jump_back walk
+three_trace = refl
+
+three_walk : walk_of 2 0 (parts casc point).literals (parts casc point).bytes (gives (num 5) ∷ gives (num 6) ∷ []) ≡ long
+unfolding did assign_to answer_to make_block return_value be_unsure jump_back walk
+three_walk = refl
+
+-- a block that is made, and what it does
+made_trace : trace_by with_block [] ≡ over (made 0 ∷ returned (Block 0) ∷ [])
+unfolding did assign_to answer_to make_block return_value be_unsure jump_back walk
+made_trace = refl
+
+made_walk : walk_by with_block [] ≡ over (made 0 ∷ returned (Block 0) ∷ [])
+unfolding did assign_to answer_to make_block return_value be_unsure jump_back walk
+made_walk = refl
+
+inner_trace : block_trace most 0 1 (statements_of (body with_block point).part) (gives (num 9) ∷ []) ≡ over (assigned (Temporary 0) (First (Temporary 0)) ∷ sent (First (Temporary 0)) (codes "+") (num 1 ∷ []) false ∷ returned (num 9) ∷ [])
+unfolding did assign_to answer_to make_block return_value be_unsure jump_back walk
+inner_trace = refl
+
+inner_walk : block_walk most (parts with_block point).literals (parts with_block point).bytes 5 0 1 (gives (num 9) ∷ []) ≡ over (assigned (Temporary 0) (First (Temporary 0)) ∷ sent (First (Temporary 0)) (codes "+") (num 1 ∷ []) false ∷ returned (num 9) ∷ [])
+unfolding did assign_to answer_to make_block return_value be_unsure jump_back walk
+inner_walk = refl
+
+-- an answer changes a variable: foo ^x at: 1 put: 2; foo; yourself
+changed_trace : trace_by casc (record { value = num 5; changes = record { variable = Field 0; value = num 6 } ∷ [] } ∷ []) ≡ over (sent (First (Field 0)) (codes "at:put:") (num 1 ∷ num 2 ∷ []) false ∷ sent (First (Field 0)) (codes "foo") [] false ∷ [])
+unfolding did assign_to answer_to make_block return_value be_unsure jump_back walk
+changed_trace = refl
+
+both_changed : trace_by both (gives (Constant True) ∷ []) ≡ walk_by both (gives (Constant True) ∷ [])
+unfolding did assign_to answer_to make_block return_value be_unsure jump_back walk
+both_changed = refl

@@ -1,0 +1,13 @@
+use Rattle.std.proofs.Common.{◌≡◌, length}
+use Rattle.st_meaning.specs.Runs.{all_changed}
+use Rattle.st_meaning.specs.Courses.{held_of, IsTable}
+use Rattle.st_meaning.proofs.held.Held.change_all.Given as goal
+
+abbrev pub invariant-loop-change : goal.invariant-loop-change
+invariant-loop-change l = record {
+  held : all_changed l.rest (held_of l.self) ≡ all_changed l.changes (held_of l.initial.self);
+  table : IsTable l.self;
+}
+
+abbrev pub decreases-loop-change : goal.decreases-loop-change
+decreases-loop-change l = length l.rest

@@ -1,0 +1,11 @@
+pub mod Grows
+pub mod Places
+pub mod Placing
+pub mod Arity
+pub mod Placeless
+pub mod Sizes
+pub mod Unnumbered
+pub mod Seen
+pub mod Decoding
+pub mod Fitting
+pub mod Wholes

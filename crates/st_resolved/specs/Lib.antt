@@ -1,0 +1,4 @@
+pub mod Placed
+pub mod Right
+pub mod Instructions
+pub mod Seen
