@@ -31,6 +31,7 @@ fn fill_context<O: Objects>(
 }
 
 /// A new context of the method.
+#[inline(always)]
 #[tactic(auto, using(st_frames::proofs::Doing::rows), unfolding(st_model::specs::Contexts::new_context))]
 fn new_context<O: Objects>(
     m: &mut O,

@@ -11,6 +11,7 @@ use st_memory::Objects;
 use st_model::{Dead, Word};
 
 /// The method for the selector in the class, or in the nearest superclass that has one. What is found is remembered.
+#[inline(always)]
 #[tactic(auto, using(st_frames::proofs::Doing::rows))]
 pub fn find_method<O: Objects>(
     m: &mut O,
