@@ -13,16 +13,17 @@ ghost use Rattle.st_session.specs.Commands.{OnceEnds};
 ghost use Rattle.st_session.specs.Drills.{DrillEnds};
 ghost use Rattle.st_call.specs.LastLines.{SaysLastLine};
 ghost use Rattle.st_session.specs.Exports.{ExportEnds};
+ghost use Rattle.st_session.specs.declared.extent.Extent.TheVariants.{Kept, Reachable};
 ghost use Rattle.st_session.specs.Imports.{ImportEnds};
 ghost use Rattle.st_session.specs.StoreSessions.{SessionCommandEnds};
-ghost use Rattle.st_call.specs.Words.{command_of, Once, Import, Export, Session, Build, Drill};
+ghost use Rattle.st_call.specs.Words.{command_of, Once, Import, Export, Clean, Session, Build, Drill};
 
 use st_call::{Command, read_command, refuse};
 use st_counted::CountedLoader;
 use st_host::{Host, Source};
 use st_lookup::CachedLoader;
 use st_protocol::Status;
-use st_session::{build, drill, export, import, once, session};
+use st_session::{Extent, build, drill, export, import, once, session};
 use std::alloc::Global;
 use std::process::ExitCode;
 
@@ -33,10 +34,10 @@ type ProgramLoader = CachedLoader<CountedLoader>;
 ///
 /// `once IMAGE N` reads the image file IMAGE, runs N cycles of its machine, and says the run's end and what the machine shows
 /// then. `import IMAGE STORE` makes a store of an image, with the values of options in place of those of its head. `export STORE
-/// IMAGE` writes an image of what a store holds. `session STORE` opens a store, and follows a script over what it holds, whose bytes
-/// are taken from the source. `build KERNEL STORE` makes a store of the image that a kernel text builds. `drill N` runs a million cycles
-/// of an image that is built in memory from the number N, which decides how large it is. No file is changed but the store's, and the
-/// image's by `export`.
+/// IMAGE` writes an image of what a store holds, and `clean STORE IMAGE` one of what can be reached there. `session STORE` opens a
+/// store, and follows a script over what it holds, whose bytes are taken from the source. `build KERNEL STORE` makes a store of the
+/// image that a kernel text builds. `drill N` runs a million cycles of an image that is built in memory from the number N, which
+/// decides how large it is. No file is changed but the store's, and the image's by `export` and `clean`.
 ///
 /// For every well-formed image, script and n, after n bytecodes the kept objects, display, input state and output are those of
 /// the book's interpreter over objects never reclaimed or moved. A halt for space comes exactly where the table or the heap
@@ -58,7 +59,10 @@ pub fn tool<H: Host, S: Source>(
         host.old host.new result }
     ensures exports { (store image : List ℕ)
         → command_of (map string_bytes words.now) ≡ Some (Export store image)
-        → ExportEnds H.Host.own store image host.old host.new result }
+        → ExportEnds H.Host.own Kept store image host.old host.new result }
+    ensures cleans { (store image : List ℕ)
+        → command_of (map string_bytes words.now) ≡ Some (Clean store image)
+        → ExportEnds H.Host.own Reachable store image host.old host.new result }
     ensures session { let reads = Rose (S.read_faults script.old) (S.read_faults script.new) in
         (store : List ℕ) → command_of (map string_bytes words.now) ≡ Some (Session store)
         → SessionCommandEnds H.Host.own store (IsTrue S.is_told) reads
@@ -81,7 +85,10 @@ pub fn tool<H: Host, S: Source>(
             import::<H, ProgramLoader>(alloc, host, image, store, &over)
         }
         Some(Command::Export { store, image }) => {
-            export::<H, ProgramLoader>(alloc, host, store, image)
+            export::<H, ProgramLoader>(alloc, host, Extent::Kept, store, image)
+        }
+        Some(Command::Clean { store, image }) => {
+            export::<H, ProgramLoader>(alloc, host, Extent::Reachable, store, image)
         }
         Some(Command::Session { store }) => {
             session::<H, ProgramLoader, S>(alloc, host, script, store)

@@ -4,7 +4,7 @@ use Rattle.std.specs.Prelude.{Option, Result, IsErr, unwrap_or}
 use Rattle.st_host.specs.Telling.{Says}
 use Rattle.st_host.specs.declared.host.Host.{Ghosts}
 use Rattle.st_model.specs.View.{View}
-use Rattle.st_chunk.specs.Asks.{Ask, Object, Display, Classes, Methods, Source, Bytecodes, Senders}
+use Rattle.st_chunk.specs.Asks.{Ask, Object, Display, Classes, Methods, Source, Bytecodes, Senders, Until}
 use Rattle.st_chunk.specs.Definitions.{Definition}
 use Rattle.st_changes.proofs.Texts.{one_text}
 use Rattle.st_browse.specs.Asked.{Answers, IsTextFor, reply}
@@ -18,6 +18,7 @@ one_reply v ds (Methods side) a b x y = refl
 one_reply v ds (Source side selector) a b x y = ap (λ t. reply v t (Source side selector)) (one_text ds side.class side.meta selector a b x y)
 one_reply v ds (Bytecodes side selector) a b x y = refl
 one_reply v ds (Senders selector) a b x y = refl
+one_reply v ds (Until cycles side selector) a b x y = refl
 
 -- a call that failed
 pub failed : {D E : Type 0} (host : Ghosts D) (answer : Option (List ℕ)) (old new : D) (result : Result Bool E) → IsErr result → Says host (unwrap_or answer []) old new → Answers host answer old new result

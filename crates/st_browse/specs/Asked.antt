@@ -7,12 +7,12 @@ use Rattle.st_host.specs.declared.host.Host.{Ghosts}
 use Rattle.st_model.specs.Values.{Value, value_of}
 use Rattle.st_model.specs.Table.{Table}
 use Rattle.st_model.specs.View.{View, object_of}
-use Rattle.st_chunk.specs.Asks.{Side, Ask, Object, Display, Classes, Methods, Source, Bytecodes, Senders}
+use Rattle.st_chunk.specs.Asks.{Side, Ask, Object, Display, Classes, Methods, Source, Bytecodes, Senders, Until}
 use Rattle.st_chunk.specs.Definitions.{Definition}
 use Rattle.st_changes.specs.Last.{IsNowhere, IsLastText}
 use Rattle.st_browse.specs.Naming.{Named}
 use Rattle.st_browse.specs.Classes.{classes}
-use Rattle.st_browse.specs.Methods.{has_method, method_named}
+use Rattle.st_browse.specs.Methods.{has_method, if_method, method_named}
 use Rattle.st_browse.specs.Display.{display_reply}
 use Rattle.st_browse.specs.Sources.{source_text}
 use Rattle.st_browse.specs.Replies.{object_reply, classes_text, methods_text, side_named, bytecodes_text, senders_text}
@@ -28,10 +28,18 @@ bytecodes_of t n = if has_method t n.value then Some (bytecodes_text (object_of 
 abbrev pub bytecodes_in : Table → List ℕ → Value → Option (List ℕ)
 bytecodes_in t selector class = option_and_then (bytecodes_of t) (method_named t class selector)
 
+-- a class's method, where an object of kind Method is there
+abbrev pub method_in : Table → List ℕ → Value → Option Value
+method_in t selector class = option_and_then (λ n. if_method t n.value) (method_named t class selector)
+
+abbrev pub method_of_side : View → Side → List ℕ → Option Value
+method_of_side v side selector = option_and_then (method_in v.objects selector) (class_of_side v side)
+
 -- a text, where the class has the method and there is a text
 abbrev pub source_in : Table → List ℕ → Option (List ℕ) → Value → Option (List ℕ)
 source_in t selector text class = option_and_then (λ n. option_map source_text text) (method_named t class selector)
 
+-- Of a method to run up to an image shows the bytecodes: it runs nothing.
 unfoldable pub reply : View → Option (List ℕ) → Ask → Option (List ℕ)
 reply v text (Object pointer) = object_reply v.objects (value_of pointer)
 reply v text Display = display_reply v
@@ -39,6 +47,7 @@ reply v text Classes = Some (classes_text v.objects v.head.globals)
 reply v text (Methods side) = option_map (methods_text v.objects) (class_of_side v side)
 reply v text (Source side selector) = option_and_then (source_in v.objects selector text) (class_of_side v side)
 reply v text (Bytecodes side selector) = option_and_then (bytecodes_in v.objects selector) (class_of_side v side)
+reply v text (Until cycles side selector) = option_and_then (bytecodes_in v.objects selector) (class_of_side v side)
 reply v text (Senders selector) = Some (senders_text v.objects selector (classes v.objects v.head.globals))
 
 -- Where a source is asked for: the text of the last of these definitions that is of this class, this side of it and this selector.

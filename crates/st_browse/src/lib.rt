@@ -23,3 +23,4 @@ mod sought;
 mod source;
 
 pub use saying::browse;
+pub use sought::find_method;

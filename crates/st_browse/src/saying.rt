@@ -143,7 +143,8 @@ fn text_for<'a>(changes: &'a Changes, ask: Ask<'_>) -> Option<&'a [u8]>
         | Ask::Classes
         | Ask::Methods(_)
         | Ask::Bytecodes(_, _)
-        | Ask::Senders(_) => None,
+        | Ask::Senders(_)
+        | Ask::Until(_, _, _) => None,
     }
 }
 

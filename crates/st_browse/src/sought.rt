@@ -6,7 +6,7 @@ ghost use Rattle.st_scope.specs.Texts.{found};
 ghost use Rattle.st_chunk.specs.Asks.{ask_of, side_of};
 ghost use Rattle.st_browse.specs.Display.{display_reply};
 ghost use Rattle.st_browse.specs.Replies.{methods_text, object_reply};
-ghost use Rattle.st_browse.specs.Asked.{bytecodes_in, class_of_side, reply, source_in};
+ghost use Rattle.st_browse.specs.Asked.{bytecodes_in, class_of_side, method_in, method_of_side, reply, source_in};
 ghost use Rattle.st_browse.specs.Entries.{IsBody};
 ghost use Rattle.st_browse.specs.Founds.{IsSought, body_text, sought_text};
 
@@ -53,10 +53,12 @@ fn class_of_side<M: Memory>(m: &M, side: Side<'_>) -> Option<Oop>
 }
 
 /// The method of a class for a selector.
-#[tactic(auto, unfolding(crate::specs::Methods::method_named))]
+#[tactic(auto, unfolding(crate::specs::Methods::method_named, crate::specs::Methods::if_method))]
 fn method_of<M: Memory>(m: &M, class: Oop, selector: &[u8]) -> Option<Body>
     ensures method { let t = (M.view m.now).objects in
         option_map (body_text t) result ≡ bytecodes_in t selector.now (value class) }
+    ensures found { let t = (M.view m.now).objects in
+        option_map (λ b. value b.method) result ≡ method_in t selector.now (value class) }
     ensures body { IfSome result (λ b. IsBody (M.view m.now).objects b) }
 {
     let n = first_named(m, methods_of(m, class), selector)?;
@@ -105,6 +107,15 @@ fn seek_bytecodes<'a, M: Memory>(m: &M, side: Side<'_>, selector: &[u8]) -> Opti
     Some(Sought::Bytecodes(body))
 }
 
+/// The method of a class for a selector, where an object of kind Method is there.
+pub fn find_method<M: Memory>(m: &M, side: Side<'_>, selector: &[u8]) -> Option<Oop>
+    ensures { let v = M.view m.now in found result ≡ method_of_side v (side_of side.entry) selector.now }
+{
+    let class = class_of_side(m, side)?;
+    let body = method_of(m, class, selector)?;
+    Some(body.method)
+}
+
 /// Finds an object.
 fn seek_object<'a, M: Memory>(m: &M, o: Oop) -> Option<Sought<'a>>
     ensures sought { let t = (M.view m.now).objects in
@@ -140,7 +151,9 @@ pub fn seek<'a, M: Memory>(m: &M, ask: Ask<'a>, text: Option<&'a [u8]>) -> Optio
         Ask::Classes => Some(Sought::Classes(globals(m))),
         Ask::Methods(side) => seek_methods(m, side),
         Ask::Source(side, selector) => seek_source(m, side, selector, text),
-        Ask::Bytecodes(side, selector) => seek_bytecodes(m, side, selector),
+        Ask::Bytecodes(side, selector) | Ask::Until(_, side, selector) => seek_bytecodes(
+            m, side, selector,
+        ),
         Ask::Senders(selector) => Some(Sought::Senders(globals(m), selector)),
     }
 }

@@ -3,7 +3,7 @@ use Rattle.std.proofs.Common.{◌≡◌, [], ◌∷◌, refl}
 use Rattle.std.specs.Prelude.{codes, Some, None}
 use Rattle.st_image.specs.HeadValues.{no_values}
 use Rattle.st_call.specs.Arguments.{number_said}
-use Rattle.st_call.specs.Words.{command_of, Once, Import, Export}
+use Rattle.st_call.specs.Words.{command_of, Once, Import, Export, Clean}
 
 once_of_four : command_of (codes "once" ∷ codes "B" ∷ codes "0000000004" ∷ []) ≡ Some (Once (codes "B") 4)
 unfolding number_said
@@ -41,6 +41,13 @@ no_option_of_once = refl
 -- a dash alone is an operand
 a_dash : command_of (codes "export" ∷ codes "-" ∷ codes "I" ∷ []) ≡ Some (Export (codes "-") (codes "I"))
 a_dash = refl
+
+a_clean_image : command_of (codes "clean" ∷ codes "S" ∷ codes "I" ∷ []) ≡ Some (Clean (codes "S") (codes "I"))
+a_clean_image = refl
+
+no_option_of_clean : command_of (codes "clean" ∷ codes "S" ∷ codes "I" ∷ codes "--words=5" ∷ []) ≡ None
+unfolding number_said
+no_option_of_clean = refl
 
 an_empty_operand : command_of (codes "session" ∷ [] ∷ []) ≡ None
 an_empty_operand = refl

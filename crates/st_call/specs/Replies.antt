@@ -1,5 +1,6 @@
 -- The lines of a session besides those of a run and of a state.
 use Rattle.std.specs.Prelude.{ℕ, Bool, true, false, List, [], ◌∷◌, ◌++◌, length, codes}
+use Rattle.st_model.specs.declared.demand.Demand.{Demand}
 use Rattle.st_model.specs.Machine.{State}
 use Rattle.st_model.specs.Table.{Table}
 use Rattle.st_model.specs.Text.{numbers_text, registers_text, input_text, held_text}
@@ -49,6 +50,10 @@ snapshot_text length = codes "snapshot" ++ (numbers_text (length ∷ []) ++ code
 -- an image of so many bytes was exported
 abbrev pub exported_text : ℕ → List ℕ
 exported_text length = codes "exported" ++ (numbers_text (length ∷ []) ++ codes "\n")
+
+-- a clean image of so many objects and words was written
+abbrev pub cleaned_text : Demand → List ℕ
+cleaned_text d = codes "cleaned" ++ (numbers_text (d.entries ∷ d.words ∷ []) ++ codes "\n")
 
 -- it is missing
 abbrev pub missing_text : List ℕ

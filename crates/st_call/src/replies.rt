@@ -6,7 +6,7 @@ ghost use Rattle.st_call.specs.Telling.{Tells};
 use crate::lines::{push_line, push_long_line};
 use crate::output::Output;
 use st_host::{Host, SayFault};
-use st_model::Dead;
+use st_model::{Dead, Demand};
 use st_protocol::{Refusal, Status};
 
 /// A line that a session says, which shows nothing of the machine's objects.
@@ -16,6 +16,8 @@ pub enum Reply<'a> {
     Snapshot(u64),
     /// An image of so many bytes was exported.
     Exported(u64),
+    /// A clean image of so many objects and words was written.
+    Cleaned(Demand),
     /// The machine is dead of this cause; so many cycles of the line are finished.
     Died {
         finished: u32,
@@ -96,6 +98,9 @@ fn push_reply<H: Host>(out: &mut Output, host: &mut H, reply: Reply<'_>) -> Resu
     match reply {
         Reply::Snapshot(length) => push_long_line(out, host, b"snapshot", length),
         Reply::Exported(length) => push_long_line(out, host, b"exported", length),
+        Reply::Cleaned(Demand { entries, words }) => {
+            push_line(out, host, b"cleaned", &[entries, words])
+        }
         Reply::Died { finished, cause } => {
             push_line(out, host, b"dead", &[finished, u32::from(cause.number())])
         }

@@ -1,6 +1,6 @@
 ghost use Rattle.std.specs.Prelude.{◌≡◌, map, option_map};
 ghost use Rattle.std.specs.String.{string_bytes};
-ghost use Rattle.st_call.specs.Words.{once_of, import_of, export_of, session_of, build_of, drill_of, has_values, command_named, command_of};
+ghost use Rattle.st_call.specs.Words.{once_of, import_of, export_of, clean_of, session_of, build_of, drill_of, has_values, command_named, command_of};
 ghost use Rattle.st_call.specs.CommandViews.{operands_view, arguments_view, command_view};
 
 use crate::arguments::{Arguments, Operands, read_arguments, read_number};
@@ -22,6 +22,11 @@ pub enum Command<'a> {
     },
     /// The writing of an image of what a store holds.
     Export {
+        store: &'a str,
+        image: &'a str,
+    },
+    /// The writing of an image of what can be reached in a store.
+    Clean {
         store: &'a str,
         image: &'a str,
     },
@@ -72,6 +77,16 @@ fn export(operands: Operands<'_>) -> Option<Command<'_>>
 {
     match operands {
         Operands::Two(store, image) => Some(Command::Export { store, image }),
+        Operands::Empty | Operands::One(_) => None,
+    }
+}
+
+/// The command of `STORE IMAGE`.
+fn clean(operands: Operands<'_>) -> Option<Command<'_>>
+    ensures { option_map command_view result ≡ clean_of (operands_view operands.entry) }
+{
+    match operands {
+        Operands::Two(store, image) => Some(Command::Clean { store, image }),
         Operands::Empty | Operands::One(_) => None,
     }
 }
@@ -133,6 +148,8 @@ fn command_named<'a>(name: &str, arguments: Arguments<'a>) -> Option<Command<'a>
         once(arguments.operands)
     } else if name == "export" {
         export(arguments.operands)
+    } else if name == "clean" {
+        clean(arguments.operands)
     } else if name == "session" {
         session(arguments.operands)
     } else if name == "build" {

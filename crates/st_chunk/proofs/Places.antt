@@ -12,9 +12,9 @@ use Rattle.st_chunk.specs.Texts.{mark, most, is_blank, is_empty}
 use Rattle.st_chunk.specs.Feeding.{State, fed, finished, carried_from, answer, last_answer}
 use Rattle.st_chunk.specs.Groups.{Header, header_of}
 use Rattle.st_chunk.specs.declared.request.Request.{Request}
-use Rattle.st_chunk.specs.declared.request.Request.TheVariants.{Run, Input, Mouse, Clock, Tick, State as ShowState, Used, Snapshot, Browse, End, Define, Wrong}
+use Rattle.st_chunk.specs.declared.request.Request.TheVariants.{Run, Trace, Input, Mouse, Clock, Tick, State as ShowState, Used, Stack, Snapshot, Browse, End, Define, Wrong}
 use Rattle.st_chunk.specs.Asks.{Ask}
-use Rattle.st_chunk.specs.Lines.{IsInRange, digits_after, at_most, number, is_word, place_of, mouse_at, with_arguments, alone, by_words, first_word, arguments, line_ask, line_request, without_return}
+use Rattle.st_chunk.specs.Lines.{IsInRange, digits_after, at_most, number, is_word, place_of, mouse_at, traced_cycles, with_arguments, alone, by_words, first_word, arguments, line_ask, line_request, without_return}
 use Rattle.st_chunk.specs.Reading.{Place, InLine, Browsed, Opened, InHeader, InMethods, Defined, CutOff, InBlanks, BehindBlanks, Over, Reading, Told, line_behind, line_from, over, wrong, behind_line, line_asking, line_ended, line_byte, begun, opened_byte, start_with, too_long, blanks_byte, behind_blanks_byte, header_ended, header_told, method_ended, method_told, byte_in, read, header_at_end, last_header, method_at_end, end_in, end_read}
 use Rattle.st_chunk.specs.Scripts.{IsBrowsed, IsDefined, IsHeading, IsSound}
 use Rattle.st_chunk.proofs.FedBytes.{short_fed}
@@ -72,6 +72,10 @@ runs : (o : Option ℕ) → is_line (option_map Run o) ≡ true
 runs None = refl
 runs (Some n) = refl
 
+traces : (o : Option ℕ) → is_line (option_map Trace o) ≡ true
+traces None = refl
+traces (Some n) = refl
+
 inputs : (o : Option ℕ) → is_line (option_map Input o) ≡ true
 inputs None = refl
 inputs (Some n) = refl
@@ -106,18 +110,20 @@ numbers : (word text : List ℕ) → is_line (with_arguments word text) ≡ true
 unfolding with_arguments
 numbers word text =
     if_line (is_word word (codes "run")) (option_map Run (number 1000000000 text)) _ (runs (number 1000000000 text))
+    (if_line (is_word word (codes "trace")) (option_map Trace (traced_cycles text)) _ (traces (traced_cycles text))
     (if_line (is_word word (codes "input")) (option_map Input (number 65535 text)) _ (inputs (number 65535 text))
     (if_line (is_word word (codes "mouse")) (mouse_at text) _ (mouses (number 16383 (first_word text)) (option_and_then (number 16383) (arguments text)) (number_within 16383 (first_word text)) (argument_within 16383 (arguments text)))
     (if_line (is_word word (codes "clock")) (option_map Clock (number 4294967295 text)) _ (clocks (number 4294967295 text))
-    (if_line (is_word word (codes "tick")) (option_map Tick (number 4294967295 text)) None (ticks (number 4294967295 text)) refl))))
+    (if_line (is_word word (codes "tick")) (option_map Tick (number 4294967295 text)) None (ticks (number 4294967295 text)) refl)))))
 
 words : (word : List ℕ) → is_line (alone word) ≡ true
 unfolding alone
 words word =
     if_line (is_word word (codes "state")) (Some ShowState) _ refl
     (if_line (is_word word (codes "used")) (Some Used) _ refl
+    (if_line (is_word word (codes "stack")) (Some Stack) _ refl
     (if_line (is_word word (codes "snapshot")) (Some Snapshot) _ refl
-    (if_line (is_word word (codes "end")) (Some End) None refl refl)))
+    (if_line (is_word word (codes "end")) (Some End) None refl refl))))
 
 by_both : (word : List ℕ) (o : Option (List ℕ)) → is_line (by_words word o) ≡ true
 by_both word None = words word

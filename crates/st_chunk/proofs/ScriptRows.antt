@@ -2,8 +2,8 @@
 use Rattle.std.proofs.Common.{◌≡◌, ℕ, false, List, [], ◌∷◌, refl}
 use Rattle.std.specs.Prelude.{codes, Option, Some, None}
 use Rattle.st_chunk.specs.declared.request.Request.{Request}
-use Rattle.st_chunk.specs.declared.request.Request.TheVariants.{Run, Input, Mouse, Clock, Tick, State, Used, Snapshot, Browse, End, Wrong}
-use Rattle.st_chunk.specs.Asks.{Object, Display, Classes, Methods, Source, Bytecodes, Senders, instance_side, class_side}
+use Rattle.st_chunk.specs.declared.request.Request.TheVariants.{Run, Trace, Input, Mouse, Clock, Tick, State, Used, Stack, Snapshot, Browse, End, Wrong}
+use Rattle.st_chunk.specs.Asks.{Object, Display, Classes, Methods, Source, Bytecodes, Senders, Until, instance_side, class_side}
 use Rattle.st_chunk.specs.Lines.{number, with_arguments, alone, ask_with, ask_alone, line_ask, line_request}
 use Rattle.st_chunk.specs.Reading.{read, end_read}
 use Rattle.st_chunk.specs.Scripts.{Asked, Asks, Browses, Defines, asked}
@@ -31,6 +31,26 @@ leading_zeros = refl
 eleven_digits : line (codes "run 00000000005") ≡ wrong
 unfolding line_request line_ask with_arguments ask_with number
 eleven_digits = refl
+
+trace : line (codes "trace 1000000") ≡ Some (Trace 1000000)
+unfolding line_request with_arguments number
+trace = refl
+
+trace_nothing : line (codes "trace 0") ≡ wrong
+unfolding line_request line_ask with_arguments ask_with number
+trace_nothing = refl
+
+trace_too_far : line (codes "trace 1000001") ≡ wrong
+unfolding line_request line_ask with_arguments ask_with number
+trace_too_far = refl
+
+trace_of_eleven_digits : line (codes "trace 00000000003") ≡ wrong
+unfolding line_request line_ask with_arguments ask_with number
+trace_of_eleven_digits = refl
+
+stack : line (codes "stack") ≡ Some Stack
+unfolding line_request alone
+stack = refl
 
 input : line (codes "input 65535") ≡ Some (Input 65535)
 unfolding line_request with_arguments number
@@ -162,6 +182,23 @@ bytecodes = refl
 no_selector : line_ask (codes "bytecodes Point class ") ≡ None
 unfolding line_ask ask_with
 no_selector = refl
+
+until : line_ask (codes "until 100 Point class x:y:") ≡ Some (Until 100 (class_side (codes "Point")) (codes "x:y:"))
+unfolding line_ask ask_with number
+until = refl
+
+-- a run of no cycles may be asked for
+until_none : line_ask (codes "until 0 Point x") ≡ Some (Until 0 (instance_side (codes "Point")) (codes "x"))
+unfolding line_ask ask_with number
+until_none = refl
+
+until_too_many : line_ask (codes "until 1000000001 Point x") ≡ None
+unfolding line_ask ask_with number
+until_too_many = refl
+
+until_nothing : line_ask (codes "until 5 Point") ≡ None
+unfolding line_ask ask_with number
+until_nothing = refl
 
 senders : line_ask (codes "senders 12") ≡ Some (Senders (codes "12"))
 unfolding line_ask ask_with

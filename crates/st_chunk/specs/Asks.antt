@@ -10,13 +10,14 @@ pub record Side : Type 0 where
   pub meta : Bool
 
 -- An object, by its pointer; the display; the classes; the methods of a class; a method's text, or its bytecodes, by its selector; the
--- methods that send a selector.
+-- methods that send a selector; and a method to run up to, within so many cycles.
 pub data Ask : Type 0 where
   Object : ℕ → Ask
   Display Classes : Ask
   Methods : Side → Ask
   Source Bytecodes : Side → List ℕ → Ask
   Senders : List ℕ → Ask
+  Until : ℕ → Side → List ℕ → Ask
 
 abbrev pub instance_side : List ℕ → Side
 instance_side class = record { class = class; meta = false }
@@ -36,3 +37,4 @@ ask_of (declared.Methods side) = Methods (side_of side)
 ask_of (declared.Source side selector) = Source (side_of side) selector.now
 ask_of (declared.Bytecodes side selector) = Bytecodes (side_of side) selector.now
 ask_of (declared.Senders selector) = Senders selector.now
+ask_of (declared.Until cycles side selector) = Until cycles (side_of side) selector.now

@@ -6,8 +6,8 @@ use Rattle.std.specs.Cmp.Lexicographic.{pointwise}
 use Rattle.st_chunk.specs.Texts.{most, is_empty}
 use Rattle.st_chunk.specs.Groups.{is_name}
 use Rattle.st_chunk.specs.declared.request.Request.{Request}
-use Rattle.st_chunk.specs.declared.request.Request.TheVariants.{Run, Input, Mouse, Clock, Tick, State, Used, Snapshot, Browse, End, Wrong}
-use Rattle.st_chunk.specs.Asks.{Side, Ask, Object, Display, Classes, Methods, Source, Bytecodes, Senders, instance_side, class_side}
+use Rattle.st_chunk.specs.declared.request.Request.TheVariants.{Run, Trace, Input, Mouse, Clock, Tick, State, Used, Stack, Snapshot, Browse, End, Wrong}
+use Rattle.st_chunk.specs.Asks.{Side, Ask, Object, Display, Classes, Methods, Source, Bytecodes, Senders, Until, instance_side, class_side}
 
 -- NUMBERS
 
@@ -74,6 +74,11 @@ method_behind class text (Some others) =
 abbrev pub method_in : List ℕ → Option (Side × List ℕ)
 method_in text = option_and_then (λ class. option_and_then (λ others. method_behind class others (arguments others)) (arguments text)) (class_in text)
 
+-- a number of cycles, and a method
+abbrev pub until_in : List ℕ → Option Ask
+until_in text =
+    option_and_then (λ cycles. option_and_then (λ others. option_map (λ m. Until cycles m.0 m.1) (method_in others)) (arguments text)) (number 1000000000 (first_word text))
+
 -- in a line of a word and its arguments
 unfoldable pub ask_with : List ℕ → List ℕ → Option Ask
 ask_with word text =
@@ -82,6 +87,7 @@ ask_with word text =
     if is_word word (codes "source") then option_map (λ m. Source m.0 m.1) (method_in text) else
     if is_word word (codes "bytecodes") then option_map (λ m. Bytecodes m.0 m.1) (method_in text) else
     if is_word word (codes "senders") then option_map Senders (selector_in text) else
+    if is_word word (codes "until") then until_in text else
     None
 
 -- in a line of a word alone
@@ -108,10 +114,18 @@ place_of _ _ = None
 abbrev pub mouse_at : List ℕ → Option Request
 mouse_at text = place_of (number 16383 (first_word text)) (option_and_then (number 16383) (arguments text))
 
+-- a trace has a cycle or more
+abbrev pub if_some : ℕ → Option ℕ
+if_some n = if nat_le 1 n then Some n else None
+
+abbrev pub traced_cycles : List ℕ → Option ℕ
+traced_cycles text = option_and_then if_some (number 1000000 text)
+
 -- a line of a word and its arguments
 unfoldable pub with_arguments : List ℕ → List ℕ → Option Request
 with_arguments word text =
     if is_word word (codes "run") then option_map Run (number 1000000000 text) else
+    if is_word word (codes "trace") then option_map Trace (traced_cycles text) else
     if is_word word (codes "input") then option_map Input (number 65535 text) else
     if is_word word (codes "mouse") then mouse_at text else
     if is_word word (codes "clock") then option_map Clock (number 4294967295 text) else
@@ -123,6 +137,7 @@ unfoldable pub alone : List ℕ → Option Request
 alone word =
     if is_word word (codes "state") then Some State else
     if is_word word (codes "used") then Some Used else
+    if is_word word (codes "stack") then Some Stack else
     if is_word word (codes "snapshot") then Some Snapshot else
     if is_word word (codes "end") then Some End else
     None

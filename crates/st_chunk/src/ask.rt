@@ -24,4 +24,6 @@ pub enum Ask<'a> {
     Bytecodes(Side<'a>, &'a [u8]),
     /// `senders S`: the methods that send this selector.
     Senders(&'a [u8]),
+    /// `until N C S`: the first bytecode of a class's method of this selector, within so many cycles, at most 1,000,000,000.
+    Until(u32, Side<'a>, &'a [u8]),
 }

@@ -5,7 +5,7 @@ ghost use Rattle.std.specs.Char.{is_ascii_alphanumeric};
 ghost use Rattle.std.specs.Option.{option_map};
 ghost use Rattle.st_chunk.specs.Groups.{is_name};
 ghost use Rattle.st_chunk.specs.Asks.{side_of, ask_of};
-ghost use Rattle.st_chunk.specs.Lines.{word_end, first_word, arguments, pointer_in, selector_in, class_in, side_in, method_in};
+ghost use Rattle.st_chunk.specs.Lines.{word_end, first_word, arguments, pointer_in, selector_in, class_in, side_in, method_in, until_in};
 ghost use Rattle.st_chunk.specs.Lines.{ask_with, ask_alone, line_ask};
 
 use crate::ask::{Ask, Side};
@@ -90,6 +90,15 @@ fn method_in(text: &[u8]) -> Option<(Side<'_>, &[u8])>
     }
 }
 
+/// A method to run up to, within so many cycles: `N NAME S`, or `N NAME class S`.
+fn until_in(text: &[u8]) -> Option<Ask<'_>>
+    ensures { option_map ask_of result ≡ until_in text.now }
+{
+    let cycles = read_number(1_000_000_000, first_word(text))?;
+    let (side, selector) = method_in(arguments(text)?)?;
+    Some(Ask::Until(cycles, side, selector))
+}
+
 /// What a line of a word and its arguments asks to look at.
 #[tactic(auto, unfolding(crate::specs::Lines::ask_with))]
 fn ask_with<'a>(word: &[u8], text: &'a [u8]) -> Option<Ask<'a>>
@@ -111,6 +120,9 @@ fn ask_with<'a>(word: &[u8], text: &'a [u8]) -> Option<Ask<'a>>
     }
     if word == b"senders".as_slice() {
         return Some(Ask::Senders(selector_in(text)?));
+    }
+    if word == b"until".as_slice() {
+        return until_in(text);
     }
     None
 }

@@ -2,7 +2,7 @@
 ghost use Rattle.std.specs.Prelude.{◌≡◌, ◌≤◌, ◌==◌, not, take, drop, IfSome, Option};
 ghost use Rattle.std.specs.Option.{option_copied, option_map};
 ghost use Rattle.st_chunk.specs.Texts.{is_blank, is_empty};
-ghost use Rattle.st_chunk.specs.Lines.{number, word_end, first_word, arguments, mouse_at, with_arguments, alone, by_words, in_grammar, line_request};
+ghost use Rattle.st_chunk.specs.Lines.{number, word_end, first_word, arguments, mouse_at, traced_cycles, with_arguments, alone, by_words, in_grammar, line_request};
 
 use crate::browsing::line_ask;
 use crate::request::Request;
@@ -81,6 +81,14 @@ fn mouse_at(text: &[u8]) -> Option<Request>
     Some(Request::Mouse(x as u16, y as u16))
 }
 
+/// How many cycles a trace has: a number from 1 to 1,000,000.
+fn traced_cycles(text: &[u8]) -> Option<u32>
+    ensures { result ≡ traced_cycles text.now }
+{
+    let cycles = read_number(1_000_000, text)?;
+    if cycles >= 1 { Some(cycles) } else { None }
+}
+
 /// What a line of a word and its arguments asks for.
 #[tactic(auto, unfolding(crate::specs::Lines::with_arguments))]
 fn with_arguments(word: &[u8], text: &[u8]) -> Option<Request>
@@ -88,6 +96,9 @@ fn with_arguments(word: &[u8], text: &[u8]) -> Option<Request>
 {
     if word == b"run".as_slice() {
         return Some(Request::Run(read_number(1_000_000_000, text)?));
+    }
+    if word == b"trace".as_slice() {
+        return Some(Request::Trace(traced_cycles(text)?));
     }
     if word == b"input".as_slice() {
         return Some(Request::Input(read_number(65_535, text)? as u16));
@@ -114,6 +125,9 @@ fn alone(word: &[u8]) -> Option<Request>
     }
     if word == b"used".as_slice() {
         return Some(Request::Used);
+    }
+    if word == b"stack".as_slice() {
+        return Some(Request::Stack);
     }
     if word == b"snapshot".as_slice() {
         return Some(Request::Snapshot);

@@ -11,7 +11,7 @@ use Rattle.st_model.specs.Table.{Table, entry}
 use Rattle.st_model.specs.Text.{value_text, values_text, numbers_text, kind_text, colon_text, object_text, escaped, hexadecimal}
 use Rattle.st_model.specs.View.{View, object_of}
 use Rattle.st_model.specs.BitBlt.{Form}
-use Rattle.st_chunk.specs.Asks.{Ask, Object as AsksObject, Display, Classes, Methods, Source, Bytecodes, Senders}
+use Rattle.st_chunk.specs.Asks.{Ask, Object as AsksObject, Display, Classes, Methods, Source, Bytecodes, Senders, Until}
 use Rattle.st_browse.specs.Naming.{Named}
 use Rattle.st_browse.specs.Classes.{classes}
 use Rattle.st_browse.specs.Methods.{methods, has_method, method_named}
@@ -205,3 +205,4 @@ asked_lines v ds (Source side selector) =
     then_there (source_in v.objects selector text) (class_of_side v side) (source_said v.objects selector text)
 asked_lines v ds (Bytecodes side selector) = then_there (bytecodes_in v.objects selector) (class_of_side v side) (bytecodes_said v.objects selector)
 asked_lines v ds (Senders selector) = senders_said v.objects selector (classes v.objects v.head.globals)
+asked_lines v ds (Until cycles side selector) = then_there (bytecodes_in v.objects selector) (class_of_side v side) (bytecodes_said v.objects selector)

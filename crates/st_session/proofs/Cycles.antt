@@ -1,7 +1,6 @@
 -- What a run of the code says, and where it stops, is what the book's machine does.
-use Rattle.std.proofs.Common.{◌≡◌, ℕ, zero, suc, ◌+◌, ◌-◌, ◌≤◌, List, [], ◌∷◌, ◌++◌, map, Bool, true, false, Option, Some, None, refl, sym, ap, subst, ◌∙◌, append-nil, append_assoc, arith}
-use Rattle.std.specs.Prelude.{Result, Ok, Err, OnOk, IfOk, IsErr, if◌then◌else◌}
-use Rattle.std.specs.List.{flat_map}
+use Rattle.std.proofs.Common.{◌≡◌, ℕ, zero, suc, ◌+◌, ◌-◌, List, [], ◌∷◌, ◌++◌, Bool, true, false, Option, Some, None, refl, sym, ap, subst, ◌∙◌, append-nil, append_assoc, arith}
+use Rattle.std.specs.Prelude.{Result, Ok, Err, IfOk, if◌then◌else◌}
 use Rattle.st_model.specs.declared.dead.Dead.{Dead}
 use Rattle.st_model.specs.declared.demand.Demand.{Demand}
 use Rattle.st_model.specs.declared.oop.Oop.{Oop}
@@ -27,7 +26,7 @@ use Rattle.st_machine.specs.Runs.{EndsAs, cycles_of, transition_at, death_of}
 use Rattle.st_session.specs.Points.{Being, Alive, Gone}
 use Rattle.st_session.specs.Runs.{end_text}
 use Rattle.st_session.specs.Standing.{IsBeing}
-use Rattle.st_session.specs.Stretches.{Stop, Over, Asked, Stretch, words_of, saying, over, asking, cycle_stretch, stretch, StopsAs, went, PushesStretch}
+use Rattle.st_session.specs.Stretches.{Stretch, words_of, saying, over, asking, cycle_stretch, stretch, StopsAs, went, PushesStretch}
 
 -- what follows where so many cycles are finished, so many are left, and the machine has come to this
 abbrev stretch_at : ℕ → ℕ → Transition (State Births) Ending → Stretch
@@ -66,7 +65,7 @@ stretch_is (suc k) n s = onward (cycle births s) (λ t. stretch_is k (suc n) t)
 -- an ending that names nothing is the same under other names
 
 -- what the births end as where the table ends so
-abbrev Back : (ℕ → ℕ) → Ending → Ending → Type 0
+abbrev pub Back : (ℕ → ℕ) → Ending → Ending → Type 0
 Back f (With outcome.Went) x = x ≡ With outcome.Went
 Back f (With outcome.Snapshot) x = x ≡ With outcome.Snapshot
 Back f (With outcome.Quit) x = x ≡ With outcome.Quit
@@ -82,7 +81,7 @@ back_itself f (With outcome.Debugger) = refl
 back_itself f (With (outcome.Say v)) = (v, refl, refl)
 back_itself f (Space demand left) = refl
 
-back : (f : ℕ → ℕ) (a x : Ending) → a ≡ renamed_ending f x → Back f a x
+pub back : (f : ℕ → ℕ) (a x : Ending) → a ≡ renamed_ending f x → Back f a x
 back f a x e = rw e (back_itself f x)
 
 -- what is said of a kept object is what is said of the one that is shown
@@ -101,7 +100,7 @@ borne_is [] n p e = cc
 borne_is (b ∷ h) zero p e = kept_is b.kept b.pointer p e
 borne_is (b ∷ h) (suc n) p e = borne_is h n p e
 
-value_said : (c : State Table) (s : State Births) (v : Value) → Shows c s → IsLive (IsKept s.memory) v → said_value s.memory v ≡ said_in c.memory (renamed (pointer_of s.memory) v)
+pub value_said : (c : State Table) (s : State Births) (v : Value) → Shows c s → IsLive (IsKept s.memory) v → said_value s.memory v ≡ said_in c.memory (renamed (pointer_of s.memory) v)
 value_said c s (Small n) w live = refl
 value_said c s (Ref n) w live =
     let o = born_kept s.memory n live.0 live.1 in
@@ -114,7 +113,7 @@ pub words_both : (a b : List (List ℕ)) → words_of (a ++ b) ≡ words_of a ++
 words_both [] b = refl
 words_both (x ∷ a) b = ap (λ t. x ++ t) (words_both a b) ∙ sym (append_assoc x (words_of a) (words_of b))
 
-saying_both : (a b : List (List ℕ)) (r : Stretch) → saying (a ++ b) r ≡ saying a (saying b r)
+pub saying_both : (a b : List (List ℕ)) (r : Stretch) → saying (a ++ b) r ≡ saying a (saying b r)
 saying_both a b r = ap (λ t. record { texts = t; stop = r.stop }) (append_assoc a b r.texts)
 
 module _ (d k : ℕ) (c : State Table) where

@@ -26,7 +26,7 @@ use Rattle.st_protocol.specs.declared.status.Status.TheVariants as status
 use Rattle.st_protocol.specs.Statuses.{StatusHasCause, EndHasCause, Counts}
 use Rattle.st_protocol.proofs.Counting.{front_of}
 use Rattle.st_recover.specs.Images.{IsReadable}
-use Rattle.st_recover.specs.Commits.{Commit, OpensAs, all_of, stored_of, image_with}
+use Rattle.st_recover.specs.Commits.{Commit, OpensAs, all_of, stored_of}
 use Rattle.st_recover.specs.Openings.{RefusesOpening, IsOfReopening}
 use Rattle.st_recover.specs.declared.fault.OpenFault.{OpenFault}
 use Rattle.st_recover.specs.declared.fault.OpenFault.TheVariants as opening
@@ -35,19 +35,19 @@ use Rattle.st_call.specs.LastLines.{last_line, SaysLastLine}
 use Rattle.st_session.specs.Commands.{opening_status}
 use Rattle.st_session.specs.Ends.{IsCalm, status_in}
 use Rattle.st_call.specs.Telling.{Tells}
-use Rattle.st_session.specs.Exports.{Export, exporting, exporting_saved, written, IsOfExporting, IsOfExport, LeavesOthers, HasExported, HasImage, ExportHas, Stays}
+use Rattle.st_session.specs.Exports.{Export, ExportsImage, ExportsSaved, written, IsOfExporting, IsOfExport, LeavesOthers, HasExported, HasImage, ExportHas, Stays}
+use Rattle.st_session.specs.declared.extent.Extent.{Extent}
 use Rattle.st_session.proofs.Commanded.{cause_between, opens_still}
-use Rattle.st_session.proofs.Snapshots.{image_shown}
 
 -- WHAT SAVING COMES TO
 
-pub saved_export : (c : State Table) (x : Transition (State Births) Unit) → SavedAs (Ok tt) c x → ((s : State Births) → Shows c s → show s ≡ c) → exporting (image_with c.memory c.head) ≡ exporting_saved x
-saved_export c (Died k) w shown = absurd w
-saved_export c (Went u s) w shown = ap exporting (sym (image_shown s c (shown s w)))
+pub saved_export : (extent : Extent) (c : State Table) (x : Transition (State Births) Unit) → SavedAs (Ok tt) c x → ((s : State Births) → Shows c s → show s ≡ c) → (y : Export) → ExportsImage extent c.memory c.head y → ExportsSaved extent x y
+saved_export extent c (Died k) w shown y is = absurd w
+saved_export extent c (Went u s) w shown y is = subst (λ (d : State Table). ExportsImage extent d.memory d.head y) (sym (shown s w)) is
 
-pub died_export : (cause : Dead) (c : State Table) (x : Transition (State Births) Unit) → SavedAs (Err cause) c x → record { image = None; text = dead_text 0 cause } ≡ exporting_saved x
-died_export cause c (Died k) w = λ i. exporting_saved (Died (sym w i))
-died_export cause c (Went u s) w = absurd w
+pub died_export : (extent : Extent) (cause : Dead) (c : State Table) (x : Transition (State Births) Unit) → SavedAs (Err cause) c x → ExportsSaved extent x (record { image = None; text = dead_text 0 cause })
+died_export extent cause c (Died k) w = λ i. record { image = None; text = dead_text 0 (sym w i) }
+died_export extent cause c (Went u s) w = absurd w
 
 -- nothing more was said
 none_more : (before now : List ℕ) → SaidPart before [] now → now ≡ before
@@ -107,12 +107,36 @@ module _ {D : Type 0} (host : Ghosts D) (name : List ℕ) where
   told_kind text mid new (Err e) tells = subst IsOfExporting (sym tells.fault) tt
 
   -- the file has been written, and the text is said
-  pub has_told : (x : Export) (old mid new : D) (result : Result Unit Status) → IsTrue host.is_told → host.files mid name ≡ written x.image (host.files old name) → host.said mid ≡ host.said old
-      → Tells host x.text mid new result → HasExported host name x old new result
-  has_told x old mid new (Ok u) told file quiet tells = (tells.says.alike.same told name ∙ file, tells.all.is told ∙ ap (λ (t : List ℕ). t ++ x.text) quiet)
-  has_told x old mid new (Err e) told file quiet tells =
-      subst (λ (d : Status). HasExported host name x old new (Err d)) (sym tells.fault)
-      (tells.says.alike.same told name ∙ file, subst (λ (t : List ℕ). SaidPart t x.text (host.said new)) quiet (tells.says.part.part told))
+  pub has_told : (exports : Export → Type 0) (x : Export) (old mid new : D) (result : Result Unit Status) → exports x → IsTrue host.is_told → host.files mid name ≡ written x.image (host.files old name) → host.said mid ≡ host.said old
+      → Tells host x.text mid new result → HasExported host name exports old new result
+  has_told exports x old mid new (Ok u) is told file quiet tells = record {
+    export = x;
+    is = is;
+    file = tells.says.alike.same told name ∙ file;
+    said = tells.all.is told ∙ ap (λ (t : List ℕ). t ++ x.text) quiet;
+  }
+  has_told exports x old mid new (Err e) is told file quiet tells =
+      subst (λ (d : Status). HasExported host name exports old new (Err d)) (sym tells.fault) (record {
+        export = x;
+        is = is;
+        file = tells.says.alike.same told name ∙ file;
+        said = subst (λ (t : List ℕ). SaidPart t x.text (host.said new)) quiet (tells.says.part.part told);
+      })
+
+  -- an export of some is one of others
+  pub exported_as : (some others : Export → Type 0) (old new : D) (result : Result Unit Status) → ((x : Export) → some x → others x) → HasExported host name some old new result → HasExported host name others old new result
+  exported_as some others old new (Ok u) are h = record { export = h.export; is = are h.export h.is; file = h.file; said = h.said }
+  exported_as some others old new (Err status.SayFault) are h = record { export = h.export; is = are h.export h.is; file = h.file; said = h.said }
+  exported_as some others old new (Err status.DiskFault) are h = h
+  exported_as some others old new (Err status.OutOfMemory) are h = h
+  exported_as some others old new (Err status.Done) are h = h
+  exported_as some others old new (Err status.Usage) are h = h
+  exported_as some others old new (Err (status.Image f)) are h = h
+  exported_as some others old new (Err (status.Script n)) are h = h
+  exported_as some others old new (Err status.ReadFault) are h = h
+  exported_as some others old new (Err (status.Store f)) are h = h
+  exported_as some others old new (Err (status.Kernel chunk cause)) are h = h
+  exported_as some others old new (Err status.TooLarge) are h = h
 
 -- BEHIND THE OPENING
 
@@ -174,25 +198,31 @@ module _ {D : Type 0} (host : Ghosts D) (store image : List ℕ) where
   has_image (Some bytes) old mid new is same = is
 
   -- what is so of what was done, with the last line behind it
-  pub export_has : (x : Export) (r : Result Unit Status) (old mid closed new : D) → IsTrue host.is_told → IfErr r IsOfExporting → HasExported host image x mid closed r
+  pub export_has : (exports : Export → Type 0) (r : Result Unit Status) (old mid closed new : D) → IsTrue host.is_told → IfErr r IsOfExporting → HasExported host image exports mid closed r
       → (IsNoFileOf store image → host.files mid image ≡ host.files old image) → host.said mid ≡ host.said old → host.say_faults old ≤ host.say_faults closed
-      → ReadsAlike host closed new → SaysLastLine host (status_in r) closed new → ExportHas host store image x old new (status_in r)
-  export_has x (Ok u) old mid closed new told kind has same quiet low alike line =
-      (has_image x.image old mid new (alike.same told image ∙ has.0) same, none_more (host.said closed) (host.said new) (line.part told) ∙ has.1 ∙ ap (λ (t : List ℕ). t ++ x.text) quiet)
-  export_has x (Err status.SayFault) old mid closed new told kind has same quiet low alike line = (
-    has_image x.image old mid new (alike.same told image ∙ has.0) same,
-    subst (SaidPart (host.said old) x.text) (sym (none_more (host.said closed) (host.said new) (line.part told))) (subst (λ (t : List ℕ). SaidPart t x.text (host.said closed)) quiet has.1),
-  )
-  export_has x (Err status.DiskFault) old mid closed new told kind has same quiet low alike line = line_behind status.DiskFault old closed new (has ∙ quiet) low line
-  export_has x (Err status.OutOfMemory) old mid closed new told kind has same quiet low alike line = line_behind status.OutOfMemory old closed new (has ∙ quiet) low line
-  export_has x (Err status.Done) old mid closed new told kind has same quiet low alike line = absurd kind
-  export_has x (Err status.Usage) old mid closed new told kind has same quiet low alike line = absurd kind
-  export_has x (Err (status.Image f)) old mid closed new told kind has same quiet low alike line = absurd kind
-  export_has x (Err (status.Script n)) old mid closed new told kind has same quiet low alike line = absurd kind
-  export_has x (Err status.ReadFault) old mid closed new told kind has same quiet low alike line = absurd kind
-  export_has x (Err (status.Store f)) old mid closed new told kind has same quiet low alike line = absurd kind
-  export_has x (Err (status.Kernel chunk cause)) old mid closed new told kind has same quiet low alike line = absurd kind
-  export_has x (Err status.TooLarge) old mid closed new told kind has same quiet low alike line = absurd kind
+      → ReadsAlike host closed new → SaysLastLine host (status_in r) closed new → ExportHas host store image exports old new (status_in r)
+  export_has exports (Ok u) old mid closed new told kind has same quiet low alike line = record {
+    export = has.export;
+    is = has.is;
+    in_file = has_image has.export.image old mid new (alike.same told image ∙ has.file) same;
+    said = none_more (host.said closed) (host.said new) (line.part told) ∙ has.said ∙ ap (λ (t : List ℕ). t ++ has.export.text) quiet;
+  }
+  export_has exports (Err status.SayFault) old mid closed new told kind has same quiet low alike line = record {
+    export = has.export;
+    is = has.is;
+    in_file = has_image has.export.image old mid new (alike.same told image ∙ has.file) same;
+    said = subst (SaidPart (host.said old) has.export.text) (sym (none_more (host.said closed) (host.said new) (line.part told))) (subst (λ (t : List ℕ). SaidPart t has.export.text (host.said closed)) quiet has.said);
+  }
+  export_has exports (Err status.DiskFault) old mid closed new told kind has same quiet low alike line = line_behind status.DiskFault old closed new (has ∙ quiet) low line
+  export_has exports (Err status.OutOfMemory) old mid closed new told kind has same quiet low alike line = line_behind status.OutOfMemory old closed new (has ∙ quiet) low line
+  export_has exports (Err status.Done) old mid closed new told kind has same quiet low alike line = absurd kind
+  export_has exports (Err status.Usage) old mid closed new told kind has same quiet low alike line = absurd kind
+  export_has exports (Err (status.Image f)) old mid closed new told kind has same quiet low alike line = absurd kind
+  export_has exports (Err (status.Script n)) old mid closed new told kind has same quiet low alike line = absurd kind
+  export_has exports (Err status.ReadFault) old mid closed new told kind has same quiet low alike line = absurd kind
+  export_has exports (Err (status.Store f)) old mid closed new told kind has same quiet low alike line = absurd kind
+  export_has exports (Err (status.Kernel chunk cause)) old mid closed new told kind has same quiet low alike line = absurd kind
+  export_has exports (Err status.TooLarge) old mid closed new told kind has same quiet low alike line = absurd kind
 
   -- THE STORE STAYS
 

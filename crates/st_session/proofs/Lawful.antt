@@ -1,13 +1,14 @@
 -- A session acknowledges each commit that it makes, and nothing else.
-use Rattle.std.proofs.Common.{◌≡◌, ℕ, zero, suc, Bool, true, false, List, [], ◌∷◌, length, refl}
-use Rattle.std.specs.Prelude.{codes, nat_le, take, Option, Some, None}
+use Rattle.std.proofs.Common.{◌≡◌, ℕ, zero, suc, Bool, true, false, List, [], ◌∷◌, length, map, refl}
+use Rattle.std.specs.Prelude.{codes, nat_le, take, Option, Some, None, if◌then◌else◌}
 use Rattle.st_model.specs.declared.dead.Dead.{Dead}
 use Rattle.st_model.specs.declared.event.Event.TheVariants as event
 use Rattle.st_model.specs.Outcomes.{Ending, With, Space}
 use Rattle.st_model.specs.Outcomes as outcome
 use Rattle.st_model.specs.Machine.{State, Transition, Died, Went}
 use Rattle.st_model.specs.Births.{Births, births}
-use Rattle.st_model.specs.Table.{total_used}
+use Rattle.st_model.specs.Table.{Table, total_used}
+use Rattle.st_model.specs.Values.{Value}
 use Rattle.st_model.specs.Objects.{one, words_of}
 use Rattle.st_model.specs.Cycles.{cycle}
 use Rattle.st_model.specs.Events as events
@@ -16,8 +17,8 @@ use Rattle.st_model.specs.Show.{show}
 use Rattle.st_model.specs.Text.{ran_text, dead_text, space_text, quit_text, debugger_text, said_value, used_text}
 use Rattle.st_chunk.specs.Definitions.{Definition, IsDefinition}
 use Rattle.st_chunk.specs.declared.request.Request.{Request}
-use Rattle.st_chunk.specs.declared.request.Request.TheVariants.{Run, Input, Mouse, Clock, Tick, State as ShowState, Used, Snapshot, Browse, End, Define, Wrong}
-use Rattle.st_chunk.specs.Asks.{Ask}
+use Rattle.st_chunk.specs.declared.request.Request.TheVariants.{Run, Trace, Input, Mouse, Clock, Tick, State as ShowState, Used, Stack, Snapshot, Browse, End, Define, Wrong}
+use Rattle.st_chunk.specs.Asks.{Ask, Object, Display, Classes, Methods, Source, Bytecodes, Senders, Until}
 use Rattle.st_chunk.specs.Reading.{Reading, line_from}
 use Rattle.st_chunk.specs.Scripts.{Asked, Asks, Browses, Defines, IsSound, asked_from, told_from}
 use Rattle.st_chunk.proofs.Asking.{AreGood, IsGood, asked_good, told_good}
@@ -32,11 +33,17 @@ use Rattle.st_recover.specs.Replays.{Loss}
 use Rattle.st_session.specs.Points.{Being, Alive, Gone, Point, alive}
 use Rattle.st_session.specs.Keeping.{Keeping, image_of, saved, in_a_store}
 use Rattle.st_session.specs.Browsing.{asked_text, memory_of}
-use Rattle.st_call.specs.Replies.{ok_text, full_text, machine_text, accepted_text, refused_text}
+use Rattle.st_call.specs.Replies.{ok_text, full_text, missing_text, machine_text, accepted_text, refused_text}
 use Rattle.st_session.specs.FirstLines.{opening_text}
-use Rattle.st_session.specs.Answers.{dead_line, browse_course, event_course, going_on, cycle_course, run_course, living_line, line_course, defined_course, definition_course, answer}
+use Rattle.st_session.specs.Answers.{dead_line, browse_course, event_course, going_on, cycle_course, run_course, looked, look_at, watched_course, until_course, named_course, living_line, line_course, defined_course, definition_course, answer}
 use Rattle.st_session.specs.Sessions.{longest, follow, follow_rest, follow_script, session, session_so_far}
+use Rattle.st_machine.specs.Prepared.{prepared}
+use Rattle.st_debug.specs.Stack.{stack_text}
+use Rattle.st_debug.specs.Watched.{At, watched, is_entered}
+use Rattle.st_browse.specs.Asked.{method_of_side}
+use Rattle.st_session.specs.Watching.{Look, Says, Stops, bytecode_texts, bytecode_seen, entry_seen, stopped_text}
 use Rattle.st_session.proofs.BrowsedLines.{asked_lines}
+use Rattle.st_session.proofs.SeenLines.{at_lines, stack_said, missing_lines}
 use Rattle.st_session.proofs.WholeLines.{numbers_lines, dead_lines, machine_lines, said_value_lines, accepted_lines, refused_lines, opening_lines, snapshot_lines}
 
 -- COURSES
@@ -69,6 +76,31 @@ pub record KeepsLawfully {C : Type 0} (keeping : Keeping C) : Type 0 where
 abbrev pub InstallsInLine : Install → Type 0
 InstallsInLine install = (d : Definition) (s : State Births) (selector : List ℕ) (t : State Births) → install d s ≡ Accepted selector t → IsInLine selector
 
+-- texts are whole lines
+abbrev AreLines : List (List ℕ) → Type 0
+AreLines [] = Unit {0}
+AreLines (t ∷ texts) = IsLines 0 t × AreLines texts
+
+-- what is seen is said in whole lines
+abbrev SaysLines : Look → Type 0
+SaysLines (Says texts) = AreLines texts
+SaysLines Stops = Unit {0}
+
+seen_lines : (o : Option At) → AreLines (bytecode_texts o)
+seen_lines None = tt
+seen_lines (Some at) = (at_lines at, tt)
+
+trace_lines : (n : ℕ) (d : State Table) → SaysLines (bytecode_seen n d)
+trace_lines n d = seen_lines (watched d)
+
+stop_lines : (b : Bool) → SaysLines (if b then Stops else Says [])
+stop_lines true = tt
+stop_lines false = tt
+
+entry_lines : (method : Value) (n : ℕ) (d : State Table) → SaysLines (entry_seen method n d)
+entry_lines method zero d = tt
+entry_lines method (suc n) d = stop_lines (is_entered d method)
+
 module _ {C : Type 0} where
   dead_lawful : (cause : Dead) (c : C) (request : Request) → KeepsLaw (dead_line cause c request)
   dead_lawful cause c End = tt
@@ -80,10 +112,6 @@ module _ {C : Type 0} where
   event_lawful s c (Some t) = said ok_text (record { whole = refl; count = refl })
 
   module _ (keeping : Keeping C) (laws : KeepsLawfully keeping) where
-    browse_lawful : (b : Being) (c : C) (ask : Ask) → KeepsLaw (browse_course keeping b c ask)
-    browse_lawful (Alive s) c ask = let m = memory_of (show s) in said (asked_text m (keeping.listed c) ask) (asked_lines m (keeping.listed c) ask)
-    browse_lawful (Gone cause) c ask = said (dead_text 0 cause) (dead_lines 0 cause)
-
     going_lawful : (f : State Births → C → Course C (Point C)) (b : Being) (c : C) → ((t : State Births) (d : C) → KeepsLaw (f t d)) → KeepsLaw (going_on keeping f b c)
     going_lawful f (Alive s) c h = h s c
     going_lawful f (Gone cause) c h = (tt, tt)
@@ -102,14 +130,58 @@ module _ {C : Type 0} where
     run_lawful zero n s c = said (ran_text n) (numbers_lines 0 (codes "ran") (n ∷ []) refl refl)
     run_lawful (suc k) n s c = cycle_lawful n (cycle births s) (run_course keeping (suc n) k) c (λ t d. run_lawful k (suc n) t d)
 
+    -- A RUN THAT IS WATCHED
+
+    replies_law : (texts : List (List ℕ)) → AreLines texts → AcknowledgesEach {C = C} (map Reply texts)
+    replies_law [] h = tt
+    replies_law (x ∷ texts) h = (h.0, replies_law texts h.1)
+
+    looked_lawful : (l : Look) (n : ℕ) (t : State Births) (c : C) (rest : Course C (Point C)) → SaysLines l → KeepsLaw rest → KeepsLaw (looked keeping l n t c rest)
+    looked_lawful (Says texts) n t c rest lines h = preceded_law (map Reply texts) rest (replies_law texts lines) h
+    looked_lawful Stops n t c rest lines h = said (stopped_text n) (numbers_lines 0 (codes "stopped") (n ∷ []) refl refl)
+
+    look_lawful : (look : State Table → Look) (n : ℕ) (p : Transition (State Births) Unit) (c : C) (rest : Course C (Point C)) → ((d : State Table) → SaysLines (look d)) → KeepsLaw rest → KeepsLaw (look_at keeping look n p c rest)
+    look_lawful look n (Died cause) c rest lines h = h
+    look_lawful look n (Went u t) c rest lines h = looked_lawful (look (show t)) n t c rest (lines (show t)) h
+
+    watched_lawful : (look : ℕ → State Table → Look) → ((n : ℕ) (d : State Table) → SaysLines (look n d)) → (k n : ℕ) (s : State Births) (c : C) → KeepsLaw (watched_course keeping look n k s c)
+    unfolding watched_course
+    watched_lawful look lines zero n s c = said (ran_text n) (numbers_lines 0 (codes "ran") (n ∷ []) refl refl)
+    watched_lawful look lines (suc k) n s c =
+        look_lawful (look n) n (prepared s) c (cycle_course keeping n (cycle births s) (watched_course keeping look (suc n) k) c) (lines n)
+        (cycle_lawful n (cycle births s) (watched_course keeping look (suc n) k) c (λ t d. watched_lawful look lines k (suc n) t d))
+
+    until_lawful : (cycles : ℕ) (s : State Births) (c : C) (o : Option Value) → KeepsLaw (until_course keeping cycles s c o)
+    until_lawful cycles s c None = said missing_text missing_lines
+    until_lawful cycles s c (Some method) = watched_lawful (entry_seen method) (entry_lines method) cycles 0 s c
+
+    looks_lawful : (s : State Births) (c : C) (ask : Ask) → KeepsLaw (replies {C = C} (asked_text (memory_of (show s)) (keeping.listed c) ask) (alive s c))
+    looks_lawful s c ask = let m = memory_of (show s) in said (asked_text m (keeping.listed c) ask) (asked_lines m (keeping.listed c) ask)
+
+    named_lawful : (s : State Births) (c : C) (ask : Ask) → KeepsLaw (named_course keeping s c ask)
+    named_lawful s c (Until cycles side selector) = until_lawful cycles s c (method_of_side (memory_of (show s)) side selector)
+    named_lawful s c (Object n) = looks_lawful s c (Object n)
+    named_lawful s c Display = looks_lawful s c Display
+    named_lawful s c Classes = looks_lawful s c Classes
+    named_lawful s c (Methods side) = looks_lawful s c (Methods side)
+    named_lawful s c (Source side selector) = looks_lawful s c (Source side selector)
+    named_lawful s c (Bytecodes side selector) = looks_lawful s c (Bytecodes side selector)
+    named_lawful s c (Senders selector) = looks_lawful s c (Senders selector)
+
+    browse_lawful : (b : Being) (c : C) (ask : Ask) → KeepsLaw (browse_course keeping b c ask)
+    browse_lawful (Alive s) c ask = named_lawful s c ask
+    browse_lawful (Gone cause) c ask = said (dead_text 0 cause) (dead_lines 0 cause)
+
     living_lawful : (s : State Births) (c : C) (request : Request) → KeepsLaw (living_line keeping s c request)
     living_lawful s c (Run n) = run_lawful n 0 s c
+    living_lawful s c (Trace n) = watched_lawful bytecode_seen trace_lines n 0 s c
     living_lawful s c (Input word) = event_lawful s c (events.event births (event.Word word) s)
     living_lawful s c (Mouse x y) = event_lawful s c (events.event births (event.Mouse x y) s)
     living_lawful s c (Clock time) = event_lawful s c (events.event births (event.Clock time) s)
     living_lawful s c (Tick time) = event_lawful s c (events.event births (event.Tick time) s)
     living_lawful s c ShowState = said (machine_text (show s)) (machine_lines (show s))
     living_lawful s c Used = said (used_text (show s).memory) (numbers_lines 0 (codes "used") (total_used one (show s).memory ∷ total_used words_of (show s).memory ∷ []) refl refl)
+    living_lawful s c Stack = said (stack_text (show s).memory (show s).registers.active) (stack_said (show s).memory (show s).registers.active)
     living_lawful s c Snapshot = laws.snapshot 0 s c
     living_lawful s c Browse = (tt, tt)
     living_lawful s c End = tt

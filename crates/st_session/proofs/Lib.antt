@@ -23,4 +23,8 @@ pub mod Snapshots
 pub mod Sources
 pub mod Started
 pub mod Stretches
+pub mod Traced
+pub mod Watches
+pub mod Seen
+pub mod SeenLines
 pub mod WholeLines

@@ -1,5 +1,5 @@
 -- Lines that are answered.
-use Rattle.std.proofs.Common.{◌≡◌, ◌⊎◌, ◌∙◌, inl, inr, ℕ, List, [], refl, sym, ap}
+use Rattle.std.proofs.Common.{◌≡◌, ◌⊎◌, inl, inr, ℕ, List, [], refl, sym, ap}
 use Rattle.std.specs.Prelude.{Option, Some, None, Result, Ok, Err}
 use Rattle.st_model.specs.declared.dead.Dead.{Dead}
 use Rattle.st_model.specs.declared.event.Event.TheVariants as event
@@ -8,7 +8,7 @@ use Rattle.st_model.specs.Events as events
 use Rattle.st_model.specs.Machine.{State}
 use Rattle.st_model.specs.Births.{Births, births}
 use Rattle.st_model.specs.Table.{Table}
-use Rattle.st_model.specs.Show.{Shows}
+use Rattle.st_model.specs.Show.{Shows, show}
 use Rattle.st_model.specs.Text.{dead_text}
 use Rattle.st_host.specs.declared.host.Host.{Ghosts}
 use Rattle.st_host.specs.declared.host.SayFault.{SayFault}
@@ -16,7 +16,9 @@ use Rattle.st_call.specs.Saying.{Pushes}
 use Rattle.st_machine.specs.Asked.{TakenAs}
 use Rattle.st_chunk.specs.declared.request.Request.{Request}
 use Rattle.st_chunk.specs.declared.request.Request.TheVariants as request
-use Rattle.st_chunk.specs.Asks.{Ask}
+use Rattle.st_chunk.specs.Asks.{Ask, ask_of}
+use Rattle.st_chunk.specs.declared.ask.Ask.{Ask as DeclaredAsk}
+use Rattle.st_chunk.specs.declared.ask.Ask.TheVariants as declared
 use Rattle.st_chunk.specs.Reading.{Place, Browsed, Defined, CutOff}
 use Rattle.st_chunk.specs.Scripts.{Asks, Browses, Defines, IsBrowsed, HasAsk, IsDefined, HasDefinition, asked_at}
 use Rattle.st_chunk.specs.Definitions.{Definition}
@@ -24,7 +26,8 @@ use Rattle.st_protocol.specs.Courses.{Goes, replies}
 use Rattle.st_session.specs.Points.{Point, alive, gone}
 use Rattle.st_session.specs.Keeping.{Keeping}
 use Rattle.st_call.specs.Replies.{ok_text, full_text}
-use Rattle.st_session.specs.Answers.{dead_line, event_course, living_line}
+use Rattle.st_session.specs.Answers.{dead_line, event_course, named_course, living_line}
+use Rattle.st_session.specs.Browsing.{asked_text, memory_of}
 use Rattle.st_session.specs.Asking.{IsSaying}
 use Rattle.st_session.specs.Pushing.{PushesCourse}
 use Rattle.st_session.proofs.Saying.{KeepsNone}
@@ -43,20 +46,22 @@ module _ {D C : Type 0} (host : Ghosts D) (at : Point C → Type 0) (s : State B
   full None f {result = result} taken stands run = course_replies host at full_text (alive s k) run (all_ok result stands)
   full (Some t) f taken stands run = absurd taken
 
--- what asks neither for a run, a snapshot, the end nor a definition, nor to look at something, and isn't wrong, asks for lines
-pub says_lines : (r : Request) → ((n : ℕ) → r ≡ request.Run n → ⊥) → (r ≡ request.Snapshot → ⊥) → (r ≡ request.End → ⊥) → ((line : ℕ) → r ≡ request.Wrong line → ⊥) → (r ≡ request.Define → ⊥) → (r ≡ request.Browse → ⊥) → IsSaying r
-says_lines (request.Run n) u v e w d b = u n refl
-says_lines (request.Input word) u v e w d b = tt
-says_lines (request.Mouse x y) u v e w d b = tt
-says_lines (request.Clock time) u v e w d b = tt
-says_lines (request.Tick time) u v e w d b = tt
-says_lines request.State u v e w d b = tt
-says_lines request.Used u v e w d b = tt
-says_lines request.Snapshot u v e w d b = v refl
-says_lines request.Browse u v e w d b = b refl
-says_lines request.End u v e w d b = e refl
-says_lines request.Define u v e w d b = d refl
-says_lines (request.Wrong line) u v e w d b = w line refl
+-- what asks neither for a run, watched or not, the stack, a snapshot, the end nor a definition, nor to look at something, and isn't wrong, asks for lines
+pub says_lines : (r : Request) → ((n : ℕ) → r ≡ request.Run n → ⊥) → ((n : ℕ) → r ≡ request.Trace n → ⊥) → (r ≡ request.Stack → ⊥) → (r ≡ request.Snapshot → ⊥) → (r ≡ request.End → ⊥) → ((line : ℕ) → r ≡ request.Wrong line → ⊥) → (r ≡ request.Define → ⊥) → (r ≡ request.Browse → ⊥) → IsSaying r
+says_lines (request.Run n) u t k v e w d b = u n refl
+says_lines (request.Trace n) u t k v e w d b = t n refl
+says_lines request.Stack u t k v e w d b = k refl
+says_lines (request.Input word) u t k v e w d b = tt
+says_lines (request.Mouse x y) u t k v e w d b = tt
+says_lines (request.Clock time) u t k v e w d b = tt
+says_lines (request.Tick time) u t k v e w d b = tt
+says_lines request.State u t k v e w d b = tt
+says_lines request.Used u t k v e w d b = tt
+says_lines request.Snapshot u t k v e w d b = v refl
+says_lines request.Browse u t k v e w d b = b refl
+says_lines request.End u t k v e w d b = e refl
+says_lines request.Define u t k v e w d b = d refl
+says_lines (request.Wrong line) u t k v e w d b = w line refl
 
 -- lines keep nothing
 module _ {C : Type 0} (keeping : Keeping C) (s : State Births) (k : C) where
@@ -66,6 +71,8 @@ module _ {C : Type 0} (keeping : Keeping C) (s : State Births) (k : C) where
 
   pub lines_keep : (r : Request) → IsSaying r → KeepsNone (λ (q : Point C). q.kept) k (living_line keeping s k r)
   lines_keep (request.Run n) h = absurd h
+  lines_keep (request.Trace n) h = absurd h
+  lines_keep request.Stack h = absurd h
   lines_keep (request.Input word) h = event_keeps (events.event births (event.Word word) s)
   lines_keep (request.Mouse x y) h = event_keeps (events.event births (event.Mouse x y) s)
   lines_keep (request.Clock time) h = event_keeps (events.event births (event.Clock time) s)
@@ -109,3 +116,15 @@ pub dead_is : {C : Type 0} (cause : Dead) (k : C) (r : Request) → (r ≡ reque
 dead_is cause k request.End e w = absurd (e refl)
 dead_is cause k (request.Wrong line) e w = absurd (w line refl)
 dead_is cause k r e w = refl
+
+-- what isn't to be run up to is looked at
+pub look_is : {C : Type 0} (keeping : Keeping C) (s : State Births) (k : C) (a : DeclaredAsk) → ((n : ℕ) (x : _) (y : _) → a ≡ declared.Until n x y → ⊥)
+    → named_course keeping s k (ask_of a) ≡ replies (asked_text (memory_of (show s)) (keeping.listed k) (ask_of a)) (alive s k)
+look_is keeping s k (declared.Object n) other = refl
+look_is keeping s k declared.Display other = refl
+look_is keeping s k declared.Classes other = refl
+look_is keeping s k (declared.Methods side) other = refl
+look_is keeping s k (declared.Source side selector) other = refl
+look_is keeping s k (declared.Bytecodes side selector) other = refl
+look_is keeping s k (declared.Senders selector) other = refl
+look_is keeping s k (declared.Until n side selector) other = absurd (other n side selector refl)

@@ -1,5 +1,5 @@
 -- Runs with their snapshots do what their course says.
-use Rattle.std.proofs.Common.{◌≡◌, ◌∙◌, ℕ, ◌-◌, ◌≤◌, List, [], ◌∷◌, ◌++◌, length, IsTrue, refl, sym, ap, subst, arith}
+use Rattle.std.proofs.Common.{◌≡◌, ◌∙◌, ℕ, ◌-◌, ◌≤◌, List, [], ◌++◌, length, IsTrue, refl, sym, ap, subst, arith}
 use Rattle.std.specs.Prelude.{Option, Some, None, Result, Ok, Err, OnOk}
 use Rattle.st_model.specs.declared.dead.Dead.{Dead}
 use Rattle.st_model.specs.Machine.{State, Transition, Died, Went}
@@ -20,8 +20,8 @@ use Rattle.st_machine.specs.Asked.{SavedAs}
 use Rattle.st_store.specs.Names.{IsNoFileOf}
 use Rattle.st_protocol.specs.declared.status.Status.{Status}
 use Rattle.st_protocol.specs.declared.status.Status.TheVariants as status
-use Rattle.st_protocol.specs.Courses.{Deed, Reply, Keep, Course, Goes, Ends, deeds_of, said_of, commits_of, last_of, preceded, and_then, replies}
-use Rattle.st_protocol.specs.Done.{Did, Began}
+use Rattle.st_protocol.specs.Courses.{Deed, Course, Goes, Ends, said_of, last_of, preceded, and_then, replies}
+use Rattle.st_protocol.specs.Done.{Did}
 use Rattle.st_protocol.specs.Obeying.{Obeys}
 use Rattle.st_protocol.proofs.Courses.{preceded_none, preceded_both, last_of_both, last_unkept}
 use Rattle.st_protocol.proofs.Joins.{did_none, did_join, said_did, said_began, kept_and_said, kept_unsaid, unkept as image_lost, obeys_none, obeys_as, obeys_behind, obeys_begun, obeys_then, obeys_err}
@@ -29,15 +29,18 @@ use Rattle.st_recover.specs.Archives.{ArchiveState, Holds}
 use Rattle.st_recover.specs.Commits.{Commit, OpensAs, imaged, image_with}
 use Rattle.st_session.specs.Points.{Being, Alive, Gone, Point, alive, gone}
 use Rattle.st_session.specs.Keeping.{in_a_store, imaging, image_of, saved}
-use Rattle.st_session.specs.Answers.{going_on, run_course}
+use Rattle.st_session.specs.Answers.{going_on, watched_course}
 use Rattle.st_call.specs.Replies.{snapshot_text}
 use Rattle.st_session.specs.Standing.{IsBeing, shown_by, IsAt}
-use Rattle.st_session.specs.Stretches.{Stretch, words_of, stretch, StopsAs, went, SaysStretch}
+use Rattle.st_session.specs.Stretches.{Stretch, words_of, SaysStretch}
+use Rattle.st_session.specs.Watched.{watched_stretch}
+use Rattle.st_session.specs.Watching.{Look}
 use Rattle.st_call.specs.Telling.{Tells}
 use Rattle.st_session.proofs.Holding.{holds_said, holds_rest}
 use Rattle.st_session.proofs.Points.{GoesAs}
 use Rattle.st_session.proofs.Saying.{obeys_tells, when_ok}
-use Rattle.st_session.proofs.Stretches.{replies_of, said_in_turn, unkept, onward, run_is, is_over_at, IsAskedAt, is_asked_at}
+use Rattle.st_session.proofs.Stretches.{replies_of, said_in_turn, unkept, onward, is_over_at, IsAskedAt, is_asked_at}
+use Rattle.st_session.proofs.Watches.{watched_is}
 
 -- AN IMAGE
 
@@ -131,26 +134,26 @@ module _ {D : Type 0} (host : Ghosts D) (name : List ℕ) (c : Commit) (course :
 
 -- Where so many of n cycles are finished the machine shows a state, the archive holds a commit, and what was done is the first
 -- part of the run's course from s and c.
-pub record RanSoFar {M D : Type 0} (view : M → View) (host : Ghosts D) (name : List ℕ) (n : ℕ) (s : State Births) (c : Commit) (done : ℕ) (m : Machine M) (a : ArchiveState) (old now : D) : Type 0 where
+pub record RanSoFar {M D : Type 0} (view : M → View) (host : Ghosts D) (look : ℕ → State Table → Look) (name : List ℕ) (n : ℕ) (s : State Births) (c : Commit) (done : ℕ) (m : Machine M) (a : ArchiveState) (old now : D) : Type 0 where
   pub state : State Births
   pub commit : Commit
   pub shows : Shows (shown_by view m) state
   pub holds : Holds host now a commit
-  pub first : DidFirst host name c (run_course in_a_store 0 n s c) commit (run_course in_a_store done (n - done) state commit) old now
+  pub first : DidFirst host name c (watched_course in_a_store look 0 n s c) commit (watched_course in_a_store look done (n - done) state commit) old now
 
-pub ran_none : {M D : Type 0} (view : M → View) (host : Ghosts D) (n : ℕ) (s : State Births) (c : Commit) (m : Machine M) (a : ArchiveState) (now : D) → OnlyNow host now → Shows (shown_by view m) s → Holds host now a c → RanSoFar view host a.name n s c 0 m a now now
-ran_none view host n s c m a now only shows holds = record {
+pub ran_none : {M D : Type 0} (view : M → View) (host : Ghosts D) (look : ℕ → State Table → Look) (n : ℕ) (s : State Births) (c : Commit) (m : Machine M) (a : ArchiveState) (now : D) → OnlyNow host now → Shows (shown_by view m) s → Holds host now a c → RanSoFar view host look a.name n s c 0 m a now now
+ran_none view host look n s c m a now only shows holds = record {
   state = s;
   commit = c;
   shows = shows;
   holds = holds;
-  first = subst (λ (k : ℕ). DidFirst host a.name c (run_course in_a_store 0 n s c) c (run_course in_a_store 0 k s c) now now) (let e : n ≡ n - 0 = omega arith in e)
-      (first_none host a.name c (run_course in_a_store 0 n s c) now only (holds_rest host a c holds));
+  first = subst (λ (k : ℕ). DidFirst host a.name c (watched_course in_a_store look 0 n s c) c (watched_course in_a_store look 0 k s c) now now) (let e : n ≡ n - 0 = omega arith in e)
+      (first_none host a.name c (watched_course in_a_store look 0 n s c) now only (holds_rest host a c holds));
 }
 
-module _ {M D : Type 0} (view : M → View) (host : Ghosts D) {name : List ℕ} {n : ℕ} {s : State Births} {c : Commit} {done : ℕ} {m : Machine M} {a : ArchiveState} {old now : D} (far : RanSoFar view host name n s c done m a old now) (few : done ≤ n) (named : name ≡ a.name) (m1 : Machine M) (mid : D) where
+module _ {M D : Type 0} (view : M → View) (host : Ghosts D) (look : ℕ → State Table → Look) {name : List ℕ} {n : ℕ} {s : State Births} {c : Commit} {done : ℕ} {m : Machine M} {a : ArchiveState} {old now : D} (far : RanSoFar view host look name n s c done m a old now) (few : done ≤ n) (named : name ≡ a.name) (m1 : Machine M) (mid : D) where
   abbrev next : Stretch
-  next = stretch done (n - done) far.state
+  next = watched_stretch look done (n - done) far.state
 
   abbrev texts : List (Deed Commit)
   texts = replies_of next.texts
@@ -164,78 +167,78 @@ module _ {M D : Type 0} (view : M → View) (host : Ghosts D) {name : List ℕ} 
   telling : (result : Result Unit Status) → Tells host (words_of next.texts) now mid result → Tells host (said_of texts) now mid result
   telling result h = subst (λ (t : List ℕ). Tells host t now mid result) (sym (said_in_turn Commit next.texts)) h
 
-  next_is : run_course in_a_store done (n - done) far.state far.commit ≡ preceded texts (onward in_a_store n far.commit next.stop)
-  next_is = run_is in_a_store n done far.state far.commit few
+  next_is : watched_course in_a_store look done (n - done) far.state far.commit ≡ preceded texts (onward in_a_store (watched_course in_a_store look) n far.commit next.stop)
+  next_is = watched_is in_a_store look n done far.state far.commit few
 
   -- the stretch was said
-  said_first : Tells host (words_of next.texts) now mid (Ok tt) → DidFirst host name c (run_course in_a_store 0 n s c) far.commit (onward in_a_store n far.commit next.stop) old mid
+  said_first : Tells host (words_of next.texts) now mid (Ok tt) → DidFirst host name c (watched_course in_a_store look 0 n s c) far.commit (onward in_a_store (watched_course in_a_store look) n far.commit next.stop) old mid
   said_first h =
       let all = telling (Ok tt) h in
-      subst (λ (x : Commit). DidFirst host name c (run_course in_a_store 0 n s c) x (onward in_a_store n far.commit next.stop) old mid) (last_unkept far.commit texts (unkept Commit next.texts))
-      (first_then host name c (run_course in_a_store 0 n s c) far.first texts (onward in_a_store n far.commit next.stop) mid
+      subst (λ (x : Commit). DidFirst host name c (watched_course in_a_store look 0 n s c) x (onward in_a_store (watched_course in_a_store look) n far.commit next.stop) old mid) (last_unkept far.commit texts (unkept Commit next.texts))
+      (first_then host name c (watched_course in_a_store look 0 n s c) far.first texts (onward in_a_store (watched_course in_a_store look) n far.commit next.stop) mid
       (said_did host (OpensAs name) (IsNoFileOf name) far.commit texts now mid (unkept Commit next.texts) rest_now all.all all.says) next_is)
 
   held : {result : Result Unit Status} → Tells host (words_of next.texts) now mid result → Holds host mid a far.commit
   held h = holds_said host a far.commit h.says far.holds
 
   -- up to the run's end
-  pub run_over : OnlyNow host mid → Says_next (Ok None) → GoesAs view host name m1 a old mid c (run_course in_a_store 0 n s c) (Ok tt)
+  pub run_over : OnlyNow host mid → Says_next (Ok None) → GoesAs view host name m1 a old mid c (watched_course in_a_store look 0 n s c) (Ok tt)
   run_over only h =
-      let o = is_over_at in_a_store m1.death (shown_by view m1) n far.commit next h.stops in
+      let o = is_over_at in_a_store (watched_course in_a_store look) m1.death (shown_by view m1) n far.commit next h.stops in
       let x : Point Commit = record { being = o.being; kept = far.commit } in
-      first_ends host name c (run_course in_a_store 0 n s c) (said_first h.tells) (IsAt view host m1 a mid) (Ok tt) mid
-      (obeys_as host (OpensAs name) (IsNoFileOf name) (IsAt view host m1 a mid) (λ (q : Point Commit). q.kept) far.commit (Goes [] x) (onward in_a_store n far.commit next.stop) (Ok tt) mid mid (sym o.course)
+      first_ends host name c (watched_course in_a_store look 0 n s c) (said_first h.tells) (IsAt view host m1 a mid) (Ok tt) mid
+      (obeys_as host (OpensAs name) (IsNoFileOf name) (IsAt view host m1 a mid) (λ (q : Point Commit). q.kept) far.commit (Goes [] x) (onward in_a_store (watched_course in_a_store look) n far.commit next.stop) (Ok tt) mid mid (sym o.follows)
       (obeys_none host (OpensAs name) (IsNoFileOf name) (IsAt view host m1 a mid) (λ (q : Point Commit). q.kept) far.commit x only
       (λ told. subst (λ (y : List ℕ). IsAtRest host (OpensAs y) far.commit mid) (sym named) (holds_rest host a far.commit (held h.tells) told))
       (record { stands = o.stands; holds = held h.tells }) refl))
 
   -- or it wasn't all said
-  pub run_unsaid : (m2 : Machine M) (b : ArchiveState) (e : Status) → Says_next (Err e) → GoesAs view host name m2 b old mid c (run_course in_a_store 0 n s c) (Err e)
+  pub run_unsaid : (m2 : Machine M) (b : ArchiveState) (e : Status) → Says_next (Err e) → GoesAs view host name m2 b old mid c (watched_course in_a_store look 0 n s c) (Err e)
   run_unsaid m2 b e h =
       let cut = telling (Err e) h.tells in
-      let run = run_course in_a_store done (n - done) far.state far.commit in
-      first_ends host name c (run_course in_a_store 0 n s c) far.first (IsAt view host m2 b mid) (Err e) mid
+      let run = watched_course in_a_store look done (n - done) far.state far.commit in
+      first_ends host name c (watched_course in_a_store look 0 n s c) far.first (IsAt view host m2 b mid) (Err e) mid
       (subst (λ (x : Status). GoesAs view host name m2 b now mid far.commit run (Err x)) (sym cut.fault)
-      (obeys_as host (OpensAs name) (IsNoFileOf name) (IsAt view host m2 b mid) (λ (q : Point Commit). q.kept) far.commit (preceded texts (onward in_a_store n far.commit next.stop)) run (Err status.SayFault) now mid (sym next_is)
-      (obeys_begun host (OpensAs name) (IsNoFileOf name) (IsAt view host m2 b mid) (λ (q : Point Commit). q.kept) far.commit texts (onward in_a_store n far.commit next.stop) status.SayFault now mid tt
+      (obeys_as host (OpensAs name) (IsNoFileOf name) (IsAt view host m2 b mid) (λ (q : Point Commit). q.kept) far.commit (preceded texts (onward in_a_store (watched_course in_a_store look) n far.commit next.stop)) run (Err status.SayFault) now mid (sym next_is)
+      (obeys_begun host (OpensAs name) (IsNoFileOf name) (IsAt view host m2 b mid) (λ (q : Point Commit). q.kept) far.commit texts (onward in_a_store (watched_course in_a_store look) n far.commit next.stop) status.SayFault now mid tt
       (said_began host (OpensAs name) (IsNoFileOf name) far.commit texts now mid (unkept Commit next.texts) rest_now cut.says))))
 
   -- up to a snapshot
   module _ (j : ℕ) (h : Says_next (Ok (Some j))) (m2 : Machine M) (b : ArchiveState) (new : D) where
-    pub asked : IsAskedAt in_a_store m1.death (shown_by view m1) n far.commit j next
-    asked = is_asked_at in_a_store m1.death (shown_by view m1) n far.commit j next h.stops
+    pub asked : IsAskedAt in_a_store (watched_course in_a_store look) m1.death (shown_by view m1) n far.commit j next
+    asked = is_asked_at in_a_store (watched_course in_a_store look) m1.death (shown_by view m1) n far.commit j next h.stops
 
     abbrev snap : Course Commit (Point Commit)
     snap = in_a_store.snapshot j asked.state far.commit
 
     abbrev cont : Point Commit → Course Commit (Point Commit)
-    cont p = going_on in_a_store (run_course in_a_store j (n - j)) p.being p.kept
+    cont p = going_on in_a_store (watched_course in_a_store look j (n - j)) p.being p.kept
 
     -- where the snapshot is begun
     pub at_snapshot : IsAt view host m1 a mid (alive asked.state far.commit)
     at_snapshot = record { stands = (asked.lives, asked.shows); holds = held h.tells }
 
-    to_snapshot : DidFirst host name c (run_course in_a_store 0 n s c) far.commit (and_then snap cont) old mid
-    to_snapshot = subst (λ x. DidFirst host name c (run_course in_a_store 0 n s c) far.commit x old mid) asked.course (said_first h.tells)
+    to_snapshot : DidFirst host name c (watched_course in_a_store look 0 n s c) far.commit (and_then snap cont) old mid
+    to_snapshot = subst (λ x. DidFirst host name c (watched_course in_a_store look 0 n s c) far.commit x old mid) asked.follows (said_first h.tells)
 
     here : (result : Result Unit Status) → GoesAs view host a.name m2 b mid new far.commit snap result → GoesAs view host name m2 b mid new far.commit snap result
     here result run = subst (λ (x : List ℕ). GoesAs view host x m2 b mid new far.commit snap result) (sym named) run
 
-    pub snapshot_failed : (e : Status) → GoesAs view host a.name m2 b mid new far.commit snap (Err e) → GoesAs view host name m2 b old new c (run_course in_a_store 0 n s c) (Err e)
+    pub snapshot_failed : (e : Status) → GoesAs view host a.name m2 b mid new far.commit snap (Err e) → GoesAs view host name m2 b old new c (watched_course in_a_store look 0 n s c) (Err e)
     snapshot_failed e run =
-        first_ends host name c (run_course in_a_store 0 n s c) to_snapshot (IsAt view host m2 b new) (Err e) new
+        first_ends host name c (watched_course in_a_store look 0 n s c) to_snapshot (IsAt view host m2 b new) (Err e) new
         (obeys_err host (OpensAs name) (IsNoFileOf name) (IsAt view host m2 b new) (λ (q : Point Commit). q.kept) (IsAt view host m2 b new) (λ (q : Point Commit). q.kept) far.commit snap cont e mid new (here (Err e) run))
 
     -- the machine died of saving
-    pub snapshot_died : (cause : Dead) → m2.death ≡ Some cause → name ≡ b.name → OnlyNow host new → GoesAs view host a.name m2 b mid new far.commit snap (Ok tt) → GoesAs view host name m2 b old new c (run_course in_a_store 0 n s c) (Ok tt)
+    pub snapshot_died : (cause : Dead) → m2.death ≡ Some cause → name ≡ b.name → OnlyNow host new → GoesAs view host a.name m2 b mid new far.commit snap (Ok tt) → GoesAs view host name m2 b old new c (watched_course in_a_store look 0 n s c) (Ok tt)
     snapshot_died cause dies same only run =
-        first_ends host name c (run_course in_a_store 0 n s c) to_snapshot (IsAt view host m2 b new) (Ok tt) new
+        first_ends host name c (watched_course in_a_store look 0 n s c) to_snapshot (IsAt view host m2 b new) (Ok tt) new
         (obeys_then host (OpensAs name) (IsNoFileOf name) (IsAt view host m2 b new) (λ (q : Point Commit). q.kept) (IsAt view host m2 b new) (λ (q : Point Commit). q.kept) far.commit snap cont (Ok tt) mid new new (here (Ok tt) run) ended)
       where
         ended : (x : Point Commit) → IsAt view host m2 b new x → GoesAs view host name m2 b new new x.kept (cont x) (Ok tt)
         ended x at = over x.being at.stands
           where
-            over : (being : Being) → IsBeing m2.death (shown_by view m2) being → GoesAs view host name m2 b new new x.kept (going_on in_a_store (run_course in_a_store j (n - j)) being x.kept) (Ok tt)
+            over : (being : Being) → IsBeing m2.death (shown_by view m2) being → GoesAs view host name m2 b new new x.kept (going_on in_a_store (watched_course in_a_store look j (n - j)) being x.kept) (Ok tt)
             over (Alive t) w = let none : Some cause ≡ None = sym dies ∙ w.0 in cc
             over (Gone k) w =
                 obeys_none host (OpensAs name) (IsNoFileOf name) (IsAt view host m2 b new) (λ (q : Point Commit). q.kept) x.kept (gone k x.kept) only
@@ -243,21 +246,21 @@ module _ {M D : Type 0} (view : M → View) (host : Ghosts D) {name : List ℕ} 
                 (record { stands = w; holds = at.holds }) refl
 
     -- or the run goes on
-    pub snapshot_kept : m2.death ≡ None → GoesAs view host a.name m2 b mid new far.commit snap (Ok tt) → RanSoFar view host name n s c j m2 b old new
+    pub snapshot_kept : m2.death ≡ None → GoesAs view host a.name m2 b mid new far.commit snap (Ok tt) → RanSoFar view host look name n s c j m2 b old new
     snapshot_kept lives run = over snap refl (here (Ok tt) run)
       where
-        over : (course : Course Commit (Point Commit)) → snap ≡ course → GoesAs view host name m2 b mid new far.commit course (Ok tt) → RanSoFar view host name n s c j m2 b old new
+        over : (course : Course Commit (Point Commit)) → snap ≡ course → GoesAs view host name m2 b mid new far.commit course (Ok tt) → RanSoFar view host look name n s c j m2 b old new
         over (Ends ds e) is r = absurd r
         over (Goes ds x) is r = at x.being refl r.0.stands
           where
-            at : (being : Being) → x.being ≡ being → IsBeing m2.death (shown_by view m2) being → RanSoFar view host name n s c j m2 b old new
+            at : (being : Being) → x.being ≡ being → IsBeing m2.death (shown_by view m2) being → RanSoFar view host look name n s c j m2 b old new
             at (Gone k) same w = let none : Some k ≡ None = sym w ∙ lives in cc
             at (Alive t) same w = record {
               state = t;
               commit = x.kept;
               shows = w.1;
               holds = r.0.holds;
-              first = subst (λ (d : Commit). DidFirst host name c (run_course in_a_store 0 n s c) d (run_course in_a_store j (n - j) t x.kept) old new) (sym r.1)
-                  (first_then host name c (run_course in_a_store 0 n s c) to_snapshot ds (run_course in_a_store j (n - j) t x.kept) new r.2
-                  (ap (λ y. and_then y cont) is ∙ ap (λ y. preceded ds (going_on in_a_store (run_course in_a_store j (n - j)) y x.kept)) same));
+              first = subst (λ (d : Commit). DidFirst host name c (watched_course in_a_store look 0 n s c) d (watched_course in_a_store look j (n - j) t x.kept) old new) (sym r.1)
+                  (first_then host name c (watched_course in_a_store look 0 n s c) to_snapshot ds (watched_course in_a_store look j (n - j) t x.kept) new r.2
+                  (ap (λ y. and_then y cont) is ∙ ap (λ y. preceded ds (going_on in_a_store (watched_course in_a_store look j (n - j)) y x.kept)) same));
             }

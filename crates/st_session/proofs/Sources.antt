@@ -8,7 +8,7 @@ use Rattle.std.proofs.lemmas.Bool.{and_parts, and_from}
 use Rattle.st_scan.specs.declared.fault.Fault.{Fault}
 use Rattle.st_scan.specs.Views.{MethodView}
 use Rattle.st_chunk.specs.Definitions.{Definition}
-use Rattle.st_chunk.specs.Asks.{Side, Ask, Object, Display, Classes, Methods, Source, Bytecodes, Senders}
+use Rattle.st_chunk.specs.Asks.{Side, Ask, Object, Display, Classes, Methods, Source, Bytecodes, Senders, Until}
 use Rattle.st_changes.specs.Last.{HasSelector, IsOf, IsNowhere, IsLastText}
 use Rattle.st_browse.specs.Asked.{IsTextFor}
 use Rattle.st_install.specs.Syntax.{IsSyntax, syntax}
@@ -79,3 +79,4 @@ text_is ds (Methods side) = tt
 text_is ds (Source side selector) = last_is side selector ds
 text_is ds (Bytecodes side selector) = tt
 text_is ds (Senders selector) = tt
+text_is ds (Until cycles side selector) = tt

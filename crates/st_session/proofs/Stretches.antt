@@ -15,9 +15,9 @@ use Rattle.st_host.specs.declared.host.SayFault.{SayFault}
 use Rattle.st_host.proofs.Telling.{OnlyNow}
 use Rattle.st_call.specs.Saying.{Pushes}
 use Rattle.st_call.proofs.Pushing.{push_none, push_then, push_begun, push_as}
-use Rattle.st_protocol.specs.Courses.{Deed, Reply, Keep, Course, Goes, Ends, deeds_of, said_of, commits_of, preceded, and_then, replies}
+use Rattle.st_protocol.specs.Courses.{Deed, Reply, Course, Goes, Ends, deeds_of, said_of, commits_of, preceded, and_then, replies}
 use Rattle.st_protocol.proofs.Courses.{said_of_both, preceded_none, preceded_both, deeds_preceded}
-use Rattle.st_session.specs.Points.{Being, Alive, Gone, Point, alive}
+use Rattle.st_session.specs.Points.{Being, Point}
 use Rattle.st_session.specs.Keeping.{Keeping, keeps_nothing}
 use Rattle.st_session.specs.Answers.{going_on, cycle_course, run_course}
 use Rattle.st_session.specs.Standing.{IsBeing}
@@ -37,59 +37,56 @@ pub unkept : (C : Type 0) (texts : List (List ℕ)) → commits_of {C = C} (repl
 unkept C [] = refl
 unkept C (x ∷ texts) = unkept C texts
 
-module _ {C : Type 0} (keeping : Keeping C) where
-  -- what follows where a run of n cycles stops
+-- Lines of so many cycles, where so many were finished before.
+abbrev pub Cycles : Type 0 → Type 0
+Cycles C = ℕ → ℕ → State Births → C → Course C (Point C)
+
+module _ {C : Type 0} (keeping : Keeping C) (course : Cycles C) where
+  -- what follows where a line of n cycles stops
   abbrev pub onward : ℕ → C → Stop → Course C (Point C)
   onward n c (Over being) = Goes [] (record { being = being; kept = c })
-  onward n c (Asked k s) = and_then (keeping.snapshot k s c) (λ p. going_on keeping (run_course keeping k (n - k)) p.being p.kept)
+  onward n c (Asked k s) = and_then (keeping.snapshot k s c) (λ p. going_on keeping (course k (n - k)) p.being p.kept)
 
-  course_is : (k n : ℕ) (s : State Births) (c : C) → run_course keeping n k s c ≡ preceded (replies_of (stretch n k s).texts) (onward (n + k) c (stretch n k s).stop)
-  unfolding stretch run_course
-  course_is zero n s c = refl
-  course_is (suc k) n s c = over (cycle births s) (λ t. course_is k (suc n) t c)
+  -- a course by the stretch that is its first part
+  abbrev pub StartsWith : ℕ → C → Stretch → Course C (Point C) → Type 0
+  StartsWith n c r x = x ≡ preceded (replies_of r.texts) (onward n c r.stop)
+
+  -- a cycle, where what follows it starts so
+  pub cycle_is : (n k : ℕ) (o : Transition (State Births) Ending) (f : State Births → Stretch) (c : C) → ((t : State Births) → StartsWith (suc n + k) c (f t) (course (suc n) k t c))
+      → StartsWith (n + suc k) c (cycle_stretch n o f) (cycle_course keeping n o (course (suc n) k) c)
+  cycle_is n k o f c h = over o
     where
       sum : suc n + k ≡ n + suc k
       sum = omega arith
 
-      on : (t : State Births) → run_course keeping (suc n) k t c ≡ preceded (replies_of (stretch (suc n) k t).texts) (onward (suc n + k) c (stretch (suc n) k t).stop)
-          → run_course keeping (suc n) k t c ≡ preceded (replies_of (stretch (suc n) k t).texts) (onward (n + suc k) c (stretch (suc n) k t).stop)
-      on t h = h ∙ ap (λ m. preceded (replies_of (stretch (suc n) k t).texts) (onward m c (stretch (suc n) k t).stop)) sum
+      on : (t : State Births) → StartsWith (n + suc k) c (f t) (course (suc n) k t c)
+      on t = h t ∙ ap (λ m. preceded (replies_of (f t).texts) (onward m c (f t).stop)) sum
 
-      over : (o : Transition (State Births) Ending)
-          → ((t : State Births) → run_course keeping (suc n) k t c ≡ preceded (replies_of (stretch (suc n) k t).texts) (onward (suc n + k) c (stretch (suc n) k t).stop))
-          → cycle_course keeping n o (run_course keeping (suc n) k) c
-          ≡ preceded (replies_of (cycle_stretch n o (stretch (suc n) k)).texts) (onward (n + suc k) c (cycle_stretch n o (stretch (suc n) k)).stop)
-      over (Died cause) h = refl
-      over (Went (With outcome.Went) t) h = on t (h t)
-      over (Went (With outcome.Snapshot) t) h =
+      over : (o : Transition (State Births) Ending) → StartsWith (n + suc k) c (cycle_stretch n o f) (cycle_course keeping n o (course (suc n) k) c)
+      over (Died cause) = refl
+      over (Went (With outcome.Went) t) = on t
+      over (Went (With outcome.Snapshot) t) =
           let e : k ≡ n + suc k - suc n = omega arith in
-          (λ i. and_then (keeping.snapshot (suc n) t c) (λ p. going_on keeping (run_course keeping (suc n) (e i)) p.being p.kept))
+          (λ i. and_then (keeping.snapshot (suc n) t c) (λ p. going_on keeping (course (suc n) (e i)) p.being p.kept))
           ∙ sym (preceded_none (onward (n + suc k) c (Asked (suc n) t)))
-      over (Went (With outcome.Quit) t) h = refl
-      over (Went (With outcome.Debugger) t) h = refl
-      over (Went (With (outcome.Say v)) t) h =
-          ap (preceded (Reply (said_value t.memory v) ∷ [])) (on t (h t))
-          ∙ sym (preceded_both (Reply (said_value t.memory v) ∷ []) (replies_of (stretch (suc n) k t).texts) (onward (n + suc k) c (stretch (suc n) k t).stop))
-      over (Went (Space demand left) t) h = refl
-
-  -- what is left of a run, where so many of its cycles are finished
-  pub run_is : (n done : ℕ) (s : State Births) (c : C) → done ≤ n
-      → run_course keeping done (n - done) s c ≡ preceded (replies_of (stretch done (n - done) s).texts) (onward n c (stretch done (n - done) s).stop)
-  run_is n done s c few =
-      let e : done + (n - done) ≡ n = omega (arith, few) in
-      course_is (n - done) done s c ∙ ap (λ m. preceded (replies_of (stretch done (n - done) s).texts) (onward m c (stretch done (n - done) s).stop)) e
+      over (Went (With outcome.Quit) t) = refl
+      over (Went (With outcome.Debugger) t) = refl
+      over (Went (With (outcome.Say v)) t) =
+          ap (preceded (Reply (said_value t.memory v) ∷ [])) (on t)
+          ∙ sym (preceded_both (Reply (said_value t.memory v) ∷ []) (replies_of (f t).texts) (onward (n + suc k) c (f t).stop))
+      over (Went (Space demand left) t) = refl
 
   -- where a stretch stops at the run's end, its course ends there
   pub record IsOverAt (death : Option Dead) (d : State Table) (n : ℕ) (c : C) (r : Stretch) : Type 0 where
     pub being : Being
     pub stands : IsBeing death d being
-    pub course : onward n c r.stop ≡ Goes [] (record { being = being; kept = c })
+    pub follows : onward n c r.stop ≡ Goes [] (record { being = being; kept = c })
 
   pub is_over_at : (death : Option Dead) (d : State Table) (n : ℕ) (c : C) (r : Stretch) → StopsAs death d None r.stop → IsOverAt death d n c r
   is_over_at death d n c r stops = over r.stop stops
     where
       over : (x : Stop) → StopsAs death d None x → IsOverAt death d n c (record { texts = r.texts; stop = x })
-      over (Over being) h = record { being = being; stands = h; course = refl }
+      over (Over being) h = record { being = being; stands = h; follows = refl }
       over (Asked k s) h = absurd h
 
   -- where it stops at a snapshot, this follows
@@ -97,7 +94,7 @@ module _ {C : Type 0} (keeping : Keeping C) where
     pub state : State Births
     pub lives : death ≡ None
     pub shows : Shows d state
-    pub course : onward n c r.stop ≡ and_then (keeping.snapshot j state c) (λ p. going_on keeping (run_course keeping j (n - j)) p.being p.kept)
+    pub follows : onward n c r.stop ≡ and_then (keeping.snapshot j state c) (λ p. going_on keeping (course j (n - j)) p.being p.kept)
 
   pub is_asked_at : (death : Option Dead) (d : State Table) (n : ℕ) (c : C) (j : ℕ) (r : Stretch) → StopsAs death d (Some j) r.stop → IsAskedAt death d n c j r
   is_asked_at death d n c j r stops = over r.stop stops
@@ -108,8 +105,20 @@ module _ {C : Type 0} (keeping : Keeping C) where
         state = s;
         lives = h.1;
         shows = h.2;
-        course = λ i. and_then (keeping.snapshot (sym h.0 i) s c) (λ p. going_on keeping (run_course keeping (sym h.0 i) (n - sym h.0 i)) p.being p.kept);
+        follows = λ i. and_then (keeping.snapshot (sym h.0 i) s c) (λ p. going_on keeping (course (sym h.0 i) (n - sym h.0 i)) p.being p.kept);
       }
+
+module _ {C : Type 0} (keeping : Keeping C) where
+  course_is : (k n : ℕ) (s : State Births) (c : C) → StartsWith keeping (run_course keeping) (n + k) c (stretch n k s) (run_course keeping n k s c)
+  unfolding stretch run_course
+  course_is zero n s c = refl
+  course_is (suc k) n s c = cycle_is keeping (run_course keeping) n k (cycle births s) (stretch (suc n) k) c (λ t. course_is k (suc n) t c)
+
+  -- what is left of a run, where so many of its cycles are finished
+  pub run_is : (n done : ℕ) (s : State Births) (c : C) → done ≤ n → StartsWith keeping (run_course keeping) n c (stretch done (n - done) s) (run_course keeping done (n - done) s c)
+  run_is n done s c few =
+      let e : done + (n - done) ≡ n = omega (arith, few) in
+      course_is (n - done) done s c ∙ ap (λ m. preceded (replies_of (stretch done (n - done) s).texts) (onward keeping (run_course keeping) m c (stretch done (n - done) s).stop)) e
 
 -- COURSES THAT ARE ADDED
 
@@ -175,7 +184,7 @@ module _ {D : Type 0} {host : Ghosts D} {n : ℕ} {s : State Births} {done : ℕ
   deeds_on = far.deeds ++ replies_of next.texts
 
   -- all of the run, where this follows the stretch
-  behind : (x : Line) → onward keeps_nothing n tt next.stop ≡ x → preceded deeds_on x ≡ cycles 0 n s
+  behind : (x : Line) → onward keeps_nothing (run_course keeps_nothing) n tt next.stop ≡ x → preceded deeds_on x ≡ cycles 0 n s
   behind x is =
       preceded_both far.deeds (replies_of next.texts) x
       ∙ (ap (λ y. preceded far.deeds (preceded (replies_of next.texts) y)) (sym is) ∙ (ap (preceded far.deeds) (sym (run_is keeps_nothing n done far.state tt few)) ∙ far.rest))
@@ -186,12 +195,12 @@ module _ {D : Type 0} {host : Ghosts D} {n : ℕ} {s : State Births} {done : ℕ
   -- up to a snapshot, which is passed over
   pub pushed_on : (death : Option Dead) (d : State Table) (j : ℕ) {new : D} {r : List ℕ} → PushesStretch {E = SayFault} host death d next mid new q r (Ok (Some j)) → PushedSoFar host n s j d old new p r
   pushed_on death d j run =
-      let a = is_asked_at keeps_nothing death d n tt j next run.stops in
+      let a = is_asked_at keeps_nothing (run_course keeps_nothing) death d n tt j next run.stops in
       record {
         deeds = deeds_on;
         state = a.state;
         shows = a.shows;
-        rest = behind (cycles j (n - j) a.state) (a.course ∙ preceded_none (cycles j (n - j) a.state));
+        rest = behind (cycles j (n - j) a.state) (a.follows ∙ preceded_none (cycles j (n - j) a.state));
         pushed = push_as (push_then far.pushed (push_as run.pushes both)) (sym (said_of_both far.deeds (replies_of next.texts)));
       }
 
@@ -199,15 +208,15 @@ module _ {D : Type 0} {host : Ghosts D} {n : ℕ} {s : State Births} {done : ℕ
     -- up to the run's end
     pub pushed_all : {new : D} {r : List ℕ} → OnlyNow host new → ((x : Point (Unit {0})) → IsBeing death d x.being → at x) → PushesStretch {E = SayFault} host death d next mid new q r (Ok None) → PushesCourse {E = SayFault} host at (cycles 0 n s) old new p r (Ok tt)
     pushed_all {new = new} only stands run =
-        let o = is_over_at keeps_nothing death d n tt next run.stops in
+        let o = is_over_at keeps_nothing (run_course keeps_nothing) death d n tt next run.stops in
         let x : Point (Unit {0}) = record { being = o.being; kept = tt } in
-        course_as host at (preceded deeds_on (Goes [] x)) (cycles 0 n s) (behind (Goes [] x) o.course)
+        course_as host at (preceded deeds_on (Goes [] x)) (cycles 0 n s) (behind (Goes [] x) o.follows)
         (course_behind host at deeds_on (Goes [] x) (push_as (push_then far.pushed (push_as run.pushes both)) (sym (said_of_both far.deeds (replies_of next.texts))))
         (record { pushes = push_none host new only; leads = stands x o.stands }))
 
     -- or it isn't all said
     pub pushed_part : {new : D} {r : List ℕ} {fault : SayFault} → PushesStretch {E = SayFault} host death d next mid new q r (Err fault) → PushesCourse {E = SayFault} host at (cycles 0 n s) old new p r (Err fault)
     pushed_part run =
-        let rest = onward keeps_nothing n tt next.stop in
+        let rest = onward keeps_nothing (run_course keeps_nothing) n tt next.stop in
         course_as host at (preceded deeds_on rest) (cycles 0 n s) (behind rest refl)
         (course_begun host at deeds_on rest refl (push_as (push_then far.pushed (push_as run.pushes both)) (sym (said_of_both far.deeds (replies_of next.texts)))))

@@ -95,7 +95,7 @@ pub decimal_in_line : (n : ℕ) → IsInLine (decimal n)
 unfolding digits
 decimal_in_line n = digits_in_line 64 n [] refl
 
-signed_in_line : (n : ℤ) → IsInLine (signed_decimal n)
+pub signed_in_line : (n : ℤ) → IsInLine (signed_decimal n)
 signed_in_line (pos n) = decimal_in_line n
 signed_in_line (negsuc n) = decimal_in_line (suc n)
 

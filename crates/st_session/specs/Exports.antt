@@ -1,25 +1,30 @@
--- How the export of what a store holds ends.
+-- How an image of what a store holds is exported: of all objects, or of those that can be reached.
 use Rattle.std.specs.Prelude.{◌≡◌, ◌≢◌, ◌⊎◌, ℕ, List, ◌++◌, length, Option, Some, None, IsTrue, Result, Ok, Err, ⊤, All}
 use Rattle.st_host.specs.Files.{Files}
 use Rattle.st_host.specs.Runs.{LeavesOnly, Spares, IsAtRest}
 use Rattle.st_host.specs.Stops.{SaidPart}
 use Rattle.st_host.specs.declared.host.Host.{Ghosts}
-use Rattle.st_model.specs.Machine.{State, Transition, Died, Went}
+use Rattle.st_model.specs.declared.demand.Demand.{Demand}
+use Rattle.st_model.specs.Machine.{Head, State, Transition, Died, Went}
 use Rattle.st_model.specs.Births.{Births, births}
 use Rattle.st_model.specs.Saving.{save}
+use Rattle.st_model.specs.Show.{show}
+use Rattle.st_model.specs.Table.{Table}
 use Rattle.st_model.specs.Text.{dead_text}
 use Rattle.st_chunk.specs.Definitions.{IsDefinition}
 use Rattle.st_store.specs.Names.{IsNoFileOf}
 use Rattle.st_protocol.specs.declared.status.Status.{Status}
 use Rattle.st_protocol.specs.declared.status.Status.TheVariants.{Done, Script, ReadFault, SayFault, DiskFault, OutOfMemory}
 use Rattle.st_install.specs.Defining.{installed}
-use Rattle.st_recover.specs.Commits.{Commit, OpensAs, all_of}
+use Rattle.st_clean.specs.Cleaning.{IsCleaned}
+use Rattle.st_recover.specs.Commits.{Commit, OpensAs, all_of, image_with}
 use Rattle.st_recover.specs.Openings.{Reopens}
 use Rattle.st_recover.specs.Replays.{Replayed}
 use Rattle.st_call.specs.LastLines.{SaysLastLine}
+use Rattle.st_call.specs.Replies.{exported_text, cleaned_text}
 use Rattle.st_session.specs.Ends.{IsCalm}
-use Rattle.st_session.specs.Keeping.{image_of}
-use Rattle.st_call.specs.Replies.{exported_text}
+use Rattle.st_session.specs.declared.extent.Extent.{Extent}
+use Rattle.st_session.specs.declared.extent.Extent.TheVariants.{Kept, Reachable}
 use Rattle.st_session.specs.StoreSessions.{IsRefused, IsOfSession}
 
 -- WHAT IS EXPORTED
@@ -32,14 +37,26 @@ pub record Export : Type 0 where
 abbrev pub exporting : List ℕ → Export
 exporting image = record { image = Some image; text = exported_text (length image) }
 
--- the image of what saving comes to; where it dies the cause is said, and none is written
-abbrev pub exporting_saved : Transition (State Births) Unit → Export
-exporting_saved (Died cause) = record { image = None; text = dead_text 0 cause }
-exporting_saved (Went u s) = exporting (image_of s)
+-- a clean image of these objects, with how many objects and words it has
+pub record IsCleanExport (t : Table) (h : Head) (x : Export) : Type 0 where
+  pub image : List ℕ
+  pub demand : Demand
+  pub cleaned : IsCleaned t h image demand
+  pub is : x ≡ record { image = Some image; text = cleaned_text demand }
 
--- of a state
-abbrev pub export_of : State Births → Export
-export_of s = exporting_saved (save births s)
+-- what is exported of these objects under this head
+abbrev pub ExportsImage : Extent → Table → Head → Export → Type 0
+ExportsImage Kept t h x = x ≡ exporting (image_with t h)
+ExportsImage Reachable t h x = IsCleanExport t h x
+
+-- that of what saving comes to; where it dies the cause is said, and no image is written
+abbrev pub ExportsSaved : Extent → Transition (State Births) Unit → Export → Type 0
+ExportsSaved extent (Died cause) x = x ≡ record { image = None; text = dead_text 0 cause }
+ExportsSaved extent (Went u s) x = ExportsImage extent (show s).memory (show s).head x
+
+-- that of a state, which is saved first
+abbrev pub ExportsState : Extent → State Births → Export → Type 0
+ExportsState extent s x = ExportsSaved extent (save births s) x
 
 -- a file once this was written, if any
 abbrev pub written : Option (List ℕ) → Option (List ℕ) → Option (List ℕ)
@@ -61,11 +78,26 @@ module _ {D : Type 0} (host : Ghosts D) where
     pub spares : Spares host (λ n. n ≢ name) old new
     pub moments : IsTrue host.is_told → LeavesOnly host old new (λ f s. (n : List ℕ) → n ≢ name → host.may_leave old n (f n))
 
+  -- The file of this name has the image of an export of these, and of its text this was said.
+  pub record IsWritten (exports : Export → Type 0) (says : List ℕ → Type 0) (name : List ℕ) (old new : D) : Type 0 where
+    pub export : Export
+    pub is : exports export
+    pub file : host.files new name ≡ written export.image (host.files old name)
+    pub said : says export.text
+
+  -- all of a text was said
+  abbrev pub AllSaid : D → D → List ℕ → Type 0
+  AllSaid old new text = host.said new ≡ host.said old ++ text
+
+  -- some first bytes of it were said
+  abbrev pub PartSaid : D → D → List ℕ → Type 0
+  PartSaid old new text = SaidPart (host.said old) text (host.said new)
+
   -- the file of this name has the image, and the text was said; or that failed
-  abbrev pub HasExported : List ℕ → Export → D → D → Result Unit Status → Type 0
-  HasExported name x old new (Ok u) = (host.files new name ≡ written x.image (host.files old name)) × (host.said new ≡ host.said old ++ x.text)
-  HasExported name x old new (Err SayFault) = (host.files new name ≡ written x.image (host.files old name)) × SaidPart (host.said old) x.text (host.said new)
-  HasExported name x old new (Err status) = host.said new ≡ host.said old
+  abbrev pub HasExported : List ℕ → (Export → Type 0) → D → D → Result Unit Status → Type 0
+  HasExported name exports old new (Ok u) = IsWritten exports (AllSaid old new) name old new
+  HasExported name exports old new (Err SayFault) = IsWritten exports (PartSaid old new) name old new
+  HasExported name exports old new (Err status) = host.said new ≡ host.said old
 
   -- at each moment and behind it the store opens as this
   pub record Stays (store : List ℕ) (c : Commit) (old new : D) : Type 0 where
@@ -74,8 +106,8 @@ module _ {D : Type 0} (host : Ghosts D) where
 
 -- THE COMMAND
 
--- The statuses in which the command export can end. Where these are the files, a status that comes of them is the one of their
--- refusal.
+-- The statuses in which the commands export and clean can end. Where these are the files, a status that comes of them is the one of
+-- their refusal.
 abbrev pub IsOfExport : Type 0 → List ℕ → Files → Status → Type 0
 IsOfExport told store f (Script line) = ⊥
 IsOfExport told store f ReadFault = ⊥
@@ -93,22 +125,30 @@ module _ {D : Type 0} (host : Ghosts D) (store image : List ℕ) where
   HasImage (Some bytes) old new = host.files new image ≡ Some bytes
   HasImage None old new = IsNoFileOf store image → host.files new image ≡ host.files old image
 
-  -- what is so of an export in each status that it can have behind the opening
-  abbrev pub ExportHas : Export → D → D → Status → Type 0
-  ExportHas x old new Done = HasImage x.image old new × (host.said new ≡ host.said old ++ x.text)
-  ExportHas x old new SayFault = HasImage x.image old new × SaidPart (host.said old) x.text (host.said new)
-  ExportHas x old new DiskFault = SaysLastLine host DiskFault old new
-  ExportHas x old new OutOfMemory = SaysLastLine host OutOfMemory old new
-  ExportHas x old new _ = ⊥
+  -- the image of an export of these is in the file, and of its text this was said
+  pub record IsExport (exports : Export → Type 0) (says : List ℕ → Type 0) (old new : D) : Type 0 where
+    pub export : Export
+    pub is : exports export
+    pub in_file : HasImage export.image old new
+    pub said : says export.text
 
+  -- what is so of an export in each status that it can have behind the opening
+  abbrev pub ExportHas : (Export → Type 0) → D → D → Status → Type 0
+  ExportHas exports old new Done = IsExport exports (AllSaid host old new) old new
+  ExportHas exports old new SayFault = IsExport exports (PartSaid host old new) old new
+  ExportHas exports old new DiskFault = SaysLastLine host DiskFault old new
+  ExportHas exports old new OutOfMemory = SaysLastLine host OutOfMemory old new
+  ExportHas exports old new _ = ⊥
+
+module _ {D : Type 0} (host : Ghosts D) (extent : Extent) (store image : List ℕ) where
   -- The store is opened as the commit that its files hold, and the state that this opens as is saved and exported.
   pub record IsExported (old new : D) (status : Status) : Type 0 where
     pub commit : Commit
     pub replayed : Replayed
     pub opened : OpensWhole store (host.files old) commit replayed
-    pub has : ExportHas (export_of replayed.state) old new status
+    pub has : ExportHas host store image (ExportsState extent replayed.state) old new status
 
-  -- How the command export ends.
+  -- How the command export ends, or for what can be reached the command clean.
   pub record ExportEnds (old new : D) (status : Status) : Type 0 where
     pub over : IsTrue host.is_told → IsRefused host store old new status ⊎ IsExported old new status
     -- where each state that a stop could leave before opens as one commit

@@ -6,11 +6,14 @@ pub mod FirstLines
 pub mod Sources
 pub mod Browsing
 pub mod Asking
+pub mod Watching
 pub mod Answers
+pub mod Traces
 pub mod Sessions
 pub mod Ends
 pub mod Standing
 pub mod Stretches
+pub mod Watched
 pub mod Opening
 pub mod Commands
 pub mod Makings

@@ -18,7 +18,9 @@ ghost use Rattle.st_session.specs.Pushing.{PushesCourse};
 ghost use Rattle.st_call.specs.Replies.{machine_text};
 ghost use Rattle.st_session.specs.Standing.{MayRun, MayGoOn, Follows, StandsAt, shown_by};
 
+use crate::debugging::say_stack;
 use crate::saving::{run, snapshot};
+use crate::watch::Watch;
 use st_call::{Output, Reply, finish, push_held, push_input, push_registers, push_used, say_reply};
 use st_chunk::Request;
 use st_host::{Host, SayFault};
@@ -88,6 +90,8 @@ fn push_answer<H: Host, M: Memory>(
         Request::State => push_machine(out, host, machine),
         Request::Used => push_used(out, host, machine.memory()),
         Request::Run(_)
+        | Request::Trace(_)
+        | Request::Stack
         | Request::Snapshot
         | Request::Browse
         | Request::End
@@ -141,7 +145,9 @@ fn answer_living<H: Host, M: Memory>(
         Request::End => Err(Status::Done),
         Request::Wrong(line) => Err(Status::Script { line }),
         Request::Browse | Request::Define => Ok(()),
-        Request::Run(cycles) => run(host, machine, archive, cycles),
+        Request::Run(cycles) => run(host, machine, archive, Watch::Nothing, cycles),
+        Request::Trace(cycles) => run(host, machine, archive, Watch::Bytecodes, cycles),
+        Request::Stack => say_stack(host, machine),
         Request::Snapshot => snapshot(host, machine, archive, 0),
         _ => say_answer(host, machine, archive, request),
     }

@@ -1,4 +1,4 @@
-ghost use Rattle.std.specs.Prelude.{IfErr};
+ghost use Rattle.std.specs.Prelude.{◌≡◌, IfErr, None, OnOk};
 ghost use Rattle.st_chunk.specs.Asks.{ask_of};
 ghost use Rattle.st_protocol.specs.Statuses.{Counts};
 ghost use Rattle.st_session.specs.Answers.{browse_course};
@@ -8,6 +8,7 @@ ghost use Rattle.st_session.specs.Keeping.{in_a_store};
 ghost use Rattle.st_session.specs.Standing.{MayGoOn, Follows};
 ghost use Rattle.st_call.specs.Telling.{Tells};
 
+use crate::debugging::run_until;
 use st_browse::browse;
 use st_call::{Reply, say_reply};
 use st_changes::Changes;
@@ -35,22 +36,49 @@ fn say_asked<H: Host, M: Memory>(
     }
 }
 
-/// Answers a line that asks to look at something.
-pub(crate) fn answer_ask<H: Host, M: Memory>(
+/// Answers a line that names what it asks for, where the machine isn't dead.
+fn answer_named<H: Host, M: Memory>(
     host: &mut H,
-    machine: &Machine<M>,
-    archive: &Archive,
+    machine: &mut Machine<M>,
+    archive: &mut Archive,
     ask: Ask<'_>,
 ) -> Result<(), Status>
-    requires go_on { MayGoOn M.view machine.now archive.now }
+    requires go_on { MayGoOn M.view machine.old archive.old }
+    requires alive { machine.old.death ≡ None }
+    ensures go_on { OnOk result (MayGoOn M.view machine.new archive.new) }
+    ensures named { archive.new.name ≡ archive.old.name }
     ensures follows { Follows M.view H.Host.own
         (λ p. browse_course in_a_store p.being p.kept (ask_of ask.entry))
-        machine.now archive.now host.old result machine.now archive.now host.new }
+        machine.old archive.old host.old result machine.new archive.new host.new }
+    ensures counts { Counts H.Host.own ⊥ host.old host.new result }
+    ensures served { IfErr result IsOfServing }
+{
+    match ask {
+        Ask::Until(cycles, side, selector) => {
+            run_until(host, machine, archive, cycles, side, selector)
+        }
+        _ => say_asked(host, machine.memory(), archive.changes(), ask),
+    }
+}
+
+/// Answers a line that names what it asks for.
+pub(crate) fn answer_ask<H: Host, M: Memory>(
+    host: &mut H,
+    machine: &mut Machine<M>,
+    archive: &mut Archive,
+    ask: Ask<'_>,
+) -> Result<(), Status>
+    requires go_on { MayGoOn M.view machine.old archive.old }
+    ensures go_on { OnOk result (MayGoOn M.view machine.new archive.new) }
+    ensures named { archive.new.name ≡ archive.old.name }
+    ensures follows { Follows M.view H.Host.own
+        (λ p. browse_course in_a_store p.being p.kept (ask_of ask.entry))
+        machine.old archive.old host.old result machine.new archive.new host.new }
     ensures counts { Counts H.Host.own ⊥ host.old host.new result }
     ensures served { IfErr result IsOfServing }
 {
     match machine.death() {
         Some(cause) => say_reply(host, Reply::Died { finished: 0, cause }),
-        None => say_asked(host, machine.memory(), archive.changes(), ask),
+        None => answer_named(host, machine, archive, ask),
     }
 }

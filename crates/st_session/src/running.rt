@@ -18,7 +18,7 @@ use st_memory::Memory;
 
 /// Adds the line of a run's end, where so many cycles are finished in all. A snapshot has none, and what is said
 /// neither.
-fn push_end<H: Host>(
+pub(crate) fn push_end<H: Host>(
     out: &mut Output,
     host: &mut H,
     finished: u32,

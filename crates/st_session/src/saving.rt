@@ -10,13 +10,16 @@ ghost use Rattle.st_protocol.specs.Obeying.{Obeys};
 ghost use Rattle.st_protocol.specs.Statuses.{Counts};
 ghost use Rattle.st_recover.specs.Archives.{Holds};
 ghost use Rattle.st_recover.specs.Commits.{Commit, OpensAs, image_with};
-ghost use Rattle.st_session.specs.Answers.{run_course, going_on};
+ghost use Rattle.st_session.specs.Answers.{watched_course, going_on};
 ghost use Rattle.st_call.specs.Telling.{IsOfServing};
 ghost use Rattle.st_session.specs.Keeping.{in_a_store, imaging};
 ghost use Rattle.st_session.specs.Standing.{MayRun, MayGoOn, Follows, shown_by};
-ghost use Rattle.st_session.specs.Stretches.{SaysStretch, stretch, went};
+ghost use Rattle.st_session.specs.Stretches.{SaysStretch, went};
+ghost use Rattle.st_session.specs.Watched.{watched_stretch};
+ghost use Rattle.st_session.specs.Watching.{look_of};
 
-use crate::running::push_stretch;
+use crate::watch::Watch;
+use crate::watching::push_run_on;
 use st_call::{Output, Reply, finish, say_reply};
 use st_host::{Host, HostFault, SayFault};
 use st_machine::Machine;
@@ -68,10 +71,11 @@ pub(crate) fn snapshot<H: Host, M: Memory>(
 }
 
 /// Runs on, where so many of a line's cycles are finished, up to the first bytecode that asks for a snapshot or to the run's end,
-/// and says what is said of it. Where a snapshot is asked for, answers how many are finished then.
+/// and says what is seen and said of it. Where a snapshot is asked for, answers how many are finished then.
 fn say_stretch<H: Host, M: Memory>(
     host: &mut H,
     machine: &mut Machine<M>,
+    watch: Watch,
     finished: u32,
     cycles: u32,
 ) -> Result<Option<u32>, Status>
@@ -83,12 +87,12 @@ fn say_stretch<H: Host, M: Memory>(
     ensures later { IfOk result (λ asked. IfSome asked (λ n. (finished < n) × (n ≤ cycles))) }
     ensures says { (s : State Births) → Shows (shown_by M.view machine.old) s
         → SaysStretch H.Host.own machine.new.death (shown_by M.view machine.new)
-        (stretch finished (cycles - finished) s) host.old host.new result }
+        (watched_stretch (look_of watch) finished (cycles - finished) s) host.old host.new result }
     ensures counts { Counts H.Host.own ⊥ host.old host.new (went result) }
     ensures served { IfErr result IsOfServing }
 {
     let mut out = Output::new();
-    match push_stretch(&mut out, host, machine, finished, cycles) {
+    match push_run_on(&mut out, host, machine, watch, finished, cycles) {
         Ok(asked) => match finish(out, host) {
             Ok(()) => Ok(asked),
             Err(status) => Err(status),
@@ -97,11 +101,12 @@ fn say_stretch<H: Host, M: Memory>(
     }
 }
 
-/// Runs so many cycles, with the snapshots that bytecodes ask for, and says what is said of them.
+/// Runs so many cycles, watched or not, with the snapshots that bytecodes ask for, and says what is seen and said of them.
 pub(crate) fn run<H: Host, M: Memory>(
     host: &mut H,
     machine: &mut Machine<M>,
     archive: &mut Archive,
+    watch: Watch,
     cycles: u32,
 ) -> Result<(), Status>
     requires go_on { MayGoOn M.view machine.old archive.old }
@@ -109,14 +114,14 @@ pub(crate) fn run<H: Host, M: Memory>(
     ensures go_on { OnOk result (MayGoOn M.view machine.new archive.new) }
     ensures named { archive.new.name ≡ archive.old.name }
     ensures follows { Follows M.view H.Host.own
-        (λ p. going_on in_a_store (run_course in_a_store 0 cycles) p.being p.kept)
+        (λ p. going_on in_a_store (watched_course in_a_store (look_of watch) 0 cycles) p.being p.kept)
         machine.old archive.old host.old result machine.new archive.new host.new }
     ensures counts { Counts H.Host.own ⊥ host.old host.new result }
     ensures served { IfErr result IsOfServing }
 {
     let mut finished = 0;
     'stretches: loop {
-        finished = match say_stretch(host, machine, finished, cycles) {
+        finished = match say_stretch(host, machine, watch, finished, cycles) {
             Ok(Some(asked)) => asked,
             Ok(None) => return Ok(()),
             Err(status) => return Err(status),

@@ -54,6 +54,10 @@ fn add_ask(told: &mut String, alloc: Global, ask: Ask<'_>) -> Result<(), AllocEr
             told.push_str("Senders ")?;
             add_front(told, alloc, selector)
         }
+        Ask::Until(cycles, side, selector) => {
+            let word = format!(in alloc; "Until {cycles} ")?;
+            add_method(told, alloc, &word, side, selector)
+        }
     }
 }
 
@@ -144,6 +148,12 @@ snapshot\r\nused\nsnapshot => Snapshot; Used; Snapshot;
 snapshot 1\n => Wrong(1);
 \n snapshot\n => Wrong(2);
 used\nsnapshots\n => Used; Wrong(2);
+trace 1000000\nstack\ntrace 1\nuntil 5 A class x\nstack\n => Trace(1000000); Stack; Trace(1); Until 5 A class, x; Stack;
+stack 1\n => Wrong(1);
+used\ntrace 0\n => Used; Wrong(2);
+trace 1000001\n => Wrong(1);
+trace 00000000003\n => Wrong(1);
+until 5 A x y\n => Wrong(1);
 \n\nrun 1000000001 => Wrong(3);
 used\nend\r => Used; Wrong(2);
 mouse 1 16384\n => Wrong(1);
@@ -211,6 +221,14 @@ senders 12 => Senders 12;
 senders => Wrong(1);
 senders  => Wrong(1);
 senders x y => Wrong(1);
+until 0 A x => Until 0 A, x;
+until 1000000000 A class class => Until 1000000000 A class, class;
+until 1000000001 A x => Wrong(1);
+until 00000000005 A x => Wrong(1);
+until A x => Wrong(1);
+until 5 A => Wrong(1);
+until 5  A x => Wrong(1);
+until 5 A class x y => Wrong(1);
 ";
 
 #[test]

@@ -54,6 +54,15 @@ const EXPORT: Run<'static> = Run {
     openings: &[(0, 0, OLD), (14, 0, OLD)],
 };
 
+/// So it does here; all of this image is reached.
+const CLEAN: Run<'static> = Run {
+    files: STORE_G,
+    words: &["clean", "S", "I"],
+    script: "",
+    said: "cleaned 35 131\n",
+    openings: &[(0, 0, OLD), (15, 0, OLD)],
+};
+
 /// There is no store, or the new one, which there is once that was told.
 const IMPORT: Run<'static> = Run {
     files: &[("G", IMAGE_G)],
@@ -150,6 +159,11 @@ fn a_session_leaves_the_commits_that_were_acknowledged(rt: HostRuntime) -> Resul
 #[test]
 fn an_export_leaves_the_store(rt: HostRuntime) -> Result<(), Fail> {
     check_stops(&rt, &EXPORT)
+}
+
+#[test]
+fn a_clean_leaves_the_store(rt: HostRuntime) -> Result<(), Fail> {
+    check_stops(&rt, &CLEAN)
 }
 
 #[test]

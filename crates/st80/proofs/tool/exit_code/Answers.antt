@@ -11,6 +11,7 @@ returns g c = record {
       once = c.tool.ensures.once;
       imports = c.tool.ensures.imports;
       exports = c.tool.ensures.exports;
+      cleans = c.tool.ensures.cleans;
       session = c.tool.ensures.session;
       builds = c.tool.ensures.builds;
       drills = c.tool.ensures.drills;

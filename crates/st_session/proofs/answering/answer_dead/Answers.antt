@@ -1,4 +1,4 @@
-use Rattle.std.proofs.Common.{◌≡◌, refl, sym, subst}
+use Rattle.std.proofs.Common.{refl, sym, subst}
 use Rattle.std.specs.Prelude.{Err}
 use Rattle.st_model.specs.Text.{dead_text}
 use Rattle.st_protocol.specs.declared.status.Status.TheVariants as status

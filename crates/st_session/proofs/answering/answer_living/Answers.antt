@@ -1,10 +1,18 @@
 use Rattle.std.proofs.Common.{refl, sym, subst}
 use Rattle.std.specs.Prelude.{Ok, Err}
+use Rattle.st_model.specs.Machine.{State}
+use Rattle.st_model.specs.Table.{Table}
+use Rattle.st_model.specs.Show.{show}
+use Rattle.st_model.proofs.Showing.{show_is}
+use Rattle.st_debug.specs.Stack.{stack_text}
+use Rattle.st_call.specs.Telling.{Tells}
+use Rattle.st_session.specs.Standing.{shown_by}
 use Rattle.st_protocol.specs.declared.status.Status.TheVariants as status
 use Rattle.st_session.specs.Answers.{line_course}
 use Rattle.st_session.specs.Keeping.{in_a_store}
 use Rattle.st_session.specs.Points.{alive}
-use Rattle.st_session.proofs.Responding.{ends_now, stays_now}
+use Rattle.st_session.proofs.Responding.{ends_now, stays_now, line_said}
+use Rattle.st_session.proofs.Watches.{run_is_watched}
 use Rattle.st_session.proofs.Lines.{says_lines, stays_alive}
 use Rattle.st_session.proofs.Points.{GoesAs, living_answers}
 use Rattle.st_session.proofs.answering.answer_living.Goals as goal
@@ -36,8 +44,32 @@ returns-in-Browse-clause-follows g c =
 
 pub returns-in-Run-clause-follows : goal.returns-in-Run-clause-follows
 returns-in-Run-clause-follows g c =
-    living_answers g.M.Memory.view g.H.Host c.args.machine.now c.args.archive.now c.args.host.now c.run.new.machine c.run.new.archive c.run.new.host (λ being k. line_course in_a_store being k c.args.request) c.run.result c.requires.alive
-    (λ s k shows holds. rw c.in-Run.is (c.run.ensures.follows (alive s k) (record { stands = (c.requires.alive, shows); holds = holds })))
+    let view = g.M.Memory.view in
+    let m = c.args.machine.now in
+    let a = c.args.archive.now in
+    let called = c.run in
+    living_answers view g.H.Host m a c.args.host.now called.new.machine called.new.archive called.new.host (λ being k. line_course in_a_store being k c.args.request) called.result c.requires.alive
+    (λ s k shows holds. rw c.in-Run.is (subst (λ course. GoesAs view g.H.Host a.name called.new.machine called.new.archive c.args.host.now called.new.host k course called.result) (run_is_watched in_a_store c.in-Run.cycles 0 s k)
+    (called.ensures.follows (alive s k) (record { stands = (c.requires.alive, shows); holds = holds }))))
+
+pub returns-in-Trace-clause-follows : goal.returns-in-Trace-clause-follows
+returns-in-Trace-clause-follows g c =
+    let called = c.run-in-Trace in
+    living_answers g.M.Memory.view g.H.Host c.args.machine.now c.args.archive.now c.args.host.now called.new.machine called.new.archive called.new.host (λ being k. line_course in_a_store being k c.args.request) called.result c.requires.alive
+    (λ s k shows holds. rw c.in-Trace.is (called.ensures.follows (alive s k) (record { stands = (c.requires.alive, shows); holds = holds })))
+
+pub returns-in-Stack-clause-follows : goal.returns-in-Stack-clause-follows
+returns-in-Stack-clause-follows g c =
+    let view = g.M.Memory.view in
+    let m = c.args.machine.now in
+    let a = c.args.archive.now in
+    let old = c.args.host.now in
+    let new = c.say_stack.new.host in
+    living_answers view g.H.Host m a old m a new (λ being k. line_course in_a_store being k c.args.request) c.say_stack.result c.requires.alive
+    (λ s k shows holds.
+    let same = show_is (shown_by view m) s shows (g.met.M.Memory.whole m.memory).places in
+    rw c.in-Stack.is (line_said view g.H.Host m a k (stack_text (show s).memory (show s).registers.active) (alive s k) old new c.say_stack.result
+    (subst (λ (x : State Table). Tells g.H.Host (stack_text x.memory x.registers.active) old new c.say_stack.result) (sym same) c.say_stack.ensures) holds (c.requires.alive, shows) refl))
 
 pub returns-in-Snapshot-clause-follows : goal.returns-in-Snapshot-clause-follows
 returns-in-Snapshot-clause-follows g c =
@@ -45,4 +77,4 @@ returns-in-Snapshot-clause-follows g c =
     (λ s k shows holds. rw c.in-Snapshot.is (c.snapshot.ensures.follows (alive s k) (record { stands = (c.requires.alive, shows); holds = holds })))
 
 pub say_answer-requires-clause-saying : goal.say_answer-requires-clause-saying
-say_answer-requires-clause-saying g c = says_lines c.args.request c.in_default.not-Run c.in_default.not-Snapshot c.in_default.not-End c.in_default.not-Wrong c.in_default.not-Define c.in_default.not-Browse
+say_answer-requires-clause-saying g c = says_lines c.args.request c.in_default.not-Run c.in_default.not-Trace c.in_default.not-Stack c.in_default.not-Snapshot c.in_default.not-End c.in_default.not-Wrong c.in_default.not-Define c.in_default.not-Browse

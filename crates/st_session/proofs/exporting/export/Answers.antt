@@ -7,7 +7,7 @@ use Rattle.st_protocol.specs.declared.status.Status.TheVariants as status
 use Rattle.st_protocol.specs.Statuses.{StatusHasCause}
 use Rattle.st_call.specs.LastLines.{SaysLastLine}
 use Rattle.st_session.specs.Ends.{status_in}
-use Rattle.st_session.specs.Exports.{export_of, IsOfExport, ExportEnds}
+use Rattle.st_session.specs.Exports.{ExportsState, IsOfExport, ExportEnds}
 use Rattle.st_session.proofs.Commanded.{cause_between, opening_cause, refused_line, refused_moments, refused_whole}
 use Rattle.st_session.proofs.Exported.{caused_in, done_or_full, kind_in, kind_unopened, export_has, exported_stays, refused_stays, names_said}
 use Rattle.st_session.proofs.exporting.export.Goals as goal
@@ -43,12 +43,12 @@ returns-in-Ok-clause-ends g c =
     let is = c.status_of-status.ensures in
     let said = subst (λ (x : Status). SaysLastLine host x closed new) is line.line in
     let cause = subst (StatusHasCause host ⊥ old new) is (returns-in-Ok-clause-cause g c) in
-    subst (λ (x : Status). ExportEnds host store image old new x) (sym is) (record {
+    subst (λ (x : Status). ExportEnds host c.args.extent store image old new x) (sym is) (record {
       over = λ told. let at = (opened.opened told).1 in inr (record {
         commit = (opened.opened told).0;
         replayed = at.replayed;
         opened = record { good = at.good; opens = at.opens; reopens = at.reopens };
-        has = export_has host store image (export_of at.replayed.state) r old mid closed new told did.kind (did.has at.replayed.state at.shows told)
+        has = export_has host store image (ExportsState c.args.extent at.replayed.state) r old mid closed new told did.kind (did.has at.replayed.state at.shows told)
             (λ apart. opened.spares.files told image apart) (opened.only.quiet told) (omega (arith, opened.only.say, did.counts.say)) line.alike said;
       });
       stays = λ told apart k good rest.

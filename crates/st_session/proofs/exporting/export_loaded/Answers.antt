@@ -12,14 +12,14 @@ use Rattle.st_session.proofs.exporting.export_loaded.Goals as goal
 pub boot-machine-requires : goal.boot-machine-requires
 boot-machine-requires g c =
     let loaded = c.args.loaded in
-    record { ready = ready_new (g.M.Memory.view loaded.memory) loaded.frame c.in-Ok.world c.requires.frame c.requires.quiet c.in-Ok.ensures }
+    record { ready = ready_new (g.L.Done.Memory.view loaded.memory) loaded.frame c.in-Ok.world c.requires.frame c.requires.quiet c.in-Ok.ensures }
 
 pub returns-in-Err-clause-others : goal.returns-in-Err-clause-others
 returns-in-Err-clause-others g c = others_none g.H.Host c.args.image.now c.args.host.now (g.met.H.Host.only_now c.args.host.now)
 
 pub returns-clause-has : goal.returns-clause-has
 returns-clause-has g c s shows told =
-    let view = g.M.Memory.view in
+    let view = g.L.Done.Memory.view in
     let loaded = c.args.loaded in
     let m = c.boot-machine.result in
     let boots = c.boot-machine.ensures in

@@ -4,10 +4,9 @@ use Rattle.std.specs.Prelude.{None}
 use Rattle.st_model.specs.Saving.{save}
 use Rattle.st_model.specs.Text.{dead_text}
 use Rattle.st_model.proofs.Showing.{show_is}
-use Rattle.st_recover.specs.Commits.{image_with}
-use Rattle.st_session.specs.Exports.{Export, exporting, HasExported}
+use Rattle.st_session.specs.Exports.{Export, ExportsImage, ExportsState, HasExported}
 use Rattle.st_session.specs.Standing.{shown_by}
-use Rattle.st_session.proofs.Exported.{saved_export, died_export, others_none, others_said, told_kind, has_told}
+use Rattle.st_session.proofs.Exported.{saved_export, died_export, exported_as, others_none, others_said, told_kind, has_told}
 use Rattle.st_session.proofs.exporting.export_machine.Goals as goal
 
 pub returns-in-Ok-clause-has : goal.returns-in-Ok-clause-has
@@ -18,9 +17,10 @@ returns-in-Ok-clause-has g c s shows told =
     let new = c.export_image.new.host in
     let result = c.export_image.result in
     let at = shown_by view n in
-    subst (λ (x : Export). HasExported g.H.Host c.args.image.now x old new result)
-    (saved_export at (save births s) (c.in-Ok.ensures.saves c.requires.alive s shows) (λ t w. show_is at t w (g.met.M.Memory.whole n.memory).places))
-    (subst (λ x. HasExported g.H.Host c.args.image.now (exporting (image_with (view x).objects (view x).head)) old new result) c.memory.ensures
+    let extent = c.args.extent in
+    exported_as g.H.Host c.args.image.now (ExportsImage extent at.memory at.head) (ExportsState extent s) old new result
+    (saved_export extent at (save births s) (c.in-Ok.ensures.saves c.requires.alive s shows) (λ t w. show_is at t w (g.met.M.Memory.whole n.memory).places))
+    (subst (λ x. HasExported g.H.Host c.args.image.now (ExportsImage extent (view x).objects (view x).head) old new result) c.memory.ensures
     (c.export_image.ensures.has told))
 
 pub returns-in-Err-clause-has : goal.returns-in-Err-clause-has
@@ -30,9 +30,8 @@ returns-in-Err-clause-has g c s shows told =
     let new = c.say_reply.new.host in
     let result = c.say_reply.result in
     let at = shown_by g.M.Memory.view n in
-    subst (λ (x : Export). HasExported g.H.Host c.args.image.now x old new result)
-    (died_export c.in-Err.cause at (save births s) (c.in-Err.ensures.saves c.requires.alive s shows))
-    (has_told g.H.Host c.args.image.now (record { image = None; text = dead_text 0 c.in-Err.cause }) old old new result told refl refl c.say_reply.ensures)
+    has_told g.H.Host c.args.image.now (ExportsState c.args.extent s) (record { image = None; text = dead_text 0 c.in-Err.cause }) old old new result
+    (died_export c.args.extent c.in-Err.cause at (save births s) (c.in-Err.ensures.saves c.requires.alive s shows)) told refl refl c.say_reply.ensures
 
 pub returns-in-Err-clause-others : goal.returns-in-Err-clause-others
 returns-in-Err-clause-others g c =

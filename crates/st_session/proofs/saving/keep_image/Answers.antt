@@ -1,5 +1,4 @@
-use Rattle.std.proofs.Common.{◌≡◌, ap, sym, subst}
-use Rattle.std.specs.Prelude.{length}
+use Rattle.std.proofs.Common.{subst}
 use Rattle.st_store.specs.Names.{IsNoFileOf}
 use Rattle.st_recover.specs.Archives.{Holds}
 use Rattle.st_recover.specs.Commits.{OpensAs, imaged, image_with}

@@ -2,11 +2,13 @@ use Rattle.std.proofs.Common.{◌≡◌, ◌∙◌, ◌-◌, ◌≤◌, ◌<◌,
 use Rattle.std.specs.Prelude.{Option, Some, None, is_some, IfSome, Ok, Err}
 use Rattle.st_model.specs.declared.dead.Dead.{Dead}
 use Rattle.st_protocol.proofs.Joins.{counts_behind}
-use Rattle.st_session.specs.Answers.{going_on, run_course}
+use Rattle.st_session.specs.Answers.{going_on, watched_course}
 use Rattle.st_session.specs.Keeping.{in_a_store}
 use Rattle.st_session.specs.Points.{alive}
 use Rattle.st_session.specs.Standing.{shown_by}
-use Rattle.st_session.specs.Stretches.{SaysStretch, stretch}
+use Rattle.st_session.specs.Stretches.{SaysStretch}
+use Rattle.st_session.specs.Watched.{watched_stretch}
+use Rattle.st_session.specs.Watching.{look_of}
 use Rattle.st_session.proofs.Points.{living_answers}
 use Rattle.st_session.proofs.Snapshots.{ran_none, run_over, run_unsaid, asked, at_snapshot, snapshot_failed, snapshot_died, snapshot_kept}
 use Rattle.st_session.proofs.saving.run.Goals as goal
@@ -27,7 +29,7 @@ stretches-init g c = record {
   few = omega arith;
   disk = omega arith;
   say = omega arith;
-  ran = λ s k shows holds. ran_none g.M.Memory.view g.H.Host c.args.cycles s k c.args.machine.now c.args.archive.now c.args.host.now (g.met.H.Host.only_now c.args.host.now) shows holds;
+  ran = λ s k shows holds. ran_none g.M.Memory.view g.H.Host (look_of c.args.watch) c.args.cycles s k c.args.machine.now c.args.archive.now c.args.host.now (g.met.H.Host.only_now c.args.host.now) shows holds;
 }
 
 -- THE RUN'S END
@@ -39,11 +41,11 @@ returns-in-Ok-None-clause-follows g c =
     let inv = c.stretches.invariant in
     let m1 = c.say_stretch.new.machine in
     let mid = c.say_stretch.new.host in
-    living_answers view g.H.Host c.args.machine.now c.args.archive.now c.args.host.now m1 c.stretches.archive mid (λ being. going_on in_a_store (run_course in_a_store 0 n) being) (Ok tt) c.requires.alive
+    living_answers view g.H.Host c.args.machine.now c.args.archive.now c.args.host.now m1 c.stretches.archive mid (λ being. going_on in_a_store (watched_course in_a_store (look_of c.args.watch) 0 n) being) (Ok tt) c.requires.alive
     (λ s k shows holds.
     let far = inv.ran s k shows holds in
-    run_over view g.H.Host far inv.few (sym inv.named) m1 mid (g.met.H.Host.only_now mid)
-    (subst (λ (x : Option ℕ). SaysStretch g.H.Host m1.death (shown_by view m1) (stretch c.stretches.finished (n - c.stretches.finished) far.state) c.stretches.host mid (Ok x)) c.in-Ok-None.field-0-is (c.in-Ok-None.ensures.says far.state far.shows)))
+    run_over view g.H.Host (look_of c.args.watch) far inv.few (sym inv.named) m1 mid (g.met.H.Host.only_now mid)
+    (subst (λ (x : Option ℕ). SaysStretch g.H.Host m1.death (shown_by view m1) (watched_stretch (look_of c.args.watch) c.stretches.finished (n - c.stretches.finished) far.state) c.stretches.host mid (Ok x)) c.in-Ok-None.field-0-is (c.in-Ok-None.ensures.says far.state far.shows)))
 
 pub returns-in-Ok-None-clause-counts : goal.returns-in-Ok-None-clause-counts
 returns-in-Ok-None-clause-counts g c = counts_behind g.H.Host ⊥ c.args.host.now c.stretches.host c.say_stretch.new.host (Ok tt) c.stretches.invariant.disk c.stretches.invariant.say c.in-Ok-None.ensures.counts
@@ -56,10 +58,10 @@ returns-in-Err-clause-follows g c =
     let inv = c.stretches.invariant in
     let m1 = c.say_stretch.new.machine in
     let mid = c.say_stretch.new.host in
-    living_answers view g.H.Host c.args.machine.now c.args.archive.now c.args.host.now m1 c.stretches.archive mid (λ being. going_on in_a_store (run_course in_a_store 0 c.args.cycles) being) (Err c.in-Err.status) c.requires.alive
+    living_answers view g.H.Host c.args.machine.now c.args.archive.now c.args.host.now m1 c.stretches.archive mid (λ being. going_on in_a_store (watched_course in_a_store (look_of c.args.watch) 0 c.args.cycles) being) (Err c.in-Err.status) c.requires.alive
     (λ s k shows holds.
     let far = inv.ran s k shows holds in
-    run_unsaid view g.H.Host far inv.few (sym inv.named) m1 mid m1 c.stretches.archive c.in-Err.status (c.in-Err.ensures.says far.state far.shows))
+    run_unsaid view g.H.Host (look_of c.args.watch) far inv.few (sym inv.named) m1 mid m1 c.stretches.archive c.in-Err.status (c.in-Err.ensures.says far.state far.shows))
 
 pub returns-in-Err-clause-counts : goal.returns-in-Err-clause-counts
 returns-in-Err-clause-counts g c = counts_behind g.H.Host ⊥ c.args.host.now c.stretches.host c.say_stretch.new.host (Err c.in-Err.status) c.stretches.invariant.disk c.stretches.invariant.say c.in-Err.ensures.counts
@@ -77,13 +79,13 @@ returns-in-Err-snapshot-clause-follows g c =
     let b = c.snapshot.new.archive in
     let new = c.snapshot.new.host in
     let j = c.in-Ok-Some.asked in
-    living_answers view g.H.Host c.args.machine.now c.args.archive.now c.args.host.now m2 b new (λ being. going_on in_a_store (run_course in_a_store 0 n) being) (Err c.in-Err-snapshot.status) c.requires.alive
+    living_answers view g.H.Host c.args.machine.now c.args.archive.now c.args.host.now m2 b new (λ being. going_on in_a_store (watched_course in_a_store (look_of c.args.watch) 0 n) being) (Err c.in-Err-snapshot.status) c.requires.alive
     (λ s k shows holds.
     let far = inv.ran s k shows holds in
-    let said = subst (λ (x : Option ℕ). SaysStretch g.H.Host m1.death (shown_by view m1) (stretch c.stretches.finished (n - c.stretches.finished) far.state) c.stretches.host mid (Ok x)) c.in-Ok-Some.field-0-is (c.in-Ok-Some.ensures.says far.state far.shows) in
-    let from = at_snapshot view g.H.Host far inv.few (sym inv.named) m1 mid j said m2 b new in
-    let p = alive (asked view g.H.Host far inv.few (sym inv.named) m1 mid j said m2 b new).state far.commit in
-    snapshot_failed view g.H.Host far inv.few (sym inv.named) m1 mid j said m2 b new c.in-Err-snapshot.status
+    let said = subst (λ (x : Option ℕ). SaysStretch g.H.Host m1.death (shown_by view m1) (watched_stretch (look_of c.args.watch) c.stretches.finished (n - c.stretches.finished) far.state) c.stretches.host mid (Ok x)) c.in-Ok-Some.field-0-is (c.in-Ok-Some.ensures.says far.state far.shows) in
+    let from = at_snapshot view g.H.Host (look_of c.args.watch) far inv.few (sym inv.named) m1 mid j said m2 b new in
+    let p = alive (asked view g.H.Host (look_of c.args.watch) far inv.few (sym inv.named) m1 mid j said m2 b new).state far.commit in
+    snapshot_failed view g.H.Host (look_of c.args.watch) far inv.few (sym inv.named) m1 mid j said m2 b new c.in-Err-snapshot.status
     (c.in-Err-snapshot.ensures.follows p from))
 
 -- the machine died of saving
@@ -99,13 +101,13 @@ returns-then-is_some-clause-follows g c =
     let new = c.snapshot.new.host in
     let j = c.in-Ok-Some.asked in
     let died = some_of c.death.result (sym c.is_some.ensures ∙ c.if-is_some.true) in
-    living_answers view g.H.Host c.args.machine.now c.args.archive.now c.args.host.now m2 b new (λ being. going_on in_a_store (run_course in_a_store 0 n) being) (Ok tt) c.requires.alive
+    living_answers view g.H.Host c.args.machine.now c.args.archive.now c.args.host.now m2 b new (λ being. going_on in_a_store (watched_course in_a_store (look_of c.args.watch) 0 n) being) (Ok tt) c.requires.alive
     (λ s k shows holds.
     let far = inv.ran s k shows holds in
-    let said = subst (λ (x : Option ℕ). SaysStretch g.H.Host m1.death (shown_by view m1) (stretch c.stretches.finished (n - c.stretches.finished) far.state) c.stretches.host mid (Ok x)) c.in-Ok-Some.field-0-is (c.in-Ok-Some.ensures.says far.state far.shows) in
-    let from = at_snapshot view g.H.Host far inv.few (sym inv.named) m1 mid j said m2 b new in
-    let p = alive (asked view g.H.Host far inv.few (sym inv.named) m1 mid j said m2 b new).state far.commit in
-    snapshot_died view g.H.Host far inv.few (sym inv.named) m1 mid j said m2 b new died.0 (sym c.death.ensures ∙ died.1) (sym (c.snapshot.ensures.named ∙ inv.named)) (g.met.H.Host.only_now new)
+    let said = subst (λ (x : Option ℕ). SaysStretch g.H.Host m1.death (shown_by view m1) (watched_stretch (look_of c.args.watch) c.stretches.finished (n - c.stretches.finished) far.state) c.stretches.host mid (Ok x)) c.in-Ok-Some.field-0-is (c.in-Ok-Some.ensures.says far.state far.shows) in
+    let from = at_snapshot view g.H.Host (look_of c.args.watch) far inv.few (sym inv.named) m1 mid j said m2 b new in
+    let p = alive (asked view g.H.Host (look_of c.args.watch) far inv.few (sym inv.named) m1 mid j said m2 b new).state far.commit in
+    snapshot_died view g.H.Host (look_of c.args.watch) far inv.few (sym inv.named) m1 mid j said m2 b new died.0 (sym c.death.ensures ∙ died.1) (sym (c.snapshot.ensures.named ∙ inv.named)) (g.met.H.Host.only_now new)
     (c.in-Ok.ensures.follows p from))
 
 pub stretches-preserved : goal.stretches-preserved
@@ -133,8 +135,8 @@ stretches-preserved g c =
       say = omega (arith, inv.say, first.say, second.say);
       ran = λ s k shows holds.
           let far = inv.ran s k shows holds in
-          let said = subst (λ (x : Option ℕ). SaysStretch g.H.Host m1.death (shown_by view m1) (stretch c.stretches.finished (n - c.stretches.finished) far.state) c.stretches.host mid (Ok x)) is (c.in-Ok-Some.ensures.says far.state far.shows) in
-          let from = at_snapshot view g.H.Host far inv.few (sym inv.named) m1 mid j said m2 b new in
-          let p = alive (asked view g.H.Host far inv.few (sym inv.named) m1 mid j said m2 b new).state far.commit in
-          snapshot_kept view g.H.Host far inv.few (sym inv.named) m1 mid j said m2 b new lives (c.in-Ok.ensures.follows p from);
+          let said = subst (λ (x : Option ℕ). SaysStretch g.H.Host m1.death (shown_by view m1) (watched_stretch (look_of c.args.watch) c.stretches.finished (n - c.stretches.finished) far.state) c.stretches.host mid (Ok x)) is (c.in-Ok-Some.ensures.says far.state far.shows) in
+          let from = at_snapshot view g.H.Host (look_of c.args.watch) far inv.few (sym inv.named) m1 mid j said m2 b new in
+          let p = alive (asked view g.H.Host (look_of c.args.watch) far inv.few (sym inv.named) m1 mid j said m2 b new).state far.commit in
+          snapshot_kept view g.H.Host (look_of c.args.watch) far inv.few (sym inv.named) m1 mid j said m2 b new lives (c.in-Ok.ensures.follows p from);
     }

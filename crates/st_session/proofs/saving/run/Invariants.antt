@@ -1,11 +1,11 @@
 use Rattle.std.proofs.Common.{◌≡◌, ◌≤◌, ◌-◌, None}
-use Rattle.std.specs.Prelude.{IsSome}
 use Rattle.st_model.specs.Machine.{State}
 use Rattle.st_model.specs.Births.{Births}
 use Rattle.st_model.specs.Show.{Shows}
 use Rattle.st_recover.specs.Archives.{Holds}
 use Rattle.st_recover.specs.Commits.{Commit}
 use Rattle.st_session.specs.Standing.{MayGoOn, shown_by}
+use Rattle.st_session.specs.Watching.{look_of}
 use Rattle.st_session.proofs.Snapshots.{RanSoFar}
 use Rattle.st_session.proofs.saving.run.Given as goal
 
@@ -19,7 +19,7 @@ invariant-stretches g l = record {
   disk : g.H.Host.disk_faults l.fn.host ≤ g.H.Host.disk_faults l.host;
   say : g.H.Host.say_faults l.fn.host ≤ g.H.Host.say_faults l.host;
   ran : (s : State Births) (c : Commit) → Shows (shown_by g.M.Memory.view l.fn.machine) s → Holds g.H.Host l.fn.host l.fn.archive c
-      → RanSoFar g.M.Memory.view g.H.Host l.fn.archive.name l.cycles s c l.finished l.machine l.archive l.fn.host l.host;
+      → RanSoFar g.M.Memory.view g.H.Host (look_of l.watch) l.fn.archive.name l.cycles s c l.finished l.machine l.archive l.fn.host l.host;
 }
 
 abbrev pub decreases-stretches : goal.decreases-stretches

@@ -1,4 +1,4 @@
-use Rattle.std.proofs.Common.{◌≡◌, ◌∙◌, refl, ap, sym, subst}
+use Rattle.std.proofs.Common.{◌∙◌, refl, ap, sym, subst}
 use Rattle.st_model.specs.Births.{births}
 use Rattle.st_model.specs.Saving.{save}
 use Rattle.st_model.proofs.Showing.{show_is}

@@ -14,7 +14,7 @@ pub returns-in-Browse-clause-follows : goal.returns-in-Browse-clause-follows
 returns-in-Browse-clause-follows g c = λ p at.
     let place = c.args.reader.now.place in
     let called = c.answer_ask in
-    rw c.in-Browse.is (subst (λ x. GoesAs g.M.Memory.view g.H.Host c.args.archive.now.name c.args.machine.now c.args.archive.now c.args.host.now called.new.host p.kept (answer in_a_store installed p x) called.result)
+    rw c.in-Browse.is (subst (λ x. GoesAs g.M.Memory.view g.H.Host c.args.archive.now.name called.new.machine called.new.archive c.args.host.now called.new.host p.kept (answer in_a_store installed p x) called.result)
     (sym (asked_look place (ask_of c.ask.result) (c.requires.browsed c.in-Browse.is) c.ask.ensures)) (called.ensures.follows p at))
 
 pub returns-in-Define-clause-follows : goal.returns-in-Define-clause-follows

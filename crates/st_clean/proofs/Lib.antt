@@ -1,0 +1,10 @@
+pub mod Steps
+pub mod Tables
+pub mod Closed
+pub mod Parts
+pub mod Places
+pub mod Pointers
+pub mod Sizes
+pub mod Below
+pub mod Cleaned
+pub mod Readable

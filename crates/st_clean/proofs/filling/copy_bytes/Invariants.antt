@@ -1,0 +1,8 @@
+use Rattle.st_model.specs.Values.{value}
+use Rattle.st_model.specs.View.{object_of}
+use Rattle.st_clean.specs.Filling.{PutsPart}
+use Rattle.st_clean.proofs.filling.copy_bytes.Given as goal
+
+-- the units so far
+abbrev pub invariant-loop-i : goal.invariant-loop-i
+invariant-loop-i g l = PutsPart (g.L.Loader.loaded l.fn.loader) (g.L.Loader.loaded l.loader) (value l.o) l.fields l.i (object_of (g.M.Memory.view l.m).objects (value l.o))

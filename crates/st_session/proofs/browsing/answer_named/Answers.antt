@@ -1,0 +1,43 @@
+use Rattle.std.proofs.Common.{List, refl, sym, ap, subst, ◌∙◌}
+use Rattle.st_model.specs.Show.{show}
+use Rattle.st_model.proofs.Showing.{show_is}
+use Rattle.st_chunk.specs.Definitions.{Definition}
+use Rattle.st_chunk.specs.Asks.{ask_of}
+use Rattle.st_recover.specs.Commits.{all_of}
+use Rattle.st_session.specs.Answers.{browse_course}
+use Rattle.st_session.specs.Browsing.{asked_text, memory_of}
+use Rattle.st_session.specs.Keeping.{in_a_store}
+use Rattle.st_session.specs.Points.{alive}
+use Rattle.st_session.specs.Standing.{shown_by}
+use Rattle.st_call.specs.Telling.{Tells}
+use Rattle.st_session.proofs.Lines.{look_is}
+use Rattle.st_session.proofs.Looking.{memory_is}
+use Rattle.st_session.proofs.Points.{GoesAs, living_answers}
+use Rattle.st_session.proofs.Responding.{line_said}
+use Rattle.st_session.proofs.browsing.answer_named.Goals as goal
+
+pub returns-in-Until-clause-follows : goal.returns-in-Until-clause-follows
+returns-in-Until-clause-follows g c =
+    let called = c.run_until in
+    living_answers g.M.Memory.view g.H.Host c.args.machine.now c.args.archive.now c.args.host.now called.new.machine called.new.archive called.new.host (λ being k. browse_course in_a_store being k (ask_of c.args.ask)) called.result c.requires.alive
+    (λ s k shows holds. rw c.in-Until.is (called.ensures.follows (alive s k) (record { stands = (c.requires.alive, shows); holds = holds })))
+
+pub returns-in_default-clause-follows : goal.returns-in_default-clause-follows
+returns-in_default-clause-follows g c =
+    let view = g.M.Memory.view in
+    let m = c.args.machine.now in
+    let a = c.args.archive.now in
+    let ask = ask_of c.args.ask in
+    let lives = c.requires.alive in
+    let old = c.args.host.now in
+    let new = c.say_asked.new.host in
+    let result = c.say_asked.result in
+    living_answers view g.H.Host m a old m a new (λ being k. browse_course in_a_store being k ask) result lives
+    (λ s k shows holds.
+    let ready = memory_is (view m.memory) m.frame m.world (c.requires.go_on.may_run lives) in
+    let same = ap view c.memory.ensures ∙ (ready ∙ ap memory_of (sym (show_is (shown_by view m) s shows (g.met.M.Memory.whole m.memory).places))) in
+    let listed = c.changes.ensures.listed ∙ holds.listed in
+    subst (λ course. GoesAs view g.H.Host a.name m a old new k course result) (sym (look_is in_a_store s k c.args.ask c.in_default.not-Until))
+    (line_said view g.H.Host m a k (asked_text (memory_of (show s)) (all_of k) ask) (alive s k) old new result
+    (subst (λ v. Tells g.H.Host (asked_text v (all_of k) ask) old new result) same
+    (subst (λ (ds : List Definition). Tells g.H.Host (asked_text (view c.memory.result.now) ds ask) old new result) listed c.say_asked.ensures)) holds (lives, shows) refl))

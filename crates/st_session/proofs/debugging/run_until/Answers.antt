@@ -1,0 +1,57 @@
+use Rattle.std.proofs.Common.{◌≡◌, Option, Some, None, refl, sym, ap, subst, ◌∙◌}
+use Rattle.std.specs.Prelude.{option_map}
+use Rattle.st_model.specs.Values.{Value, value}
+use Rattle.st_model.specs.Show.{show}
+use Rattle.st_model.proofs.Showing.{show_is}
+use Rattle.st_browse.specs.Asked.{method_of_side}
+use Rattle.st_call.specs.Replies.{missing_text}
+use Rattle.st_chunk.specs.Asks.{side_of}
+use Rattle.st_session.specs.Answers.{going_on, until_course}
+use Rattle.st_session.specs.Browsing.{memory_of}
+use Rattle.st_session.specs.Keeping.{in_a_store}
+use Rattle.st_session.specs.Points.{alive}
+use Rattle.st_session.specs.Standing.{shown_by}
+use Rattle.st_session.proofs.Looking.{memory_is}
+use Rattle.st_session.proofs.Points.{GoesAs, living_answers}
+use Rattle.st_session.proofs.Responding.{line_said}
+use Rattle.st_session.proofs.debugging.run_until.Goals as goal
+
+pub returns-in-Some-clause-follows : goal.returns-in-Some-clause-follows
+returns-in-Some-clause-follows g c =
+    let view = g.M.Memory.view in
+    let m = c.args.machine.now in
+    let a = c.args.archive.now in
+    let called = c.run in
+    let lives = c.requires.alive in
+    let side = side_of c.args.side in
+    let selector = c.args.selector.now in
+    living_answers view g.H.Host m a c.args.host.now called.new.machine called.new.archive called.new.host
+    (λ being k. going_on in_a_store (λ s d. until_course in_a_store c.args.cycles s d (method_of_side (memory_of (show s)) side selector)) being k) called.result lives
+    (λ s k shows holds.
+    let ready = memory_is (view m.memory) m.frame m.world (c.requires.go_on.may_run lives) in
+    let same = ap view c.memory.ensures ∙ (ready ∙ ap memory_of (sym (show_is (shown_by view m) s shows (g.met.M.Memory.whole m.memory).places))) in
+    let there : Some (value c.in-Some.method) ≡ method_of_side (memory_of (show s)) side selector =
+    ap (option_map value) (sym c.in-Some.is) ∙ (c.find_method.ensures ∙ ap (λ v. method_of_side v side selector) same) in
+    subst (λ (o : Option Value). GoesAs view g.H.Host a.name called.new.machine called.new.archive c.args.host.now called.new.host k (until_course in_a_store c.args.cycles s k o) called.result) there
+    (called.ensures.follows (alive s k) (record { stands = (lives, shows); holds = holds })))
+
+pub returns-in-None-clause-follows : goal.returns-in-None-clause-follows
+returns-in-None-clause-follows g c =
+    let view = g.M.Memory.view in
+    let m = c.args.machine.now in
+    let a = c.args.archive.now in
+    let old = c.args.host.now in
+    let new = c.say_reply.new.host in
+    let result = c.say_reply.result in
+    let lives = c.requires.alive in
+    let side = side_of c.args.side in
+    let selector = c.args.selector.now in
+    living_answers view g.H.Host m a old m a new
+    (λ being k. going_on in_a_store (λ s d. until_course in_a_store c.args.cycles s d (method_of_side (memory_of (show s)) side selector)) being k) result lives
+    (λ s k shows holds.
+    let ready = memory_is (view m.memory) m.frame m.world (c.requires.go_on.may_run lives) in
+    let same = ap view c.memory.ensures ∙ (ready ∙ ap memory_of (sym (show_is (shown_by view m) s shows (g.met.M.Memory.whole m.memory).places))) in
+    let gone : None ≡ method_of_side (memory_of (show s)) side selector =
+    ap (option_map value) (sym c.in-None.is) ∙ (c.find_method.ensures ∙ ap (λ v. method_of_side v side selector) same) in
+    subst (λ (o : Option Value). GoesAs view g.H.Host a.name m a old new k (until_course in_a_store c.args.cycles s k o) result) gone
+    (line_said view g.H.Host m a k missing_text (alive s k) old new result c.say_reply.ensures holds (lives, shows) refl))

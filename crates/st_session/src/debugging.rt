@@ -1,0 +1,66 @@
+// Lines of a debugger.
+ghost use Rattle.std.specs.Prelude.{◌≡◌, IfErr, None, OnOk};
+ghost use Rattle.st_model.specs.Show.{show};
+ghost use Rattle.st_model.specs.Values.{value};
+ghost use Rattle.st_browse.specs.Asked.{method_of_side};
+ghost use Rattle.st_chunk.specs.Asks.{side_of};
+ghost use Rattle.st_protocol.specs.Statuses.{Counts};
+ghost use Rattle.st_debug.specs.Stack.{stack_text};
+ghost use Rattle.st_call.specs.Telling.{IsOfServing, Tells};
+ghost use Rattle.st_session.specs.Answers.{going_on, until_course};
+ghost use Rattle.st_session.specs.Browsing.{memory_of};
+ghost use Rattle.st_session.specs.Keeping.{in_a_store};
+ghost use Rattle.st_session.specs.Standing.{MayGoOn, Follows};
+
+use crate::saving::run;
+use crate::watch::Watch;
+use st_browse::find_method;
+use st_call::{Reply, say_reply};
+use st_chunk::Side;
+use st_debug::frames;
+use st_host::{Host, SayFault};
+use st_machine::Machine;
+use st_memory::Memory;
+use st_protocol::Status;
+use st_recover::Archive;
+
+/// Runs so many cycles, or up to the first bytecode of a class's method for a selector, from the second cycle on; or says that there is
+/// no such method, which is sought once, before the first cycle.
+pub(crate) fn run_until<H: Host, M: Memory>(
+    host: &mut H,
+    machine: &mut Machine<M>,
+    archive: &mut Archive,
+    cycles: u32,
+    side: Side<'_>,
+    selector: &[u8],
+) -> Result<(), Status>
+    requires go_on { MayGoOn M.view machine.old archive.old }
+    requires alive { machine.old.death ≡ None }
+    ensures go_on { OnOk result (MayGoOn M.view machine.new archive.new) }
+    ensures named { archive.new.name ≡ archive.old.name }
+    ensures follows { Follows M.view H.Host.own
+        (λ p. going_on in_a_store (λ s c. until_course in_a_store cycles s c
+        (method_of_side (memory_of (show s)) (side_of side.entry) selector.now)) p.being p.kept)
+        machine.old archive.old host.old result machine.new archive.new host.new }
+    ensures counts { Counts H.Host.own ⊥ host.old host.new result }
+    ensures served { IfErr result IsOfServing }
+{
+    match find_method(machine.memory(), side, selector) {
+        Some(method) => run(host, machine, archive, Watch::Entry(method), cycles),
+        None => say_reply(host, Reply::Missing),
+    }
+}
+
+/// Says the stack.
+pub(crate) fn say_stack<H: Host, M: Memory>(
+    host: &mut H,
+    machine: &Machine<M>,
+) -> Result<(), Status>
+    ensures { let text = stack_text (M.view machine.now.memory).objects (value machine.now.frame.active) in
+        Tells H.Host.own text host.old host.new result }
+{
+    match frames(machine.memory(), &machine.frame(), host) {
+        Ok(_) => Ok(()),
+        Err(SayFault) => Err(Status::SayFault),
+    }
+}
