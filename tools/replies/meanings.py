@@ -67,6 +67,7 @@ RUNS = {
     "ran": "all {0} cycles were finished",
     "quit": "the last of {0} cycles asked for the end (primitive 113, `Smalltalk quit`); a later `run` goes on",
     "debugger": "the last of {0} cycles asked for a debugger (primitive 114, `halt`); a later `run` goes on",
+    "stopped": "after {0} cycles the first bytecode of the method comes; a later `run` does it",
     "space": "after {0} cycles the next bytecode wants {1} objects of {2} words, and {3} and {4} are free; nothing was changed by it",
     "opened": "{0} definitions were installed again, and {1} were refused now and are lost",
 }
@@ -85,7 +86,7 @@ PLAIN = {
 
 
 def meaning_of(reply):
-    """What a refusal, a death or a plain reply means, without its place."""
+    """What a refusal, a death, a last line or a plain reply means, without its place in a text."""
     words = reply.split()
     if words[:1] == ["refused"] and words[1] in ("syntax", "code"):
         return {"syntax": SYNTAX, "code": CODE}[words[1]].get(int(words[3]), reply)
@@ -93,4 +94,10 @@ def meaning_of(reply):
         return INSTALL.get(int(words[2]), reply).format(*words[3:])
     if words[:1] == ["dead"]:
         return DEATHS.get(int(words[2]), reply)
+    if words[:1] == ["kernel"]:
+        return KERNEL.get(int(words[2]), reply)
+    if words[:1] == ["image"]:
+        return IMAGE.get(int(words[1]), (0, reply))[1].format(*words[2:])
+    if words[:2] == ["store", "damaged"]:
+        return f"byte {words[3]} of the store's {words[2]} file is the first that can't be"
     return PLAIN.get(reply, reply)

@@ -9,9 +9,9 @@ TOP = pathlib.Path(__file__).resolve().parent.parent.parent
 PROGRAM = "ST80_PROGRAM"  # an environment variable that names another program than ./st80
 
 # The replies that further lines follow, as many as their word of this place says.
-COUNTED = {"display": 2, "classes": 1, "methods": 1, "source": 1, "bytecodes": 1, "senders": 1}
+COUNTED = {"display": 2, "classes": 1, "methods": 1, "source": 1, "bytecodes": 1, "senders": 1, "stack": 1}
 # What comes before the end of a run.
-BEFORE_AN_END = ("say", "snapshot")
+BEFORE_AN_END = ("say", "snapshot", "at")
 
 
 class Ended(Exception):
@@ -84,7 +84,7 @@ class Session:
             raise
 
     def ask(self, line):
-        """The lines of the reply to a line that asks or tells something, but for `run`."""
+        """The lines of the reply to a line that asks or tells something, but for `run`, `trace` and `until`."""
         self.send(line.encode("latin-1") + b"\n")
         reply = [self.next_line()]
         words = reply[0].split()
@@ -98,7 +98,11 @@ class Session:
 
     def run(self, cycles):
         """The lines of a run, one after the other as they come; the last one is its end."""
-        self.send(b"run %d\n" % cycles)
+        return self.course(f"run {cycles}")
+
+    def course(self, line):
+        """The same for a line that runs in another way, as `trace 10`."""
+        self.send(line.encode("latin-1") + b"\n")
         while True:
             line = self.next_line()
             yield line
