@@ -170,4 +170,12 @@ class Live:
         return f"[] in {name}" if is_small(fields[METHOD]) else name
 
 
+class Still(Live):
+    """The same words for the objects of an image file."""
 
+    def __init__(self, image):
+        self.image, self.globals, self.methods = image, image.globals, {}
+        self.forget()
+
+    def get(self, pointer):
+        return self.image.get(pointer)

@@ -71,6 +71,37 @@ RUNS = {
     "space": "after {0} cycles the next bytecode wants {1} objects of {2} words, and {3} and {4} are free; nothing was changed by it",
     "opened": "{0} definitions were installed again, and {1} were refused now and are lost",
 }
+# Replies with as many words behind the first as the sentence names, or, where it names none, with any.
+REPLIES = {
+    "built": "an image was built, of {0} objects and {1} words",
+    "imported": "a store was made of the image: {0} objects of {1} words",
+    "exported": "an image of the store was written, of {0} bytes",
+    "cleaned": "an image of what can be reached in the store was written: {0} objects of {1} words",
+    "snapshot": "the image was saved in the store, in {0} bytes",
+    "used": "{0} objects are kept, of {1} words",
+    "registers": "active context {0}, home context {1}, method {2}, receiver {3}; instruction pointer {4} and stack pointer {5} as a context "
+                 "stores them (plus 1, less 5)",
+    "input": "{0} words wait and {1} signals are pending, the mouse is at {2} {3}, the clocks say {4} seconds and {5} milliseconds",
+    "held": "display {0}, cursor {1}, input semaphore {2}, the timer's {3}, low-space semaphore {4}; @2, which is nil, where there is none",
+    "object": "the object's pointer, its class, its kind (p Pointers, w Words, b Bytes, m Method), and its fields, words or bytes",
+    "display": "the display is {0} pixels wide and {1} high; a line `row` follows for each row",
+    "row": "a row of the display, each digit four pixels, the leftmost first",
+    "stack": "lines `frame` follow, {0} of them, from the active context on",
+    "frame": "context {0}, and its method {1}; it returns to that of the next line",
+    "at": "before a cycle: the active context {0}, its method {1}, the place {2} of the bytecode's first byte, and this byte, {3}",
+    "classes": "{0} lines `class` follow",
+    "methods": "{0} lines `method` follow",
+    "senders": "{0} lines `sender` follow, each a class and the selector of a method that sends it",
+    "source": "the text's {0} lines follow, each behind a bar",
+    "bytecodes": "{0} lines `code` follow",
+    "code": "a bytecode: its place in the method, as `at:` counts, and its bytes",
+    "class": "a class's name",
+    "method": "a method's selector",
+    "sender": "a class, and the selector of a method of it",
+    "|": "a line of a method's text; a backslash and two digits are a byte",
+    "say": "what the image's code said; a backslash and two digits are a byte",
+    "accepted": "the method is installed, and its definition is on disk",
+}
 PLAIN = {
     "usage": "the words are no command: `docs/FORMATS.md`, The words of the program",
     "read fault": "standard input failed; what was told before was replied to",
