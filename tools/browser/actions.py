@@ -96,8 +96,6 @@ def stop(desk, _):
 
 def interrupt(desk, _):
     desk.need_session()
-    if not desk.unfinished:
-        raise Refused(409, "no evaluation goes on: a word would begin one")
     return desk.interrupt()
 
 

@@ -243,6 +243,7 @@ class Desk:
         return {}
 
     def interrupt(self):
+        """Ends an evaluation that goes on or waits; where there is none, nothing comes of it."""
         self.session.ask(f"input {INTERRUPT}")
         if not self.going:
             self.begin_course(self.evaluation())

@@ -1,10 +1,16 @@
 """Expressions of a workspace: when one is whole, and the method `doIt` that answers its last statement."""
 
+import re
+
+from .chunks import BLANKS
+
 HEADER = "Workspace class methodsFor: 'evaluating'"
 FRONT = "doIt\n\t"
 BEGIN = 1  # the word of input that begins an evaluation
 INTERRUPT = 3  # the word of input that ends an evaluation
 OPENING, CLOSING = "([", ")]"
+# A comment, or in its one group what is none: a string, a character, or any other one.
+TOKEN = re.compile(r"""\"[^"]*\"?|('(?:[^']|'')*'?|\$.|.)""", re.S)
 
 
 def pieces(text):
@@ -34,26 +40,38 @@ def is_open(text):
     return depth > 0
 
 
+def parts_of(text):
+    """The places of what is neither a comment nor a blank."""
+    return [it.start() for it in TOKEN.finditer(text) if it[1] and it[1].strip(BLANKS)]
+
+
+def is_in_number(text, at):
+    """Whether the dot at that place is one of a number with a fraction, as in 3.14, and ends no statement."""
+    begin = at
+    while begin > 0 and text[begin - 1].isalnum():
+        begin -= 1
+    return text[begin].isdigit() and text[at + 1 : at + 2].isdigit()
+
+
 def last_statement(text):
-    """The place at which the last statement begins, behind the declarations."""
-    begin, depth, bars, previous = 0, 0, 0, ""
+    """The place at which the last statement begins, behind the declarations, or none where there is no statement."""
+    begin, depth, bars, parts = 0, 0, 0, parts_of(text)
     for at, one in pieces(text):
         if one is None:
             break
         depth += (one in OPENING) - (one in CLOSING)
-        if depth == 0 and one == "|" and bars < 2 and not text[begin:at].strip(" \t\n|") or bars == 1 and one == "|":
+        if depth == 0 and one == "|" and (bars == 1 or bars == 0 and at == parts[0]):
             bars += 1
             begin = at + 1
-        elif depth == 0 and one == "." and text[at + 1 :].strip():
+        elif depth == 0 and one == "." and at < parts[-1] and not is_in_number(text, at):
             begin = at + 1
-    return begin
+    return next((it for it in parts if it >= begin), None)
 
 
 def with_answer(text):
     """The text with `^` before its last statement, where there is none."""
     at = last_statement(text)
-    statement = text[at:].lstrip()
-    return text if statement.startswith("^") or not statement else f"{text[:at]} ^{statement}".lstrip()
+    return text if at is None or text[at] == "^" else f"{text[:at]}^{text[at:]}"
 
 
 def source_of(text):

@@ -123,6 +123,8 @@ def meaning_of(reply):
         return {"syntax": SYNTAX, "code": CODE}[words[1]].get(int(words[3]), reply)
     if words[:2] == ["refused", "install"]:
         return INSTALL.get(int(words[2]), reply).format(*words[3:])
+    if words[:1] == ["space"]:
+        return RUNS["space"].format(*words[1:])
     if words[:1] == ["dead"]:
         return DEATHS.get(int(words[2]), reply)
     if words[:1] == ["kernel"]:
