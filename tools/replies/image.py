@@ -95,6 +95,12 @@ class Image:
         return found.fields if found and found.kind == "p" else []
 
 
+def is_of_store(file):
+    """Whether a file is one of a store's, over which nothing else is to be written."""
+    path = pathlib.Path(file)
+    return path.suffix in (".roots", ".changes", ".a", ".b") and path.with_suffix(".roots").exists()
+
+
 def root_of(store):
     """The numbers of a store's chosen root: slot and length of the image, base and length of the changes."""
     roots = pathlib.Path(f"{store}.roots").read_bytes()
