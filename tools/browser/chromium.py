@@ -6,18 +6,38 @@ import os
 import select
 import shutil
 import subprocess
+import sys
 import tempfile
 import time
 
 NAMES = ("chromium", "chromium-browser", "google-chrome")
+INSTALLATION = (("apt-get", "update"), ("apt-get", "install", "-y", "--no-install-recommends", "chromium"))
 SECONDS = 30
+INSTALLING_SECONDS = 900
+
+
+def found_name():
+    """The name of a Chromium that is there, or none."""
+    return next(filter(shutil.which, NAMES), None)
+
+
+def installed_name():
+    """The name of a Chromium: where there is none, Debian's package is installed; `AssertionError` where that can't be."""
+    if not found_name():
+        print("page-test: there is no Chromium: Debian's package `chromium` is installed", file=sys.stderr)
+        environment = {**os.environ, "DEBIAN_FRONTEND": "noninteractive"}
+        for command in INSTALLATION if shutil.which("apt-get") else ():
+            subprocess.run(command, env=environment, stdin=subprocess.DEVNULL, stdout=subprocess.DEVNULL, timeout=INSTALLING_SECONDS)
+    name = found_name()
+    assert name, "there is no Chromium, and Debian's package `chromium` could not be installed"
+    return name
 
 
 class Chromium:
     """A browser with one window, and what its page said in its console."""
 
     def __init__(self):
-        name = next(filter(shutil.which, NAMES))
+        name = installed_name()
         self.folder = tempfile.TemporaryDirectory(ignore_cleanup_errors=True)
         (read_end, self.to), (self.back, write_end) = os.pipe(), os.pipe()
         command = [name, "--headless=new", "--no-sandbox", "--disable-gpu", "--no-first-run", "--disable-dev-shm-usage",

@@ -2,15 +2,13 @@
 
 import json
 import pathlib
-import shutil
-import tempfile
 import time
 
-from .chromium import NAMES, Chromium
+from .chromium import Chromium
 
 KERNEL = pathlib.Path(__file__).resolve().parent.parent.parent / "kernels/book.kernel"
 CTRL = 2  # of a key's modifiers
-LOOKS = [(1400, 900, "light"), (1400, 900, "dark"), (360, 1500, "light"), (360, 1500, "dark")]
+LOOKS = [(1400, 1250, "light"), (1400, 1250, "dark"), (360, 1500, "light"), (360, 1500, "dark")]
 DRAW_SECONDS, REPLY_SECONDS, FRAME_SECONDS = 0.05, 0.5, 0.2
 READY = "document.readyState === 'complete' && document.querySelectorAll('#class-list option').length > 60"
 
@@ -289,10 +287,14 @@ def by_keys(window, _):
 
 
 def looks(window, folder):
-    """Both widths in both themes: nothing wider than the page, contrast, and pictures."""
+    """Both widths in both themes, with a trace in the middle of an evaluation: nothing wider than the page, contrast, and pictures."""
+    Reader(window).do_it("self halt. 5 factorial")
     for view in ("classes&class=Integer&method=gcd%3A", "display", "debugger", "objects&object=40"):
         Reader(window).go(f"#view={view}")
         time.sleep(0.6)
+        if view == "debugger":
+            window.do("document.querySelector('.step[data-steps=\"10\"]').click()")
+            window.wait("document.querySelectorAll('#trace tbody tr').length >= 10")
         for width, height, theme in LOOKS:
             window.look(width, height, theme)
             time.sleep(0.2)
@@ -309,7 +311,6 @@ def a_browser(Page, folder):
     """One check of all of it, over one server; what it measured is said."""
 
     def check_a_browser(place):
-        assert any(map(shutil.which, NAMES)), "there is no Chromium: Debian's package is `chromium`"
         figures = {}
         with Chromium() as browser:
             with Page(place, KERNEL) as page:
