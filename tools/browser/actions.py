@@ -292,10 +292,9 @@ def step(desk, line):
     found = desk.live.get(pointer)
     header = 2 * len(found.fields) if found and found.kind == "m" else 0
     units = list(found.units[place - 1 - header :][: length_of(int(code))]) if header else [int(code)]
-    home = desk.live.home(word_of(context))
-    variables = desk.live.variables(desk.live.class_of(home[RECEIVER])) if len(home) >= FRONT else []
+    name, variables = desk.live.name_of_step(word_of(context), pointer)
     meaning = Codes(desk.live.literals(pointer), variables).meaning(place, units or [int(code)])
-    return {"context": word_of(context), "method": pointer, "name": desk.live.name_of_context(word_of(context)), "place": place,
+    return {"context": word_of(context), "method": pointer, "name": name, "place": place,
             "bytes": units, "meaning": meaning, "rule": RULES[int(code)]}
 
 

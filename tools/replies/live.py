@@ -40,12 +40,11 @@ class Live:
         self.session = session
         self.globals = long_at(head, 24) if lettered else 0
         self.room = (long_at(head, 16), long_at(head, 20)) if lettered else (32767, 1048576)
-        self.methods = {}
         self.forget()
 
     def forget(self):
         """Something may have changed."""
-        self.objects, self.classes = {}, None
+        self.objects, self.classes, self.sides = {}, None, None
 
     def get(self, pointer):
         if is_small(pointer) or not 2 <= pointer <= 65534:
@@ -112,6 +111,22 @@ class Live:
                     return self.name_of_class(side), selector
         return None
 
+    def side_of_method(self, method):
+        """The class or metaclass that has a method in its dictionary, with the selector, or none."""
+        if self.sides is None:
+            pairs = [(name, meta) for name in self.named_classes() for meta in (False, True)]
+            sides = [self.side(*it) for it in pairs]
+            self.sides = {it: (side, selector) for side in sides for it, selector in self.own_methods(side)}
+        return self.sides.get(method)
+
+    def name_of_step(self, context, method):
+        """What the method of a step is a part of, and the names of its receiver's variables; its context may be gone, or another one by now."""
+        home = self.home(context)
+        if len(home) >= FRONT and home[METHOD] == method:
+            return self.name_of_context(context), self.variables(self.class_of(home[RECEIVER]))
+        side, selector = self.side_of_method(method) or (None, None)
+        return (f"{self.name_of_class(side)}>>{selector}", self.variables(side)) if side else (f"a method @{method} of no class", [])
+
     def say(self, word):
         """A few words for a value."""
         if is_small(word):
@@ -174,7 +189,7 @@ class Still(Live):
     """The same words for the objects of an image file."""
 
     def __init__(self, image):
-        self.image, self.globals, self.methods = image, image.globals, {}
+        self.image, self.globals = image, image.globals
         self.forget()
 
     def get(self, pointer):
