@@ -107,7 +107,7 @@ class Reader:
 
 
 def half_hour(window, _):
-    """Sections 2 to 6 of the tutorial."""
+    """What sections 2 to 5 of the tutorial do, and chunks and lines of a script."""
     reader = Reader(window)
     wanted(reader.do_it("Transcript show: 'Hello'; cr. self"), ["Hello"])
     wanted(reader.do_it("Transcript print: 16383 + 1; cr; print: 1 / 3 + (1 / 6); cr; print: (3 @ 4) + 1; cr. self"), ["16384", "(1/2)", "4@5"])
