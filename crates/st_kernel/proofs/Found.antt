@@ -1,6 +1,6 @@
 -- A start that is found begins: each step of it goes, and the registers can be fetched from what it leaves.
-use Rattle.std.proofs.Common.{◌≡◌, ◌≢◌, ◌∙◌, ℕ, suc, ◌+◌, ◌*◌, ◌%◌, ◌/◌, ◌<◌, ◌≤◌, List, [], ◌∷◌, length, Bool, true, false, Option, Some, None, ◌⊎◌, inl, inr, refl, sym, ap, subst, arith, is_some, length-set}
-use Rattle.std.specs.Prelude.{◌-◌, ◌==◌, ◌&&◌, Result, Ok, Err, IfErr, ℤ, pos, ◌+ℤ◌, ◌-ℤ◌, not, codes, replicate, slice_get, slice_set, nat_lt, nat_le, if◌then◌else◌, unwrap_or}
+use Rattle.std.proofs.Common.{◌≡◌, ◌≢◌, ◌∙◌, ℕ, ◌+◌, ◌*◌, ◌<◌, ◌≤◌, List, [], ◌∷◌, length, Bool, true, false, Option, Some, None, ◌⊎◌, inl, inr, refl, sym, ap, subst, arith, is_some, length-set}
+use Rattle.std.specs.Prelude.{◌==◌, ◌&&◌, Result, Ok, Err, IfErr, pos, ◌+ℤ◌, ◌-ℤ◌, not, replicate, slice_get, slice_set, nat_lt, nat_le, if◌then◌else◌, unwrap_or}
 use Rattle.std.proofs.lemmas.Bool.{ne_eqb}
 use Rattle.std.proofs.lemmas.Bool.Decides.{nat_tests}
 use Rattle.std.proofs.lemmas.List.{length-replicate}
@@ -13,7 +13,7 @@ use Rattle.st_model.specs.Values.{Value, Small, Ref, integer}
 use Rattle.st_model.specs.Objects.{Object, nil, place_of, is_pointers, is_method, with_field}
 use Rattle.st_model.specs.Formed.{fresh_with}
 use Rattle.st_model.specs.Machine.{Head, Registers, State, Transition, Died, Went, Step, is_there, has_room, after, answer, die, ◌>>=◌, ◌>>◌}
-use Rattle.st_model.specs.Steps.{of_page, found, object_named, object, same_value, made, make_named, make, new_object, check, or_die, fetch_field, fetch_integer, integer_or_die, count_fields, store_field, set_registers, are_there}
+use Rattle.st_model.specs.Steps.{of_page, found, object_named, object, same_value, made, make_named, make, new_object, check, or_die, fetch_field, fetch_integer, integer_or_die, count_fields, store_field, are_there}
 use Rattle.st_model.specs.Methods.{flag_of, temporary_count, literal_count, is_large, context_size, method_header}
 use Rattle.st_model.specs.Storage.{check_not_method_class}
 use Rattle.st_model.specs.Contexts.{home_by, home_of, stack_place, fetch_stack_pointer, context_registers, fetch_context_registers, scheduled_context, fetch_scheduled_registers}
@@ -22,14 +22,14 @@ use Rattle.st_model.specs.View.{View, IsWhole, is_live, object_of, nothing}
 use Rattle.st_model.specs.Start.{idle_state}
 use Rattle.st_model.proofs.Runs.{run-then, run-next, after-went, run-answer, run-passed, run-some, run-set_registers}
 use Rattle.st_model.proofs.TableLemmas.{placed-first, placed-other, first_free-none}
-use Rattle.st_model.proofs.Tabular.{fetch_field-as, count_fields-as, method_header-as}
+use Rattle.st_model.proofs.Tabular.{fetch_field-as, count_fields-as}
 use Rattle.st_install.proofs.Goes.{object_at, replaced-it, replaced-other, same_or_other, Goes, Tells, over, then_goes, next_goes, read_goes, answer_goes, tells_answer, tells_then, tells_page, tells_object, tells_field, tells_count, store_goes}
 use Rattle.st_install.proofs.GoesSeeking.{bounded_reads}
 use Rattle.st_kernel_text.specs.Parts.{Start}
 use Rattle.st_kernel.specs.Starting.{method_of, first_words, fill_first_context, schedule, schedule_method, in_new_context, in_new_process, fetch_if, begin_by}
 use Rattle.st_kernel.specs.Built.{Built, Fault, fault_at, begun_as, begun_in}
 use Rattle.st_kernel.specs.Following.{Ends}
-use Rattle.st_kernel.specs.Found.{Finds, IsFound, IsPointers, HasScheduler, scheduler_association, Begins, IsMissing}
+use Rattle.st_kernel.specs.Found.{Finds, IsFound, HasScheduler, scheduler_association, Begins, IsMissing}
 
 -- STEPS
 
@@ -588,7 +588,7 @@ live_entry : (t : Table) (n : ℕ) → is_live t (Ref n) ≡ true → is_some (e
 unfolding is_live
 live_entry t n e = e
 
-module _ (v : View) (s : Start) (whole : IsWhole v) (has : HasScheduler v) (h : IsFound v s) where
+module _ (v : View) (s : Start) (page : (q : PageObject) → is_live v.objects (Ref (place_of q)) ≡ true) (has : HasScheduler v) (h : IsFound v s) where
   is_set : (method : ℕ) → IsMethodWith v.objects (Ref method) h.header → IsSet v.objects method h.header h.receiver has.scheduler
   is_set method m = record {
     association = object_of v.objects scheduler_association;
@@ -602,8 +602,8 @@ module _ (v : View) (s : Start) (whole : IsWhole v) (has : HasScheduler v) (h : 
     apart = has.other;
     has_method = m;
     there = there_bounded v.objects h.receiver h.there;
-    has_class = live_entry v.objects (place_of MethodContextClass) (whole.complete.page MethodContextClass);
-    has_nil = live_entry v.objects 1 (whole.complete.page NilObject);
+    has_class = live_entry v.objects (place_of MethodContextClass) (page MethodContextClass);
+    has_nil = live_entry v.objects 1 (page NilObject);
   }
 
   by_method : (method : Value) → h.method ≡ method → IsMethodWith v.objects method h.header → Begins v s
@@ -619,8 +619,11 @@ module _ (v : View) (s : Start) (whole : IsWhole v) (has : HasScheduler v) (h : 
       let f = l.2 in
       (l.0, l.1, simp (run-then, a, b, c, d, f, after-went) refl)
 
-  pub begins : Begins v s
-  begins = by_method h.method refl (header_went h.method h.header (idle_state v) (idle_state v) h.has_header)
+  pub begins_over : Begins v s
+  begins_over = by_method h.method refl (header_went h.method h.header (idle_state v) (idle_state v) h.has_header)
+
+pub begins : (v : View) (s : Start) → IsWhole v → HasScheduler v → IsFound v s → Begins v s
+begins v s whole has h = begins_over v s whole.complete.page has h
 
 abbrev cause_in : Result Built Fault → ℕ
 cause_in (Ok b) = 0
@@ -631,8 +634,11 @@ went_as n (Died cause) answered c e f = cc
 went_as n (Went true d) answered c e f = cc
 went_as n (Went false d) answered c e f = let q : cause_in (fault_at n 7) ≡ cause_in (fault_at n 6) = ap cause_in f in omega (arith, q)
 
+pub missing_over : (v : View) (s : Start) (n : ℕ) → ((q : PageObject) → is_live v.objects (Ref (place_of q)) ≡ true) → begun_in n s (idle_state v) ≡ fault_at n 6 → IsMissing v s
+missing_over v s n page e has h = let b = begins_over v s page has h in went_as n _ b.0 b.1 b.2 e
+
 pub missing : (v : View) (s : Start) (n : ℕ) → IsWhole v → begun_in n s (idle_state v) ≡ fault_at n 6 → IsMissing v s
-missing v s n whole e has h = let b = begins v s whole has h in went_as n _ b.0 b.1 b.2 e
+missing v s n whole e = missing_over v s n whole.complete.page e
 
 ended : (o : Transition (State Table) Bool) (r : Result Bool Dead) (k : Dead) (w : View) → Ends o r w → r ≡ Err k → (answered : Bool) (c : State Table) → o ≢ Went answered c
 ended (Died cause) r k w e f answered c g = cc

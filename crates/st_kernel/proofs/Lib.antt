@@ -10,3 +10,10 @@ pub mod Drills
 mod DrillRows
 mod Rows
 pub mod Found
+pub mod Keeping
+pub mod KeepingPlans
+pub mod KeepingInstalls
+pub mod Guarded
+pub mod Lost
+pub mod FirstThings
+pub mod FirstBirths

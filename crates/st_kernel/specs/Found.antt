@@ -1,9 +1,8 @@
 -- What a start finds, and with what its first process can be begun.
 use Rattle.std.specs.Prelude.{◌≡◌, ◌≢◌, ℕ, ◌+◌, ◌≤◌, true, codes, length, slice_get, Some, Bool}
-use Rattle.st_model.specs.declared.dead.Dead.{Dead}
 use Rattle.st_model.specs.declared.page.PageObject.TheVariants.{SchedulerAssociation, MethodClass}
 use Rattle.st_model.specs.Values.{Value, Ref}
-use Rattle.st_model.specs.Objects.{Object, place_of, is_pointers}
+use Rattle.st_model.specs.Objects.{place_of, is_pointers}
 use Rattle.st_model.specs.Machine.{State, Step, Went, is_there}
 use Rattle.st_model.specs.Methods.{context_size, method_header}
 use Rattle.st_model.specs.Table.{Table, table}

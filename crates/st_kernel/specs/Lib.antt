@@ -3,3 +3,4 @@ pub mod Built
 pub mod Following
 pub mod Drills
 pub mod Found
+pub mod Lost

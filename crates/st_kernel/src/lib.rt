@@ -15,4 +15,4 @@ mod scheduling;
 pub use building::build;
 pub use drilling::drill_text;
 pub use fault::KernelFault;
-pub use laws::found_starts_begin;
+pub use laws::{found_starts_begin, lost_starts_are_missing};

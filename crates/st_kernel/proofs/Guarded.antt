@@ -1,0 +1,256 @@
+-- What is guarded stays so through each installation.
+use Rattle.std.proofs.Common.{◌≡◌, ◌≢◌, ℕ, suc, ◌+◌, ◌<◌, List, [], ◌∷◌, length, Option, Some, None, Bool, Result, Ok, Err, refl, sym, ap, subst, ◌∙◌, arith, inl}
+use Rattle.st_model.specs.declared.page.PageObject.{PageObject}
+use Rattle.st_model.specs.Values.{Value, Small, Ref, IsLive}
+use Rattle.st_model.specs.Objects.{place_of}
+use Rattle.st_model.specs.Machine.{State, Head, roots_of, Transition, Died, Went, Step, answer, after, ◌>>=◌, ◌>>◌}
+use Rattle.st_model.specs.Births.{Births, births, object_born, borne, bearer, settled_births}
+use Rattle.st_model.specs.Table.{Table}
+use Rattle.st_model.specs.Settled.{settled_set, reclaim}
+use Rattle.st_model.specs.Saving.{settled_after}
+use Rattle.st_model.specs.Show.{IsKept}
+use Rattle.st_model.proofs.BirthLemmas.{borne_before, object_within}
+use Rattle.st_model.proofs.SettledLemmas.{settled-borne, object_born-settled}
+use Rattle.st_simulation.specs.Laws.{Runs}
+use Rattle.st_simulation.proofs.Same.{Anything, IsLiveOption}
+use Rattle.st_scan.specs.declared.fault.Fault as syntax_fault
+use Rattle.st_scan.specs.Views.{MethodView}
+use Rattle.st_emit.specs.Names.{NamesView}
+use Rattle.st_code.specs.declared.fault.Fault as code_fault
+use Rattle.st_code.specs.Methods.{PartsView, code}
+use Rattle.st_scope.specs.declared.fault.InstallFault.{InstallFault}
+use Rattle.st_scope.specs.Calls.{class_of_name}
+use Rattle.st_chunk.specs.Definitions.{Definition}
+use Rattle.st_protocol.specs.declared.refusal.Refusal.{Refusal}
+use Rattle.st_protocol.specs.Installing.{Accepted}
+use Rattle.st_install.specs.Plans.{Plan}
+use Rattle.st_install.specs.Syntax.{syntax}
+use Rattle.st_install.specs.Installing.{install}
+use Rattle.st_install.specs.SamePlans.{IsLiveClass}
+use Rattle.st_install.specs.Same.{RunsOn, IsReady}
+use Rattle.st_install.specs.Defining.{prepare_code, prepare_under, prepare_tree, prepare_in, prepare, with_plan, Prepared, carry_out, define, outcome_of, installed}
+use Rattle.st_install.proofs.SameCalls.{class_shows, names_show, ready_shows}
+use Rattle.st_install.proofs.SameHeaders.{code_header}
+use Rattle.st_install.proofs.SameInstalls.{install_shows, install_settles}
+use Rattle.st_kernel.proofs.Keeping.{Leads, Kept, Keeps}
+use Rattle.st_kernel.proofs.KeepingPlans.{class_of_name_keeps, Chosen, IsPlanIn, IsReadyIn, ready_keeps}
+use Rattle.st_kernel.proofs.KeepingInstalls.{Fixed, IsGuarded, Joins, apart_up, within_up, install_keeps}
+
+-- a running machine's births, in which all that an installation meets is among some objects, of which two others aren't
+pub record Holds (z : Fixed) (s : State Births) : Type 1 where
+  pub among : ℕ → Type 0
+  pub guarded : IsGuarded among z (length s.memory) s
+  pub within : (n : ℕ) → among n → n < length s.memory
+  pub apart : (n : ℕ) → among n → (n ≢ z.one) × (n ≢ z.other)
+  pub globals : IsLiveOption among z.head.globals
+  pub symbols : IsLiveOption among z.head.symbols
+  pub table : State Table
+  pub runs : Runs table s
+
+then_at : {A B : Type 0} (m : Step Births A) (f : A → Step Births B) (a : A) (s t : State Births) → m.run s ≡ Went a t → (m >>= f).run s ≡ (f a).run t
+unfolding ◌>>=◌ after
+then_at m f a s t e = rw e refl
+
+length-settled : (h : Births) (keep : ℕ → Bool) → length (settled_births h keep) ≡ length h
+length-settled [] keep = refl
+length-settled (b ∷ h) keep = ap (λ n. suc n) (length-settled h (λ n. keep (suc n)))
+
+-- WHAT STEPS ANSWER that change nothing
+
+abbrev Here : State Births → State Births → Type 0
+Here s u = u ≡ s
+
+module _ (s : State Births) (K : ℕ → Type 0) (leads : Leads K s.memory) where
+  here_leads : (u : State Births) → Here s u → Leads K u.memory
+  here_leads u e = subst (λ (x : State Births). Leads K x.memory) (sym e) leads
+
+  told : {A : Type 0} (P : A → Type 0) (m : Step Births A) (a : A) → Keeps (Here s) P m → m.run s ≡ Went a s → P a
+  told P m a k e = (subst (λ o. Kept (Here s) P o) e (k.go s refl)).0
+
+-- A DEFINITION
+
+module _ (z : Fixed) (s : State Births) (holds : Holds z s) (d : Definition) (selector : List ℕ) where
+  abbrev K : ℕ → Type 0
+  K = holds.among
+
+  pub record Installs (u : State Births) : Type 0 where
+    pub plan : Plan
+    pub is_ready : IsReady plan s
+    pub plan_in : IsPlanIn K plan
+    pub ran : (install births plan).run s ≡ Went tt u
+
+  abbrev carried : Transition (State Births) (Result Prepared Refusal) → Transition (State Births) (Result (List ℕ) Refusal)
+  carried o = after o (λ p t. (carry_out births p).run t)
+
+  abbrev said : List ℕ → Result (List ℕ) Refusal
+  said text = Ok text
+
+  module _ (u : State Births) where
+    abbrev Goal : Transition (State Births) (Result Prepared Refusal) → Type 0
+    Goal o = carried o ≡ Went (Ok selector) u → Installs u
+
+    refused : (why : Refusal) → Goal (Went (Err why) s)
+    unfolding carry_out after answer
+    refused why e = cc
+
+    ran_so : (p : Plan) (text : List ℕ) (x : Transition (State Births) (Unit {0})) → (install births p).run s ≡ x
+        → after x (λ a t. (answer {H = Births} (said text)).run t) ≡ Went (Ok selector) u → (install births p).run s ≡ Went tt u
+    unfolding after answer
+    ran_so p text (Died cause) f e = cc
+    ran_so p text (Went a t) f e = let q : t ≡ u = cc in f ∙ ap (λ w. Went tt w) q
+
+    by_plan : (text : List ℕ) (r : Result Plan InstallFault) → ((p : Plan) → r ≡ Ok p → IsReady p s × IsPlanIn K p) → Goal (Went (with_plan text r) s)
+    unfolding carry_out ◌>>◌ ◌>>=◌ after
+    by_plan text (Err fault) h e = refused _ e
+    by_plan text (Ok p) h e =
+        let k = h p refl in
+        record { plan = p; is_ready = k.0; plan_in = k.1; ran = ran_so p text ((install births p).run s) refl e }
+
+    module _ (class : Value) (class_in : IsLive K class) (class_kept : IsLive (IsKept s.memory) class) where
+      by_code : (tree : MethodView) (seen : NamesView) (r : Result PartsView code_fault.Fault) → code tree seen ≡ r → Goal ((prepare_code births s.head d class r).run s)
+      unfolding prepare_code answer
+      by_code tree seen (Err fault) f e = refused _ e
+      by_code tree seen (Ok parts) f e =
+          let header = code_header tree seen parts f in
+          let l = ready_shows class d.class d.meta parts holds.table s holds.runs.shows class_kept header in
+          let k = told s K holds.guarded.leads _ _ l.answer
+          (ready_keeps K (Here s) (here_leads s K holds.guarded.leads) s.head (subst (λ (a : Head). IsLiveOption K a.globals) (sym holds.guarded.head) holds.globals)
+          (subst (λ (a : Head). IsLiveOption K a.symbols) (sym holds.guarded.head) holds.symbols) class class_in d.class d.meta parts) l.born in
+          by_plan parts.selector l.answer
+          (λ p q. (
+            record { class = class; name = d.class; meta = d.meta; parts = parts; kept = class_kept; header = header; ready = l.born ∙ ap (λ a. Went a s) q },
+            subst (IsReadyIn K) q k,
+          ))
+          (ap carried (sym (then_at _ (λ r. answer (with_plan parts.selector r)) l.answer s s l.born)) ∙ e)
+
+      by_names : (tree : MethodView) (r : Result NamesView InstallFault) → Goal ((prepare_under births s.head d class tree r).run s)
+      unfolding prepare_under answer
+      by_names tree (Err fault) e = refused _ e
+      by_names tree (Ok seen) e = by_code tree seen (code tree seen) refl e
+
+      by_tree : (r : Result MethodView syntax_fault.Fault) → Goal ((prepare_tree births s.head d class r).run s)
+      unfolding prepare_tree answer
+      by_tree (Err fault) e = refused _ e
+      by_tree (Ok tree) e =
+          let l = names_show class d.meta tree holds.table s holds.runs.shows class_kept in
+          by_names tree l.answer (ap carried (sym (then_at _ (prepare_under births s.head d class tree) l.answer s s l.born)) ∙ e)
+
+    by_class : (r : Result Value InstallFault) → IsLiveClass K r → IsLiveClass (IsKept s.memory) r → Goal ((prepare_in births s.head d r).run s)
+    unfolding prepare_in answer
+    by_class (Err fault) h k e = refused _ e
+    by_class (Ok class) h k e = by_tree class h k (syntax d.text) e
+
+    defined : (define births s.head d).run s ≡ Went (Ok selector) u → Installs u
+    unfolding define prepare ◌>>=◌
+    defined e =
+        let l = class_shows d.class d.meta holds.table s holds.runs.shows in
+        let k = told s K holds.guarded.leads _ _ l.answer
+        (class_of_name_keeps K (Here s) (here_leads s K holds.guarded.leads) s.head d.class d.meta (subst (λ (a : Head). IsLiveOption K a.globals) (sym holds.guarded.head) holds.globals)) l.born in
+        by_class l.answer k l.kept (ap carried (sym (then_at (class_of_name births s.head d.class d.meta) (prepare_in births s.head d) l.answer s s l.born)) ∙ e)
+
+  -- what is left, before and after all that nothing supports is dropped
+
+  module _ (u : State Births) (h : Installs u) where
+    abbrev C : ℕ → Type 0
+    C = Chosen h.plan_in.first h.plan_in.last
+
+    abbrev K' : ℕ → Type 0
+    K' = Joins K C (length s.memory) (length h.plan.objects)
+
+    one_before : z.one < length s.memory
+    one_before = object_within s.memory z.one z.one_object holds.guarded.is_one
+
+    other_before : z.other < length s.memory
+    other_before = object_within s.memory z.other z.other_object holds.guarded.is_other
+
+    after_install : IsGuarded K' z (length s.memory + length h.plan.objects) u
+    after_install =
+        (subst (λ o. Kept (λ t. IsGuarded K' z (length s.memory + length h.plan.objects) t) Anything o) h.ran
+        (install_keeps K z h.plan h.plan_in (length s.memory) holds.within holds.apart one_before other_before s refl holds.guarded)).1
+
+    shown_by : (o : Transition (State Table) (Unit {0})) (p : Transition (State Births) (Unit {0})) (w : State Births) → p ≡ Went tt w → RunsOn o p → (c : State Table) × Runs c w
+    shown_by o (Died k) w e f = cc
+    shown_by (Died a) (Went y t) w e f = absurd f
+    shown_by (Went x c) (Went y t) w e f = let q : t ≡ w = cc in (c, subst (λ v. Runs c v) q f)
+
+    before : (c : State Table) × Runs c u
+    before = shown_by _ _ u h.ran (install_shows h.plan holds.table s holds.runs h.is_ready)
+
+    left : (c : State Table) × Runs c (reclaim births u)
+    left = shown_by _ _ (reclaim births u) (ap (settled_after births) h.ran) (install_settles h.plan holds.table s holds.runs h.is_ready)
+
+    abbrev keep : ℕ → Bool
+    keep = settled_set births u.memory (roots_of u)
+
+    abbrev t : State Births
+    t = reclaim births u
+
+    settled : t.memory ≡ settled_births u.memory keep
+    unfolding reclaim
+    settled = refl
+
+    same_object : (n : ℕ) → object_born t.memory n ≡ object_born u.memory n
+    same_object n = ap (λ m. object_born m n) settled ∙ object_born-settled u.memory keep n
+
+    same_bearer : (q : PageObject) → bearer t.memory (place_of q) ≡ bearer u.memory (place_of q)
+    same_bearer q =
+        let now = left.1.shows.page q in
+        let n = bearer t.memory (place_of q) in
+        let old = (settled-borne u.memory keep n (place_of q) (subst (λ m. borne m n ≡ Some (place_of q)) settled now)).0 in
+        before.1.shows.distinct n (bearer u.memory (place_of q)) (place_of q) old (before.1.shows.page q)
+
+    same_rest : (t.registers ≡ u.registers) × (t.world ≡ u.world) × (t.head ≡ u.head)
+    unfolding reclaim
+    same_rest = (refl, refl, refl)
+
+    same_length : length t.memory ≡ length u.memory
+    same_length = ap length settled ∙ length-settled u.memory keep
+
+    pub holds_on : Holds z t
+    holds_on =
+        let g = after_install in
+        record {
+          among = K';
+          guarded = record {
+            leads = record {
+              objects = λ n o k e. g.leads.objects n o k (sym (same_object n) ∙ e);
+              page = λ q o. subst (λ m. K' m) (sym (same_bearer q)) (g.leads.page q o);
+            };
+            is_one = same_object z.one ∙ g.is_one;
+            is_other = same_object z.other ∙ g.is_other;
+            page = λ q. same_bearer q ∙ g.page q;
+            below = λ q. borne_before t.memory (bearer t.memory (place_of q)) (place_of q) (left.1.shows.page q);
+            long = omega arith;
+            registers = same_rest.0 ∙ g.registers;
+            world = same_rest.1 ∙ g.world;
+            head = same_rest.2 ∙ g.head;
+          };
+          within = λ n k. (
+              let l = within_up K z h.plan h.plan_in (length s.memory) holds.within holds.apart one_before other_before n k in
+              let m = g.long in
+              let e = same_length in
+              omega (arith, l, m, e));
+          apart = λ n k. apart_up K z h.plan h.plan_in (length s.memory) holds.within holds.apart one_before other_before n k;
+          globals = option_up z.head.globals holds.globals;
+          symbols = option_up z.head.symbols holds.symbols;
+          table = left.0;
+          runs = left.1;
+        }
+      where
+        option_up : (x : Option Value) → IsLiveOption K x → IsLiveOption K' x
+        option_up None l = tt
+        option_up (Some (Small n)) l = tt
+        option_up (Some (Ref n)) l = inl l
+
+-- AN INSTALLATION that is accepted
+
+pub accepted : (z : Fixed) (s : State Births) (d : Definition) (selector : List ℕ) (t : State Births) → Holds z s → installed d s ≡ Accepted selector t → Holds z t
+unfolding installed
+accepted z s d selector t holds e = by_outcome ((define births s.head d).run s) refl e
+  where
+    by_outcome : (o : Transition (State Births) (Result (List ℕ) Refusal)) → (define births s.head d).run s ≡ o → outcome_of o ≡ Accepted selector t → Holds z t
+    by_outcome (Died cause) f g = cc
+    by_outcome (Went (Err why) u) f g = cc
+    by_outcome (Went (Ok name) u) f g =
+        let q : reclaim births u ≡ t = cc in
+        subst (Holds z) q (holds_on z s holds d name u (defined z s holds d name u f))
