@@ -36,7 +36,7 @@ use Rattle.st_session.specs.Browsing.{asked_text, memory_of}
 use Rattle.st_call.specs.Replies.{ok_text, full_text, missing_text, machine_text, accepted_text, refused_text}
 use Rattle.st_session.specs.FirstLines.{opening_text}
 use Rattle.st_session.specs.Answers.{dead_line, browse_course, event_course, going_on, cycle_course, run_course, looked, look_at, watched_course, until_course, named_course, living_line, line_course, defined_course, definition_course, answer}
-use Rattle.st_session.specs.Sessions.{longest, follow, follow_rest, follow_script, session, session_so_far}
+use Rattle.st_session.specs.Sessions.{longest, follow, follow_rest, follow_script, session, session_so_far, session_of}
 use Rattle.st_machine.specs.Prepared.{prepared}
 use Rattle.st_debug.specs.Stack.{stack_text}
 use Rattle.st_debug.specs.Watched.{At, watched, is_entered}
@@ -222,6 +222,10 @@ module _ {C : Type 0} where
       any_session_law replayed lost p script =
           law_of Any _ (preceded_law (Reply (opening_text replayed lost) ∷ []) (follow_script keeping install p script) (opening_lines replayed lost, tt) (follow_law p script))
 
+      pub any_session_of_law : (replayed : ℕ) (lost : List Loss) (p : Point C) (all : List Asked) → AreGood all → AcknowledgesEach (deeds_of (session_of keeping install replayed lost p all))
+      any_session_of_law replayed lost p all good =
+          law_of Any _ (preceded_law (Reply (opening_text replayed lost) ∷ []) (follow keeping install p all) (opening_lines replayed lost, tt) (follow_lawful p all good))
+
       pub any_session_so_far_law : (replayed : ℕ) (lost : List Loss) (p : Point C) (front : List ℕ) → AcknowledgesEach (deeds_of (session_so_far keeping install replayed lost p front))
       any_session_so_far_law replayed lost p front =
           let all = told_from (line_from 1) front in
@@ -248,3 +252,6 @@ session_law = any_session_law in_a_store store_laws installed accepted_selector
 
 pub session_so_far_law : (replayed : ℕ) (lost : List Loss) (p : Point Commit) (front : List ℕ) → AcknowledgesEach (deeds_of (session_so_far in_a_store installed replayed lost p front))
 session_so_far_law = any_session_so_far_law in_a_store store_laws installed accepted_selector
+
+pub session_of_law : (replayed : ℕ) (lost : List Loss) (p : Point Commit) (all : List Asked) → AreGood all → AcknowledgesEach (deeds_of (session_of in_a_store installed replayed lost p all))
+session_of_law = any_session_of_law in_a_store store_laws installed accepted_selector

@@ -5,7 +5,7 @@ ghost use Rattle.st_host.specs.Runs.{LeavesOnly, ReadsAlike, Narrows, NarrowsBut
 ghost use Rattle.st_store.specs.Names.{roots_file, IsNoFileOf};
 ghost use Rattle.st_store.specs.Roots.{Chooses, IsFresh};
 ghost use Rattle.st_store.specs.Refusals.{IsWrongNumber, Fit, RefusesFront, RefusesNumbers, Refuses, IsOfOpening, FaultHasCause};
-ghost use Rattle.st_store.specs.Stored.{Opens, IsSound, IsKept, IsOpening, stored_in};
+ghost use Rattle.st_store.specs.Stored.{Opens, IsSound, IsKept, IsReady, IsOpening, OpensAsOne, stored_in};
 ghost use Rattle.st_store.specs.declared.fault.StoreFault.TheVariants.{NotAStore, Disk};
 ghost use Rattle.st_store.specs.declared.fault.StorePlace.TheVariants.{Roots};
 
@@ -123,6 +123,10 @@ pub fn open_store<H: Host>(alloc: Global, host: &mut H, name: &str) -> Result<St
     // A stop at any moment leaves what it could leave before, or files that open as those that were read.
     ensures moments { IsTrue H.is_told → LeavesOnly H.Host.own host.old host.new
         (λ f s. (s ≡ H.said host.old) × IsOpening H.Host.own host.old name.now f) }
+    // Where all that a root names which could be chosen is firm, files that open as some that it could leave before.
+    ensures as_before { IsTrue H.is_told → IsReady H.Host.own host.old name.now
+        → LeavesOnly H.Host.own host.old host.new
+        (λ f s. (s ≡ H.said host.old) × OpensAsOne H.Host.own host.old name.now f) }
 
     ensures only { NarrowsBut H.Host.own (roots_file name.now) host.old host.new }
     ensures spares { Spares H.Host.own (IsNoFileOf name.now) host.old host.new }

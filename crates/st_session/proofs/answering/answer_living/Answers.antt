@@ -15,6 +15,7 @@ use Rattle.st_session.proofs.Responding.{ends_now, stays_now, line_said}
 use Rattle.st_session.proofs.Watches.{run_is_watched}
 use Rattle.st_session.proofs.Lines.{says_lines, stays_alive}
 use Rattle.st_session.proofs.Points.{GoesAs, living_answers}
+use Rattle.st_session.proofs.Starving.{never_starved}
 use Rattle.st_session.proofs.answering.answer_living.Goals as goal
 
 pub returns-in-End-clause-follows : goal.returns-in-End-clause-follows
@@ -70,6 +71,9 @@ returns-in-Stack-clause-follows g c =
     let same = show_is (shown_by view m) s shows (g.met.M.Memory.whole m.memory).places in
     rw c.in-Stack.is (line_said view g.H.Host m a k (stack_text (show s).memory (show s).registers.active) (alive s k) old new c.say_stack.result
     (subst (λ (x : State Table). Tells g.H.Host (stack_text x.memory x.registers.active) old new c.say_stack.result) (sym same) c.say_stack.ensures) holds (c.requires.alive, shows) refl))
+
+pub returns-in-Stack-clause-ample : goal.returns-in-Stack-clause-ample
+returns-in-Stack-clause-ample g c = λ none. never_starved c.say_stack.result c.say_stack.ensures.fault none
 
 pub returns-in-Snapshot-clause-follows : goal.returns-in-Snapshot-clause-follows
 returns-in-Snapshot-clause-follows g c =

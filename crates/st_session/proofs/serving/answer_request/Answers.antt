@@ -31,3 +31,9 @@ returns-in_default-clause-follows g c = λ p at.
     let called = c.answer_line in
     subst (λ x. GoesAs g.M.Memory.view g.H.Host c.args.archive.now.name called.new.machine called.new.archive c.args.host.now called.new.host p.kept (answer in_a_store installed p x) called.result)
     (sym (asked_line place c.args.request c.in_default.not-Browse c.in_default.not-Define)) (called.ensures.follows p at)
+
+pub returns-in-Browse-clause-starved : goal.returns-in-Browse-clause-starved
+returns-in-Browse-clause-starved g c = λ none. absurd (c.answer_ask.ensures.ample none)
+
+pub returns-in_default-clause-starved : goal.returns-in_default-clause-starved
+returns-in_default-clause-starved g c = λ none. absurd (c.answer_line.ensures.ample none)
