@@ -10,3 +10,9 @@ pub mod EachBlock
 pub mod Means
 mod RowsMeaning
 pub mod Sources
+pub mod Stacks
+pub mod Puts
+pub mod Coursing
+pub mod Stepping
+pub mod Continuing
+pub mod Specials

@@ -6,3 +6,6 @@ pub mod Walks
 pub mod Meanings
 pub mod Blocks
 pub mod Laws
+pub mod Deeds
+pub mod Courses
+pub mod Taken

@@ -1,6 +1,7 @@
-//! Values, as both a trace and a walk have them.
+//! Values, deeds and answers, as both a trace and a walk have them.
 
 use st_emit::{Constant, Place};
+use st_scan::Text;
 
 /// A variable by its number: an argument or a temporary, a variable of the receiver, or what an association among the
 /// literals holds.
@@ -29,3 +30,52 @@ pub struct Change {
     pub variable: Variable,
     pub value: Value,
 }
+
+/// Changes of variables; of two for one variable the later counts.
+pub type ChangeList = Vec<Change>;
+
+/// What a message answers, and which variables have other values then. No code names a variable from 64 on, so what is
+/// said of such a one is no matter.
+#[derive(Drop)]
+pub struct Answer {
+    pub value: Value,
+    pub changes: ChangeList,
+}
+
+/// The answers of the messages that are sent, in order.
+pub type AnswerList = Vec<Answer>;
+
+/// Values in order.
+pub type ValueList = Vec<Value>;
+
+/// One thing that a method does.
+#[derive(Drop)]
+pub enum Deed {
+    /// A message, to super or not.
+    Send {
+        receiver: Value,
+        selector: Text,
+        arguments: ValueList,
+        above: bool,
+    },
+    /// An assignment.
+    Assign {
+        variable: Variable,
+        value: Value,
+    },
+    /// A block is made.
+    Block {
+        number: usize,
+    },
+    /// A value is returned, from the method or from a block.
+    Return {
+        value: Value,
+    },
+    /// A form asks a value that is no boolean.
+    Unsure {
+        value: Value,
+    },
+}
+
+/// What a method does, one deed after the other.
+pub type Deeds = Vec<Deed>;

@@ -1,8 +1,17 @@
 //! What a method's source means, and what its code does: lists of deeds, which are the same.
 #![tactic(auto)]
 
+mod code;
+mod course;
 mod deed;
+mod fault;
+mod held;
 mod laws;
+mod message;
+mod walking;
 
-pub use deed::{Change, Value, Variable};
+pub use deed::{Answer, AnswerList, Change, ChangeList, Deed, Deeds, Value, ValueList, Variable};
+pub use fault::MeaningFault;
 pub use laws::code_means;
+pub use st_emit::{Constant, Place};
+pub use walking::walk;
