@@ -32,6 +32,7 @@ async function showClasses(place) {
 async function showMethods(place) {
   if (!place.class) return;
   const {groups, above, pointer, variables} = await ask('methods', keyOf(place));
+  if (here().class !== place.class || here().side !== place.side) return;
   at('method-list').replaceChildren(...groups.map((group) => methodGroup(group, place)));
   at('class-line').replaceChildren(objectLink(pointer, `${place.class}${place.side ? ' class' : ''}`), ` below ${above.join(', ') || 'nil'}`);
   if (variables.length) at('class-line').append(`; variables ${variables.join(' ')}`);
@@ -50,8 +51,12 @@ export function objectLink(pointer, text) {
   return made;
 }
 
+// A value: a number, or a link to the object.
+export const valueOf = ({id, text}) => id === undefined ? text : objectLink(id, `@${id} ${text}`);
+
 async function showMethod(place) {
   const [text, code] = await Promise.all([ask('source', keyOf(place)), ask('bytecodes', keyOf(place))]);
+  if (shown !== pathOf(place)) return;
   at('method-text').value = text.text ?? '';
   at('category').value = text.category || 'as yet unclassified';
   at('origin').textContent = text.versions ? `${text.origin}, ${text.versions} time${text.versions > 1 ? 's' : ''}` : text.origin;

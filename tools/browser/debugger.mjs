@@ -1,14 +1,12 @@
 // The contexts, the registers, and the machine one bytecode at a time.
 import {ask} from './asking.mjs';
-import {objectLink, row} from './classes.mjs';
+import {objectLink, row, valueOf} from './classes.mjs';
 import {element} from './transcript.mjs';
 import {go} from './places.mjs';
 
 const at = (id) => document.getElementById(id);
 const SHOWN = 300; // rows of the trace
 let attempt, key, waiting;
-
-const valueOf = ({id, text}) => id === undefined ? text : objectLink(id, `@${id} ${text}`);
 
 function fill(id, rows) {
   at(id).tBodies[0].replaceChildren(...rows);

@@ -4,7 +4,7 @@ import {buttonOf, characterOf, pixelAt, pixelsOf, wordOf} from './drawing.mjs';
 
 const at = (id) => document.getElementById(id);
 const BETWEEN = 100, MOVES = 50; // milliseconds between two pictures, and between two places of the mouse
-let attempt, form = {width: 0, height: 0}, isDrawing = false, place, waiting;
+let attempt, form = {width: 0, height: 0}, isDrawing = false, place, waiting, telling = Promise.resolve();
 
 const scale = () => Number(at('scale').value);
 const devices = () => at('devices').value;
@@ -49,35 +49,44 @@ export function changed() {
   if (at('follow-display').checked) isDrawing ? waiting = setTimeout(changed, BETWEEN) : draw();
 }
 
-const tell = (word) => attempt(() => ask('input', {word}));
+// Tells the machine something, behind all that it is to be told before.
+function tell(what, given) {
+  telling = telling.then(() => attempt(() => ask(what, given)));
+}
 
 function tellPlace() {
-  const told = place;
+  if (place) tell('mouse', place);
   place = undefined;
-  if (told) attempt(() => ask('mouse', told));
 }
+
+const placeOf = (event) => pixelAt({x: event.offsetX, y: event.offsetY}, scale(), form);
 
 function move(event) {
   if (devices() === 'off') return;
   if (place === undefined) setTimeout(tellPlace, MOVES);
-  place = pixelAt({x: event.offsetX, y: event.offsetY}, scale(), form);
+  place = placeOf(event);
 }
 
 function press(event, isDown) {
-  if (isDown) at('screen').focus();
+  const screen = at('screen');
+  if (isDown) screen.focus();
   const button = buttonOf(event.button);
   if (devices() !== 'book' || button === undefined) return;
   event.preventDefault();
-  tell(wordOf(button, isDown));
+  if (isDown) screen.setPointerCapture(event.pointerId); // so that it is told here where the button goes up
+  place = placeOf(event);
+  tellPlace();
+  tell('input', {word: wordOf(button, isDown)});
 }
 
 function key(event, isDown) {
   if (event.key === 'Escape') return at('screen').blur();
   const code = characterOf(event);
-  if (devices() === 'off' || code === undefined || event.key === 'Tab') return undefined;
+  if (devices() === 'off' || code === undefined) return undefined;
   event.preventDefault();
-  if (devices() === 'book') return tell(wordOf(code, isDown));
-  return isDown ? tell(code) : undefined;
+  if (devices() === 'book') tell('input', {word: wordOf(code, isDown)});
+  else if (isDown) tell('input', {word: code});
+  return undefined;
 }
 
 export function begin(attempts) {

@@ -26,7 +26,7 @@ export function pixelAt({x, y}, scale, {width, height}) {
   return {x: within(x, width), y: within(y, height)};
 }
 
-const CODES = {Enter: 13, Backspace: 8, Tab: 9, Delete: 127, Escape: 27};
+const CODES = {Enter: 13, Backspace: 8, Delete: 127};
 
 // The code of the character that a key is, or none. Ctrl with a letter is a control character, as Ctrl-C is 3.
 export function characterOf({key, ctrlKey}) {

@@ -1,12 +1,10 @@
 // Objects by their pointers, with links to the class and to what the fields name.
 import {ask} from './asking.mjs';
-import {objectLink, row} from './classes.mjs';
+import {objectLink, row, valueOf} from './classes.mjs';
 import {go, here} from './places.mjs';
 
 const at = (id) => document.getElementById(id);
 let attempt, next = 0;
-
-const valueOf = ({id, text}) => id === undefined ? text : objectLink(id, `@${id} ${text}`);
 
 function showHead(told) {
   at('object-name').textContent = `@${told.id} ${told.text}`;
@@ -18,6 +16,7 @@ function showHead(told) {
 }
 
 async function showFrom(pointer, from) {
+  at('more-fields').hidden = true;
   const told = await ask('object', {id: pointer, from});
   if (from === 0) showHead(told);
   at('object-bytes').textContent += told.kind === 'Bytes' ? told.bytes : told.units.length ? `${told.units.join(' ')} ` : '';
