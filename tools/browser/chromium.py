@@ -63,7 +63,10 @@ class Chromium:
         while b"\0" not in self.rest:
             if not select.select([self.back], [], [], max(0, until - time.monotonic()))[0]:
                 raise TimeoutError("the browser says nothing")
-            self.rest += os.read(self.back, 1 << 20)
+            data = os.read(self.back, 1 << 20)
+            if not data:
+                raise ConnectionError("the browser is gone")
+            self.rest += data
         data, self.rest = self.rest.split(b"\0", 1)
         return json.loads(data)
 
