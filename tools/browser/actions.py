@@ -44,25 +44,51 @@ def side_in(given):
     return name, given.get("meta") is True
 
 
-def key_in(given):
-    """A method: its class's name, its side and its selector."""
+def selector_in(given):
     selector = text_in(given, "selector")
     if not re.fullmatch(SELECTOR, selector):
         raise Refused(400, f"`{selector[:40]}` is no selector")
-    return (*side_in(given), selector)
+    return selector
+
+
+def key_in(given):
+    """A method: its class's name, its side and its selector."""
+    return (*side_in(given), selector_in(given))
 
 
 def named(key):
     return f"{key[0]}{' class' if key[1] else ''}" + (f" {key[2]}" if key[2:] else "")
 
 
-def ask(desk, line):
-    """The reply to a line, which is one of a script."""
-    desk.need_session()
+def checked(line):
+    """The line, which has to be one of a script."""
     why = why_no_line(line)
     if why:
         raise Refused(400, why)
-    return desk.session.ask(line)
+    return line
+
+
+def ask(desk, line):
+    """The reply to a line."""
+    desk.need_session()
+    return desk.session.ask(checked(line))
+
+
+def listed(desk, line):
+    """The reply to a line that asks for a list, which begins with the line's word; `Refused` where there is none."""
+    reply = ask(desk, line)
+    word, _, about = line.partition(" ")
+    if reply[0].split(" ")[0] != word:
+        raise Refused(404 if reply[0] == "not found" else 409, f"{about or word}: {meaning_of(reply[0])}")
+    return reply
+
+
+def tell(desk, line):
+    """Tells the machine something, which it takes."""
+    reply = ask(desk, line)[0]
+    if reply != "ok":
+        raise Refused(409, meaning_of(reply))
+    return {"reply": reply}
 
 
 def texts_of(reply):
@@ -101,7 +127,10 @@ def interrupt(desk, _):
 
 def snapshot(desk, _):
     reply = ask(desk, "snapshot")[0]
-    desk.log.add("told", reply)
+    if reply.startswith("dead"):
+        desk.judge(reply)
+    else:
+        desk.log.add("told", reply)
     desk.settle()
     return {"reply": reply}
 
@@ -116,26 +145,24 @@ def reopen(desk, _):
 
 
 def input_word(desk, given):
-    return {"reply": ask(desk, f"input {number_in(given, 'word', 0, 65535)}")[0]}
+    return tell(desk, f"input {number_in(given, 'word', 0, 65535)}")
 
 
 def mouse(desk, given):
-    return {"reply": ask(desk, f"mouse {number_in(given, 'x', 0, 16383)} {number_in(given, 'y', 0, 16383)}")[0]}
+    return tell(desk, f"mouse {number_in(given, 'x', 0, 16383)} {number_in(given, 'y', 0, 16383)}")
 
 
 # Classes and methods
 
 
 def classes(desk, _):
-    return {"classes": texts_of(ask(desk, "classes"))}
+    return {"classes": texts_of(listed(desk, "classes"))}
 
 
 def methods(desk, given):
     """The selectors of a side by category, what stands above it, and its variables."""
     side = side_in(given)
-    reply = ask(desk, f"methods {named(side)}")
-    if not reply[0].startswith("methods"):
-        raise Refused(404, f"{named(side)}: {meaning_of(reply[0])}")
+    reply = listed(desk, f"methods {named(side)}")
     desk.texts.look()
     groups = {}
     for selector in texts_of(reply):
@@ -162,9 +189,7 @@ def source(desk, given):
 def bytecodes(desk, given):
     """A method's bytecodes, each with its name and its rule, and the method's pointer."""
     key = key_in(given)
-    reply = ask(desk, f"bytecodes {named(key)}")
-    if not reply[0].startswith("bytecodes"):
-        raise Refused(404, f"{named(key)}: {meaning_of(reply[0])}")
+    reply = listed(desk, f"bytecodes {named(key)}")
     method = desk.live.method(*key)
     codes = Codes(desk.live.literals(method), desk.live.variables(desk.live.side(*key[:2])))
     found = []
@@ -175,10 +200,8 @@ def bytecodes(desk, given):
 
 
 def senders(desk, given):
-    selector = text_in(given, "selector")
-    if not re.fullmatch(SELECTOR, selector):
-        raise Refused(400, f"`{selector[:40]}` is no selector")
-    found = [it.split(" ") for it in texts_of(ask(desk, f"senders {selector}"))]
+    """The methods that send a selector."""
+    found = [it.split(" ") for it in texts_of(listed(desk, f"senders {selector_in(given)}"))]
     return {"senders": [{"class": it[0], "meta": len(it) > 2, "selector": it[-1]} for it in found]}
 
 
@@ -189,13 +212,14 @@ def define(desk, given):
 
 
 def undo(desk, given):
-    """Defines anew what a method was defined as before."""
+    """Defines anew what a method was defined as before: in the store, or else in the kernel text."""
     desk.need_session()
     key = key_in(given)
-    kept = desk.texts.defined(key)
-    if len(kept) < 2:
-        raise Refused(409, f"{named(key)}: the store has no earlier definition of it")
-    return desk.define_in(key, kept[-2].category, kept[-2].text)
+    kept, kernel = desk.texts.defined(key), desk.texts.kernel.get(key)
+    earlier = kept[-2] if len(kept) > 1 else kernel if kept else None
+    if earlier is None:
+        raise Refused(409, f"{named(key)}: no earlier definition of it is known")
+    return desk.define_in(key, earlier.category, earlier.text)
 
 
 # Objects, the display, and the debugger
@@ -234,11 +258,8 @@ def display(desk, _):
 
 def stack(desk, _):
     """The contexts from the active one on, the first of them with its fields, and the registers."""
-    reply = ask(desk, "stack")
-    if not reply[0].startswith("stack"):
-        raise Refused(409, f"{reply[0]}: {meaning_of(reply[0])}")
     frames = []
-    for line in reply[1:]:
+    for line in listed(desk, "stack")[1:]:
         context, method = line.split()[1:]
         frames.append({"context": word_of(context), "method": word_of(method), "name": desk.live.name_of_context(word_of(context))})
     return {"frames": frames, "registers": registers(desk), "first": described(desk, frames[0]["context"]) if frames else None}
@@ -280,7 +301,8 @@ def trace(desk, given):
     lines = []
     end = desk.take(desk.session.course(f"trace {steps}"), lines)
     rows = [step(desk, line) for line in lines]
-    desk.judge(end) if not end.startswith("ran") else None
+    if not end.startswith("ran"):
+        desk.judge(end)
     desk.settle()
     return {"rows": rows, "end": end}
 
@@ -302,7 +324,7 @@ def until(desk, given):
     """Runs until a method is entered, at most so many bytecodes, in one piece: between two the machine could enter it unseen."""
     desk.need_rest()
     key = key_in(given)
-    line = f"until {number_in(given, 'cycles', 1, UNTIL)} {named(key)}"
+    line = checked(f"until {number_in(given, 'cycles', 1, UNTIL)} {named(key)}")
     end = desk.take(desk.session.course(line))
     if end == "not found":
         raise Refused(404, f"{named(key)} isn't there")

@@ -6,8 +6,10 @@ import queue
 import sys
 import threading
 import time
+import traceback
 
 sys.path.insert(0, str(pathlib.Path(__file__).resolve().parent.parent))
+from replies.chunks import BLANKS
 from replies.expressions import BEGIN, HEADER, INTERRUPT, is_open, source_of
 from replies.image import Wrong as NoStore
 from replies.live import Live
@@ -22,7 +24,6 @@ WAITING = 500  # what may wait to be done
 FIRST_PIECE, LEAST_PIECE, GREATEST_PIECE = 20000, 1000, 1000000  # bytecodes
 PIECE_SECONDS = 0.05
 WITHOUT_END = 10**15
-BLANKS = " \t\n\f\r"
 
 
 class Refused(Exception):
@@ -66,13 +67,22 @@ class Desk:
                 self.thread = threading.Thread(target=self.work, daemon=True)
                 self.thread.start()
 
-    def ask(self, action, given):
-        """The answer to what a window asks: `action` is done with this desk and what is given."""
+    def begin_or_refuse(self):
+        """The same, where what is wrong is said in the state and as a refusal."""
         try:
             self.begin()
         except Ended as end:
-            self.log.show(ended=self.why_ended(end))
-            raise Refused(409, self.why_ended(end)) from None
+            why = self.why_ended(end)
+        except (OSError, NoStore) as reason:
+            why = f"the store can't be opened: {reason}"
+        else:
+            return
+        self.log.show(ended=why)
+        raise Refused(409, why)
+
+    def ask(self, action, given):
+        """The answer to what a window asks: `action` is done with this desk and what is given."""
+        self.begin_or_refuse()
         answer = concurrent.futures.Future()
         try:
             self.jobs.put_nowait((action, given, answer))
@@ -109,12 +119,16 @@ class Desk:
         except Ended as end:
             self.end(end)
             answer.set_exception(Refused(409, self.why_ended(end)))
-        except (OSError, NoStore, ValueError) as reason:
+        except (OSError, NoStore) as reason:
+            answer.set_exception(Refused(500, str(reason)))
+        except Exception as reason:  # a mistake of ours, which mustn't end the thread: all that is asked later would wait for ever
+            traceback.print_exc()
+            self.log.show(going=self.going is not None)
             answer.set_exception(Refused(500, f"{type(reason).__name__}: {reason}"))
 
     def open(self):
-        self.session = Session(self.store)
-        self.live = Live(self.session, self.store)
+        session = Session(self.store)
+        self.session, self.live = session, Live(session, self.store)
         self.texts.forget()
         self.cycles, self.going, self.stopping, self.unfinished = 0, None, False, False
         again, lost = self.session.opened.split()[1:]
@@ -172,6 +186,11 @@ class Desk:
             self.settle()
         except Ended as end:
             self.end(end)
+        except Exception as reason:  # as in `do`
+            traceback.print_exc()
+            self.going = None
+            self.log.add("refused", f"{type(reason).__name__}: {reason}")
+            self.log.show(going=False)
 
     def take(self, lines, watch=None):
         """Puts what a run says in the transcript, and answers its last line."""

@@ -5,6 +5,7 @@ import http.server
 import json
 import pathlib
 import sys
+import threading
 import time
 import urllib.parse
 
@@ -36,13 +37,14 @@ HEADERS = {
 
 
 class Server(http.server.ThreadingHTTPServer):
-    """The desks by their secrets, and how many windows look at each."""
+    """The desks by their secrets, and how many more windows may look at each."""
 
     daemon_threads = True
     allow_reuse_address = True
 
     def __init__(self, port, desks):
-        self.desks, self.windows, self.is_over = desks, dict.fromkeys(desks, 0), False
+        self.desks, self.is_over = desks, False
+        self.windows = {secret: threading.BoundedSemaphore(WINDOWS) for secret in desks}
         super().__init__((ADDRESS, port), Handler)
 
     def address_of(self, secret):
@@ -90,11 +92,14 @@ class Handler(http.server.BaseHTTPRequestHandler):
         """Also what isn't HTTP gets a line."""
         self.say(code, {"error": message or http.server.BaseHTTPRequestHandler.responses.get(code, ("",))[0]})
 
-    def desk(self):
-        """The desk that is meant, and what of the path stands behind its secret; `Refused` where the request isn't from its page."""
+    def asked(self):
+        """The secret of the desk that is meant, what of the path stands behind it, and the query; `Refused` where the request isn't from its page."""
         if self.headers.get("Host") not in self.server.hosts():
             raise Refused(403, "this server is asked by the address that it said, and by no other name")
-        parts = urllib.parse.urlsplit(self.path)
+        try:
+            parts = urllib.parse.urlsplit(self.path)
+        except ValueError:
+            raise Refused(400, "the address is none") from None
         secret = self.server.secret_in(parts.path)
         if secret is None:
             raise Refused(403, "the address has no secret of this server")
@@ -105,7 +110,7 @@ class Handler(http.server.BaseHTTPRequestHandler):
 
     def do_GET(self):
         try:
-            secret, name, query = self.desk()
+            secret, name, query = self.asked()
             if name == "events":
                 self.events(secret, query)
             elif name in FILES:
@@ -118,7 +123,7 @@ class Handler(http.server.BaseHTTPRequestHandler):
 
     def do_POST(self):
         try:
-            secret, name, _ = self.desk()
+            secret, name, _ = self.asked()
             if name != "do":
                 raise Refused(404, "what is asked goes to `do`")
             given = self.given()
@@ -131,7 +136,7 @@ class Handler(http.server.BaseHTTPRequestHandler):
         if self.headers.get_content_type() != "application/json":
             raise Refused(415, "what is asked is JSON")
         length = self.headers.get("Content-Length", "")
-        if not length.isascii() or not length.isdigit():
+        if not length.isascii() or not length.isdigit() or len(length) > 15:
             raise Refused(411, "a request says its length")
         if int(length) > LONGEST:
             self.pass_over(min(int(length), PASSED_OVER))
@@ -157,20 +162,20 @@ class Handler(http.server.BaseHTTPRequestHandler):
         last = self.headers.get("Last-Event-ID") or query.get("after", ["0"])[0]
         if not last.isascii() or not last.isdigit() or len(last) > 15:
             raise Refused(400, "`after` is the number of an entry")
-        if self.server.windows[secret] >= WINDOWS:
+        if not self.server.windows[secret].acquire(blocking=False):
             raise Refused(503, f"{WINDOWS} windows look at this store already")
-        desk = self.server.desks[secret]
         try:
-            desk.ask(lambda *_: None, {})
-        except Refused:
-            pass  # the store can't be opened, or the session has ended: the state says so
-        self.server.windows[secret] += 1
-        try:
-            self.follow(desk.log, int(last))
+            self.follow(self.server.desks[secret], int(last))
         finally:
-            self.server.windows[secret] -= 1
+            self.server.windows[secret].release()
 
-    def follow(self, log, number):
+    def follow(self, desk, number):
+        """Says what comes behind the entry of that number, until the window goes away or the server ends."""
+        try:
+            desk.begin_or_refuse()
+        except Refused:
+            pass  # the state says why
+        log = desk.log
         self.send_response(200)
         for name, text in {**HEADERS, "Content-Type": "text/event-stream", "Connection": "close"}.items():
             self.send_header(name, text)

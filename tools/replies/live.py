@@ -7,7 +7,7 @@ from .session import escape
 # The classes of the root page, whose names an image needn't have.
 PAGE = {12: "SmallInteger", 14: "String", 16: "Array", 22: "MethodContext", 24: "BlockContext", 26: "Point", 28: "LargePositiveInteger",
         32: "Message", 34: "CompiledMethod", 40: "Character", 56: "Symbol"}
-FALSE, TRUE, STRING, CHARACTER, SYMBOL, BLOCK = 4, 6, 14, 40, 56, 24
+FALSE, TRUE, STRING, CHARACTER, SYMBOL = 4, 6, 14, 40, 56
 SHOWN = 60  # characters of a text that stand for an object
 INSTRUCTION, METHOD, RECEIVER, FRONT = 1, 3, 5, 6  # fields of a context
 ABOVE = 1000  # superclasses that are looked through at most
@@ -73,7 +73,10 @@ class Live:
         """The name of a class, or of a metaclass by that of its one instance."""
         named = field_of(self, pointer, NAME)
         if named != NIL and self.elements_of(named):
-            return f"{self.name_of_class(named)} class"
+            return f"{self.own_name(named)} class"
+        return self.own_name(pointer)
+
+    def own_name(self, pointer):
         return class_name(self, pointer) or PAGE.get(pointer) or f"@{pointer}"
 
     def side(self, name, meta):
