@@ -9,7 +9,7 @@ from .chromium import Chromium
 KERNEL = pathlib.Path(__file__).resolve().parent.parent.parent / "kernels/book.kernel"
 CTRL = 2  # of a key's modifiers
 LOOKS = [(1400, 1250, "light"), (1400, 1250, "dark"), (360, 1500, "light"), (360, 1500, "dark")]
-DRAW_SECONDS, REPLY_SECONDS, FRAME_SECONDS = 0.05, 0.5, 0.2
+DRAW_SECONDS, REPLY_SECONDS, STILL_SECONDS = 0.05, 0.5, 0.5
 READY = "document.readyState === 'complete' && document.querySelectorAll('#class-list option').length > 60"
 
 DRAWING = """| form |
@@ -240,7 +240,9 @@ def a_loop(window, figures):
     figures["a million bytecodes done and shown"] = time.monotonic() - begun
     reader.click("stop")
     window.wait("document.getElementById('standing').textContent === 'stopped in an evaluation'")
-    figures["the longest time between two pictures of the page meanwhile"] = window.do("Math.max(...window.gaps.slice(5))") / 1000
+    still = window.do("Math.max(...window.gaps.slice(5))") / 1000
+    figures["the longest time between two pictures of the page meanwhile"] = still
+    assert still < STILL_SECONDS, still
     reader.click("interrupt")
     window.wait("document.getElementById('standing').textContent === 'ready'")
     wanted("interrupted" in reader.said(), True)
@@ -317,6 +319,7 @@ def a_browser(Page, folder):
                 begun = time.monotonic()
                 page.ask("senders", selector="zork")
                 figures["first reply"] = time.monotonic() - begun
+                assert figures["first reply"] < REPLY_SECONDS, figures
                 window = browser.window(page.address)
                 window.look(*LOOKS[0])
                 window.wait(READY)
