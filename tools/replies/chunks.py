@@ -29,7 +29,7 @@ def cut(text):
         else:
             found.append((begin, text[begin:at]))
             begin = at = at + 1
-    if text[begin:].strip(" \t\n\f\r"):
+    if text[begin:].strip(BLANKS):
         found.append((begin, text[begin:]))
     return found
 
@@ -38,8 +38,8 @@ def chunks_of(text):
     """The chunks of a text. A chunk opens a group where the one before it is empty and stands outside of a group."""
     chunks, inside, empty = [], False, False
     for number, (begin, raw) in enumerate(cut(text), 1):
-        first = begin + len(raw) - len(raw.lstrip(" \t\n\f\r"))
-        is_empty = not raw.strip(" \t\n\f\r")
+        first = begin + len(raw) - len(raw.lstrip(BLANKS))
+        is_empty = not raw.strip(BLANKS)
         opens = empty and not inside
         line = text[: begin if is_empty else first].count("\n") + 1
         chunks.append(Chunk(number, raw, line, opens))

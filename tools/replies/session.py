@@ -104,9 +104,9 @@ class Session:
         """The same for a line that runs in another way, as `trace 10`."""
         self.send(line.encode("latin-1") + b"\n")
         while True:
-            line = self.next_line()
-            yield line
-            if line.split(" ")[0] not in BEFORE_AN_END:
+            said = self.next_line()
+            yield said
+            if said.split(" ")[0] not in BEFORE_AN_END:
                 return
 
     def define(self, header, text):
