@@ -90,11 +90,14 @@ class Desk:
             raise Refused(503, "too much waits to be done; ask again") from None
         return answer.result()
 
-    def close(self):
-        """Ends the session, once what was asked before is done."""
+    def ask_to_end(self):
+        """Has the session end, once what was asked before is done."""
         if self.thread:
             self.jobs.put((None, None, None))
-            self.thread.join(10)
+
+    def wait_for_end(self, seconds):
+        if self.thread:
+            self.thread.join(seconds)
 
     # The thread's own
 
