@@ -78,16 +78,22 @@ def listed(desk, line):
     """The reply to a line that asks for a list, which begins with the line's word; `Refused` where there is none."""
     reply = ask(desk, line)
     word, _, about = line.partition(" ")
+    if reply[0] == "not found":
+        raise Refused(404, f"{about}: {meaning_of(reply[0])}")
     if reply[0].split(" ")[0] != word:
-        raise Refused(404 if reply[0] == "not found" else 409, f"{about or word}: {meaning_of(reply[0])}")
+        raise Refused(409, why_not(reply[0]))
     return reply
+
+
+def why_not(reply):
+    return f"the machine is dead: {meaning_of(reply)}" if reply.startswith("dead") else meaning_of(reply)
 
 
 def tell(desk, line):
     """Tells the machine something, which it takes."""
     reply = ask(desk, line)[0]
     if reply != "ok":
-        raise Refused(409, meaning_of(reply))
+        raise Refused(409, why_not(reply))
     return {"reply": reply}
 
 
