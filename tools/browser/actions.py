@@ -143,9 +143,10 @@ def snapshot(desk, _):
 
 def reopen(desk, _):
     """Closes the session, where there is one, and opens the store again."""
-    desk.going = None
-    if desk.session:
-        desk.session.close()
+    before, desk.session, desk.going = desk.session, None, None
+    desk.log.show(open=False, going=False)
+    if before:
+        before.close()
     desk.open()
     return {}
 
