@@ -16,3 +16,9 @@ pub mod Coursing
 pub mod Stepping
 pub mod Continuing
 pub mod Specials
+pub mod Inverting
+pub mod Standing
+pub mod RowsWalk
+pub mod RowsSend
+pub mod Walked
+pub mod Cycled

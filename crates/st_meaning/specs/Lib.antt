@@ -9,3 +9,4 @@ pub mod Laws
 pub mod Deeds
 pub mod Courses
 pub mod Taken
+pub mod Machines

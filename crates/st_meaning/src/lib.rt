@@ -8,10 +8,12 @@ mod fault;
 mod held;
 mod laws;
 mod message;
+mod steps;
 mod walking;
 
 pub use deed::{Answer, AnswerList, Change, ChangeList, Deed, Deeds, Value, ValueList, Variable};
 pub use fault::MeaningFault;
 pub use laws::code_means;
 pub use st_emit::{Constant, Place};
+pub use steps::step_walks;
 pub use walking::walk;
