@@ -1,5 +1,5 @@
 -- Where a walk goes on behind what an instruction does, and where it is over.
-use Rattle.std.proofs.Common.{◌≡◌, ℕ, zero, suc, ◌+◌, ◌-◌, ◌≤◌, ◌==◌, Bool, true, false, not, List, [], ◌∷◌, ◌++◌, length, drop, Option, Some, None, refl, sym, ap, ◌∙◌, subst, arith}
+use Rattle.std.proofs.Common.{◌≡◌, ℕ, ◌+◌, ◌-◌, ◌==◌, Bool, true, false, not, List, ◌∷◌, length, drop, Option, Some, None, refl, sym, ap, ◌∙◌, subst}
 use Rattle.std.specs.Prelude.{Result, Ok, Err, IfOk, IfErr, if◌then◌else◌}
 use Rattle.st_emit.specs.declared.step.Constant.TheVariants.{Receiver, True, False, Nil, Context}
 use Rattle.st_emit.specs.declared.step.Place.{Place}
@@ -9,8 +9,8 @@ use Rattle.st_code.specs.Methods.{PartsView}
 use Rattle.st_meaning.specs.declared.deed.Value.{Value}
 use Rattle.st_meaning.specs.declared.deed.Value.TheVariants as values
 use Rattle.st_meaning.specs.declared.course.Course.{Course}
-use Rattle.st_meaning.specs.Values.{assigned, sent, made, returned, unsure}
-use Rattle.st_meaning.specs.Runs.{Going, Outcome, went, over, long, stuck, Run, then_go, did, assign_to, answer_to, make_block, return_value, be_unsure, jump_back, decide}
+use Rattle.st_meaning.specs.Values.{returned, unsure}
+use Rattle.st_meaning.specs.Runs.{Going, Outcome, went, over, long, Run, then_go, assign_to, answer_to, make_block, be_unsure, decide}
 use Rattle.st_meaning.specs.Codes.{walk_code}
 use Rattle.st_meaning.specs.Codes as codes
 use Rattle.st_meaning.specs.Walks.{Next, values_of, on_boolean, done, act_found}

@@ -1,4 +1,4 @@
-use Rattle.std.proofs.Common.{List, sym, ap, ◌∙◌, subst}
+use Rattle.std.proofs.Common.{sym, ap, ◌∙◌, subst}
 use Rattle.std.specs.Prelude.{IfOk, ◌∷◌}
 use Rattle.st_meaning.specs.declared.code.Top.{Top}
 use Rattle.st_meaning.specs.Courses.{top_walked, stack_view, Does}

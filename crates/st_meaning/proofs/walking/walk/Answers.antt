@@ -1,4 +1,4 @@
-use Rattle.std.proofs.Common.{◌≡◌, ℕ, ◌<◌, List, Option, Some, None, Err, ◌∙◌, subst, arith, rules}
+use Rattle.std.proofs.Common.{◌≡◌, ℕ, ◌<◌, Option, Err, ◌∙◌, subst, arith, rules}
 use Rattle.st_code.specs.MethodDrafts.{parts_view}
 use Rattle.st_meaning.specs.Deeds.{answers_view, deeds_view}
 use Rattle.st_meaning.specs.Meanings.{Walk}
