@@ -1,5 +1,5 @@
 // What a session keeps.
-ghost use Rattle.std.specs.Prelude.{◌≡◌, ◌-◌, ℕ, List, Some, IsTrue, IfErr, IfOk, OnOk, IsSome, length};
+ghost use Rattle.std.specs.Prelude.{◌≡◌, ◌-◌, ℕ, List, Some, None, IsTrue, IfErr, IfOk, OnOk, OnErr, IsSome, length};
 ghost use Rattle.st_host.specs.Counts.{HasCause};
 ghost use Rattle.st_host.specs.Runs.{Makes, Spares};
 ghost use Rattle.st_image.specs.Back.{CanStart};
@@ -85,7 +85,7 @@ impl Archive {
 
     /// Keeps a definition: its entry stands in the changes file, synced. `TooLarge` comes where the entry would take the file
     /// past 2^30 bytes, and `OutOfMemory` where there is no memory: then nothing was done, since all memory is taken before the
-    /// first write. After `DiskFault` the store has the definition or it hasn't, and is closed.
+    /// first write, and the archive is as before. After `DiskFault` the store has the definition or it hasn't, and is closed.
     pub fn accept<H: Host>(
         &mut self,
         alloc: Global,
@@ -101,6 +101,8 @@ impl Archive {
             (Holds H.Host.own host.new self.new) (λ d. d) c
             (accepting c (definition_of definition.now)) result host.old host.new }
         ensures untouched { IfErr result (λ e. (e ≡ DiskFault → ⊥) → host.new ≡ host.old) }
+        ensures closed { IfErr result (λ e. e ≡ DiskFault → self.new.store ≡ None) }
+        ensures stays { IfErr result (λ e. (e ≡ DiskFault → ⊥) → self.new ≡ self.old) }
         ensures counts { Counts H.Host.own ⊥ host.old host.new result }
         ensures kind { IfErr result IsOfKeeping }
     {
@@ -124,8 +126,8 @@ impl Archive {
     }
 
     /// Keeps the image of a memory, and answers its length: it is written to the file that the store doesn't use, and the
-    /// store goes over to it whole, or not at all. No definition is to be replayed behind it. It takes no memory. A machine
-    /// can start from the memory, so that the image can be read.
+    /// store goes over to it whole, or not at all, and is closed after an error. No definition is to be replayed behind it. It
+    /// takes no memory. A machine can start from the memory, so that the image can be read.
     pub fn snapshot<M: Memory, H: Host>(&mut self, host: &mut H, m: &M) -> Result<u64, HostFault>
         requires open { IsSome self.old.store }
         requires starts { CanStart (M.view m.now) }
@@ -137,6 +139,7 @@ impl Archive {
             host.old host.new result }
         ensures holds { OnOk result ((c : Commit) → Holds H.Host.own host.old self.old c
             → Holds H.Host.own host.new self.new (imaged c (image_in (M.view m.now)))) }
+        ensures closed { OnErr result (self.new.store ≡ None) }
         ensures spares { Spares H.Host.own (IsNoFileOf self.old.name) host.old host.new }
         ensures say_count { H.say_faults host.new ≡ H.say_faults host.old }
         ensures cause { HasCause (H.disk_faults host.old) (H.disk_faults host.new) result }
