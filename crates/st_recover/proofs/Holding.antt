@@ -14,7 +14,7 @@ use Rattle.st_changes.proofs.ListTexts.{entries_more, all_more}
 use Rattle.st_recover.specs.Archives.{ArchiveState, IsStoreOf, store_of, Holds}
 use Rattle.st_recover.specs.Images.{IsReadable}
 use Rattle.st_recover.specs.Commits.{Commit, OpensAs, all_of, accepted, imaged, root_of, stored_of}
-use Rattle.st_recover.proofs.Commits.{all_accepted, grown_accepted, next_accepted, root_imaged, makes_commit}
+use Rattle.st_recover.proofs.Commits.{all_accepted, grown_accepted, next_accepted, root_imaged, makes_commit, held_openable}
 use Rattle.st_recover.proofs.Beside.{still_kept, written_makes, image_firm}
 
 pub some_same : {x y : StoreState} → Some x ≡ Some y → x ≡ y
@@ -41,12 +41,16 @@ module _ {D : Type 0} (host : Ghosts D) (a : D) (old : ArchiveState) (st : Store
 
   -- ONE DEFINITION MORE
 
-  pub accept_makes : {R E : Type 0} (d : Definition) (h : D) (result : Result R E)
+  all_good : (d : Definition) → IsDefinition d → All IsDefinition (all_of (accepted c d))
+  all_good d good = subst (λ (ds : List Definition). All IsDefinition ds) (sym (all_accepted c d)) (all_more (all_of c) d holds.good good)
+
+  pub accept_makes : {R E : Type 0} (d : Definition) (h : D) (result : Result R E) → IsDefinition d
       → ((x : Stored) → IsTrue host.is_told → IsKept host a st x → Makes host (Opens st.name) x (grown x (entry d)) a h result)
       → IsTrue host.is_told → Makes host (OpensAs old.name) c (accepted c d) a h result
-  accept_makes {R = R} {E = E} d h result makes told =
+  accept_makes {R = R} {E = E} d h result good makes told =
       let slot = holds.slot in
-      makes_commit old.name host slot slot c (accepted c d) a h result holds.readable holds.readable
+      makes_commit old.name host slot slot c (accepted c d) a h result (held_openable host a old c holds)
+      (record { readable = holds.readable; good = all_good d good })
       (subst (λ (x : Stored). Makes {R = R} {E = E} host (Opens old.name) (stored_of slot c) x a h result) (grown_accepted slot c d)
       (subst (λ (n : List ℕ). Makes {R = R} {E = E} host (Opens n) (stored_of slot c) (grown (stored_of slot c) (entry d)) a h result) named
       (makes (stored_of slot c) told (kept told))))
@@ -62,7 +66,7 @@ module _ {D : Type 0} (host : Ghosts D) (a : D) (old : ArchiveState) (st : Store
         slot = slot;
         store = store ∙ ap Some next_is;
         listed = listed ∙ ap (λ (ds : List Definition). ds ++ d ∷ []) holds.listed ∙ sym (all_accepted c d);
-        good = subst (λ (ds : List Definition). All IsDefinition ds) (sym (all_accepted c d)) (all_more (all_of c) d holds.good good);
+        good = all_good d good;
         kept = λ told. subst (λ (s : StoreState). IsKept host h s (stored_of slot (accepted c d))) next_is
             (subst (λ (x : Stored). IsKept host h next x) (grown_accepted slot c d) (keeps (stored_of slot c) told (kept told)));
         readable = holds.readable;
@@ -82,9 +86,13 @@ module _ {D : Type 0} (host : Ghosts D) (a : D) (old : ArchiveState) (st : Store
     writing : {R E : Type 0} (result : Result R E) → IsTrue host.is_told → Makes host (Opens st.name) (stored_of holds.slot c) (stored_of holds.slot c) a b result
     writing result told = written_makes host st holds.slot c a b told (kept told) file file_at writes result
 
+    still_good : All IsDefinition (all_of (imaged c image))
+    still_good = subst (λ (ds : List Definition). All IsDefinition ds) (sym (append-nil (all_of c))) holds.good
+
     as_commits : {R E : Type 0} (h : D) (result : Result R E) → Makes host (Opens st.name) (stored_of holds.slot c) (stored_of (1 - holds.slot) (imaged c image)) a h result
         → Makes host (OpensAs old.name) c (imaged c image) a h result
-    as_commits {R = R} {E = E} h result makes = makes_commit old.name host holds.slot (1 - holds.slot) c (imaged c image) a h result holds.readable readable
+    as_commits {R = R} {E = E} h result makes = makes_commit old.name host holds.slot (1 - holds.slot) c (imaged c image) a h result (held_openable host a old c holds)
+        (record { readable = readable; good = still_good })
         (subst (λ (n : List ℕ). Makes {R = R} {E = E} host (Opens n) (stored_of holds.slot c) (stored_of (1 - holds.slot) (imaged c image)) a h result) named makes)
 
     -- the image wasn't written
@@ -126,7 +134,7 @@ module _ {D : Type 0} (host : Ghosts D) (a : D) (old : ArchiveState) (st : Store
             slot = 1 - holds.slot;
             store = store ∙ ap Some next_is;
             listed = listed ∙ holds.listed ∙ sym all;
-            good = subst (λ (ds : List Definition). All IsDefinition ds) (sym all) holds.good;
+            good = still_good;
             kept = λ told. subst (λ (s : StoreState). IsKept host e s (stored_of (1 - holds.slot) (imaged c image))) next_is
                 (keeps (stored_of holds.slot c) (stored_of (1 - holds.slot) (imaged c image)) told
                 (still_kept host st holds.slot c a b told (kept told) file file_at writes) (firm told) root_is);

@@ -1,12 +1,14 @@
 -- What a stop leaves while a store is made.
 use Rattle.std.proofs.Common.{◌≡◌, ◌≢◌, inl, inr, ⊎_elim, ℕ, List, [], length, Option, IsTrue, refl, sym, subst, ap, ◌∙◌}
 use Rattle.std.specs.Prelude.{◌⊎◌, Some, None, Result}
+use Rattle.std.proofs.lemmas.List.Elements.{All-nil}
 use Rattle.st_host.specs.Files.{Files, bytes_of}
 use Rattle.st_host.specs.Stops.{Here}
 use Rattle.st_host.specs.Runs.{LeavesOnly, Elsewhere, Changes, ChangesBoth, Spares, IsSynced, Makes}
 use Rattle.st_host.specs.declared.host.Host.{Ghosts}
 use Rattle.st_host.proofs.Joining.{weaker, moments_join}
 use Rattle.st_host.proofs.Touching.{changes_spare, spares_join}
+use Rattle.st_chunk.specs.Definitions.{IsDefinition}
 use Rattle.st_store.specs.Names.{roots_file, changes_file, image_file}
 use Rattle.st_store.specs.Roots.{HasLetters}
 use Rattle.st_store.specs.Stored.{StoreState, Stored, Begins, Leaves, IsKept}
@@ -42,7 +44,7 @@ module _ {D : Type 0} (host : Ghosts D) (name image : List ℕ) (a : D) where
     still_empty d run x can = empty x ((run.others told).fewer (roots_file name) x (λ e. image_roots name 0 (sym e)) can)
 
     maybe_made : (f : Files) → IsReadable image → OpensMaybe name None f ⊎ OpensMaybe name (Some (first_stored (length image) image)) f → IsMade host name (first_commit image) a f
-    maybe_made f readable so = ⊎_elim (λ is. inr (none, inl is)) (λ is. inr (none, inr (record { slot = 0; opens = is; readable = readable }))) so
+    maybe_made f readable so = ⊎_elim (λ is. inr (none, inl is)) (λ is. inr (none, inr (record { slot = 0; opens = is; readable = readable; good = All-nil IsDefinition }))) so
 
     -- while the store is founded
     pub founding : {R E : Type 0} (d e : D) (result : Result R E) → IsReadable image → LeavesOnly host a d Moment → host.said d ≡ host.said b
