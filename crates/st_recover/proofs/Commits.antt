@@ -1,5 +1,5 @@
 -- From what a store has in its files to the commit that it holds.
-use Rattle.std.proofs.Common.{◌≡◌, inl, inr, ⊎_elim, ℕ, ◌+◌, ◌-◌, List, [], ◌∷◌, ◌++◌, length, IsTrue, sym, ap, ◌∙◌, append_assoc, length-append}
+use Rattle.std.proofs.Common.{◌≡◌, inl, inr, ⊎_elim, ℕ, ◌+◌, ◌-◌, List, [], ◌∷◌, ◌++◌, length, IsTrue, sym, ap, subst, ◌∙◌, append_assoc, length-append}
 use Rattle.std.specs.Prelude.{◌⊎◌, Result, Ok, Err, OnOk, All}
 use Rattle.std.proofs.lemmas.List.{append-nil}
 use Rattle.st_host.specs.Files.{Files}
@@ -8,6 +8,7 @@ use Rattle.st_host.specs.declared.host.Host.{Ghosts}
 use Rattle.st_host.proofs.Joining.{weaker}
 use Rattle.st_chunk.specs.Definitions.{Definition, IsDefinition, entry, entries}
 use Rattle.st_store.specs.Stored.{Opens}
+use Rattle.st_store.specs.Faults.{RestsUnlessGate}
 use Rattle.st_store.proofs.Turning.{rests}
 use Rattle.st_changes.specs.States.{grown, next_store}
 use Rattle.st_changes.proofs.ListTexts.{entries_more}
@@ -67,6 +68,16 @@ module _ (name : List ℕ) where
       moments = weaker host a b (λ f w. (w ≡ host.said a) × (OpensAs name c f ⊎ OpensAs name d f)) (λ f w. (w ≡ host.said a) × (Opens name (stored_of s c) f ⊎ Opens name (stored_of t d) f))
           makes.moments (λ f w so. (so.0, either_commit s t c d f first second so.1));
     }
+
+-- what stands of a store after a fault stands of the commit
+pub broken_commit : {D : Type 0} (host : Ghosts D) (name n : List ℕ) (slot : ℕ) (c : Commit) (h : D) → IsOpenable c → n ≡ name → RestsUnlessGate host (Opens n) n (stored_of slot c) h → RestsUnlessGate host (OpensAs name) name c h
+broken_commit {D = D} host name n slot c h openable named broken = ⊎_elim
+    (λ rest. inl (as_rest h rest))
+    (λ gate. inr (record { before = gate.before; rest = as_rest gate.before gate.rest; writes = gate.writes; fault = gate.fault }))
+    (subst (λ (x : List ℕ). RestsUnlessGate host (Opens x) x (stored_of slot c) h) named broken)
+  where
+    as_rest : (x : D) → IsAtRest host (Opens name) (stored_of slot c) x → IsAtRest host (OpensAs name) c x
+    as_rest x rest = record { opens_as = λ f can. as_commit name slot c f openable (rest.opens_as f can) }
 
 -- what an archive holds can be read
 pub held_openable : {D : Type 0} (host : Ghosts D) (h : D) (a : ArchiveState) (c : Commit) → Holds host h a c → IsOpenable c

@@ -1,26 +1,15 @@
 -- What files open as is determined.
 use Rattle.std.proofs.Common.{◌≡◌, inl, inr, ℕ, List, [], ◌∷◌, ◌++◌, length, refl, sym, ap, ◌∙◌, subst, arith, length-append}
 use Rattle.std.proofs.Math.Seq.{take-append_seam}
-use Rattle.st_host.specs.Files.{Files, bytes_of}
+use Rattle.st_host.specs.Files.{Files}
 use Rattle.st_host.specs.declared.host.Host.{Ghosts}
 use Rattle.st_chunk.specs.Definitions.{Definition, entry, entries}
-use Rattle.st_store.specs.Names.{roots_file}
-use Rattle.st_store.specs.Roots.{place, root_at}
-use Rattle.st_store.specs.Stored.{Stored, Opens, IsOpening, stored_in}
+use Rattle.st_store.specs.Stored.{Stored, Opens, IsOpening}
+use Rattle.st_store.proofs.Determined.{one_stored}
 use Rattle.st_changes.specs.Lists.{StandsAt, Lists}
 use Rattle.st_changes.proofs.Determined.{same_list, lists_back}
 use Rattle.st_recover.specs.Commits.{Commit, OpensAs, all_of, stored_of}
 use Rattle.st_recover.specs.Openings.{OpensAmong}
-
--- one root is chosen, and what it names is what the files have
-opens_in : (name : List ℕ) (c : Stored) (f : Files) → Opens name c f → stored_in name f c.root ≡ c
-opens_in name c f opens = λ i. record { root = c.root; image = opens.image.is i; changes = opens.changes.is i }
-
-pub one_stored : (name : List ℕ) (c d : Stored) (f : Files) → Opens name c f → Opens name d f → c ≡ d
-one_stored name c d f x y =
-    let number : x.number ≡ y.number = sym x.chosen.gate ∙ y.chosen.gate in
-    let root : c.root ≡ d.root = sym x.chosen.names ∙ ap (λ n. root_at (place n) (bytes_of (f (roots_file name)))) number ∙ y.chosen.names in
-    sym (opens_in name c f x) ∙ ap (stored_in name f) root ∙ opens_in name d f y
 
 -- the same definitions are cut in two at the same place where what stands before it is as long
 one_cut : (a b x y : List Definition) → a ++ x ≡ b ++ y → length (entries a) ≡ length (entries b) → (a ≡ b) × (x ≡ y)

@@ -11,7 +11,7 @@ use Rattle.st_store.specs.Stored.{Stored, StoreState, Opens, IsKept}
 use Rattle.st_store.proofs.Turning.{rests}
 use Rattle.st_changes.specs.Lists.{kept_changes}
 use Rattle.st_recover.specs.Openings.{image_in}
-use Rattle.st_recover.proofs.Determined.{one_stored}
+use Rattle.st_store.proofs.Determined.{one_stored}
 
 module _ {D : Type 0} (host : Ghosts D) where
   -- what is read of a store that is kept is what it has

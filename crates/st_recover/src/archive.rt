@@ -1,5 +1,5 @@
 // What a session keeps.
-ghost use Rattle.std.specs.Prelude.{◌≡◌, ◌-◌, ℕ, List, Some, IsTrue, IfErr, IfOk, OnOk, IsSome, length};
+ghost use Rattle.std.specs.Prelude.{◌≡◌, ◌-◌, ℕ, List, Some, IsTrue, IfErr, IfOk, OnOk, OnErr, IsSome, length};
 ghost use Rattle.st_host.specs.Counts.{HasCause};
 ghost use Rattle.st_host.specs.Runs.{Makes, Spares};
 ghost use Rattle.st_image.specs.Back.{CanStart};
@@ -7,6 +7,7 @@ ghost use Rattle.st_chunk.specs.Definitions.{IsDefinition, entries};
 ghost use Rattle.st_chunk.specs.ScriptDefinitions.{definition_of};
 ghost use Rattle.st_changes.specs.Views.{definition_of as kept_definition};
 ghost use Rattle.st_store.specs.Names.{IsNoFileOf};
+ghost use Rattle.st_store.specs.Faults.{RestsUnlessGate};
 ghost use Rattle.st_protocol.specs.Obeying.{Obeys};
 ghost use Rattle.st_protocol.specs.declared.status.Status.TheVariants.{DiskFault};
 ghost use Rattle.st_protocol.specs.Statuses.{Counts};
@@ -101,6 +102,9 @@ impl Archive {
             (Holds H.Host.own host.new self.new) (λ d. d) c
             (accepting c (definition_of definition.now)) result host.old host.new }
         ensures untouched { IfErr result (λ e. (e ≡ DiskFault → ⊥) → host.new ≡ host.old) }
+        ensures broken { IfErr result (λ e. e ≡ DiskFault → (c : Commit) → IsTrue H.is_told
+            → Holds H.Host.own host.old self.old c
+            → RestsUnlessGate H.Host.own (OpensAs self.old.name) self.old.name c host.new) }
         ensures counts { Counts H.Host.own ⊥ host.old host.new result }
         ensures kind { IfErr result IsOfKeeping }
     {
@@ -135,6 +139,8 @@ impl Archive {
         ensures makes { (c : Commit) → IsTrue H.is_told → Holds H.Host.own host.old self.old c
             → Makes H.Host.own (OpensAs self.old.name) c (imaged c (image_in (M.view m.now)))
             host.old host.new result }
+        ensures broken { OnErr result ((c : Commit) → IsTrue H.is_told → Holds H.Host.own host.old self.old c
+            → RestsUnlessGate H.Host.own (OpensAs self.old.name) self.old.name c host.new) }
         ensures holds { OnOk result ((c : Commit) → Holds H.Host.own host.old self.old c
             → Holds H.Host.own host.new self.new (imaged c (image_in (M.view m.now)))) }
         ensures spares { Spares H.Host.own (IsNoFileOf self.old.name) host.old host.new }

@@ -14,6 +14,7 @@ ghost use Rattle.st_chunk.specs.Definitions.{IsDefinition, entries};
 ghost use Rattle.st_store.specs.Names.{roots_file, image_file, IsNoFileOf};
 ghost use Rattle.st_store.specs.Stored.{Stored, Opens, IsSound, IsOpening, OpensAsOne};
 ghost use Rattle.st_store.specs.Stored.{IsReady as IsChosenFirmly};
+ghost use Rattle.st_store.specs.Faults.{Settles};
 ghost use Rattle.st_changes.specs.Lists.{StandsAt};
 ghost use Rattle.st_recover.specs.Commits.{Commit};
 ghost use Rattle.st_recover.specs.Replays.{ReplaysFrom};
@@ -123,6 +124,8 @@ fn fetch<L: Loader, H: Host>(
         → Opens name.now c (H.files host.old) → IsAtRest H.Host.own (Opens name.now) c host.new) }
     ensures moments { IsTrue H.is_told → LeavesOnly H.Host.own host.old host.new
         (λ f s. (s ≡ H.said host.old) × IsOpening H.Host.own host.old name.now f) }
+    ensures settles { IsTrue H.is_told → IsChosenFirmly H.Host.own host.old name.now
+        → Settles H.Host.own name.now host.old host.new }
     ensures only { NarrowsBut H.Host.own (roots_file name.now) host.old host.new }
     ensures spares { Spares H.Host.own (IsNoFileOf name.now) host.old host.new }
     ensures cause { IfErr result (OpeningHasCause H.Host.own host.old host.new) }
@@ -191,6 +194,9 @@ pub fn reopen<I: Installer, L: Loader, H: Host>(
     ensures as_before { IsTrue H.is_told → IsChosenFirmly H.Host.own host.old name.now
         → LeavesOnly H.Host.own host.old host.new
         (λ f s. (s ≡ H.said host.old) × OpensAsOne H.Host.own host.old name.now f) }
+    // And once the roots file was synced, files that open as one of these, also behind an error.
+    ensures settles { IsTrue H.is_told → IsChosenFirmly H.Host.own host.old name.now
+        → Settles H.Host.own name.now host.old host.new }
 
     ensures only { NarrowsBut H.Host.own (roots_file name.now) host.old host.new }
     ensures spares { Spares H.Host.own (IsNoFileOf name.now) host.old host.new }

@@ -12,7 +12,7 @@ use Rattle.st_recover.specs.Archives.{ArchiveState, IsStoreOf}
 use Rattle.st_recover.specs.Commits.{OpensAs, accepting}
 use Rattle.st_recover.proofs.Commits.{holds_rest}
 use Rattle.st_recover.proofs.Making.{both_spare}
-use Rattle.st_recover.proofs.Holding.{some_same, store_grown, named, accept_makes, accept_holds}
+use Rattle.st_recover.proofs.Holding.{some_same, store_grown, named, accept_makes, accept_broken, accept_holds}
 use Rattle.st_recover.proofs.Obeying.{it_fits, it_is_too_long, accept_kept, accept_failed, accept_refused, accept_starved}
 use Rattle.st_recover.proofs.archive.Archive.accept.Goals as goal
 
@@ -60,6 +60,12 @@ returns-in_default-append-clause-obeys g c x holds =
     let makes = accept_makes H a old st x holds there kept b c.append.result (subst IsDefinition (sym is) c.requires.good) (λ y told keeps. c.append.ensures.makes y told keeps) in
     obeys_as H (OpensAs old.name) (IsNoFileOf old.name) _ (λ d. d) x (accepting x kept) (accepting x (definition_of c.args.definition.now)) (Err DiskFault) a b (ap (accepting x) is)
     (accept_failed H (OpensAs old.name) (IsNoFileOf old.name) _ x kept a b c.append.result fits makes spares)
+
+pub returns-in_default-append-clause-broken : goal.returns-in_default-append-clause-broken
+returns-in_default-append-clause-broken g c disk x told holds =
+    let st = c.in-Some.store in
+    let there = ap (λ (s : ArchiveState). s.store) (sym c.self.view_is) ∙ sym c.take.ensures.value ∙ c.in-Some.is in
+    accept_broken g.H.Host c.args.host.now c.args.self.now st x holds there c.append.new.host (λ y told keeps. c.in_default-append.ensures.broken y told keeps) told
 
 pub invariant_of-self-2 : goal.invariant_of-self-2
 invariant_of-self-2 g c =
