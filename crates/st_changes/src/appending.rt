@@ -4,6 +4,7 @@ ghost use Rattle.st_host.specs.Counts.{HasCause};
 ghost use Rattle.st_host.specs.Runs.{Changes as ChangesFile, ChangesBoth, Makes};
 ghost use Rattle.st_store.specs.Names.{roots_file, changes_file};
 ghost use Rattle.st_store.specs.Stored.{Stored, Opens, IsFirm, IsKept};
+ghost use Rattle.st_store.specs.Faults.{RestsUnlessGate};
 ghost use Rattle.st_chunk.specs.Definitions.{IsDefinition, entry, entries};
 ghost use Rattle.st_changes.specs.Views.{definition_of};
 ghost use Rattle.st_changes.specs.States.{grown, next_store, FitsBehind};
@@ -57,6 +58,10 @@ impl Changes {
         ensures kept { IfOk result (λ next. (c : Stored) → IsTrue H.is_told
             → IsKept H.Host.own host.old store c
             → IsKept H.Host.own host.new next (grown c (entry (definition_of definition)))) }
+
+        // After an error they open as before, but where the gate failed.
+        ensures broken { OnErr result ((c : Stored) → IsTrue H.is_told → IsKept H.Host.own host.old store c
+            → RestsUnlessGate H.Host.own (Opens store.name) store.name c host.new) }
 
         ensures changes { ChangesBoth H.Host.own (changes_file store.name) (roots_file store.name)
             host.old host.new }

@@ -2,7 +2,7 @@
 use Rattle.std.proofs.Common.{◌≡◌, ◌≤◌, ℕ, List, take, Option, IsTrue, ap, subst, ◌∙◌}
 use Rattle.st_host.specs.Files.{Files, bytes_of}
 use Rattle.st_host.specs.Stops.{Here}
-use Rattle.st_host.specs.Runs.{LeavesOnly, ReadsAlike, Narrows, NarrowsBut, Changes, Spares}
+use Rattle.st_host.specs.Runs.{LeavesOnly, ReadsAlike, Narrows, NarrowsBut, Changes, Spares, IsAtRest}
 use Rattle.st_host.specs.declared.host.Host.{Ghosts}
 use Rattle.st_host.proofs.Joining.{moments_join}
 use Rattle.st_host.proofs.Touching.{narrows_but, but_join, changes_spare, spares_join}
@@ -11,6 +11,7 @@ use Rattle.st_store.specs.Stored.{Stored, StoreState, Opens, IsKept}
 use Rattle.st_store.proofs.Turning.{rests}
 use Rattle.st_changes.specs.Lists.{kept_changes}
 use Rattle.st_recover.specs.Openings.{image_in}
+use Rattle.st_store.proofs.Determined.{one_stored}
 
 module _ {D : Type 0} (host : Ghosts D) where
   -- what is read of a store that is kept is what it has
@@ -39,6 +40,14 @@ module _ {D : Type 0} (host : Ghosts D) where
         changes = λ x can. kept.is.firm.changes x (narrows.fewer told (changes_file store.name) x can);
       };
     };
+  }
+
+  -- so each state that a stop may leave opens as what was read
+  pub rests_as_read : (name : List ℕ) (store : StoreState) (c : Stored) (a d : D) (x : Stored) → IsTrue host.is_told → store.name ≡ name → Opens name c (host.files a) → Opens name x (host.files a) → IsKept host d store c
+      → IsAtRest host (Opens name) x d
+  rests_as_read name store c a d x told named was is kept = record {
+    opens_as = λ f can. subst (λ (y : Stored). Opens name y f) (one_stored name c x (host.files a) was is)
+        (subst (λ (n : List ℕ). Opens n c f) named (rests host store.name d store.chosen c f kept.is can));
   }
 
   -- A run that only reads behind a run: each state that a stop may leave is one that could be left before.

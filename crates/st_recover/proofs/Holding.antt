@@ -1,5 +1,5 @@
 -- What an archive holds goes on as its store and its list do.
-use Rattle.std.proofs.Common.{◌≡◌, ℕ, ◌-◌, List, [], ◌∷◌, ◌++◌, length, Option, IsTrue, sym, subst, ap, ◌∙◌, arith, length-append}
+use Rattle.std.proofs.Common.{◌≡◌, inl, ℕ, ◌-◌, List, [], ◌∷◌, ◌++◌, length, Option, IsTrue, sym, subst, ap, ◌∙◌, arith, length-append}
 use Rattle.std.specs.Prelude.{All, Some, Result, IsErr, unwrap_or}
 use Rattle.std.proofs.lemmas.List.{append-nil}
 use Rattle.st_host.specs.Runs.{WritesAbove, IsSynced, Makes}
@@ -8,13 +8,15 @@ use Rattle.st_host.proofs.Joining.{makes_then, makes_failed}
 use Rattle.st_chunk.specs.Definitions.{Definition, IsDefinition, entry, entries}
 use Rattle.st_store.specs.Names.{image_file}
 use Rattle.st_store.specs.Stored.{StoreState, Stored, Opens, IsFirm, IsKept}
+use Rattle.st_store.specs.Faults.{RestsUnlessGate}
 use Rattle.st_store.specs.declared.root.Root.{Root}
+use Rattle.st_store.proofs.Settling.{kept_rest}
 use Rattle.st_changes.specs.States.{grown, next_store}
 use Rattle.st_changes.proofs.ListTexts.{entries_more, all_more}
 use Rattle.st_recover.specs.Archives.{ArchiveState, IsStoreOf, store_of, Holds}
 use Rattle.st_recover.specs.Images.{IsReadable}
 use Rattle.st_recover.specs.Commits.{Commit, OpensAs, all_of, accepted, imaged, root_of, stored_of}
-use Rattle.st_recover.proofs.Commits.{all_accepted, grown_accepted, next_accepted, root_imaged, makes_commit}
+use Rattle.st_recover.proofs.Commits.{all_accepted, grown_accepted, next_accepted, root_imaged, makes_commit, held_openable, broken_commit}
 use Rattle.st_recover.proofs.Beside.{still_kept, written_makes, image_firm}
 
 pub some_same : {x y : StoreState} → Some x ≡ Some y → x ≡ y
@@ -41,15 +43,22 @@ module _ {D : Type 0} (host : Ghosts D) (a : D) (old : ArchiveState) (st : Store
 
   -- ONE DEFINITION MORE
 
-  pub accept_makes : {R E : Type 0} (d : Definition) (h : D) (result : Result R E)
+  all_good : (d : Definition) → IsDefinition d → All IsDefinition (all_of (accepted c d))
+  all_good d good = subst (λ (ds : List Definition). All IsDefinition ds) (sym (all_accepted c d)) (all_more (all_of c) d holds.good good)
+
+  pub accept_makes : {R E : Type 0} (d : Definition) (h : D) (result : Result R E) → IsDefinition d
       → ((x : Stored) → IsTrue host.is_told → IsKept host a st x → Makes host (Opens st.name) x (grown x (entry d)) a h result)
       → IsTrue host.is_told → Makes host (OpensAs old.name) c (accepted c d) a h result
-  accept_makes {R = R} {E = E} d h result makes told =
+  accept_makes {R = R} {E = E} d h result good makes told =
       let slot = holds.slot in
-      makes_commit old.name host slot slot c (accepted c d) a h result holds.readable holds.readable
+      makes_commit old.name host slot slot c (accepted c d) a h result (held_openable host a old c holds)
+      (record { readable = holds.readable; good = all_good d good })
       (subst (λ (x : Stored). Makes {R = R} {E = E} host (Opens old.name) (stored_of slot c) x a h result) (grown_accepted slot c d)
       (subst (λ (n : List ℕ). Makes {R = R} {E = E} host (Opens n) (stored_of slot c) (grown (stored_of slot c) (entry d)) a h result) named
       (makes (stored_of slot c) told (kept told))))
+
+  pub accept_broken : (h : D) → ((x : Stored) → IsTrue host.is_told → IsKept host a st x → RestsUnlessGate host (Opens st.name) st.name x h) → IsTrue host.is_told → RestsUnlessGate host (OpensAs old.name) old.name c h
+  accept_broken h broken told = broken_commit host old.name st.name holds.slot c h (held_openable host a old c holds) named (broken (stored_of holds.slot c) told (kept told))
 
   pub accept_holds : (d : Definition) (h : D) (new : ArchiveState) (next : StoreState) → IsDefinition d → new.name ≡ old.name → new.store ≡ Some next → new.listed ≡ old.listed ++ d ∷ []
       → next ≡ next_store st (entry d) → ((x : Stored) → IsTrue host.is_told → IsKept host a st x → IsKept host h next (grown x (entry d))) → Holds host h new (accepted c d)
@@ -62,7 +71,7 @@ module _ {D : Type 0} (host : Ghosts D) (a : D) (old : ArchiveState) (st : Store
         slot = slot;
         store = store ∙ ap Some next_is;
         listed = listed ∙ ap (λ (ds : List Definition). ds ++ d ∷ []) holds.listed ∙ sym (all_accepted c d);
-        good = subst (λ (ds : List Definition). All IsDefinition ds) (sym (all_accepted c d)) (all_more (all_of c) d holds.good good);
+        good = all_good d good;
         kept = λ told. subst (λ (s : StoreState). IsKept host h s (stored_of slot (accepted c d))) next_is
             (subst (λ (x : Stored). IsKept host h next x) (grown_accepted slot c d) (keeps (stored_of slot c) told (kept told)));
         readable = holds.readable;
@@ -82,15 +91,23 @@ module _ {D : Type 0} (host : Ghosts D) (a : D) (old : ArchiveState) (st : Store
     writing : {R E : Type 0} (result : Result R E) → IsTrue host.is_told → Makes host (Opens st.name) (stored_of holds.slot c) (stored_of holds.slot c) a b result
     writing result told = written_makes host st holds.slot c a b told (kept told) file file_at writes result
 
+    still_good : All IsDefinition (all_of (imaged c image))
+    still_good = subst (λ (ds : List Definition). All IsDefinition ds) (sym (append-nil (all_of c))) holds.good
+
     as_commits : {R E : Type 0} (h : D) (result : Result R E) → Makes host (Opens st.name) (stored_of holds.slot c) (stored_of (1 - holds.slot) (imaged c image)) a h result
         → Makes host (OpensAs old.name) c (imaged c image) a h result
-    as_commits {R = R} {E = E} h result makes = makes_commit old.name host holds.slot (1 - holds.slot) c (imaged c image) a h result holds.readable readable
+    as_commits {R = R} {E = E} h result makes = makes_commit old.name host holds.slot (1 - holds.slot) c (imaged c image) a h result (held_openable host a old c holds)
+        (record { readable = readable; good = still_good })
         (subst (λ (n : List ℕ). Makes {R = R} {E = E} host (Opens n) (stored_of holds.slot c) (stored_of (1 - holds.slot) (imaged c image)) a h result) named makes)
 
     -- the image wasn't written
     pub unwritten_makes : {R S E : Type 0} (first : Result R E) (result : Result S E) → IsErr result → IsTrue host.is_told → Makes host (OpensAs old.name) c (imaged c image) a b result
     unwritten_makes first result err told = as_commits b result
         (makes_failed host (Opens st.name) (stored_of holds.slot c) (stored_of (1 - holds.slot) (imaged c image)) a b b first result err (writing first told))
+
+    pub unwritten_broken : {R E : Type 0} (first : Result R E) → IsTrue host.is_told → RestsUnlessGate host (OpensAs old.name) old.name c b
+    unwritten_broken first told = broken_commit host old.name st.name holds.slot c b (held_openable host a old c holds) named
+        (inl (kept_rest host (Opens st.name) (stored_of holds.slot c) a b first (writing first told)))
 
     -- it was, and then the root is committed
     module _ (reads : IsTrue host.is_told → host.files b file ≡ Some image) (synced : IsSynced host file b) (root_at : root.slot ≡ at) (long : root.image_length ≡ length image)
@@ -113,6 +130,14 @@ module _ {D : Type 0} (host : Ghosts D) (a : D) (old : ArchiveState) (st : Store
           as_commits e result (makes_then host (Opens st.name) x y a b e first result (writing first told)
           (onward x y (makes x y told (still_kept host st holds.slot c a b told (kept told) file file_at writes) (firm told) root_is)))
 
+      pub snapshot_broken : (e : D) → ((x y : Stored) → IsTrue host.is_told → IsKept host b st x → IsFirm host b st.name y → y.root ≡ root → RestsUnlessGate host (Opens st.name) st.name x e)
+          → IsTrue host.is_told → RestsUnlessGate host (OpensAs old.name) old.name c e
+      snapshot_broken e broken told =
+          let x = stored_of holds.slot c in
+          let y = stored_of (1 - holds.slot) (imaged c image) in
+          broken_commit host old.name st.name holds.slot c e (held_openable host a old c holds) named
+          (broken x y told (still_kept host st holds.slot c a b told (kept told) file file_at writes) (firm told) root_is)
+
       pub snapshot_holds : (e : D) (new : ArchiveState) (next : StoreState) → new.name ≡ old.name → new.store ≡ Some next → new.listed ≡ old.listed
           → next ≡ record { name = st.name; chosen = 1 - st.chosen; root = root }
           → ((x y : Stored) → IsTrue host.is_told → IsKept host b st x → IsFirm host b st.name y → y.root ≡ root → IsKept host e next y)
@@ -126,7 +151,7 @@ module _ {D : Type 0} (host : Ghosts D) (a : D) (old : ArchiveState) (st : Store
             slot = 1 - holds.slot;
             store = store ∙ ap Some next_is;
             listed = listed ∙ holds.listed ∙ sym all;
-            good = subst (λ (ds : List Definition). All IsDefinition ds) (sym all) holds.good;
+            good = still_good;
             kept = λ told. subst (λ (s : StoreState). IsKept host e s (stored_of (1 - holds.slot) (imaged c image))) next_is
                 (keeps (stored_of holds.slot c) (stored_of (1 - holds.slot) (imaged c image)) told
                 (still_kept host st holds.slot c a b told (kept told) file file_at writes) (firm told) root_is);

@@ -1,16 +1,19 @@
 -- What a stop leaves while a store is made.
 use Rattle.std.proofs.Common.{◌≡◌, ◌≢◌, inl, inr, ⊎_elim, ℕ, List, [], length, Option, IsTrue, refl, sym, subst, ap, ◌∙◌}
 use Rattle.std.specs.Prelude.{◌⊎◌, Some, None, Result}
+use Rattle.std.proofs.lemmas.List.Elements.{All-nil}
 use Rattle.st_host.specs.Files.{Files, bytes_of}
 use Rattle.st_host.specs.Stops.{Here}
-use Rattle.st_host.specs.Runs.{LeavesOnly, Elsewhere, Changes, ChangesBoth, Spares, IsSynced, Makes}
+use Rattle.st_host.specs.Runs.{LeavesOnly, Elsewhere, Changes, ChangesBoth, Spares, IsSynced, IsAtRest, Makes}
 use Rattle.st_host.specs.declared.host.Host.{Ghosts}
 use Rattle.st_host.proofs.Joining.{weaker, moments_join}
 use Rattle.st_host.proofs.Touching.{changes_spare, spares_join}
+use Rattle.st_chunk.specs.Definitions.{IsDefinition}
 use Rattle.st_store.specs.Names.{roots_file, changes_file, image_file}
 use Rattle.st_store.specs.Roots.{HasLetters}
 use Rattle.st_store.specs.Stored.{StoreState, Stored, Begins, Leaves, IsKept}
 use Rattle.st_store.specs.Founding.{OpensMaybe, IsCleared, first_root, first_stored, first_file}
+use Rattle.st_store.specs.Faults.{RestsUnlessLetters}
 use Rattle.st_store.proofs.Founding.{empty_none}
 use Rattle.st_store.proofs.Others.{image_roots, image_changes}
 use Rattle.st_recover.specs.Archives.{store_of}
@@ -42,7 +45,7 @@ module _ {D : Type 0} (host : Ghosts D) (name image : List ℕ) (a : D) where
     still_empty d run x can = empty x ((run.others told).fewer (roots_file name) x (λ e. image_roots name 0 (sym e)) can)
 
     maybe_made : (f : Files) → IsReadable image → OpensMaybe name None f ⊎ OpensMaybe name (Some (first_stored (length image) image)) f → IsMade host name (first_commit image) a f
-    maybe_made f readable so = ⊎_elim (λ is. inr (none, inl is)) (λ is. inr (none, inr (record { slot = 0; opens = is; readable = readable }))) so
+    maybe_made f readable so = ⊎_elim (λ is. inr (none, inl is)) (λ is. inr (none, inr (record { slot = 0; opens = is; readable = readable; good = All-nil IsDefinition }))) so
 
     -- while the store is founded
     pub founding : {R E : Type 0} (d e : D) (result : Result R E) → IsReadable image → LeavesOnly host a d Moment → host.said d ≡ host.said b
@@ -54,6 +57,33 @@ module _ {D : Type 0} (host : Ghosts D) (name image : List ℕ) (a : D) where
   pub behind : (b : D) → IsTrue host.is_told → ((f : Files) (s : List ℕ) → Here (host.may_leave b) (host.said b) f s → host.left_since b (host.moment a) f s)
       → LeavesOnly host a b Moment → (f : Files) → ((n : List ℕ) → host.may_leave b n (f n)) → IsMade host name (first_commit image) a f
   behind b told counts run f can = (run.each f (host.said b) (counts f (host.said b) (can, refl))).1
+
+-- after a fault
+module _ {D : Type 0} (host : Ghosts D) (name : List ℕ) (a : D) where
+  abbrev pub Cleared : Unit {0} → Files → Type 0
+  Cleared u f = IsCleared host name a f
+
+  -- the roots file wasn't emptied
+  pub cleared_rest : (b : D) → ((f : Files) (s : List ℕ) → Here (host.may_leave b) (host.said b) f s → host.left_since b (host.moment a) f s)
+      → LeavesOnly host a b (λ f s. (s ≡ host.said a) × IsCleared host name a f) → IsAtRest host Cleared tt b
+  cleared_rest b counts run = record { opens_as = λ f can. (run.each f (host.said b) (counts f (host.said b) (can, refl))).1 }
+
+  module _ (d : D) (none : HasLetters (bytes_of (host.files a (roots_file name))) → ⊥) where
+    -- it was, and the image wasn't written
+    pub empty_rest : Leaves host d (roots_file name) (λ file. bytes_of file ≡ []) → IsAtRest host Cleared tt d
+    empty_rest empty = record { opens_as = λ f can. inr (none, empty_none (f (roots_file name)) (empty (f (roots_file name)) (can (roots_file name)))) }
+
+    none_rest : (x : D) → IsAtRest {C = Option Stored} host (OpensMaybe name) None x → IsAtRest host Cleared tt x
+    none_rest x rest = record { opens_as = λ f can. inr (none, rest.opens_as f can) }
+
+    -- it was, and the store wasn't founded
+    pub founds_broken : (e : D) (n : List ℕ) → n ≡ name → Leaves host d (roots_file name) (λ file. bytes_of file ≡ [])
+        → (Leaves host d (roots_file n) (λ file. bytes_of file ≡ []) → RestsUnlessLetters host {C = Option Stored} (OpensMaybe n) n None e) → RestsUnlessLetters host Cleared name tt e
+    founds_broken e n named empty broken = ⊎_elim
+        (λ rest. inl (none_rest e rest))
+        (λ letters. inr (record { before = letters.before; rest = none_rest letters.before letters.rest; writes = letters.writes; fault = letters.fault }))
+        (subst (λ (x : List ℕ). RestsUnlessLetters host {C = Option Stored} (OpensMaybe x) x None e) named
+        (broken (subst (λ (x : List ℕ). Leaves host d (roots_file x) (λ file. bytes_of file ≡ [])) (sym named) empty)))
 
 pub both_spare : {D : Type 0} (host : Ghosts D) (one two : List ℕ) (names : List ℕ → Type 0) (a b : D) → ((n : List ℕ) → names n → n ≢ one) → ((n : List ℕ) → names n → n ≢ two)
     → ChangesBoth host one two a b → Spares host names a b

@@ -12,7 +12,7 @@ use Rattle.st_store.specs.declared.fault.StoreFault.{StoreFault}
 use Rattle.st_store.specs.declared.fault.StoreFault.TheVariants.{Missing, Exists, NotAStore, Disk, OutOfMemory}
 use Rattle.st_store.specs.declared.fault.StorePlace.TheVariants.{Roots, Changes}
 use Rattle.st_changes.specs.Lists.{RefusesChanges, IsOfLoading}
-use Rattle.st_recover.specs.Openings.{IsReadable, IsFaulty, RefusesImage, IsOfImage, by_store, RefusesOpening, IsOfReopening, IsOfRoots, OpeningHasCause}
+use Rattle.st_recover.specs.Openings.{IsReadable, IsFaulty, RefusesImage, IsOfImage, by_store, RefusesOpening, IsOfReopening, IsOfRoots, IsOfNamed, OpeningHasCause}
 use Rattle.st_recover.specs.declared.fault.OpenFault.{OpenFault}
 use Rattle.st_recover.specs.declared.fault.OpenFault.TheVariants as opening
 
@@ -32,6 +32,15 @@ store_kind Exists is = is
 store_kind (NotAStore place) is = tt
 store_kind Disk is = tt
 store_kind OutOfMemory is = tt
+
+-- none of opening the store is one of what its root names
+pub store_unnamed : (e : StoreFault) → IsOfOpening e → IsOfNamed (by_store e) → ⊥
+store_unnamed Missing is named = named
+store_unnamed Exists is named = is
+store_unnamed (NotAStore (Roots at)) is named = named
+store_unnamed (NotAStore (Changes at)) is named = is
+store_unnamed Disk is named = named
+store_unnamed OutOfMemory is named = named
 
 -- a fault of the roots file is none of the disk
 pub no_disk : (e : StoreFault) → IsOfRoots (by_store e) → e ≡ Disk → ⊥

@@ -68,8 +68,12 @@ module _ {D M : Type 0} (host : Ghosts D) (install : Install) (view : M → View
       let at : length (take n listed) ≡ n = omega (arith, length-take n listed, from.within) in
       let replays = from.replays o.loaded.frame (empty_world nil) start.births (ready_empty was o.loaded.frame start.frame quiet) start.shows in
       record {
-        opens = record { slot = slot; opens = subst (λ (s : Stored). Opens name s (host.files a)) (sym same) opens; readable = readable };
-        good = subst (All IsDefinition) (sym all) lists.good;
+        opens = record {
+          slot = slot;
+          opens = subst (λ (s : Stored). Opens name s (host.files a)) (sym same) opens;
+          readable = readable;
+          good = subst (All IsDefinition) (sym all) lists.good;
+        };
         listed = sym all;
         root = ap (λ (s : Stored). s.root) (sym same);
         kept = subst (λ (s : Stored). IsKept host d o.store s) (sym same) kept;

@@ -1,11 +1,11 @@
 -- What a store holds, and how a session changes that: by one definition more, or by a snapshot.
-use Rattle.std.specs.Prelude.{ℕ, ◌+◌, ◌^◌, Bool, true, false, nat_le, List, [], ◌∷◌, ◌++◌, length}
+use Rattle.std.specs.Prelude.{ℕ, ◌+◌, ◌^◌, Bool, true, false, nat_le, List, [], ◌∷◌, ◌++◌, length, All}
 use Rattle.st_host.specs.Files.{Files}
 use Rattle.st_model.specs.Machine.{Head}
 use Rattle.st_model.specs.Table.{Table}
 use Rattle.st_model.specs.View.{View, nothing_held}
 use Rattle.st_writer.specs.Written.{image_of}
-use Rattle.st_chunk.specs.Definitions.{Definition, entry, entries}
+use Rattle.st_chunk.specs.Definitions.{Definition, IsDefinition, entry, entries}
 use Rattle.st_store.specs.Stored.{Stored, Opens}
 use Rattle.st_store.specs.declared.root.Root.{Root}
 use Rattle.st_protocol.specs.declared.status.Status.TheVariants.{TooLarge}
@@ -44,11 +44,13 @@ root_of slot c = record {
 abbrev pub stored_of : ℕ → Commit → Stored
 stored_of slot c = record { root = root_of slot c; image = c.image; changes = entries (all_of c) }
 
--- The store of this name opens from these files as this commit: its image is in one of the two slots, and can be read.
+-- The store of this name opens from these files as this commit: its image is in one of the two slots, and can be read, and each
+-- entry of its changes is one of a definition.
 pub record OpensAs (name : List ℕ) (c : Commit) (f : Files) : Type 0 where
   pub slot : ℕ
   pub opens : Opens name (stored_of slot c) f
   pub readable : IsReadable c.image
+  pub good : All IsDefinition (all_of c)
 
 -- IN A SESSION
 

@@ -1,5 +1,5 @@
 -- What the opening of a store answers.
-use Rattle.std.specs.Prelude.{◌≡◌, ◌<◌, ℕ, List, length, take, ⊤, All}
+use Rattle.std.specs.Prelude.{◌≡◌, ◌<◌, ℕ, List, length, take, slice_get, Some, IsTrue, ⊤}
 use Rattle.st_host.specs.Counts.{Rose}
 use Rattle.st_host.specs.Files.{Files, bytes_of}
 use Rattle.st_host.specs.declared.host.Host.{Ghosts}
@@ -12,10 +12,9 @@ use Rattle.st_model.specs.Image.{image_head}
 use Rattle.st_model.specs.Show.{Shows}
 use Rattle.st_model.specs.Start.{begin}
 use Rattle.st_frames.specs.Shown.{shown}
-use Rattle.st_chunk.specs.Definitions.{IsDefinition}
 use Rattle.st_store.specs.Names.{image_file}
 use Rattle.st_store.specs.Refusals.{Refuses}
-use Rattle.st_store.specs.Stored.{Stored, StoreState, Opens, IsKept}
+use Rattle.st_store.specs.Stored.{Stored, StoreState, Opens, IsKept, IsOpening}
 use Rattle.st_store.specs.declared.fault.StoreFault.{StoreFault}
 use Rattle.st_store.specs.declared.fault.StoreFault.TheVariants.{Missing, Exists, NotAStore, Disk as DiskOfStore, OutOfMemory as NoMemoryForStore}
 use Rattle.st_store.specs.declared.fault.StorePlace.TheVariants.{Roots, Changes}
@@ -61,7 +60,6 @@ pub record Reopens (install : Install) (c : Commit) (r : Replayed) : Type 0 wher
 -- its registers in an empty world, with this count and these losses.
 pub record IsReopenedAs {D M : Type 0} (host : Ghosts D) (install : Install) (view : M → View) (name : List ℕ) (old new : D) (o : Opened M) (c : Commit) : Type 0 where
   pub opens : OpensAs name c (host.files old)
-  pub good : All IsDefinition (all_of c)
   pub listed : o.changes.listed ≡ all_of c
   pub root : o.store.root ≡ root_of o.store.root.slot c
   pub kept : IsKept host new o.store (stored_of o.store.root.slot c)
@@ -70,6 +68,21 @@ pub record IsReopenedAs {D M : Type 0} (host : Ghosts D) (install : Install) (vi
   pub shows : Shows (shown (view o.loaded.memory) o.loaded.frame (empty_world nil)) replayed.state
   pub count : o.replayed ≡ replayed.count
   pub lost : losses_of o.lost.items ≡ replayed.lost
+
+-- WHAT AN OPENING KEEPS
+
+-- these files open as one of these commits
+pub record OpensAmong (name : List ℕ) (commits : List Commit) (f : Files) : Type 0 where
+  pub number : ℕ
+  pub commit : Commit
+  pub is_of : slice_get commits number ≡ Some commit
+  pub opens_as : OpensAs name commit f
+
+-- Where each state that a stop could leave opened as one of some commits, each that it may leave while the store is opened does so.
+abbrev pub OpeningKeeps : {D : Type 0} → Ghosts D → Type 0
+OpeningKeeps {D = D} host = (name : List ℕ) (commits : List Commit) (old : D) → IsTrue host.is_told
+    → ((f : Files) → ((n : List ℕ) → host.may_leave old n (f n)) → OpensAmong name commits f)
+    → (f : Files) → IsOpening host old name f → OpensAmong name commits f
 
 -- REFUSALS
 
@@ -104,6 +117,13 @@ abbrev pub IsOfRoots : OpenFault → Type 0
 IsOfRoots (opening.Store Missing) = ⊤
 IsOfRoots (opening.Store (NotAStore (Roots at))) = ⊤
 IsOfRoots _ = ⊥
+
+-- the faults of what a root names, which come once the store is open
+abbrev pub IsOfNamed : OpenFault → Type 0
+IsOfNamed (opening.Store (NotAStore (Changes at))) = ⊤
+IsOfNamed (opening.Image fault) = ⊤
+IsOfNamed opening.TooLarge = ⊤
+IsOfNamed _ = ⊥
 
 -- a fault of the disk comes only where its count rose
 abbrev pub OpeningHasCause : {D : Type 0} → Ghosts D → D → D → OpenFault → Type 0

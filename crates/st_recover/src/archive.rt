@@ -7,6 +7,7 @@ ghost use Rattle.st_chunk.specs.Definitions.{IsDefinition, entries};
 ghost use Rattle.st_chunk.specs.ScriptDefinitions.{definition_of};
 ghost use Rattle.st_changes.specs.Views.{definition_of as kept_definition};
 ghost use Rattle.st_store.specs.Names.{IsNoFileOf};
+ghost use Rattle.st_store.specs.Faults.{RestsUnlessGate};
 ghost use Rattle.st_protocol.specs.Obeying.{Obeys};
 ghost use Rattle.st_protocol.specs.declared.status.Status.TheVariants.{DiskFault};
 ghost use Rattle.st_protocol.specs.Statuses.{Counts};
@@ -103,6 +104,9 @@ impl Archive {
         ensures untouched { IfErr result (λ e. (e ≡ DiskFault → ⊥) → host.new ≡ host.old) }
         ensures closed { IfErr result (λ e. e ≡ DiskFault → self.new.store ≡ None) }
         ensures stays { IfErr result (λ e. (e ≡ DiskFault → ⊥) → self.new ≡ self.old) }
+        ensures broken { IfErr result (λ e. e ≡ DiskFault → (c : Commit) → IsTrue H.is_told
+            → Holds H.Host.own host.old self.old c
+            → RestsUnlessGate H.Host.own (OpensAs self.old.name) self.old.name c host.new) }
         ensures counts { Counts H.Host.own ⊥ host.old host.new result }
         ensures kind { IfErr result IsOfKeeping }
     {
@@ -137,6 +141,8 @@ impl Archive {
         ensures makes { (c : Commit) → IsTrue H.is_told → Holds H.Host.own host.old self.old c
             → Makes H.Host.own (OpensAs self.old.name) c (imaged c (image_in (M.view m.now)))
             host.old host.new result }
+        ensures broken { OnErr result ((c : Commit) → IsTrue H.is_told → Holds H.Host.own host.old self.old c
+            → RestsUnlessGate H.Host.own (OpensAs self.old.name) self.old.name c host.new) }
         ensures holds { OnOk result ((c : Commit) → Holds H.Host.own host.old self.old c
             → Holds H.Host.own host.new self.new (imaged c (image_in (M.view m.now)))) }
         ensures closed { OnErr result (self.new.store ≡ None) }

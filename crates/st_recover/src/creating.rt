@@ -1,11 +1,13 @@
 // Making a store.
-ghost use Rattle.std.specs.Prelude.{◌≡◌, ℕ, List, IsTrue, IfErr, IfOk, OnOk};
+ghost use Rattle.std.specs.Prelude.{◌≡◌, ℕ, List, IsTrue, IfErr, IfOk, OnOk, OnErr};
 ghost use Rattle.st_host.specs.Files.{Files, bytes_of};
 ghost use Rattle.st_host.specs.Runs.{LeavesOnly, Narrows, Spares};
 ghost use Rattle.st_image.specs.Back.{CanStart};
 ghost use Rattle.st_store.specs.Names.{roots_file};
 ghost use Rattle.st_store.specs.Roots.{HasLetters};
 ghost use Rattle.st_store.specs.Stored.{IsKept};
+ghost use Rattle.st_store.specs.Founding.{IsCleared};
+ghost use Rattle.st_store.specs.Faults.{RestsUnlessLetters};
 ghost use Rattle.st_store.specs.Refusals.{RefusesNew, IsOfMaking, FaultHasCause};
 ghost use Rattle.st_store.specs.declared.fault.StoreFault.TheVariants.{Disk};
 ghost use Rattle.st_recover.specs.Archives.{store_of};
@@ -48,6 +50,10 @@ pub fn create<M: Memory, H: Host>(
         × IsMade H.Host.own name.now (first_commit (image_in (M.view m.now))) host.old f) }
     ensures left { (f : Files) → IsTrue H.is_told → ((n : List ℕ) → H.may_leave host.new n (f n))
         → IsMade H.Host.own name.now (first_commit (image_in (M.view m.now))) host.old f }
+
+    // After an error it is what it could leave before, or no store's, but where the letters failed.
+    ensures broken { OnErr result (IsTrue H.is_told → RestsUnlessLetters H.Host.own {C = Unit}
+        (λ _ f. IsCleared H.Host.own name.now host.old f) name.now tt host.new) }
 
     ensures quiet { IsTrue H.is_told → H.said host.new ≡ H.said host.old }
     ensures spares { Spares H.Host.own (IsNoFirstFile name.now) host.old host.new }

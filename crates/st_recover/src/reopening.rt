@@ -1,7 +1,8 @@
 // Opening a store again, with its definitions replayed.
 ghost use Rattle.std.specs.Prelude.{◌≡◌, ◌≤◌, ◌<◌, ◌^◌, ℕ, List, length, All, IsTrue, IfOk, IfErr, OnOk};
 ghost use Rattle.st_host.specs.Files.{Files};
-ghost use Rattle.st_host.specs.Runs.{LeavesOnly, ReadsAlike, OnlyReads, Narrows, NarrowsBut, Changes as ChangesFile, Spares};
+ghost use Rattle.st_host.specs.Runs.{LeavesOnly, ReadsAlike, OnlyReads, Narrows, NarrowsBut, Changes as ChangesFile};
+ghost use Rattle.st_host.specs.Runs.{Spares, IsAtRest};
 ghost use Rattle.st_model.specs.Limits.{longest_image};
 ghost use Rattle.st_model.specs.Image.{image_head};
 ghost use Rattle.st_model.specs.View.{no_devices};
@@ -11,12 +12,15 @@ ghost use Rattle.st_frames.specs.Shown.{IsFrame, IsReady};
 ghost use Rattle.st_image.specs.Reading.{IsStart};
 ghost use Rattle.st_chunk.specs.Definitions.{IsDefinition, entries};
 ghost use Rattle.st_store.specs.Names.{roots_file, image_file, IsNoFileOf};
-ghost use Rattle.st_store.specs.Stored.{IsSound, IsOpening};
+ghost use Rattle.st_store.specs.Stored.{Stored, Opens, IsSound, IsOpening, OpensAsOne};
+ghost use Rattle.st_store.specs.Stored.{IsReady as IsChosenFirmly};
+ghost use Rattle.st_store.specs.Faults.{Settles};
 ghost use Rattle.st_changes.specs.Lists.{StandsAt};
 ghost use Rattle.st_recover.specs.Commits.{Commit};
 ghost use Rattle.st_recover.specs.Replays.{ReplaysFrom};
 ghost use Rattle.st_recover.specs.Openings.{IsReadable, image_in, RefusesImage, IsOfImage};
-ghost use Rattle.st_recover.specs.Openings.{IsReopenedAs, RefusesOpening, IsOfReopening, IsOfRoots, OpeningHasCause};
+ghost use Rattle.st_recover.specs.Openings.{IsReopenedAs, RefusesOpening, IsOfReopening, IsOfRoots, IsOfNamed};
+ghost use Rattle.st_recover.specs.Openings.{OpeningHasCause};
 ghost use Rattle.st_recover.specs.Fetched.{IsFetchedAs};
 
 use crate::fault::OpenFault;
@@ -116,8 +120,12 @@ fn fetch<L: Loader, H: Host>(
         → RefusesOpening name.now (H.files host.old) e) }
     ensures kind { IfErr result IsOfReopening }
     ensures writes_nothing { IfErr result (λ e. IsOfRoots e → Narrows H.Host.own host.old host.new) }
+    ensures rests { IfErr result (λ e. IsTrue H.is_told → IsOfNamed e → (c : Stored)
+        → Opens name.now c (H.files host.old) → IsAtRest H.Host.own (Opens name.now) c host.new) }
     ensures moments { IsTrue H.is_told → LeavesOnly H.Host.own host.old host.new
         (λ f s. (s ≡ H.said host.old) × IsOpening H.Host.own host.old name.now f) }
+    ensures settles { IsTrue H.is_told → IsChosenFirmly H.Host.own host.old name.now
+        → Settles H.Host.own name.now host.old host.new }
     ensures only { NarrowsBut H.Host.own (roots_file name.now) host.old host.new }
     ensures spares { Spares H.Host.own (IsNoFileOf name.now) host.old host.new }
     ensures cause { IfErr result (OpeningHasCause H.Host.own host.old host.new) }
@@ -173,12 +181,22 @@ pub fn reopen<I: Installer, L: Loader, H: Host>(
         → RefusesOpening name.now (H.files host.old) e) }
     ensures kind { IfErr result IsOfReopening }
     ensures writes_nothing { IfErr result (λ e. IsOfRoots e → Narrows H.Host.own host.old host.new) }
+    // Where the image or the changes are refused, each state that a stop may leave opens as what was read.
+    ensures rests { IfErr result (λ e. IsTrue H.is_told → IsOfNamed e → (c : Stored)
+        → Opens name.now c (H.files host.old) → IsAtRest H.Host.own (Opens name.now) c host.new) }
 
     // A stop at any moment, and from then on, leaves what it could leave before, or files that open as those that were read.
     ensures moments { IsTrue H.is_told → LeavesOnly H.Host.own host.old host.new
         (λ f s. (s ≡ H.said host.old) × IsOpening H.Host.own host.old name.now f) }
     ensures leaves { IsTrue H.is_told → (f : Files) → ((n : List ℕ) → H.may_leave host.new n (f n))
         → IsOpening H.Host.own host.old name.now f }
+    // Where all that a root names which could be chosen is firm, files that open as some that it could leave before.
+    ensures as_before { IsTrue H.is_told → IsChosenFirmly H.Host.own host.old name.now
+        → LeavesOnly H.Host.own host.old host.new
+        (λ f s. (s ≡ H.said host.old) × OpensAsOne H.Host.own host.old name.now f) }
+    // And once the roots file was synced, files that open as one of these, also behind an error.
+    ensures settles { IsTrue H.is_told → IsChosenFirmly H.Host.own host.old name.now
+        → Settles H.Host.own name.now host.old host.new }
 
     ensures only { NarrowsBut H.Host.own (roots_file name.now) host.old host.new }
     ensures spares { Spares H.Host.own (IsNoFileOf name.now) host.old host.new }

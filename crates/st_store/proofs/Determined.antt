@@ -1,4 +1,4 @@
--- A refusal of the roots file is determined.
+-- A refusal of the roots file is determined, and what a store opens as.
 use Rattle.std.proofs.Common.{◌≡◌, ℕ, ◌^◌, ◌<◌, ◌≤◌, List, length, sym, ap, ◌∙◌, subst, arith, inl, inr, ◌⊎◌, ⊎_elim, true≢false}
 use Rattle.std.specs.Prelude.{Option, Some, None, IsSome}
 use Rattle.std.proofs.lemmas.Bool.{cases_lt}
@@ -6,7 +6,7 @@ use Rattle.st_host.specs.Files.{Files, bytes_of}
 use Rattle.st_store.specs.Names.{roots_file, changes_file, image_file}
 use Rattle.st_store.specs.Roots.{place, root_at, HasLetters, Chooses}
 use Rattle.st_store.specs.Refusals.{IsWrongLetter, IsWrongFront, IsWrongRoots, IsWrongNumber, NamesTooMuch}
-use Rattle.st_store.specs.Stored.{Stored, Opens}
+use Rattle.st_store.specs.Stored.{Stored, Opens, stored_in}
 use Rattle.st_store.specs.declared.root.Root.{Root}
 
 letter_wrong : (file : List ℕ) (at : ℕ) → IsWrongLetter file at → HasLetters file → ⊥
@@ -89,3 +89,15 @@ module _ (name : List ℕ) (f : Files) where
 
   pub opens_there : (c : Stored) → Opens name c f → f (roots_file name) ≡ None → ⊥
   opens_there c opens none = absurd (omega (arith, opens.chosen.whole.long, ap (λ (o : Option (List ℕ)). length (bytes_of o)) none))
+
+-- WHAT OPENS
+
+-- one root is chosen, and what it names is what the files have
+opens_in : (name : List ℕ) (c : Stored) (f : Files) → Opens name c f → stored_in name f c.root ≡ c
+opens_in name c f opens = λ i. record { root = c.root; image = opens.image.is i; changes = opens.changes.is i }
+
+pub one_stored : (name : List ℕ) (c d : Stored) (f : Files) → Opens name c f → Opens name d f → c ≡ d
+one_stored name c d f x y =
+    let number : x.number ≡ y.number = sym x.chosen.gate ∙ y.chosen.gate in
+    let root : c.root ≡ d.root = sym x.chosen.names ∙ ap (λ n. root_at (place n) (bytes_of (f (roots_file name)))) number ∙ y.chosen.names in
+    sym (opens_in name c f x) ∙ ap (stored_in name f) root ∙ opens_in name d f y

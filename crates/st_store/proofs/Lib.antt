@@ -8,3 +8,4 @@ pub mod Opening
 pub mod Clearing
 pub mod Founding
 pub mod Determined
+pub mod Settling

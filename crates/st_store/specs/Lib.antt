@@ -3,3 +3,4 @@ pub mod Roots
 pub mod Stored
 pub mod Refusals
 pub mod Founding
+pub mod Faults

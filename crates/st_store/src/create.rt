@@ -1,10 +1,11 @@
 // Making a store, in steps of a few calls.
-ghost use Rattle.std.specs.Prelude.{◌≡◌, ◌↔◌, ℕ, List, [], IsTrue, IfOk, IfErr, OnOk, Option, Some, None, string_bytes};
+ghost use Rattle.std.specs.Prelude.{◌≡◌, ◌↔◌, ℕ, List, [], IsTrue, IfOk, IfErr, OnOk, OnErr, Option, Some, None, string_bytes};
 ghost use Rattle.st_host.specs.Counts.{HasCause};
 ghost use Rattle.st_host.specs.Files.{bytes_of};
 ghost use Rattle.st_host.specs.Runs.{LeavesOnly, ReadsAlike, Narrows, Changes, ChangesBoth, IsSynced, Makes};
 ghost use Rattle.st_store.specs.Names.{roots_file, changes_file, image_file};
 ghost use Rattle.st_store.specs.Roots.{HasLetters, Fits};
+ghost use Rattle.st_store.specs.Faults.{RestsUnlessLetters};
 ghost use Rattle.st_store.specs.Founding.{OpensMaybe, IsCleared, IsBlank, first_root, first_stored, first_bytes, first_file};
 ghost use Rattle.st_store.specs.Refusals.{RefusesNew, IsOfMaking, FaultHasCause};
 ghost use Rattle.st_store.specs.Stored.{Stored, Begins, Leaves, IsFirm, IsChosen, IsKept};
@@ -125,6 +126,9 @@ fn inscribe<H: Host>(host: &mut H, names: &Names, root: &Root) -> Result<(), Hos
         → Leaves H.Host.own host.old (roots_file name) IsBlank → c.root ≡ root.now
         → IsFirm H.Host.own host.old name c
         → Makes {C = Option Stored} H.Host.own (OpensMaybe name) None (Some c) host.old host.new result }
+    ensures broken { OnErr result (let name = string_bytes names.now.name in IsTrue H.is_told
+        → Leaves H.Host.own host.old (roots_file name) IsBlank
+        → RestsUnlessLetters H.Host.own {C = Option Stored} (OpensMaybe name) name None host.new) }
     ensures chosen { OnOk result (let name = string_bytes names.now.name in (c : Stored) → IsTrue H.is_told
         → Leaves H.Host.own host.old (roots_file name) IsBlank → c.root ≡ root.now
         → IsFirm H.Host.own host.old name c
@@ -163,6 +167,11 @@ pub fn found<H: Host>(
         → Leaves H.Host.own host.old (roots_file new_store) (λ file. bytes_of file ≡ [])
         → Leaves H.Host.own host.old (image_file new_store 0) (Begins image_length image)
         → IsKept H.Host.own host.new store (first_stored image_length image)) }
+
+    // After an error they are no store's, but where the letters failed.
+    ensures broken { OnErr result (IsTrue H.is_told
+        → Leaves H.Host.own host.old (roots_file new_store) (λ file. bytes_of file ≡ [])
+        → RestsUnlessLetters H.Host.own {C = Option Stored} (OpensMaybe new_store) new_store None host.new) }
 
     // The files' bytes after it.
     ensures bytes { OnOk result (IsTrue H.is_told

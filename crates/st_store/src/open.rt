@@ -1,11 +1,12 @@
 // Opening a store, in steps of a few calls.
-ghost use Rattle.std.specs.Prelude.{◌≡◌, ◌≢◌, ◌≤◌, ◌<◌, ◌+◌, ◌^◌, IsTrue, IfOk, IfErr, OnOk, MatchOption, length};
+ghost use Rattle.std.specs.Prelude.{◌≡◌, ◌≢◌, ◌≤◌, ◌<◌, ◌+◌, ◌^◌, ◌⊎◌, IsTrue, IfOk, IfErr, OnOk, OnErr, MatchOption, length};
 ghost use Rattle.st_host.specs.Files.{bytes_of};
-ghost use Rattle.st_host.specs.Runs.{LeavesOnly, ReadsAlike, Narrows, NarrowsBut, Changes, Spares, IsSynced};
+ghost use Rattle.st_host.specs.Runs.{LeavesOnly, ReadsAlike, Narrows, NarrowsBut, Changes, Spares, Syncs, IsSynced};
 ghost use Rattle.st_store.specs.Names.{roots_file, IsNoFileOf};
 ghost use Rattle.st_store.specs.Roots.{Chooses, IsFresh};
 ghost use Rattle.st_store.specs.Refusals.{IsWrongNumber, Fit, RefusesFront, RefusesNumbers, Refuses, IsOfOpening, FaultHasCause};
-ghost use Rattle.st_store.specs.Stored.{Opens, IsSound, IsKept, IsOpening, stored_in};
+ghost use Rattle.st_store.specs.Stored.{Opens, IsSound, IsKept, IsReady, IsOpening, OpensAsOne, stored_in};
+ghost use Rattle.st_store.specs.Faults.{SyncsFirst, HasSettled, Settles};
 ghost use Rattle.st_store.specs.declared.fault.StoreFault.TheVariants.{NotAStore, Disk};
 ghost use Rattle.st_store.specs.declared.fault.StorePlace.TheVariants.{Roots};
 
@@ -33,6 +34,9 @@ fn look<H: Host>(host: &mut H, roots: &str) -> Result<Chosen, StoreFault>
     ensures refused { IfErr result (λ e. IsTrue H.is_told → RefusesFront (H.files host.old roots.now) e) }
     ensures kind { IfErr result IsOfOpening }
     ensures synced { OnOk result (IsSynced H.Host.own roots.now host.new) }
+    ensures first { OnOk result (SyncsFirst H.Host.own roots.now host.old host.new) }
+    ensures tried { OnErr result (Syncs H.Host.own roots.now host.old host.new
+        ⊎ SyncsFirst H.Host.own roots.now host.old host.new) }
     ensures alike { OnOk result (ReadsAlike H.Host.own host.old host.new) }
     ensures narrows { Narrows H.Host.own host.old host.new }
     ensures only { Changes H.Host.own roots.now host.old host.new }
@@ -123,6 +127,15 @@ pub fn open_store<H: Host>(alloc: Global, host: &mut H, name: &str) -> Result<St
     // A stop at any moment leaves what it could leave before, or files that open as those that were read.
     ensures moments { IsTrue H.is_told → LeavesOnly H.Host.own host.old host.new
         (λ f s. (s ≡ H.said host.old) × IsOpening H.Host.own host.old name.now f) }
+    // Where all that a root names which could be chosen is firm, files that open as some that it could leave before.
+    ensures as_before { IsTrue H.is_told → IsReady H.Host.own host.old name.now
+        → LeavesOnly H.Host.own host.old host.new
+        (λ f s. (s ≡ H.said host.old) × OpensAsOne H.Host.own host.old name.now f) }
+    // And once the roots file was synced, files that open as one of these, also behind an error.
+    ensures settled { OnOk result (IsTrue H.is_told → IsReady H.Host.own host.old name.now
+        → HasSettled H.Host.own name.now host.old host.new) }
+    ensures settles { OnErr result (IsTrue H.is_told → IsReady H.Host.own host.old name.now
+        → Settles H.Host.own name.now host.old host.new) }
 
     ensures only { NarrowsBut H.Host.own (roots_file name.now) host.old host.new }
     ensures spares { Spares H.Host.own (IsNoFileOf name.now) host.old host.new }

@@ -2,7 +2,7 @@
 ghost use Rattle.std.specs.Prelude.{◌≡◌, ◌≤◌, ◌-◌, ◌∷◌, ℕ, [], IsTrue, OnOk, string_bytes};
 ghost use Rattle.st_host.specs.Counts.{HasCause};
 ghost use Rattle.st_host.specs.Files.{IsWritten};
-ghost use Rattle.st_host.specs.Runs.{Makes, Changes};
+ghost use Rattle.st_host.specs.Runs.{Makes, Changes, Writes};
 ghost use Rattle.st_store.specs.Names.{roots_file};
 ghost use Rattle.st_store.specs.Stored.{Stored, Opens, IsFirm, IsChosen, IsStaged};
 
@@ -55,6 +55,7 @@ pub(crate) fn turn<H: Host>(host: &mut H, names: &Names, gate: u64) -> Result<()
     ensures same { OnOk result (let name = string_bytes names.now.name in (c : Stored) → IsTrue H.is_told
         → IsStaged H.Host.own host.old name gate c c → IsChosen H.Host.own host.new name gate c) }
 
+    ensures writes { Writes H.Host.own (roots_file (string_bytes names.now.name)) 8 1 host.old host.new }
     ensures changes { Changes H.Host.own (roots_file (string_bytes names.now.name)) host.old host.new }
     ensures cause { HasCause (H.disk_faults host.old) (H.disk_faults host.new) result }
 {

@@ -1,5 +1,5 @@
 // A store that is open.
-ghost use Rattle.std.specs.Prelude.{◌≡◌, ◌≤◌, ◌-◌, IsTrue, IfOk, slice_index};
+ghost use Rattle.std.specs.Prelude.{◌≡◌, ◌≤◌, ◌-◌, IsTrue, IfOk, OnErr, slice_index};
 ghost use Rattle.st_host.specs.Counts.{HasCause};
 ghost use Rattle.st_host.specs.Files.{bytes_of};
 ghost use Rattle.st_store.specs.Names.{roots_file, changes_file, image_file};
@@ -32,6 +32,7 @@ impl Model for Store {
 impl Store {
     ghost use Rattle.st_host.specs.Runs.{Makes, Changes};
     ghost use Rattle.st_store.specs.Stored.{Stored, Opens, IsFirm, IsKept};
+    ghost use Rattle.st_store.specs.Faults.{RestsUnlessGate};
 
     /// The chosen root.
     pub fn root(&self) -> Root
@@ -78,6 +79,11 @@ impl Store {
         ensures kept { IfOk result (λ store. (c d : Stored) → IsTrue H.is_told
             → IsKept H.Host.own host.old self c
             → IsFirm H.Host.own host.old self.name d → d.root ≡ root → IsKept H.Host.own host.new store d) }
+
+        // After an error they open as before, but where the gate failed.
+        ensures broken { OnErr result ((c d : Stored) → IsTrue H.is_told → IsKept H.Host.own host.old self c
+            → IsFirm H.Host.own host.old self.name d → d.root ≡ root
+            → RestsUnlessGate H.Host.own (Opens self.name) self.name c host.new) }
 
         ensures gate { IfOk result (λ store. IsTrue H.is_told
             → slice_index (bytes_of (H.files host.new (roots_file store.name))) 8 ≡ store.chosen) }

@@ -1,4 +1,4 @@
-use Rattle.std.proofs.Common.{◌≡◌, ◌∙◌, ℕ, List, true, IsTrue, length, refl, subst, ap, arith}
+use Rattle.std.proofs.Common.{◌≡◌, ◌∙◌, inl, ℕ, List, true, IsTrue, length, refl, subst, ap, arith}
 use Rattle.std.proofs.lemmas.Result.{err_from_is_err_and}
 use Rattle.std.specs.Prelude.{Some, Err}
 use Rattle.st_host.specs.Runs.{Changes}
@@ -8,7 +8,7 @@ use Rattle.st_store.specs.Names.{image_file}
 use Rattle.st_store.specs.declared.fault.StoreFault.TheVariants.{Disk}
 use Rattle.st_recover.specs.Commits.{image_with}
 use Rattle.st_recover.proofs.Images.{image_is, image_readable}
-use Rattle.st_recover.proofs.Making.{clearing, imaging, still_empty, founding, behind, image_stands, found_makes, found_kept, found_files, found_store, roots_spared, image_spared, found_spared}
+use Rattle.st_recover.proofs.Making.{cleared_rest, empty_rest, founds_broken, clearing, imaging, still_empty, founding, behind, image_stands, found_makes, found_kept, found_files, found_store, roots_spared, image_spared, found_spared}
 use Rattle.st_recover.proofs.creating.create.Goals as goal
 
 pub returns-in_err-new_store : goal.returns-in_err-new_store
@@ -33,6 +33,7 @@ returns-in_err-new_store g c =
       writes_nothing = failed.writes_nothing;
       moments = first;
       left = λ f told can. behind H name image a b told (λ g2 s here. g.met.H.Host.counts_now b (H.moment a) g2 s told (first told).later here) (first told) f can;
+      broken = λ told. inl (cleared_rest H name a b (λ g2 s here. g.met.H.Host.counts_now b (H.moment a) g2 s told (first told).later here) (c.clear.ensures.moments told));
       quiet = cleared.quiet;
       spares = roots_spared H name a b b cleared;
       say_count = cleared.say;
@@ -65,6 +66,7 @@ returns-in_err-image_length g c =
       kind = tt;
       writes_nothing = λ other. absurd (other refl);
       moments = second;
+      broken = λ told. inl (empty_rest H name a d (none told) (still_empty H name image a b told (none told) (empty told) (cleared.quiet told) d wrote));
       left = λ f told can. behind H name image a d told (λ g2 s here. g.met.H.Host.counts_now d (H.moment a) g2 s told (second told).later here) (second told) f can;
       quiet = λ told. wrote.quiet told ∙ cleared.quiet told;
       spares = image_spared H name a b d cleared wrote;
@@ -109,6 +111,7 @@ returns-in_err-store g c =
       kind = tt;
       writes_nothing = λ other. absurd (other refl);
       moments = third;
+      broken = λ told. founds_broken H name a d (none told) e c.in_ok-new_store.new_store named (still told) (λ x. c.in_err-store.ensures.broken told x);
       left = λ f told can. behind H name image a e told (λ g2 s here. g.met.H.Host.counts_now e (H.moment a) g2 s told (third told).later here) (third told) f can;
       quiet = λ told. founds.quiet told ∙ wrote.quiet told ∙ cleared.quiet told;
       spares = found_spared H name a b d e c.in_ok-new_store.new_store named cleared wrote founds;
@@ -157,6 +160,7 @@ returns g c =
       kind = tt;
       writes_nothing = tt;
       moments = third;
+      broken = tt;
       left = λ f told can. behind H name image a e told (λ g2 s here. g.met.H.Host.counts_now e (H.moment a) g2 s told (third told).later here) (third told) f can;
       quiet = λ told. founds.quiet told ∙ wrote.quiet told ∙ cleared.quiet told;
       spares = found_spared H name a b d e c.in_ok-new_store.new_store named cleared wrote founds;

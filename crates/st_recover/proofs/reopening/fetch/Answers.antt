@@ -1,4 +1,4 @@
-use Rattle.std.proofs.Common.{◌≡◌, ◌∙◌, ℕ, List, IsTrue, subst, arith}
+use Rattle.std.proofs.Common.{◌≡◌, ◌∙◌, inr, ℕ, List, IsTrue, subst, arith}
 use Rattle.std.proofs.lemmas.Result.{err_from_is_err_and}
 use Rattle.st_host.specs.Files.{Files}
 use Rattle.st_host.proofs.Joining.{reads_narrow, narrows_join}
@@ -7,8 +7,9 @@ use Rattle.st_image.specs.Reading.{IsStart}
 use Rattle.st_store.specs.Stored.{IsOpening, stored_in}
 use Rattle.st_changes.specs.Lists.{Lists}
 use Rattle.st_recover.specs.Openings.{IsReadable, by_store}
-use Rattle.st_recover.proofs.Refusing.{store_refuses, store_kind, no_disk, store_cause, cause_behind, image_kind, image_no_roots, image_refuses, changes_kind, changes_no_roots, changes_refuse}
-use Rattle.st_recover.proofs.Fetching.{image_is, changes_are, kept_on, left_reading, but_reading, spares_image, spares_changes}
+use Rattle.st_recover.proofs.Refusing.{store_refuses, store_kind, no_disk, store_unnamed, store_cause, cause_behind, image_kind, image_no_roots, image_refuses, changes_kind, changes_no_roots, changes_refuse}
+use Rattle.st_recover.proofs.Fetching.{image_is, changes_are, kept_on, left_reading, rests_as_read, but_reading, spares_image, spares_changes}
+use Rattle.st_store.proofs.Settling.{settled_more}
 use Rattle.st_recover.proofs.reopening.fetch.Goals as goal
 
 pub returns-in_err-store : goal.returns-in_err-store
@@ -34,7 +35,9 @@ returns-in_err-store g c =
       refused = λ told. store_refuses name (H.files a) fault (failed.refused told);
       kind = store_kind fault failed.kind;
       writes_nothing = λ roots. failed.writes_nothing (no_disk fault roots);
+      rests = λ told named. absurd (store_unnamed fault failed.kind named);
       moments = opened.moments;
+      settles = failed.settles;
       only = opened.only;
       spares = opened.spares;
       cause = store_cause H a b fault failed.cause;
@@ -71,7 +74,9 @@ returns-in_err-loaded g c =
       refused = λ told. image_refuses name (H.files a) store (c.in_ok-store.ensures.opens told) _ (at told) fault (failed.refused told);
       kind = image_kind fault failed.kind;
       writes_nothing = λ roots. absurd (image_no_roots fault failed.kind roots);
+      rests = λ told named y opens. rests_as_read H name store x a m y told c.in_ok-store.ensures.named (c.in_ok-store.ensures.opens told) opens (kept_on H store x b m told (reads_narrow H b m c.read_image.ensures.reads) (kept told));
       moments = λ told. seen told m told (opened.moments told) (reads_narrow H b m c.read_image.ensures.reads);
+      settles = λ told ready. inr (settled_more H name a b told m (c.in_ok-store.ensures.settled told ready) (reads_narrow H b m c.read_image.ensures.reads));
       only = but_reading H name a b m opened.only (reads_narrow H b m c.read_image.ensures.reads);
       spares = spared;
       cause = cause_behind H a b m fault opened.only.disk failed.cause;
@@ -112,7 +117,9 @@ returns-in_err-changes g c =
       refused = λ told. changes_refuse name (H.files a) x _ (c.in_ok-store.ensures.opens told) (readable told) (bytes told) fault (failed.refused told);
       kind = changes_kind fault failed.kind;
       writes_nothing = λ roots. absurd (changes_no_roots fault failed.kind roots);
+      rests = λ told named y opens. rests_as_read H name store x a d y told c.in_ok-store.ensures.named (c.in_ok-store.ensures.opens told) opens (kept_on H store x b d told narrows (kept told));
       moments = λ told. seen told d told (opened.moments told) narrows;
+      settles = λ told ready. inr (settled_more H name a b told d (c.in_ok-store.ensures.settled told ready) narrows);
       only = but_reading H name a b d opened.only narrows;
       spares = spares_changes H name store.name a m d c.in_ok-store.ensures.named spared c.load.ensures.only;
       cause = cause_behind H a m d (by_store fault) (omega (arith, opened.only.disk, c.read_image.ensures.reads.disk)) (store_cause H m d fault failed.cause);
@@ -157,7 +164,9 @@ returns g c =
       refused = tt;
       kind = tt;
       writes_nothing = tt;
+      rests = tt;
       moments = λ told. seen told d told (opened.moments told) narrows;
+      settles = λ told ready. inr (settled_more H name a b told d (c.in_ok-store.ensures.settled told ready) narrows);
       only = but_reading H name a b d opened.only narrows;
       spares = spares_changes H name store.name a m d c.in_ok-store.ensures.named spared c.load.ensures.only;
       cause = tt;

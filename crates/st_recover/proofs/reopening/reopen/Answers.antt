@@ -5,6 +5,7 @@ use Rattle.st_model.specs.Objects.{nil}
 use Rattle.st_model.specs.Machine.{empty_world}
 use Rattle.st_store.specs.Stored.{IsOpening, stored_in}
 use Rattle.st_store.specs.declared.root.Root.{Root}
+use Rattle.st_store.proofs.Opening.{as_before}
 use Rattle.st_recover.specs.Replays.{ReplaysFrom}
 use Rattle.st_recover.proofs.Fetching.{left_now}
 use Rattle.st_recover.proofs.Restoring.{ready_empty, quiet_empty, commit_at, reopened}
@@ -30,8 +31,11 @@ returns-in_err-loaded g c =
       refused = failed.refused;
       kind = failed.kind;
       writes_nothing = failed.writes_nothing;
+      rests = failed.rests;
       moments = fetch.moments;
       leaves = λ told f can. (left_now H P a d (λ f s le here. g.met.H.Host.counts_now d (H.moment a) f s told le here) (fetch.moments told) f (H.said d) (can, refl)).1;
+      as_before = λ told firmly. as_before H c.args.name.now a d (λ n. g.met.H.Host.read_counts a n told) firmly (fetch.moments told);
+      settles = fetch.settles;
       only = fetch.only;
       spares = fetch.spares;
       cause = failed.cause;
@@ -56,8 +60,11 @@ returns-in_err-count g c =
       refused = λ told. tt;
       kind = tt;
       writes_nothing = λ roots. absurd roots;
+      rests = λ told named. absurd named;
       moments = fetch.moments;
       leaves = λ told f can. (left_now H P a d (λ f s le here. g.met.H.Host.counts_now d (H.moment a) f s told le here) (fetch.moments told) f (H.said d) (can, refl)).1;
+      as_before = λ told firmly. as_before H c.args.name.now a d (λ n. g.met.H.Host.read_counts a n told) firmly (fetch.moments told);
+      settles = fetch.settles;
       only = fetch.only;
       spares = fetch.spares;
       cause = tt;
@@ -97,8 +104,11 @@ returns g c =
       refused = tt;
       kind = tt;
       writes_nothing = tt;
+      rests = tt;
       moments = fetch.moments;
       leaves = λ told f can. (left_now H P a d (λ f s le here. g.met.H.Host.counts_now d (H.moment a) f s told le here) (fetch.moments told) f (H.said d) (can, refl)).1;
+      as_before = λ told firmly. as_before H c.args.name.now a d (λ n. g.met.H.Host.read_counts a n told) firmly (fetch.moments told);
+      settles = fetch.settles;
       only = fetch.only;
       spares = fetch.spares;
       cause = tt;

@@ -1,14 +1,16 @@
-use Rattle.std.proofs.Common.{◌≡◌, ℕ, List, [], string_bytes, refl, sym, subst, ◌∙◌}
-use Rattle.std.specs.Prelude.{Some, None}
+use Rattle.std.proofs.Common.{◌≡◌, inl, ℕ, List, [], string_bytes, refl, sym, subst, ◌∙◌}
+use Rattle.std.specs.Prelude.{Option, Some, None}
 use Rattle.st_host.specs.Files.{bytes_of}
 use Rattle.st_host.specs.Runs.{ChangesBoth}
 use Rattle.st_host.proofs.Joining.{makes_then, makes_failed, makes_of}
 use Rattle.st_host.proofs.Touching.{both_more}
 use Rattle.st_store.specs.Names.{roots_file, changes_file, image_file}
-use Rattle.st_store.specs.Stored.{Begins, Leaves}
+use Rattle.st_store.specs.Stored.{Stored, Begins, Leaves}
+use Rattle.st_store.specs.Faults.{RestsUnlessLetters}
 use Rattle.st_store.specs.Founding.{OpensMaybe, first_root, first_stored, first_file}
 use Rattle.st_store.proofs.Others.{changes_roots}
 use Rattle.st_store.proofs.Founding.{first_firm, maybe_as}
+use Rattle.st_store.proofs.Settling.{when_err, kept_rest}
 use Rattle.st_store.proofs.create.found.Goals as goal
 
 pub returns-in_err-prepare-clause-makes : goal.returns-in_err-prepare-clause-makes
@@ -105,3 +107,23 @@ returns-clause-emptied g c told =
     let n = string_bytes c.new_store.inside.names.name in
     subst (λ (y : List ℕ). H.files c.inscribe.new.host (changes_file y) ≡ Some []) c.new_store.view_is
     ((c.inscribe.ensures.changes.others told).files (changes_file n) (changes_roots n) ∙ c.in_ok-prepare.ensures.emptied told)
+
+pub returns-in_err-prepare-clause-broken : goal.returns-in_err-prepare-clause-broken
+returns-in_err-prepare-clause-broken g c = when_err c.from_residual.result _ (λ told empty.
+    let H = g.H.Host in
+    let a = c.args.host.now in
+    let n = string_bytes c.new_store.inside.names.name in
+    let named : n ≡ c.args.new_store = c.new_store.view_is in
+    let none = subst (λ (y : List ℕ). Leaves H a (roots_file y) (λ file. bytes_of file ≡ [])) (sym named) empty in
+    subst (λ (y : List ℕ). RestsUnlessLetters H {C = Option Stored} (OpensMaybe y) y None c.prepare.new.host) named
+    (inl (kept_rest H (OpensMaybe n) None a c.prepare.new.host c.prepare.result (c.prepare.ensures.makes told none))))
+
+pub returns-in_err-inscribe-clause-broken : goal.returns-in_err-inscribe-clause-broken
+returns-in_err-inscribe-clause-broken g c = when_err c.from_residual-in_err-inscribe.result _ (λ told empty.
+    let H = g.H.Host in
+    let a = c.args.host.now in
+    let n = string_bytes c.new_store.inside.names.name in
+    let named : n ≡ c.args.new_store = c.new_store.view_is in
+    let none = subst (λ (y : List ℕ). Leaves H a (roots_file y) (λ file. bytes_of file ≡ [])) (sym named) empty in
+    subst (λ (y : List ℕ). RestsUnlessLetters H {C = Option Stored} (OpensMaybe y) y None c.inscribe.new.host) named
+    (c.in_err-inscribe.ensures.broken told (c.in_ok-prepare.ensures.blank told none)))

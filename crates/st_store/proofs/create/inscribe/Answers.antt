@@ -1,4 +1,4 @@
-use Rattle.std.proofs.Common.{◌≡◌, ℕ, List, length, codes, Option, string_bytes, refl, sym, subst, ap, ◌∙◌, arith}
+use Rattle.std.proofs.Common.{◌≡◌, inl, inr, ℕ, List, length, codes, Option, string_bytes, refl, sym, subst, ap, ◌∙◌, arith}
 use Rattle.std.specs.Prelude.{Some, None}
 use Rattle.st_host.proofs.Joining.{on_ok, on_err, makes_then, makes_failed}
 use Rattle.st_host.proofs.Touching.{write_changes, changes_join}
@@ -8,6 +8,7 @@ use Rattle.st_store.specs.Stored.{Leaves, IsChosen}
 use Rattle.st_store.specs.Founding.{OpensMaybe, first_bytes}
 use Rattle.st_store.proofs.Turning.{firm_on, writes_as, written_as, synced_as, rests}
 use Rattle.st_store.proofs.Founding.{Inscribed, inscribed_none, rest_written, letters_written, whole_written, rest_makes, letters_make}
+use Rattle.st_store.proofs.Settling.{when_err, kept_rest}
 use Rattle.st_store.proofs.create.inscribe.Goals as goal
 
 pub returns-in_err-write_synced-clause-makes : goal.returns-in_err-write_synced-clause-makes
@@ -144,3 +145,34 @@ returns-clause-bytes g c told blank =
     let body = written_as H name c.roots.result.now 8 c.first_bytes-bytes.result (first_bytes root) a b c.roots.ensures c.first_bytes-bytes.ensures.bytes (c.in_ok-write_synced.ensures.written told) in
     let head = written_as H name c.roots-2.result.now 0 (codes "ST80ROOT") (codes "ST80ROOT") b d c.roots-2.ensures refl (c.in_ok-write_synced-2.ensures.written told) in
     whole_written root (H.files a (roots_file name)) (H.files b (roots_file name)) (H.files d (roots_file name)) (blank (H.files a (roots_file name)) reads) body head
+
+pub returns-in_err-write_synced-clause-broken : goal.returns-in_err-write_synced-clause-broken
+returns-in_err-write_synced-clause-broken g c = when_err c.from_residual.result _ (λ told blank.
+    let H = g.H.Host in
+    let a = c.args.host.now in
+    let b = c.write_synced.new.host in
+    let name = string_bytes c.args.names.now.name in
+    let long : length c.first_bytes-bytes.result ≡ 72 = ap length c.first_bytes-bytes.ensures.bytes in
+    let reads = g.met.H.Host.read_counts a (roots_file name) told in
+    let writes = writes_as H name c.roots.result.now 8 _ 72 a b c.roots.ensures long c.write_synced.ensures.writes in
+    inl (kept_rest H (OpensMaybe name) None a b c.from_residual.result
+    (rest_makes H name a b c.from_residual.result told reads c.args.root.now writes blank (on_err _ _ c.from_residual.ensures.0))))
+
+pub returns-in_err-write_synced-2-clause-broken : goal.returns-in_err-write_synced-2-clause-broken
+returns-in_err-write_synced-2-clause-broken g c = when_err c.from_residual-in_err-write_synced-2.result _ (λ told blank.
+    let H = g.H.Host in
+    let a = c.args.host.now in
+    let b = c.write_synced.new.host in
+    let d = c.write_synced-2.new.host in
+    let name = string_bytes c.args.names.now.name in
+    let root = c.args.root.now in
+    let reads = g.met.H.Host.read_counts a (roots_file name) told in
+    let written = written_as H name c.roots.result.now 8 c.first_bytes-bytes.result (first_bytes root) a b c.roots.ensures c.first_bytes-bytes.ensures.bytes (c.in_ok-write_synced.ensures.written told) in
+    let synced = synced_as H name c.roots.result.now b c.roots.ensures told c.in_ok-write_synced.ensures.synced in
+    let there = rest_written root (H.files a (roots_file name)) (H.files b (roots_file name)) c.first_bytes-bytes.ensures.fits (blank (H.files a (roots_file name)) reads) written in
+    inr (record {
+      before = b;
+      rest = record { opens_as = λ f can. inscribed_none root (f (roots_file name)) (subst (Inscribed root) (sym (synced (f (roots_file name)) (can (roots_file name)))) there) };
+      writes = writes_as H name c.roots-2.result.now 0 8 8 b d c.roots-2.ensures refl c.write_synced-2.ensures.writes;
+      fault = c.in_err-write_synced-2.ensures.cause.rose refl;
+    }))

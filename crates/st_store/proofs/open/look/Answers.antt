@@ -1,8 +1,8 @@
-use Rattle.std.proofs.Common.{◌≡◌, ◌≢◌, ◌∙◌, List, ℕ, Option, IsSome, sym, ap, subst, arith}
+use Rattle.std.proofs.Common.{◌≡◌, ◌≢◌, ◌∙◌, inl, inr, List, ℕ, Option, IsSome, sym, ap, subst, arith}
 use Rattle.std.proofs.lemmas.Result.{err_from_is_err_and}
 use Rattle.std.specs.Prelude.{not}
 use Rattle.st_host.specs.Files.{bytes_of}
-use Rattle.st_host.proofs.Joining.{alike_join, synced_on}
+use Rattle.st_host.proofs.Joining.{alike_join, synced_on, reads_narrow, narrows_join}
 use Rattle.st_store.specs.Refusals.{RefusesFront, IsOfOpening}
 use Rattle.st_store.specs.declared.fault.StoreFault.{StoreFault}
 use Rattle.st_store.specs.declared.fault.StoreFault.TheVariants.{NotAStore, Missing}
@@ -28,6 +28,8 @@ returns-in_err-sync_file g c =
       refused = λ told. tt;
       kind = tt;
       synced = tt;
+      first = tt;
+      tried = inl c.sync_file.ensures.syncs;
       alike = tt;
       narrows = synced.narrows;
       only = looks_change H roots a b synced;
@@ -52,6 +54,8 @@ returns-in_err-length g c =
       refused = λ told. tt;
       kind = tt;
       synced = tt;
+      first = tt;
+      tried = inr (record { synced = b; first = c.in_ok-sync_file.ensures.syncs; is = c.in_ok-sync_file.ensures.synced; behind = reads_narrow H b d c.file_length.ensures.reads });
       alike = tt;
       narrows = measured.narrows;
       only = looks_change H roots a d measured;
@@ -78,6 +82,8 @@ returns-in_err-count g c =
       refused = λ told. tt;
       kind = tt;
       synced = tt;
+      first = tt;
+      tried = inr (record { synced = b; first = c.in_ok-sync_file.ensures.syncs; is = c.in_ok-sync_file.ensures.synced; behind = narrows_join H b d e (reads_narrow H b d c.file_length.ensures.reads) (reads_narrow H d e c.read_from.ensures.reads) });
       alike = tt;
       narrows = run.narrows;
       only = looks_change H roots a e run;
@@ -103,6 +109,8 @@ returns-then-is_none g c =
       refused = λ told. sym (c.in_ok-sync_file.ensures.alike.same told roots) ∙ is_absent c.in_ok-length.length (H.files b roots) (c.in_ok-length.ensures.length told) c.if-is_none.ensures;
       kind = tt;
       synced = tt;
+      first = tt;
+      tried = inr (record { synced = b; first = c.in_ok-sync_file.ensures.syncs; is = c.in_ok-sync_file.ensures.synced; behind = narrows_join H b d e (reads_narrow H b d c.file_length.ensures.reads) (reads_narrow H d e c.read_from.ensures.reads) });
       alike = tt;
       narrows = run.narrows;
       only = looks_change H roots a e run;
@@ -135,6 +143,8 @@ returns-in-Ok g c =
           (looks_join H names b d e (read_looks H names roots b d (λ n other. other) c.file_length.ensures.reads c.file_length.ensures.changes)
           (read_looks H names roots d e (λ n other. other) c.read_from.ensures.reads c.read_from.ensures.changes)).narrows
           (alike_join H b d e c.in_ok-length.ensures.alike c.in_ok-count.ensures.alike);
+      first = record { synced = b; first = c.in_ok-sync_file.ensures.syncs; is = c.in_ok-sync_file.ensures.synced; behind = narrows_join H b d e (reads_narrow H b d c.file_length.ensures.reads) (reads_narrow H d e c.read_from.ensures.reads) };
+      tried = tt;
       alike = alike_join H a d e (alike_join H a b d c.in_ok-sync_file.ensures.alike c.in_ok-length.ensures.alike) c.in_ok-count.ensures.alike;
       narrows = run.narrows;
       only = looks_change H roots a e run;
@@ -168,6 +178,8 @@ returns-in-Err g c =
           (there, wrong_front (bytes_of file) c.in_ok-count.count c.read_from.new.into (c.read_from.auto.into) (c.in_ok-count.ensures.read told) c.in-Err.at c.in-Err.ensures.wrong));
       kind = subst (λ (f : StoreFault). IsOfOpening f) (sym c.damaged.ensures) tt;
       synced = tt;
+      first = tt;
+      tried = inr (record { synced = b; first = c.in_ok-sync_file.ensures.syncs; is = c.in_ok-sync_file.ensures.synced; behind = narrows_join H b d e (reads_narrow H b d c.file_length.ensures.reads) (reads_narrow H d e c.read_from.ensures.reads) });
       alike = tt;
       narrows = run.narrows;
       only = looks_change H roots a e run;

@@ -94,3 +94,11 @@ returns-in_err-write_synced-clause-changes g c =
     let name = string_bytes c.args.names.now.name in
     write_changes H (roots_file name) 8 1 c.args.host.now c.write_synced.new.host
     (writes_as H name c.roots.result.now 8 1 1 c.args.host.now c.write_synced.new.host c.roots.ensures refl c.write_synced.ensures.writes)
+
+pub returns-clause-writes : goal.returns-clause-writes
+returns-clause-writes g c =
+    writes_as g.H.Host (string_bytes c.args.names.now.name) c.roots.result.now 8 1 1 c.args.host.now c.write_synced.new.host c.roots.ensures refl c.write_synced.ensures.writes
+
+pub returns-in_err-write_synced-clause-writes : goal.returns-in_err-write_synced-clause-writes
+returns-in_err-write_synced-clause-writes g c =
+    writes_as g.H.Host (string_bytes c.args.names.now.name) c.roots.result.now 8 1 1 c.args.host.now c.write_synced.new.host c.roots.ensures refl c.write_synced.ensures.writes

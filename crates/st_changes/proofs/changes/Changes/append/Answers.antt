@@ -1,9 +1,10 @@
-use Rattle.std.proofs.Common.{◌≡◌, ◌≤◌, ◌+◌, ◌^◌, length-append, ℕ, List, [], ◌∷◌, ◌++◌, length, sym, ap, ◌∙◌, subst, arith}
+use Rattle.std.proofs.Common.{◌≡◌, inl, ◌≤◌, ◌+◌, ◌^◌, length-append, ℕ, List, [], ◌∷◌, ◌++◌, length, sym, ap, ◌∙◌, subst, arith}
 use Rattle.std.specs.Prelude.{All, Option, Some, unwrap_or}
 use Rattle.std.proofs.lemmas.List.{map-append}
 use Rattle.st_store.specs.declared.root.Root.{Root}
 use Rattle.st_host.proofs.Joining.{makes_then, makes_failed, makes_of}
 use Rattle.st_store.specs.Stored.{Opens, IsFirm}
+use Rattle.st_store.proofs.Settling.{when_err, kept_rest}
 use Rattle.st_chunk.specs.Definitions.{Definition, IsDefinition, entry, entries}
 use Rattle.st_changes.specs.Views.{definition_of, definitions_of}
 use Rattle.st_changes.specs.States.{ChangesState, grown}
@@ -41,6 +42,24 @@ returns-in_err-store-clause-makes g c x told kept =
     let e = c.commit.new.host in
     makes_then H (Opens c.args.store.name) x (grown x d) a b e c.write_behind.result _ (c.write_behind.ensures.makes x told kept)
     (makes_of H (Opens c.args.store.name) x (grown x d) b e c.commit.result _ c.from_residual-in_err-store.ensures.0 (c.commit.ensures.makes x (grown x d) told still firm root))
+
+pub returns-in_err-write_behind-clause-broken : goal.returns-in_err-write_behind-clause-broken
+returns-in_err-write_behind-clause-broken g c = when_err c.from_residual.result _ (λ x told kept.
+    inl (kept_rest g.H.Host (Opens c.args.store.name) x c.args.host.now c.write_behind.new.host c.write_behind.result (c.write_behind.ensures.makes x told kept)))
+
+pub returns-in_err-store-clause-broken : goal.returns-in_err-store-clause-broken
+returns-in_err-store-clause-broken g c = when_err c.from_residual-in_err-store.result _ (λ x told kept.
+    let H = g.H.Host in
+    let d = entry (definition_of c.args.definition) in
+    let is : c.in-Some.field-0.entry.items ≡ d = some_same (ap reserved_of (sym c.in-Some.is ∙ c.take.ensures.value) ∙ ap (λ (s : ChangesState). s.reserved) c.self.view_is ∙ c.requires.reserved) in
+    let b = c.write_behind.new.host in
+    let bytes : c.deref.result.now ≡ d = c.deref.ensures.value ∙ is in
+    let n : length d ≡ c.len.result = omega (arith, ap length is, c.len.ensures, c.in-Some.field-0.entry.ok) in
+    let fits : x.root.length + length c.deref.result.now ≤ 2 ^ 30 = omega (arith, c.requires.fits, c.requires.place, ap (λ (r : Root). r.length) kept.root, ap length bytes) in
+    let still = c.in_ok-write_behind.ensures.kept x told kept in
+    let firm = subst (λ (y : List ℕ). IsFirm H b c.args.store.name (grown x y)) bytes (c.in_ok-write_behind.ensures.firm x told kept fits) in
+    let root = grown_root x c.root-root.result d c.len.result (kept.root ∙ sym c.root-root.ensures) n in
+    c.in_err-store.ensures.broken x (grown x d) told still firm root)
 
 pub invariant_of-self-2 : goal.invariant_of-self-2
 invariant_of-self-2 g c =

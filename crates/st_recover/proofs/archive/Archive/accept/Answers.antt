@@ -12,7 +12,7 @@ use Rattle.st_recover.specs.Archives.{ArchiveState, IsStoreOf}
 use Rattle.st_recover.specs.Commits.{OpensAs, accepting}
 use Rattle.st_recover.proofs.Commits.{holds_rest}
 use Rattle.st_recover.proofs.Making.{both_spare}
-use Rattle.st_recover.proofs.Holding.{some_same, store_grown, named, accept_makes, accept_holds}
+use Rattle.st_recover.proofs.Holding.{some_same, store_grown, named, accept_makes, accept_broken, accept_holds}
 use Rattle.st_recover.proofs.Obeying.{it_fits, it_is_too_long, accept_kept, accept_failed, accept_refused, accept_starved}
 use Rattle.st_recover.proofs.archive.Archive.accept.Goals as goal
 
@@ -57,9 +57,15 @@ returns-in_default-append-clause-obeys g c x holds =
     let name_is = named H a old st x holds there in
     let both = subst (λ (n : List ℕ). ChangesBoth H (changes_file n) (roots_file n) a b) name_is c.append.ensures.changes in
     let spares = both_spare H (changes_file old.name) (roots_file old.name) (IsNoFileOf old.name) a b (λ n no. no.changes) (λ n no. no.roots) both in
-    let makes = accept_makes H a old st x holds there kept b c.append.result (λ y told keeps. c.append.ensures.makes y told keeps) in
+    let makes = accept_makes H a old st x holds there kept b c.append.result (subst IsDefinition (sym is) c.requires.good) (λ y told keeps. c.append.ensures.makes y told keeps) in
     obeys_as H (OpensAs old.name) (IsNoFileOf old.name) _ (λ d. d) x (accepting x kept) (accepting x (definition_of c.args.definition.now)) (Err DiskFault) a b (ap (accepting x) is)
     (accept_failed H (OpensAs old.name) (IsNoFileOf old.name) _ x kept a b c.append.result fits makes spares)
+
+pub returns-in_default-append-clause-broken : goal.returns-in_default-append-clause-broken
+returns-in_default-append-clause-broken g c disk x told holds =
+    let st = c.in-Some.store in
+    let there = ap (λ (s : ArchiveState). s.store) (sym c.self.view_is) ∙ sym c.take.ensures.value ∙ c.in-Some.is in
+    accept_broken g.H.Host c.args.host.now c.args.self.now st x holds there c.append.new.host (λ y told keeps. c.in_default-append.ensures.broken y told keeps) told
 
 pub invariant_of-self-2 : goal.invariant_of-self-2
 invariant_of-self-2 g c =
@@ -86,8 +92,8 @@ returns-clause-obeys g c x holds =
     let name_is = named H a old st x holds there in
     let both = subst (λ (n : List ℕ). ChangesBoth H (changes_file n) (roots_file n) a b) name_is c.append.ensures.changes in
     let spares = both_spare H (changes_file old.name) (roots_file old.name) (IsNoFileOf old.name) a b (λ n no. no.changes) (λ n no. no.roots) both in
-    let makes = accept_makes H a old st x holds there kept b (Ok c.in-Ok-append.store) (λ y told keeps. c.in-Ok-append.ensures.makes y told keeps) in
     let good = subst IsDefinition (sym is) c.requires.good in
+    let makes = accept_makes H a old st x holds there kept b (Ok c.in-Ok-append.store) good (λ y told keeps. c.in-Ok-append.ensures.makes y told keeps) in
     let more = c.in-Ok-append.ensures.listed ∙ ap (λ (ds : List Definition). ds ++ kept ∷ []) (c.reserve.ensures.listed ∙ ap (λ (s : ArchiveState). s.listed) c.self.view_is) in
     let held = accept_holds H a old st x holds there kept b _ c.in-Ok-append.store good (c.append.ensures.named ∙ c.reserve.ensures.named ∙ ap (λ (s : ArchiveState). s.name) c.self.view_is) refl more
     c.in-Ok-append.ensures.store (λ y told keeps. c.in-Ok-append.ensures.kept y told keeps) in

@@ -6,7 +6,8 @@ use Rattle.st_store.specs.declared.root.Root.{Root}
 use Rattle.st_recover.specs.Archives.{ArchiveState}
 use Rattle.st_recover.specs.Commits.{image_with}
 use Rattle.st_recover.proofs.Images.{image_is, image_readable}
-use Rattle.st_recover.proofs.Holding.{unwritten_makes, snapshot_makes, snapshot_holds}
+use Rattle.st_recover.proofs.Holding.{unwritten_makes, unwritten_broken, snapshot_makes, snapshot_broken, snapshot_holds}
+use Rattle.st_store.proofs.Settling.{when_err}
 use Rattle.st_recover.proofs.archive.Archive.snapshot.Goals as goal
 
 pub returns-in_err-image_length-clause-makes : goal.returns-in_err-image_length-clause-makes
@@ -97,3 +98,39 @@ returns-clause-holds g c x holds =
     snapshot_holds H a old st x holds there b image file (image_readable v (g.met.M.Memory.whole c.args.m.now) c.requires.starts) root at at_is c.image_name.ensures c.write.ensures.writes (λ told. c.in_ok-image_length.ensures.file told ∙ ap Some (image_is v)) c.in_ok-image_length.ensures.synced refl long n_is n_is
     e _ c.in_ok-commit.field-0 (ap (λ (s : ArchiveState). s.name) c.self.view_is) refl (ap (λ (s : ArchiveState). s.listed) c.self.view_is) c.in_ok-commit.ensures.store
     (λ y z told kept firm is. c.in_ok-commit.ensures.kept y z told kept firm is)
+
+pub returns-in_err-image_length-clause-broken : goal.returns-in_err-image_length-clause-broken
+returns-in_err-image_length-clause-broken g c = when_err c.from_residual.result _ (λ x told holds.
+    let H = g.H.Host in
+    let v = g.M.Memory.view c.args.m.now in
+    let image = image_with v.objects v.head in
+    let a = c.args.host.now in
+    let b = c.write.new.host in
+    let old = c.args.self.now in
+    let st = c.in-Some.store in
+    let there = ap (λ (s : ArchiveState). s.store) (sym c.self.view_is) ∙ sym c.take.ensures.value ∙ c.in-Some.is in
+    let at = c.saturating_sub-other.result in
+    let at_is : at ≡ 1 - st.root.slot = c.saturating_sub-other.ensures ∙ ap (λ (r : Root). 1 - r.slot) c.root-slot.ensures in
+    let file = c.image_name.result.now in
+    unwritten_broken H a old st x holds there b image file (image_readable v (g.met.M.Memory.whole c.args.m.now) c.requires.starts) st.root at at_is c.image_name.ensures c.write.ensures.writes c.write.result told)
+
+pub returns-in_err-commit-clause-broken : goal.returns-in_err-commit-clause-broken
+returns-in_err-commit-clause-broken g c = when_err c.from_residual-in_err-commit.result _ (λ x told holds.
+    let H = g.H.Host in
+    let v = g.M.Memory.view c.args.m.now in
+    let image = image_with v.objects v.head in
+    let a = c.args.host.now in
+    let b = c.write.new.host in
+    let old = c.args.self.now in
+    let st = c.in-Some.store in
+    let there = ap (λ (s : ArchiveState). s.store) (sym c.self.view_is) ∙ sym c.take.ensures.value ∙ c.in-Some.is in
+    let at = c.saturating_sub-other.result in
+    let at_is : at ≡ 1 - st.root.slot = c.saturating_sub-other.ensures ∙ ap (λ (r : Root). 1 - r.slot) c.root-slot.ensures in
+    let file = c.image_name.result.now in
+    let l = c.in_ok-image_length.image_length in
+    let n = c.root-slot.result.length in
+    let root : Root = record { slot = at; image_length = l; base = n; length = n } in
+    let long : l ≡ length image = c.in_ok-image_length.ensures.length ∙ ap length (image_is v) in
+    let n_is = ap (λ (r : Root). r.length) c.root-slot.ensures in
+    snapshot_broken H a old st x holds there b image file (image_readable v (g.met.M.Memory.whole c.args.m.now) c.requires.starts) root at at_is c.image_name.ensures c.write.ensures.writes (λ told. c.in_ok-image_length.ensures.file told ∙ ap Some (image_is v)) c.in_ok-image_length.ensures.synced refl long n_is n_is
+    c.commit.new.host (λ y z told kept firm is. c.in_err-commit.ensures.broken y z told kept firm is) told)

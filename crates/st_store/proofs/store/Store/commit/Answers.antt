@@ -1,8 +1,10 @@
-use Rattle.std.proofs.Common.{refl, string_bytes, sym, ap, subst, lit<}
+use Rattle.std.proofs.Common.{inl, inr, refl, string_bytes, sym, ap, subst, lit<}
 use Rattle.st_host.specs.Runs.{Makes}
 use Rattle.st_host.proofs.Joining.{makes_then, makes_failed, makes_of}
 use Rattle.st_store.specs.Stored.{StoreState, Opens, IsFirm, IsChosen}
-use Rattle.st_store.proofs.Turning.{makes_as}
+use Rattle.st_store.specs.Faults.{RestsUnlessGate}
+use Rattle.st_store.proofs.Turning.{makes_as, rests}
+use Rattle.st_store.proofs.Settling.{when_err, kept_rest}
 use Rattle.st_store.proofs.store.Store.commit.Goals as goal
 
 pub returns-in_err-stage-clause-makes : goal.returns-in_err-stage-clause-makes
@@ -50,6 +52,34 @@ returns-clause-kept g c x d told kept firm is =
     let there = subst (λ (s : StoreState). IsFirm H a s.name d) (sym c.self.view_is) firm in
     let staged = c.in_ok-stage.ensures.staged x d told chosen there is in
     record { root = is; is = c.in_ok-turn.ensures.other inside.chosen x d told refl staged }
+
+pub returns-in_err-stage-clause-broken : goal.returns-in_err-stage-clause-broken
+returns-in_err-stage-clause-broken g c = when_err c.from_residual.result _ (λ x d told kept firm is.
+    let H = g.H.Host in
+    let a = c.args.host.now in
+    let inside = c.self.inside in
+    let chosen = subst (λ (s : StoreState). IsChosen H a s.name s.chosen x) (sym c.self.view_is) kept.is in
+    let there = subst (λ (s : StoreState). IsFirm H a s.name d) (sym c.self.view_is) firm in
+    subst (λ (s : StoreState). RestsUnlessGate H (Opens s.name) s.name x c.stage.new.host) c.self.view_is
+    (inl (kept_rest H (Opens (string_bytes inside.names.name)) x a c.stage.new.host c.stage.result (c.stage.ensures.makes x d told chosen there is))))
+
+pub returns-in_err-turn-clause-broken : goal.returns-in_err-turn-clause-broken
+returns-in_err-turn-clause-broken g c = when_err c.from_residual-in_err-turn.result _ (λ x d told kept firm is.
+    let H = g.H.Host in
+    let a = c.args.host.now in
+    let m = c.stage.new.host in
+    let inside = c.self.inside in
+    let name = string_bytes inside.names.name in
+    let chosen = subst (λ (s : StoreState). IsChosen H a s.name s.chosen x) (sym c.self.view_is) kept.is in
+    let there = subst (λ (s : StoreState). IsFirm H a s.name d) (sym c.self.view_is) firm in
+    let staged = c.in_ok-stage.ensures.staged x d told chosen there is in
+    subst (λ (s : StoreState). RestsUnlessGate H (Opens s.name) s.name x c.turn.new.host) c.self.view_is
+    (inr (record {
+      before = m;
+      rest = record { opens_as = λ f can. rests H name m inside.chosen x f staged.chosen can };
+      writes = c.turn.ensures.writes;
+      fault = c.in_err-turn.ensures.cause.rose refl;
+    })))
 
 pub returns-clause-gate : goal.returns-clause-gate
 returns-clause-gate g c told = (c.in_ok-turn.ensures.written told).inside 0 (lit< tt)

@@ -1,0 +1,105 @@
+-- What a fault of the disk leaves of a store.
+use Rattle.std.proofs.Common.{◌≡◌, inl, inr, ⊎_elim, ℕ, ◌≤◌, List, Option, IsTrue, refl, sym, subst, arith}
+use Rattle.std.specs.Prelude.{◌⊎◌, Result, Ok, Err, OnErr}
+use Rattle.st_host.specs.Files.{Files}
+use Rattle.st_host.specs.Stops.{Here, comes}
+use Rattle.st_host.specs.Runs.{Narrows, Syncs, IsAtRest, Makes}
+use Rattle.st_host.specs.declared.host.Host.{Ghosts}
+use Rattle.st_host.proofs.Joining.{weaker, moments_join, narrows_join}
+use Rattle.st_store.specs.Names.{roots_file}
+use Rattle.st_store.specs.Roots.{Chooses}
+use Rattle.st_store.specs.Stored.{Stored, Opens, IsChosen, IsReady}
+use Rattle.st_store.specs.Faults.{SyncsFirst, OpensSince, HasSettled, Settles}
+use Rattle.st_store.proofs.Turning.{came, opens_as, rests}
+use Rattle.st_store.proofs.Determined.{one_stored}
+
+-- a fact is a clause on an error
+pub when_err : {R E : Type 0} (result : Result R E) (P : Type 0) → P → OnErr result P
+when_err (Ok x) P holds = tt
+when_err (Err e) P holds = holds
+
+module _ {D : Type 0} (host : Ghosts D) where
+  -- what could only be the one or the one is it
+  pub kept_rest : {C R E : Type 0} (opens : C → Files → Type 0) (c : C) (old new : D) (result : Result R E) → Makes host opens c c old new result → IsAtRest host opens c new
+  kept_rest opens c old new result run = record { opens_as = λ f can. ⊎_elim (λ o. o) (λ o. o) (run.either f can) }
+
+  -- no call
+  pub syncs_none : (file : List ℕ) (a : D) → (IsTrue host.is_told → (f : Files) (s : List ℕ) → host.left_since a (host.moment a) f s → Here (host.may_leave a) (host.said a) f s) → Syncs host file a a
+  syncs_none file a only_now = record {
+    run = record {
+      disk = omega arith;
+      say = refl;
+      others = λ told. record { files = λ n other. refl; fewer = λ n c other can. can; more = λ n c other could. could };
+      quiet = λ told. refl;
+      own = λ told c can. comes c can refl;
+      moments = λ told. record {
+        later = omega arith;
+        each = λ f s left. let here = only_now told f s left in record { others = λ n other. here.0 n; own = comes (f file) (here.0 file) refl; quiet = here.1 };
+        before = λ t f s le left. inl left;
+      };
+    };
+  }
+
+  -- reads and syncs behind it
+  pub first_more : (file : List ℕ) (a m d : D) → SyncsFirst host file a m → Narrows host m d → SyncsFirst host file a d
+  first_more file a m d sync more = record { synced = sync.synced; first = sync.first; is = sync.is; behind = narrows_join host sync.synced m d sync.behind more }
+
+  module _ (name : List ℕ) (a m : D) (told : IsTrue host.is_told) where
+    -- where each root that could be chosen names what is firm
+    pub settled : IsReady host a name → ((h : D) → host.may_leave h (roots_file name) (host.files h (roots_file name))) → SyncsFirst host (roots_file name) a m → HasSettled host name a m
+    settled ready reads sync =
+        let roots = roots_file name in
+        let s = sync.synced in
+        let could = came (host.may_leave a roots) (λ x y. x ≡ y) (host.may_leave a roots) (host.files s roots) (λ d was same. subst (host.may_leave a roots) same was)
+        (sync.first.run.own told (host.files s roots) (reads s)) in
+        let at = ready (host.files s roots) could in
+        let c = at.1 in
+        let opens : (f : Files) → ((n : List ℕ) → host.may_leave s n (f n)) → Opens name c f = λ f can.
+        opens_as host name a c f at.0 at.3 (λ n other. (sync.first.run.others told).fewer n (f n) other (can n))
+        (subst (λ (x : Option (List ℕ)). Chooses at.0 c.root x) (sym (sync.is.is told (f roots) (can roots))) at.2) in (
+          c,
+          record {
+            synced = s;
+            first = sync.first;
+            moments = weaker host s m (λ f t. Opens name c f) (Here (host.may_leave s) (host.said s)) (sync.behind.moments told) (λ f t here. opens f here.0);
+            rest = record { opens_as = λ f can. opens f (λ n. sync.behind.fewer told n (f n) (can n)) };
+          },
+        )
+
+    -- the other root and the gate are written
+    pub settled_on : {R E : Type 0} (c : Stored) (k : ℕ) (x : Stored) (d : D) (result : Result R E) → ((n : List ℕ) → host.may_leave m n (host.files m n)) → OpensSince host name c a m → IsChosen host m name k x
+        → Makes host (Opens name) x x m d result → OpensSince host name c a d
+    settled_on c k x d result reads since chosen makes =
+        let same : x ≡ c = one_stored name x c (host.files m) (rests host name m k x (host.files m) chosen reads) (since.rest.opens_as (host.files m) reads) in
+        record {
+          synced = since.synced;
+          first = since.first;
+          moments = moments_join host since.synced m d (λ f s. Opens name c f) (λ f s. (s ≡ host.said m) × (Opens name x f ⊎ Opens name x f)) since.moments makes.moments
+              (λ f s so. subst (λ (y : Stored). Opens name y f) same (⊎_elim (λ o. o) (λ o. o) so.1));
+          rest = record { opens_as = λ f can. subst (λ (y : Stored). Opens name y f) same (⊎_elim (λ o. o) (λ o. o) (makes.either f can)) };
+        }
+
+    -- while the roots file is looked at
+    pub settles_looked : IsReady host a name → ((h : D) → host.may_leave h (roots_file name) (host.files h (roots_file name)))
+        → Syncs host (roots_file name) a m ⊎ SyncsFirst host (roots_file name) a m → Settles host name a m
+    settles_looked ready reads (inl begun) = inl begun
+    settles_looked ready reads (inr sync) = inr (settled ready reads sync)
+
+    pub settles_on : {R E : Type 0} (k : ℕ) (x : Stored) (d : D) (result : Result R E) → IsReady host a name → ((h : D) (n : List ℕ) → host.may_leave h n (host.files h n))
+        → SyncsFirst host (roots_file name) a m → IsChosen host m name k x → Makes host (Opens name) x x m d result → HasSettled host name a d
+    settles_on k x d result ready reads sync chosen makes =
+        let at = settled ready (λ h. reads h (roots_file name)) sync in
+        (at.0, settled_on at.0 k x d result (reads m) at.1 chosen makes)
+
+    -- reads and syncs behind it
+    pub settled_more : (d : D) → HasSettled host name a m → Narrows host m d → HasSettled host name a d
+    settled_more d at more =
+        let since = at.1 in (
+          at.0,
+          record {
+            synced = since.synced;
+            first = since.first;
+            moments = moments_join host since.synced m d (λ f s. Opens name at.0 f) (Here (host.may_leave m) (host.said m)) since.moments (more.moments told) (λ f s here. since.rest.opens_as f here.0);
+            rest = record { opens_as = λ f can. since.rest.opens_as f (λ n. more.fewer told n (f n) (can n)) };
+          },
+        )
