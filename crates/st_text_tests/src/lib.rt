@@ -25,6 +25,8 @@ mod hosts;
 #[cfg(test)]
 mod kernels;
 #[cfg(test)]
+mod meanings;
+#[cfg(test)]
 mod parsing;
 #[cfg(test)]
 mod printing;
