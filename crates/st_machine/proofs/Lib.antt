@@ -9,3 +9,4 @@ mod Keeping
 pub mod Once
 mod Prepares
 pub mod Done
+mod DeathRows
