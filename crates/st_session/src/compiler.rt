@@ -29,7 +29,6 @@ pub(crate) fn carry_out<M: Memory>(m: &mut M, prepared: Prepared) -> Vec<u8>
         → IsReady (M.view m.new) f w }
 {
     install(m, prepared.ready);
-    m.settle();
     prepared.selector
 }
 

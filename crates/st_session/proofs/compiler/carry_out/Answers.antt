@@ -11,8 +11,9 @@ install-requires g c =
 pub returns-clause-installs : goal.returns-clause-installs
 returns-clause-installs g c = λ d f w s prepared ready shows.
     let v = g.M.Memory.view c.args.m.now in
-    carried v d c.args.prepared prepared (g.met.M.Memory.whole c.args.m.now) f w ready s shows (g.M.Memory.view c.install.new.m) (g.M.Memory.view c.settle.new.self) c.install.ensures c.settle.ensures
+    carried v d c.args.prepared prepared (g.met.M.Memory.whole c.args.m.now) f w ready s shows (g.M.Memory.view c.install.new.m) c.install.ensures
 
 pub returns-clause-ready : goal.returns-clause-ready
 returns-clause-ready g c = λ f w ready.
-    ready_held (g.M.Memory.view c.settle.new.self) (g.M.Memory.view c.args.m.now) f w (c.settle.ensures.held ∙ c.install.ensures.held) ready
+    let installs = c.install.ensures in
+    ready_held (g.M.Memory.view c.install.new.m) (g.M.Memory.view c.args.m.now) f w (installs.settles.held ∙ installs.becomes.held) ready
