@@ -2,7 +2,6 @@ pub mod Accepting
 pub mod BrowsedLines
 pub mod Built
 pub mod Commanded
-pub mod Compiling
 pub mod Cycles
 pub mod Drilled
 pub mod Ending

@@ -1,6 +1,6 @@
 use Rattle.std.proofs.Common.{◌∙◌, sym}
-use Rattle.st_session.proofs.Compiling.{ready_for, ready_held, carried}
-use Rattle.st_session.proofs.compiler.carry_out.Goals as goal
+use Rattle.st_install.proofs.Compiling.{ready_for, ready_held, carried}
+use Rattle.st_install.proofs.defining.carry_out.Goals as goal
 
 pub install-requires : goal.install-requires
 install-requires g c =
