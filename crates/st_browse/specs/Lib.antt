@@ -9,6 +9,7 @@ pub mod Display
 pub mod Sources
 pub mod Shown
 pub mod Asked
+pub mod Questions
 pub mod Entries
 pub mod Listing
 pub mod Founds

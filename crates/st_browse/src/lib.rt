@@ -3,6 +3,7 @@
 //! keeps, and all else from the memory alone. The answers are defined in `specs/Replies.antt`, `Display.antt` and `Sources.antt`.
 #![tactic(auto)]
 
+mod ask;
 mod choice;
 mod classes;
 mod codes;
@@ -22,5 +23,6 @@ mod sending;
 mod sought;
 mod source;
 
-pub use saying::browse;
+pub use ask::{Ask, Side};
+pub use saying::{BrowseFault, browse, browse_line};
 pub use sought::find_method;

@@ -1,6 +1,6 @@
 //! The lines of what was found.
 
-ghost use Rattle.std.specs.Prelude.{◌≡◌, ◌≤◌, ◌++◌, ℕ, List, Option, option_map, length, OnOk};
+ghost use Rattle.std.specs.Prelude.{◌≡◌, ◌≤◌, ◌++◌, ℕ, List, Option, option_map, length, OnOk, IfErr};
 ghost use Rattle.std.specs.List.{filter};
 ghost use Rattle.st_model.specs.Values.{value};
 ghost use Rattle.st_model.specs.View.{object_of};
@@ -14,9 +14,12 @@ ghost use Rattle.st_browse.specs.Classes.{is_class};
 ghost use Rattle.st_browse.specs.Listing.{lines_text, listed};
 ghost use Rattle.st_browse.specs.Replies.{bytecodes_text, count_text, senders_text};
 ghost use Rattle.st_browse.specs.Asked.{Answers, IsTextFor, reply};
+ghost use Rattle.st_browse.specs.Questions.{question};
+ghost use Rattle.st_browse.specs.declared.saying.BrowseFault.TheVariants.{Say};
 ghost use Rattle.st_browse.specs.Entries.{IsBody, IsLine, count_of, names_in};
 ghost use Rattle.st_browse.specs.Founds.{IsSought, sought_text};
 
+use crate::ask::Ask;
 use crate::choice::Choice;
 use crate::codes::{Body, count_codes, push_codes};
 use crate::display::push_form;
@@ -28,7 +31,7 @@ use crate::sought::{Sought, seek};
 use crate::source::push_source;
 use st_call::{Output, push_long_line, push_object};
 use st_changes::Changes;
-use st_chunk::Ask;
+use st_chunk::Ask as Asked;
 use st_host::{Host, SayFault};
 use st_memory::Memory;
 
@@ -133,28 +136,28 @@ fn say_sought<H: Host, M: Memory>(m: &M, sought: Sought<'_>, host: &mut H) -> Re
 }
 
 /// The text of the last definition of a class, a side of it and a selector, where a source is asked for.
-fn text_for<'a>(changes: &'a Changes, ask: Ask<'_>) -> Option<&'a [u8]>
+fn text_for<'a>(changes: &'a Changes, ask: Asked<'_>) -> Option<&'a [u8]>
     ensures { IsTextFor changes.now.listed (ask_of ask.entry) (option_map (λ t. t.now) result) }
 {
     match ask {
-        Ask::Source(side, selector) => changes.last_text(side.class, side.meta, selector),
-        Ask::Object(_)
-        | Ask::Display
-        | Ask::Classes
-        | Ask::Methods(_)
-        | Ask::Bytecodes(_, _)
-        | Ask::Senders(_)
-        | Ask::Until(_, _, _) => None,
+        Asked::Source(side, selector) => changes.last_text(side.class, side.meta, selector),
+        Asked::Object(_)
+        | Asked::Display
+        | Asked::Classes
+        | Asked::Methods(_)
+        | Asked::Bytecodes(_, _)
+        | Asked::Senders(_)
+        | Asked::Until(_, _, _) => None,
     }
 }
 
-/// Says what an image, whose definitions are kept in this list, answers to what is asked of it, and whether what is asked for is
+/// Says what an image, whose definitions are kept in this list, answers to what a line asks of it, and whether what is asked for is
 /// there: where it is missing, nothing is said. After an error some first bytes of the answer were said, or none or all. It
 /// takes no memory, and reads no file.
-pub fn browse<H: Host, M: Memory>(
+pub fn browse_line<H: Host, M: Memory>(
     m: &M,
     changes: &Changes,
-    ask: Ask<'_>,
+    ask: Asked<'_>,
     host: &mut H,
 ) -> Result<bool, SayFault>
     ensures answers { (text : Option (List ℕ)) → IsTextFor changes.now.listed (ask_of ask.entry) text
@@ -167,5 +170,34 @@ pub fn browse<H: Host, M: Memory>(
             Ok(true)
         }
         None => Ok(false),
+    }
+}
+
+/// Why an answer wasn't said whole.
+#[derive(Clone, Copy, Debug, PartialEq, Eq)]
+pub enum BrowseFault {
+    /// The disk failed. As no file is read, it never does here.
+    Disk,
+    /// The output failed.
+    Say,
+}
+
+/// Says what an image, whose definitions are kept in this list, answers to what is asked of it, and whether what is asked for is
+/// there: where it is missing, nothing is said. After an error some first bytes of the answer were said, or none or all. It
+/// takes no memory, and reads no file.
+pub fn browse<M: Memory, H: Host>(
+    m: &M,
+    changes: &Changes,
+    ask: &Ask,
+    host: &mut H,
+) -> Result<bool, BrowseFault>
+    ensures answers { (text : Option (List ℕ)) → IsTextFor changes.now.listed (question ask.now) text
+        → Answers H.Host.own (reply (M.view m.now) text (question ask.now)) host.old host.new result }
+    ensures cause { HasCause (H.say_faults host.old) (H.say_faults host.new) result }
+    ensures kind { IfErr result (λ fault. fault ≡ Say) }
+{
+    match browse_line(m, changes, ask.lend(), host) {
+        Ok(found) => Ok(found),
+        Err(SayFault) => Err(BrowseFault::Say),
     }
 }

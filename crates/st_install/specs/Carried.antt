@@ -4,9 +4,10 @@ use Rattle.std.specs.List.{AllByRecursion}
 use Rattle.st_model.specs.Values.{Value}
 use Rattle.st_model.specs.Objects.{is_method}
 use Rattle.st_model.specs.Machine.{State, Transition, Died, Went, Step}
-use Rattle.st_model.specs.Table.{Table}
-use Rattle.st_model.specs.View.{View, is_live, object_of, fits}
+use Rattle.st_model.specs.Table.{Table, bounded_table}
+use Rattle.st_model.specs.View.{View, SettlesTo, is_live, object_of, fits}
 use Rattle.st_install.specs.Goes.{IsOfKind}
+use Rattle.st_install.specs.Installing.{install}
 use Rattle.st_install.specs.Plans.{NewObject, Plan, words_of_new, demand_of_all}
 
 -- it didn't die
@@ -23,6 +24,12 @@ pub record Becomes {A : Type 0} (m : Step Table A) (v : View) (a : A) (w : View)
   pub run : (s : State Table) → s.memory ≡ v.objects → s.head ≡ v.head → m.run s ≡ Went a (record s { memory = w.objects })
   pub held : w.held ≡ v.held
   pub head : w.head ≡ v.head
+
+-- What a plan says is made and stored, and then nothing is kept but the largest set that supports itself.
+pub record Installs (p : Plan) (v w : View) : Type 0 where
+  pub between : View
+  pub becomes : Becomes (install bounded_table p) v tt between
+  pub settles : SettlesTo between w
 
 -- each object has as many fields as before
 abbrev pub KeepsFields : Table → Table → Type 0

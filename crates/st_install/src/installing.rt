@@ -4,7 +4,7 @@ ghost use Rattle.std.specs.Prelude.{◌≡◌, length};
 ghost use Rattle.std.specs.List.{AllByRecursion};
 ghost use Rattle.st_model.specs.Objects.{nil};
 ghost use Rattle.st_model.specs.Table.{table, bounded_table};
-ghost use Rattle.st_install.specs.Carried.{Goes, Becomes, IsPlannable, AreShaped, HasSmallBodies};
+ghost use Rattle.st_install.specs.Carried.{Goes, Becomes, Installs, IsPlannable, AreShaped, HasSmallBodies};
 ghost use Rattle.st_install.specs.Goes.{IsReadyFor};
 ghost use Rattle.st_install.specs.Installing.{fill_and_store, install};
 ghost use Rattle.st_scope.specs.Meanings.{values};
@@ -36,9 +36,8 @@ fn fill_and_store<M: Memory>(m: &mut M, made: &[Oop], ready: &Ready)
 }
 
 /// Makes the objects of an installation, and then its stores, in the order symbol table, the class's dictionary, selector,
-/// method, tally. The memory is as it was when `ready` answered. It takes no memory, and doesn't fail. Nothing is dropped
-/// yet; who calls it settles the memory then.
-pub fn install<M: Memory>(m: &mut M, ready: Ready)
+/// method, tally. Nothing is dropped yet.
+fn make_and_store<M: Memory>(m: &mut M, ready: Ready)
     requires ready { IsReadyFor (M.view m.old) (plan_of ready) }
     requires bodies { HasSmallBodies (plan_of ready) }
     requires room { HasRoom ready }
@@ -49,4 +48,17 @@ pub fn install<M: Memory>(m: &mut M, ready: Ready)
     make_all(m, &mut made, &ready.objects);
     ready.made = made;
     fill_and_store(m, &ready.made, &ready);
+}
+
+/// Installs what is ready: its objects are made, and its stores done, in the order symbol table, the class's dictionary,
+/// selector, method, tally; then what nothing supports is dropped. The memory is as it was when `ready` answered. It takes
+/// no memory, and doesn't fail.
+pub fn install<M: Memory>(m: &mut M, ready: Ready)
+    requires ready { IsReadyFor (M.view m.old) (plan_of ready) }
+    requires bodies { HasSmallBodies (plan_of ready) }
+    requires room { HasRoom ready }
+    ensures { Installs (plan_of ready) (M.view m.old) (M.view m.new) }
+{
+    make_and_store(m, ready);
+    m.settle();
 }

@@ -1,9 +1,10 @@
-//! Definitions of methods: what comes of one is that it is installed in an image, or refused with its cause. `class_of_name` finds
-//! its class, `names` the names that its method sees, `ready` says whether the method can be installed and makes the plan of that,
-//! and `install` carries the plan out. `install_shows_births` is the law that joins all of them over a table to the same over
-//! births, and `install_gains` the one of what is found afterwards.
+//! Definitions of methods: what comes of one is that it is installed in an image, or refused with its cause (`define`).
+//! `class_of_name` finds its class, `names` the names that its method sees, `ready` says whether the method can be installed and
+//! makes the plan of that, and `install` carries the plan out. `install_shows_births` is the law that joins all of them over a
+//! table to the same over births, and `install_gains` the one of what is found afterwards.
 #![tactic(auto)]
 
+mod defining;
 mod definition_laws;
 mod filling;
 mod growing;
@@ -26,6 +27,7 @@ mod symbol_plan;
 mod symbols;
 mod unprepared;
 
+pub use defining::{carry_out, define};
 pub use definition_laws::{one_syntax, special_messages};
 pub use installing::install;
 pub use laws::{install_gains, install_shows_births};

@@ -4,6 +4,7 @@ ghost use Rattle.st_image.specs.Back.{CanStart};
 ghost use Rattle.st_kernel_text.specs.declared.cause.Cause.{Cause as ACause};
 ghost use Rattle.st_kernel_text.specs.Parts.{Part as APart};
 ghost use Rattle.st_kernel_text.specs.Views.{part_of, parts_of};
+ghost use Rattle.st_install.specs.Defining.{installed};
 ghost use Rattle.st_kernel.specs.Built.{built, without_room, IsBuilt, IsBegun, IsFaultOf};
 
 use crate::fault::{KernelFault, unfinished};
@@ -11,7 +12,6 @@ use crate::following::follow;
 use st_first_objects::{Unmade, make_first};
 use st_kernel_text::{Kernel, Part, read};
 use st_memory::{Loader, Memory};
-use st_protocol::Installer;
 use std::alloc::Global;
 
 /// The chunk that opened the last group, behind the part of a chunk, where the first objects have no room; or the fault of the text,
@@ -59,17 +59,17 @@ fn without_room(kernel: &Kernel) -> KernelFault
 /// Builds the image of a kernel text, as `specs/Built.antt` defines it: the memory of its objects, in which nothing is held but the
 /// registers of the first process, so `fetch_scheduled` finds these; or the first chunk that is wrong, counted from 1, with its least
 /// cause.
-pub fn build<I: Installer, L: Loader>(alloc: Global, text: &[u8]) -> Result<L::Done, KernelFault>
+pub fn build<L: Loader>(alloc: Global, text: &[u8]) -> Result<L::Done, KernelFault>
     requires short { length text.now ≤ 2 ^ 32 - 2 }
-    ensures built { IfOk result (λ m. IsBuilt (built I.install text.now) (L.Done.view m)) }
+    ensures built { IfOk result (λ m. IsBuilt (built installed text.now) (L.Done.view m)) }
     ensures begun { IfOk result (λ m. IsBegun (L.Done.view m)) }
     ensures starts { IfOk result (λ m. CanStart (L.Done.view m)) }
-    ensures refused { IfErr result (IsFaultOf (built I.install text.now)) }
+    ensures refused { IfErr result (IsFaultOf (built installed text.now)) }
 {
     let kernel = read(alloc, text)?;
     match make_first::<L>(alloc, &kernel.parts) {
         Ok(mut m) => {
-            follow::<I, L::Done>(alloc, &mut m, &kernel)?;
+            follow(alloc, &mut m, &kernel)?;
             Ok(m)
         }
         Err(Unmade::NoRoom) => Err(without_room(&kernel)),

@@ -2,6 +2,7 @@
 ghost use Rattle.std.specs.Prelude.{◌≡◌, ◌≤◌, ◌<◌, ◌-◌, ◌^◌, ◌∷◌, List, Result, IfOk, IfErr, length};
 ghost use Rattle.st_kernel_text.specs.Parts.{Part as APart, start};
 ghost use Rattle.st_kernel_text.specs.Views.{start_of, parts_of};
+ghost use Rattle.st_install.specs.Defining.{installed};
 ghost use Rattle.st_protocol.specs.Installing.{Install};
 ghost use Rattle.st_kernel_text.specs.Parts.{Side as ASide};
 ghost use Rattle.st_kernel_text.specs.Definitions.{AreDefinitions};
@@ -14,7 +15,6 @@ use crate::part::{Heading, Next, follow_part};
 use st_frames::World;
 use st_kernel_text::{Cause, Kernel, Start};
 use st_memory::Memory;
-use st_protocol::Installer;
 use std::alloc::Global;
 
 /// Begins the first process by the start, which is the chunk of this number, where the text is over behind it.
@@ -47,7 +47,7 @@ fn finish<M: Memory>(
 }
 
 /// Follows a whole text over the memory of its first objects.
-pub(crate) fn follow<I: Installer, M: Memory>(
+pub(crate) fn follow<M: Memory>(
     alloc: Global,
     m: &mut M,
     kernel: &Kernel,
@@ -56,7 +56,7 @@ pub(crate) fn follow<I: Installer, M: Memory>(
     requires short { length kernel.now.parts.items ≤ 2 ^ 32 - 2 }
     requires quiet { IsQuiet (M.view m.old) }
     ensures follows { (whole : Result Built Fault)
-        → IsUnderway I.install kernel.now.cause whole 1 no_side
+        → IsUnderway installed kernel.now.cause whole 1 no_side
         (parts_of kernel.now.parts.items) (M.view m.old)
         → Finishes whole result (M.view m.new) }
     ensures begun { IfOk result (λ u. IsBegun (M.view m.new)) }
@@ -68,7 +68,7 @@ pub(crate) fn follow<I: Installer, M: Memory>(
     let mut chunk = 1;
     let mut rest = kernel.parts.as_slice();
     while let [part, later @ ..] = rest {
-        match follow_part::<I, M>(alloc, m, heading, chunk, part)? {
+        match follow_part(alloc, m, heading, chunk, part)? {
             Next::On(next) => heading = next,
             Next::Starts(first) => return finish(alloc, m, first, chunk, kernel.cause),
         }

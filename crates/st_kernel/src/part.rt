@@ -6,14 +6,16 @@ ghost use Rattle.st_kernel_text.specs.Parts.{Part as APart, method};
 ghost use Rattle.st_kernel_text.specs.Views.{part_of, side_of};
 ghost use Rattle.st_chunk.specs.ScriptDefinitions.{definition_of};
 ghost use Rattle.st_kernel_text.specs.Definitions.{AreDefinitions, definition_by};
+ghost use Rattle.st_install.specs.Defining.{installed};
 ghost use Rattle.st_kernel.specs.Built.{Built, Fault};
 ghost use Rattle.st_kernel.specs.Following.{side_in, IsUnderway, Installs, GoesOn, StaysGood, IsQuiet};
 
 use crate::fault::KernelFault;
 use st_chunk::Definition;
+use st_install::define;
 use st_kernel_text::{Part, Side, Start};
 use st_memory::Memory;
-use st_protocol::{Installation, Installer};
+use st_protocol::Installation;
 use std::alloc::Global;
 
 /// The side of a class whose methods stand in a group.
@@ -55,7 +57,7 @@ fn definition_by<'a>(heading: Heading<'a>, text: &'a [u8]) -> Definition<'a>
 }
 
 /// Installs the method of the chunk of this number.
-fn install_method<I: Installer, M: Memory>(
+fn install_method<M: Memory>(
     alloc: Global,
     m: &mut M,
     heading: Heading<'_>,
@@ -65,12 +67,12 @@ fn install_method<I: Installer, M: Memory>(
     requires good { IsDefinition (definition_by (side_in heading) text.now) }
     requires quiet { IsQuiet (M.view m.old) }
     ensures installs { (cause : Option ACause) (whole : Result Built Fault) (parts : List APart)
-        → IsUnderway I.install cause whole chunk (side_in heading.entry)
+        → IsUnderway installed cause whole chunk (side_in heading.entry)
         (method text.now ∷ parts) (M.view m.old)
-        → Installs I.install cause whole chunk (side_in heading.entry) parts result (M.view m.new) }
+        → Installs installed cause whole chunk (side_in heading.entry) parts result (M.view m.new) }
     ensures quiet { IsQuiet (M.view m.new) }
 {
-    match I::install(alloc, m, &definition_by(heading, text)) {
+    match define(alloc, m, &definition_by(heading, text)) {
         Installation::Accepted(_selector) => Ok(()),
         Installation::Refused(_why) => Err(KernelFault::At { chunk, cause: 5 }),
         Installation::OutOfMemory => Err(KernelFault::OutOfMemory),
@@ -78,7 +80,7 @@ fn install_method<I: Installer, M: Memory>(
 }
 
 /// Follows the part of the chunk of this number.
-pub(crate) fn follow_part<'a, I: Installer, M: Memory>(
+pub(crate) fn follow_part<'a, M: Memory>(
     alloc: Global,
     m: &mut M,
     heading: Heading<'a>,
@@ -88,16 +90,16 @@ pub(crate) fn follow_part<'a, I: Installer, M: Memory>(
     requires good { AreDefinitions (side_in heading) (part_of part.now ∷ []) }
     requires quiet { IsQuiet (M.view m.old) }
     ensures follows { (cause : Option ACause) (whole : Result Built Fault) (parts : List APart)
-        → IsUnderway I.install cause whole chunk (side_in heading.entry)
+        → IsUnderway installed cause whole chunk (side_in heading.entry)
         (part_of part.now ∷ parts) (M.view m.old)
-        → GoesOn I.install cause whole chunk (side_in heading.entry) parts result (M.view m.new) }
+        → GoesOn installed cause whole chunk (side_in heading.entry) parts result (M.view m.new) }
     ensures good { StaysGood (side_in heading.entry) (part_of part.now) result }
     ensures quiet { IsQuiet (M.view m.new) }
 {
     match part {
         Part::Header(side) => Ok(Next::On(heading_of(side))),
         Part::Method(text) => {
-            install_method::<I, M>(alloc, m, heading, text, chunk)?;
+            install_method(alloc, m, heading, text, chunk)?;
             Ok(Next::On(heading))
         }
         Part::Start(start) => Ok(Next::Starts(start)),

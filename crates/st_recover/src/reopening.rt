@@ -15,6 +15,7 @@ ghost use Rattle.st_store.specs.Names.{roots_file, image_file, IsNoFileOf};
 ghost use Rattle.st_store.specs.Stored.{Stored, Opens, IsSound, IsOpening, OpensAsOne};
 ghost use Rattle.st_store.specs.Stored.{IsReady as IsChosenFirmly};
 ghost use Rattle.st_store.specs.Faults.{Settles};
+ghost use Rattle.st_install.specs.Defining.{installed};
 ghost use Rattle.st_changes.specs.Lists.{StandsAt};
 ghost use Rattle.st_recover.specs.Commits.{Commit};
 ghost use Rattle.st_recover.specs.Replays.{ReplaysFrom};
@@ -32,7 +33,6 @@ use st_host::{Host, read_from};
 use st_image::{HeadValues, ReadImage, read};
 use st_memory::{Loader, Memory};
 use st_model::LONGEST_IMAGE;
-use st_protocol::Installer;
 use st_store::{Store, open_store};
 use std::alloc::{AllocError, Global};
 
@@ -141,7 +141,7 @@ fn fetch<L: Loader, H: Host>(
 }
 
 /// Installs the definitions again that stand from a place of their changes file on.
-fn install_again<I: Installer, M: Memory>(
+fn install_again<M: Memory>(
     alloc: Global,
     m: &mut M,
     changes: &Changes,
@@ -151,25 +151,25 @@ fn install_again<I: Installer, M: Memory>(
     requires stands { StandsAt changes.now.listed base }
     requires limit { length (entries changes.now.listed) ≤ 2 ^ 30 }
     ensures replays { IfOk result
-        (ReplaysFrom I.install changes.now.listed base (M.view m.old) (M.view m.new)) }
+        (ReplaysFrom installed changes.now.listed base (M.view m.old) (M.view m.new)) }
     ensures few { IfOk result (λ r. length r.lost.items < 2 ^ 32) }
     ensures ready { (f : Frame) (w : World) → IsReady (M.view m.old) f w → IsReady (M.view m.new) f w }
 {
     let before = changes.count_before(base);
-    replay_all::<I, M>(alloc, m, &changes.definitions()[before..], before as u32)
+    replay_all(alloc, m, &changes.definitions()[before..], before as u32)
 }
 
 /// Opens the store of this name: the objects and registers of its image, with the definitions from its base on installed again,
 /// or listed as lost. Why it isn't opened is looked for in this order: the roots file and its root, the image's length, the image,
 /// the changes file.
-pub fn reopen<I: Installer, L: Loader, H: Host>(
+pub fn reopen<L: Loader, H: Host>(
     alloc: Global,
     host: &mut H,
     name: &str,
 ) -> Result<Opened<L::Done>, OpenFault>
     // The files open as one commit, which is what is answered.
     ensures opened { IfOk result (λ o. IsTrue H.is_told → (c : Commit)
-        × IsReopenedAs H.Host.own I.install L.Done.view name.now host.old host.new o c) }
+        × IsReopenedAs H.Host.own installed L.Done.view name.now host.old host.new o c) }
     ensures named { IfOk result (λ o. o.store.name ≡ name.now) }
     ensures listed { IfOk result (λ o. o.changes.name ≡ name.now) }
     ensures whole { IfOk result (λ o. o.store.root.length ≡ length (entries o.changes.listed)) }
@@ -208,12 +208,7 @@ pub fn reopen<I: Installer, L: Loader, H: Host>(
         changes,
     } = fetch::<L, H>(alloc, host, name)?;
     let base = store.root().base;
-    let Replay { count, lost } = install_again::<I, L::Done>(
-        alloc,
-        &mut loaded.memory,
-        &changes,
-        base,
-    )?;
+    let Replay { count, lost } = install_again(alloc, &mut loaded.memory, &changes, base)?;
     Ok(Opened {
         loaded,
         store,

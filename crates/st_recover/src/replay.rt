@@ -7,14 +7,16 @@ ghost use Rattle.st_frames.specs.declared.frame.Frame.{Frame};
 ghost use Rattle.st_frames.specs.Shown.{IsReady, shown};
 ghost use Rattle.st_chunk.specs.Definitions.{IsDefinition};
 ghost use Rattle.st_chunk.specs.ScriptDefinitions.{definition_of};
+ghost use Rattle.st_install.specs.Defining.{installed};
 ghost use Rattle.st_changes.specs.Views.{definition_of as kept_definition, definitions_of};
 ghost use Rattle.st_recover.specs.Replays.{replay, ReplaysAs, Notes};
 
 use crate::opened::{Lost, LostList};
 use st_changes::Definition as KeptDefinition;
 use st_chunk::Definition;
+use st_install::define;
 use st_memory::Memory;
-use st_protocol::{Installation, Installer};
+use st_protocol::Installation;
 use std::alloc::{AllocError, Global};
 
 /// What comes of definitions that are installed again.
@@ -52,7 +54,7 @@ fn note(replay: &mut Replay, number: u32, installation: Installation) -> Result<
 }
 
 /// Installs definitions, behind so many in the changes file. Each is installed, or listed with its number and why it is refused.
-pub(crate) fn replay_all<I: Installer, M: Memory>(
+pub(crate) fn replay_all<M: Memory>(
     alloc: Global,
     m: &mut M,
     definitions: &[KeptDefinition],
@@ -62,7 +64,7 @@ pub(crate) fn replay_all<I: Installer, M: Memory>(
     requires numbers { before + length definitions.now ≤ 2 ^ 32 - 1 }
     ensures replays { IfOk result (λ r. (f : Frame) (w : World) (s : State Births)
         → IsReady (M.view m.old) f w → Shows (shown (M.view m.old) f w) s
-        → ReplaysAs (replay I.install s before (definitions_of definitions.now)) r
+        → ReplaysAs (replay installed s before (definitions_of definitions.now)) r
         (shown (M.view m.new) f w)) }
     ensures few { IfOk result (λ r. length r.lost.items < 2 ^ 32) }
     ensures ready { (f : Frame) (w : World) → IsReady (M.view m.old) f w → IsReady (M.view m.new) f w }
@@ -75,7 +77,7 @@ pub(crate) fn replay_all<I: Installer, M: Memory>(
     let mut rest = definitions;
     while let [definition, later @ ..] = rest {
         number += 1;
-        let installation = I::install(alloc, m, &lend(definition));
+        let installation = define(alloc, m, &lend(definition));
         note(&mut replay, number, installation)?;
         rest = later;
     }

@@ -3,7 +3,6 @@ pub mod BrowsedLines
 pub mod Built
 pub mod Called
 pub mod Commanded
-pub mod Compiling
 pub mod Cycles
 pub mod Drilled
 pub mod Ending

@@ -10,7 +10,7 @@ ghost use Rattle.st_session.specs.Standing.{MayGoOn, Follows};
 ghost use Rattle.st_call.specs.Telling.{Tells};
 
 use crate::debugging::run_until;
-use st_browse::browse;
+use st_browse::browse_line;
 use st_call::{Reply, say_reply};
 use st_changes::Changes;
 use st_chunk::Ask;
@@ -30,7 +30,7 @@ fn say_asked<H: Host, M: Memory>(
     ensures { let text = asked_text (M.view m.now) changes.now.listed (ask_of ask.entry) in
         Tells H.Host.own text host.old host.new result }
 {
-    match browse(m, changes, ask, host) {
+    match browse_line(m, changes, ask, host) {
         Ok(true) => Ok(()),
         Ok(false) => say_reply(host, Reply::Missing),
         Err(SayFault) => Err(Status::SayFault),

@@ -8,7 +8,6 @@ ghost use Rattle.st_protocol.specs.Statuses.{StatusHasCause};
 ghost use Rattle.st_session.specs.Makings.{contents_in, IsUnread};
 ghost use Rattle.st_session.specs.Builds.{Builds, IsWrongKernel, BuildEnds, kernel_status};
 
-use crate::compiler::Compiler;
 use crate::making::{Origin, make};
 use st_call::{read_file, refuse};
 use st_host::Host;
@@ -50,7 +49,7 @@ fn build_memory<H: Host, L: Loader>(
         Ok(text) => text,
         Err(refusal) => return Err(refusal.status()),
     };
-    match st_kernel::build::<Compiler, L>(alloc, &text) {
+    match st_kernel::build::<L>(alloc, &text) {
         Ok(memory) => Ok(memory),
         Err(fault) => Err(kernel_status(fault)),
     }

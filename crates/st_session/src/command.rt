@@ -13,7 +13,6 @@ ghost use Rattle.st_session.specs.Commands.{OnceEnds};
 ghost use Rattle.st_session.specs.Reports.{run_text};
 ghost use Rattle.st_session.specs.StoreSessions.{SessionCommandEnds};
 
-use crate::compiler::Compiler;
 use crate::opening_refusal::opening_status;
 use crate::reading::serve;
 use crate::report::push_report;
@@ -80,7 +79,7 @@ pub fn session<H: Host, L: Loader, S: Source>(
     ensures cause { StatusHasCause H.Host.own (Rose (S.read_faults script.old) (S.read_faults script.new))
         host.old host.new result }
 {
-    match reopen::<Compiler, L, H>(alloc, host, store) {
+    match reopen::<L, H>(alloc, host, store) {
         Ok(opened) => {
             let status = serve::<L::Done, H, S>(alloc, host, script, opened);
             refuse(host, status);

@@ -16,7 +16,6 @@ ghost use Rattle.st_session.specs.Reports.{text_of};
 ghost use Rattle.st_session.specs.Standing.{shown_by};
 
 use crate::building::kernel_status;
-use crate::compiler::Compiler;
 use crate::making::{Origin, push_made};
 use crate::running::push_run;
 use st_call::{Output, push_used, refuse};
@@ -40,7 +39,7 @@ fn boot_drill<L: Loader>(alloc: Global, number: u32) -> Result<Machine<L::Done>,
     ensures refused { IfErr result (IsNoDrill number) }
 {
     let text = drill_text(alloc, number)?;
-    let mut memory = build::<Compiler, L>(alloc, &text)?;
+    let mut memory = build::<L>(alloc, &text)?;
     let Ok(frame) = fetch_scheduled(&mut memory) else {
         unreachable!()
     };

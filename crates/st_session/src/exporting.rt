@@ -14,7 +14,6 @@ ghost use Rattle.st_session.specs.Exports.{IsOfExporting, ExportEnds};
 ghost use Rattle.st_session.specs.declared.extent.Extent.TheVariants.{Kept, Reachable};
 ghost use Rattle.st_session.specs.Standing.{shown_by};
 
-use crate::compiler::Compiler;
 use crate::extent::Extent;
 use crate::opening_refusal::opening_status;
 use crate::reading::status_of;
@@ -143,7 +142,7 @@ pub fn export<H: Host, L: Loader>(
     ensures ends { ExportEnds H.Host.own extent store.now image.now host.old host.new result }
     ensures cause { StatusHasCause H.Host.own ⊥ host.old host.new result }
 {
-    match reopen::<Compiler, L, H>(alloc, host, store) {
+    match reopen::<L, H>(alloc, host, store) {
         Ok(opened) => {
             let status = status_of(export_loaded::<H, L>(
                 alloc,

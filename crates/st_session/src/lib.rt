@@ -9,7 +9,6 @@ mod answering;
 mod browsing;
 mod building;
 mod command;
-mod compiler;
 mod debugging;
 mod drilling;
 mod exporting;
@@ -30,7 +29,6 @@ mod watching;
 
 pub use building::build;
 pub use command::{once, session};
-pub use compiler::Compiler;
 pub use drilling::drill;
 pub use exporting::export;
 pub use extent::Extent;

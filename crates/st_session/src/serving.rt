@@ -16,11 +16,10 @@ ghost use Rattle.st_session.specs.Standing.{MayGoOn, Follows};
 
 use crate::answering::answer_line;
 use crate::browsing::answer_ask;
-use crate::compiler::carry_out;
 use st_call::{Reply, say_reply};
 use st_chunk::{Definition, Reader, Request};
 use st_host::Host;
-use st_install::{Prepared, Unprepared, prepare};
+use st_install::{Prepared, Unprepared, carry_out, prepare};
 use st_machine::Machine;
 use st_memory::Memory;
 use st_protocol::Status;

@@ -17,6 +17,8 @@ mod decoder;
 #[cfg(test)]
 mod differential;
 #[cfg(test)]
+mod doubling;
+#[cfg(test)]
 mod generated;
 #[cfg(test)]
 mod generator;

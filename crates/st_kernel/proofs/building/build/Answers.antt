@@ -4,6 +4,7 @@ use Rattle.std.proofs.Math.ListN.{length-map}
 use Rattle.st_model.specs.Objects.{nil}
 use Rattle.st_model.specs.Machine.{empty_world}
 use Rattle.st_frames.specs.Shown.{shown}
+use Rattle.st_install.specs.Defining.{installed}
 use Rattle.st_kernel_text.specs.Definitions.{AreDefinitions}
 use Rattle.st_kernel_text.specs.Texts.{Account}
 use Rattle.st_kernel_text.specs.Views.{account_of, part_of, parts_of}
@@ -30,25 +31,23 @@ follow-requires-clause-quiet g c =
 
 pub returns-in_err-follow-in-Ok-clause-refused : goal.returns-in_err-follow-in-Ok-clause-refused
 returns-in_err-follow-in-Ok-clause-refused g c =
-    let install = g.I.Installer.install in
     let a = account_of c.in_ok-kernel.kernel in
     let v = g.L.Done.Memory.view c.in-Ok.m in
     let view = c.in-Ok.ensures.made ∙ ap (λ ps. first_view (parts_of ps)) c.deref.ensures.value in
     let room = sym (ap (λ ps. has_room (parts_of ps)) c.deref.ensures.value) ∙ c.in-Ok.ensures.room in
     let e : c.from_residual-in_err-follow-in-Ok.result ≡ Err c.in_err-follow-in-Ok.field-0.0 = search rules in
-    let fault = c.in_err-follow-in-Ok.ensures.follows (followed install a) (first_underway install a v (g.met.L.Done.Memory.whole c.in-Ok.m) view) in
-    subst (λ r. IfErr r (IsFaultOf (built install c.args.text.now))) (sym e)
-    (subst (λ w. IsFaultOf w c.in_err-follow-in-Ok.field-0.0) (with_room install a c.args.text.now c.in_ok-kernel.ensures room) fault)
+    let fault = c.in_err-follow-in-Ok.ensures.follows (followed installed a) (first_underway installed a v (g.met.L.Done.Memory.whole c.in-Ok.m) view) in
+    subst (λ r. IfErr r (IsFaultOf (built installed c.args.text.now))) (sym e)
+    (subst (λ w. IsFaultOf w c.in_err-follow-in-Ok.field-0.0) (with_room installed a c.args.text.now c.in_ok-kernel.ensures room) fault)
 
 pub returns-in-Ok-clause-built : goal.returns-in-Ok-clause-built
 returns-in-Ok-clause-built g c =
-    let install = g.I.Installer.install in
     let a = account_of c.in_ok-kernel.kernel in
     let v = g.L.Done.Memory.view c.in-Ok.m in
     let view = c.in-Ok.ensures.made ∙ ap (λ ps. first_view (parts_of ps)) c.deref.ensures.value in
     let room = sym (ap (λ ps. has_room (parts_of ps)) c.deref.ensures.value) ∙ c.in-Ok.ensures.room in
-    let image = c.in_ok-follow-in-Ok.ensures.follows (followed install a) (first_underway install a v (g.met.L.Done.Memory.whole c.in-Ok.m) view) in
-    subst (λ w. IsBuilt w (g.L.Done.Memory.view c.follow.new.m)) (with_room install a c.args.text.now c.in_ok-kernel.ensures room) image
+    let image = c.in_ok-follow-in-Ok.ensures.follows (followed installed a) (first_underway installed a v (g.met.L.Done.Memory.whole c.in-Ok.m) view) in
+    subst (λ w. IsBuilt w (g.L.Done.Memory.view c.follow.new.m)) (with_room installed a c.args.text.now c.in_ok-kernel.ensures room) image
 
 pub returns-in-Ok-clause-starts : goal.returns-in-Ok-clause-starts
 returns-in-Ok-clause-starts g c =
@@ -63,7 +62,6 @@ without_room-requires g c =
 
 pub returns-in-Err-NoRoom-clause-refused : goal.returns-in-Err-NoRoom-clause-refused
 returns-in-Err-NoRoom-clause-refused g c =
-    let install = g.I.Installer.install in
     let a = account_of c.in_ok-kernel.kernel in
     let none = sym (ap (λ ps. has_room (parts_of ps)) c.deref.ensures.value) ∙ c.in-Err-NoRoom.ensures.refused c.in-Err-NoRoom.field-0-is in
-    subst (λ w. IsFaultOf w c.without_room.result) (roomless install a c.args.text.now c.in_ok-kernel.ensures none) c.without_room.ensures
+    subst (λ w. IsFaultOf w c.without_room.result) (roomless installed a c.args.text.now c.in_ok-kernel.ensures none) c.without_room.ensures

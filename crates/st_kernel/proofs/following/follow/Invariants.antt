@@ -1,5 +1,6 @@
 use Rattle.std.proofs.Common.{◌≤◌, ◌+◌, ◌-◌, ◌^◌, length}
 use Rattle.std.specs.Prelude.{Result}
+use Rattle.st_install.specs.Defining.{installed}
 use Rattle.st_kernel_text.specs.Views.{parts_of}
 use Rattle.st_kernel_text.specs.Definitions.{AreDefinitions}
 use Rattle.st_kernel.specs.Built.{Built, Fault, no_side}
@@ -12,8 +13,8 @@ invariant-loop-rest g l = record {
   good : AreDefinitions (side_in l.heading) (parts_of l.rest);
   few : l.chunk + length l.rest ≤ 2 ^ 32 - 1;
   quiet : IsQuiet (g.M.Memory.view l.m);
-  underway : (whole : Result Built Fault) → IsUnderway g.I.Installer.install l.fn.kernel.cause whole 1 no_side (parts_of l.fn.kernel.parts.items) (g.M.Memory.view l.fn.m)
-      → IsUnderway g.I.Installer.install l.fn.kernel.cause whole l.chunk (side_in l.heading) (parts_of l.rest) (g.M.Memory.view l.m);
+  underway : (whole : Result Built Fault) → IsUnderway installed l.fn.kernel.cause whole 1 no_side (parts_of l.fn.kernel.parts.items) (g.M.Memory.view l.fn.m)
+      → IsUnderway installed l.fn.kernel.cause whole l.chunk (side_in l.heading) (parts_of l.rest) (g.M.Memory.view l.m);
 }
 
 abbrev pub decreases-loop-rest : goal.decreases-loop-rest

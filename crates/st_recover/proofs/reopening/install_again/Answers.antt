@@ -2,6 +2,7 @@ use Rattle.std.proofs.Common.{◌-◌, length, take, drop, sym, subst, arith}
 use Rattle.std.specs.Prelude.{All}
 use Rattle.st_chunk.specs.Definitions.{IsDefinition}
 use Rattle.st_changes.specs.Views.{definitions_of}
+use Rattle.st_install.specs.Defining.{installed}
 use Rattle.st_recover.proofs.Replaying.{again}
 use Rattle.st_recover.proofs.Rests.{entries_long, all_from, from_is, from_length}
 use Rattle.st_recover.proofs.reopening.install_again.Goals as goal
@@ -27,10 +28,9 @@ replay_all-requires-clause-numbers g c =
 
 pub returns-clause-replays : goal.returns-clause-replays
 returns-clause-replays g c =
-    let install = g.I.Installer.install in
     let listed = c.args.changes.now.listed in
     let n = c.count_before-before.result in
     let old = g.M.Memory.view c.args.m.now in
     let new = g.M.Memory.view c.replay_all.new.m in
-    again install listed n old new (definitions_of (take (length c.definitions.result.now - n) (drop n c.definitions.result.now))) c.args.base (from_is c.definitions.result.now listed n c.definitions.ensures)
+    again installed listed n old new (definitions_of (take (length c.definitions.result.now - n) (drop n c.definitions.result.now))) c.args.base (from_is c.definitions.result.now listed n c.definitions.ensures)
     c.count_before-before.ensures.within c.count_before-before.ensures.before c.replay_all.result c.replay_all.ensures.replays

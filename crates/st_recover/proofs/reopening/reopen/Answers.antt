@@ -6,6 +6,7 @@ use Rattle.st_model.specs.Machine.{empty_world}
 use Rattle.st_store.specs.Stored.{IsOpening, stored_in}
 use Rattle.st_store.specs.declared.root.Root.{Root}
 use Rattle.st_store.proofs.Opening.{as_before}
+use Rattle.st_install.specs.Defining.{installed}
 use Rattle.st_recover.specs.Replays.{ReplaysFrom}
 use Rattle.st_recover.proofs.Fetching.{left_now}
 use Rattle.st_recover.proofs.Restoring.{ready_empty, quiet_empty, commit_at, reopened}
@@ -77,7 +78,6 @@ returns g c =
     let d = c.fetch.new.host in
     let fetch = c.fetch.ensures in
     let P : Files → List ℕ → Type 0 = λ f s. (s ≡ H.said a) × IsOpening H a c.args.name.now f in
-    let install = g.I.Installer.install in
     let view = g.L.Done.Memory.view in
     let name = c.args.name.now in
     let fetched = c.in_ok-loaded.ensures in
@@ -86,12 +86,12 @@ returns g c =
     let was = view p.loaded.memory in
     let now = view c.install_again.new.m in
     let ready = c.install_again.ensures.ready p.loaded.frame (empty_world nil) (ready_empty was p.loaded.frame fetched.frame fetched.quiet) in
-    let from : ReplaysFrom install p.changes.listed p.store.root.base was now answered =
-    subst (λ (r : Root). ReplaysFrom install p.changes.listed r.base was now answered) c.root-base.ensures c.in_ok-count.ensures.replays in
+    let from : ReplaysFrom installed p.changes.listed p.store.root.base was now answered =
+    subst (λ (r : Root). ReplaysFrom installed p.changes.listed r.base was now answered) c.root-base.ensures c.in_ok-count.ensures.replays in
     record {
       opened = λ told. (
         commit_at (stored_in name (H.files a) p.store.root).image p.changes.listed from.before,
-        reopened H install view name a d
+        reopened H installed view name a d
             (record { loaded = record { memory = c.install_again.new.m; frame = p.loaded.frame }; store = p.store; changes = p.changes; replayed = answered.count; lost = answered.lost })
             was (fetched.fetched told).opens (fetched.fetched told).kept (fetched.fetched told).readable (fetched.fetched told).start (fetched.fetched told).lists fetched.whole fetched.quiet from,
       );

@@ -7,6 +7,7 @@ use Rattle.st_frames.specs.declared.frame.Frame.{Frame}
 use Rattle.st_frames.specs.Shown.{IsReady, shown}
 use Rattle.st_chunk.specs.Definitions.{IsDefinition}
 use Rattle.st_changes.specs.Views.{definitions_of}
+use Rattle.st_install.specs.Defining.{installed}
 use Rattle.st_recover.specs.Replays.{replay}
 use Rattle.st_recover.proofs.Replaying.{IsUnderway}
 use Rattle.st_recover.proofs.replay.replay_all.Given as goal
@@ -20,7 +21,7 @@ invariant-loop-rest g l = record {
   few : length l.replay.lost.items ≤ l.number;
   ready : (f : Frame) (w : World) → IsReady (g.M.Memory.view l.fn.m) f w → IsReady (g.M.Memory.view l.m) f w;
   replays : (f : Frame) (w : World) (s : State Births) → IsReady (g.M.Memory.view l.fn.m) f w → Shows (shown (g.M.Memory.view l.fn.m) f w) s
-      → IsUnderway (g.I.Installer.install) (replay g.I.Installer.install s l.fn.before (definitions_of l.fn.definitions)) l.replay l.number (definitions_of l.rest) (shown (g.M.Memory.view l.m) f w);
+      → IsUnderway installed (replay installed s l.fn.before (definitions_of l.fn.definitions)) l.replay l.number (definitions_of l.rest) (shown (g.M.Memory.view l.m) f w);
 }
 
 abbrev pub decreases-loop-rest : goal.decreases-loop-rest

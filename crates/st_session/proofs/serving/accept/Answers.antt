@@ -8,7 +8,7 @@ use Rattle.st_session.specs.Answers.{definition_course}
 use Rattle.st_session.specs.Keeping.{in_a_store}
 use Rattle.st_call.specs.Replies.{accepted_line}
 use Rattle.st_session.proofs.Accepting.{accepted_said, accepted_unkept}
-use Rattle.st_session.proofs.Compiling.{is_accepted}
+use Rattle.st_install.proofs.Compiling.{is_accepted}
 use Rattle.st_session.proofs.Points.{living_answers}
 use Rattle.st_session.proofs.Starving.{never_starved}
 use Rattle.st_session.proofs.serving.accept.Goals as goal

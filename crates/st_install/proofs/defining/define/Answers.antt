@@ -3,8 +3,8 @@ use Rattle.st_frames.specs.Shown.{shown}
 use Rattle.st_chunk.specs.ScriptDefinitions.{definition_of}
 use Rattle.st_install.specs.Defining.{installed}
 use Rattle.st_install.specs.Prepareds.{PreparesAs}
-use Rattle.st_session.proofs.Compiling.{refused_as}
-use Rattle.st_session.proofs.compiler.CompilerInstaller.install.Goals as goal
+use Rattle.st_install.proofs.Compiling.{refused_as}
+use Rattle.st_install.proofs.defining.define.Goals as goal
 
 pub returns-in-Err-Refused-clause-installs : goal.returns-in-Err-Refused-clause-installs
 returns-in-Err-Refused-clause-installs g c = λ f w s ready shows.

@@ -2,19 +2,18 @@
 use Rattle.std.proofs.Common.{◌≡◌, ◌∙◌, refl, sym, ap, subst}
 use Rattle.st_model.specs.Machine.{State, World}
 use Rattle.st_model.specs.Births.{Births}
-use Rattle.st_model.specs.Table.{Table, table, bounded_table}
+use Rattle.st_model.specs.Table.{Table, table}
 use Rattle.st_model.specs.Settled.{reclaim}
 use Rattle.st_model.specs.Show.{Shows}
 use Rattle.st_simulation.specs.Laws.{Runs}
-use Rattle.st_model.specs.View.{View, IsWhole, SettlesTo}
+use Rattle.st_model.specs.View.{View, IsWhole}
 use Rattle.st_frames.specs.declared.frame.Frame.{Frame}
 use Rattle.st_frames.specs.Shown.{IsFrame, IsReady, shown}
 use Rattle.st_frames.proofs.Closed.{is_closed}
-use Rattle.st_machine.proofs.Settled.{settled_same}
+use Rattle.st_install.proofs.SettledShown.{settled_same}
 use Rattle.st_chunk.specs.Definitions.{Definition}
-use Rattle.st_install.specs.Carried.{Becomes}
+use Rattle.st_install.specs.Carried.{Installs}
 use Rattle.st_install.specs.Goes.{IsReadyFor}
-use Rattle.st_install.specs.Installing.{install}
 use Rattle.st_install.specs.Readies.{plan_of}
 use Rattle.st_install.proofs.GoesLaw.{ready_installs}
 use Rattle.st_install.proofs.Headed.{code_headed}
@@ -76,12 +75,14 @@ module _ (v : View) (d : Definition) (p : Prepared) (prepared : IsPrepared v d p
   same_state : (u : View) → u.head ≡ v.head → record (shown v f w) { memory = u.objects } ≡ shown u f w
   same_state u head = λ i. record (shown u f w) { head = sym head i }
 
-  pub carried : (u x : View) → Becomes (install bounded_table (plan_of p.ready)) v tt u → SettlesTo u x → InstallsAs (installed d s) (installation.Accepted p.selector) (shown x f w)
-  carried u x becomes settles =
+  pub carried : (x : View) → Installs (plan_of p.ready) v x → InstallsAs (installed d s) (installation.Accepted p.selector) (shown x f w)
+  carried x h =
+      let u = h.between in
+      let becomes = h.becomes in
       let c = shown v f w in
       let e : State Table = record c { memory = u.objects } in
       let i = installs c s shows d prepared.class (prepared.found c refl) prepared.tree prepared.reads prepared.seen (prepared.sees c refl) prepared.parts prepared.coded (plan_of p.ready) e runs (prepared.ready c refl) (becomes.run c refl refl) in
-      let settled : reclaim table e ≡ shown x f w = ap (reclaim table) (same_state u becomes.head) ∙ settled_same u x f w (ready_held u v f w becomes.held ready) settles in
+      let settled : reclaim table e ≡ shown x f w = ap (reclaim table) (same_state u becomes.head) ∙ settled_same u x f w (ready_held u v f w becomes.held ready) h.settles in
       subst (λ o. InstallsAs o (installation.Accepted p.selector) (shown x f w)) (sym i.installs) (prepared.selector, subst (λ t. Shows t i.state) settled i.runs.shows)
 
   -- what is prepared is accepted, also where nothing is installed yet
