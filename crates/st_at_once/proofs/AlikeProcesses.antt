@@ -12,7 +12,6 @@ use Rattle.st_model.specs.Primitives.{succeed, primitive}
 use Rattle.st_model.specs.Processes.{scheduler, scheduled_process, active_or_new, active_process, link_first, add_last, unlink_first, take_first, ready_lists, sleep, let_wait, resume_over, resume, add_excess, wake_first, signal, go_on_with, highest_goes_on, suspend, check_fields, signal_and_answer, primitive_signal, excess_of, wait_in, take_excess, wait_and_answer, primitive_wait, resume_and_answer, primitive_resume, check_active, suspend_and_answer, primitive_suspend, processes}
 use Rattle.st_model.specs.Table.{Table, table, IsTabular}
 use Rattle.st_model.proofs.Tabular.{literal_from_last-as}
-use Rattle.st_at_once.specs.AtOnce.{respond_at_once}
 use Rattle.st_at_once.proofs.Alike.{page-is, field-is, count-is, store-is, integer-is, answer_with-is, top-is, is_there-as}
 
 module _ {m : ObjectMemory Table} (h : IsTabular m) where
@@ -182,7 +181,7 @@ module _ {m : ObjectMemory Table} (h : IsTabular m) where
   unfolding primitive
   primitive-as A n conditions effect = rw (fun_ext (succeed-as A n effect)) refl
 
-  primitive-is : (A : Type 0) → primitive {H = Table} {A = A} m ≡ primitive {H = Table} {A = A} table
+  pub primitive-is : (A : Type 0) → primitive {H = Table} {A = A} m ≡ primitive {H = Table} {A = A} table
   primitive-is A = fun_ext (λ n. fun_ext (λ conditions. fun_ext (λ effect. primitive-as A n conditions effect)))
 
   check_fields-as : (v : Value) (n : ℕ) → check_fields m v n ≡ check_fields table v n
@@ -212,16 +211,9 @@ module _ {m : ObjectMemory Table} (h : IsTabular m) where
   unfolding processes
   processes-as k n = rw (primitive_signal-is, primitive_wait-is, primitive_resume-is, primitive_suspend-is) refl
 
-  processes-is : processes m ≡ processes table
+  pub processes-is : processes m ≡ processes table
   processes-is = fun_ext (λ k. fun_ext (λ n. processes-as k n))
 
-  method_primitive-as : (v : Value) → method_primitive m v ≡ method_primitive table v
+  pub method_primitive-as : (v : Value) → method_primitive m v ≡ method_primitive table v
   unfolding method_primitive
   method_primitive-as v = rw (literal_from_last-as h v 1) refl
-
-  respond-as : (method : Value) (n : ℕ) → respond_at_once m method n ≡ respond_at_once table method n
-  unfolding respond_at_once
-  respond-as method n = rw (method_primitive-as method, processes-is) refl
-
-  pub respond-is : respond_at_once m ≡ respond_at_once table
-  respond-is = fun_ext (λ method. fun_ext (λ n. respond-as method n))

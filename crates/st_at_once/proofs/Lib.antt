@@ -4,6 +4,7 @@ pub mod Alike
 pub mod AlikeProcesses
 pub mod Entered
 pub mod Messages
+pub mod Makes
 pub mod Sent
 pub mod Headers
 pub mod AlikeRows

@@ -7,7 +7,7 @@ use Rattle.st_model.specs.Table.{table, bounded_table}
 use Rattle.st_memory.specs.Tabular.{bounded_tabular}
 use Rattle.st_at_once.specs.AtOnce.{execute_at_once_by, execute_at_once, answer_at_once, call_not_understood_at_once, not_understood_at_once, found_at_once, send_from_at_once, send_at_once}
 use Rattle.st_at_once.proofs.Alike.{page-is, class-is, field-is, under-is, pop-is, push-is}
-use Rattle.st_at_once.proofs.AlikeProcesses.{respond-is}
+use Rattle.st_at_once.proofs.Makes.{respond-is}
 use Rattle.st_at_once.proofs.Entered.{header-is, find-is, activate-is}
 use Rattle.st_at_once.proofs.Messages.{with_message-as}
 
@@ -20,7 +20,7 @@ answer_field-is = fun_ext answer_field-as
 
 execute-as : (method : Value) (n : ℕ) → execute_at_once bounded_table method n ≡ execute_at_once table method n
 unfolding execute_at_once execute_at_once_by
-execute-as method n = rw (header-is, answer_field-is, respond-is bounded_tabular, activate-is) refl
+execute-as method n = rw (header-is, answer_field-is, respond-is, activate-is) refl
 
 -- a message that isn't understood
 

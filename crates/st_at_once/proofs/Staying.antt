@@ -193,7 +193,7 @@ fits u e b h = grind (arith, nat_tests, h)
 fits_words : (u n w b m : ℕ) → m ≡ 2 + n → u + (2 + n + w) ≤ b → nat_le (u + m) b ≡ true
 fits_words u n w b m q h = grind (arith, nat_tests, q, h)
 
-both : (a b : Bool) → a ≡ true → b ≡ true → (a && b) ≡ true
+pub both : (a b : Bool) → a ≡ true → b ≡ true → (a && b) ≡ true
 both true true p q = refl
 both true false p q = cc
 both false b p q = cc
@@ -206,7 +206,7 @@ has_room_for e w n c s r =
     both (nat_le (total_used one s.memory + 1) s.head.entries) (nat_le (total_used words_of s.memory + words_of (fresh_with nil c kind.Pointers n 0)) s.head.words)
     (fits (total_used one s.memory) e s.head.entries r.0) (fits_words (total_used words_of s.memory) n w s.head.words _ (fields_words c n) r.1)
 
-made_same : (o : Object) (s : State Table) (there room : Bool) → room ≡ true → made bounded_table o s there room ≡ made table o s there true
+pub made_same : (o : Object) (s : State Table) (there room : Bool) → room ≡ true → made bounded_table o s there room ≡ made table o s there true
 unfolding made
 made_same o s false room e = refl
 made_same o s true true e = refl

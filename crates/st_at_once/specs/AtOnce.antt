@@ -1,5 +1,6 @@
 -- Bytecodes that are done at once, without being foreseen: most of those that make no object; and sends by 208 to 255 that activate
--- a method, where there is room for its context, also that for doesNotUnderstand: with a Message, or do a primitive on processes. Each answers whether it was such a one. Where it
+-- a method, where there is room for its context, also that for doesNotUnderstand: with a Message, or that do a primitive on
+-- processes, or make an object by 70 or 71 where there is room for the largest. Each answers whether it was such a one. Where it
 -- wasn't, what it leaves is of no use: the bytecode is to be foreseen.
 use Rattle.std.specs.Prelude.{◌≡◌, ℕ, ◌+◌, ◌*◌, ◌-◌, ◌==◌, Bool, true, false, Option, Some, None, Result, Ok, Err, if◌then◌else◌, ◌&&◌, nat_le, nat_lt, pos, IfOk}
 use Rattle.st_model.specs.declared.dead.Dead.{Dead}
@@ -23,9 +24,10 @@ use Rattle.st_model.specs.Lookup.{find}
 use Rattle.st_model.specs.Contexts.{activate}
 use Rattle.st_model.specs.Sends.{replace_by_message}
 use Rattle.st_model.specs.Executing.{answer_field}
-use Rattle.st_model.specs.Primitives.{succeed}
+use Rattle.st_model.specs.Primitives.{succeed, taking}
 use Rattle.st_model.specs.Arithmetic.{integer_answer, value_of_answer, arithmetic_number, equivalence, receiver_class}
 use Rattle.st_model.specs.Blocks.{primitive_value}
+use Rattle.st_model.specs.Storage.{primitive_new, primitive_new_with}
 use Rattle.st_model.specs.Processes.{processes}
 use Rattle.st_model.specs.Deeds.{with_deed}
 use Rattle.st_model.specs.Bytecodes.{fetch_literal_constant, push_operand, store_and_pop, push_receiver, push_constant, constant_value, extended_push, extended_store, extended_store_and_pop, pop_stack, duplicate_top, push_active_context, short_unconditional_jump, long_unconditional_jump, step}
@@ -93,14 +95,39 @@ return_top_to_caller_at_once m = do
   x ← pop m
   return_to_caller_at_once m x
 
--- a primitive on processes is tried, which makes nothing; where it fails, and where there is none, the method is to be foreseen
+-- there is room for one object of so many words
+unfoldable pub object_space : {H : Type 0} → ObjectMemory H → ℕ → Step H Bool
+object_space m words = do
+  free ← get_free m
+  answer (nat_le 1 free.entries && nat_le words free.words)
+
+-- an object is made where there is room for the largest that may be, so that it can be made whatever it is
+unfoldable pub where_space : {H : Type 0} → ObjectMemory H → ℕ → Step H Bool → Step H Bool
+where_space m words makes = do
+  space ← object_space m words
+  if space then makes else answer false
+
+-- with at most 2,047 fields, and with at most 65,533 words; two words say size and class
+abbrev pub largest_fixed : ℕ
+largest_fixed = 2049
+
+abbrev pub largest_indexed : ℕ
+largest_indexed = 65535
+
+-- A primitive that makes an object, or one on processes, which makes nothing, is tried. Where it fails, and where there is another
+-- or none, the method is to be foreseen.
+unfoldable pub respond_with : {H : Type 0} → ObjectMemory H → ℕ → ℕ → Step H Bool
+respond_with m primitive n =
+    if primitive == 70 then where_space m largest_fixed (taking 0 n (primitive_new m)) else
+    if primitive == 71 then where_space m largest_indexed (taking 1 n (primitive_new_with m)) else processes m primitive n
+
 unfoldable pub respond_at_once : {H : Type 0} → ObjectMemory H → Value → ℕ → Step H Bool
 respond_at_once m method n = do
   primitive ← method_primitive m method
-  processes m primitive n
+  respond_with m primitive n
 
--- The method is executed whose header has this flag: one that answers the receiver or a field, responds by a primitive on
--- processes, or is activated.
+-- The method is executed whose header has this flag: one that answers the receiver or a field, responds by its primitive, or is
+-- activated.
 unfoldable pub execute_at_once_by : {H : Type 0} → ObjectMemory H → Value → Value → ℕ → ℕ → Step H Bool
 execute_at_once_by m method header n flag =
     if flag == 5 then answer true else

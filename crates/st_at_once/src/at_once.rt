@@ -11,6 +11,7 @@ ghost use Rattle.st_lookup.specs.Places.{found_word};
 ghost use Rattle.st_frames.specs.Rows.{RowMoves, RowDoes, RowLeaves, Takes, activation_changes};
 
 use crate::ending::RowEnd;
+use crate::making::try_at_once;
 use crate::unanswered::not_understood_at_once;
 use st_control::{
     activate_at_once, answer_field, answer_pair, arithmetic_number, constant_value, duplicate_top,
@@ -25,7 +26,6 @@ use st_ints::IntAnswer;
 use st_memory::Objects;
 use st_method::Header;
 use st_model::{Bytecode, Constant, Dead, Deed, PageObject, Tried, Word, decode};
-use st_process::try_process;
 
 /// A number or a truth takes the place of receiver and argument. Answers whether it was one: a Point isn't made.
 #[tactic(auto, using(st_control::proofs::Tries::values), unfolding(crate::specs::AtOnce::answered_at_once, st_model::specs::Primitives::succeed, st_model::specs::Arithmetic::value_of_answer, st_model::specs::Primitives::truth))]
@@ -215,7 +215,7 @@ fn return_top_to_caller_at_once<O: Objects>(m: &mut O, r: &mut Registers) -> Res
     return_to_caller_at_once(m, r, x)
 }
 
-/// Does a method's primitive, where that is one on processes and doesn't fail.
+/// Does a method's primitive, where that is one that is tried at once, and doesn't fail.
 #[tactic(auto, using(st_frames::proofs::Doing::rows), unfolding(crate::specs::AtOnce::respond_at_once))]
 fn respond_at_once<O: Objects>(
     m: &mut O,
@@ -231,7 +231,8 @@ fn respond_at_once<O: Objects>(
     ensures still { StillToForesee O.Objects.own m.old result m.new }
 {
     let primitive = method_primitive(m, r, method)?;
-    match try_process(m, r, primitive, n)? {
+    match try_at_once(m, r, primitive, n)? {
+        Tried::Done(Deed::Nothing) => Ok(RowEnd::Done),
         Tried::Done(deed) => {
             *left = deed;
             Ok(RowEnd::Leaves)
@@ -240,8 +241,7 @@ fn respond_at_once<O: Objects>(
     }
 }
 
-/// Executes a method by its header's flag: one that answers the receiver or a field, responds by a primitive on processes, or is
-/// activated.
+/// Executes a method by its header's flag: one that answers the receiver or a field, responds by its primitive, or is activated.
 #[tactic(auto, using(st_frames::proofs::Doing::rows), unfolding(crate::specs::AtOnce::execute_at_once_by, st_control::specs::AtOnce::at_once))]
 fn execute_at_once_by<O: Objects>(
     m: &mut O,

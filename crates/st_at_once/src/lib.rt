@@ -9,6 +9,7 @@ mod ending;
 mod holding;
 mod known;
 mod looking;
+mod making;
 mod near;
 mod objects;
 mod quick;

@@ -21,4 +21,5 @@ mod streams;
 mod strings;
 
 pub use dispatch::try_storage;
+pub use making::{primitive_new, primitive_new_with};
 pub use saying::primitive_say;

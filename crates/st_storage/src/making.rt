@@ -1,4 +1,4 @@
-ghost use Rattle.std.specs.Prelude.{◌≡◌, ◌≢◌, ◌<◌, ◌≤◌, ◌+◌, ◌^◌, IfOk, false};
+ghost use Rattle.std.specs.Prelude.{◌≡◌, ◌≢◌, ◌<◌, ◌≤◌, ◌+◌, ◌^◌, IfOk, true, false};
 ghost use Rattle.st_model.specs.Values.{Ref, word};
 ghost use Rattle.st_model.specs.Objects.{place_of, is_method};
 ghost use Rattle.st_model.specs.declared.page.PageObject.TheVariants.{MethodClass};
@@ -73,19 +73,21 @@ fn answer_fixed<O: Objects>(
     ensures does { RowLeaves O.Objects.own
         (succeed_by O.names 0 (make O.names (word class) (kind_of_fixed s) (fixed_count s) 0))
         is_done deed_of_trial m.old r.old result m.new r.new }
+    ensures done { IfOk result (λ t. is_done t ≡ true) }
     ensures takes { Takes O.Objects.own 2 m.old m.new }
 {
     let answer = m.make(class, kind_of_fixed(s), fixed_count(s), 0)?;
     succeed_with(m, r, 0, answer)
 }
 
-/// Primitive 70: a new instance of the receiver, which has no indexed fields.
+/// Primitive 70: a new instance of the receiver, which has no indexed fields. Where it fails nothing is changed.
 #[tactic(auto, using(st_frames::proofs::Tries::effects), unfolding(st_model::specs::Storage::primitive_new))]
 pub fn primitive_new<O: Objects>(m: &mut O, r: &mut Registers) -> Result<Tried, Dead>
     requires room { 2 ≤ O.room m.old }
     ensures does { RowLeaves O.Objects.own (primitive_new O.names)
         is_done deed_of_trial m.old r.old result m.new r.new }
     ensures takes { Takes O.Objects.own 2 m.old m.new }
+    ensures still { IfOk result (λ t. is_done t ≡ false → m.new ≡ m.old) }
 {
     let receiver = top(m, r)?;
     match fixed_specification(m, r, receiver) {
@@ -162,19 +164,21 @@ fn answer_shaped<O: Objects>(
     ensures does { RowLeaves O.Objects.own
         (succeed_by O.names 1 (make O.names (word class) shape.kind shape.size 0))
         is_done deed_of_trial m.old r.old result m.new r.new }
+    ensures done { IfOk result (λ t. is_done t ≡ true) }
     ensures takes { Takes O.Objects.own 2 m.old m.new }
 {
     let answer = m.make(class, shape.kind, shape.size, 0)?;
     succeed_with(m, r, 1, answer)
 }
 
-/// Primitive 71: a new instance of the receiver with as many indexed fields as the argument says.
+/// Primitive 71: a new instance of the receiver with as many indexed fields as the argument says. Where it fails nothing is changed.
 #[tactic(auto, using(st_frames::proofs::Tries::effects), unfolding(st_model::specs::Storage::primitive_new_with))]
 pub fn primitive_new_with<O: Objects>(m: &mut O, r: &mut Registers) -> Result<Tried, Dead>
     requires room { 2 ≤ O.room m.old }
     ensures does { RowLeaves O.Objects.own (primitive_new_with O.names)
         is_done deed_of_trial m.old r.old result m.new r.new }
     ensures takes { Takes O.Objects.own 2 m.old m.new }
+    ensures still { IfOk result (λ t. is_done t ≡ false → m.new ≡ m.old) }
 {
     let receiver = under(m, r, 1)?;
     let count = top(m, r)?;
