@@ -97,8 +97,8 @@ returns-in-Some-Session g c =
           (sym arm.ensures ∙ ap (λ (x : declared.Command). Some (command_view x)) arm.field-0-is) c.session.ensures.ends c.session.ensures.cause (λ only. absurd only);
     }
 
-pub returns : goal.returns
-returns g c =
+pub returns-in-None : goal.returns-in-None
+returns-in-None g c =
     let script = c.args.script.now in
     record {
       ends = usage_ends g.H.Host (map string_bytes c.args.words.now) _ (Rose (g.S.Source.read_faults script) (g.S.Source.read_faults script)) (g.S.Source.remaining script) (g.S.Source.remaining script) c.args.host.now c.refuse.new.host _
