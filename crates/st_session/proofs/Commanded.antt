@@ -36,7 +36,8 @@ use Rattle.st_protocol.specs.Installing.{Install}
 use Rattle.st_recover.specs.Commits.{Commit, OpensAs, all_of, stored_of}
 use Rattle.st_recover.specs.Openings.{IsFaulty, IsReopenedAs, Reopens, RefusesOpening, IsOfReopening, OpeningHasCause}
 use Rattle.st_recover.specs.Replays.{Loss, Replayed, replay}
-use Rattle.st_recover.proofs.Determined.{one_stored, opens_as_read}
+use Rattle.st_store.proofs.Determined.{one_stored}
+use Rattle.st_recover.proofs.Determined.{opens_as_read}
 use Rattle.st_recover.specs.declared.opened.Opened.{Opened}
 use Rattle.st_recover.specs.declared.fault.OpenFault.{OpenFault}
 use Rattle.st_recover.specs.declared.fault.OpenFault.TheVariants as opening
