@@ -46,3 +46,4 @@ mod ReadTrees
 pub mod Answered
 mod Decompiled
 mod Tested
+mod CallsAlike

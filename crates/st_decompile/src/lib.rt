@@ -2,6 +2,7 @@
 #![tactic(auto)]
 
 mod comparing;
+mod decompiler;
 mod instruction;
 mod item;
 mod laws;
@@ -11,9 +12,11 @@ mod naming;
 mod reading;
 mod region;
 mod sending;
+mod whole;
 
+pub use decompiler::{Decompiled, decompile};
 pub use item::{Item, Piece, Stack, Statements};
-pub use laws::code_is_read_back;
+pub use laws::{code_is_read_back, names_call_alike};
 pub use naming::{Calling, calling_of};
 pub use reading::Reading;
 pub use sending::{Arguments, Received};
