@@ -1,4 +1,18 @@
 mod Cuts
+mod Stacking
+mod SentItems
+mod Running
+mod ReadTurns
+mod Starts
+mod Regioned
+pub mod Sameness
+pub mod TreeTurns
+pub mod NameTurns
+mod Got
+mod StepTurns
+mod SelfTurns
+mod Assembled
+mod ActRows
 mod Moves
 mod Pieces
 mod Regions
@@ -29,3 +43,4 @@ mod Written
 mod ReadTrees
 pub mod Answered
 mod Decompiled
+mod Tested

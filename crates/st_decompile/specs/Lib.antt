@@ -6,4 +6,11 @@ pub mod Calling
 pub mod Whole
 pub mod Formed
 pub mod Names
+pub mod Called
+pub mod Stacks
+pub mod Sent
+pub mod Read
+pub mod Decoded
+pub mod Methods
+pub mod Comparing
 pub mod Answers

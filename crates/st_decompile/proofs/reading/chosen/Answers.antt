@@ -1,0 +1,25 @@
+use Rattle.std.proofs.Common.{◌≡◌, List, ◌∷◌, [], Some, None, sym, ap, ap₂, ◌∙◌, subst}
+use Rattle.st_decompile.specs.Items.{Item}
+use Rattle.st_decompile.specs.Reading.{choice_piece}
+use Rattle.st_decompile.specs.Stacks.{piece_view, stack_view, IsPopped}
+use Rattle.st_decompile.specs.Read.{chosen_by}
+use Rattle.st_decompile.specs.Items as items
+use Rattle.st_decompile.proofs.Stacking.{on_piece_none}
+use Rattle.st_decompile.proofs.ReadTurns.{piece_put}
+use Rattle.st_decompile.proofs.reading.chosen.Goals as goal
+
+pub returns-in_default : goal.returns-in_default
+returns-in_default c =
+    let top : IsPopped c.args.items.now.items c.pop_piece.new.items.items None = subst (IsPopped c.args.items.now.items c.pop_piece.new.items.items) c.in_default.is c.in_ok-condition.ensures in
+    sym (on_piece_none (stack_view c.args.items.now.items) _ top.0)
+
+pub returns : goal.returns
+returns c =
+    let condition = c.in-Some.condition in
+    let below = c.pop_piece.new.items.items in
+    let top : IsPopped c.args.items.now.items below (Some condition) = subst (IsPopped c.args.items.now.items below) c.in-Some.is c.in_ok-condition.ensures in
+    let first = items.statements_of (stack_view c.args.first.items) in
+    let second = items.statements_of (stack_view c.args.second.items) in
+    let same = c.in_ok-piece.ensures ∙ ap₂ (choice_piece c.args.on (piece_view condition)) c.in_ok-passed.ensures c.in_ok-other.ensures in
+    ap (λ (xs : List Item). Some xs) (piece_put below c.push.new.self.items c.in_ok-piece.piece (choice_piece c.args.on (piece_view condition) first second) c.in_ok-push.ensures.items same)
+    ∙ sym (ap (chosen_by c.args.on (stack_view c.args.first.items) (stack_view c.args.second.items)) top.0)

@@ -1,0 +1,96 @@
+//! From the parts of a method to a tree that has this code.
+
+ghost use Rattle.std.specs.Prelude.{◌≡◌, Some, IfOk, option_map};
+ghost use Rattle.st_scan.specs.Views.{method_view};
+ghost use Rattle.st_emit.specs.NameViews.{names_view};
+ghost use Rattle.st_code.specs.MethodDrafts.{parts_view};
+ghost use Rattle.st_decompile.specs.Answers.{IsCandidate, IsMeant, HasCode, IsDecompiled};
+
+use crate::comparing::same_parts;
+use crate::naming::calling_of;
+use crate::whole::candidate;
+use st_code::{CodeFault, MethodParts, compile};
+use st_emit::Names;
+use st_parse::parse;
+use st_print::print;
+use st_scan::{MethodTree, SyntaxFault};
+use std::alloc::{AllocError, Global};
+
+/// The most bytes of a text.
+const MOST_BYTES: usize = 4_294_967_294;
+
+/// The tree that a text means, if it means one. A longer text than a text may be is want of memory.
+fn meant(alloc: Global, text: &[u8]) -> Result<Option<MethodTree>, AllocError>
+    ensures { IfOk result (IsMeant text.now) }
+{
+    if text.len() > MOST_BYTES {
+        return Err(AllocError);
+    }
+    match parse(alloc, text) {
+        Ok(tree) => Ok(Some(tree)),
+        Err(SyntaxFault::OutOfMemory) => Err(AllocError),
+        Err(SyntaxFault::At { .. }) => Ok(None),
+    }
+}
+
+/// Whether a tree has this code.
+fn has_code(
+    alloc: Global,
+    tree: &MethodTree,
+    names: &Names,
+    parts: &MethodParts,
+) -> Result<bool, AllocError>
+    ensures { IfOk result (HasCode (method_view tree.now) (names_view names.now) (parts_view parts.now)) }
+{
+    match compile(alloc, tree, names) {
+        Ok(made) => Ok(same_parts(&made, parts)),
+        Err(CodeFault::OutOfMemory) => Err(AllocError),
+        Err(CodeFault::At { .. }) => Ok(false),
+    }
+}
+
+/// What the printed text of the tree that is read means, if it has the code that was read.
+fn printed_back(
+    alloc: Global,
+    tree: &MethodTree,
+    names: &Names,
+    parts: &MethodParts,
+) -> Result<Option<MethodTree>, AllocError>
+    requires { IsCandidate (names_view names.now) (parts_view parts.now) (Some (method_view tree.now)) }
+    ensures { IfOk result (IsDecompiled (names_view names.now) (parts_view parts.now)) }
+{
+    let text = print(alloc, tree)?;
+    let Some(back) = meant(alloc, &text)? else {
+        return Ok(None);
+    };
+    let same = has_code(alloc, &back, names, parts)?;
+    if same { Ok(Some(back)) } else { Ok(None) }
+}
+
+/// The tree that is read of a method's parts, if one is.
+fn candidate_of(
+    alloc: Global,
+    parts: &MethodParts,
+    names: &Names,
+) -> Result<Option<MethodTree>, AllocError>
+    ensures { IfOk result (λ m.
+        IsCandidate (names_view names.now) (parts_view parts.now) (option_map method_view m)) }
+{
+    let calling = calling_of(alloc, names, &parts.literals)?;
+    candidate(alloc, &calling, parts)
+}
+
+/// A tree that some text means and whose code in a class with these names is these parts. There is none exactly where no
+/// text means such a tree. It takes memory.
+pub fn decompile(
+    alloc: Global,
+    parts: &MethodParts,
+    names: &Names,
+) -> Result<Option<MethodTree>, AllocError>
+    ensures { IfOk result (IsDecompiled (names_view names.now) (parts_view parts.now)) }
+{
+    let Some(tree) = candidate_of(alloc, parts, names)? else {
+        return Ok(None);
+    };
+    printed_back(alloc, &tree, names, parts)
+}
