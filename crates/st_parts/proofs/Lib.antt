@@ -1,0 +1,11 @@
+mod KeysIn
+mod OneName
+mod PartsAlike
+mod Taking
+mod Sizes
+mod Ends
+mod Turns
+mod Reads
+mod Contenting
+mod Sending
+mod Owning
