@@ -44,3 +44,4 @@ mod ReadTrees
 pub mod Answered
 mod Decompiled
 mod Tested
+mod CallsAlike

@@ -1,6 +1,6 @@
 -- What is known of a text that is parsed, and of a tree that is compiled.
 use Rattle.std.proofs.Common.{◌≡◌, ℕ, Bool, true, false, List, Option, Some, None, refl, sym, ap, ◌∙◌, subst}
-use Rattle.std.specs.Prelude.{Result, Ok, Err, option_map}
+use Rattle.std.specs.Prelude.{Result, Ok, Err, option_map, IfSome, IfNone}
 use Rattle.st_scan.specs.declared.tree.MethodTree.{MethodTree}
 use Rattle.st_scan.specs.declared.fault.SyntaxFault.{SyntaxFault}
 use Rattle.st_scan.specs.declared.fault.SyntaxFault.TheVariants.{At, OutOfMemory}
@@ -12,10 +12,11 @@ use Rattle.st_code.specs.declared.fault.Fault.{Fault}
 use Rattle.st_code.specs.declared.fault.CodeFault.{CodeFault}
 use Rattle.st_code.specs.Reported.{reported}
 use Rattle.st_code.specs.Methods.{PartsView, code, fault, parts_or}
+use Rattle.st_decompile.specs.declared.decompiler.Decompiled.{Decompiled}
 use Rattle.st_decompile.specs.Comparing.{same_parts}
 use Rattle.st_decompile.specs.Whole.{candidate}
 use Rattle.st_decompile.specs.Names.{CallingView, calling_of, name_in}
-use Rattle.st_decompile.specs.Answers.{IsCandidate, IsMeant, HasCode, IsSource, IsDecompiled}
+use Rattle.st_decompile.specs.Answers.{IsCandidate, IsMeant, HasCode, IsSource, IsSourceOf, IsPrintedRead, IsDecompiled}
 use Rattle.st_decompile.proofs.Sameness.{parts_are, parts_same}
 use Rattle.st_decompile.proofs.Decompiled.{none_found, back_is}
 
@@ -69,5 +70,21 @@ module _ (names : NamesView) (p : PartsView) (tree : MethodView) (is : IsCandida
       let b = back_is names p tree is t s in
       h (ap (λ (x : MethodView). code x names) (sym (m.1 b.0 b.1)) ∙ b.2)
 
-  pub one_same : (u : MethodTree) → IsMeant (printed tree) (Some u) → HasCode (method_view u) names p true → IsSource names p (method_view u)
-  one_same u m h = record { text = printed tree; means = m.0; same = h }
+  pub one_same : (text : List ℕ) (u : MethodTree) → text ≡ printed tree → IsMeant (printed tree) (Some u) → HasCode (method_view u) names p true
+      → IsSourceOf names p text (method_view u) × IsPrintedRead names p text
+  one_same text u e m h =
+      (record { means = subst (λ (x : List ℕ). Means x (method_view u)) (sym e) m.0; same = h }, record { tree = tree; is = is; text_is = e })
+
+-- ANSWERED
+
+pub right : (names : NamesView) (p : PartsView) (d : Option Decompiled) → IsDecompiled names p d → IfSome d (λ s. IsSourceOf names p s.text.items (method_view s.tree))
+right names p None h = tt
+right names p (Some s) h = h.0
+
+pub read : (names : NamesView) (p : PartsView) (d : Option Decompiled) → IsDecompiled names p d → IfSome d (λ s. IsPrintedRead names p s.text.items)
+read names p None h = tt
+read names p (Some s) h = h.1
+
+pub missed : (names : NamesView) (p : PartsView) (d : Option Decompiled) → IsDecompiled names p d → IfNone d ((t : MethodView) → IsSource names p t → ⊥)
+missed names p None h = h
+missed names p (Some s) h = tt

@@ -3,9 +3,11 @@ use Rattle.std.specs.Prelude.{◌≡◌, ℕ, Bool, true, false, List, Option, S
 use Rattle.st_scan.specs.declared.tree.MethodTree.{MethodTree}
 use Rattle.st_scan.specs.Views.{MethodView, method_view}
 use Rattle.st_grammar.specs.Texts.{Means}
+use Rattle.st_print.specs.Printed.{printed}
 use Rattle.st_print.specs.Printing.{IsPrintedBack}
 use Rattle.st_emit.specs.Names.{NamesView}
 use Rattle.st_code.specs.Methods.{PartsView, code}
+use Rattle.st_decompile.specs.declared.decompiler.Decompiled.{Decompiled}
 use Rattle.st_decompile.specs.Names.{calling_of, name_in}
 use Rattle.st_decompile.specs.Whole.{candidate}
 
@@ -37,7 +39,18 @@ abbrev pub HasCode : MethodView → NamesView → PartsView → Bool → Type 0
 HasCode t names p true = code t names ≡ Ok p
 HasCode t names p false = code t names ≡ Ok p → ⊥
 
--- a tree with this code; or no text means one
-abbrev pub IsDecompiled : NamesView → PartsView → Option MethodTree → Type 0
+-- this text means this tree, which has this code
+pub record IsSourceOf (names : NamesView) (p : PartsView) (text : List ℕ) (t : MethodView) : Type 0 where
+  pub means : Means text t
+  pub same : code t names ≡ Ok p
+
+-- the printed text of the tree that is read
+pub record IsPrintedRead (names : NamesView) (p : PartsView) (text : List ℕ) : Type 0 where
+  pub tree : MethodView
+  pub is : IsCandidate names p (Some tree)
+  pub text_is : text ≡ printed tree
+
+-- such a text; or no text means a tree with this code
+abbrev pub IsDecompiled : NamesView → PartsView → Option Decompiled → Type 0
 IsDecompiled names p None = (t : MethodView) → IsSource names p t → ⊥
-IsDecompiled names p (Some t) = IsSource names p (method_view t)
+IsDecompiled names p (Some d) = IsSourceOf names p d.text.items (method_view d.tree) × IsPrintedRead names p d.text.items

@@ -14,3 +14,4 @@ pub mod Decoded
 pub mod Methods
 pub mod Comparing
 pub mod Answers
+pub mod Alike

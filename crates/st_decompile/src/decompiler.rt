@@ -1,10 +1,10 @@
 //! From the parts of a method to a tree that has this code.
 
-ghost use Rattle.std.specs.Prelude.{◌≡◌, Some, IfOk, option_map};
-ghost use Rattle.st_scan.specs.Views.{method_view};
+ghost use Rattle.std.specs.Prelude.{◌≡◌, Some, IfOk, IfSome, IfNone, option_map};
+ghost use Rattle.st_scan.specs.Views.{MethodView, method_view};
 ghost use Rattle.st_emit.specs.NameViews.{names_view};
 ghost use Rattle.st_code.specs.MethodDrafts.{parts_view};
-ghost use Rattle.st_decompile.specs.Answers.{IsCandidate, IsMeant, HasCode, IsDecompiled};
+ghost use Rattle.st_decompile.specs.Answers.{IsCandidate, IsMeant, HasCode, IsDecompiled, IsSource, IsSourceOf, IsPrintedRead};
 
 use crate::comparing::same_parts;
 use crate::naming::calling_of;
@@ -13,8 +13,15 @@ use st_code::{CodeFault, MethodParts, compile};
 use st_emit::Names;
 use st_parse::parse;
 use st_print::print;
-use st_scan::{MethodTree, SyntaxFault};
+use st_scan::{MethodTree, SyntaxFault, Text};
 use std::alloc::{AllocError, Global};
+
+/// A text that has the code of a method, and the tree that it means.
+#[derive(Drop)]
+pub struct Decompiled {
+    pub text: Text,
+    pub tree: MethodTree,
+}
 
 /// The most bytes of a text.
 const MOST_BYTES: usize = 4_294_967_294;
@@ -49,13 +56,13 @@ fn has_code(
     }
 }
 
-/// What the printed text of the tree that is read means, if it has the code that was read.
+/// The printed text of the tree that is read, if what it means has the code that was read.
 fn printed_back(
     alloc: Global,
     tree: &MethodTree,
     names: &Names,
     parts: &MethodParts,
-) -> Result<Option<MethodTree>, AllocError>
+) -> Result<Option<Decompiled>, AllocError>
     requires { IsCandidate (names_view names.now) (parts_view parts.now) (Some (method_view tree.now)) }
     ensures { IfOk result (IsDecompiled (names_view names.now) (parts_view parts.now)) }
 {
@@ -64,7 +71,11 @@ fn printed_back(
         return Ok(None);
     };
     let same = has_code(alloc, &back, names, parts)?;
-    if same { Ok(Some(back)) } else { Ok(None) }
+    if same {
+        Ok(Some(Decompiled { text, tree: back }))
+    } else {
+        Ok(None)
+    }
 }
 
 /// The tree that is read of a method's parts, if one is.
@@ -80,14 +91,22 @@ fn candidate_of(
     candidate(alloc, &calling, parts)
 }
 
-/// A tree that some text means and whose code in a class with these names is these parts. There is none exactly where no
-/// text means such a tree. It takes memory.
+/// A text of a class with these names that has this code, and the tree that it means. There is none exactly where no text has it.
+/// It takes memory.
 pub fn decompile(
     alloc: Global,
     parts: &MethodParts,
     names: &Names,
-) -> Result<Option<MethodTree>, AllocError>
-    ensures { IfOk result (IsDecompiled (names_view names.now) (parts_view parts.now)) }
+) -> Result<Option<Decompiled>, AllocError>
+    // The text means the tree, and this has the code.
+    ensures answer { IfOk result (λ d. IfSome d (λ s.
+        IsSourceOf (names_view names.now) (parts_view parts.now) s.text.items (method_view s.tree))) }
+    // It is the text of the tree that is read.
+    ensures read { IfOk result (λ d. IfSome d (λ s.
+        IsPrintedRead (names_view names.now) (parts_view parts.now) s.text.items)) }
+    // None is missed.
+    ensures complete { IfOk result (λ d. IfNone d ((t : MethodView)
+        → IsSource (names_view names.now) (parts_view parts.now) t → ⊥)) }
 {
     let Some(tree) = candidate_of(alloc, parts, names)? else {
         return Ok(None);

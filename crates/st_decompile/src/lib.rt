@@ -12,9 +12,9 @@ mod reading;
 mod sending;
 mod whole;
 
-pub use decompiler::decompile;
+pub use decompiler::{Decompiled, decompile};
 pub use item::{Item, Piece, Stack, Statements};
-pub use laws::code_is_read_back;
+pub use laws::{code_is_read_back, names_call_alike};
 pub use naming::Calling;
 pub use reading::Reading;
 pub use sending::{Arguments, Received};

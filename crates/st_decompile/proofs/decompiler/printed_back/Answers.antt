@@ -19,7 +19,7 @@ returns-then-same c =
     let u = c.in-Some.back in
     let back = meant_as c.deref.result.now (printed tree) _ (Some u) (c.deref.ensures.value ∙ c.in_ok-text.ensures) c.in-Some.is c.in_ok-back.ensures in
     let same = subst (HasCode (method_view u) (names_view c.args.names.now) (parts_view c.args.parts.now)) c.if-same.true c.in_ok-same.ensures in
-    one_same (names_view c.args.names.now) (parts_view c.args.parts.now) tree c.requires u back same
+    one_same (names_view c.args.names.now) (parts_view c.args.parts.now) tree c.requires c.in_ok-text.text.items u c.in_ok-text.ensures back same
 
 pub returns : goal.returns
 returns c =
