@@ -12,3 +12,4 @@ pub mod Asked
 pub mod Entries
 pub mod Listing
 pub mod Founds
+pub mod Decompiling

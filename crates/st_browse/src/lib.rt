@@ -7,6 +7,7 @@ mod choice;
 mod classes;
 mod codes;
 mod comparing;
+mod decompiling;
 mod dictionary;
 mod display;
 mod fields;
@@ -22,5 +23,5 @@ mod sending;
 mod sought;
 mod source;
 
-pub use saying::browse;
+pub use saying::{SourceFault, browse, browse_source};
 pub use sought::find_method;

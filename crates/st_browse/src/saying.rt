@@ -19,6 +19,7 @@ ghost use Rattle.st_browse.specs.Founds.{IsSought, sought_text};
 
 use crate::choice::Choice;
 use crate::codes::{Body, count_codes, push_codes};
+use crate::decompiling::decompiled;
 use crate::display::push_form;
 use crate::line::Line;
 use crate::listing::{count_listed, push_listed};
@@ -28,9 +29,10 @@ use crate::sought::{Sought, seek};
 use crate::source::push_source;
 use st_call::{Output, push_long_line, push_object};
 use st_changes::Changes;
-use st_chunk::Ask;
+use st_chunk::{Ask, Side};
 use st_host::{Host, SayFault};
 use st_memory::Memory;
+use std::alloc::{AllocError, Global};
 
 /// Adds how many names are chosen, and the line of each.
 fn push_names<H: Host, M: Memory>(
@@ -167,5 +169,51 @@ pub fn browse<H: Host, M: Memory>(
             Ok(true)
         }
         None => Ok(false),
+    }
+}
+
+/// Why a method's text isn't said.
+#[derive(Clone, Copy, Debug, PartialEq, Eq)]
+pub enum SourceFault {
+    /// Saying it failed.
+    Say,
+    /// There was no memory.
+    OutOfMemory,
+}
+
+/// Says the text of a class's method, where what is found is one, and whether it is there.
+fn say_source<H: Host, M: Memory>(
+    m: &M,
+    side: Side<'_>,
+    selector: &[u8],
+    text: Option<&[u8]>,
+    host: &mut H,
+) -> Result<bool, SourceFault> {
+    match seek(m, Ask::Source(side, selector), text) {
+        Some(sought) => match say_sought(m, sought, host) {
+            Ok(()) => Ok(true),
+            Err(SayFault) => Err(SourceFault::Say),
+        },
+        None => Ok(false),
+    }
+}
+
+/// Says the text of a class's method: that of its last definition in this list, or else one that has its code; and whether there
+/// is one: where there is none, nothing is said. It takes memory, and reads no file.
+pub fn browse_source<H: Host, M: Memory>(
+    alloc: Global,
+    m: &M,
+    changes: &Changes,
+    side: Side<'_>,
+    selector: &[u8],
+    host: &mut H,
+) -> Result<bool, SourceFault> {
+    if let Some(text) = changes.last_text(side.class, side.meta, selector) {
+        return say_source(m, side, selector, Some(text), host);
+    }
+    match decompiled(alloc, m, side, selector) {
+        Ok(Some(text)) => say_source(m, side, selector, Some(&text), host),
+        Ok(None) => Ok(false),
+        Err(AllocError) => Err(SourceFault::OutOfMemory),
     }
 }

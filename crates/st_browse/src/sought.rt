@@ -19,6 +19,7 @@ use crate::places::first_named;
 use st_chunk::{Ask, Side};
 use st_memory::Memory;
 use st_model::Oop;
+use st_parts::Compiled;
 
 /// What is asked for, where it is in the image.
 #[derive(Clone, Copy)]
@@ -114,6 +115,19 @@ pub fn find_method<M: Memory>(m: &M, side: Side<'_>, selector: &[u8]) -> Option<
     let class = class_of_side(m, side)?;
     let body = method_of(m, class, selector)?;
     Some(body.method)
+}
+
+/// The method of a class for a selector, and where it stands.
+pub fn find_in<'a, M: Memory>(m: &M, side: Side<'a>, selector: &'a [u8]) -> Option<Compiled<'a>> {
+    let class = class_of_side(m, side)?;
+    let body = method_of(m, class, selector)?;
+    Some(Compiled {
+        class,
+        name: side.class,
+        meta: side.meta,
+        selector,
+        method: body.method,
+    })
 }
 
 /// Finds an object.
