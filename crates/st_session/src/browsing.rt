@@ -9,15 +9,16 @@ ghost use Rattle.st_session.specs.Standing.{MayGoOn, Follows};
 ghost use Rattle.st_call.specs.Telling.{Tells};
 
 use crate::debugging::run_until;
-use st_browse::browse;
+use st_browse::{SourceFault, browse, browse_source};
 use st_call::{Reply, say_reply};
 use st_changes::Changes;
-use st_chunk::Ask;
+use st_chunk::{Ask, Side};
 use st_host::{Host, SayFault};
 use st_machine::Machine;
 use st_memory::Memory;
 use st_protocol::Status;
 use st_recover::Archive;
+use std::alloc::Global;
 
 /// Says what a memory shows of what is asked for, and these definitions of a method's text, or that it is missing.
 fn say_asked<H: Host, M: Memory>(
@@ -36,8 +37,26 @@ fn say_asked<H: Host, M: Memory>(
     }
 }
 
+/// Says the text of a method, or that it is missing.
+fn say_source<H: Host, M: Memory>(
+    alloc: Global,
+    host: &mut H,
+    m: &M,
+    changes: &Changes,
+    side: Side<'_>,
+    selector: &[u8],
+) -> Result<(), Status> {
+    match browse_source(alloc, m, changes, side, selector, host) {
+        Ok(true) => Ok(()),
+        Ok(false) => say_reply(host, Reply::Missing),
+        Err(SourceFault::Say) => Err(Status::SayFault),
+        Err(SourceFault::OutOfMemory) => Err(Status::OutOfMemory),
+    }
+}
+
 /// Answers a line that names what it asks for, where the machine isn't dead.
 fn answer_named<H: Host, M: Memory>(
+    alloc: Global,
     host: &mut H,
     machine: &mut Machine<M>,
     archive: &mut Archive,
@@ -57,12 +76,21 @@ fn answer_named<H: Host, M: Memory>(
         Ask::Until(cycles, side, selector) => {
             run_until(host, machine, archive, cycles, side, selector)
         }
+        Ask::Source(side, selector) => say_source(
+            alloc,
+            host,
+            machine.memory(),
+            archive.changes(),
+            side,
+            selector,
+        ),
         _ => say_asked(host, machine.memory(), archive.changes(), ask),
     }
 }
 
 /// Answers a line that names what it asks for.
 pub(crate) fn answer_ask<H: Host, M: Memory>(
+    alloc: Global,
     host: &mut H,
     machine: &mut Machine<M>,
     archive: &mut Archive,
@@ -79,6 +107,6 @@ pub(crate) fn answer_ask<H: Host, M: Memory>(
 {
     match machine.death() {
         Some(cause) => say_reply(host, Reply::Died { finished: 0, cause }),
-        None => answer_named(host, machine, archive, ask),
+        None => answer_named(alloc, host, machine, archive, ask),
     }
 }

@@ -136,7 +136,7 @@ fn answer_request<H: Host, M: Memory>(
     ensures served { IfErr result IsOfServing }
 {
     match request {
-        Request::Browse => answer_ask(host, machine, archive, reader.ask()),
+        Request::Browse => answer_ask(alloc, host, machine, archive, reader.ask()),
         Request::Define => {
             answer_definition(alloc, host, machine, archive, &reader.definition())
         }
