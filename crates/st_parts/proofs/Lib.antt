@@ -5,7 +5,7 @@ mod Taking
 mod Sizes
 mod Ends
 mod Turns
-mod Reads
+mod ReadSingly
 mod Contenting
 mod Sending
 mod Owning

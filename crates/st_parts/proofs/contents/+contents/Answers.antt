@@ -16,13 +16,13 @@ members_of-loop-v-init g t c = subst (LeftMembers (contents c.args.deep (g.M.Mem
 pub members_of-returns-in_default : goal.members_of-returns-in_default
 members_of-returns-in_default g t c =
     members_fail (contents c.args.deep (g.M.Memory.view c.args.m.now).objects) c.args.vs.now c.loop-v.v-index _ c.loop-v-test.true c.loop-v.list.items c.loop-v.invariant
-    (ap (option_map literal_view) (sym c.in_default.is) ∙ c.in_ok-member_of.ensures)
+    (ap (option_map literal_view) (sym c.in_default.is) ∙ c.in_ok-member.ensures)
 
 pub members_of-loop-v-preserved : goal.members_of-loop-v-preserved
 members_of-loop-v-preserved g t c =
     subst (LeftMembers (contents c.args.deep (g.M.Memory.view c.args.m.now).objects) c.args.vs.now (c.loop-v.v-index + 1)) (sym c.in_ok-push.ensures.items)
     (members_more (contents c.args.deep (g.M.Memory.view c.args.m.now).objects) c.args.vs.now c.loop-v.v-index _ c.loop-v-test.true c.loop-v.list.items c.loop-v.invariant c.in-Some.member
-    (ap (option_map literal_view) (sym c.in-Some.is) ∙ c.in_ok-member_of.ensures))
+    (ap (option_map literal_view) (sym c.in-Some.is) ∙ c.in_ok-member.ensures))
 
 pub members_of-returns : goal.members_of-returns
 members_of-returns g t c = members_end (contents c.args.deep (g.M.Memory.view c.args.m.now).objects) c.args.vs.now c.loop-v.v-index c.loop-v.list.items (omega arith) c.loop-v.invariant

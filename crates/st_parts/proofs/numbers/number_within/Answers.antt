@@ -10,4 +10,4 @@ pub returns-then-size-ge-FULL : goal.returns-then-size-ge-FULL
 returns-then-size-ge-FULL c = size_full c.args.bytes.now c.loop-left.left c.loop-left.size c.loop-left-test.true c.loop-left.invariant.1 c.loop-left.invariant.0 c.if-size-ge-FULL.true
 
 pub returns : goal.returns
-returns c = size_end c.args.bytes.now c.loop-left.left c.loop-left.size c.loop-left-test.false c.loop-left.invariant.0 c.loop-left.auto.size-fits
+returns c = let s = c.loop-left.auto.size-fits in size_end c.args.bytes.now c.loop-left.left c.loop-left.size c.loop-left-test.false c.loop-left.invariant.0 (omega (arith, s))
