@@ -3,12 +3,13 @@ use Rattle.std.proofs.Common.{◌≡◌, ℕ, zero, suc, ◌+◌, ◌-◌, ◌<�
 use Rattle.std.specs.Prelude.{◌&&◌, nat_le, nat_lt, option_map, if◌then◌else◌}
 use Rattle.std.specs.Global.{Vec}
 use Rattle.std.proofs.lemmas.Bool.Decides.{nat_tests}
-use Rattle.std.proofs.lemmas.List.{length-map, map-append}
+use Rattle.std.proofs.lemmas.List.{length-map, map-append, append_assoc}
 use Rattle.st_model.specs.declared.oop.Oop.{Oop}
 use Rattle.st_model.specs.Values.{Value, value, is_small}
 use Rattle.st_model.specs.Objects.{nil}
 use Rattle.st_model.specs.View.{View}
 use Rattle.st_emit.specs.declared.literal.Literal.{Literal}
+use Rattle.st_emit.specs.declared.literal.Literal.TheVariants.{Owner}
 use Rattle.st_emit.specs.Literals.{LiteralView, owner}
 use Rattle.st_emit.specs.Views.{literal_view, literals_view}
 use Rattle.st_emit.specs.Names.{NamesView}
@@ -84,3 +85,11 @@ module _ (names : NamesView) (v : View) (at : Place) (vs : List Value) where
 
   pub extended-read : ends_extended v at vs ≡ true → (r : Option (List LiteralView)) → r ≡ read_before names v at 2 (small_number (from_end 2 vs) ∷ owner ∷ []) vs → r ≡ extended_read names v at vs
   extended-read e r h = h ∙ sym (ap (λ (b : Bool). if b then read_before names v at 2 (small_number (from_end 2 vs) ∷ owner ∷ []) vs else None) e)
+
+-- a number and the association behind others
+pub two_more : (list one all : List Literal) (x : Literal) (l : LiteralView) → one ≡ list ++ x ∷ [] → all ≡ one ++ Owner ∷ [] → literal_view x ≡ l → literals_view all ≡ literals_view list ++ l ∷ owner ∷ []
+two_more list one all x l e q h =
+    ap literals_view q
+    ∙ (map-append literal_view one (Owner ∷ [])
+    ∙ (ap (λ (ys : List LiteralView). ys ++ owner ∷ []) (ap literals_view e ∙ map-append literal_view list (x ∷ []))
+    ∙ (append_assoc (literals_view list) (literal_view x ∷ []) (owner ∷ []) ∙ ap (λ (z : LiteralView). literals_view list ++ z ∷ owner ∷ []) h)))

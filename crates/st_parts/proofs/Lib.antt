@@ -1,6 +1,7 @@
 mod KeysIn
 mod OneName
 mod PartsAlike
+mod PartsRead
 mod Taking
 mod Sizes
 mod Ends
