@@ -24,3 +24,12 @@ module _ (names : NamesView) (v : View) (at : Place) (bytes : List ℕ) where
       → parts_at names v at ≡ parts_of (get_or words 0 d).0 (values (drop 1 words))
   unfolding parts_at
   parts_read words d f u l = sym (ap₂ (parts_by names v at) f u) ∙ by_words words d l
+
+  -- with the literals that were read
+  abbrev pub made_of : ℕ → Option (List LiteralView) → Option PartsView
+  made_of header ls = option_map (λ (xs : List LiteralView). record { selector = at.selector; header = header; literals = xs; bytes = bytes }) ls
+
+  pub parts_told : (words : List Oop) (d : Oop) → values words ≡ (object_of v.objects at.method).fields → bytes ≡ (object_of v.objects at.method).units → 1 ≤ length words
+      → (ls : Option (List LiteralView)) → ls ≡ all_read names v at (ending_of (get_or words 0 d).0 bytes) (values (drop 1 words))
+      → (parts : Option PartsView) → parts ≡ made_of (get_or words 0 d).0 ls → parts ≡ parts_at names v at
+  parts_told words d f u l ls e parts h = h ∙ (ap (made_of (get_or words 0 d).0) e ∙ sym (parts_read words d f u l))

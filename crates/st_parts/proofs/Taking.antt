@@ -34,3 +34,9 @@ word_by w false e = grind (arith, nat_tests)
 pub word_is : (w : ℕ) → word_of (value_of w) ≡ w
 unfolding value_of
 word_is w = word_by w (w % 2 == 1) refl
+
+-- LITERALS
+
+pub behind_values : (os : List Oop) → values (drop 1 os) ≡ drop 1 (values os)
+behind_values [] = refl
+behind_values (o ∷ os) = refl

@@ -1,6 +1,6 @@
 //! The fields and the bytes of objects.
 
-ghost use Rattle.std.specs.Prelude.{◌≡◌, true, false, IfOk};
+ghost use Rattle.std.specs.Prelude.{◌≡◌, true, false, drop, IfOk};
 ghost use Rattle.st_model.specs.Values.{value};
 ghost use Rattle.st_model.specs.Objects.{is_words, is_pointers};
 ghost use Rattle.st_model.specs.View.{is_live, object_of};
@@ -22,6 +22,13 @@ pub(crate) fn fields_of<M: Memory>(alloc: Global, m: &M, o: Oop) -> Result<Vec<O
         fields.push(m.pointer(o, i))?;
     }
     Ok(fields)
+}
+
+/// The literals of a method, behind its header.
+pub(crate) fn behind_header(words: &[Oop]) -> &[Oop]
+    ensures { result.now ≡ drop 1 words.now }
+{
+    if 1 <= words.len() { &words[1..] } else { &[] }
 }
 
 /// The fields of an object of kind Pointers. Others have none.

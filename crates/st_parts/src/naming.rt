@@ -16,7 +16,7 @@ ghost use Rattle.st_parts.specs.Keys.{means, is_named_by, names_for, AnswersFor}
 ghost use Rattle.st_parts.specs.Kept.{Keeps, KeepsIf, AreKept};
 ghost use Rattle.st_parts.specs.Places.{variable_if};
 
-use crate::bodies::{bytes_of, fields_of};
+use crate::bodies::{behind_header, bytes_of, fields_of};
 use st_emit::{NamedOops, Names, Variable, variable_named};
 use st_memory::Memory;
 use st_model::{Kind, Oop};
@@ -239,7 +239,10 @@ pub fn method_names<M: Memory>(
         AnswersFor vs (names table v.head (value class) meta tree) v.objects result }
 {
     match fields_of(alloc, m, method) {
-        Ok(fields) => names_of(alloc, m, class, meta, &fields[fields.len().min(1)..]),
+        Ok(words) => {
+            let vs = behind_header(&words);
+            names_of(alloc, m, class, meta, vs)
+        }
         Err(AllocError) => Err(InstallFault::OutOfMemory),
     }
 }

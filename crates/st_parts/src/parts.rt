@@ -12,7 +12,7 @@ ghost use Rattle.st_parts.specs.Parts.{literal_read, literals_read, ends_owned, 
 ghost use Rattle.st_parts.specs.Places.{place_of};
 ghost use Rattle.st_parts.specs.Readings.{literals_if};
 
-use crate::bodies::{bytes_of, fields_of};
+use crate::bodies::{behind_header, bytes_of, fields_of};
 use crate::contents::{MOST_DEEP, contents_of};
 use crate::ending::{Ending, ending_of};
 use crate::naming::{is_named_by, key_of};
@@ -173,7 +173,8 @@ pub fn parts_of<M: Memory>(
 {
     let words = fields_of(alloc, m, of.method)?;
     let bytes = bytes_of(alloc, m, of.method)?;
-    let [header, vs @ ..] = words.as_slice() else {
+    let vs = behind_header(&words);
+    let [header, ..] = words.as_slice() else {
         return Ok(None);
     };
     let ending = ending_of(header.0, &bytes);
