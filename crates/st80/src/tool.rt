@@ -1,22 +1,9 @@
-ghost use Rattle.std.specs.Prelude.{◌≡◌, ℕ, List, map, IsTrue, Some, None};
+ghost use Rattle.std.specs.Prelude.{◌≡◌, map, IsTrue};
 ghost use Rattle.std.specs.String.{string_bytes};
 ghost use Rattle.std.specs.Process.{exit_status};
 ghost use Rattle.st_host.specs.Counts.{Rose};
-ghost use Rattle.st_host.specs.Files.{bytes_of};
-ghost use Rattle.st_host.specs.Runs.{ReadsAndSays};
-ghost use Rattle.st_image.specs.declared.head.HeadValues.{HeadValues};
-ghost use Rattle.st_protocol.specs.Statuses.{StatusHasCause, number_of};
-ghost use Rattle.st_protocol.specs.declared.status.Status.TheVariants.{Usage};
-ghost use Rattle.st_session.specs.Builds.{BuildEnds};
-ghost use Rattle.st_session.specs.Calls.{OnlySays, CallEnds};
-ghost use Rattle.st_session.specs.Commands.{OnceEnds};
-ghost use Rattle.st_session.specs.Drills.{DrillEnds};
-ghost use Rattle.st_call.specs.LastLines.{SaysLastLine};
-ghost use Rattle.st_session.specs.Exports.{ExportEnds};
-ghost use Rattle.st_session.specs.declared.extent.Extent.TheVariants.{Kept, Reachable};
-ghost use Rattle.st_session.specs.Imports.{ImportEnds};
-ghost use Rattle.st_session.specs.StoreSessions.{SessionCommandEnds};
-ghost use Rattle.st_call.specs.Words.{command_of, Once, Import, Export, Clean, Session, Build, Drill};
+ghost use Rattle.st_protocol.specs.Statuses.{number_of};
+ghost use Rattle.st_session.specs.Calls.{CallEnds};
 
 use st_call::{Command, read_command, refuse};
 use st_counted::CountedLoader;
@@ -49,33 +36,9 @@ pub fn tool<H: Host, S: Source>(
     host: &mut H,
     script: &mut S,
 ) -> Status
-    ensures usage { command_of (map string_bytes words.now) ≡ None →
-        (result ≡ Usage) × SaysLastLine H.Host.own Usage host.old host.new }
-    ensures once { (image : List ℕ) (n : ℕ) → command_of (map string_bytes words.now) ≡ Some (Once image n)
-        → OnceEnds H.Host.own (bytes_of (H.files host.old image)) n host.old host.new result }
-    ensures imports { (image store : List ℕ) (over : HeadValues)
-        → command_of (map string_bytes words.now) ≡ Some (Import image store over)
-        → ImportEnds H.Host.own over (bytes_of (H.files host.old image)) store
-        host.old host.new result }
-    ensures exports { (store image : List ℕ)
-        → command_of (map string_bytes words.now) ≡ Some (Export store image)
-        → ExportEnds H.Host.own Kept store image host.old host.new result }
-    ensures cleans { (store image : List ℕ)
-        → command_of (map string_bytes words.now) ≡ Some (Clean store image)
-        → ExportEnds H.Host.own Reachable store image host.old host.new result }
-    ensures session { let reads = Rose (S.read_faults script.old) (S.read_faults script.new) in
-        (store : List ℕ) → command_of (map string_bytes words.now) ≡ Some (Session store)
-        → SessionCommandEnds H.Host.own store (IsTrue S.is_told) reads
+    ensures ends { let reads = Rose (S.read_faults script.old) (S.read_faults script.new) in
+        CallEnds H.Host.own (map string_bytes words.now) (IsTrue S.is_told) reads
         (S.remaining script.old) (S.remaining script.new) host.old host.new result }
-    ensures builds { (kernel store : List ℕ)
-        → command_of (map string_bytes words.now) ≡ Some (Build kernel store)
-        → BuildEnds H.Host.own (bytes_of (H.files host.old kernel)) store host.old host.new result }
-    ensures drills { (n : ℕ) → command_of (map string_bytes words.now) ≡ Some (Drill n)
-        → DrillEnds H.Host.own n host.old host.new result }
-    ensures cause { StatusHasCause H.Host.own (Rose (S.read_faults script.old) (S.read_faults script.new))
-        host.old host.new result }
-    ensures says { OnlySays (command_of (map string_bytes words.now))
-        → (text : List ℕ) × ReadsAndSays H.Host.own text host.old host.new }
 {
     match read_command(words) {
         Some(Command::Once { image, cycles }) => {

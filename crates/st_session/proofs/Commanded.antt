@@ -1,23 +1,22 @@
 -- A session over a store, from the opening of the store to the last line.
-use Rattle.std.proofs.Common.{◌≡◌, ◌⊎◌, inl, inr, ⊎_elim, ℕ, ◌≤◌, List, [], ◌∷◌, ◌++◌, length, ◌∙◌, IsTrue, Ok, Err, refl, sym, ap, subst, arith, append-nil, length-append}
-use Rattle.std.specs.Prelude.{All, Some}
+use Rattle.std.proofs.Common.{◌≡◌, ◌≢◌, ◌⊎◌, inl, inr, ℕ, ◌≤◌, List, [], ◌∷◌, ◌++◌, length, ◌∙◌, IsTrue, refl, sym, ap, subst, arith, append-nil, append_assoc, length-append}
+use Rattle.std.specs.Prelude.{Some, ◌+◌, slice_get}
+use Rattle.std.proofs.lemmas.List.{append_cancel_left}
 use Rattle.std.proofs.Math.Seq.{take-append_seam}
 use Rattle.st_host.specs.Counts.{Rose}
-use Rattle.st_host.specs.Files.{Files, bytes_of}
-use Rattle.st_host.specs.Runs.{LeavesOnly, ReadsAlike, ReadsAndSays, Spares, IsAtRest}
-use Rattle.st_host.specs.Stops.{Here, SaidPart, WhileSaying}
+use Rattle.st_host.specs.Files.{Files}
+use Rattle.st_host.specs.Runs.{LeavesOnly, NarrowsBut, Elsewhere, ReadsAlike, ReadsAndSays, Spares, IsAtRest}
+use Rattle.st_host.specs.Stops.{SaidPart, WhileSaying}
 use Rattle.st_host.specs.declared.host.Host.{Ghosts}
 use Rattle.st_host.proofs.Joining.{weaker, moments_join}
 use Rattle.st_host.proofs.Rising.{rose_first, rose_second}
 use Rattle.st_model.specs.Machine.{State, Transition, Went}
 use Rattle.st_model.specs.Births.{Births}
 use Rattle.st_model.specs.View.{View}
-use Rattle.st_chunk.specs.Definitions.{IsDefinition, entries}
+use Rattle.st_chunk.specs.Definitions.{entries}
 use Rattle.st_store.specs.Names.{roots_file, IsNoFileOf}
-use Rattle.st_store.specs.Roots.{place, root_at}
-use Rattle.st_store.specs.Stored.{Stored, Opens, IsKept, stored_in, IsOpening}
+use Rattle.st_store.specs.Stored.{Stored, Opens, IsKept, IsOpening}
 use Rattle.st_store.specs.declared.root.Root.{Root}
-use Rattle.st_store.specs.declared.fault.StoreFault.{StoreFault}
 use Rattle.st_store.specs.declared.fault.StoreFault.TheVariants as unmade
 use Rattle.st_store.specs.declared.fault.StorePlace.TheVariants.{Roots, Changes}
 use Rattle.st_store.proofs.Determined.{none_opens, opens_there}
@@ -26,10 +25,10 @@ use Rattle.st_changes.proofs.Determined.{none_wrong, lists_back}
 use Rattle.st_protocol.specs.declared.status.Status.{Status}
 use Rattle.st_protocol.specs.declared.status.Status.TheVariants as status
 use Rattle.st_protocol.specs.Statuses.{StatusHasCause}
-use Rattle.st_protocol.specs.Acknowledged.{acknowledged, SaysLines, Promised}
+use Rattle.st_protocol.specs.Acknowledged.{acknowledged, acknowledged_from, rest_from, SaysLines, Promised}
 use Rattle.st_protocol.specs.Courses.{Course, deeds_of, commits_of, IsEnd}
 use Rattle.st_protocol.specs.Done.{RestsAsOne}
-use Rattle.st_protocol.proofs.Counting.{front_of, front_acknowledges}
+use Rattle.st_protocol.proofs.Counting.{acknowledged_both, front_of, front_acknowledges}
 use Rattle.st_protocol.proofs.Promising.{CountsNow, promise_kept, one_said}
 use Rattle.st_protocol.proofs.Underways.{nothing_of}
 use Rattle.st_install.specs.Defining.{installed}
@@ -37,28 +36,20 @@ use Rattle.st_protocol.specs.Installing.{Install}
 use Rattle.st_recover.specs.Commits.{Commit, OpensAs, all_of, stored_of}
 use Rattle.st_recover.specs.Openings.{IsFaulty, IsReopenedAs, Reopens, RefusesOpening, IsOfReopening, OpeningHasCause}
 use Rattle.st_recover.specs.Replays.{Loss, Replayed, replay}
+use Rattle.st_recover.proofs.Determined.{one_stored, opens_as_read}
 use Rattle.st_recover.specs.declared.opened.Opened.{Opened}
 use Rattle.st_recover.specs.declared.fault.OpenFault.{OpenFault}
 use Rattle.st_recover.specs.declared.fault.OpenFault.TheVariants as opening
 use Rattle.st_call.specs.LastLines.{last_line, SaysLastLine}
-use Rattle.st_call.specs.Refusals.{store_status}
 use Rattle.st_session.specs.Commands.{opening_status}
 use Rattle.st_session.specs.Ends.{IsCalm, SessionEnds}
 use Rattle.st_call.specs.Telling.{IsOfServing}
+use Rattle.st_session.specs.Resting.{RestsBroken, RestsAcknowledged}
 use Rattle.st_session.specs.StoreSessions.{course_over, IsOfSession, KeepsPromise}
 use Rattle.st_session.specs.Opening.{IsOpen, session_over, session_so_far_over}
 use Rattle.st_session.proofs.LastLines.{quiet_line}
 
 -- WHAT FILES OPEN AS
-
-opens_in : (name : List ℕ) (c : Stored) (f : Files) → Opens name c f → stored_in name f c.root ≡ c
-opens_in name c f opens = λ i. record { root = c.root; image = opens.image.is i; changes = opens.changes.is i }
-
-one_stored : (name : List ℕ) (c d : Stored) (f : Files) → Opens name c f → Opens name d f → c ≡ d
-one_stored name c d f x y =
-    let number : x.number ≡ y.number = sym x.chosen.gate ∙ y.chosen.gate in
-    let root : c.root ≡ d.root = sym x.chosen.names ∙ ap (λ n. root_at (place n) (bytes_of (f (roots_file name)))) number ∙ y.chosen.names in
-    sym (opens_in name c f x) ∙ ap (stored_in name f) root ∙ opens_in name d f y
 
 went_in : {A : Type 0} (a : A) → Transition A Unit → A
 went_in a (Went u s) = s
@@ -76,8 +67,7 @@ module _ {D : Type 0} (host : Ghosts D) (name : List ℕ) where
   pub opens_still : (old : D) (c : Commit) → IsAtRest host (OpensAs name) c old → ((n : List ℕ) → host.may_leave old n (host.files old n)) → (f : Files) → IsOpening host old name f → OpensAs name c f
   opens_still old c rest reads f (inl can) = rest.opens_as f can
   opens_still old c rest reads f (inr as_read) =
-      let now = rest.opens_as (host.files old) reads in
-      record { slot = now.slot; opens = subst (λ (s : Stored). Opens name s f) (one_stored name as_read.is (stored_of now.slot c) (host.files old) as_read.read now.opens) as_read.now; readable = now.readable }
+      opens_as_read name c as_read.is f (host.files old) (rest.opens_as (host.files old) reads) as_read.read as_read.now
 
   -- nothing is acknowledged by a part of a last line
   promised_none : (c : Commit) (cs : List Commit) (e : Status) (said s : List ℕ) (f : Files) → SaidPart said (last_line e) s → OpensAs name c f → Promised (OpensAs name) (c ∷ cs) said f s
@@ -85,6 +75,31 @@ module _ {D : Type 0} (host : Ghosts D) (name : List ℕ) where
       let front = front_of said (last_line e) s part in
       let none : 0 ≡ acknowledged front.0 = omega (arith, front_acknowledges front.0 (last_line e) front.2, quiet_line e) in
       record { words = front.0; said_is = front.1; number = 0; commit = c; is_of = refl; opens_as = opens; acknowledges = inl none }
+
+  acknowledged_none : (c : Commit) (cs : List Commit) (e : Status) (said : List ℕ) (new : D) → SaidPart said (last_line e) (host.said new) → IsAtRest host (OpensAs name) c new → RestsAcknowledged host (OpensAs name) (c ∷ cs) said new
+  acknowledged_none c cs e said new part at =
+      let front = front_of said (last_line e) (host.said new) part in
+      let none : acknowledged front.0 ≡ 0 = omega (arith, front_acknowledges front.0 (last_line e) front.2, quiet_line e) in
+      record { words = front.0; said_is = front.1; commit = c; is_of = ap (slice_get (c ∷ cs)) none; at = at }
+
+  -- nor behind whole lines
+  acknowledged_behind : (commits : List Commit) (e : Status) (old closed new : D) → IsTrue host.is_told → SaysLines (host.said old) (host.said closed) → ReadsAndSays host (last_line e) closed new
+      → RestsAcknowledged host (OpensAs name) commits (host.said old) closed → RestsAcknowledged host (OpensAs name) commits (host.said old) new
+  acknowledged_behind commits e old closed new told lines line s =
+      let front = front_of (host.said closed) (last_line e) (host.said new) (line.part told) in
+      let same : s.words ≡ lines.words = append_cancel_left (host.said old) s.words lines.words (sym s.said_is ∙ lines.said_is) in
+      let none : acknowledged front.0 ≡ 0 = omega (arith, front_acknowledges front.0 (last_line e) front.2, quiet_line e) in
+      let none_from : acknowledged_from [] front.0 ≡ 0 = none in
+      let whole : rest_from [] s.words ≡ [] = ap (rest_from []) same ∙ lines.whole in
+      let no_more : acknowledged (s.words ++ front.0) ≡ acknowledged s.words =
+      acknowledged_both [] s.words front.0 ∙ (ap (λ l. acknowledged s.words + acknowledged_from l front.0) whole ∙ omega (arith, none_from)) in
+      record {
+        words = s.words ++ front.0;
+        said_is = front.1 ∙ (ap (λ (t : List ℕ). t ++ front.0) s.said_is ∙ append_assoc (host.said old) s.words front.0);
+        commit = s.commit;
+        is_of = ap (slice_get commits) no_more ∙ s.is_of;
+        at = record { opens_as = λ f can. s.at.opens_as f (λ n. (line.stops told).fewer n (f n) (can n)) };
+      }
 
   pub refused_promise : (c : Commit) (cs : List Commit) (e : Status) (old closed new : D) → IsAtRest host (OpensAs name) c old → ((n : List ℕ) → host.may_leave old n (host.files old n))
       → LeavesOnly host old closed (λ f s. (s ≡ host.said old) × IsOpening host old name f) → ((f : Files) → ((n : List ℕ) → host.may_leave closed n (f n)) → IsOpening host old name f)
@@ -95,8 +110,28 @@ module _ {D : Type 0} (host : Ghosts D) (name : List ℕ) where
         (λ f s so. promised_none c cs e (host.said old) s f (nothing_of (host.said old) (last_line e) s so.0) (opens_still old c rest reads f so.1)))
         (line.moments told)
         (λ f s w. promised_none c cs e (host.said old) s f (subst (λ (t : List ℕ). SaidPart t (last_line e) s) quiet w.1) (opens_still old c rest reads f (leaves f w.0)));
-    rests = λ none. record { number = 0; commit = c; is_of = refl; at = record { opens_as = λ f can. opens_still old c rest reads f (leaves f (λ n. (line.stops told).fewer n (f n) (can n))) } };
+    rests = λ none. still;
+    broken = λ disk. inl still;
+    starved = λ none. acknowledged_none c cs e (host.said old) new (subst (λ (t : List ℕ). SaidPart t (last_line e) (host.said new)) quiet (line.part told)) still_at;
   }
+    where
+      still_at : IsAtRest host (OpensAs name) c new
+      still_at = record { opens_as = λ f can. opens_still old c rest reads f (leaves f (λ n. (line.stops told).fewer n (f n) (can n))) }
+
+      still : RestsAsOne host (OpensAs name) (c ∷ cs) new
+      still = record { number = 0; commit = c; is_of = refl; at = still_at }
+
+  -- behind a last line it is as broken as before
+  broken_said : (commits : List Commit) (text : List ℕ) (mid new : D) → IsTrue host.is_told → ReadsAndSays host text mid new → RestsBroken host (OpensAs name) commits mid → RestsBroken host (OpensAs name) commits new
+  broken_said commits text mid new told line (inl one) = inl (one_said host (OpensAs name) commits mid mid new text told line one)
+  broken_said commits text mid new told line (inr two) = inr (record {
+    number = two.number;
+    commit = two.commit;
+    next = two.next;
+    is_of = two.is_of;
+    follows = two.follows;
+    either = λ f can. two.either f (λ n. (line.stops told).fewer n (f n) (can n));
+  })
 
   -- a last line behind a session; after a fault in saying there is none
   line_promise : (commits : List Commit) (e : Status) (old closed new : D) → IsTrue host.is_told → CountsNow host closed → ((e ≡ status.SayFault → ⊥) → SaysLines (host.said old) (host.said closed))
@@ -140,6 +175,9 @@ module _ {D : Type 0} (host : Ghosts D) (name : List ℕ) where
       record {
         moments = line_promise commits e old closed new told now (λ other. subst (λ (t : List ℕ). SaysLines t (host.said closed)) quiet (ends.lines other told)) both line;
         rests = λ none. one_said host (OpensAs name) commits old closed new (last_line e) told line (ends.rests none told);
+        broken = λ disk. broken_said commits (last_line e) closed new told line (ends.broken disk told);
+        starved = λ none. acknowledged_behind commits e old closed new told (subst (λ (t : List ℕ). SaysLines t (host.said closed)) quiet (ends.lines (λ fault. let same : status.OutOfMemory ≡ status.SayFault = sym none ∙ fault in cc) told)) line
+            (subst (λ (t : List ℕ). RestsAcknowledged host (OpensAs name) commits t closed) quiet (ends.starved none told));
       }
 
   -- LAST LINES AND COUNTS
@@ -157,6 +195,19 @@ module _ {D : Type 0} (host : Ghosts D) (name : List ℕ) where
       (weaker host old closed (λ f s. SaidPart (host.said old) (last_line e) s × IsOpening host old name f) (λ f s. (s ≡ host.said old) × IsOpening host old name f) moments (λ f s so. (nothing_of (host.said old) (last_line e) s so.0, so.1)))
       (line.moments told)
       (λ f s w. (subst (λ (t : List ℕ). SaidPart t (last_line e) s) quiet w.1, leaves f w.0))
+
+  -- of every other file it leaves what it could leave
+  pub refused_elsewhere : (text : List ℕ) (old closed new : D) → NarrowsBut host (roots_file name) old closed → IsTrue host.is_told → ReadsAndSays host text closed new
+      → LeavesOnly host old new (λ f s. (n : List ℕ) → n ≢ roots_file name → host.may_leave old n (f n))
+  refused_elsewhere text old closed new only told line =
+      moments_join host old closed new (λ f s. (n : List ℕ) → n ≢ roots_file name → host.may_leave old n (f n)) (WhileSaying (host.may_leave closed) (host.said closed) text)
+      (weaker host old closed (λ f s. (n : List ℕ) → n ≢ roots_file name → host.may_leave old n (f n)) (Elsewhere host (roots_file name) old) (only.moments told) (λ f s so. so.1))
+      (line.moments told)
+      (λ f s w n is. only.fewer told n (f n) is (w.0 n))
+
+  -- behind a last line the store rests as before
+  pub rests_line : (c : Stored) (text : List ℕ) (closed new : D) → IsTrue host.is_told → ReadsAndSays host text closed new → IsAtRest host (Opens name) c closed → IsAtRest host (Opens name) c new
+  rests_line c text closed new told line rest = record { opens_as = λ f can. rest.opens_as f (λ n. (line.stops told).fewer n (f n) (can n)) }
 
   pub spares_then : (old mid new : D) → Spares host (IsNoFileOf name) old mid → Spares host (IsNoFileOf name) mid new → Spares host (IsNoFileOf name) old new
   spares_then old mid new first second = record {
@@ -220,7 +271,7 @@ open_at view host install name old new o c at = record {
     slot = o.store.root.slot;
     store = λ i. Some (record { name = o.store.name; chosen = o.store.chosen; root = at.root i });
     listed = at.listed;
-    good = at.good;
+    good = at.opens.good;
     kept = λ told. subst (λ (r : Root). IsKept host new (record { name = o.store.name; chosen = o.store.chosen; root = r }) (stored_of o.store.root.slot c)) at.root at.kept;
     readable = at.opens.readable;
   };
@@ -284,27 +335,27 @@ module _ (name : List ℕ) (f : Files) (c : Commit) (opens : OpensAs name c f) w
   stored_is x o = one_stored name x (stored_of opens.slot c) f o opens.opens
 
   -- the changes of a commit aren't damaged
-  changes_whole : All IsDefinition (all_of c) → (x : Stored) (at : ℕ) → Opens name x f → RefusesChanges x.changes x.root (unmade.NotAStore (Changes at)) → ⊥
-  changes_whole good x at o why =
-      let lists : Lists (entries (all_of c)) (length (entries c.before)) (all_of c) = lists_back (all_of c) (length (entries c.before)) good (stands c) in
+  changes_whole : (x : Stored) (at : ℕ) → Opens name x f → RefusesChanges x.changes x.root (unmade.NotAStore (Changes at)) → ⊥
+  changes_whole x at o why =
+      let lists : Lists (entries (all_of c)) (length (entries c.before)) (all_of c) = lists_back (all_of c) (length (entries c.before)) opens.good (stands c) in
       none_wrong (entries (all_of c)) (stored_of opens.slot c).root at (all_of c) lists refl (subst (λ (s : Stored). RefusesChanges s.changes s.root (unmade.NotAStore (Changes at))) (stored_is x o) why)
 
   -- a commit that opens isn't refused but by a fault of the disk, or for want of memory
-  pub refused_whole : {D : Type 0} (host : Ghosts D) (old mid : D) (r : Replayed) (fault : OpenFault) → All IsDefinition (all_of c) → Reopens installed c r → IsOfReopening fault → RefusesOpening name f fault
+  pub refused_whole : {D : Type 0} (host : Ghosts D) (old mid : D) (r : Replayed) (fault : OpenFault) → Reopens installed c r → IsOfReopening fault → RefusesOpening name f fault
       → OpeningHasCause host old mid fault → (Rose (host.disk_faults old) (host.disk_faults mid) → ⊥) → (opening_status fault ≡ status.Done) ⊎ (opening_status fault ≡ status.OutOfMemory)
-  refused_whole host old mid r (opening.Store unmade.Missing) good reopens kind why cause calm = absurd (opens_there name f (stored_of opens.slot c) opens.opens why)
-  refused_whole host old mid r (opening.Store unmade.Exists) good reopens kind why cause calm = absurd kind
-  refused_whole host old mid r (opening.Store (unmade.NotAStore (Roots at))) good reopens kind why cause calm = absurd (none_opens name f at (stored_of opens.slot c) opens.opens why)
-  refused_whole host old mid r (opening.Store (unmade.NotAStore (Changes at))) good reopens kind why cause calm = absurd (changes_whole good why.0 at why.1 why.3)
-  refused_whole host old mid r (opening.Store unmade.Disk) good reopens kind why cause calm = absurd kind
-  refused_whole host old mid r (opening.Store unmade.OutOfMemory) good reopens kind why cause calm = inr refl
-  refused_whole host old mid r (opening.Image x) good reopens kind why cause calm =
+  refused_whole host old mid r (opening.Store unmade.Missing) reopens kind why cause calm = absurd (opens_there name f (stored_of opens.slot c) opens.opens why)
+  refused_whole host old mid r (opening.Store unmade.Exists) reopens kind why cause calm = absurd kind
+  refused_whole host old mid r (opening.Store (unmade.NotAStore (Roots at))) reopens kind why cause calm = absurd (none_opens name f at (stored_of opens.slot c) opens.opens why)
+  refused_whole host old mid r (opening.Store (unmade.NotAStore (Changes at))) reopens kind why cause calm = absurd (changes_whole why.0 at why.1 why.3)
+  refused_whole host old mid r (opening.Store unmade.Disk) reopens kind why cause calm = absurd kind
+  refused_whole host old mid r (opening.Store unmade.OutOfMemory) reopens kind why cause calm = inr refl
+  refused_whole host old mid r (opening.Image x) reopens kind why cause calm =
       let faulty = subst (λ (s : Stored). IsFaulty s.image x) (stored_is why.0 why.1) why.2 in
       absurd (reopens.readable.formed x faulty.fault.fails)
-  refused_whole host old mid r opening.TooLarge good reopens kind why cause calm =
+  refused_whole host old mid r opening.TooLarge reopens kind why cause calm =
       let short = reopens.readable.short in
       let long = ap (λ (s : Stored). length s.image) (stored_is why.0 why.1) in
       let most = why.2 in
       absurd (omega (arith, short, long, most))
-  refused_whole host old mid r opening.Disk good reopens kind why cause calm = absurd (calm cause)
-  refused_whole host old mid r opening.OutOfMemory good reopens kind why cause calm = inr refl
+  refused_whole host old mid r opening.Disk reopens kind why cause calm = absurd (calm cause)
+  refused_whole host old mid r opening.OutOfMemory reopens kind why cause calm = inr refl

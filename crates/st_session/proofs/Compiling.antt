@@ -1,7 +1,6 @@
 -- What is prepared of a definition is installed, and what nothing supports then is dropped.
 use Rattle.std.proofs.Common.{◌≡◌, ◌∙◌, refl, sym, ap, subst}
-use Rattle.st_model.specs.declared.oop.Oop.{Oop}
-use Rattle.st_model.specs.Machine.{State, World, Went}
+use Rattle.st_model.specs.Machine.{State, World}
 use Rattle.st_model.specs.Births.{Births}
 use Rattle.st_model.specs.Table.{Table, table, bounded_table}
 use Rattle.st_model.specs.Settled.{reclaim}
@@ -20,7 +19,6 @@ use Rattle.st_install.specs.Readies.{plan_of}
 use Rattle.st_install.proofs.GoesLaw.{ready_installs}
 use Rattle.st_install.proofs.Headed.{code_headed}
 use Rattle.st_protocol.specs.declared.refusal.Refusal.{Refusal}
-use Rattle.st_protocol.specs.declared.installation.Installation.{Installation}
 use Rattle.st_protocol.specs.declared.installation.Installation.TheVariants as installation
 use Rattle.st_install.specs.declared.preparing.Prepared.{Prepared}
 use Rattle.st_protocol.specs.Installing.{Installed, Refused, Accepted}

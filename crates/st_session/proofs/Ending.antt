@@ -1,19 +1,19 @@
 -- How a session ends.
-use Rattle.std.proofs.Common.{◌≡◌, ◌⊎◌, inl, inr, ⊎_elim, ℕ, List, [], ◌∷◌, Bool, true, false, IsTrue, refl, sym, ap, subst, ◌∙◌}
-use Rattle.std.specs.Prelude.{Result, Ok, Err, IfErr, IsErrOf, nat_le, length, take}
+use Rattle.std.proofs.Common.{◌≡◌, ◌⊎◌, inl, inr, ⊎_elim, ℕ, suc, List, [], ◌∷◌, ◌++◌, Bool, true, false, IsTrue, refl, sym, ap, subst, ◌∙◌}
+use Rattle.std.specs.Prelude.{Result, Ok, Err, IfErr, IsErrOf, nat_le, length, take, slice_get, Some}
 use Rattle.st_host.specs.Files.{Files}
 use Rattle.st_host.specs.Runs.{SaysAll, IsAtRest}
 use Rattle.st_host.specs.declared.host.Host.{Ghosts}
 use Rattle.st_protocol.specs.declared.status.Status.{Status}
 use Rattle.st_protocol.specs.declared.status.Status.TheVariants as status
 use Rattle.st_protocol.specs.Acknowledged.{AcknowledgesEach}
-use Rattle.st_protocol.specs.Courses.{Deed, Reply, Course, Goes, Ends, deeds_of, said_of, last_of, preceded, ended, IsEnd}
-use Rattle.st_protocol.specs.Done.{Did}
+use Rattle.st_protocol.specs.Courses.{Deed, Reply, Keep, Course, Goes, Ends, deeds_of, said_of, commits_of, last_of, preceded, ended, IsEnd}
+use Rattle.st_protocol.specs.Done.{Did, RestsBetween, RestsWithin, Rests}
 use Rattle.st_protocol.specs.Obeying.{Obeys}
 use Rattle.st_protocol.specs.Statuses.{IsFault, StatusHasCause, EndHasCause}
 use Rattle.st_protocol.proofs.Courses.{deeds_preceded}
 use Rattle.st_protocol.proofs.Joins.{says_did, says_began, did_join, obeys_begun, obeys_says, obeys_spares}
-use Rattle.st_protocol.proofs.Promising.{obeys_promised, obeys_rests, obeys_lines}
+use Rattle.st_protocol.proofs.Promising.{rests_as_one, rests_last, obeys_promised, obeys_rests, obeys_lines}
 use Rattle.st_chunk.specs.Reading.{Reading, line_from}
 use Rattle.st_chunk.specs.Scripts.{asked_from, told_from}
 use Rattle.st_protocol.specs.Installing.{Install}
@@ -24,6 +24,7 @@ use Rattle.st_session.specs.FirstLines.{opening_text}
 use Rattle.st_session.specs.Sessions.{follow, follow_rest, follow_script, longest, session}
 use Rattle.st_call.specs.Telling.{Tells}
 use Rattle.st_session.specs.Ends.{status_in, IsCalm, DidTold, SessionEnds}
+use Rattle.st_session.specs.Resting.{RestsBroken, RestsAcknowledged}
 use Rattle.st_call.specs.Telling.{IsOfServing}
 
 abbrev pub IsEnded : {C X : Type 0} → Course C X → Type 0
@@ -47,6 +48,15 @@ module _ {C : Type 0} (keeping : Keeping C) (install : Install) where
   pub session_ends : (replayed : ℕ) (lost : List Loss) (p : Point C) (script : List ℕ) → IsEnded (session keeping install replayed lost p script)
   unfolding session
   session_ends replayed lost p script = preceded_ends (Reply (opening_text replayed lost) ∷ []) (follow_script keeping install p script) (rest_ends (line_from 1) longest p script (nat_le (length script) longest))
+
+-- where a commit is made behind some deeds, these are the one that stood before it and it
+both_are : {C : Type 0} (c : C) (a : List (Deed C)) (d : C) (b : List (Deed C)) → (n : ℕ) × (slice_get (c ∷ commits_of (a ++ Keep d ∷ b)) n ≡ Some (last_of c a)) × (slice_get (c ∷ commits_of (a ++ Keep d ∷ b)) (suc n) ≡ Some d)
+both_are c [] d b = (0, refl, refl)
+both_are c (Reply text ∷ a) d b = both_are c a d b
+both_are c (Keep e ∷ a) d b = let r = both_are e a d b in (suc r.0, r.1, r.2)
+
+not_broken : status.Done ≡ status.DiskFault → ⊥
+not_broken e = cc
 
 -- a course ends in one status
 end_is : {C X : Type 0} (c : Course C X) (a b : Status) → IsEnd c a → IsEnd c b → a ≡ b
@@ -82,17 +92,45 @@ module _ {D : Type 0} (host : Ghosts D) {C : Type 0} (opens : C → Files → Ty
         over (Ends ds e) (Ok u) ends h calm = absurd h
         over (Ends ds e) (Err d) ends h calm = ⊎_elim (λ f. absurd (calm f.0)) (λ k. (k.0, k.1.all)) h
 
+    -- after a fault of the disk it is at rest, or within a commit
+    broken_of : (ds : List (Deed C)) (new : D) → RestsBetween host opens c ds new ⊎ RestsWithin host opens c ds new → RestsBroken host opens (c ∷ commits_of ds) new
+    broken_of ds new (inl at) = inl (rests_as_one host opens c ds status.Done new not_broken at)
+    broken_of ds new (inr within) =
+        let number = both_are c within.first within.next within.rest in
+        inr (record {
+          number = number.0;
+          commit = last_of c within.first;
+          next = within.next;
+          is_of = ap (λ (x : List (Deed C)). slice_get (c ∷ commits_of x) number.0) within.all ∙ number.1;
+          follows = ap (λ (x : List (Deed C)). slice_get (c ∷ commits_of x) (suc number.0)) within.all ∙ number.2;
+          either = within.either;
+        })
+
+    broken_at : (x : Course C X) (result : Result Unit Status) (old new : D) → status_in result ≡ status.DiskFault → IsTrue host.is_told → Obeys host opens spared at commit c x result old new
+        → RestsBroken host opens (c ∷ commits_of (deeds_of x)) new
+    broken_at x (Ok u) old new is tells h = absurd (not_broken is)
+    broken_at (Goes ds x) (Err e) old new is tells h = broken_of ds new (subst (λ (d : Status). Rests host opens c ds d new) is (h.1.rests tells))
+    broken_at (Ends ds d) (Err e) old new is tells h =
+        ⊎_elim (λ f. broken_of ds new (subst (λ (d : Status). Rests host opens c ds d new) is (f.1.rests tells))) (λ k. inl (rests_last host opens c ds new (k.1.rest tells))) h
+
     is_unread : (result : Result Unit Status) → status_in result ≡ status.ReadFault → IsErrOf result status.ReadFault
     is_unread (Ok u) e = cc
     is_unread (Err d) e = ap Err e
 
+    is_starved : (result : Result Unit Status) → status_in result ≡ status.OutOfMemory → IsErrOf result status.OutOfMemory
+    is_starved (Ok u) e = cc
+    is_starved (Err d) e = ap Err e
+
     pub ends_of : (result : Result Unit Status) (old new : D) → IsEnded course → AcknowledgesEach (deeds_of course) → Obeys host opens spared at commit c course result old new
-        → (IsErrOf result status.ReadFault → DidTold host opens spared c so_far script left old new) → SessionEnds host opens spared c course so_far script left old new (status_in result)
-    ends_of result old new ends law h told = record {
+        → (IsErrOf result status.ReadFault → DidTold host opens spared c so_far script left old new)
+        → (IsErrOf result status.OutOfMemory → IsTrue host.is_told → RestsAcknowledged host opens (c ∷ commits_of (deeds_of course)) (host.said old) new) → SessionEnds host opens spared c course so_far script left old new (status_in result)
+    ends_of result old new ends law h told starved = record {
       whole = whole_of result old new ends h;
       part = λ tells. obeys_says host opens spared at commit c course result old new tells h;
       told = λ e. told (is_unread result e);
       lines = λ none tells. obeys_lines host opens spared at commit c course result old new law (λ e. none (ap status_in e)) tells h;
+      starved = λ is. starved (is_starved result is);
+      broken = λ is tells. broken_at course result old new is tells h;
       rests = λ none tells. obeys_rests host opens spared at commit c course result old new (λ e. none (ap status_in e)) tells h;
       moments = λ tells. obeys_promised host opens spared at commit c course result old new law tells h;
       spares = obeys_spares host opens spared at commit c course result old new h;

@@ -1,6 +1,6 @@
 -- How an export ends, from its parts: the store is opened, what it opens as is saved, its image is written, and a line is said.
 use Rattle.std.proofs.Common.{◌≡◌, ◌≢◌, ◌⊎◌, inl, inr, ℕ, ◌≤◌, List, [], ◌∷◌, ◌++◌, ◌∙◌, IsTrue, Option, refl, sym, ap, subst, arith, append-nil}
-use Rattle.std.specs.Prelude.{Some, None, Result, Ok, Err, IfErr, All}
+use Rattle.std.specs.Prelude.{Some, None, Result, Ok, Err, IfErr}
 use Rattle.st_host.specs.Files.{Files}
 use Rattle.st_host.specs.Runs.{LeavesOnly, ReadsAlike, ReadsAndSays, Changes, Spares, IsAtRest}
 use Rattle.st_host.specs.Stops.{SaidPart, WhileSaying}
@@ -17,7 +17,6 @@ use Rattle.st_model.specs.Table.{Table}
 use Rattle.st_model.specs.Show.{Shows, show}
 use Rattle.st_model.specs.Text.{dead_text}
 use Rattle.st_machine.specs.Asked.{SavedAs}
-use Rattle.st_chunk.specs.Definitions.{IsDefinition}
 use Rattle.st_store.specs.Names.{roots_file, changes_file, image_file, IsNoFileOf}
 use Rattle.st_store.specs.Stored.{StoreState, IsKept, IsOpening}
 use Rattle.st_store.specs.declared.fault.StoreFault.TheVariants as unmade
@@ -25,8 +24,7 @@ use Rattle.st_protocol.specs.declared.status.Status.{Status}
 use Rattle.st_protocol.specs.declared.status.Status.TheVariants as status
 use Rattle.st_protocol.specs.Statuses.{StatusHasCause, EndHasCause, Counts}
 use Rattle.st_protocol.proofs.Counting.{front_of}
-use Rattle.st_recover.specs.Images.{IsReadable}
-use Rattle.st_recover.specs.Commits.{Commit, OpensAs, all_of, stored_of}
+use Rattle.st_recover.specs.Commits.{Commit, OpensAs, stored_of}
 use Rattle.st_recover.specs.Openings.{RefusesOpening, IsOfReopening}
 use Rattle.st_recover.specs.declared.fault.OpenFault.{OpenFault}
 use Rattle.st_recover.specs.declared.fault.OpenFault.TheVariants as opening
@@ -214,7 +212,8 @@ module _ {D : Type 0} (host : Ghosts D) (store image : List ℕ) where
     said = subst (SaidPart (host.said old) has.export.text) (sym (none_more (host.said closed) (host.said new) (line.part told))) (subst (λ (t : List ℕ). SaidPart t has.export.text (host.said closed)) quiet has.said);
   }
   export_has exports (Err status.DiskFault) old mid closed new told kind has same quiet low alike line = line_behind status.DiskFault old closed new (has ∙ quiet) low line
-  export_has exports (Err status.OutOfMemory) old mid closed new told kind has same quiet low alike line = line_behind status.OutOfMemory old closed new (has ∙ quiet) low line
+  export_has exports (Err status.OutOfMemory) old mid closed new told kind has same quiet low alike line =
+      (has_image None old mid new (alike.same told image ∙ has.file) same, line_behind status.OutOfMemory old closed new (has.quiet ∙ quiet) low line)
   export_has exports (Err status.Done) old mid closed new told kind has same quiet low alike line = absurd kind
   export_has exports (Err status.Usage) old mid closed new told kind has same quiet low alike line = absurd kind
   export_has exports (Err (status.Image f)) old mid closed new told kind has same quiet low alike line = absurd kind
@@ -227,8 +226,8 @@ module _ {D : Type 0} (host : Ghosts D) (store image : List ℕ) where
   -- THE STORE STAYS
 
   -- a kept store opens from files of which its own are as a stop may leave them
-  kept_opens : (h : D) (s : StoreState) (slot : ℕ) (c : Commit) → s.name ≡ store → IsReadable c.image → IsKept host h s (stored_of slot c) → IsNoFileOf store image → (f : Files) → ((n : List ℕ) → n ≢ image → host.may_leave h n (f n)) → OpensAs store c f
-  kept_opens h s slot c named readable kept apart f can = subst (λ (n : List ℕ). OpensAs n c f) named (record {
+  kept_opens : {g : Files} (h : D) (s : StoreState) (slot : ℕ) (c : Commit) → s.name ≡ store → OpensAs store c g → IsKept host h s (stored_of slot c) → IsNoFileOf store image → (f : Files) → ((n : List ℕ) → n ≢ image → host.may_leave h n (f n)) → OpensAs store c f
+  kept_opens h s slot c named opened kept apart f can = subst (λ (n : List ℕ). OpensAs n c f) named (record {
     slot = slot;
     opens = record {
       number = s.chosen;
@@ -237,15 +236,16 @@ module _ {D : Type 0} (host : Ghosts D) (store image : List ℕ) where
       image = kept.is.firm.image (f _) (can _ (λ e. apart.image slot (sym e ∙ ap (λ (n : List ℕ). image_file n slot) named)));
       changes = kept.is.firm.changes (f _) (can _ (λ e. apart.changes (sym e ∙ ap changes_file named)));
     };
-    readable = readable;
+    readable = opened.readable;
+    good = opened.good;
   })
 
-  pub exported_stays : (c d : Commit) (s : StoreState) (slot : ℕ) (text : List ℕ) (old mid closed new : D) → IsNoFileOf store image → All IsDefinition (all_of c) → IsAtRest host (OpensAs store) c old
-      → ((n : List ℕ) → host.may_leave old n (host.files old n)) → All IsDefinition (all_of d) → OpensAs store d (host.files old) → s.name ≡ store → IsKept host mid s (stored_of slot d)
+  pub exported_stays : (c d : Commit) (s : StoreState) (slot : ℕ) (text : List ℕ) (old mid closed new : D) → IsNoFileOf store image → IsAtRest host (OpensAs store) c old
+      → ((n : List ℕ) → host.may_leave old n (host.files old n)) → OpensAs store d (host.files old) → s.name ≡ store → IsKept host mid s (stored_of slot d)
       → IsTrue host.is_told → LeavesOnly host old mid (λ f t. (t ≡ host.said old) × IsOpening host old store f) → LeavesOthers host image mid closed → ReadsAndSays host text closed new → Stays host store c old new
-  exported_stays c d s slot text old mid closed new apart good rest reads same_good opened named kept told moments others line =
-      let one = same_commit store d c (host.files old) same_good good opened (rest.opens_as (host.files old) reads) in
-      let at : (f : Files) → ((n : List ℕ) → n ≢ image → host.may_leave mid n (f n)) → OpensAs store c f = λ f can. subst (λ (x : Commit). OpensAs store x f) one (kept_opens mid s slot d named opened.readable kept apart f can) in
+  exported_stays c d s slot text old mid closed new apart rest reads opened named kept told moments others line =
+      let one = same_commit store d c (host.files old) opened (rest.opens_as (host.files old) reads) in
+      let at : (f : Files) → ((n : List ℕ) → n ≢ image → host.may_leave mid n (f n)) → OpensAs store c f = λ f can. subst (λ (x : Commit). OpensAs store x f) one (kept_opens mid s slot d named opened kept apart f can) in
       record {
         moments = moments_join host old closed new (λ f t. OpensAs store c f) (WhileSaying (host.may_leave closed) (host.said closed) text)
             (moments_join host old mid closed (λ f t. OpensAs store c f) (Others host image mid)

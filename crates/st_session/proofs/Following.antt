@@ -12,7 +12,7 @@ use Rattle.st_chunk.specs.Reading.{Reading, read, end_read}
 use Rattle.st_chunk.specs.Scripts.{Asked, asked_by, asked_from, asked_at_end, told_from, read_through}
 use Rattle.st_protocol.specs.declared.status.Status.{Status}
 use Rattle.st_protocol.specs.declared.status.Status.TheVariants as status
-use Rattle.st_protocol.specs.Courses.{Course, Goes, Ends, and_then}
+use Rattle.st_protocol.specs.Courses.{Course, Ends, and_then}
 use Rattle.st_protocol.specs.Obeying.{Obeys}
 use Rattle.st_protocol.proofs.Courses.{preceded_none, then_then, then_goes}
 use Rattle.st_protocol.proofs.Joins.{obeys_as, obeys_then, obeys_err, obeys_end}
@@ -22,7 +22,7 @@ use Rattle.st_session.specs.Keeping.{Keeping}
 use Rattle.st_session.specs.Answers.{answer}
 use Rattle.st_session.specs.Sessions.{follow, follow_rest}
 
-told_both : (r : Reading) (a b : List ℕ) → told_from r (a ++ b) ≡ told_from r a ++ told_from (read_through r a) b
+pub told_both : (r : Reading) (a b : List ℕ) → told_from r (a ++ b) ≡ told_from r a ++ told_from (read_through r a) b
 told_both r [] b = refl
 told_both r (x ∷ a) b = ap (λ l. asked_by (read r x) ++ l) (told_both (read r x).0 a b) ∙ sym (append_assoc (asked_by (read r x)) (told_from (read r x).0 a) (told_from (read_through (read r x).0 a) b))
 
@@ -30,7 +30,7 @@ pub read_both : (r : Reading) (a b : List ℕ) → read_through r (a ++ b) ≡ r
 read_both r [] b = refl
 read_both r (x ∷ a) b = read_both (read r x).0 a b
 
-asked_both : (r : Reading) (a b : List ℕ) → asked_from r (a ++ b) ≡ told_from r a ++ asked_from (read_through r a) b
+pub asked_both : (r : Reading) (a b : List ℕ) → asked_from r (a ++ b) ≡ told_from r a ++ asked_from (read_through r a) b
 asked_both r [] b = refl
 asked_both r (x ∷ a) b = ap (λ l. asked_by (read r x) ++ l) (asked_both (read r x).0 a b) ∙ sym (append_assoc (asked_by (read r x)) (told_from (read r x).0 a) (asked_from (read_through (read r x).0 a) b))
 
@@ -49,7 +49,7 @@ room_behind bytes rest left few =
     let both = length-append bytes rest in
     same_tests (length (bytes ++ rest)) left (length rest) (left - length bytes) (λ h. omega (arith, h, both, few)) (λ h. omega (arith, h, both, few))
 
-take_behind : (bytes rest : List ℕ) (left : ℕ) → length bytes ≤ left → take left (bytes ++ rest) ≡ bytes ++ take (left - length bytes) rest
+pub take_behind : (bytes rest : List ℕ) (left : ℕ) → length bytes ≤ left → take left (bytes ++ rest) ≡ bytes ++ take (left - length bytes) rest
 take_behind bytes rest left few =
     let e : left ≡ length bytes + (left - length bytes) = omega (arith, few) in
     ap (λ n. take n (bytes ++ rest)) e ∙ take-append-add bytes rest (left - length bytes)
@@ -61,7 +61,7 @@ module _ {C : Type 0} (keeping : Keeping C) (install : Install) where
   abbrev pub follows : Point C → List Asked → Follow
   follows p asked = follow keeping install p asked
 
-  follow_both : (p : Point C) (a b : List Asked) → follows p (a ++ b) ≡ and_then (follows p a) (λ q. follows q b)
+  pub follow_both : (p : Point C) (a b : List Asked) → follows p (a ++ b) ≡ and_then (follows p a) (λ q. follows q b)
   follow_both p [] b = sym (preceded_none (follows p b))
   follow_both p (x ∷ a) b = (λ i. and_then (answer keeping install p x) (λ q. follow_both q a b i)) ∙ sym (then_then (answer keeping install p x) (λ q. follows q a) (λ q. follows q b))
 

@@ -1,6 +1,6 @@
 -- A store that is held is held while bytes are said.
-use Rattle.std.proofs.Common.{◌≡◌, ◌∙◌, ℕ, List, IsTrue, refl, sym, ap, subst}
-use Rattle.std.specs.Prelude.{Option, Some, IsSome}
+use Rattle.std.proofs.Common.{ℕ, List, IsTrue}
+use Rattle.std.specs.Prelude.{Option}
 use Rattle.st_host.specs.Runs.{IsAtRest}
 use Rattle.st_host.specs.Telling.{Says}
 use Rattle.st_host.specs.declared.host.Host.{Ghosts}
@@ -39,4 +39,4 @@ module _ {D : Type 0} (host : Ghosts D) where
 
   -- each state that a stop may leave opens as what is held
   pub holds_rest : {now : D} (a : ArchiveState) (c : Commit) → Holds host now a c → IsTrue host.is_told → IsAtRest host (OpensAs a.name) c now
-  holds_rest {now = now} a c h told = record { opens_as = λ f can. record { slot = h.slot; opens = rests host a.name now h.chosen (stored_of h.slot c) f (h.kept told).is can; readable = h.readable } }
+  holds_rest {now = now} a c h told = record { opens_as = λ f can. record { slot = h.slot; opens = rests host a.name now h.chosen (stored_of h.slot c) f (h.kept told).is can; readable = h.readable; good = h.good } }

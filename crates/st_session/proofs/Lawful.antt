@@ -36,12 +36,12 @@ use Rattle.st_session.specs.Browsing.{asked_text, memory_of}
 use Rattle.st_call.specs.Replies.{ok_text, full_text, missing_text, machine_text, accepted_text, refused_text}
 use Rattle.st_session.specs.FirstLines.{opening_text}
 use Rattle.st_session.specs.Answers.{dead_line, browse_course, event_course, going_on, cycle_course, run_course, looked, look_at, watched_course, until_course, named_course, living_line, line_course, defined_course, definition_course, answer}
-use Rattle.st_session.specs.Sessions.{longest, follow, follow_rest, follow_script, session, session_so_far}
+use Rattle.st_session.specs.Sessions.{longest, follow, follow_rest, follow_script, session, session_so_far, session_of}
 use Rattle.st_machine.specs.Prepared.{prepared}
 use Rattle.st_debug.specs.Stack.{stack_text}
 use Rattle.st_debug.specs.Watched.{At, watched, is_entered}
 use Rattle.st_browse.specs.Asked.{method_of_side}
-use Rattle.st_session.specs.Watching.{Look, Says, Stops, bytecode_texts, bytecode_seen, entry_seen, stopped_text}
+use Rattle.st_session.specs.Watching.{Look, Says, Stops, nothing_seen, bytecode_texts, bytecode_seen, entry_seen, stopped_text}
 use Rattle.st_session.proofs.BrowsedLines.{asked_lines}
 use Rattle.st_session.proofs.SeenLines.{at_lines, stack_said, missing_lines}
 use Rattle.st_session.proofs.WholeLines.{numbers_lines, dead_lines, machine_lines, said_value_lines, accepted_lines, refused_lines, opening_lines, snapshot_lines}
@@ -125,13 +125,6 @@ module _ {C : Type 0} where
     cycle_lawful n (Went (With (outcome.Say v)) s) f c h = preceded_law (Reply (said_value s.memory v) ∷ []) (f s c) (said_value_lines s.memory v, tt) (h s c)
     cycle_lawful n (Went (Space demand left) s) f c h = said (space_text n demand left) (numbers_lines 0 (codes "space") (n ∷ demand.entries ∷ demand.words ∷ left.entries ∷ left.words ∷ []) refl refl)
 
-    run_lawful : (k n : ℕ) (s : State Births) (c : C) → KeepsLaw (run_course keeping n k s c)
-    unfolding run_course
-    run_lawful zero n s c = said (ran_text n) (numbers_lines 0 (codes "ran") (n ∷ []) refl refl)
-    run_lawful (suc k) n s c = cycle_lawful n (cycle births s) (run_course keeping (suc n) k) c (λ t d. run_lawful k (suc n) t d)
-
-    -- A RUN THAT IS WATCHED
-
     replies_law : (texts : List (List ℕ)) → AreLines texts → AcknowledgesEach {C = C} (map Reply texts)
     replies_law [] h = tt
     replies_law (x ∷ texts) h = (h.0, replies_law texts h.1)
@@ -150,6 +143,9 @@ module _ {C : Type 0} where
     watched_lawful look lines (suc k) n s c =
         look_lawful (look n) n (prepared s) c (cycle_course keeping n (cycle births s) (watched_course keeping look (suc n) k) c) (lines n)
         (cycle_lawful n (cycle births s) (watched_course keeping look (suc n) k) c (λ t d. watched_lawful look lines k (suc n) t d))
+
+    run_lawful : (k n : ℕ) (s : State Births) (c : C) → KeepsLaw (run_course keeping n k s c)
+    run_lawful k n s c = watched_lawful nothing_seen (λ m d. tt) k n s c
 
     until_lawful : (cycles : ℕ) (s : State Births) (c : C) (o : Option Value) → KeepsLaw (until_course keeping cycles s c o)
     until_lawful cycles s c None = said missing_text missing_lines
@@ -222,6 +218,10 @@ module _ {C : Type 0} where
       any_session_law replayed lost p script =
           law_of Any _ (preceded_law (Reply (opening_text replayed lost) ∷ []) (follow_script keeping install p script) (opening_lines replayed lost, tt) (follow_law p script))
 
+      pub any_session_of_law : (replayed : ℕ) (lost : List Loss) (p : Point C) (all : List Asked) → AreGood all → AcknowledgesEach (deeds_of (session_of keeping install replayed lost p all))
+      any_session_of_law replayed lost p all good =
+          law_of Any _ (preceded_law (Reply (opening_text replayed lost) ∷ []) (follow keeping install p all) (opening_lines replayed lost, tt) (follow_lawful p all good))
+
       pub any_session_so_far_law : (replayed : ℕ) (lost : List Loss) (p : Point C) (front : List ℕ) → AcknowledgesEach (deeds_of (session_so_far keeping install replayed lost p front))
       any_session_so_far_law replayed lost p front =
           let all = told_from (line_from 1) front in
@@ -248,3 +248,6 @@ session_law = any_session_law in_a_store store_laws installed accepted_selector
 
 pub session_so_far_law : (replayed : ℕ) (lost : List Loss) (p : Point Commit) (front : List ℕ) → AcknowledgesEach (deeds_of (session_so_far in_a_store installed replayed lost p front))
 session_so_far_law = any_session_so_far_law in_a_store store_laws installed accepted_selector
+
+pub session_of_law : (replayed : ℕ) (lost : List Loss) (p : Point Commit) (all : List Asked) → AreGood all → AcknowledgesEach (deeds_of (session_of in_a_store installed replayed lost p all))
+session_of_law = any_session_of_law in_a_store store_laws installed accepted_selector

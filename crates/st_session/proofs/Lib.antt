@@ -1,6 +1,7 @@
 pub mod Accepting
 pub mod BrowsedLines
 pub mod Built
+pub mod Called
 pub mod Commanded
 pub mod Compiling
 pub mod Cycles
@@ -9,6 +10,7 @@ pub mod Ending
 pub mod Exported
 pub mod Following
 pub mod Holding
+pub mod Joining
 pub mod LastLines
 pub mod Lawful
 pub mod Lines
@@ -22,8 +24,10 @@ pub mod Saying
 pub mod Snapshots
 pub mod Sources
 pub mod Started
+pub mod Starving
 pub mod Stretches
 pub mod Traced
+pub mod Unseen
 pub mod Watches
 pub mod Seen
 pub mod SeenLines

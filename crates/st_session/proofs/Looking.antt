@@ -1,6 +1,6 @@
 -- What a session says of what it is asked to look at.
-use Rattle.std.proofs.Common.{◌≡◌, ◌≤◌, List, ℕ, [], Bool, true, false, refl, sym, arith}
-use Rattle.std.specs.Prelude.{Option, Some, None, is_some, unwrap_or, Result, Ok, Err, OnOk}
+use Rattle.std.proofs.Common.{◌≡◌, List, ℕ, [], Bool, true, false, refl, sym}
+use Rattle.std.specs.Prelude.{Option, Some, None, is_some, unwrap_or, Result, Ok, Err}
 use Rattle.st_model.specs.View.{View}
 use Rattle.st_frames.specs.declared.world.World.{World}
 use Rattle.st_host.specs.declared.host.Host.{Ghosts}
@@ -8,8 +8,7 @@ use Rattle.st_host.specs.declared.host.SayFault.{SayFault}
 use Rattle.st_host.specs.Counts.{HasCause}
 use Rattle.st_host.specs.Runs.{SaysAll}
 use Rattle.st_host.specs.Telling.{Says}
-use Rattle.st_host.proofs.Joining.{all_join}
-use Rattle.st_host.proofs.Telling.{says_begun, says_then}
+use Rattle.st_host.proofs.Telling.{says_begun}
 use Rattle.st_frames.specs.declared.frame.Frame.{Frame}
 use Rattle.st_frames.specs.Shown.{IsReady, shown}
 use Rattle.st_protocol.specs.declared.status.Status.{Status}

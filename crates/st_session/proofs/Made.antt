@@ -1,13 +1,15 @@
 -- How the making of a store ends, from its parts: something is read, the store is made of it, and a line is said.
 use Rattle.std.proofs.Common.{◌≡◌, ◌⊎◌, inl, inr, ⊎_elim, ℕ, ◌≤◌, List, ◌++◌, ◌∙◌, IsTrue, refl, sym, ap, subst}
+use Rattle.std.specs.Prelude.{All}
 use Rattle.st_host.specs.Counts.{Rose}
 use Rattle.st_host.specs.Files.{Files, bytes_of}
-use Rattle.st_host.specs.Runs.{LeavesOnly, OnlyReads, ReadsAlike, ReadsAndSays, SaysAll, Spares, IsAtRest}
+use Rattle.st_host.specs.Runs.{LeavesOnly, OnlyReads, Narrows, ReadsAlike, ReadsAndSays, SaysAll, Spares, IsAtRest}
 use Rattle.st_host.specs.Stops.{Here, SaidPart, WhileSaying}
 use Rattle.st_host.specs.Telling.{Says}
 use Rattle.st_host.specs.declared.host.Host.{Ghosts}
 use Rattle.st_host.proofs.Joining.{weaker, moments_join}
 use Rattle.st_host.proofs.Rising.{rose_second}
+use Rattle.st_chunk.specs.Definitions.{IsDefinition}
 use Rattle.st_store.specs.Names.{roots_file}
 use Rattle.st_store.specs.Roots.{HasLetters}
 use Rattle.st_store.specs.Stored.{StoreState, IsKept}
@@ -18,19 +20,19 @@ use Rattle.st_protocol.specs.declared.status.Status.{Status}
 use Rattle.st_protocol.specs.declared.status.Status.TheVariants as status
 use Rattle.st_protocol.specs.Statuses.{StatusHasCause}
 use Rattle.st_recover.specs.Images.{IsReadable}
-use Rattle.st_recover.specs.Commits.{Commit, OpensAs, stored_of}
+use Rattle.st_recover.specs.Commits.{Commit, OpensAs, all_of, stored_of}
 use Rattle.st_recover.specs.Creating.{IsMade, IsNoFirstFile, AreFirstFiles}
 use Rattle.st_session.specs.declared.making.Origin.{Origin}
 use Rattle.st_call.specs.LastLines.{last_line, SaysLastLine}
 use Rattle.st_call.specs.Refusals.{store_status}
 use Rattle.st_session.specs.Commands.{LeavesAlone}
-use Rattle.st_session.specs.Makings.{Contents, commit_of, made_text, IsThere, IsUnread, IsMadeOf, MakingHas, IsMaking, MakingEnds}
+use Rattle.st_session.specs.Makings.{Contents, commit_of, made_text, IsThere, IsUnread, IsMadeOf, MakingHas, IsMaking, IsUnbegun, KeepsFiles, MakingEnds}
 use Rattle.st_session.proofs.LastLines.{part_not_made, none_not_made}
 
 -- a store at rest opens as what it holds, where its image can be read
-pub kept_rests : {D : Type 0} (host : Ghosts D) (h : D) (name : List ℕ) (c : Commit) (slot : ℕ) (store : StoreState) → store.name ≡ name → IsReadable c.image → IsKept host h store (stored_of slot c)
+pub kept_rests : {D : Type 0} (host : Ghosts D) (h : D) (name : List ℕ) (c : Commit) (slot : ℕ) (store : StoreState) → store.name ≡ name → IsReadable c.image → All IsDefinition (all_of c) → IsKept host h store (stored_of slot c)
     → IsAtRest host (OpensAs name) c h
-kept_rests host h name c slot store named readable kept = record {
+kept_rests host h name c slot store named readable good kept = record {
   opens_as = λ f can. subst (λ n. OpensAs n c f) named (record {
     slot = slot;
     opens = record {
@@ -41,6 +43,7 @@ kept_rests host h name c slot store named readable kept = record {
       changes = kept.is.firm.changes (f _) (can _);
     };
     readable = readable;
+    good = good;
   });
 }
 
@@ -112,12 +115,22 @@ module _ {D : Type 0} (host : Ghosts D) (origin : Origin) (c : Contents) (store 
         each unmade.Disk kind why is cause = absurd (calm (cause refl))
         each unmade.OutOfMemory kind why is cause = inr is
 
+    failed_unbegun : (e : Status) (new : D) → e ≡ store_status fault → ((fault ≡ unmade.Disk → ⊥) → Narrows host old made) → ReadsAndSays host (last_line e) made new → ReadsAlike host made new
+        → host.disk_faults new ≡ host.disk_faults made → IsUnbegun e → KeepsFiles host old new
+    failed_unbegun e new is nothing line alike disk unbegun =
+        let narrows = nothing (λ same. subst IsUnbegun (is ∙ ap store_status same) unbegun) in
+        record {
+          alike = λ calm told n. alike.same told n ∙ (narrows.alike (λ rose. calm (subst (Rose (host.disk_faults old)) (sym disk) rose))).same told n;
+          fewer = λ told n x can. narrows.fewer told n x ((line.stops told).fewer n x can);
+        }
+
     pub failed_ends : (e : Status) (new : D) → e ≡ store_status fault → (fault ≡ unmade.Disk → Rose (host.disk_faults old) (host.disk_faults made))
-        → SaysLastLine host e made new → ReadsAndSays host (last_line e) made new → ReadsAlike host made new → host.disk_faults new ≡ host.disk_faults made → Ends new e
-    failed_ends e new is cause says line alike disk = record {
+        → ((fault ≡ unmade.Disk → ⊥) → Narrows host old made) → SaysLastLine host e made new → ReadsAndSays host (last_line e) made new → ReadsAlike host made new → host.disk_faults new ≡ host.disk_faults made → Ends new e
+    failed_ends e new is cause nothing says line alike disk = record {
       has = failed_has e new is (line_behind host e old made new tries.quiet tries.say says);
       moments = λ told. moments_join host old made new At (WhileSaying (host.may_leave made) (host.said made) (last_line e)) (tried_moments told) (line.moments told)
           (λ f s w. made_from f s (tries.left f told w.0) (part_not_made origin c e (host.said old) s (subst (λ (t : List ℕ). SaidPart t (last_line e) s) (tries.quiet told) w.1)));
+      unbegun = failed_unbegun e new is nothing line alike disk;
       alone = alone_with new (last_line e) alike line;
       complete = λ told x same none calm say. failed_whole e is cause told none (λ rose. calm (subst (Rose (host.disk_faults old)) (sym disk) rose));
     }
@@ -148,6 +161,7 @@ module _ {D : Type 0} (host : Ghosts D) (origin : Origin) (c : Contents) (store 
     done_ends all = record {
       has = λ told. (c, is_made told, all.is told ∙ ap (λ (t : List ℕ). t ++ made_text origin c) (tries.quiet told));
       moments = done_moments;
+      unbegun = λ none. absurd none;
       alone = alone_with new (made_text origin c) says.alike says.part;
       complete = λ told x same none calm say. inl refl;
     }
@@ -156,6 +170,7 @@ module _ {D : Type 0} (host : Ghosts D) (origin : Origin) (c : Contents) (store 
     unsaid_ends rose = record {
       has = λ told. (c, is_made told, subst (λ (t : List ℕ). SaidPart t (made_text origin c) (host.said new)) (tries.quiet told) (says.part.part told));
       moments = done_moments;
+      unbegun = λ none. absurd none;
       alone = alone_with new (made_text origin c) says.alike says.part;
       complete = λ told x same none calm say. absurd (say (subst (λ n. Rose n (host.say_faults new)) tries.say rose));
     }
@@ -207,6 +222,10 @@ module _ {D : Type 0} (host : Ghosts D) (origin : Origin) (right : Contents → 
     moments = λ told. moments_join host old mid new (IsMaking host origin right wrong store old) (WhileSaying (host.may_leave mid) (host.said mid) (last_line e)) (read_moments told) (line.moments told)
         (λ f s w. untouched f s (λ n. (reads.stops told).fewer n (f n) (w.0 n))
         (λ c. part_not_made origin c e (host.said old) s (subst (λ (t : List ℕ). SaidPart t (last_line e) s) (reads.quiet told) w.1)));
+    unbegun = λ none. record {
+      alike = λ calm told n. alike.same told n ∙ (reads.alike (λ rose. calm (subst (Rose (host.disk_faults old)) (sym disk) rose))).same told n;
+      fewer = λ told n x can. (reads.stops told).fewer n x ((line.stops told).fewer n x can);
+    };
     alone = record {
       alike = λ calm told n is. alike.same told n ∙ (reads.alike (λ rose. calm (subst (Rose (host.disk_faults old)) (sym disk) rose))).same told n;
       fewer = λ told n x is can. (reads.stops told).fewer n x ((line.stops told).fewer n x can);
@@ -263,6 +282,10 @@ module _ {D : Type 0} (host : Ghosts D) (origin : Origin) (right : Contents → 
     read_ends e ends = record {
       has = has_behind e ends.has;
       moments = λ told. moments_join host old mid new (IsMaking host origin right wrong store old) (IsMaking host origin read (λ e. ⊥) store mid) (read_moments told) (ends.moments told) (while_made told);
+      unbegun = λ none. let kept = ends.unbegun none in record {
+        alike = λ calm told n. kept.alike (λ rose. calm (rose_second (host.disk_faults old) (host.disk_faults mid) (host.disk_faults new) reads.disk rose)) told n ∙ alike.same told n;
+        fewer = λ told n x can. (reads.stops told).fewer n x (kept.fewer told n x can);
+      };
       alone = record {
         alike = λ calm told n is. ends.alone.alike (λ rose. calm (rose_second (host.disk_faults old) (host.disk_faults mid) (host.disk_faults new) reads.disk rose)) told n is ∙ alike.same told n;
         fewer = λ told n x is can. (reads.stops told).fewer n x (ends.alone.fewer told n x is can);

@@ -1,6 +1,6 @@
 -- A machine stands at some point, and where it does.
 use Rattle.std.proofs.Common.{◌≡◌, ◌∙◌, ℕ, List, IsTrue, refl, sym, ap, subst}
-use Rattle.std.specs.Prelude.{Option, Some, None, Result}
+use Rattle.std.specs.Prelude.{Some, None, Result}
 use Rattle.st_model.specs.declared.dead.Dead.{Dead}
 use Rattle.st_model.specs.Objects.{nil}
 use Rattle.st_model.specs.Machine.{State, World, empty_world}
@@ -21,7 +21,7 @@ use Rattle.st_protocol.specs.Obeying.{Obeys}
 use Rattle.st_recover.specs.Archives.{ArchiveState, Holds}
 use Rattle.st_recover.specs.Commits.{Commit, OpensAs}
 use Rattle.st_session.specs.Points.{Being, Alive, Gone, Point}
-use Rattle.st_session.specs.Standing.{IsBeing, shown_by, MayRun, IsAt}
+use Rattle.st_session.specs.Standing.{IsBeing, shown_by, IsAt}
 use Rattle.st_session.proofs.Holding.{holds_rest}
 
 pub shown_births : {M : Type 0} (view : M → View) (m : Machine M) → IsWhole (view m.memory) → IsReady (view m.memory) m.frame m.world → (s : State Births) × Shows (shown_by view m) s

@@ -25,6 +25,7 @@ use Rattle.st_session.specs.Reports.{Line, cycles, text_of, being_text, shown_te
 use Rattle.st_session.specs.Pushing.{LeadsTo, PushesCourse}
 use Rattle.st_session.specs.Standing.{IsBeing}
 use Rattle.st_session.proofs.Stretches.{Deeds}
+use Rattle.st_session.proofs.Unseen.{run_ends, run_begins}
 
 replied : (text rest : List ℕ) → (text ++ []) ++ rest ≡ text ++ rest
 replied text rest = ap (λ t. t ++ rest) (append-nil text)
@@ -41,9 +42,11 @@ module _ (shows : State Table → List ℕ) where
 
   -- what is said of cycles one after the other is what is said where their run has come to
   pub said_at : (k n : ℕ) (s : State Births) → line_text shows (cycles n k s) ≡ text_at shows (n + finished births k s) (k - finished births k s) (run births k s)
-  unfolding run_course run run_of finished finished_of
-  said_at zero n s = let e : n ≡ n + 0 = omega arith in replied (ran_text n) (shows (show s)) ∙ ap (λ i. ran_text i ++ shows (show s)) e
-  said_at (suc k) n s = over (cycle births s) (λ t. said_at k (suc n) t)
+  unfolding run run_of finished finished_of
+  said_at zero n s =
+      let e : n ≡ n + 0 = omega arith in
+      ap (line_text shows) (run_ends keeps_nothing n s tt) ∙ (replied (ran_text n) (shows (show s)) ∙ ap (λ i. ran_text i ++ shows (show s)) e)
+  said_at (suc k) n s = ap (line_text shows) (run_begins keeps_nothing k n s tt) ∙ over (cycle births s) (λ t. said_at k (suc n) t)
     where
       over : (o : Transition (State Births) Ending)
           → ((t : State Births) → line_text shows (cycles (suc n) k t) ≡ text_at shows (suc n + finished_of (cycle births) k t) (k - finished_of (cycle births) k t) (run_of (cycle births) k t))

@@ -1,10 +1,7 @@
 -- What a machine that isn't dead, or is, answers to a line.
-use Rattle.std.proofs.Common.{◌≡◌, ℕ, List, [], IsTrue, refl, sym, subst}
-use Rattle.std.specs.Prelude.{Result, Ok, Err, Some}
-use Rattle.st_model.specs.declared.dead.Dead.{Dead}
-use Rattle.st_model.specs.Text.{dead_text}
+use Rattle.std.proofs.Common.{◌≡◌, ℕ, List, [], sym, subst}
+use Rattle.std.specs.Prelude.{Result, Ok, Err}
 use Rattle.st_model.specs.View.{View}
-use Rattle.st_host.specs.Runs.{IsAtRest}
 use Rattle.st_host.specs.declared.host.Host.{Ghosts}
 use Rattle.st_host.specs.declared.host.SayFault.{SayFault}
 use Rattle.st_host.proofs.Telling.{OnlyNow}
@@ -17,7 +14,7 @@ use Rattle.st_protocol.proofs.Joins.{obeys_none, obeys_end, obeys_fault}
 use Rattle.st_protocol.specs.Statuses.{IsFault}
 use Rattle.st_recover.specs.Archives.{ArchiveState, Holds}
 use Rattle.st_recover.specs.Commits.{Commit, OpensAs}
-use Rattle.st_session.specs.Points.{Point, gone}
+use Rattle.st_session.specs.Points.{Point}
 use Rattle.st_session.specs.Pushing.{PushesCourse}
 use Rattle.st_session.specs.Standing.{IsAt, StandsAt}
 use Rattle.st_call.specs.Telling.{Tells}

@@ -1,11 +1,10 @@
 -- What the reading of an image says of the file that its bytes come from.
-use Rattle.std.proofs.Common.{◌≡◌, ℕ, ◌≤◌, ◌^◌, List, length, refl, sym, subst, ◌∙◌, arith}
+use Rattle.std.proofs.Common.{◌≡◌, ℕ, List, refl, sym, subst, ◌∙◌, arith}
 use Rattle.std.specs.Prelude.{Result, Ok, Err, IfErr, IsErrAnd}
 use Rattle.st_host.specs.declared.host.Host.{Ghosts}
 use Rattle.st_model.specs.Image.{image_head}
 use Rattle.st_model.specs.Start.{start_view}
 use Rattle.st_model.specs.Faults.{IsWellFormed, IsImageFault}
-use Rattle.st_model.specs.declared.fault.ImageFault.{ImageFault}
 use Rattle.st_model.specs.View.{View}
 use Rattle.st_frames.specs.declared.frame.Frame.{Frame}
 use Rattle.st_image.specs.declared.head.HeadValues.{HeadValues}

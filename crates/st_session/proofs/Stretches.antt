@@ -24,6 +24,7 @@ use Rattle.st_session.specs.Standing.{IsBeing}
 use Rattle.st_session.specs.Stretches.{Stop, Over, Asked, Stretch, words_of, cycle_stretch, stretch, StopsAs, PushesStretch}
 use Rattle.st_session.specs.Reports.{Line, cycles}
 use Rattle.st_session.specs.Pushing.{LeadsTo, PushesCourse}
+use Rattle.st_session.proofs.Unseen.{run_ends, run_begins}
 
 -- texts that are said in turn, as deeds
 abbrev pub replies_of : {C : Type 0} → List (List ℕ) → List (Deed C)
@@ -110,9 +111,9 @@ module _ {C : Type 0} (keeping : Keeping C) (course : Cycles C) where
 
 module _ {C : Type 0} (keeping : Keeping C) where
   course_is : (k n : ℕ) (s : State Births) (c : C) → StartsWith keeping (run_course keeping) (n + k) c (stretch n k s) (run_course keeping n k s c)
-  unfolding stretch run_course
-  course_is zero n s c = refl
-  course_is (suc k) n s c = cycle_is keeping (run_course keeping) n k (cycle births s) (stretch (suc n) k) c (λ t. course_is k (suc n) t c)
+  unfolding stretch
+  course_is zero n s c = run_ends keeping n s c
+  course_is (suc k) n s c = run_begins keeping k n s c ∙ cycle_is keeping (run_course keeping) n k (cycle births s) (stretch (suc n) k) c (λ t. course_is k (suc n) t c)
 
   -- what is left of a run, where so many of its cycles are finished
   pub run_is : (n done : ℕ) (s : State Births) (c : C) → done ≤ n → StartsWith keeping (run_course keeping) n c (stretch done (n - done) s) (run_course keeping done (n - done) s c)

@@ -1,5 +1,5 @@
 -- A trace does what the run does.
-use Rattle.std.proofs.Common.{ℕ, zero, suc, List, [], ◌∷◌, ◌++◌, map}
+use Rattle.std.proofs.Common.{ℕ, zero, suc, List, [], ◌∷◌, ◌++◌, map, sym, subst}
 use Rattle.st_model.specs.Outcomes.{Ending, With, Space}
 use Rattle.st_model.specs.Outcomes as outcome
 use Rattle.st_model.specs.Machine.{State, Transition, Died, Went}
@@ -16,6 +16,7 @@ use Rattle.st_session.specs.Watching.{bytecode_texts, bytecode_seen}
 use Rattle.st_session.specs.Answers.{going_on, cycle_course, run_course, look_at, watched_course}
 use Rattle.st_session.specs.Traces.{states_from, states_behind, states_after, states_of, texts_at, texts_of, Laid, Traces}
 use Rattle.st_session.specs.Traces as laid
+use Rattle.st_session.proofs.Unseen.{run_begins}
 
 laid_itself : {C : Type 0} (ds : List (Deed C)) → Laid [] ds ds
 laid_itself [] = laid.none
@@ -72,6 +73,8 @@ module _ {C : Type 0} (keeping : Keeping C) where
   looked_at n (Went u t) c ts a b h = traces_looks (bytecode_texts (watched (show t))) ts a b h
 
   pub traced : (n k : ℕ) (s : State Births) (c : C) → Traces (texts_of (states_of keeping n k s c)) (run_course keeping n k s c) (watched_course keeping bytecode_seen n k s c)
-  unfolding run_course watched_course states_of
+  unfolding watched_course states_of
   traced n zero s c = traces_itself _
-  traced n (suc k) s c = looked_at n (prepared s) c _ _ _ (on_cycle (states_of keeping (suc n) k) (run_course keeping (suc n) k) (watched_course keeping bytecode_seen (suc n) k) (traced (suc n) k) n (cycle births s) c)
+  traced n (suc k) s c =
+      subst (λ (x : Course C (Point C)). Traces (texts_of (states_of keeping n (suc k) s c)) x (watched_course keeping bytecode_seen n (suc k) s c)) (sym (run_begins keeping k n s c))
+      (looked_at n (prepared s) c _ _ _ (on_cycle (states_of keeping (suc n) k) (run_course keeping (suc n) k) (watched_course keeping bytecode_seen (suc n) k) (traced (suc n) k) n (cycle births s) c))

@@ -1,4 +1,4 @@
--- A watched run: its stretch is the first part of its course, and with nothing seen it is the run.
+-- A watched run: its stretch is the first part of its course, and with nothing seen it is the run's stretch.
 use Rattle.std.proofs.Common.{◌≡◌, ℕ, zero, suc, ◌+◌, ◌-◌, ◌≤◌, List, [], ◌∷◌, ◌++◌, refl, sym, ap, ◌∙◌, arith}
 use Rattle.st_model.specs.Machine.{State, Transition, Died, Went}
 use Rattle.st_model.specs.Births.{Births, births}
@@ -7,10 +7,10 @@ use Rattle.st_model.specs.Cycles.{cycle}
 use Rattle.st_model.specs.Show.{show}
 use Rattle.st_machine.specs.Prepared.{prepared}
 use Rattle.st_protocol.specs.Courses.{Reply, Course, preceded}
-use Rattle.st_protocol.proofs.Courses.{preceded_none, preceded_both}
+use Rattle.st_protocol.proofs.Courses.{preceded_both}
 use Rattle.st_session.specs.Points.{Point}
 use Rattle.st_session.specs.Keeping.{Keeping}
-use Rattle.st_session.specs.Answers.{cycle_course, run_course, looked, look_at, watched_course}
+use Rattle.st_session.specs.Answers.{cycle_course, looked, look_at, watched_course}
 use Rattle.st_session.specs.Stretches.{Stretch, cycle_stretch, stretch}
 use Rattle.st_session.specs.Watching.{Look, Says, Stops, nothing_seen}
 use Rattle.st_session.specs.Watched.{looked_stretch, look_stretch, watched_stretch}
@@ -48,18 +48,6 @@ module _ {C : Type 0} (keeping : Keeping C) (look : ℕ → State Table → Look
       course_is (n - done) done s c ∙ ap (λ m. preceded (replies_of (watched_stretch look done (n - done) s).texts) (onward keeping (watched_course keeping look) m c (watched_stretch look done (n - done) s).stop)) e
 
 -- WITH NOTHING SEEN
-
-module _ {C : Type 0} (keeping : Keeping C) where
-  unseen : (p : Transition (State Births) Unit) (n : ℕ) (c : C) (x : Course C (Point C)) → look_at keeping (nothing_seen n) n p c x ≡ x
-  unseen (Died cause) n c x = refl
-  unseen (Went u t) n c x = preceded_none x
-
-  pub run_is_watched : (k n : ℕ) (s : State Births) (c : C) → watched_course keeping nothing_seen n k s c ≡ run_course keeping n k s c
-  unfolding run_course watched_course
-  run_is_watched zero n s c = refl
-  run_is_watched (suc k) n s c =
-      unseen (prepared s) n c (cycle_course keeping n (cycle births s) (watched_course keeping nothing_seen (suc n) k) c)
-      ∙ (λ i. cycle_course keeping n (cycle births s) (λ t d. run_is_watched k (suc n) t d i) c)
 
 unseen_stretch : (p : Transition (State Births) Unit) (n : ℕ) (r : Stretch) → look_stretch (nothing_seen n) n p r ≡ r
 unseen_stretch (Died cause) n r = refl

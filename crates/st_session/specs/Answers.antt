@@ -25,7 +25,7 @@ use Rattle.st_session.specs.Keeping.{Keeping}
 use Rattle.st_machine.specs.Prepared.{prepared}
 use Rattle.st_debug.specs.Stack.{stack_text}
 use Rattle.st_browse.specs.Asked.{method_of_side}
-use Rattle.st_session.specs.Watching.{Look, Says, Stops, bytecode_seen, entry_seen, stopped_text}
+use Rattle.st_session.specs.Watching.{Look, Says, Stops, nothing_seen, bytecode_seen, entry_seen, stopped_text}
 use Rattle.st_session.specs.Browsing.{asked_text, memory_of}
 use Rattle.st_call.specs.Replies.{ok_text, full_text, missing_text, machine_text, accepted_text, refused_text}
 
@@ -57,14 +57,7 @@ module _ {C : Type 0} where
     cycle_course n (Went (With (outcome.Say v)) s) f c = preceded (Reply (said_value s.memory v) ∷ []) (f s c)
     cycle_course n (Went (Space demand left) s) f c = replies (space_text n demand left) (alive s c)
 
-    -- so many cycles of a line, after others that were finished
-    unfoldable pub run_course : ℕ → ℕ → State Births → C → Course C (Point C)
-    run_course n zero s c = replies (ran_text n) (alive s c)
-    run_course n (suc k) s c = cycle_course n (cycle births s) (run_course (suc n) k) c
-
-    -- A RUN THAT IS WATCHED
-
-    -- what is seen, and what follows
+    -- what is seen before a cycle, and what follows
     abbrev pub looked : Look → ℕ → State Births → C → Course C (Point C) → Course C (Point C)
     looked (Says texts) n t c rest = preceded (map (λ text. Reply text) texts) rest
     looked Stops n t c rest = replies (stopped_text n) (alive t c)
@@ -78,6 +71,10 @@ module _ {C : Type 0} where
     unfoldable pub watched_course : (ℕ → State Table → Look) → ℕ → ℕ → State Births → C → Course C (Point C)
     watched_course look n zero s c = replies (ran_text n) (alive s c)
     watched_course look n (suc k) s c = look_at (look n) n (prepared s) c (cycle_course n (cycle births s) (watched_course look (suc n) k) c)
+
+    -- those of a line that sees nothing
+    abbrev pub run_course : ℕ → ℕ → State Births → C → Course C (Point C)
+    run_course = watched_course nothing_seen
 
     -- a run up to the first bytecode of a method, where there is one
     abbrev pub until_course : ℕ → State Births → C → Option Value → Course C (Point C)

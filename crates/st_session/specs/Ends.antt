@@ -6,11 +6,13 @@ use Rattle.st_host.specs.Runs.{LeavesOnly, SaysAll, Spares}
 use Rattle.st_host.specs.Stops.{SaidPart}
 use Rattle.st_host.specs.declared.host.Host.{Ghosts}
 use Rattle.st_protocol.specs.declared.status.Status.{Status}
-use Rattle.st_protocol.specs.declared.status.Status.TheVariants.{Done, ReadFault, SayFault, DiskFault}
+use Rattle.st_protocol.specs.declared.status.Status.TheVariants.{Done, ReadFault, SayFault, DiskFault, OutOfMemory}
 use Rattle.st_protocol.specs.Courses.{Course, deeds_of, said_of, commits_of, IsEnd}
 use Rattle.st_protocol.specs.Acknowledged.{SaysLines, Promised}
 use Rattle.st_protocol.specs.Done.{Did, RestsAsOne}
 use Rattle.st_protocol.specs.Statuses.{IsFault}
+use Rattle.st_chunk.specs.Scripts.{Asked}
+use Rattle.st_session.specs.Resting.{RestsBroken, RestsAcknowledged}
 
 -- the status that an answer stands for
 abbrev pub status_in : Result Unit Status → Status
@@ -36,6 +38,13 @@ module _ {D : Type 0} (host : Ghosts D) where
       pub all : script ≡ told ++ left
       pub did : Did host opens spared c (deeds_of (course told)) old new
 
+    -- some first ones of these requests were answered, whole, and nothing else was done
+    pub record DidSome {X : Type 0} (course : List Asked → Course C X) (asked : List Asked) (old new : D) : Type 0 where
+      pub first : List Asked
+      pub rest : List Asked
+      pub all : asked ≡ first ++ rest
+      pub did : Did host opens spared c (deeds_of (course first)) old new
+
     -- A session of this course, over a store that opens as commit c; `so_far` is its course after the first bytes of the script,
     -- and `left` are the bytes that the source still has.
     pub record SessionEnds {X Y : Type 0} (course : Course C X) (so_far : List ℕ → Course C Y) (script left : List ℕ) (old new : D) (status : Status) : Type 0 where
@@ -49,6 +58,10 @@ module _ {D : Type 0} (host : Ghosts D) where
       pub lines : (status ≡ SayFault → ⊥) → IsTrue host.is_told → SaysLines (host.said old) (host.said new)
       -- each state that a stop may leave behind it opens as one of the commits, unless a fault of the disk came
       pub rests : (status ≡ DiskFault → ⊥) → IsTrue host.is_told → RestsAsOne host opens (c ∷ commits_of (deeds_of course)) new
+      -- where there was no memory, as the one whose number is that of those acknowledged
+      pub starved : status ≡ OutOfMemory → IsTrue host.is_told → RestsAcknowledged host opens (c ∷ commits_of (deeds_of course)) (host.said old) new
+      -- after a fault of the disk as one of them, or as one of two that follow each other
+      pub broken : status ≡ DiskFault → IsTrue host.is_told → RestsBroken host opens (c ∷ commits_of (deeds_of course)) new
       -- at each moment the files open as the commit whose number is that of the commits acknowledged by then, or as the next
       pub moments : IsTrue host.is_told → LeavesOnly host old new (Promised opens (c ∷ commits_of (deeds_of course)) (host.said old))
       -- no other file was touched

@@ -1,5 +1,5 @@
 -- How an image of what a store holds is exported: of all objects, or of those that can be reached.
-use Rattle.std.specs.Prelude.{◌≡◌, ◌≢◌, ◌⊎◌, ℕ, List, ◌++◌, length, Option, Some, None, IsTrue, Result, Ok, Err, ⊤, All}
+use Rattle.std.specs.Prelude.{◌≡◌, ◌≢◌, ◌⊎◌, ℕ, List, ◌++◌, length, Option, Some, None, IsTrue, Result, Ok, Err, ⊤}
 use Rattle.st_host.specs.Files.{Files}
 use Rattle.st_host.specs.Runs.{LeavesOnly, Spares, IsAtRest}
 use Rattle.st_host.specs.Stops.{SaidPart}
@@ -11,13 +11,12 @@ use Rattle.st_model.specs.Saving.{save}
 use Rattle.st_model.specs.Show.{show}
 use Rattle.st_model.specs.Table.{Table}
 use Rattle.st_model.specs.Text.{dead_text}
-use Rattle.st_chunk.specs.Definitions.{IsDefinition}
 use Rattle.st_store.specs.Names.{IsNoFileOf}
 use Rattle.st_protocol.specs.declared.status.Status.{Status}
 use Rattle.st_protocol.specs.declared.status.Status.TheVariants.{Done, Script, ReadFault, SayFault, DiskFault, OutOfMemory}
 use Rattle.st_install.specs.Defining.{installed}
 use Rattle.st_clean.specs.Cleaning.{IsCleaned}
-use Rattle.st_recover.specs.Commits.{Commit, OpensAs, all_of, image_with}
+use Rattle.st_recover.specs.Commits.{Commit, OpensAs, image_with}
 use Rattle.st_recover.specs.Openings.{Reopens}
 use Rattle.st_recover.specs.Replays.{Replayed}
 use Rattle.st_call.specs.LastLines.{SaysLastLine}
@@ -93,10 +92,16 @@ module _ {D : Type 0} (host : Ghosts D) where
   abbrev pub PartSaid : D → D → List ℕ → Type 0
   PartSaid old new text = SaidPart (host.said old) text (host.said new)
 
-  -- the file of this name has the image, and the text was said; or that failed
+  -- the file of this name reads as before, and nothing was said
+  pub record IsUnwritten (name : List ℕ) (old new : D) : Type 0 where
+    pub file : host.files new name ≡ host.files old name
+    pub quiet : host.said new ≡ host.said old
+
+  -- the file of this name has the image, and the text was said; or that failed, for want of memory before the file was touched
   abbrev pub HasExported : List ℕ → (Export → Type 0) → D → D → Result Unit Status → Type 0
   HasExported name exports old new (Ok u) = IsWritten exports (AllSaid old new) name old new
   HasExported name exports old new (Err SayFault) = IsWritten exports (PartSaid old new) name old new
+  HasExported name exports old new (Err OutOfMemory) = IsUnwritten name old new
   HasExported name exports old new (Err status) = host.said new ≡ host.said old
 
   -- at each moment and behind it the store opens as this
@@ -115,7 +120,6 @@ IsOfExport told store f status = IsOfSession told store f status
 
 -- these files open as this commit, which opens as this
 pub record OpensWhole (store : List ℕ) (f : Files) (c : Commit) (r : Replayed) : Type 0 where
-  pub good : All IsDefinition (all_of c)
   pub opens : OpensAs store c f
   pub reopens : Reopens installed c r
 
@@ -137,7 +141,7 @@ module _ {D : Type 0} (host : Ghosts D) (store image : List ℕ) where
   ExportHas exports old new Done = IsExport exports (AllSaid host old new) old new
   ExportHas exports old new SayFault = IsExport exports (PartSaid host old new) old new
   ExportHas exports old new DiskFault = SaysLastLine host DiskFault old new
-  ExportHas exports old new OutOfMemory = SaysLastLine host OutOfMemory old new
+  ExportHas exports old new OutOfMemory = HasImage None old new × SaysLastLine host OutOfMemory old new
   ExportHas exports old new _ = ⊥
 
 module _ {D : Type 0} (host : Ghosts D) (extent : Extent) (store image : List ℕ) where
@@ -152,7 +156,7 @@ module _ {D : Type 0} (host : Ghosts D) (extent : Extent) (store image : List �
   pub record ExportEnds (old new : D) (status : Status) : Type 0 where
     pub over : IsTrue host.is_told → IsRefused host store old new status ⊎ IsExported old new status
     -- where each state that a stop could leave before opens as one commit
-    pub stays : IsTrue host.is_told → IsNoFileOf store image → (c : Commit) → All IsDefinition (all_of c) → IsAtRest host (OpensAs store) c old → Stays host store c old new
+    pub stays : IsTrue host.is_told → IsNoFileOf store image → (c : Commit) → IsAtRest host (OpensAs store) c old → Stays host store c old new
     -- without a fault of the host a store that opens is exported, or there was no memory
     pub complete : IsTrue host.is_told → (c : Commit) (r : Replayed) → OpensWhole store (host.files old) c r → IsCalm host ⊥ old new
         → (status ≡ Done) ⊎ (status ≡ OutOfMemory)

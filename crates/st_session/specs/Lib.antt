@@ -10,6 +10,7 @@ pub mod Watching
 pub mod Answers
 pub mod Traces
 pub mod Sessions
+pub mod Resting
 pub mod Ends
 pub mod Standing
 pub mod Stretches
@@ -22,5 +23,6 @@ pub mod Builds
 pub mod Drills
 pub mod StoreSessions
 pub mod Exports
+pub mod Joining
 pub mod Calls
 pub mod Reports

@@ -1,5 +1,5 @@
 -- How the making of a store of an image ends, whatever the image comes from.
-use Rattle.std.specs.Prelude.{◌≡◌, ◌⊎◌, ℕ, List, [], ◌∷◌, ◌++◌, codes, IsTrue, ⊤}
+use Rattle.std.specs.Prelude.{◌≡◌, ◌⊎◌, ℕ, List, [], ◌∷◌, ◌++◌, codes, Option, IsTrue, ⊤}
 use Rattle.st_host.specs.Counts.{Rose}
 use Rattle.st_host.specs.Files.{Files, bytes_of}
 use Rattle.st_host.specs.Runs.{LeavesOnly, IsAtRest}
@@ -58,6 +58,19 @@ IsUnread wrong (Store _) = ⊥
 IsUnread wrong OutOfMemory = ⊤
 IsUnread wrong status = wrong status
 
+-- The statuses in which no store was begun.
+abbrev pub IsUnbegun : Status → Type 0
+IsUnbegun Done = ⊥
+IsUnbegun SayFault = ⊥
+IsUnbegun DiskFault = ⊥
+IsUnbegun _ = ⊤
+
+-- A run of calls that keeps all files: each reads as before, where no fault of the disk was counted, and a stop leaves of it no
+-- more than it could.
+pub record KeepsFiles {D : Type 0} (host : Ghosts D) (old new : D) : Type 0 where
+  pub alike : (Rose (host.disk_faults old) (host.disk_faults new) → ⊥) → IsTrue host.is_told → (n : List ℕ) → host.files new n ≡ host.files old n
+  pub fewer : IsTrue host.is_told → (n : List ℕ) (c : Option (List ℕ)) → host.may_leave new n c → host.may_leave old n c
+
 -- A command reads of what a store is to be made, which is `right` of some contents, or the status is one in which it is `wrong`.
 module _ {D : Type 0} (host : Ghosts D) (origin : Origin) (right : Contents → Type 0) (wrong : Status → Type 0) (store : List ℕ) where
   -- They were read, there was no store, and now there is one that holds them.
@@ -91,6 +104,8 @@ module _ {D : Type 0} (host : Ghosts D) (origin : Origin) (right : Contents → 
   pub record MakingEnds (old new : D) (status : Status) : Type 0 where
     pub has : MakingHas old new status
     pub moments : IsTrue host.is_told → LeavesOnly host old new (IsMaking old)
+    -- what is refused, also for want of memory, was not begun
+    pub unbegun : IsUnbegun status → KeepsFiles host old new
     -- files but the three that a new store has
     pub alone : LeavesAlone host (IsNoFirstFile store) old new
     -- without a fault of the host what is right becomes a store, where there was none, or there was no memory

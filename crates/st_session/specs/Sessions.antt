@@ -15,6 +15,14 @@ use Rattle.st_session.specs.Answers.{answer}
 abbrev pub longest : ℕ
 longest = 4294967296
 
+-- what a script asks for, where it isn't too long; of one that is, what its first 2^32 bytes tell
+abbrev pub asked_where : List ℕ → Bool → List Asked
+asked_where script true = asked_from (line_from 1) script
+asked_where script false = told_from (line_from 1) (take longest script)
+
+abbrev pub asked_in : List ℕ → List Asked
+asked_in script = asked_where script (nat_le (length script) longest)
+
 module _ {C : Type 0} (keeping : Keeping C) (install : Install) where
   -- these requests, one after the other
   abbrev pub follow : Point C → List Asked → Course C (Point C)
@@ -24,6 +32,10 @@ module _ {C : Type 0} (keeping : Keeping C) (install : Install) where
   -- what these bytes tell to be asked for, however the script goes on
   abbrev pub follow_told : Point C → List ℕ → Course C (Point C)
   follow_told p front = follow p (told front)
+
+  -- after what is said first, these requests, one after the other
+  abbrev pub session_of : ℕ → List Loss → Point C → List Asked → Course C (Point C)
+  session_of replayed lost p asked = preceded (Reply (opening_text replayed lost) ∷ []) (follow p asked)
 
   -- what is left of a script, where so many bytes may come
   abbrev pub follow_rest : Reading → ℕ → Point C → List ℕ → Bool → Course C (Point C)

@@ -8,13 +8,14 @@ use Rattle.st_model.specs.Show.{Shows}
 use Rattle.st_model.specs.View.{View}
 use Rattle.st_frames.specs.Shown.{IsReady, shown}
 use Rattle.st_machine.specs.declared.machine.Machine.{Machine}
+use Rattle.st_chunk.specs.Scripts.{Asked}
 use Rattle.st_store.specs.Names.{IsNoFileOf}
 use Rattle.st_protocol.specs.declared.status.Status.{Status}
 use Rattle.st_protocol.specs.Courses.{Course}
 use Rattle.st_protocol.specs.Obeying.{Obeys}
 use Rattle.st_recover.specs.Archives.{ArchiveState, Holds}
 use Rattle.st_recover.specs.Commits.{Commit, OpensAs}
-use Rattle.st_session.specs.Ends.{DidTold}
+use Rattle.st_session.specs.Ends.{DidTold, DidSome}
 use Rattle.st_session.specs.Points.{Being, Alive, Gone, Point}
 
 -- a machine with this death, which shows this table, is this
@@ -55,3 +56,8 @@ module _ {M : Type 0} (view : M → View) where
     abbrev pub FollowsTold : (Point Commit → List ℕ → Course Commit (Point Commit)) → List ℕ → List ℕ → Machine M → ArchiveState → D → D → Type 0
     FollowsTold course script left m a old new = (p : Point Commit) → IsAt m a old p
         → DidTold host (OpensAs a.name) (IsNoFileOf a.name) p.kept (course p) script left old new
+
+    -- From wherever they stand, some first ones of these requests were answered, and nothing else was done.
+    abbrev pub FollowsSome : (Point Commit → List Asked → Course Commit (Point Commit)) → List Asked → Machine M → ArchiveState → D → D → Type 0
+    FollowsSome course asked m a old new = (p : Point Commit) → IsAt m a old p
+        → DidSome host (OpensAs a.name) (IsNoFileOf a.name) p.kept (course p) asked old new

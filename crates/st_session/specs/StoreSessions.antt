@@ -1,22 +1,20 @@
 -- How a session over a store ends.
-use Rattle.std.specs.Prelude.{◌≡◌, ◌⊎◌, ℕ, List, ◌∷◌, IsTrue, ⊤, All}
-use Rattle.st_host.specs.Counts.{Rose}
+use Rattle.std.specs.Prelude.{◌≡◌, ◌≢◌, ◌⊎◌, ℕ, List, ◌∷◌, IsTrue, ⊤}
 use Rattle.st_host.specs.Files.{Files}
 use Rattle.st_host.specs.Runs.{LeavesOnly, ReadsAndSays, NarrowsBut, Spares, IsAtRest}
 use Rattle.st_host.specs.Stops.{SaidPart}
 use Rattle.st_host.specs.declared.host.Host.{Ghosts}
-use Rattle.st_chunk.specs.Definitions.{IsDefinition}
 use Rattle.st_store.specs.Names.{roots_file, IsNoFileOf}
-use Rattle.st_store.specs.Stored.{IsOpening}
+use Rattle.st_store.specs.Stored.{Stored, Opens, IsOpening}
 use Rattle.st_store.specs.declared.fault.StoreFault.TheVariants as store
 use Rattle.st_protocol.specs.declared.status.Status.{Status}
-use Rattle.st_protocol.specs.declared.status.Status.TheVariants.{Done, Usage, Image, Script, ReadFault, SayFault, DiskFault, Store, Kernel, TooLarge, OutOfMemory}
+use Rattle.st_protocol.specs.declared.status.Status.TheVariants.{Done, Usage, Image, DiskFault, Store, Kernel, OutOfMemory}
 use Rattle.st_protocol.specs.Acknowledged.{Promised}
 use Rattle.st_protocol.specs.Courses.{Course, deeds_of, commits_of, IsEnd}
 use Rattle.st_protocol.specs.Done.{RestsAsOne}
 use Rattle.st_install.specs.Defining.{installed}
-use Rattle.st_recover.specs.Commits.{Commit, OpensAs, all_of}
-use Rattle.st_recover.specs.Openings.{Reopens, RefusesOpening}
+use Rattle.st_recover.specs.Commits.{Commit, OpensAs}
+use Rattle.st_recover.specs.Openings.{Reopens, RefusesOpening, IsOfNamed}
 use Rattle.st_recover.specs.Replays.{Replayed}
 use Rattle.st_recover.specs.declared.fault.OpenFault.{OpenFault}
 use Rattle.st_recover.specs.declared.fault.OpenFault.TheVariants as opening
@@ -25,6 +23,7 @@ use Rattle.st_session.specs.Commands.{opening_status}
 use Rattle.st_session.specs.Ends.{IsCalm, NoCountFell, SessionEnds}
 use Rattle.st_session.specs.Opening.{session_over, session_so_far_over}
 use Rattle.st_session.specs.Points.{Point}
+use Rattle.st_session.specs.Resting.{RestsBroken, RestsAcknowledged}
 
 -- the course of a session over what a commit opens as
 abbrev pub course_over : Commit → Replayed → List ℕ → Course Commit (Point Commit)
@@ -37,7 +36,6 @@ commits_over c r script = c ∷ commits_of (deeds_of (course_over c r script))
 -- These files open as a commit, and the session over it follows the script to its end.
 pub record IsWholeSession (name : List ℕ) (f : Files) (script : List ℕ) : Type 0 where
   pub commit : Commit
-  pub good : All IsDefinition (all_of commit)
   pub opens : OpensAs name commit f
   pub replayed : Replayed
   pub reopens : Reopens installed commit replayed
@@ -56,19 +54,22 @@ IsOfSession told name f _ = ⊤
 
 module _ {D : Type 0} (host : Ghosts D) (name : List ℕ) where
   -- The store isn't opened, and nothing but the last line is said. A stop at any moment leaves what it could leave before, or
-  -- files that open as those that were read.
+  -- files that open as those that were read, and of every other file what it could leave. No other file is touched.
   pub record IsRefused (old new : D) (status : Status) : Type 0 where
     pub fault : OpenFault
     pub is : status ≡ opening_status fault
     pub why : RefusesOpening name (host.files old) fault
     pub line : SaysLastLine host status old new
     pub moments : LeavesOnly host old new (λ f s. SaidPart (host.said old) (last_line status) s × IsOpening host old name f)
+    pub elsewhere : LeavesOnly host old new (λ f s. (n : List ℕ) → n ≢ roots_file name → host.may_leave old n (f n))
+    -- where the image or the changes are refused, each state that a stop may leave behind it opens as what was read
+    pub rests : IsOfNamed fault → (c : Stored) → Opens name c (host.files old) → IsAtRest host (Opens name) c new
+    pub spares : Spares host (IsNoFileOf name) old new
 
   -- The store is opened as the commit that its files hold, and a session over this goes on, from where nothing was said yet. The
   -- last line is said behind it.
   pub record IsFollowed (script left : List ℕ) (old new : D) (status : Status) : Type 0 where
     pub commit : Commit
-    pub good : All IsDefinition (all_of commit)
     pub opens : OpensAs name commit (host.files old)
     pub replayed : Replayed
     pub reopens : Reopens installed commit replayed
@@ -86,17 +87,20 @@ module _ {D : Type 0} (host : Ghosts D) (name : List ℕ) where
     pub behind : ReadsAndSays host (last_line status) closed new
 
   -- At each moment the files open as the commit whose number is that of the commits acknowledged by then, or as the next. Behind
-  -- it each state that a stop may leave opens as one of them, unless a fault of the disk came.
+  -- it each state that a stop may leave opens as one of them, or, where a fault of the disk came, as one of two that follow each
+  -- other. Where there was no memory it opens as the one whose number is that of the commits acknowledged: nothing else is kept.
   pub record KeepsPromise (commits : List Commit) (old new : D) (status : Status) : Type 0 where
     pub moments : LeavesOnly host old new (Promised (OpensAs name) commits (host.said old))
     pub rests : (status ≡ DiskFault → ⊥) → RestsAsOne host (OpensAs name) commits new
+    pub broken : status ≡ DiskFault → RestsBroken host (OpensAs name) commits new
+    pub starved : status ≡ OutOfMemory → RestsAcknowledged host (OpensAs name) commits (host.said old) new
 
   -- How the command session ends, over the bytes of the script, of which the source still has `left`. `read` says that it tells
   -- these, and `reads` that it had a fault.
   pub record SessionCommandEnds (read reads : Type 0) (script left : List ℕ) (old new : D) (status : Status) : Type 0 where
     pub over : IsTrue host.is_told → read → IsRefused old new status ⊎ IsFollowed script left old new status
     -- where each state that a stop could leave before opens as one commit
-    pub promise : IsTrue host.is_told → read → (c : Commit) → All IsDefinition (all_of c) → IsAtRest host (OpensAs name) c old
+    pub promise : IsTrue host.is_told → read → (c : Commit) → IsAtRest host (OpensAs name) c old
         → (r : Replayed) → Reopens installed c r → KeepsPromise (commits_over c r script) old new status
     -- without a fault of host and source a session that follows its script to the end is done, or there was no memory
     pub complete : IsTrue host.is_told → read → IsWholeSession name (host.files old) script → IsCalm host reads old new

@@ -1,4 +1,4 @@
-ghost use Rattle.std.specs.Prelude.{◌≡◌, IfErr, None, Some, OnOk};
+ghost use Rattle.std.specs.Prelude.{◌≡◌, IfErr, IsErrOf, None, Some, OnOk};
 ghost use Rattle.st_host.specs.Telling.{Says};
 ghost use Rattle.st_model.specs.Machine.{State};
 ghost use Rattle.st_model.specs.Births.{Births, births};
@@ -9,6 +9,7 @@ ghost use Rattle.st_input.specs.Coming.{HasPlace};
 ghost use Rattle.st_call.specs.Saying.{Pushes};
 ghost use Rattle.st_chunk.specs.Lines.{IsInRange};
 ghost use Rattle.st_protocol.specs.Statuses.{Counts};
+ghost use Rattle.st_protocol.specs.declared.status.Status.TheVariants.{OutOfMemory};
 ghost use Rattle.st_recover.specs.Commits.{Commit};
 ghost use Rattle.st_session.specs.Answers.{event_course, line_course, living_line};
 ghost use Rattle.st_session.specs.Asking.{IsSaying};
@@ -116,6 +117,7 @@ fn say_answer<H: Host, M: Memory>(
         machine.old archive.now host.old result machine.new archive.now host.new }
     ensures counts { Counts H.Host.own ⊥ host.old host.new result }
     ensures served { IfErr result IsOfServing }
+    ensures ample { IsErrOf result OutOfMemory → ⊥ }
 {
     let mut out = Output::new();
     match push_answer(&mut out, host, machine, request) {
@@ -140,6 +142,7 @@ fn answer_living<H: Host, M: Memory>(
         machine.old archive.old host.old result machine.new archive.new host.new }
     ensures counts { Counts H.Host.own ⊥ host.old host.new result }
     ensures served { IfErr result IsOfServing }
+    ensures ample { IsErrOf result OutOfMemory → ⊥ }
 {
     match request {
         Request::End => Err(Status::Done),
@@ -166,6 +169,7 @@ fn answer_dead<H: Host, M: Memory>(
         machine.now archive.now host.old result machine.now archive.now host.new }
     ensures counts { Counts H.Host.own ⊥ host.old host.new result }
     ensures served { IfErr result IsOfServing }
+    ensures ample { IsErrOf result OutOfMemory → ⊥ }
 {
     match request {
         Request::End => Err(Status::Done),
@@ -189,6 +193,7 @@ pub(crate) fn answer_line<H: Host, M: Memory>(
         machine.old archive.old host.old result machine.new archive.new host.new }
     ensures counts { Counts H.Host.own ⊥ host.old host.new result }
     ensures served { IfErr result IsOfServing }
+    ensures ample { IsErrOf result OutOfMemory → ⊥ }
 {
     match machine.death() {
         Some(cause) => answer_dead(host, machine, archive, cause, request),

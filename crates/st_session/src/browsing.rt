@@ -1,6 +1,7 @@
-ghost use Rattle.std.specs.Prelude.{◌≡◌, IfErr, None, OnOk};
+ghost use Rattle.std.specs.Prelude.{◌≡◌, IfErr, IsErrOf, None, OnOk};
 ghost use Rattle.st_chunk.specs.Asks.{ask_of};
 ghost use Rattle.st_protocol.specs.Statuses.{Counts};
+ghost use Rattle.st_protocol.specs.declared.status.Status.TheVariants.{OutOfMemory};
 ghost use Rattle.st_session.specs.Answers.{browse_course};
 ghost use Rattle.st_session.specs.Browsing.{asked_text};
 ghost use Rattle.st_call.specs.Telling.{IsOfServing};
@@ -52,6 +53,7 @@ fn answer_named<H: Host, M: Memory>(
         machine.old archive.old host.old result machine.new archive.new host.new }
     ensures counts { Counts H.Host.own ⊥ host.old host.new result }
     ensures served { IfErr result IsOfServing }
+    ensures ample { IsErrOf result OutOfMemory → ⊥ }
 {
     match ask {
         Ask::Until(cycles, side, selector) => {
@@ -76,6 +78,7 @@ pub(crate) fn answer_ask<H: Host, M: Memory>(
         machine.old archive.old host.old result machine.new archive.new host.new }
     ensures counts { Counts H.Host.own ⊥ host.old host.new result }
     ensures served { IfErr result IsOfServing }
+    ensures ample { IsErrOf result OutOfMemory → ⊥ }
 {
     match machine.death() {
         Some(cause) => say_reply(host, Reply::Died { finished: 0, cause }),

@@ -82,7 +82,7 @@ pub fn session<H: Host, L: Loader, S: Source>(
 {
     match reopen::<Compiler, L, H>(alloc, host, store) {
         Ok(opened) => {
-            let status = serve::<H, L::Done, S>(alloc, host, script, opened);
+            let status = serve::<L::Done, H, S>(alloc, host, script, opened);
             refuse(host, status);
             status
         }

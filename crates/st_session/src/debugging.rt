@@ -1,10 +1,11 @@
 // Lines of a debugger.
-ghost use Rattle.std.specs.Prelude.{◌≡◌, IfErr, None, OnOk};
+ghost use Rattle.std.specs.Prelude.{◌≡◌, IfErr, IsErrOf, None, OnOk};
 ghost use Rattle.st_model.specs.Show.{show};
 ghost use Rattle.st_model.specs.Values.{value};
 ghost use Rattle.st_browse.specs.Asked.{method_of_side};
 ghost use Rattle.st_chunk.specs.Asks.{side_of};
 ghost use Rattle.st_protocol.specs.Statuses.{Counts};
+ghost use Rattle.st_protocol.specs.declared.status.Status.TheVariants.{OutOfMemory};
 ghost use Rattle.st_debug.specs.Stack.{stack_text};
 ghost use Rattle.st_call.specs.Telling.{IsOfServing, Tells};
 ghost use Rattle.st_session.specs.Answers.{going_on, until_course};
@@ -44,6 +45,7 @@ pub(crate) fn run_until<H: Host, M: Memory>(
         machine.old archive.old host.old result machine.new archive.new host.new }
     ensures counts { Counts H.Host.own ⊥ host.old host.new result }
     ensures served { IfErr result IsOfServing }
+    ensures ample { IsErrOf result OutOfMemory → ⊥ }
 {
     match find_method(machine.memory(), side, selector) {
         Some(method) => run(host, machine, archive, Watch::Entry(method), cycles),

@@ -1,7 +1,15 @@
 //! Laws of the definitions.
 
+ghost use Rattle.std.specs.Prelude.{ℕ, List, IsTrue};
+ghost use Rattle.st_image.specs.declared.head.HeadValues.{HeadValues};
+ghost use Rattle.st_session.specs.declared.making.Origin.TheVariants.{Image as FromImage, Kernel as FromKernel};
+ghost use Rattle.st_session.specs.Builds.{Builds, IsWrongKernel};
+ghost use Rattle.st_session.specs.Imports.{ReadsAs, IsWrongImage};
+ghost use Rattle.st_session.specs.Joining.{RestJoins, SessionJoins, ExportJoins, MakingJoins};
 ghost use Rattle.st_session.specs.Reports.{RunIsSaid};
 ghost use Rattle.st_session.specs.Traces.{TraceIsRun};
+
+use st_host::Host;
 
 /// What is said of cycles, one after the other, is what is said where their run ends, by the number that are finished, whatever is
 /// shown of a machine then.
@@ -13,4 +21,17 @@ pub fn run_is_said()
 /// lines say, in order, the contexts and the bytecodes of the run's cycles.
 pub fn trace_is_run()
     ensures { TraceIsRun }
+{}
+
+/// What a call leaves meets what the next call asks for as it begins: where it left the store at rest, and no stop came; and after a
+/// stop at any moment of it, over whatever host: behind a session that kept its promise, behind an export, and behind the making of a
+/// store, once it was said that it is made.
+pub fn calls_join<H: Host, N: Host>()
+    ensures rest { RestJoins H.Host.own }
+    ensures session { SessionJoins H.Host.own N.Host.own }
+    ensures export { ExportJoins H.Host.own N.Host.own }
+    ensures import { (over : HeadValues) (image : List ℕ) → MakingJoins H.Host.own N.Host.own FromImage
+        (ReadsAs over image) (IsWrongImage (IsTrue H.is_told) over image) }
+    ensures build { (text : List ℕ) → MakingJoins H.Host.own N.Host.own FromKernel
+        (Builds text) (IsWrongKernel (IsTrue H.is_told) text) }
 {}

@@ -18,8 +18,9 @@ ghost use Rattle.st_install.specs.Defining.{installed};
 ghost use Rattle.st_session.specs.Ends.{IsCalm, NoCountFell, SessionEnds, status_in};
 ghost use Rattle.st_call.specs.Telling.{IsOfServing};
 ghost use Rattle.st_session.specs.Keeping.{in_a_store};
-ghost use Rattle.st_session.specs.Sessions.{follow, follow_script, session, session_so_far, follow_told};
-ghost use Rattle.st_session.specs.Standing.{MayGoOn, Follows, FollowsTold};
+ghost use Rattle.st_session.specs.Sessions.{follow, follow_script, follow_told, asked_in};
+ghost use Rattle.st_session.specs.Sessions.{session, session_so_far, session_of};
+ghost use Rattle.st_session.specs.Standing.{MayGoOn, Follows, FollowsTold, FollowsSome};
 ghost use Rattle.st_session.specs.Opening.{IsOpen, session_over, session_so_far_over};
 
 use crate::first_lines::say_opening;
@@ -54,6 +55,7 @@ fn feed<H: Host, M: Memory>(
         machine.old archive.old host.old result machine.new archive.new host.new }
     ensures counts { Counts H.Host.own ⊥ host.old host.new result }
     ensures served { IfErr result IsOfServing }
+    ensures starved { IsErrOf result OutOfMemory → host.new ≡ host.old }
 {
     let request = reader.feed(byte);
     answer_told(alloc, host, machine, archive, reader, request)
@@ -77,6 +79,9 @@ fn feed_all<H: Host, M: Memory>(
         machine.old archive.old host.old result machine.new archive.new host.new }
     ensures counts { Counts H.Host.own ⊥ host.old host.new result }
     ensures served { IfErr result IsOfServing }
+    ensures starved { IsErrOf result OutOfMemory → FollowsSome M.view H.Host.own
+        (follow in_a_store installed) (told_from reader.old bytes.now)
+        machine.old archive.old host.old host.new }
 {
     for byte in bytes {
         match feed(alloc, host, machine, archive, reader, *byte) {
@@ -104,6 +109,7 @@ fn end<H: Host, M: Memory>(
         machine.old archive.old host.old result machine.new archive.new host.new }
     ensures counts { Counts H.Host.own ⊥ host.old host.new result }
     ensures served { IfErr result IsOfServing }
+    ensures starved { IsErrOf result OutOfMemory → host.new ≡ host.old }
 {
     let request = reader.finish();
     answer_told(alloc, host, machine, archive, reader, request)
@@ -123,6 +129,9 @@ fn finish<H: Host, M: Memory>(
         machine.old archive.old host.old result machine.new archive.new host.new }
     ensures counts { Counts H.Host.own ⊥ host.old host.new result }
     ensures served { IfErr result IsOfServing }
+    ensures starved { IsErrOf result OutOfMemory → FollowsSome M.view H.Host.own
+        (follow in_a_store installed) (asked_at_end reader.old)
+        machine.old archive.old host.old host.new }
 {
     match end(alloc, host, machine, archive, reader) {
         Ok(()) => match end(alloc, host, machine, archive, reader) {
@@ -148,6 +157,9 @@ fn feed_last<H: Host, M: Memory>(
         machine.old archive.old host.old result machine.new archive.new host.new }
     ensures counts { Counts H.Host.own ⊥ host.old host.new result }
     ensures served { IfErr result IsOfServing }
+    ensures starved { IsErrOf result OutOfMemory → FollowsSome M.view H.Host.own
+        (follow in_a_store installed) (told_from reader.old bytes.now)
+        machine.old archive.old host.old host.new }
 {
     match feed_all(alloc, host, machine, archive, reader, bytes) {
         Ok(()) => Err(Status::TooLarge),
@@ -175,6 +187,9 @@ fn follow<H: Host, M: Memory, S: Source>(
     ensures counts { Counts H.Host.own (Rose (S.read_faults script.old) (S.read_faults script.new))
         host.old host.new result }
     ensures served { IfErr result IsOfServing }
+    ensures starved { IsErrOf result OutOfMemory → IsTrue S.is_told → FollowsSome M.view H.Host.own
+        (follow in_a_store installed) (asked_in (S.remaining script.old))
+        machine.old archive.old host.old host.new }
 {
     let mut left = LONGEST;
     let mut piece = [0; 512];
@@ -226,6 +241,9 @@ fn open<H: Host, M: Memory, S: Source>(
     ensures counts { Counts H.Host.own (Rose (S.read_faults script.old) (S.read_faults script.new))
         host.old host.new result }
     ensures served { IfErr result IsOfServing }
+    ensures starved { IsErrOf result OutOfMemory → IsTrue S.is_told → (host.new ≡ host.old) ⊎
+        FollowsSome M.view H.Host.own (session_of in_a_store installed replayed (losses_of lost.now))
+        (asked_in (S.remaining script.old)) machine.old archive.old host.old host.new }
 {
     let mut reader = match Reader::new(alloc) {
         Ok(reader) => reader,
@@ -250,7 +268,7 @@ pub(crate) fn status_of(answer: Result<(), Status>) -> Status
 /// Follows a script, line by line and group by group, over a store that was opened: over a machine that begins with its objects
 /// and registers, in an empty world. Answers the status in which that ends. A definition is in the store, synced, before it is said to be accepted, and a snapshot
 /// before its length is said. All memory but that of definitions is taken at the beginning.
-pub fn serve<H: Host, M: Memory, S: Source>(
+pub fn serve<M: Memory, H: Host, S: Source>(
     alloc: Global,
     host: &mut H,
     script: &mut S,

@@ -1,5 +1,5 @@
 // Runs and snapshots of a session, which keep images in the store.
-ghost use Rattle.std.specs.Prelude.{◌≡◌, ◌-◌, ◌≤◌, ◌<◌, IfErr, IfOk, IfSome, IsSome, None, OnOk};
+ghost use Rattle.std.specs.Prelude.{◌≡◌, ◌-◌, ◌≤◌, ◌<◌, IfErr, IfOk, IfSome, IsErrOf, IsSome, None, OnOk};
 ghost use Rattle.st_model.specs.Machine.{State};
 ghost use Rattle.st_model.specs.Births.{Births};
 ghost use Rattle.st_model.specs.Show.{Shows};
@@ -8,6 +8,7 @@ ghost use Rattle.st_image.specs.Back.{CanStart};
 ghost use Rattle.st_store.specs.Names.{IsNoFileOf};
 ghost use Rattle.st_protocol.specs.Obeying.{Obeys};
 ghost use Rattle.st_protocol.specs.Statuses.{Counts};
+ghost use Rattle.st_protocol.specs.declared.status.Status.TheVariants.{OutOfMemory};
 ghost use Rattle.st_recover.specs.Archives.{Holds};
 ghost use Rattle.st_recover.specs.Commits.{Commit, OpensAs, image_with};
 ghost use Rattle.st_session.specs.Answers.{watched_course, going_on};
@@ -39,6 +40,7 @@ fn keep_image<H: Host, M: Memory>(host: &mut H, m: &M, archive: &mut Archive) ->
         (Holds H.Host.own host.new archive.new) (λ d. d) c (imaging c image) result host.old host.new }
     ensures counts { Counts H.Host.own ⊥ host.old host.new result }
     ensures served { IfErr result IsOfServing }
+    ensures ample { IsErrOf result OutOfMemory → ⊥ }
 {
     match archive.snapshot(host, m) {
         Ok(length) => say_reply(host, Reply::Snapshot(length)),
@@ -63,6 +65,7 @@ pub(crate) fn snapshot<H: Host, M: Memory>(
         machine.old archive.old host.old result machine.new archive.new host.new }
     ensures counts { Counts H.Host.own ⊥ host.old host.new result }
     ensures served { IfErr result IsOfServing }
+    ensures ample { IsErrOf result OutOfMemory → ⊥ }
 {
     match machine.save() {
         Ok(()) => keep_image(host, machine.memory(), archive),
@@ -90,6 +93,7 @@ fn say_stretch<H: Host, M: Memory>(
         (watched_stretch (look_of watch) finished (cycles - finished) s) host.old host.new result }
     ensures counts { Counts H.Host.own ⊥ host.old host.new (went result) }
     ensures served { IfErr result IsOfServing }
+    ensures ample { IsErrOf result OutOfMemory → ⊥ }
 {
     let mut out = Output::new();
     match push_run_on(&mut out, host, machine, watch, finished, cycles) {
@@ -118,6 +122,7 @@ pub(crate) fn run<H: Host, M: Memory>(
         machine.old archive.old host.old result machine.new archive.new host.new }
     ensures counts { Counts H.Host.own ⊥ host.old host.new result }
     ensures served { IfErr result IsOfServing }
+    ensures ample { IsErrOf result OutOfMemory → ⊥ }
 {
     let mut finished = 0;
     'stretches: loop {

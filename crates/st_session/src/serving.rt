@@ -1,10 +1,11 @@
-ghost use Rattle.std.specs.Prelude.{◌≡◌, None, Some, OnOk, IfErr, IfSome};
+ghost use Rattle.std.specs.Prelude.{◌≡◌, None, Some, OnOk, IfErr, IfSome, IsErrOf};
 ghost use Rattle.st_chunk.specs.Definitions.{IsDefinition};
 ghost use Rattle.st_chunk.specs.declared.request.Request.TheVariants.{Browse as Browsing, Define as Defining};
 ghost use Rattle.st_chunk.specs.ScriptDefinitions.{definition_of};
 ghost use Rattle.st_chunk.specs.Lines.{IsInRange};
 ghost use Rattle.st_chunk.specs.Scripts.{IsBrowsed, IsDefined, asked_at, asked_by};
 ghost use Rattle.st_protocol.specs.Statuses.{Counts};
+ghost use Rattle.st_protocol.specs.declared.status.Status.TheVariants.{OutOfMemory};
 ghost use Rattle.st_install.specs.Defining.{installed};
 ghost use Rattle.st_install.specs.Prepareds.{IsPrepared};
 ghost use Rattle.st_session.specs.Answers.{answer, definition_course};
@@ -46,6 +47,7 @@ fn accept<H: Host, M: Memory>(
         machine.old archive.old host.old result machine.new archive.new host.new }
     ensures counts { Counts H.Host.own ⊥ host.old host.new result }
     ensures served { IfErr result IsOfServing }
+    ensures starved { IsErrOf result OutOfMemory → host.new ≡ host.old }
 {
     match archive.accept(alloc, host, definition) {
         Ok(()) => {
@@ -79,6 +81,7 @@ fn define<H: Host, M: Memory>(
         machine.old archive.old host.old result machine.new archive.new host.new }
     ensures counts { Counts H.Host.own ⊥ host.old host.new result }
     ensures served { IfErr result IsOfServing }
+    ensures starved { IsErrOf result OutOfMemory → host.new ≡ host.old }
 {
     let unprepared = match prepare(alloc, machine.memory(), definition) {
         Ok(prepared) => return accept(alloc, host, machine, archive, definition, prepared),
@@ -107,6 +110,7 @@ fn answer_definition<H: Host, M: Memory>(
         machine.old archive.old host.old result machine.new archive.new host.new }
     ensures counts { Counts H.Host.own ⊥ host.old host.new result }
     ensures served { IfErr result IsOfServing }
+    ensures starved { IsErrOf result OutOfMemory → host.new ≡ host.old }
 {
     match machine.death() {
         Some(cause) => say_reply(host, Reply::Died { finished: 0, cause }),
@@ -134,6 +138,7 @@ fn answer_request<H: Host, M: Memory>(
         machine.old archive.old host.old result machine.new archive.new host.new }
     ensures counts { Counts H.Host.own ⊥ host.old host.new result }
     ensures served { IfErr result IsOfServing }
+    ensures starved { IsErrOf result OutOfMemory → host.new ≡ host.old }
 {
     match request {
         Request::Browse => answer_ask(host, machine, archive, reader.ask()),
@@ -164,6 +169,7 @@ pub(crate) fn answer_told<H: Host, M: Memory>(
         machine.old archive.old host.old result machine.new archive.new host.new }
     ensures counts { Counts H.Host.own ⊥ host.old host.new result }
     ensures served { IfErr result IsOfServing }
+    ensures starved { IsErrOf result OutOfMemory → host.new ≡ host.old }
 {
     match request {
         Some(request) => answer_request(alloc, host, machine, archive, reader, request),

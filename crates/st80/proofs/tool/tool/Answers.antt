@@ -1,68 +1,106 @@
-use Rattle.std.proofs.Common.{◌≡◌, ◌∙◌, ℕ, List, [], Option, Some, sym, ap, subst}
-use Rattle.st_host.specs.Files.{bytes_of}
+use Rattle.std.proofs.Common.{◌∙◌, sym, ap, refl, map}
+use Rattle.std.specs.Prelude.{Some}
+use Rattle.std.specs.String.{string_bytes}
+use Rattle.st_host.specs.Counts.{Rose}
 use Rattle.st_call.specs.declared.words.Command as declared
 use Rattle.st_call.specs.CommandViews.{command_view}
-use Rattle.st_image.specs.declared.head.HeadValues.{HeadValues}
-use Rattle.st_session.specs.Builds.{BuildEnds}
-use Rattle.st_session.specs.Commands.{OnceEnds}
-use Rattle.st_session.specs.Drills.{DrillEnds}
-use Rattle.st_session.specs.Imports.{ImportEnds}
-use Rattle.st_call.specs.Words.{Command, Once, Import, Build, Drill}
+use Rattle.st_call.specs.Words.{Once, Import, Export, Clean, Session, Build, Drill}
+use Rattle.st_session.proofs.Called.{caused_by_none, command_ends, usage_ends}
 use Rattle.st80.proofs.tool.tool.Goals as goal
 
-abbrev image_in : Option Command → List ℕ
-image_in (Some (Once image n)) = image
-image_in _ = []
-
-abbrev cycles_in : Option Command → ℕ
-cycles_in (Some (Once image n)) = n
-cycles_in _ = 0
-
-same_image : (a b : List ℕ) (n m : ℕ) → Some (Once a n) ≡ Some (Once b m) → a ≡ b
-same_image a b n m e = ap image_in e
-
-same_cycles : (a b : List ℕ) (n m : ℕ) → Some (Once a n) ≡ Some (Once b m) → n ≡ m
-same_cycles a b n m e = ap cycles_in e
-
-pub returns-in-Some-Once-clause-once : goal.returns-in-Some-Once-clause-once
-returns-in-Some-Once-clause-once g c image n is =
+pub returns-in-Some-Once : goal.returns-in-Some-Once
+returns-in-Some-Once g c =
     let arm = c.in-Some-Once in
-    let said : Some (Once arm.image.now arm.cycles) ≡ Some (Once image n) = sym (ap (λ (x : declared.Command). Some (command_view x)) arm.field-0-is) ∙ (arm.ensures ∙ is) in
+    let host = g.H.Host in
     let old = c.args.host.now in
     let new = c.once.new.host in
-    let result = c.once.result in
-    subst (λ (m : ℕ). OnceEnds g.H.Host (bytes_of (g.H.Host.files old image)) m old new result) (same_cycles arm.image.now image arm.cycles n said)
-    (subst (λ (i : List ℕ). OnceEnds g.H.Host (bytes_of (g.H.Host.files old i)) arm.cycles old new result) (same_image arm.image.now image arm.cycles n said) c.once.ensures.ends)
+    let script = c.args.script.now in
+    let reads = Rose (g.S.Source.read_faults script) (g.S.Source.read_faults script) in
+    record {
+      ends = command_ends host (map string_bytes c.args.words.now) _ reads (g.S.Source.remaining script) (g.S.Source.remaining script) old new c.once.result (Once arm.image.now arm.cycles)
+          (sym arm.ensures ∙ ap (λ (x : declared.Command). Some (command_view x)) arm.field-0-is) c.once.ensures.ends (caused_by_none host reads old new c.once.result c.once.ensures.cause) (λ only. c.once.ensures.reads);
+    }
 
--- what is so of an import's words, of a build's, and of a drill's
-abbrev OfImport : (List ℕ → List ℕ → HeadValues → Type 0) → Option Command → Type 0
-OfImport P (Some (Import image store over)) = P image store over
-OfImport P _ = ⊥
-
-abbrev OfBuild : (List ℕ → List ℕ → Type 0) → Option Command → Type 0
-OfBuild P (Some (Build kernel store)) = P kernel store
-OfBuild P _ = ⊥
-
-abbrev OfDrill : (ℕ → Type 0) → Option Command → Type 0
-OfDrill P (Some (Drill number)) = P number
-OfDrill P _ = ⊥
-
-pub returns-in-Some-Import-clause-imports : goal.returns-in-Some-Import-clause-imports
-returns-in-Some-Import-clause-imports g c image store over is =
+pub returns-in-Some-Import : goal.returns-in-Some-Import
+returns-in-Some-Import g c =
     let arm = c.in-Some-Import in
-    let said : Some (Import arm.image.now arm.store.now arm.over) ≡ Some (Import image store over) = sym (ap (λ (x : declared.Command). Some (command_view x)) arm.field-0-is) ∙ (arm.ensures ∙ is) in
+    let host = g.H.Host in
     let old = c.args.host.now in
-    subst (OfImport (λ i s o. ImportEnds g.H.Host o (bytes_of (g.H.Host.files old i)) s old c.import.new.host c.import.result)) said c.import.ensures.ends
+    let new = c.import.new.host in
+    let script = c.args.script.now in
+    let reads = Rose (g.S.Source.read_faults script) (g.S.Source.read_faults script) in
+    record {
+      ends = command_ends host (map string_bytes c.args.words.now) _ reads (g.S.Source.remaining script) (g.S.Source.remaining script) old new c.import.result (Import arm.image.now arm.store.now arm.over)
+          (sym arm.ensures ∙ ap (λ (x : declared.Command). Some (command_view x)) arm.field-0-is) c.import.ensures.ends (caused_by_none host reads old new c.import.result c.import.ensures.cause) (λ only. absurd only);
+    }
 
-pub returns-in-Some-Build-clause-builds : goal.returns-in-Some-Build-clause-builds
-returns-in-Some-Build-clause-builds g c kernel store is =
+pub returns-in-Some-Export : goal.returns-in-Some-Export
+returns-in-Some-Export g c =
+    let arm = c.in-Some-Export in
+    let host = g.H.Host in
+    let old = c.args.host.now in
+    let new = c.export.new.host in
+    let script = c.args.script.now in
+    let reads = Rose (g.S.Source.read_faults script) (g.S.Source.read_faults script) in
+    record {
+      ends = command_ends host (map string_bytes c.args.words.now) _ reads (g.S.Source.remaining script) (g.S.Source.remaining script) old new c.export.result (Export arm.store.now arm.image.now)
+          (sym arm.ensures ∙ ap (λ (x : declared.Command). Some (command_view x)) arm.field-0-is) c.export.ensures.ends (caused_by_none host reads old new c.export.result c.export.ensures.cause) (λ only. absurd only);
+    }
+
+pub returns-in-Some-Clean : goal.returns-in-Some-Clean
+returns-in-Some-Clean g c =
+    let arm = c.in-Some-Clean in
+    let host = g.H.Host in
+    let old = c.args.host.now in
+    let new = c.export-in-Some-Clean.new.host in
+    let script = c.args.script.now in
+    let reads = Rose (g.S.Source.read_faults script) (g.S.Source.read_faults script) in
+    record {
+      ends = command_ends host (map string_bytes c.args.words.now) _ reads (g.S.Source.remaining script) (g.S.Source.remaining script) old new c.export-in-Some-Clean.result (Clean arm.store.now arm.image.now)
+          (sym arm.ensures ∙ ap (λ (x : declared.Command). Some (command_view x)) arm.field-0-is) c.export-in-Some-Clean.ensures.ends (caused_by_none host reads old new c.export-in-Some-Clean.result c.export-in-Some-Clean.ensures.cause) (λ only. absurd only);
+    }
+
+pub returns-in-Some-Build : goal.returns-in-Some-Build
+returns-in-Some-Build g c =
     let arm = c.in-Some-Build in
-    let said : Some (Build arm.kernel.now arm.store.now) ≡ Some (Build kernel store) = sym (ap (λ (x : declared.Command). Some (command_view x)) arm.field-0-is) ∙ (arm.ensures ∙ is) in
+    let host = g.H.Host in
     let old = c.args.host.now in
-    subst (OfBuild (λ k s. BuildEnds g.H.Host (bytes_of (g.H.Host.files old k)) s old c.build.new.host c.build.result)) said c.build.ensures.ends
+    let new = c.build.new.host in
+    let script = c.args.script.now in
+    let reads = Rose (g.S.Source.read_faults script) (g.S.Source.read_faults script) in
+    record {
+      ends = command_ends host (map string_bytes c.args.words.now) _ reads (g.S.Source.remaining script) (g.S.Source.remaining script) old new c.build.result (Build arm.kernel.now arm.store.now)
+          (sym arm.ensures ∙ ap (λ (x : declared.Command). Some (command_view x)) arm.field-0-is) c.build.ensures.ends (caused_by_none host reads old new c.build.result c.build.ensures.cause) (λ only. absurd only);
+    }
 
-pub returns-in-Some-Drill-clause-drills : goal.returns-in-Some-Drill-clause-drills
-returns-in-Some-Drill-clause-drills g c n is =
+pub returns-in-Some-Drill : goal.returns-in-Some-Drill
+returns-in-Some-Drill g c =
     let arm = c.in-Some-Drill in
-    let said : Some (Drill arm.number) ≡ Some (Drill n) = sym (ap (λ (x : declared.Command). Some (command_view x)) arm.field-0-is) ∙ (arm.ensures ∙ is) in
-    subst (OfDrill (λ m. DrillEnds g.H.Host m c.args.host.now c.drill.new.host c.drill.result)) said c.drill.ensures.ends
+    let host = g.H.Host in
+    let old = c.args.host.now in
+    let new = c.drill.new.host in
+    let script = c.args.script.now in
+    let reads = Rose (g.S.Source.read_faults script) (g.S.Source.read_faults script) in
+    record {
+      ends = command_ends host (map string_bytes c.args.words.now) _ reads (g.S.Source.remaining script) (g.S.Source.remaining script) old new c.drill.result (Drill arm.number)
+          (sym arm.ensures ∙ ap (λ (x : declared.Command). Some (command_view x)) arm.field-0-is) c.drill.ensures.ends (caused_by_none host reads old new c.drill.result c.drill.ensures.cause) (λ only. c.drill.ensures.says);
+    }
+
+pub returns-in-Some-Session : goal.returns-in-Some-Session
+returns-in-Some-Session g c =
+    let arm = c.in-Some-Session in
+    let host = g.H.Host in
+    let was = c.args.script.now in
+    let is = c.session.new.script in
+    record {
+      ends = command_ends host (map string_bytes c.args.words.now) _ (Rose (g.S.Source.read_faults was) (g.S.Source.read_faults is)) (g.S.Source.remaining was) (g.S.Source.remaining is) c.args.host.now c.session.new.host c.session.result (Session arm.store.now)
+          (sym arm.ensures ∙ ap (λ (x : declared.Command). Some (command_view x)) arm.field-0-is) c.session.ensures.ends c.session.ensures.cause (λ only. absurd only);
+    }
+
+pub returns-in-None : goal.returns-in-None
+returns-in-None g c =
+    let script = c.args.script.now in
+    record {
+      ends = usage_ends g.H.Host (map string_bytes c.args.words.now) _ (Rose (g.S.Source.read_faults script) (g.S.Source.read_faults script)) (g.S.Source.remaining script) (g.S.Source.remaining script) c.args.host.now c.refuse.new.host _
+          (sym c.in-None.ensures) refl c.refuse.ensures.line c.refuse.ensures.reads;
+    }

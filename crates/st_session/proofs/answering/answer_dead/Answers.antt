@@ -8,6 +8,7 @@ use Rattle.st_session.specs.Points.{gone}
 use Rattle.st_session.proofs.Responding.{ends_now, line_said}
 use Rattle.st_session.proofs.Lines.{dead_is}
 use Rattle.st_session.proofs.Points.{GoesAs, dead_answers}
+use Rattle.st_session.proofs.Starving.{never_starved}
 use Rattle.st_session.proofs.answering.answer_dead.Goals as goal
 
 pub returns-in-End-clause-follows : goal.returns-in-End-clause-follows
@@ -36,3 +37,6 @@ returns-in_default-clause-follows g c =
     dead_answers g.M.Memory.view g.H.Host m a old m a new (λ being k. line_course in_a_store being k c.args.request) c.say_reply.result cause c.requires.dead
     (λ k holds. subst (λ course. GoesAs g.M.Memory.view g.H.Host a.name m a old new k course c.say_reply.result) (sym (dead_is cause k c.args.request c.in_default.not-End c.in_default.not-Wrong))
     (line_said g.M.Memory.view g.H.Host m a k (dead_text 0 cause) (gone cause k) old new c.say_reply.result c.say_reply.ensures holds c.requires.dead refl))
+
+pub returns-in_default-clause-ample : goal.returns-in_default-clause-ample
+returns-in_default-clause-ample g c = λ none. never_starved c.say_reply.result c.say_reply.ensures.fault none

@@ -12,9 +12,9 @@ use Rattle.st_session.specs.Answers.{line_course}
 use Rattle.st_session.specs.Keeping.{in_a_store}
 use Rattle.st_session.specs.Points.{alive}
 use Rattle.st_session.proofs.Responding.{ends_now, stays_now, line_said}
-use Rattle.st_session.proofs.Watches.{run_is_watched}
 use Rattle.st_session.proofs.Lines.{says_lines, stays_alive}
 use Rattle.st_session.proofs.Points.{GoesAs, living_answers}
+use Rattle.st_session.proofs.Starving.{never_starved}
 use Rattle.st_session.proofs.answering.answer_living.Goals as goal
 
 pub returns-in-End-clause-follows : goal.returns-in-End-clause-follows
@@ -49,8 +49,7 @@ returns-in-Run-clause-follows g c =
     let a = c.args.archive.now in
     let called = c.run in
     living_answers view g.H.Host m a c.args.host.now called.new.machine called.new.archive called.new.host (λ being k. line_course in_a_store being k c.args.request) called.result c.requires.alive
-    (λ s k shows holds. rw c.in-Run.is (subst (λ course. GoesAs view g.H.Host a.name called.new.machine called.new.archive c.args.host.now called.new.host k course called.result) (run_is_watched in_a_store c.in-Run.cycles 0 s k)
-    (called.ensures.follows (alive s k) (record { stands = (c.requires.alive, shows); holds = holds }))))
+    (λ s k shows holds. rw c.in-Run.is (called.ensures.follows (alive s k) (record { stands = (c.requires.alive, shows); holds = holds })))
 
 pub returns-in-Trace-clause-follows : goal.returns-in-Trace-clause-follows
 returns-in-Trace-clause-follows g c =
@@ -70,6 +69,9 @@ returns-in-Stack-clause-follows g c =
     let same = show_is (shown_by view m) s shows (g.met.M.Memory.whole m.memory).places in
     rw c.in-Stack.is (line_said view g.H.Host m a k (stack_text (show s).memory (show s).registers.active) (alive s k) old new c.say_stack.result
     (subst (λ (x : State Table). Tells g.H.Host (stack_text x.memory x.registers.active) old new c.say_stack.result) (sym same) c.say_stack.ensures) holds (c.requires.alive, shows) refl))
+
+pub returns-in-Stack-clause-ample : goal.returns-in-Stack-clause-ample
+returns-in-Stack-clause-ample g c = λ none. never_starved c.say_stack.result c.say_stack.ensures.fault none
 
 pub returns-in-Snapshot-clause-follows : goal.returns-in-Snapshot-clause-follows
 returns-in-Snapshot-clause-follows g c =

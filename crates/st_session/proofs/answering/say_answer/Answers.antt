@@ -6,6 +6,7 @@ use Rattle.st_session.proofs.Responding.{lines_said, lines_cut}
 use Rattle.st_session.proofs.Lines.{lines_keep}
 use Rattle.st_session.proofs.Points.{shown_births, living_answers}
 use Rattle.st_session.proofs.Saying.{tells_pushed, tells_cut}
+use Rattle.st_session.proofs.Starving.{never_starved}
 use Rattle.st_session.proofs.answering.say_answer.Goals as goal
 
 pub returns-in-Ok-clause-follows : goal.returns-in-Ok-clause-follows
@@ -39,3 +40,6 @@ returns-in-Err-clause-counts g c =
     let m = c.args.machine.now in
     let some = shown_births g.M.Memory.view m (g.met.M.Memory.whole m.memory) (c.requires.go_on.may_run c.requires.alive) in
     (tells_cut g.H.Host _ _ _ _ _ _ c.new-out.ensures (c.in-Err.ensures.pushes some.0 some_commit some.1).pushes).counts
+
+pub returns-in-Ok-clause-ample : goal.returns-in-Ok-clause-ample
+returns-in-Ok-clause-ample g c = λ none. never_starved c.finish.result c.finish.ensures.fault none

@@ -6,6 +6,7 @@ use Rattle.st_session.specs.Keeping.{in_a_store}
 use Rattle.st_session.specs.Points.{gone}
 use Rattle.st_session.proofs.Points.{dead_answers}
 use Rattle.st_session.proofs.Responding.{line_said}
+use Rattle.st_session.proofs.Starving.{never_starved}
 use Rattle.st_session.proofs.browsing.answer_ask.Goals as goal
 
 pub returns-in-Some-clause-follows : goal.returns-in-Some-clause-follows
@@ -18,3 +19,6 @@ returns-in-Some-clause-follows g c =
     let new = c.say_reply.new.host in
     dead_answers g.M.Memory.view g.H.Host m a old m a new (λ being k. browse_course in_a_store being k (ask_of c.args.ask)) c.say_reply.result cause dies
     (λ k holds. line_said g.M.Memory.view g.H.Host m a k (dead_text 0 cause) (gone cause k) old new c.say_reply.result c.say_reply.ensures holds dies refl)
+
+pub returns-in-Some-clause-ample : goal.returns-in-Some-clause-ample
+returns-in-Some-clause-ample g c = λ none. never_starved c.say_reply.result c.say_reply.ensures.fault none

@@ -14,6 +14,7 @@ use Rattle.st_session.proofs.Lines.{look_is}
 use Rattle.st_session.proofs.Looking.{memory_is}
 use Rattle.st_session.proofs.Points.{GoesAs, living_answers}
 use Rattle.st_session.proofs.Responding.{line_said}
+use Rattle.st_session.proofs.Starving.{never_starved}
 use Rattle.st_session.proofs.browsing.answer_named.Goals as goal
 
 pub returns-in-Until-clause-follows : goal.returns-in-Until-clause-follows
@@ -41,3 +42,6 @@ returns-in_default-clause-follows g c =
     (line_said view g.H.Host m a k (asked_text (memory_of (show s)) (all_of k) ask) (alive s k) old new result
     (subst (λ v. Tells g.H.Host (asked_text v (all_of k) ask) old new result) same
     (subst (λ (ds : List Definition). Tells g.H.Host (asked_text (view c.memory.result.now) ds ask) old new result) listed c.say_asked.ensures)) holds (lives, shows) refl))
+
+pub returns-in_default-clause-ample : goal.returns-in_default-clause-ample
+returns-in_default-clause-ample g c = λ none. never_starved c.say_asked.result c.say_asked.ensures.fault none

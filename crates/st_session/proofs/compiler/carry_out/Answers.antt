@@ -1,4 +1,4 @@
-use Rattle.std.proofs.Common.{◌∙◌, sym}
+use Rattle.std.proofs.Common.{◌∙◌}
 use Rattle.st_session.proofs.Compiling.{ready_for, ready_held, carried}
 use Rattle.st_session.proofs.compiler.carry_out.Goals as goal
 

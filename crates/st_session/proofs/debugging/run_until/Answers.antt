@@ -14,6 +14,7 @@ use Rattle.st_session.specs.Standing.{shown_by}
 use Rattle.st_session.proofs.Looking.{memory_is}
 use Rattle.st_session.proofs.Points.{GoesAs, living_answers}
 use Rattle.st_session.proofs.Responding.{line_said}
+use Rattle.st_session.proofs.Starving.{never_starved}
 use Rattle.st_session.proofs.debugging.run_until.Goals as goal
 
 pub returns-in-Some-clause-follows : goal.returns-in-Some-clause-follows
@@ -55,3 +56,6 @@ returns-in-None-clause-follows g c =
     ap (option_map value) (sym c.in-None.is) ∙ (c.find_method.ensures ∙ ap (λ v. method_of_side v side selector) same) in
     subst (λ (o : Option Value). GoesAs view g.H.Host a.name m a old new k (until_course in_a_store c.args.cycles s k o) result) gone
     (line_said view g.H.Host m a k missing_text (alive s k) old new result c.say_reply.ensures holds (lives, shows) refl))
+
+pub returns-in-None-clause-ample : goal.returns-in-None-clause-ample
+returns-in-None-clause-ample g c = λ none. never_starved c.say_reply.result c.say_reply.ensures.fault none

@@ -8,7 +8,7 @@ use Rattle.st_protocol.specs.Statuses.{StatusHasCause}
 use Rattle.st_call.specs.LastLines.{SaysLastLine}
 use Rattle.st_session.specs.Ends.{status_in}
 use Rattle.st_session.specs.Exports.{ExportsState, IsOfExport, ExportEnds}
-use Rattle.st_session.proofs.Commanded.{cause_between, opening_cause, refused_line, refused_moments, refused_whole}
+use Rattle.st_session.proofs.Commanded.{cause_between, opening_cause, refused_line, refused_moments, refused_elsewhere, rests_line, spares_line, refused_whole}
 use Rattle.st_session.proofs.Exported.{caused_in, done_or_full, kind_in, kind_unopened, export_has, exported_stays, refused_stays, names_said}
 use Rattle.st_session.proofs.exporting.export.Goals as goal
 
@@ -47,13 +47,13 @@ returns-in-Ok-clause-ends g c =
       over = λ told. let at = (opened.opened told).1 in inr (record {
         commit = (opened.opened told).0;
         replayed = at.replayed;
-        opened = record { good = at.good; opens = at.opens; reopens = at.reopens };
+        opened = record { opens = at.opens; reopens = at.reopens };
         has = export_has host store image (ExportsState c.args.extent at.replayed.state) r old mid closed new told did.kind (did.has at.replayed.state at.shows told)
             (λ apart. opened.spares.files told image apart) (opened.only.quiet told) (omega (arith, opened.only.say, did.counts.say)) line.alike said;
       });
-      stays = λ told apart k good rest.
+      stays = λ told apart k rest.
           let at = (opened.opened told).1 in
-          exported_stays host store image k (opened.opened told).0 o.store o.store.root.slot _ old mid closed new apart good rest (λ n. g.met.H.Host.read_counts old n told) at.good at.opens opened.named at.kept told (opened.moments told) did.others line.reads;
+          exported_stays host store image k (opened.opened told).0 o.store o.store.root.slot _ old mid closed new apart rest (λ n. g.met.H.Host.read_counts old n told) at.opens opened.named at.kept told (opened.moments told) did.others line.reads;
       complete = λ told k q whole calm. done_or_full host old new r did.kind cause calm;
       kind = kind_in (IsTrue host.is_told) store (host.files old) r did.kind;
       spares = names_said host store image _ _ old closed new
@@ -82,11 +82,14 @@ returns-in-Err-clause-ends g c =
         why = opened.refused told;
         line = refused_line host store e old mid new (λ told. opened.only.quiet told) opened.only.say line.line;
         moments = refused_moments host store e old mid new (opened.moments told) (opened.leaves told) (opened.only.quiet told) told line.reads;
+        elsewhere = refused_elsewhere host store _ old mid new opened.only told line.reads;
+        rests = λ named k o. rests_line host store k _ mid new told line.reads (opened.rests told named k o);
+        spares = spares_line host store _ old mid new opened.spares line.alike line.reads;
       });
-      stays = λ told apart k good rest. refused_stays host store image k _ old mid new rest (λ n. g.met.H.Host.read_counts old n told) (opened.moments told) (opened.leaves told) told line.reads;
+      stays = λ told apart k rest. refused_stays host store image k _ old mid new rest (λ n. g.met.H.Host.read_counts old n told) (opened.moments told) (opened.leaves told) told line.reads;
       complete = λ told k q whole calm.
           subst (λ (x : Status). (x ≡ status.Done) ⊎ (x ≡ status.OutOfMemory)) (sym is)
-          (refused_whole store (host.files old) k whole.opens host old mid q fault whole.good whole.reopens opened.kind (opened.refused told) opened.cause (λ rose. calm.disk (subst (Rose (host.disk_faults old)) (sym line.disk) rose)));
+          (refused_whole store (host.files old) k whole.opens host old mid q fault whole.reopens opened.kind (opened.refused told) opened.cause (λ rose. calm.disk (subst (Rose (host.disk_faults old)) (sym line.disk) rose)));
       kind = subst (IsOfExport (IsTrue host.is_told) store (host.files old)) (sym is) (kind_unopened (IsTrue host.is_told) store (host.files old) fault opened.kind opened.refused);
       spares = names_said host store image _ _ old mid new (spares_fewer host (IsNoFileOf store) (λ n. IsNoFileOf store n × (n ≢ image)) old mid (λ n is. is.0) opened.spares) line.alike line.reads;
     }

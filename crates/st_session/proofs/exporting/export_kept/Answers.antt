@@ -1,4 +1,4 @@
-use Rattle.std.proofs.Common.{List, ℕ, refl, ap, subst, arith}
+use Rattle.std.proofs.Common.{refl, ap, subst, arith}
 use Rattle.st_host.proofs.Touching.{above_changes}
 use Rattle.st_recover.proofs.Images.{image_is}
 use Rattle.st_session.specs.Exports.{exporting, ExportsImage}

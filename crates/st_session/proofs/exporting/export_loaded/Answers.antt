@@ -1,4 +1,4 @@
-use Rattle.std.proofs.Common.{◌≡◌, ◌∙◌, sym, subst}
+use Rattle.std.proofs.Common.{◌≡◌, ◌∙◌, refl, sym, subst}
 use Rattle.st_model.specs.Machine.{State, empty_world}
 use Rattle.st_model.specs.Objects.{nil}
 use Rattle.st_model.specs.Show.{Shows}
@@ -16,6 +16,9 @@ boot-machine-requires g c =
 
 pub returns-in-Err-clause-others : goal.returns-in-Err-clause-others
 returns-in-Err-clause-others g c = others_none g.H.Host c.args.image.now c.args.host.now (g.met.H.Host.only_now c.args.host.now)
+
+pub returns-in-Err-clause-has : goal.returns-in-Err-clause-has
+returns-in-Err-clause-has g c s shows told = record { file = refl; quiet = refl }
 
 pub returns-clause-has : goal.returns-clause-has
 returns-clause-has g c s shows told =

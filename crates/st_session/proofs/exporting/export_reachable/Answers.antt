@@ -1,4 +1,4 @@
-use Rattle.std.proofs.Common.{List, ℕ, refl, ap, arith}
+use Rattle.std.proofs.Common.{refl, ap, arith}
 use Rattle.std.specs.Prelude.{Some, Err}
 use Rattle.st_host.proofs.Touching.{above_changes}
 use Rattle.st_clean.specs.declared.fault.CleanFault.{CleanFault}
@@ -49,7 +49,11 @@ returns-in-Err-Disk-clause-counts g c = record {
 }
 
 pub returns-in-Err-OutOfMemory-clause-has : goal.returns-in-Err-OutOfMemory-clause-has
-returns-in-Err-OutOfMemory-clause-has g c told = c.clean.ensures.writes.run.quiet told
+returns-in-Err-OutOfMemory-clause-has g c told =
+    let host = g.H.Host in
+    let name = c.args.image.now in
+    let same = c.in-Err-OutOfMemory.ensures.none (ap (λ (e : CleanFault). Err e) c.in-Err-OutOfMemory.field-0-is) in
+    record { file = ap (λ h. host.files h name) same; quiet = ap host.said same }
 
 pub returns-in-Err-OutOfMemory-clause-others : goal.returns-in-Err-OutOfMemory-clause-others
 returns-in-Err-OutOfMemory-clause-others g c =

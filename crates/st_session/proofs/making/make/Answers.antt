@@ -1,4 +1,6 @@
 use Rattle.std.proofs.Common.{IsTrue, Err, refl, ap}
+use Rattle.std.proofs.lemmas.List.Elements.{All-nil}
+use Rattle.st_chunk.specs.Definitions.{IsDefinition}
 use Rattle.st_store.specs.Stored.{StoreState}
 use Rattle.st_recover.proofs.Images.{image_readable}
 use Rattle.st_session.specs.Makings.{contents_in, commit_of}
@@ -20,7 +22,7 @@ returns-in-Ok-say_made-clause-ends g c =
       say = new.say_count;
       disk = new.cause.later;
     } in
-    let rest = λ (told : IsTrue g.H.Host.is_told). kept_rests g.H.Host made store (commit_of (contents_in v)) 0 c.in-Ok._store (ap (λ (s : StoreState). s.name) new.store) (image_readable v (g.met.M.Memory.whole c.args.m.now) c.requires.starts) (new.kept told) in
+    let rest = λ (told : IsTrue g.H.Host.is_told). kept_rests g.H.Host made store (commit_of (contents_in v)) 0 c.in-Ok._store (ap (λ (s : StoreState). s.name) new.store) (image_readable v (g.met.M.Memory.whole c.args.m.now) c.requires.starts) (All-nil IsDefinition) (new.kept told) in
     done_ends g.H.Host c.args.origin (contents_in v) store old made tries new.none rest new.files c.say_made.new.host c.say_made.ensures.says c.in-Ok-say_made.ensures.all
 
 pub returns-in-Ok-clause-ends : goal.returns-in-Ok-clause-ends
@@ -38,7 +40,7 @@ returns-in-Ok-clause-ends g c =
       say = new.say_count;
       disk = new.cause.later;
     } in
-    let rest = λ (told : IsTrue g.H.Host.is_told). kept_rests g.H.Host made store (commit_of (contents_in v)) 0 c.in-Ok._store (ap (λ (s : StoreState). s.name) new.store) (image_readable v (g.met.M.Memory.whole c.args.m.now) c.requires.starts) (new.kept told) in
+    let rest = λ (told : IsTrue g.H.Host.is_told). kept_rests g.H.Host made store (commit_of (contents_in v)) 0 c.in-Ok._store (ap (λ (s : StoreState). s.name) new.store) (image_readable v (g.met.M.Memory.whole c.args.m.now) c.requires.starts) (All-nil IsDefinition) (new.kept told) in
     unsaid_ends g.H.Host c.args.origin (contents_in v) store old made tries new.none rest new.files c.say_made.new.host c.say_made.ensures.says (c.in-Err-say_made.ensures.cause.rose refl)
 
 pub returns-clause-ends : goal.returns-clause-ends
@@ -57,4 +59,4 @@ returns-clause-ends g c =
       disk = new.cause.later;
     } in
     let line = c.refuse.ensures in
-    failed_ends g.H.Host c.args.origin (contents_in v) store old made tries c.in-Err.fault new.kind new.refused c.store_status-status.result c.refuse.new.host c.store_status-status.ensures (λ same. new.cause.rose (ap Err same)) line.line line.reads line.alike line.disk
+    failed_ends g.H.Host c.args.origin (contents_in v) store old made tries c.in-Err.fault new.kind new.refused c.store_status-status.result c.refuse.new.host c.store_status-status.ensures (λ same. new.cause.rose (ap Err same)) new.writes_nothing line.line line.reads line.alike line.disk

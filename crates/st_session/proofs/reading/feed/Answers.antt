@@ -1,5 +1,4 @@
-use Rattle.std.proofs.Common.{◌≡◌, subst}
-use Rattle.st_chunk.specs.Reading.{read}
+use Rattle.std.proofs.Common.{subst}
 use Rattle.st_chunk.specs.Scripts.{asked_by}
 use Rattle.st_install.specs.Defining.{installed}
 use Rattle.st_session.specs.Keeping.{in_a_store}

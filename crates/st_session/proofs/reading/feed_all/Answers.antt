@@ -1,20 +1,18 @@
 use Rattle.std.proofs.Common.{◌≡◌, refl, ◌∷◌, [], ◌++◌, ◌+◌, ◌∙◌, ◌<◌, ℕ, List, take, drop, get_or, length, sym, ap, subst, arith, Ok, Err}
-use Rattle.std.specs.Prelude.{Result}
 use Rattle.std.proofs.lemmas.List.{take_more, take-append-drop}
 use Rattle.st_chunk.specs.Reading.{read}
 use Rattle.st_chunk.specs.Scripts.{told_from, read_through, asked_by}
 use Rattle.st_store.specs.Names.{IsNoFileOf}
-use Rattle.st_protocol.specs.declared.status.Status.{Status}
 use Rattle.st_protocol.proofs.Joins.{counts_behind}
 use Rattle.st_install.specs.Defining.{installed}
-use Rattle.st_recover.specs.Commits.{Commit, OpensAs}
+use Rattle.st_recover.specs.Commits.{OpensAs}
 use Rattle.st_session.specs.Keeping.{in_a_store}
-use Rattle.st_session.specs.Points.{Point}
 use Rattle.st_session.specs.Sessions.{follow}
 use Rattle.st_session.specs.Standing.{IsAt}
-use Rattle.st_session.proofs.Following.{byte_more, told_err, read_both}
+use Rattle.st_session.proofs.Following.{byte_more, told_err, told_both, read_both}
 use Rattle.st_session.proofs.Points.{GoesAs, named_so}
 use Rattle.st_session.proofs.Responding.{stays_now}
+use Rattle.st_session.proofs.Starving.{some_all}
 use Rattle.st_session.proofs.reading.feed_all.Goals as goal
 
 pub loop-byte-init : goal.loop-byte-init
@@ -76,3 +74,16 @@ returns-in-Err-clause-follows g c = λ p at.
 pub returns-in-Err-clause-counts : goal.returns-in-Err-clause-counts
 returns-in-Err-clause-counts g c =
     counts_behind g.H.Host ⊥ c.args.host.now c.loop-byte.host c.feed.new.host (Err c.in-Err.status) c.loop-byte.invariant.disk c.loop-byte.invariant.say c.in-Err.ensures.counts
+
+-- the byte did nothing, behind those before it
+pub returns-in-Err-clause-starved : goal.returns-in-Err-clause-starved
+returns-in-Err-clause-starved g c = λ none p at.
+    let view = g.M.Memory.view in
+    let name = c.args.archive.now.name in
+    let bytes = c.args.bytes.now in
+    let i = c.loop-byte.byte-index in
+    let r = c.args.reader.now in
+    let all : told_from r bytes ≡ told_from r (take i bytes) ++ told_from (read_through r (take i bytes)) (drop i bytes) =
+    ap (told_from r) (sym (take-append-drop i bytes)) ∙ told_both r (take i bytes) (drop i bytes) in
+    some_all in_a_store installed g.H.Host (OpensAs name) (IsNoFileOf name) (IsAt view g.H.Host c.loop-byte.machine c.loop-byte.archive c.loop-byte.host) p (told_from r (take i bytes)) _ (told_from r bytes) c.args.host.now c.loop-byte.host c.feed.new.host
+    (c.in-Err.ensures.starved none) all (c.loop-byte.invariant.follows p at)

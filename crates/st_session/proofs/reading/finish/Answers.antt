@@ -1,6 +1,6 @@
-use Rattle.std.proofs.Common.{ap, subst, ◌∙◌, Ok, Err}
+use Rattle.std.proofs.Common.{subst, ◌∙◌, [], refl, Ok, Err}
 use Rattle.st_chunk.specs.Reading.{end_read}
-use Rattle.st_chunk.specs.Scripts.{asked_by}
+use Rattle.st_chunk.specs.Scripts.{asked_by, asked_at_end}
 use Rattle.st_store.specs.Names.{IsNoFileOf}
 use Rattle.st_protocol.specs.declared.status.Status.TheVariants as status
 use Rattle.st_install.specs.Defining.{installed}
@@ -10,6 +10,8 @@ use Rattle.st_session.specs.Sessions.{follow}
 use Rattle.st_session.specs.Standing.{IsAt}
 use Rattle.st_session.proofs.Following.{follows, ends_then, ends_err, end_then, end_err}
 use Rattle.st_session.proofs.Points.{GoesAs, named_so, at_rest}
+use Rattle.st_session.proofs.Responding.{stays_now}
+use Rattle.st_session.proofs.Starving.{some_all}
 use Rattle.st_session.proofs.reading.finish.Goals as goal
 
 pub returns-in-Ok-end-clause-follows : goal.returns-in-Ok-end-clause-follows
@@ -49,3 +51,23 @@ returns-in-Err-clause-follows g c = λ p at.
     let one = c.end.new in
     let here = IsAt view g.H.Host one.machine one.archive one.host in
     end_err in_a_store installed g.H.Host (OpensAs name) (IsNoFileOf name) here here c.args.reader.now p c.in-Err.status c.args.host.now one.host (c.in-Err.ensures.follows p at)
+
+-- the second of the two did nothing
+pub returns-in-Err-end-clause-starved : goal.returns-in-Err-end-clause-starved
+returns-in-Err-end-clause-starved g c = λ none p at.
+    let view = g.M.Memory.view in
+    let name = c.args.archive.now.name in
+    let one = c.end.new in
+    let two = c.end-in-Ok.new in
+    let r = c.args.reader.now in
+    some_all in_a_store installed g.H.Host (OpensAs name) (IsNoFileOf name) (IsAt view g.H.Host one.machine one.archive one.host) p (asked_by (end_read r)) _ (asked_at_end r) c.args.host.now one.host two.host
+    (c.in-Err-end.ensures.starved none) refl (c.in-Ok.ensures.follows p at)
+
+-- or the first
+pub returns-in-Err-clause-starved : goal.returns-in-Err-clause-starved
+returns-in-Err-clause-starved g c = λ none p at.
+    let view = g.M.Memory.view in
+    let a = c.args.archive.now in
+    let h = c.args.host.now in
+    some_all in_a_store installed g.H.Host (OpensAs a.name) (IsNoFileOf a.name) (IsAt view g.H.Host c.args.machine.now a h) p [] _ (asked_at_end c.args.reader.now) h h c.end.new.host
+    (c.in-Err.ensures.starved none) refl (stays_now view g.H.Host c.args.machine.now a p.kept p h (g.met.H.Host.only_now h) at.holds at.stands refl)

@@ -1,8 +1,8 @@
-use Rattle.std.proofs.Common.{◌≡◌, ◌≤◌, ◌<◌, ⊎_elim, ℕ, List, [], ◌++◌, ◌∙◌, take, length, refl, sym, ap, subst, arith, append_assoc, length-append, Ok, Err}
+use Rattle.std.proofs.Common.{◌≡◌, ◌≤◌, ◌<◌, ⊎_elim, ℕ, List, [], ◌++◌, ◌∙◌, take, length, refl, sym, ap, subst, arith, append-nil, append_assoc, length-append, Ok, Err}
 use Rattle.std.proofs.lemmas.List.{length-take-le}
 use Rattle.st_host.proofs.Rising.{rose_second}
 use Rattle.st_chunk.specs.Reading.{line_from}
-use Rattle.st_chunk.specs.Scripts.{told_from, read_through, asked_at_end}
+use Rattle.st_chunk.specs.Scripts.{Asked, told_from, read_through, asked_at_end}
 use Rattle.st_store.specs.Names.{IsNoFileOf}
 use Rattle.st_protocol.specs.declared.status.Status.TheVariants as status
 use Rattle.st_protocol.specs.Courses.{ended}
@@ -11,11 +11,12 @@ use Rattle.st_install.specs.Defining.{installed}
 use Rattle.st_recover.specs.Commits.{Commit, OpensAs}
 use Rattle.st_session.specs.Keeping.{in_a_store}
 use Rattle.st_session.specs.Points.{Point}
-use Rattle.st_session.specs.Sessions.{follow, longest}
+use Rattle.st_session.specs.Sessions.{follow, longest, asked_in}
 use Rattle.st_session.specs.Standing.{IsAt}
-use Rattle.st_session.proofs.Following.{follows, rest_of, told_more, read_both, rest_then, rest_err, rest_none, rest_over}
+use Rattle.st_session.proofs.Following.{follows, rest_of, told_both, told_more, read_both, rest_then, rest_err, rest_none, rest_over}
 use Rattle.st_session.proofs.Points.{GoesAs, named_so}
 use Rattle.st_session.proofs.Responding.{stays_now, fails_now}
+use Rattle.st_session.proofs.Starving.{SomeAnswered, asked_behind, asked_whole, asked_over, some_then}
 use Rattle.st_session.proofs.reading.follow.Goals as goal
 
 pub pieces-init : goal.pieces-init
@@ -95,6 +96,13 @@ returns-then-count-eq0 g c =
       told = λ fault told p at. absurd (no_read g.H.Host c.pieces.host new.host result c.finish.ensures.counts fault);
       counts = counts_wider g.H.Host _ c.args.host.now new.host result (counts_behind g.H.Host ⊥ c.args.host.now c.pieces.host new.host result inv.disk inv.say c.finish.ensures.counts);
       served = c.finish.ensures.served;
+      starved = λ none told p at.
+          let none_left : g.S.Source.remaining c.pieces.script ≡ [] = ⊎_elim (λ z. absurd (omega (arith, z, inv.size))) (λ e. e) (c.in-Ok.ensures.end told c.if-count-eq0.true) in
+          let script : g.S.Source.remaining c.args.script.now ≡ far.0 = far.1 told ∙ (ap (λ (x : List ℕ). far.0 ++ x) none_left ∙ append-nil far.0) in
+          some_then in_a_store installed g.H.Host (OpensAs name) (IsNoFileOf name) here p (told_from (line_from 1) far.0) (asked_at_end r) [] (asked_in (g.S.Source.remaining c.args.script.now)) c.args.host.now c.pieces.host new.host
+          (ap asked_in script ∙ (asked_whole far.0 (let sum = far.2 in omega (arith, sum)) ∙ sym (append-nil (told_from (line_from 1) far.0 ++ asked_at_end r)))) (far.4 p at)
+          (λ q there. subst (λ x. SomeAnswered in_a_store installed g.H.Host (OpensAs name) (IsNoFileOf name) q (asked_at_end x) c.pieces.host new.host) far.3
+          (subst (λ n. SomeAnswered in_a_store installed g.H.Host (OpensAs n) (IsNoFileOf n) q (asked_at_end c.pieces.reader) c.pieces.host new.host) inv.named (c.finish.ensures.starved none q there)));
     }
 
 -- MORE BYTES CAME THAN MAY
@@ -126,6 +134,12 @@ returns-then-count-left g c =
       told = λ fault told p at. absurd (no_read g.H.Host c.pieces.host new.host result c.feed_last.ensures.counts fault);
       counts = counts_wider g.H.Host _ c.args.host.now new.host result (counts_behind g.H.Host ⊥ c.args.host.now c.pieces.host new.host result inv.disk inv.say c.feed_last.ensures.counts);
       served = c.feed_last.ensures.served;
+      starved = λ none told p at.
+          let script : g.S.Source.remaining c.args.script.now ≡ far.0 ++ (bytes ++ rest) = far.1 told ∙ ap (λ (x : List ℕ). far.0 ++ x) (c.in-Ok.ensures.takes told) in
+          some_then in_a_store installed g.H.Host (OpensAs name) (IsNoFileOf name) here p (told_from (line_from 1) far.0) (told_from r last) [] (asked_in (g.S.Source.remaining c.args.script.now)) c.args.host.now c.pieces.host new.host
+          (ap asked_in script ∙ (asked_over far.0 bytes rest c.pieces.left far.2 more ∙ sym (append-nil (told_from (line_from 1) far.0 ++ told_from r last)))) (far.4 p at)
+          (λ q there. subst (λ x. SomeAnswered in_a_store installed g.H.Host (OpensAs name) (IsNoFileOf name) q (told_from x last) c.pieces.host new.host) far.3
+          (subst (λ n. SomeAnswered in_a_store installed g.H.Host (OpensAs n) (IsNoFileOf n) q (told_from c.pieces.reader last) c.pieces.host new.host) inv.named (c.feed_last.ensures.starved none q there)));
     }
 
 -- A PIECE
@@ -156,6 +170,14 @@ returns-in-Err-feed_all g c =
       told = λ fault told p at. absurd (no_read g.H.Host c.pieces.host new.host (Err e) c.in-Err-feed_all.ensures.counts fault);
       counts = counts_wider g.H.Host _ c.args.host.now new.host (Err e) (counts_behind g.H.Host ⊥ c.args.host.now c.pieces.host new.host (Err e) inv.disk inv.say c.in-Err-feed_all.ensures.counts);
       served = c.in-Err-feed_all.ensures.served;
+      starved = λ none told p at.
+          let script : g.S.Source.remaining c.args.script.now ≡ (far.0 ++ bytes) ++ rest = far.1 told ∙ (ap (λ (x : List ℕ). far.0 ++ x) (c.in-Ok.ensures.takes told) ∙ sym (append_assoc far.0 bytes rest)) in
+          let both = length-append far.0 bytes in
+          let behind = asked_behind (far.0 ++ bytes) rest (let sum = far.2 in omega (arith, both, sum, few)) in
+          some_then in_a_store installed g.H.Host (OpensAs name) (IsNoFileOf name) here p (told_from (line_from 1) far.0) (told_from r bytes) behind.0 (asked_in (g.S.Source.remaining c.args.script.now)) c.args.host.now c.pieces.host new.host
+          (ap asked_in script ∙ (behind.1 ∙ ap (λ (l : List Asked). l ++ behind.0) (told_both (line_from 1) far.0 bytes))) (far.4 p at)
+          (λ q there. subst (λ x. SomeAnswered in_a_store installed g.H.Host (OpensAs name) (IsNoFileOf name) q (told_from x bytes) c.pieces.host new.host) far.3
+          (subst (λ n. SomeAnswered in_a_store installed g.H.Host (OpensAs n) (IsNoFileOf n) q (told_from c.pieces.reader bytes) c.pieces.host new.host) inv.named (c.in-Err-feed_all.ensures.starved none q there)));
     }
 
 pub pieces-preserved : goal.pieces-preserved

@@ -1,4 +1,4 @@
-use Rattle.std.proofs.Common.{◌∷◌, [], refl, Err}
+use Rattle.std.proofs.Common.{◌∷◌, [], inl, inr, refl, Err}
 use Rattle.st_store.specs.Names.{IsNoFileOf}
 use Rattle.st_protocol.specs.declared.status.Status.TheVariants as status
 use Rattle.st_protocol.specs.Courses.{Reply}
@@ -9,11 +9,12 @@ use Rattle.st_recover.specs.Replays.{losses_of}
 use Rattle.st_session.specs.Keeping.{in_a_store}
 use Rattle.st_session.specs.Points.{Point}
 use Rattle.st_session.specs.FirstLines.{opening_text}
-use Rattle.st_session.specs.Sessions.{follow_script, follow_told, session}
+use Rattle.st_session.specs.Sessions.{asked_in, follow_script, follow_told, session}
 use Rattle.st_session.specs.Standing.{IsAt}
 use Rattle.st_session.proofs.Ending.{did_reply, unsaid_before, told_behind}
 use Rattle.st_session.proofs.Holding.{holds_said, holds_rest}
 use Rattle.st_session.proofs.Responding.{fails_now}
+use Rattle.st_session.proofs.Starving.{never_starved, some_behind}
 use Rattle.st_session.proofs.reading.open.Goals as goal
 
 pub returns-in-Ok-say_opening-clause-follows : goal.returns-in-Ok-say_opening-clause-follows
@@ -64,3 +65,20 @@ pub returns-in-Err-clause-follows : goal.returns-in-Err-clause-follows
 returns-in-Err-clause-follows g c = λ told p at.
     let h = c.args.host.now in
     fails_now g.M.Memory.view g.H.Host c.args.machine.now c.args.archive.now p.kept (session in_a_store installed c.args.replayed (losses_of c.args.lost.now) p (g.S.Source.remaining c.args.script.now)) status.OutOfMemory h tt (g.met.H.Host.only_now h) at.holds
+
+pub returns-in-Ok-say_opening-clause-starved : goal.returns-in-Ok-say_opening-clause-starved
+returns-in-Ok-say_opening-clause-starved g c = λ none told. inr (λ p at.
+    let a = c.args.archive.now in
+    let name = a.name in
+    let text = opening_text c.args.replayed (losses_of c.args.lost.now) in
+    let mid = c.say_opening.new.host in
+    let said = c.in-Ok-say_opening.ensures in
+    some_behind in_a_store installed g.H.Host (OpensAs name) (IsNoFileOf name) p c.args.replayed (losses_of c.args.lost.now) (asked_in (g.S.Source.remaining c.args.script.now)) c.args.host.now mid c.follow.new.host
+    (did_reply g.H.Host (OpensAs name) (IsNoFileOf name) p.kept text c.args.host.now mid said (holds_rest g.H.Host a p.kept at.holds))
+    (c.follow.ensures.starved none told p (record { stands = at.stands; holds = holds_said g.H.Host a p.kept said.says at.holds })))
+
+pub returns-clause-starved : goal.returns-clause-starved
+returns-clause-starved g c = λ none told. never_starved (Err c.in-Err-say_opening.status) c.in-Err-say_opening.ensures.fault none
+
+pub returns-in-Err-clause-starved : goal.returns-in-Err-clause-starved
+returns-in-Err-clause-starved g c = λ none told. inl refl

@@ -1,5 +1,5 @@
-use Rattle.std.proofs.Common.{◌≡◌, ◌∙◌, ℕ, List, IsTrue, refl, sym, ap, subst, arith}
-use Rattle.std.specs.Prelude.{Some, Ok, Err}
+use Rattle.std.proofs.Common.{◌≡◌, ◌∙◌, ⊎_elim, ℕ, List, refl, sym, ap, subst, arith}
+use Rattle.std.specs.Prelude.{Some, Err}
 use Rattle.st_host.specs.Counts.{Rose}
 use Rattle.st_host.specs.declared.host.Host.{Ghosts}
 use Rattle.st_model.specs.Births.{Births}
@@ -20,13 +20,14 @@ use Rattle.st_recover.specs.Replays.{Loss, losses_of}
 use Rattle.st_call.specs.Telling.{IsOfServing}
 use Rattle.st_session.specs.Ends.{SessionEnds, status_in}
 use Rattle.st_session.specs.Keeping.{in_a_store}
-use Rattle.st_session.specs.Opening.{IsOpen, session_over, session_so_far_over}
+use Rattle.st_session.specs.Opening.{session_over, session_so_far_over}
 use Rattle.st_session.specs.Points.{Point, alive}
 use Rattle.st_session.specs.Standing.{IsAt, shown_by}
 use Rattle.st_session.proofs.Ending.{session_ends, ends_of, complete_of, cause_of, served_in}
 use Rattle.st_session.proofs.Holding.{holds_rest}
 use Rattle.st_session.proofs.Lawful.{session_law}
 use Rattle.st_session.proofs.Points.{ready_new}
+use Rattle.st_session.proofs.Starving.{none_acknowledged, some_acknowledged}
 use Rattle.st_session.proofs.reading.serve.Goals as goal
 
 -- the same end in other words
@@ -56,6 +57,7 @@ returns-in-Err-clause-ends g c = λ told k s o.
     (session_ends in_a_store installed opened.replayed lost (alive s k) script) (session_law opened.replayed lost (alive s k) script)
     (obeys_fault g.H.Host (OpensAs name) (IsNoFileOf name) (λ (x : Point Commit). Unit {0}) (λ (x : Point Commit). x.kept) k course status.OutOfMemory h tt (g.met.H.Host.only_now h) (holds_rest g.H.Host a k o.holds))
     (λ fault. cc)
+    (λ none tells. none_acknowledged g.H.Host name (alive s k) opened.replayed lost script h h refl (holds_rest g.H.Host a k o.holds) tells)
 
 pub returns-clause-ends : goal.returns-clause-ends
 returns-clause-ends g c = λ told k s o.
@@ -78,7 +80,9 @@ returns-clause-ends g c = λ told k s o.
     let named : a.name ≡ opened.store.name = ap (λ (x : ArchiveState). x.name) c.new-archive.ensures ∙ c.requires.named in
     ends_so g.H.Host k s opened.replayed script left h new a.name opened.store.name lost (losses_of opened.lost.items) (status_in c.open.result) c.status_of.result named (ap losses_of c.deref.ensures.value) (sym c.status_of.ensures)
     (ends_of g.H.Host (OpensAs a.name) (IsNoFileOf a.name) k on (λ (x : Point Commit). x.kept) (session_over opened.replayed lost s k script) (session_so_far_over opened.replayed lost s k) script left c.open.result h new
-    (session_ends in_a_store installed opened.replayed lost p script) (session_law opened.replayed lost p script) (c.open.ensures.follows told p at) (λ fault. c.open.ensures.told fault told p at))
+    (session_ends in_a_store installed opened.replayed lost p script) (session_law opened.replayed lost p script) (c.open.ensures.follows told p at) (λ fault. c.open.ensures.told fault told p at)
+    (λ none tells. ⊎_elim (λ same. none_acknowledged g.H.Host a.name p opened.replayed lost script h new same (holds_rest g.H.Host a k holds) tells)
+    (λ some. some_acknowledged g.H.Host a.name p opened.replayed lost script h new (some p at) tells) (c.open.ensures.starved none told)))
 
 pub returns-clause-cause : goal.returns-clause-cause
 returns-clause-cause g c =

@@ -7,6 +7,7 @@ use Rattle.st_call.specs.Telling.{Tells}
 use Rattle.st_session.proofs.Holding.{holds_said}
 use Rattle.st_session.proofs.Saying.{when_ok}
 use Rattle.st_session.proofs.Snapshots.{image_said, image_unkept}
+use Rattle.st_session.proofs.Starving.{never_starved}
 use Rattle.st_session.proofs.saving.keep_image.Goals as goal
 
 pub returns-in-Ok-clause-obeys : goal.returns-in-Ok-clause-obeys
@@ -26,3 +27,6 @@ returns-in-Err-clause-obeys g c = λ k holds.
     let name = c.args.archive.now.name in
     image_unkept g.H.Host (OpensAs name) (IsNoFileOf name) (Holds g.H.Host c.snapshot.new.host c.snapshot.new.self) k image c.args.host.now c.snapshot.new.host _
     (λ told. c.in-Err.ensures.makes k told holds) c.in-Err.ensures.spares
+
+pub returns-in-Ok-clause-ample : goal.returns-in-Ok-clause-ample
+returns-in-Ok-clause-ample g c = λ none. never_starved c.say_reply.result c.say_reply.ensures.fault none

@@ -1,6 +1,7 @@
-use Rattle.std.proofs.Common.{◌≡◌, ◌∙◌, ◌-◌, ◌≤◌, ◌<◌, ℕ, true, false, refl, sym, subst, arith}
+use Rattle.std.proofs.Common.{◌≡◌, ◌∙◌, ◌-◌, ◌≤◌, ◌<◌, ℕ, true, false, refl, sym, ap, subst, arith}
 use Rattle.std.specs.Prelude.{Option, Some, None, is_some, IfSome, Ok, Err}
 use Rattle.st_model.specs.declared.dead.Dead.{Dead}
+use Rattle.st_protocol.specs.declared.status.Status.TheVariants.{OutOfMemory}
 use Rattle.st_protocol.proofs.Joins.{counts_behind}
 use Rattle.st_session.specs.Answers.{going_on, watched_course}
 use Rattle.st_session.specs.Keeping.{in_a_store}
@@ -65,6 +66,9 @@ returns-in-Err-clause-follows g c =
 
 pub returns-in-Err-clause-counts : goal.returns-in-Err-clause-counts
 returns-in-Err-clause-counts g c = counts_behind g.H.Host ⊥ c.args.host.now c.stretches.host c.say_stretch.new.host (Err c.in-Err.status) c.stretches.invariant.disk c.stretches.invariant.say c.in-Err.ensures.counts
+
+pub returns-in-Err-clause-ample : goal.returns-in-Err-clause-ample
+returns-in-Err-clause-ample g c = λ none. c.in-Err.ensures.ample (let same : c.in-Err.status ≡ OutOfMemory = cc in ap Err same)
 
 -- A SNAPSHOT
 

@@ -1,9 +1,11 @@
-use Rattle.std.proofs.Common.{◌-◌}
+use Rattle.std.proofs.Common.{◌≡◌, ◌-◌, ap, Err}
 use Rattle.st_session.specs.Standing.{shown_by}
 use Rattle.st_session.specs.Watched.{watched_stretch}
 use Rattle.st_session.specs.Watching.{look_of}
 use Rattle.st_session.proofs.Points.{shown_births}
 use Rattle.st_session.proofs.Saying.{stretch_said, stretch_unsaid, stretch_cut}
+use Rattle.st_session.proofs.Starving.{never_starved}
+use Rattle.st_protocol.specs.declared.status.Status.TheVariants.{OutOfMemory}
 use Rattle.st_session.proofs.saving.say_stretch.Goals as goal
 
 pub returns-in-Ok-finish-clause-says : goal.returns-in-Ok-finish-clause-says
@@ -33,3 +35,6 @@ returns-in-Err-clause-counts g c =
     let m = c.push_run_on.new.machine in
     let some = shown_births g.M.Memory.view c.args.machine.now (g.met.M.Memory.whole c.args.machine.now.memory) c.requires.ready in
     (stretch_cut g.H.Host m.death (shown_by g.M.Memory.view m) (watched_stretch (look_of c.args.watch) c.args.finished (c.args.cycles - c.args.finished) some.0) _ _ _ _ _ c.new-out.ensures (c.in-Err.ensures.pushes some.0 some.1)).tells.counts
+
+pub returns-in-Err-finish-clause-ample : goal.returns-in-Err-finish-clause-ample
+returns-in-Err-finish-clause-ample g c = λ none. never_starved (Err c.in-Err-finish.status) c.in-Err-finish.ensures.fault (let same : c.in-Err-finish.status ≡ OutOfMemory = cc in ap Err same)

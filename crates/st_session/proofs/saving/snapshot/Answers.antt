@@ -13,6 +13,7 @@ use Rattle.st_session.specs.Keeping.{in_a_store, imaging}
 use Rattle.st_session.specs.Standing.{shown_by}
 use Rattle.st_session.proofs.Points.{living_answers, shown_births}
 use Rattle.st_session.proofs.Snapshots.{saved_can_start, saved_kept, saved_died}
+use Rattle.st_session.proofs.Starving.{never_starved}
 use Rattle.st_session.proofs.saving.snapshot.Goals as goal
 
 pub keep_image-requires-clause-starts : goal.keep_image-requires-clause-starts
@@ -50,3 +51,6 @@ returns-in-Err-clause-follows g c =
     let dies = c.save.ensures.death c.requires.alive ∙ ap death_by c.in-Err.is in
     living_answers view g.H.Host m a c.args.host.now n a new (λ being. going_on in_a_store (in_a_store.snapshot c.args.finished) being) result c.requires.alive
     (λ s k shows holds. saved_died view g.H.Host a.name n a c.args.host.now new k c.args.finished c.in-Err.cause (save births s) result (c.in-Err.ensures.saves c.requires.alive s shows) dies refl holds c.say_reply.ensures)
+
+pub returns-in-Err-clause-ample : goal.returns-in-Err-clause-ample
+returns-in-Err-clause-ample g c = λ none. never_starved c.say_reply.result c.say_reply.ensures.fault none

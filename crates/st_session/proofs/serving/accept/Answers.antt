@@ -1,4 +1,4 @@
-use Rattle.std.proofs.Common.{◌≡◌, ◌∙◌, refl, ap, sym, subst}
+use Rattle.std.proofs.Common.{ap, sym, subst}
 use Rattle.st_model.specs.Show.{Shows}
 use Rattle.st_frames.specs.Shown.{IsReady, shown}
 use Rattle.st_chunk.specs.ScriptDefinitions.{definition_of}
@@ -10,6 +10,7 @@ use Rattle.st_call.specs.Replies.{accepted_line}
 use Rattle.st_session.proofs.Accepting.{accepted_said, accepted_unkept}
 use Rattle.st_session.proofs.Compiling.{is_accepted}
 use Rattle.st_session.proofs.Points.{living_answers}
+use Rattle.st_session.proofs.Starving.{never_starved}
 use Rattle.st_session.proofs.serving.accept.Goals as goal
 
 pub returns-in-Ok-clause-follows : goal.returns-in-Ok-clause-follows
@@ -40,3 +41,9 @@ returns-in-Err-clause-follows g c =
     (λ s k shows holds.
     let is = is_accepted (view m.memory) d c.args.prepared c.requires.prepared (g.met.M.Memory.whole m.memory) m.frame m.world (c.requires.go_on.may_run c.requires.alive) s shows in
     accepted_unkept view g.H.Host a.name m b s k d (installed d s) _ is.0 c.in-Err.status c.args.host.now c.accept.new.host is.1 (c.in-Err.ensures.obeys k holds))
+
+pub returns-in-Ok-clause-starved : goal.returns-in-Ok-clause-starved
+returns-in-Ok-clause-starved g c = λ none. never_starved c.say_reply.result c.say_reply.ensures.fault none
+
+pub returns-in-Err-clause-starved : goal.returns-in-Err-clause-starved
+returns-in-Err-clause-starved g c = λ none. c.in-Err.ensures.untouched (λ disk. cc)

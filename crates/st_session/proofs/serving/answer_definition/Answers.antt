@@ -7,6 +7,7 @@ use Rattle.st_session.specs.Keeping.{in_a_store}
 use Rattle.st_session.specs.Points.{gone}
 use Rattle.st_session.proofs.Points.{dead_answers}
 use Rattle.st_session.proofs.Responding.{line_said}
+use Rattle.st_session.proofs.Starving.{never_starved}
 use Rattle.st_session.proofs.serving.answer_definition.Goals as goal
 
 pub returns-in-Some-clause-follows : goal.returns-in-Some-clause-follows
@@ -18,3 +19,6 @@ returns-in-Some-clause-follows g c =
     let new = c.say_reply.new.host in
     dead_answers g.M.Memory.view g.H.Host m a c.args.host.now m a new (λ being k. definition_course in_a_store installed being k (definition_of c.args.definition.now)) c.say_reply.result cause dies
     (λ k holds. line_said g.M.Memory.view g.H.Host m a k (dead_text 0 cause) (gone cause k) c.args.host.now new c.say_reply.result c.say_reply.ensures holds dies refl)
+
+pub returns-in-Some-clause-starved : goal.returns-in-Some-clause-starved
+returns-in-Some-clause-starved g c = λ none. never_starved c.say_reply.result c.say_reply.ensures.fault none

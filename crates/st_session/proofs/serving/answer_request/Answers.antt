@@ -1,8 +1,6 @@
-use Rattle.std.proofs.Common.{sym, ap, subst}
-use Rattle.st_chunk.specs.declared.request.Request.TheVariants as request
+use Rattle.std.proofs.Common.{sym, subst}
 use Rattle.st_chunk.specs.Asks.{ask_of}
 use Rattle.st_chunk.specs.ScriptDefinitions.{definition_of}
-use Rattle.st_chunk.specs.Scripts.{asked_at}
 use Rattle.st_install.specs.Defining.{installed}
 use Rattle.st_session.specs.Answers.{answer}
 use Rattle.st_session.specs.Keeping.{in_a_store}
@@ -31,3 +29,9 @@ returns-in_default-clause-follows g c = λ p at.
     let called = c.answer_line in
     subst (λ x. GoesAs g.M.Memory.view g.H.Host c.args.archive.now.name called.new.machine called.new.archive c.args.host.now called.new.host p.kept (answer in_a_store installed p x) called.result)
     (sym (asked_line place c.args.request c.in_default.not-Browse c.in_default.not-Define)) (called.ensures.follows p at)
+
+pub returns-in-Browse-clause-starved : goal.returns-in-Browse-clause-starved
+returns-in-Browse-clause-starved g c = λ none. absurd (c.answer_ask.ensures.ample none)
+
+pub returns-in_default-clause-starved : goal.returns-in_default-clause-starved
+returns-in_default-clause-starved g c = λ none. absurd (c.answer_line.ensures.ample none)

@@ -1,5 +1,4 @@
-use Rattle.std.proofs.Common.{◌∷◌, [], refl, sym, subst}
-use Rattle.std.specs.Prelude.{Ok}
+use Rattle.std.proofs.Common.{refl, sym, subst}
 use Rattle.st_chunk.specs.Scripts.{asked_at}
 use Rattle.st_install.specs.Defining.{installed}
 use Rattle.st_session.specs.Keeping.{in_a_store}

@@ -1,6 +1,5 @@
 use Rattle.std.proofs.Common.{Err, refl, subst}
 use Rattle.st_protocol.specs.declared.status.Status.TheVariants as status
-use Rattle.st_frames.specs.Shown.{shown}
 use Rattle.st_chunk.specs.ScriptDefinitions.{definition_of}
 use Rattle.st_install.specs.Defining.{installed}
 use Rattle.st_install.specs.Prepareds.{PreparesAs}
@@ -10,6 +9,7 @@ use Rattle.st_session.specs.Standing.{shown_by}
 use Rattle.st_session.proofs.Accepting.{refused_said}
 use Rattle.st_session.proofs.Points.{living_answers}
 use Rattle.st_session.proofs.Responding.{fails_now}
+use Rattle.st_session.proofs.Starving.{never_starved}
 use Rattle.st_session.proofs.serving.define.Goals as goal
 
 pub returns-in-Refused-clause-follows : goal.returns-in-Refused-clause-follows
@@ -34,3 +34,6 @@ returns-in-OutOfMemory-clause-follows g c =
     let h = c.args.host.now in
     living_answers view g.H.Host m a h m a h (λ being k. definition_course in_a_store installed being k d) (Err status.OutOfMemory) c.requires.alive
     (λ s k shows holds. fails_now view g.H.Host m a k (defined_course in_a_store s k d (installed d s)) status.OutOfMemory h tt (g.met.H.Host.only_now h) holds)
+
+pub returns-in-Refused-clause-starved : goal.returns-in-Refused-clause-starved
+returns-in-Refused-clause-starved g c = λ none. never_starved c.say_reply.result c.say_reply.ensures.fault none

@@ -1,0 +1,46 @@
+-- How one call joins the next.
+use Rattle.std.proofs.Common.{ℕ, List, length, IsTrue, refl, sym, subst}
+use Rattle.st_host.specs.Files.{Files}
+use Rattle.st_host.specs.Runs.{IsAtRest}
+use Rattle.st_host.specs.declared.host.Host.{Ghosts}
+use Rattle.st_model.specs.Image.{image_head}
+use Rattle.st_image.proofs.Begun.{begun}
+use Rattle.st_install.specs.Defining.{installed}
+use Rattle.st_recover.specs.Commits.{Commit, OpensAs}
+use Rattle.st_recover.specs.Replays.{replay}
+use Rattle.st_protocol.specs.declared.status.Status.{Status}
+use Rattle.st_session.specs.declared.making.Origin.{Origin}
+use Rattle.st_session.specs.Makings.{Contents, commit_of}
+use Rattle.st_session.specs.Joining.{BeginsWith, MayBegin, RestJoins, SessionJoins, ExportJoins, MakingJoins}
+
+-- what some files open as can be begun with, where the store rests as it
+rest_begins : {E : Type 0} (after : Ghosts E) (name : List ℕ) (c : Commit) (f : Files) (h : E) → OpensAs name c f → IsAtRest after (OpensAs name) c h → MayBegin after name c h
+rest_begins after name c f h opens rest =
+    let b = begun (image_head c.image) c.image opens.readable.formed in
+    record {
+      rest = rest;
+      replayed = replay installed b.0 (length c.before) c.definitions;
+      reopens = record { readable = opens.readable; births = b.0; begins = b.1; replays = refl };
+    }
+
+-- a host that begins with files rests as what they open as
+opened_begins : {E : Type 0} (after : Ghosts E) (name : List ℕ) (c : Commit) (f : Files) (h : E) → OpensAs name c f → BeginsWith after h f → MayBegin after name c h
+opened_begins after name c f h opens begins =
+    rest_begins after name c f h opens (record { opens_as = λ x can. subst (λ (y : Files). OpensAs name c y) (λ i m. sym (begins m (x m) (can m)) i) opens })
+
+-- what is read now may be left by a stop
+pub rest_joins : {D : Type 0} (host : Ghosts D) → ((h : D) (n : List ℕ) → IsTrue host.is_told → host.may_leave h n (host.files h n)) → RestJoins host
+rest_joins host reads name c h told rest = rest_begins host name c (host.files h) h (rest.opens_as (host.files h) (λ n. reads h n told)) rest
+
+module _ {D E : Type 0} (host : Ghosts D) (after : Ghosts E) where
+  pub session_joins : SessionJoins host after
+  session_joins name commits old new status promise f s left h begins =
+      let p = promise.moments.each f s left in
+      (p, opened_begins after name p.commit f h p.opens_as begins)
+
+  pub export_joins : ExportJoins host after
+  export_joins name c old new stays f s left h begins = opened_begins after name c f h (stays.moments.each f s left) begins
+
+  pub making_joins : (origin : Origin) (right : Contents → Type 0) (wrong : Status → Type 0) → MakingJoins host after origin right wrong
+  making_joins origin right wrong name c old new moments is f s left said h begins =
+      opened_begins after name (commit_of c) f h ((moments.each f s left).said c is said) begins
