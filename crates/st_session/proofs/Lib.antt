@@ -4,6 +4,7 @@ pub mod Built
 pub mod Called
 pub mod Commanded
 pub mod Compiling
+pub mod Condensed
 pub mod Cycles
 pub mod Drilled
 pub mod Ending

@@ -1,5 +1,5 @@
 //! Runs that change a store, with a fault of each call of the host, and with a stop behind each.
-use super::files::{Files, IMAGE_G, STORE_G, failing_host, host_with};
+use super::files::{Files, IMAGE_G, STORE_C, STORE_G, failing_host, host_with};
 use super::{MemHost, MemSource, Status, call};
 use st_host::Leave;
 use std::process::Abort;
@@ -61,6 +61,15 @@ const CLEAN: Run<'static> = Run {
     script: "",
     said: "cleaned 35 131\n",
     openings: &[(0, 0, OLD), (15, 0, OLD)],
+};
+
+/// What opening installs stays as it is.
+const CONDENSE: Run<'static> = Run {
+    files: STORE_C,
+    words: &["condense", "S"],
+    script: "",
+    said: "condensed 3 2\n",
+    openings: &[(0, 0, ONE), (14, 0, ONE)],
 };
 
 /// There is no store, or the new one, which there is once that was told.
@@ -164,6 +173,11 @@ fn an_export_leaves_the_store(rt: HostRuntime) -> Result<(), Fail> {
 #[test]
 fn a_clean_leaves_the_store(rt: HostRuntime) -> Result<(), Fail> {
     check_stops(&rt, &CLEAN)
+}
+
+#[test]
+fn a_condense_leaves_what_opening_installs(rt: HostRuntime) -> Result<(), Fail> {
+    check_stops(&rt, &CONDENSE)
 }
 
 #[test]

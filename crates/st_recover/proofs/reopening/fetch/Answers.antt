@@ -24,6 +24,7 @@ returns-in_err-store g c =
     rw (p.1, p.2) (record {
       named = tt;
       listed = tt;
+      file = tt;
       whole = tt;
       sound = tt;
       good = tt;
@@ -62,6 +63,7 @@ returns-in_err-loaded g c =
     rw (p.1, p.2) (record {
       named = tt;
       listed = tt;
+      file = tt;
       whole = tt;
       sound = tt;
       good = tt;
@@ -104,6 +106,7 @@ returns-in_err-changes g c =
     rw (p.1, p.2) (record {
       named = tt;
       listed = tt;
+      file = tt;
       whole = tt;
       sound = tt;
       good = tt;
@@ -117,7 +120,7 @@ returns-in_err-changes g c =
       rests = λ told named y opens. rests_as_read H name store x a d y told c.in_ok-store.ensures.named (c.in_ok-store.ensures.opens told) opens (kept_on H store x b d told narrows (kept told));
       moments = λ told. seen told d told (opened.moments told) narrows;
       only = but_reading H name a b d opened.only narrows;
-      spares = spares_changes H name store.name a m d c.in_ok-store.ensures.named spared c.load.ensures.only;
+      spares = spares_changes H name store.name store.root.slot a m d c.in_ok-store.ensures.named spared c.load.ensures.only;
       cause = cause_behind H a m d (by_store fault) (omega (arith, opened.only.disk, c.read_image.ensures.reads.disk)) (store_cause H m d fault failed.cause);
     })
 
@@ -144,6 +147,7 @@ returns g c =
     record {
       named = c.in_ok-store.ensures.named;
       listed = load.named ∙ c.in_ok-store.ensures.named;
+      file = load.second;
       whole = load.whole;
       sound = c.in_ok-store.ensures.sound;
       good = load.good;
@@ -163,6 +167,6 @@ returns g c =
       rests = tt;
       moments = λ told. seen told d told (opened.moments told) narrows;
       only = but_reading H name a b d opened.only narrows;
-      spares = spares_changes H name store.name a m d c.in_ok-store.ensures.named spared c.load.ensures.only;
+      spares = spares_changes H name store.name store.root.slot a m d c.in_ok-store.ensures.named spared c.load.ensures.only;
       cause = tt;
     }
