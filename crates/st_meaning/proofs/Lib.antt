@@ -16,3 +16,6 @@ pub mod Coursing
 pub mod Stepping
 pub mod Continuing
 pub mod Specials
+pub mod Arenas
+pub mod Following
+pub mod Sketching

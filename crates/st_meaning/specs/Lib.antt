@@ -9,3 +9,6 @@ pub mod Laws
 pub mod Deeds
 pub mod Courses
 pub mod Taken
+pub mod Arenas
+pub mod Traced
+pub mod Sketches

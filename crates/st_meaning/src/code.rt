@@ -44,7 +44,7 @@ pub enum Walked<'p> {
 }
 
 /// A number that a code pushes: from -1 to 2, by one more.
-fn small_value(n: usize) -> Value
+pub fn small_value(n: usize) -> Value
     ensures { result ≡ small_value n }
 {
     match n {
@@ -56,7 +56,7 @@ fn small_value(n: usize) -> Value
 }
 
 /// The value of a literal at a place.
-fn literal_value(literal: &Literal, place: usize) -> Value
+pub fn literal_value(literal: &Literal, place: usize) -> Value
     ensures { result ≡ literal_value (literal_view literal.now) place }
 {
     match literal {
