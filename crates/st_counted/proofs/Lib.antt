@@ -13,5 +13,6 @@ pub mod Beginning
 mod Holding
 pub mod Instances
 mod Nothing
+mod InBlocks
 pub mod ZeroList
 mod Linked

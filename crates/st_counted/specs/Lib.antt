@@ -3,6 +3,7 @@ pub mod References
 pub mod Taking
 pub mod Held
 pub mod Words
+pub mod Standing
 pub mod Contents
 pub mod Counts
 pub mod Links

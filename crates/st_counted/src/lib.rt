@@ -9,6 +9,7 @@ mod links;
 mod loader;
 mod memory;
 mod roots;
+mod standing;
 mod tally;
 
 ghost use Rattle.st_model.specs.Births.{births};
@@ -18,6 +19,7 @@ ghost use Rattle.st_counted.specs.Taking.{TakesNoneSupported, LeftSupportsItself
 pub use loader::CountedLoader;
 pub use memory::CountedMemory;
 pub use roots::Roots;
+pub use standing::objects_are_stored_and_counted;
 
 /// Where members of the kept objects that are neither a root nor referred to by a member left are taken away one after the
 /// other, in any order, until there is none, what is left is the largest set that supports itself: what is taken away is in no
