@@ -2,6 +2,7 @@ pub mod Settled
 mod Endings
 mod Foreseeing
 mod Calm
+mod SwitchRows
 mod Runs
 mod Strides
 mod Asked
