@@ -41,7 +41,7 @@ module _ {D : Type 0} (host : Ghosts D) {C : Type 0} (opens : C → Files → Ty
   promised_through c ds old new law moments =
       weaker host old new (Promised opens (c ∷ commits_of ds) (host.said old)) (Underway opens c (host.said old) ds) moments (λ f s u. promised opens c (host.said old) ds f s law u)
 
-  one_between : (c : C) (ds : List (Deed C)) (new : D) → RestsBetween host opens c ds new → RestsAsOne host opens (c ∷ commits_of ds) new
+  pub one_between : (c : C) (ds : List (Deed C)) (new : D) → RestsBetween host opens c ds new → RestsAsOne host opens (c ∷ commits_of ds) new
   one_between c ds new h =
       let at = last_is c h.first h.rest in
       record { number = at.0; commit = last_of c h.first; is_of = ap (λ (x : List (Deed C)). slice_get (c ∷ commits_of x) at.0) h.all ∙ at.1; at = h.at }
