@@ -74,7 +74,7 @@ fn words_of_call<R: Env + AllocGlobal>(rt: &R) -> Result<Vec<String>, Status> {
 }
 
 // Does what the words say, or says why nothing was begun.
-fn do_call<R: Files<File = File> + Print + AllocGlobal + Drop, S: Source>(
+fn do_call<R: Files<File = File> + Print + Drop, S: Source>(
     alloc: Global,
     words: Result<Vec<String>, Status>,
     host: &mut DirHost<R>,
@@ -84,8 +84,7 @@ fn do_call<R: Files<File = File> + Print + AllocGlobal + Drop, S: Source>(
     if let Some(Command::Export { store, image } | Command::Clean { store, image }) = read_command(
         words.as_slice(),
     ) {
-        host.keep_stores_from(store, image)
-            .map_err(|_no_memory| Status::OutOfMemory)?;
+        host.keep_stores_from(store, image);
     }
     Ok(exit_code(alloc, words.as_slice(), host, script))
 }
