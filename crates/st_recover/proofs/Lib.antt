@@ -11,3 +11,4 @@ pub mod Making
 pub mod Obeying
 pub mod Restoring
 pub mod Rests
+pub mod Gates

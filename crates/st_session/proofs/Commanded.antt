@@ -123,7 +123,7 @@ module _ {D : Type 0} (host : Ghosts D) (name : List ℕ) where
       still = record { number = 0; commit = c; is_of = refl; at = still_at }
 
   -- behind a last line it is as broken as before
-  broken_said : (commits : List Commit) (text : List ℕ) (mid new : D) → IsTrue host.is_told → ReadsAndSays host text mid new → RestsBroken host (OpensAs name) commits mid → RestsBroken host (OpensAs name) commits new
+  broken_said : (commits : List Commit) (text : List ℕ) (mid new : D) → IsTrue host.is_told → ReadsAndSays host text mid new → RestsBroken host (OpensAs name) name commits mid → RestsBroken host (OpensAs name) name commits new
   broken_said commits text mid new told line (inl one) = inl (one_said host (OpensAs name) commits mid mid new text told line one)
   broken_said commits text mid new told line (inr two) = inr (record {
     number = two.number;
@@ -132,6 +132,12 @@ module _ {D : Type 0} (host : Ghosts D) (name : List ℕ) where
     is_of = two.is_of;
     follows = two.follows;
     either = λ f can. two.either f (λ n. (line.stops told).fewer n (f n) (can n));
+    failed = two.failed;
+    gate = two.gate;
+    behind = record {
+      fewer = λ n c can. two.behind.fewer n c ((line.stops told).fewer n c can);
+      more = λ n c could. (line.stops told).more n c (two.behind.more n c could);
+    };
   })
 
   -- a last line behind a session; after a fault in saying there is none
@@ -166,7 +172,7 @@ module _ {D : Type 0} (host : Ghosts D) (name : List ℕ) where
 
   pub followed_promise : {X Y : Type 0} (c : Commit) (course : Course Commit X) (so_far : List ℕ → Course Commit Y) (script left : List ℕ) (e : Status) (old mid closed new : D) → IsAtRest host (OpensAs name) c old → ((n : List ℕ) → host.may_leave old n (host.files old n))
       → CountsNow host closed → LeavesOnly host old mid (λ f s. (s ≡ host.said old) × IsOpening host old name f) → host.said mid ≡ host.said old → IsTrue host.is_told
-      → SessionEnds host (OpensAs name) (IsNoFileOf name) c course so_far script left mid closed e → ReadsAndSays host (last_line e) closed new → KeepsPromise host name (c ∷ commits_of (deeds_of course)) old new e
+      → SessionEnds host (OpensAs name) (IsNoFileOf name) c name course so_far script left mid closed e → ReadsAndSays host (last_line e) closed new → KeepsPromise host name (c ∷ commits_of (deeds_of course)) old new e
   followed_promise c course so_far script left e old mid closed new rest reads now moments quiet told ends line =
       let commits = c ∷ commits_of (deeds_of course) in
       let first = weaker host old mid (Promised (OpensAs name) commits (host.said old)) (λ f s. (s ≡ host.said old) × IsOpening host old name f) moments
@@ -281,7 +287,7 @@ open_at view host install name old new o c at = record {
 
 module _ {D : Type 0} (host : Ghosts D) (c : Commit) (script left : List ℕ) (mid closed : D) (e : Status) where
   abbrev Ends_at : List ℕ → ℕ → List Loss → State Births → Type 0
-  Ends_at name count lost s = SessionEnds host (OpensAs name) (IsNoFileOf name) c (session_over count lost s c script) (session_so_far_over count lost s c) script left mid closed e
+  Ends_at name count lost s = SessionEnds host (OpensAs name) (IsNoFileOf name) c name (session_over count lost s c script) (session_so_far_over count lost s c) script left mid closed e
 
   pub ends_at : (n m : List ℕ) (count : ℕ) (lost : List Loss) (r : Replayed) → n ≡ m → count ≡ r.count → lost ≡ r.lost → Ends_at n count lost r.state → Ends_at m r.count r.lost r.state
   ends_at n m count lost r one two three h = subst (λ (x : List Loss). Ends_at m r.count x r.state) three (subst (λ (x : ℕ). Ends_at m x lost r.state) two (subst (λ (x : List ℕ). Ends_at x count lost r.state) one h))
