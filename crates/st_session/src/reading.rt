@@ -1,4 +1,4 @@
-ghost use Rattle.std.specs.Prelude.{◌≡◌, ◌⊎◌, ◌<◌, ◌^◌, length, IsTrue, IfErr, OnOk, IsErrOf};
+ghost use Rattle.std.specs.Prelude.{◌≡◌, ◌⊎◌, ◌<◌, ◌^◌, length, nat_lt, IsTrue, IfErr, OnOk, IsErrOf};
 ghost use Rattle.st_host.specs.Counts.{Rose};
 ghost use Rattle.st_model.specs.Machine.{State};
 ghost use Rattle.st_model.specs.Births.{Births};
@@ -277,6 +277,7 @@ pub fn serve<M: Memory, H: Host, S: Source>(
     requires frame { IsFrame (M.view opened.loaded.memory) opened.loaded.frame }
     requires quiet { (M.view opened.loaded.memory).held.devices ≡ no_devices }
     requires named { opened.changes.name ≡ opened.store.name }
+    requires file { opened.changes.second ≡ nat_lt 1 opened.store.root.slot }
     requires whole { opened.store.root.length ≡ length (entries opened.changes.listed) }
     requires few { length opened.lost.items < 2 ^ 32 }
     ensures ends { IsTrue S.is_told → (c : Commit) (s : State Births)
