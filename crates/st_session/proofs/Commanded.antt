@@ -45,7 +45,7 @@ use Rattle.st_call.specs.LastLines.{last_line, SaysLastLine}
 use Rattle.st_session.specs.Commands.{opening_status}
 use Rattle.st_session.specs.Ends.{IsCalm, SessionEnds}
 use Rattle.st_call.specs.Telling.{IsOfServing}
-use Rattle.st_session.specs.Resting.{RestsBroken, RestsAcknowledged}
+use Rattle.st_session.specs.Resting.{GateFailed, RestsBroken, RestsAcknowledged}
 use Rattle.st_session.specs.StoreSessions.{course_over, IsOfSession, KeepsPromise}
 use Rattle.st_session.specs.Opening.{IsOpen, session_over, session_so_far_over}
 use Rattle.st_session.proofs.LastLines.{quiet_line}
@@ -122,6 +122,17 @@ module _ {D : Type 0} (host : Ghosts D) (name : List ℕ) where
       still : RestsAsOne host (OpensAs name) (c ∷ cs) new
       still = record { number = 0; commit = c; is_of = refl; at = still_at }
 
+  -- behind a last line the gate has failed as before
+  pub failed_said : (c : Commit) (text : List ℕ) (mid new : D) → IsTrue host.is_told → ReadsAndSays host text mid new → GateFailed host (OpensAs name) name c mid → GateFailed host (OpensAs name) name c new
+  failed_said c text mid new told line gate = record {
+    failed = gate.failed;
+    gate = gate.gate;
+    behind = record {
+      fewer = λ n x can. gate.behind.fewer n x ((line.stops told).fewer n x can);
+      more = λ n x could. (line.stops told).more n x (gate.behind.more n x could);
+    };
+  }
+
   -- behind a last line it is as broken as before
   broken_said : (commits : List Commit) (text : List ℕ) (mid new : D) → IsTrue host.is_told → ReadsAndSays host text mid new → RestsBroken host (OpensAs name) name commits mid → RestsBroken host (OpensAs name) name commits new
   broken_said commits text mid new told line (inl one) = inl (one_said host (OpensAs name) commits mid mid new text told line one)
@@ -132,12 +143,7 @@ module _ {D : Type 0} (host : Ghosts D) (name : List ℕ) where
     is_of = two.is_of;
     follows = two.follows;
     either = λ f can. two.either f (λ n. (line.stops told).fewer n (f n) (can n));
-    failed = two.failed;
-    gate = two.gate;
-    behind = record {
-      fewer = λ n c can. two.behind.fewer n c ((line.stops told).fewer n c can);
-      more = λ n c could. (line.stops told).more n c (two.behind.more n c could);
-    };
+    gate = failed_said two.commit text mid new told line two.gate;
   })
 
   -- a last line behind a session; after a fault in saying there is none

@@ -9,8 +9,14 @@ use Rattle.st_protocol.specs.Acknowledged.{acknowledged}
 use Rattle.st_protocol.specs.Done.{RestsAsOne}
 
 module _ {D : Type 0} (host : Ghosts D) {C : Type 0} (opens : C → Files → Type 0) where
-  -- Each state that a stop may leave opens as one of two commits, of which the second follows the first. It was the gate of this store
-  -- that failed, where the first stood, and behind that no file was touched.
+  -- The gate of this store failed where it opened as this commit, and behind that no file was touched.
+  pub record GateFailed (name : List ℕ) (c : C) (new : D) : Type 0 where
+    pub failed : D
+    pub gate : GateFails host opens name c failed
+    pub behind : SameStops (host.may_leave failed) (host.may_leave new)
+
+  -- Each state that a stop may leave opens as one of two commits, of which the second follows the first: as the second was made the
+  -- gate failed.
   pub record RestsAsEither (name : List ℕ) (commits : List C) (new : D) : Type 0 where
     pub number : ℕ
     pub commit : C
@@ -18,9 +24,7 @@ module _ {D : Type 0} (host : Ghosts D) {C : Type 0} (opens : C → Files → Ty
     pub is_of : slice_get commits number ≡ Some commit
     pub follows : slice_get commits (suc number) ≡ Some next
     pub either : (f : Files) → ((n : List ℕ) → host.may_leave new n (f n)) → opens commit f ⊎ opens next f
-    pub failed : D
-    pub gate : GateFails host opens name commit failed
-    pub behind : SameStops (host.may_leave failed) (host.may_leave new)
+    pub gate : GateFailed name commit new
 
   -- as one of the commits, or, only where the gate failed as a commit was made, as that or as the one before it
   abbrev pub RestsBroken : List ℕ → List C → D → Type 0
