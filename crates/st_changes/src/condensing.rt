@@ -1,10 +1,11 @@
 // Dropping the definitions that later ones supersede.
-ghost use Rattle.std.specs.Prelude.{◌≡◌, ◌⊎◌, ◌≤◌, ◌+◌, ◌<◌, ◌^◌, ◌++◌, ◌∷◌, [], List, All, IfOk, get_or, true, Some, Err, IsTrue, IsErr, OnOk, nat_lt, length, take, drop};
+ghost use Rattle.std.specs.Prelude.{◌≡◌, ◌⊎◌, ◌≤◌, ◌+◌, ◌<◌, ◌^◌, ◌++◌, ◌∷◌, [], List, All, IfOk, get_or, true, Some, Err, IsTrue, IsErr, OnErr, OnOk, nat_lt, length, take, drop};
 ghost use Rattle.st_host.specs.Pieces.{end_of, Pushes};
 ghost use Rattle.st_host.specs.Runs.{IsSynced, WritesAbove, Makes, ChangesBoth, IsAtRest};
 ghost use Rattle.st_changes.specs.declared.condense_fault.CondenseFault.TheVariants.{OutOfMemory};
 ghost use Rattle.st_store.specs.Names.{roots_file, changes_file};
 ghost use Rattle.st_store.specs.Stored.{Stored, Opens, IsKept};
+ghost use Rattle.st_store.specs.Faults.{RestsUnlessGate};
 ghost use Rattle.st_changes.specs.Writing.{Extends, CondenseHasCause};
 ghost use Rattle.st_changes.specs.Lists.{StandsAt};
 ghost use Rattle.st_chunk.specs.Definitions.{Definition as Defined, IsDefinition, entry, entries};
@@ -228,6 +229,9 @@ pub fn condense<H: Host>(
     ensures kept { IfOk result (λ r. (c : Stored) (z : Condenses changes.now.listed store.root.base)
         → IsTrue H.is_told
         → IsKept H.Host.own host.old store c → IsKept H.Host.own host.new r.store (condensed c z)) }
+    // After an error they open as before, but where the gate failed.
+    ensures broken { OnErr result ((c : Stored) → IsTrue H.is_told → IsKept H.Host.own host.old store c
+        → RestsUnlessGate H.Host.own (Opens store.name) store.name c host.new) }
     ensures before { IfOk result (λ r. r.before ≡ length changes.now.listed) }
     ensures after { IfOk result (λ r. (z : Condenses changes.now.listed store.root.base)
         → r.after ≡ length (z.kept ++ z.behind)) }

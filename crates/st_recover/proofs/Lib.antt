@@ -12,3 +12,4 @@ pub mod Obeying
 pub mod Restoring
 pub mod Rests
 pub mod Condensing
+pub mod Gates

@@ -7,6 +7,7 @@ use Rattle.st_host.specs.Stops.{SaidPart, WhileSaying}
 use Rattle.st_host.specs.declared.host.Host.{Ghosts}
 use Rattle.st_host.proofs.Joining.{weaker, moments_join}
 use Rattle.st_chunk.specs.Definitions.{Definition, IsDefinition, entries}
+use Rattle.st_store.specs.Faults.{RestsUnlessGate}
 use Rattle.st_store.specs.Stored.{StoreState, Opens, IsKept, IsOpening}
 use Rattle.st_store.specs.declared.root.Root.{Root}
 use Rattle.st_protocol.specs.declared.status.Status.{Status}
@@ -15,7 +16,7 @@ use Rattle.st_protocol.proofs.Underways.{nothing_of}
 use Rattle.st_changes.specs.Condensing.{Condenses, condensed}
 use Rattle.st_recover.specs.Commits.{Commit, OpensAs, all_of, stored_of}
 use Rattle.st_recover.specs.Condensed.{IsCondensed, OpensCondensed}
-use Rattle.st_recover.proofs.Commits.{IsOpenable}
+use Rattle.st_recover.proofs.Commits.{IsOpenable, broken_commit}
 use Rattle.st_recover.proofs.Condensing.{condensed_commit, is_condensed, makes_condensed}
 use Rattle.st_call.specs.LastLines.{last_line, SaysLastLine}
 use Rattle.st_call.specs.Replies.{condensed_text}
@@ -61,6 +62,9 @@ module _ {D : Type 0} (host : Ghosts D) (old : D) (store : StoreState) (listed :
 
   pub rests_same : (new : D) → IsAtRest host (Opens store.name) (stored_of store.root.slot c) new → IsAtRest host (OpensAs store.name) c new
   rests_same new rest = record { opens_as = λ f can. record { slot = store.root.slot; opens = rest.opens_as f can; readable = able.readable; good = able.good } }
+
+  pub unless_gate : (new : D) → RestsUnlessGate host (Opens store.name) store.name (stored_of store.root.slot c) new → RestsUnlessGate host (OpensAs store.name) store.name c new
+  unless_gate new broken = broken_commit host store.name store.name store.root.slot c new able refl broken
 
   module _ {R E : Type 0} (mid : D) (result : Result R E) (z : Condenses listed store.root.base)
       (makes : Makes host (Opens store.name) (stored_of store.root.slot c) (condensed (stored_of store.root.slot c) z) old mid result) where
@@ -171,7 +175,13 @@ module _ {D : Type 0} (host : Ghosts D) (store : List ℕ) where
         (subst (λ (t : List ℕ). SaidPart t (condensed_text (length (all_of c)) (length (all_of has.commit))) (host.said closed)) quiet has.said);
     rests = record { opens_as = λ f can. has.rests.opens_as f (λ n. (line.stops told).fewer n (f n) (can n)) };
   }
-  condense_has c (Err status.DiskFault) old mid closed new told kind has quiet low line last = line_behind host store store status.DiskFault old closed new (has ∙ quiet) low last
+  condense_has c (Err status.DiskFault) old mid closed new told kind has quiet low line last = (
+    line_behind host store store status.DiskFault old closed new (has.0 ∙ quiet) low last,
+    ⊎_elim
+        (λ rest. inl (record { opens_as = λ f can. rest.opens_as f (λ n. (line.stops told).fewer n (f n) (can n)) }))
+        (λ gate. inr (record { failed = closed; gate = gate; behind = line.stops told }))
+        has.1,
+  )
   condense_has c (Err status.OutOfMemory) old mid closed new told kind has quiet low line last = (
     line_behind host store store status.OutOfMemory old closed new (has.0 ∙ quiet) low last,
     record { opens_as = λ f can. has.1.opens_as f (λ n. (line.stops told).fewer n (f n) (can n)) },

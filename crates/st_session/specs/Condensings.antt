@@ -5,6 +5,7 @@ use Rattle.st_host.specs.Runs.{LeavesOnly, Spares, IsAtRest}
 use Rattle.st_host.specs.Stops.{SaidPart}
 use Rattle.st_host.specs.declared.host.Host.{Ghosts}
 use Rattle.st_chunk.specs.Definitions.{Definition}
+use Rattle.st_store.specs.Faults.{RestsUnlessGate}
 use Rattle.st_store.specs.Names.{IsNoFileOf}
 use Rattle.st_store.specs.Stored.{StoreState, IsKept}
 use Rattle.st_protocol.specs.declared.status.Status.{Status}
@@ -17,6 +18,7 @@ use Rattle.st_call.specs.LastLines.{last_line, SaysLastLine}
 use Rattle.st_call.specs.Replies.{condensed_text}
 use Rattle.st_session.specs.Ends.{IsCalm}
 use Rattle.st_session.specs.Exports.{AllSaid, PartSaid, IsOfExport, OpensWhole}
+use Rattle.st_session.specs.Resting.{GateFailed}
 use Rattle.st_session.specs.StoreSessions.{IsRefused}
 
 module _ {D : Type 0} (host : Ghosts D) where
@@ -34,11 +36,12 @@ module _ {D : Type 0} (host : Ghosts D) where
       pub said : says (condensed_text (length (all_of c)) (length (all_of commit)))
       pub rests : IsAtRest host (OpensAs name) commit new
 
-    -- it was condensed, or that failed; without memory the commit stays
+    -- It was condensed, or that failed: the commit stays, but where the gate failed.
     abbrev pub ResultHas : D → D → Result Unit Status → Type 0
     ResultHas old new (Ok u) = HasCondensed (AllSaid host old new) new
     ResultHas old new (Err SayFault) = HasCondensed (PartSaid host old new) new
     ResultHas old new (Err OutOfMemory) = (host.said new ≡ host.said old) × IsAtRest host (OpensAs name) c new
+    ResultHas old new (Err DiskFault) = (host.said new ≡ host.said old) × RestsUnlessGate host (OpensAs name) name c new
     ResultHas old new (Err status) = host.said new ≡ host.said old
 
     -- at each moment the files open as the commit condensed, or as it was, and then nothing was said yet
@@ -50,7 +53,7 @@ module _ {D : Type 0} (host : Ghosts D) where
     abbrev pub CondenseHas : D → D → Status → Type 0
     CondenseHas old new Done = HasCondensed (AllSaid host old new) new
     CondenseHas old new SayFault = HasCondensed (PartSaid host old new) new
-    CondenseHas old new DiskFault = SaysLastLine host DiskFault old new
+    CondenseHas old new DiskFault = SaysLastLine host DiskFault old new × (IsAtRest host (OpensAs name) c new ⊎ GateFailed host (OpensAs name) name c new)
     CondenseHas old new OutOfMemory = SaysLastLine host OutOfMemory old new × IsAtRest host (OpensAs name) c new
     CondenseHas old new _ = ⊥
 

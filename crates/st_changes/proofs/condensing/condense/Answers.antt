@@ -7,6 +7,7 @@ use Rattle.st_host.proofs.Pushing.{from_none}
 use Rattle.st_host.proofs.Touching.{above_changes, both_join}
 use Rattle.st_store.specs.Names.{roots_file, changes_file}
 use Rattle.st_store.specs.Stored.{Opens}
+use Rattle.st_store.proofs.Settling.{when_err}
 use Rattle.st_store.specs.declared.root.Root.{Root}
 use Rattle.st_chunk.specs.Definitions.{Definition, entries}
 use Rattle.st_changes.specs.Views.{definition_of, definitions_of}
@@ -243,6 +244,53 @@ returns-in_err-written-clause-starved g c x told kept none =
     let st = c.args.store in
     let is = c.changes_name_of.ensures ∙ ap (changes_file st.name) (c.turned-slot.ensures ∙ ap (λ (r : Root). turned r.slot) c.root-root.ensures) in
     makes_rest H (Opens st.name) x a b c.write_kept.result (written_makes H st x a b told kept c.changes_name_of.result.now is c.write_kept.ensures.writes c.write_kept.result)
+
+pub returns-in_err-marks-clause-broken : goal.returns-in_err-marks-clause-broken
+returns-in_err-marks-clause-broken g c = when_err c.from_residual.result _ (λ x told kept.
+    let H = g.H.Host in
+    let a = c.args.host.now in
+    let st = c.args.store in
+    let file = changes_file st.name (turned st.root.slot) in
+    let unwritten : WritesAbove H 0 file a a = (from_none H file a (record { at = 0; bytes = [] }) (λ told f s left. g.met.H.Host.only_now a f s told left)).above 0 (omega arith) (λ told. omega arith) in
+    inl (makes_rest H (Opens st.name) x a a c.from_residual.result (written_makes H st x a a told kept file refl unwritten c.from_residual.result)))
+
+pub returns-in_err-written-clause-broken : goal.returns-in_err-written-clause-broken
+returns-in_err-written-clause-broken g c = when_err c.from_residual-in_err-written.result _ (λ x told kept.
+    let H = g.H.Host in
+    let a = c.args.host.now in
+    let b = c.write_kept.new.host in
+    let st = c.args.store in
+    let is = c.changes_name_of.ensures ∙ ap (changes_file st.name) (c.turned-slot.ensures ∙ ap (λ (r : Root). turned r.slot) c.root-root.ensures) in
+    inl (makes_rest H (Opens st.name) x a b c.write_kept.result (written_makes H st x a b told kept c.changes_name_of.result.now is c.write_kept.ensures.writes c.write_kept.result)))
+
+pub returns-in_err-store-clause-broken : goal.returns-in_err-store-clause-broken
+returns-in_err-store-clause-broken g c = when_err c.from_residual-in_err-store.result _ (λ x told kept.
+    let H = g.H.Host in
+    let a = c.args.host.now in
+    let b = c.write_kept.new.host in
+    let st = c.args.store in
+    let ds = c.args.changes.now.listed in
+    let L = c.definitions-listed.result.now in
+    let LL = c.definitions-listed.ensures in
+    let n = c.count_before-count.result in
+    let F = definitions_of (take n L) in
+    let B = definitions_of (drop n L) in
+    let K = kept_by c.in_ok-marks.marks.items F in
+    let Kis = ap (λ m. kept_by m F) c.deref.ensures.value in
+    let Bis = ap definitions_of (rest_taken n L) in
+    let split : ds ≡ F ++ B = sym LL ∙ parts_are L n in
+    let place : st.root.base ≡ length (entries F) = sym (ap (λ (r : Root). r.base) c.root-root.ensures) ∙ (c.count_before-count.ensures.before ∙ (ap (λ x. length (entries (take n x))) (sym LL) ∙ ap (λ x. length (entries x)) (taken_of L n))) in
+    let stays : Stays B F K = c.in_ok-marks.ensures.stays in
+    let z = condenses_by ds F B K st.root.base split place stays in
+    let file = c.changes_name_of.result.now in
+    let writes = c.write_kept.ensures.writes in
+    let is = c.changes_name_of.ensures ∙ ap (changes_file st.name) (c.turned-slot.ensures ∙ ap (λ (r : Root). turned r.slot) c.root-root.ensures) in
+    let lists = (λ i. Kis i ++ Bis i) ∙ all_are ds F B K st.root.base split place stays z in
+    let still = still_kept H st x a b told kept file is writes in
+    let firm = condensed_firm H st x a b told kept file is writes ds st.root.base z c.requires.place _ (ap entries lists) (c.in_ok-written.ensures.file told) c.in_ok-written.ensures.synced in
+    let root = condensed_root H st x a b told kept file is writes ds st.root.base z _ (c.turned-slot.ensures ∙ ap (λ (r : Root). turned r.slot) c.root-root.ensures) (ap (λ (r : Root). r.image_length) c.root-root.ensures)
+    (c.in_ok-written.ensures.base ∙ ap (λ ks. length (entries ks)) (Kis ∙ kept_is ds F B K st.root.base split place stays z)) (c.in_ok-written.ensures.length ∙ ap (λ x. length (entries x)) lists) in
+    c.in_err-store.ensures.broken x (condensed x z) told still firm root)
 
 pub overflow_cast-result : goal.overflow_cast-result
 overflow_cast-result g c =

@@ -91,6 +91,9 @@ returns-in-Err-clause-ends g c =
         moments = moments told;
         elsewhere = refused_elsewhere host store _ old mid new opened.only told line.reads;
         rests = λ named k o. rests_line host store k _ mid new told line.reads (opened.rests told named k o);
+        opened = mid;
+        settles = opened.settles told;
+        behind = line.reads;
         spares = spares_line host store _ old mid new opened.spares line.alike line.reads;
       });
       whole = λ told k rest. refused_whole_moments host store k e old new rest (λ n. g.met.H.Host.read_counts old n told) (moments told);

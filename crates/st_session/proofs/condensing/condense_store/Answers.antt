@@ -6,7 +6,7 @@ use Rattle.st_changes.specs.Condensing.{turned}
 use Rattle.st_changes.specs.declared.condense_fault.CondenseFault.{CondenseFault}
 use Rattle.st_recover.specs.Commits.{stored_of}
 use Rattle.st_recover.proofs.Making.{both_spare}
-use Rattle.st_session.proofs.Condensed.{where_ok, condensed_told, unmade, rests_same}
+use Rattle.st_session.proofs.Condensed.{where_ok, condensed_told, unmade, rests_same, unless_gate}
 use Rattle.st_session.proofs.Exported.{counts_behind, told_kind, names_said}
 use Rattle.st_session.proofs.condensing.condense_store.Goals as goal
 
@@ -41,7 +41,10 @@ returns-in-Err-Disk-clause-does g c k told kept =
     let did = c.condense.ensures in
     let x = stored_of c.args.store.root.slot k in
     let un = unmade g.H.Host c.args.host.now c.args.store c.args.changes.now.listed k kept c.requires.good c.condense.new.host c.condense.result (did.either x told kept.kept) (λ z. did.makes x z told kept.kept) in
-    record { moments = un.0; has = un.1 }
+    record {
+      moments = un.0;
+      has = (un.1, unless_gate g.H.Host c.args.host.now c.args.store c.args.changes.now.listed k kept c.requires.good c.condense.new.host (c.in-Err-Disk.ensures.broken x told kept.kept));
+    }
 
 pub returns-in-Err-OutOfMemory-clause-does : goal.returns-in-Err-OutOfMemory-clause-does
 returns-in-Err-OutOfMemory-clause-does g c k told kept =

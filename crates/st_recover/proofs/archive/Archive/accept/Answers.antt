@@ -60,7 +60,8 @@ returns-in_default-append-clause-obeys g c x holds =
     let spares = both_spare H (changes_file old.name slot) (roots_file old.name) (IsNoFileOf old.name) a b (λ n no. no.changes slot) (λ n no. no.roots) both in
     let makes = accept_makes H a old st x holds there kept b c.append.result (subst IsDefinition (sym is) c.requires.good) (λ y told keeps. c.append.ensures.makes y told keeps) in
     obeys_as H (OpensAs old.name) (IsNoFileOf old.name) _ (λ d. d) x (accepting x kept) (accepting x (definition_of c.args.definition.now)) (Err DiskFault) a b (ap (accepting x) is)
-    (accept_failed H (OpensAs old.name) (IsNoFileOf old.name) _ x kept a b c.append.result fits makes spares)
+    (accept_failed H (OpensAs old.name) (IsNoFileOf old.name) _ x kept old.name a b c.append.result fits makes
+    (accept_broken H a old st x holds there b (λ y told keeps. c.in_default-append.ensures.broken y told keeps)) spares)
 
 pub returns-in_default-append-clause-broken : goal.returns-in_default-append-clause-broken
 returns-in_default-append-clause-broken g c disk x told holds =
