@@ -16,7 +16,7 @@ pub const NO_ARGUMENTS: usize = 64;
 
 /// How many arguments and blocks may stand in one another. A text has at most 200 brackets in one another, and between two of
 /// them a keyword's argument may hold an operator's.
-pub const MOST_HIGH: usize = 602;
+const MOST_HIGH: usize = 602;
 
 /// An expression, or a statement: whether it is returned, where its code starts, the least number of a block argument
 /// within, 64 where there is none, and how many arguments and blocks stand in one another at most.
