@@ -173,7 +173,8 @@ pub fn put_low(piece: Piece, items: &mut Stack) -> Result<bool, AllocError>
     ensures { IfOk result (λ ok.
         chosen_if ok items.new.items ≡ put_low (piece_view piece) (stack_view items.old.items)) }
 {
-    if is_low(piece.height) {
+    let low = is_low(piece.height);
+    if low {
         items.push(Item::Piece(piece))?;
         Ok(true)
     } else {

@@ -1,4 +1,4 @@
-use Rattle.std.proofs.Common.{◌≡◌, None, refl, sym, ap, ◌∙◌}
+use Rattle.std.proofs.Common.{◌≡◌, refl, sym, ap, ◌∙◌}
 use Rattle.st_expression_stack.specs.Items.{Piece, put_low}
 use Rattle.st_expression_stack.specs.Stacks.{stack_view, stack_if, chosen_if}
 use Rattle.st_decompile.specs.Read.{block_made_by}
