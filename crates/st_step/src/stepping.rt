@@ -30,7 +30,7 @@ pub fn plan<M: Memory>(m: &M, f: &Frame, w: &World) -> Result<Demand, Dead>
 }
 
 /// What the end of a step leaves to be done.
-fn deed_of(end: StepEnd) -> Deed
+pub fn deed_of(end: StepEnd) -> Deed
     ensures { result ≡ deed_of_end end }
 {
     match end {
