@@ -40,6 +40,6 @@ mod Nested
 mod Written
 mod ReadTrees
 pub mod Answered
-mod Finding
+pub mod Finding
 mod Tested
 pub mod CallsAlike
