@@ -1,6 +1,6 @@
 //! The program: `st80 once IMAGE N` reads an image file, runs N cycles of its machine, and says what it shows then;
 //! `st80 import IMAGE STORE` makes a store of an image; `st80 export STORE IMAGE` writes an image of what a store holds;
-//! `st80 clean STORE IMAGE` writes one of what can be reached there;
+//! `st80 clean STORE IMAGE` writes one of what can be reached there; `st80 condense STORE` drops definitions that later ones supersede;
 //! `st80 session STORE` opens a store, and follows a script from standard input over what it holds; `st80 build KERNEL STORE` makes
 //! a store of the image that a kernel text builds; `st80 drill N` runs a million cycles of an image that it builds from the number N.
 #![tactic(auto)]

@@ -3,6 +3,7 @@ pub mod BrowsedLines
 pub mod Built
 pub mod Called
 pub mod Commanded
+pub mod Condensed
 pub mod Cycles
 pub mod Drilled
 pub mod Ending

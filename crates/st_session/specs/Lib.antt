@@ -23,6 +23,7 @@ pub mod Builds
 pub mod Drills
 pub mod StoreSessions
 pub mod Exports
+pub mod Condensings
 pub mod Joining
 pub mod Calls
 pub mod Reports

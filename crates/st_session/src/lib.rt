@@ -9,6 +9,7 @@ mod answering;
 mod browsing;
 mod building;
 mod command;
+mod condensing;
 mod debugging;
 mod drilling;
 mod exporting;
@@ -29,6 +30,7 @@ mod watching;
 
 pub use building::build;
 pub use command::{once, session};
+pub use condensing::condense;
 pub use drilling::drill;
 pub use exporting::export;
 pub use extent::Extent;
