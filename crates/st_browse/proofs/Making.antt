@@ -22,7 +22,7 @@ use Rattle.st_parts.specs.Keys.{AreNamesFor, AnswersFor, HasOneName, literals_in
 use Rattle.st_parts.specs.Parts.{Place, parts_at}
 use Rattle.st_parts.proofs.OneName.{one_name}
 use Rattle.st_parts.proofs.PartsAlike.{parts_alike}
-use Rattle.st_decompile.specs.Names.{name_in, calling_of}
+use Rattle.st_expression_stack.specs.Names.{name_in, calling_of}
 use Rattle.st_decompile.specs.Whole.{candidate}
 use Rattle.st_decompile.specs.Answers.{IsCandidate, IsSource, IsSourceOf, IsPrintedRead}
 use Rattle.st_decompile.proofs.CallsAlike.{calls_alike}

@@ -10,7 +10,7 @@ use Rattle.st_code.specs.declared.fault.Fault.{Fault as CodeFault}
 use Rattle.st_code.specs.Methods.{PartsView, code}
 use Rattle.st_parts.specs.Parts.{Place, parts_at}
 use Rattle.st_decompile.specs.Comparing.{same_parts}
-use Rattle.st_decompile.specs.Names.{calling_of, name_in}
+use Rattle.st_expression_stack.specs.Names.{calling_of, name_in}
 use Rattle.st_decompile.specs.Whole.{candidate}
 use Rattle.st_decompile.specs.Answers.{IsSource, IsSourceOf, IsPrintedRead}
 use Rattle.st_decompile.proofs.Decompiled.{none_found, back_is}

@@ -11,7 +11,7 @@ use Rattle.st_code.specs.declared.fault.Fault.{Fault as CodeFault}
 use Rattle.st_code.specs.Methods.{PartsView, code}
 use Rattle.st_parts.specs.Parts.{Place, parts_at}
 use Rattle.st_decompile.specs.Comparing.{same_parts}
-use Rattle.st_decompile.specs.Names.{calling_of, name_in}
+use Rattle.st_expression_stack.specs.Names.{calling_of, name_in}
 use Rattle.st_decompile.specs.Whole.{candidate}
 use Rattle.st_chunk.specs.Asks.{Side}
 use Rattle.st_install.specs.Syntax.{syntax}
