@@ -22,11 +22,7 @@ use st_scope::InstallFault;
 use std::alloc::{AllocError, Global};
 
 /// The names that a method sees, where its class has the form that an installation asks.
-fn names_of<M: Memory>(
-    alloc: Global,
-    m: &M,
-    of: Compiled<'_>,
-) -> Result<Option<Names>, AllocError>
+fn names_of<M: Memory>(alloc: Global, m: &M, of: Compiled<'_>) -> Result<Option<Names>, AllocError>
     requires { is_live (M.view m.now).objects (value of.entry.method) ≡ true }
     ensures { IfOk result (AreNamesIf (M.view m.now) (place_of of.entry)) }
 {
