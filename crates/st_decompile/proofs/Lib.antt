@@ -40,6 +40,6 @@ mod Nested
 mod Written
 mod ReadTrees
 pub mod Answered
-pub mod Decompiled
+pub mod Finding
 mod Tested
 pub mod CallsAlike

@@ -13,7 +13,7 @@ use Rattle.st_decompile.specs.Comparing.{same_parts}
 use Rattle.st_expression_stack.specs.Names.{calling_of, name_in}
 use Rattle.st_decompile.specs.Whole.{candidate}
 use Rattle.st_decompile.specs.Answers.{IsSource, IsSourceOf, IsPrintedRead}
-use Rattle.st_decompile.proofs.Decompiled.{none_found, back_is}
+use Rattle.st_decompile.proofs.Finding.{none_found, back_is}
 use Rattle.st_decompile.proofs.Sameness.{parts_are, parts_same}
 use Rattle.st_chunk.specs.Asks.{Side}
 use Rattle.st_install.specs.Syntax.{IsSyntax, syntax}
