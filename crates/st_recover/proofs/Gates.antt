@@ -15,7 +15,8 @@ use Rattle.st_recover.specs.Commits.{Commit, OpensAs}
 -- endings that differ in a letter, where the second is so much longer than the first
 shifted : (a b s t : List ℕ) (k : ℕ) → k + length s ≡ length t → slice_index s 0 ≢ slice_index t k → a ++ s ≢ b ++ t
 shifted a b s t k more other same =
-    let long : length a ≡ length b + k = let e : length a + length s ≡ length b + length t = sym (length-append a s) ∙ ap length same ∙ length-append b t in omega (arith, e, more) in
+    let both : length a + length s ≡ length b + length t = sym (length-append a s) ∙ ap length same ∙ length-append b t in
+    let long : length a ≡ length b + k = omega (arith, both, more) in
     let here : slice_index (a ++ s) (length a) ≡ slice_index s 0 =
     get_or-append_right a s (length a) (length a) 0 refl (omega arith) ∙ ap (λ (j : ℕ). slice_index s j) (let e : length a - length a ≡ 0 = omega arith in e) in
     let there : slice_index (b ++ t) (length a) ≡ slice_index t k =
@@ -25,13 +26,13 @@ shifted a b s t k more other same =
 -- the roots file of a store is none of the other files of another
 module _ (a b : List ℕ) where
   roots_changes : (slot : ℕ) → roots_file a ≢ changes_file b slot
-  roots_changes zero = shifted a b (codes ".roots") (codes ".changes") 2 refl (λ e. cc)
-  roots_changes (suc zero) = shifted a b (codes ".roots") (codes ".changes") 2 refl (λ e. cc)
-  roots_changes (suc (suc n)) = shifted a b (codes ".roots") (codes ".changes2") 3 refl (λ e. cc)
+  roots_changes zero = shifted a b (codes ".roots") (codes ".changes") 2 refl (λ e. let clash : 46 ≡ 104 = e in cc)
+  roots_changes (suc zero) = shifted a b (codes ".roots") (codes ".changes") 2 refl (λ e. let clash : 46 ≡ 104 = e in cc)
+  roots_changes (suc (suc n)) = shifted a b (codes ".roots") (codes ".changes2") 3 refl (λ e. let clash : 46 ≡ 97 = e in cc)
 
   roots_images : (slot : ℕ) → roots_file a ≢ image_file b slot
-  roots_images zero = λ same. shifted b a (codes ".a") (codes ".roots") 4 refl (λ e. cc) (sym same)
-  roots_images (suc zero) = λ same. shifted b a (codes ".b") (codes ".roots") 4 refl (λ e. cc) (sym same)
+  roots_images zero = λ same. shifted b a (codes ".a") (codes ".roots") 4 refl (λ e. let clash : 46 ≡ 116 = e in cc) (sym same)
+  roots_images (suc zero) = λ same. shifted b a (codes ".b") (codes ".roots") 4 refl (λ e. let clash : 46 ≡ 116 = e in cc) (sym same)
   roots_images (suc (suc n)) = roots_images n
 
 -- what files open as is in those of its name

@@ -126,7 +126,7 @@ module _ {D : Type 0} (host : Ghosts D) (name : List ℕ) where
   pub failed_said : (c : Commit) (text : List ℕ) (mid new : D) → IsTrue host.is_told → ReadsAndSays host text mid new → GateFailed host (OpensAs name) name c mid → GateFailed host (OpensAs name) name c new
   failed_said c text mid new told line gate = record {
     failed = gate.failed;
-    gate = gate.gate;
+    fails = gate.fails;
     behind = record {
       fewer = λ n x can. gate.behind.fewer n x ((line.stops told).fewer n x can);
       more = λ n x could. (line.stops told).more n x (gate.behind.more n x could);

@@ -179,7 +179,7 @@ module _ {D : Type 0} (host : Ghosts D) (store : List ℕ) where
     line_behind host store store status.DiskFault old closed new (has.0 ∙ quiet) low last,
     ⊎_elim
         (λ rest. inl (record { opens_as = λ f can. rest.opens_as f (λ n. (line.stops told).fewer n (f n) (can n)) }))
-        (λ gate. inr (record { failed = closed; gate = gate; behind = line.stops told }))
+        (λ gate. inr (record { failed = closed; fails = gate; behind = line.stops told }))
         has.1,
   )
   condense_has c (Err status.OutOfMemory) old mid closed new told kind has quiet low line last = (

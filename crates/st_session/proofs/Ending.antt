@@ -112,7 +112,7 @@ module _ {D : Type 0} (host : Ghosts D) {C : Type 0} (opens : C → Files → Ty
             is_of = ap (λ (x : List (Deed C)). slice_get (c ∷ commits_of x) number.0) within.all ∙ number.1;
             follows = ap (λ (x : List (Deed C)). slice_get (c ∷ commits_of x) (suc number.0)) within.all ∙ number.2;
             either = within.either;
-            gate = record { failed = new; gate = gate; behind = record { fewer = λ n c can. can; more = λ n c could. could } };
+            gate = record { failed = new; fails = gate; behind = record { fewer = λ n c can. can; more = λ n c could. could } };
           }))
           (own tells within.name (last_of c within.first) new within.gate)
 

@@ -4,16 +4,24 @@ use Rattle.st_host.specs.Files.{Files}
 use Rattle.st_host.specs.Runs.{IsAtRest}
 use Rattle.st_host.specs.Stops.{SameStops}
 use Rattle.st_host.specs.declared.host.Host.{Ghosts}
-use Rattle.st_store.specs.Faults.{GateFails}
+use Rattle.st_store.specs.Faults.{FailsAt}
 use Rattle.st_protocol.specs.Acknowledged.{acknowledged}
 use Rattle.st_protocol.specs.Done.{RestsAsOne}
 
 module _ {D : Type 0} (host : Ghosts D) {C : Type 0} (opens : C → Files → Type 0) where
-  -- The gate of this store failed where it opened as this commit, and behind that no file was touched.
-  pub record GateFailed (name : List ℕ) (c : C) (new : D) : Type 0 where
+  -- A write of n bytes at a place of the roots file failed, or its sync, where files opened as this, and behind that no file was
+  -- touched.
+  pub record HasFailed (at n : ℕ) (name : List ℕ) (c : C) (new : D) : Type 0 where
     pub failed : D
-    pub gate : GateFails host opens name c failed
+    pub fails : FailsAt host at n opens name c failed
     pub behind : SameStops (host.may_leave failed) (host.may_leave new)
+
+  -- that of the gate, or of the eight letters
+  abbrev pub GateFailed : List ℕ → C → D → Type 0
+  GateFailed name c new = HasFailed 8 1 name c new
+
+  abbrev pub LettersFailed : List ℕ → C → D → Type 0
+  LettersFailed name c new = HasFailed 0 8 name c new
 
   -- Each state that a stop may leave opens as one of two commits, of which the second follows the first: as the second was made the
   -- gate failed.
