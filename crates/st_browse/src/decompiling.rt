@@ -23,7 +23,7 @@ use std::alloc::{AllocError, Global};
 
 /// The names that a method sees, where its class has the form that an installation asks.
 fn names_of<M: Memory>(alloc: Global, m: &M, of: Compiled<'_>) -> Result<Option<Names>, AllocError>
-    requires { is_live (M.view m.now).objects (value of.entry.method) ≡ true }
+    requires { is_live (M.view m.now).objects (value of.method) ≡ true }
     ensures { IfOk result (AreNamesIf (M.view m.now) (place_of of.entry)) }
 {
     match method_names(alloc, m, of.class, of.meta, of.method) {
@@ -40,7 +40,7 @@ fn text_under<M: Memory>(
     names: &Names,
     of: Compiled<'_>,
 ) -> Result<Option<Text>, AllocError>
-    requires { IsCompiled (M.view m.now).objects of.entry }
+    requires { IsCompiled (M.view m.now).objects of }
     ensures { let names = names_view names.now in
         let parts = parts_at names (M.view m.now) (place_of of.entry) in
         IfOk result (λ text. IsTextOfParts names parts (option_map text_of text)) }

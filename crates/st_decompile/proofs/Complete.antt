@@ -4,15 +4,15 @@ use Rattle.std.proofs.lemmas.Bool.Decides.{nat_tests}
 use Rattle.std.specs.Prelude.{if◌then◌else◌, nat_lt, nat_le, is_some, Ok, slice_get}
 use Rattle.st_scan.specs.declared.token.Signed.{Signed}
 use Rattle.st_scan.specs.Views.{MethodView}
-use Rattle.st_emit.specs.Bounds.{most_literals, most_variables, small_room, large_room}
+use Rattle.st_emit.specs.Bounds.{most_literals, small_room}
 use Rattle.st_emit.specs.declared.step.Place.{Place}
 use Rattle.st_emit.specs.declared.step.Step.{Step}
 use Rattle.st_emit.specs.Names.{NamesView}
 use Rattle.st_emit.specs.Literals.{LiteralView, number, owner}
 use Rattle.st_emit.specs.Nodes.{Body}
-use Rattle.st_emit.specs.Steps.{all_bytes, all_reach, sends_super}
+use Rattle.st_emit.specs.Steps.{all_bytes, sends_super}
 use Rattle.st_emit.specs.Resolving.{names_in_statements}
-use Rattle.st_code.specs.declared.fault.Cause.TheVariants.{Literals, Temporaries, Depth, Jump}
+use Rattle.st_code.specs.declared.fault.Cause.TheVariants.{Literals}
 use Rattle.st_code.specs.declared.simple.Simple.{Simple}
 use Rattle.st_code.specs.declared.simple.Simple.TheVariants.{Itself, ItsField}
 use Rattle.st_code.specs.Faults.{method_fault}
@@ -29,7 +29,7 @@ use Rattle.st_resolved.specs.Right.{RightStatements}
 use Rattle.st_resolved.proofs.Wholes.{placed, fit}
 use Rattle.st_expression_stack.specs.Items.{Item, no_arguments, most_high, statements_of}
 use Rattle.st_decompile.specs.Reading.{region}
-use Rattle.st_decompile.specs.Back.{body_high, method_least, method_high}
+use Rattle.st_decompile.specs.Back.{body_high, method_least}
 use Rattle.st_decompile.specs.Calling.{AreNames, least_in}
 use Rattle.st_decompile.specs.Whole.{size_in, variables_in, own_in, extension_in, primitive_by, primitive_in, variables_called, method_of, candidate}
 use Rattle.st_decompile.proofs.Pieces.{method_items, method_taken}

@@ -18,7 +18,7 @@ use Rattle.st_decompile.specs.Whole.{candidate}
 use Rattle.st_expression_stack.specs.Names.{CallingView, calling_of, name_in}
 use Rattle.st_decompile.specs.Answers.{IsCandidate, IsMeant, HasCode, IsSource, IsSourceOf, IsPrintedRead, IsDecompiled}
 use Rattle.st_decompile.proofs.Sameness.{parts_are, parts_same}
-use Rattle.st_decompile.proofs.Finding.{none_found, back_is}
+use Rattle.st_decompile.proofs.Finding.{back_is}
 
 -- PARSED
 

@@ -158,8 +158,8 @@ fn block_made(
     };
     let skip = sum(2, distance)?;
     let block = block_piece(alloc, reading, start, body)?;
-    let made = put_low(block, items)?;
-    if made { Ok(Some(skip)) } else { Ok(None) }
+    let low = put_low(block, items)?;
+    if low { Ok(Some(skip)) } else { Ok(None) }
 }
 
 /// A conditional form, given what was read of its second side, if it was: how many bytes are passed then.

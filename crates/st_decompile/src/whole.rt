@@ -16,14 +16,12 @@ use crate::reading::Reading;
 use crate::region::region;
 use st_code::MethodParts;
 use st_emit::{Literal, Place, sum};
-use st_expression_stack::{
-    Calling, MOST_HIGH, NO_ARGUMENTS, Stack, Statements, arity, statements_of,
-};
+use st_expression_stack::{Calling, NO_ARGUMENTS, Stack, Statements, arity, statements_of};
 use st_scan::{Expression, MethodTree, NameList, Signed, Statement, StatementList};
 use std::alloc::{AllocError, Global};
 
-/// How deep regions may stand in one another, the method's own among them: no deeper than arguments and blocks.
-const MOST_DEEP: usize = MOST_HIGH + 1;
+/// How deep regions may stand in one another, the method's own among them: no deeper than arguments and blocks in a text.
+const MOST_DEEP: usize = 603;
 
 /// The flag of a header.
 fn flag_in(header: u16) -> u16

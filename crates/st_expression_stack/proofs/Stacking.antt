@@ -1,5 +1,5 @@
 -- What is taken off a stack of items, one after the other.
-use Rattle.std.proofs.Common.{◌≡◌, ℕ, suc, ◌<◌, min, max, Bool, List, [], ◌∷◌, ◌++◌, length, Option, Some, None, refl, sym, ap, ap₂, ◌∙◌, subst, arith}
+use Rattle.std.proofs.Common.{◌≡◌, ℕ, suc, ◌<◌, min, max, Bool, true, List, [], ◌∷◌, ◌++◌, length, Option, Some, None, refl, sym, ap, ap₂, ◌∙◌, subst, arith}
 use Rattle.std.specs.Prelude.{◌==◌, reverse, if◌then◌else◌}
 use Rattle.std.proofs.lemmas.List.{reverse-append}
 use Rattle.st_scan.specs.declared.tree.Expression.{Expression}
@@ -8,10 +8,10 @@ use Rattle.st_emit.specs.declared.step.Place.{Place}
 use Rattle.st_expression_stack.specs.declared.item.Piece.{Piece as Kept}
 use Rattle.st_expression_stack.specs.declared.item.Item.{Item as KeptItem}
 use Rattle.st_expression_stack.specs.declared.item.Item.TheVariants as kept
-use Rattle.st_expression_stack.specs.Items.{Piece, Item, piece, argument, Taken, statements_before, arguments_of, Acted, statements_from, on_piece}
+use Rattle.st_expression_stack.specs.Items.{Piece, Item, piece, argument, is_low, put_low, Taken, statements_before, arguments_of, Acted, statements_from, on_piece}
 use Rattle.st_expression_stack.specs.Items as items
 use Rattle.st_expression_stack.specs.Messages.{with_arguments}
-use Rattle.st_expression_stack.specs.Stacks.{piece_view, item_view, stack_onto, stack_view, IsPieceless, IsArgumentless}
+use Rattle.st_expression_stack.specs.Stacks.{piece_view, item_view, stack_onto, stack_view, chosen_if, IsPieceless, IsArgumentless}
 
 -- one more on top
 pub stack_more : (below : List Item) (xs : List KeptItem) (x : KeptItem) → stack_onto below (xs ++ x ∷ []) ≡ item_view x ∷ stack_onto below xs
@@ -117,6 +117,12 @@ piece_on_top xs x p e = (stack_more [] xs x ∙ ap (λ (y : KeptItem). item_view
 
 pub argument_on_top : (xs : List KeptItem) (x : KeptItem) (p : Place) → x ≡ kept.Argument p → (stack_view (xs ++ x ∷ []) ≡ argument p ∷ stack_view xs) × (length xs < length (xs ++ x ∷ []))
 argument_on_top xs x p e = (stack_more [] xs x ∙ ap (λ (y : KeptItem). item_view y ∷ stack_view xs) e, length_more xs x)
+
+-- a piece that a text may have
+pub put_is : (xs new : List KeptItem) (p : Kept) (low : Bool) → low ≡ is_low p.height → low ≡ true → new ≡ xs ++ kept.Piece p ∷ [] → chosen_if true new ≡ put_low (piece_view p) (stack_view xs)
+put_is xs new p low is so n =
+    ap (λ (ys : List Item). Some ys) (stack_push xs new (kept.Piece p) n)
+    ∙ sym (ap (λ (b : Bool). if b then Some (piece (piece_view p) ∷ stack_view xs) else None) (sym is ∙ so))
 
 pieceless : (x : KeptItem) (ys : List Item) → ((p : Kept) → x ≡ kept.Piece p → ⊥) → IsPieceless (item_view x ∷ ys)
 pieceless (kept.Piece p) ys n = n p refl

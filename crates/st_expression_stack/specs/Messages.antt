@@ -1,6 +1,6 @@
 -- Messages as they are read.
 use Rattle.std.specs.Prelude.{ℕ, zero, suc, min, max, Bool, List, [], ◌∷◌, Option, None, if◌then◌else◌}
-use Rattle.st_scan.specs.Views.{ExpressionView, MessagesView, ExpressionsView, expression, no_expressions, no_messages, with_message}
+use Rattle.st_scan.specs.Views.{MessagesView, ExpressionsView, expression, no_expressions, no_messages, with_message}
 use Rattle.st_scan.specs.Views as views
 use Rattle.st_emit.specs.Selectors.{arity}
 use Rattle.st_expression_stack.specs.Items.{Piece, Item, piece, cascade, again, answered, no_arguments, is_low, Acted, goes_on}

@@ -16,7 +16,7 @@ pub const NO_ARGUMENTS: usize = 64;
 
 /// How many arguments and blocks may stand in one another. A text has at most 200 brackets in one another, and between two of
 /// them a keyword's argument may hold an operator's.
-pub const MOST_HIGH: usize = 602;
+const MOST_HIGH: usize = 602;
 
 /// An expression, or a statement: whether it is returned, where its code starts, the least number of a block argument
 /// within, 64 where there is none, and how many arguments and blocks stand in one another at most.
@@ -173,7 +173,8 @@ pub fn put_low(piece: Piece, items: &mut Stack) -> Result<bool, AllocError>
     ensures { IfOk result (λ ok.
         chosen_if ok items.new.items ≡ put_low (piece_view piece) (stack_view items.old.items)) }
 {
-    if is_low(piece.height) {
+    let low = is_low(piece.height);
+    if low {
         items.push(Item::Piece(piece))?;
         Ok(true)
     } else {

@@ -7,8 +7,8 @@ mod naming;
 mod sending;
 
 pub use item::{
-    Item, MOST_HIGH, NO_ARGUMENTS, Piece, Stack, Statements, is_low, pop_argument, pop_piece,
-    put_low, statements_from, statements_of,
+    Item, NO_ARGUMENTS, Piece, Stack, Statements, is_low, pop_argument, pop_piece, put_low,
+    statements_from, statements_of,
 };
 pub use make::{choice_tree, constant_tree, literal_tree, loop_tree, small_tree};
 pub use naming::{Calling, calling_of};

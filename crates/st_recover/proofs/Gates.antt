@@ -13,27 +13,27 @@ use Rattle.st_store.specs.Faults.{GateFails, RestsUnlessGate}
 use Rattle.st_recover.specs.Commits.{Commit, OpensAs}
 
 -- endings that differ in a letter, where the second is so much longer than the first
-shifted : (a b s t : List ℕ) (k : ℕ) → k + length s ≡ length t → slice_index s 0 ≢ slice_index t k → a ++ s ≢ b ++ t
-shifted a b s t k more other same =
+shifted : (a b s t : List ℕ) (k x y : ℕ) → k + length s ≡ length t → slice_index s 0 ≡ x → slice_index t k ≡ y → x ≢ y → a ++ s ≢ b ++ t
+shifted a b s t k x y more first second other same =
     let both : length a + length s ≡ length b + length t = sym (length-append a s) ∙ ap length same ∙ length-append b t in
     let long : length a ≡ length b + k = omega (arith, both, more) in
     let here : slice_index (a ++ s) (length a) ≡ slice_index s 0 =
     get_or-append_right a s (length a) (length a) 0 refl (omega arith) ∙ ap (λ (j : ℕ). slice_index s j) (let e : length a - length a ≡ 0 = omega arith in e) in
     let there : slice_index (b ++ t) (length a) ≡ slice_index t k =
     get_or-append_right b t (length b) (length a) 0 refl (omega (arith, long)) ∙ ap (λ (j : ℕ). slice_index t j) (let e : length a - length b ≡ k = omega (arith, long) in e) in
-    other (sym here ∙ ap (λ (x : List ℕ). slice_index x (length a)) same ∙ there)
+    other (sym first ∙ sym here ∙ ap (λ (z : List ℕ). slice_index z (length a)) same ∙ there ∙ second)
 
 -- the roots file of a store is none of the other files of another
 module _ (a b : List ℕ) where
   roots_changes : (slot : ℕ) → roots_file a ≢ changes_file b slot
-  roots_changes zero = shifted a b (codes ".roots") (codes ".changes") 2 refl (λ e. let clash : 46 ≡ 104 = e in cc)
-  roots_changes (suc zero) = shifted a b (codes ".roots") (codes ".changes") 2 refl (λ e. let clash : 46 ≡ 104 = e in cc)
-  roots_changes (suc (suc n)) = shifted a b (codes ".roots") (codes ".changes2") 3 refl (λ e. let clash : 46 ≡ 97 = e in cc)
+  roots_changes zero = shifted a b (codes ".roots") (codes ".changes") 2 46 104 refl refl refl (λ e. omega (arith, e))
+  roots_changes (suc zero) = shifted a b (codes ".roots") (codes ".changes") 2 46 104 refl refl refl (λ e. omega (arith, e))
+  roots_changes (suc (suc n)) = shifted a b (codes ".roots") (codes ".changes2") 3 46 97 refl refl refl (λ e. omega (arith, e))
 
-  roots_images : (slot : ℕ) → roots_file a ≢ image_file b slot
-  roots_images zero = λ same. shifted b a (codes ".a") (codes ".roots") 4 refl (λ e. let clash : 46 ≡ 116 = e in cc) (sym same)
-  roots_images (suc zero) = λ same. shifted b a (codes ".b") (codes ".roots") 4 refl (λ e. let clash : 46 ≡ 116 = e in cc) (sym same)
-  roots_images (suc (suc n)) = roots_images n
+  image_roots : (slot : ℕ) → image_file b slot ≢ roots_file a
+  image_roots zero = shifted b a (codes ".a") (codes ".roots") 4 46 116 refl refl refl (λ e. omega (arith, e))
+  image_roots (suc zero) = shifted b a (codes ".b") (codes ".roots") 4 46 116 refl refl refl (λ e. omega (arith, e))
+  image_roots (suc (suc n)) = image_roots n
 
 -- what files open as is in those of its name
 opens_alike : (name : List ℕ) (c : Stored) (f g : Files) → f (roots_file name) ≡ g (roots_file name) → ((slot : ℕ) → f (changes_file name slot) ≡ g (changes_file name slot))
@@ -55,28 +55,28 @@ module _ {D : Type 0} (host : Ghosts D) (name other : List ℕ) (c : Commit) (ne
       own same = apart (sym (append_cancel_right name other (codes ".roots") same))
 
       mixed : Files → Files
-      mixed f n = ⊎_elim (λ is. host.files gate.before n) (λ no. f n) (same_or_other n (roots_file other))
+      mixed f n = ⊎_elim (λ is. host.files gate.before n) (λ differs. f n) (same_or_other n (roots_file other))
 
       as_was : (f : Files) (n : List ℕ) → n ≢ roots_file other → mixed f n ≡ f n
-      as_was f n no = over (same_or_other n (roots_file other))
+      as_was f n differs = over (same_or_other n (roots_file other))
         where
-          over : (x : (n ≡ roots_file other) ⊎ (n ≢ roots_file other)) → ⊎_elim (λ is. host.files gate.before n) (λ no. f n) x ≡ f n
-          over (inl is) = absurd (no is)
-          over (inr other) = refl
+          over : (x : (n ≡ roots_file other) ⊎ (n ≢ roots_file other)) → ⊎_elim (λ is. host.files gate.before n) (λ differs. f n) x ≡ f n
+          over (inl is) = absurd (differs is)
+          over (inr apart) = refl
 
       could : (f : Files) → ((n : List ℕ) → host.may_leave new n (f n)) → (n : List ℕ) → host.may_leave gate.before n (mixed f n)
       could f can n = over (same_or_other n (roots_file other))
         where
-          over : (x : (n ≡ roots_file other) ⊎ (n ≢ roots_file other)) → host.may_leave gate.before n (⊎_elim (λ is. host.files gate.before n) (λ no. f n) x)
+          over : (x : (n ≡ roots_file other) ⊎ (n ≢ roots_file other)) → host.may_leave gate.before n (⊎_elim (λ is. host.files gate.before n) (λ differs. f n) x)
           over (inl is) = reads gate.before n
-          over (inr no) = (gate.writes.run.others told).fewer n (f n) no (can n)
+          over (inr differs) = (gate.writes.run.others told).fewer n (f n) differs (can n)
 
       opens : (f : Files) → ((n : List ℕ) → host.may_leave new n (f n)) → OpensAs name c f
       opens f can =
           let was = gate.rest.opens_as (mixed f) (could f can) in
           record {
             slot = was.slot;
-            opens = opens_alike name _ (mixed f) f (as_was f (roots_file name) own) (λ slot. as_was f (changes_file name slot) (λ e. roots_changes other name slot (sym e))) (λ slot. as_was f (image_file name slot) (λ e. roots_images other name slot (sym e))) was.opens;
+            opens = opens_alike name _ (mixed f) f (as_was f (roots_file name) own) (λ slot. as_was f (changes_file name slot) (λ e. roots_changes other name slot (sym e))) (λ slot. as_was f (image_file name slot) (image_roots other name slot)) was.opens;
             readable = was.readable;
             good = was.good;
           }

@@ -58,6 +58,10 @@ module _ {D : Type 0} (host : Ghosts D) where
     CondenseHas old new _ = ⊥
 
   module _ (name : List ℕ) where
+    -- files open as the commit condensed, or as it was, and then nothing but the last line of a fault was said
+    abbrev pub IsWhole : Commit → D → Status → Files → List ℕ → Type 0
+    IsWhole c old status f s = OpensCondensed name c f ⊎ (OpensAs name c f × SaidPart (host.said old) (last_line status) s)
+
     -- the store is opened as the commit that its files hold, and that is condensed
     pub record IsCondensedOver (old new : D) (status : Status) : Type 0 where
       pub commit : Commit
@@ -67,10 +71,8 @@ module _ {D : Type 0} (host : Ghosts D) where
     -- How the command condense ends.
     pub record CondenseEnds (old new : D) (status : Status) : Type 0 where
       pub over : IsTrue host.is_told → IsRefused host name old new status ⊎ IsCondensedOver old new status
-      -- Where each state that a stop could leave before opens as one commit: at each moment the files open as that condensed, or
-      -- as it was, and then nothing but the last line of a fault was said.
-      pub whole : IsTrue host.is_told → (c : Commit) → IsAtRest host (OpensAs name) c old
-          → LeavesOnly host old new (λ f s. OpensCondensed name c f ⊎ (OpensAs name c f × SaidPart (host.said old) (last_line status) s))
+      -- where each state that a stop could leave before opens as one commit: at each moment the files open as that condensed, or as it was
+      pub whole : IsTrue host.is_told → (c : Commit) → IsAtRest host (OpensAs name) c old → LeavesOnly host old new (IsWhole c old status)
       -- without a fault of the host a store that opens is condensed, or there was no memory
       pub complete : IsTrue host.is_told → (c : Commit) (r : Replayed) → OpensWhole name (host.files old) c r → IsCalm host ⊥ old new
           → (status ≡ Done) ⊎ (status ≡ OutOfMemory)

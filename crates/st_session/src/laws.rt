@@ -9,7 +9,7 @@ ghost use Rattle.st_browse.specs.Decompiling.{IsShown};
 ghost use Rattle.st_session.specs.declared.making.Origin.TheVariants.{Image as FromImage, Kernel as FromKernel};
 ghost use Rattle.st_session.specs.Builds.{Builds, IsWrongKernel};
 ghost use Rattle.st_session.specs.Imports.{ReadsAs, IsWrongImage};
-ghost use Rattle.st_session.specs.Joining.{RestJoins, SessionJoins, ExportJoins, MakingJoins};
+ghost use Rattle.st_session.specs.Joining.{RestJoins, SessionJoins, ExportJoins, CondenseJoins, MakingJoins};
 ghost use Rattle.st_session.specs.Reports.{RunIsSaid};
 ghost use Rattle.st_session.specs.Sources.{shown_text};
 ghost use Rattle.st_session.specs.Traces.{TraceIsRun};
@@ -36,12 +36,13 @@ pub fn made_texts_have_the_code()
 {}
 
 /// What a call leaves meets what the next call asks for as it begins: where it left the store at rest, and no stop came; and after a
-/// stop at any moment of it, over whatever host: behind a session that kept its promise, behind an export, and behind the making of a
-/// store, once it was said that it is made.
+/// stop at any moment of it, over whatever host: behind a session that kept its promise, behind an export or a condense, and behind the
+/// making of a store, once it was said that it is made.
 pub fn calls_join<H: Host, N: Host>()
     ensures rest { RestJoins H.Host.own }
     ensures session { SessionJoins H.Host.own N.Host.own }
     ensures export { ExportJoins H.Host.own N.Host.own }
+    ensures condense { CondenseJoins H.Host.own N.Host.own }
     ensures import { (over : HeadValues) (image : List ℕ) → MakingJoins H.Host.own N.Host.own FromImage
         (ReadsAs over image) (IsWrongImage (IsTrue H.is_told) over image) }
     ensures build { (text : List ℕ) → MakingJoins H.Host.own N.Host.own FromKernel
