@@ -17,7 +17,7 @@ use Rattle.st_session.specs.Decompiled.{made_text}
 use Rattle.st_session.proofs.Written.{made_is}
 use Rattle.st_install.specs.Syntax.{IsSyntax, syntax}
 use Rattle.st_install.proofs.Syntaxes.{is, only}
-use Rattle.st_session.specs.Sources.{selector_of, is_named, is_of, or_earlier, last_text, or_made, shown_text, text_for}
+use Rattle.st_session.specs.Sources.{selector_of, is_named, is_of, or_earlier, last_text, kept_text, or_made, shown_text, text_for}
 
 none_of : (P : Definition → Type 0) → All P []
 none_of P k x less = absurd (omega (arith, less))
@@ -75,7 +75,7 @@ module _ (side : Side) (selector : List ℕ) where
   last_is [] = none_of (λ x. IsOf side.class side.meta selector x → ⊥)
   last_is (d ∷ ds) = with_one d ds (last_text side selector ds) (is_of side selector d) refl (last_is ds)
 
-pub text_is : (ds : List Definition) (ask : Ask) → IsTextFor ds ask (text_for (λ side selector. last_text side selector ds) ask)
+pub text_is : (ds : List Definition) (ask : Ask) → IsTextFor ds ask (text_for (kept_text ds) ask)
 text_is ds (Object pointer) = tt
 text_is ds Display = tt
 text_is ds Classes = tt

@@ -32,13 +32,17 @@ abbrev pub last_text : Side → List ℕ → List Definition → Option (List �
 last_text side selector [] = None
 last_text side selector (d ∷ ds) = or_earlier (last_text side selector ds) (if is_of side selector d then Some d.text else None)
 
+-- where these definitions are kept
+abbrev pub kept_text : List Definition → Side → List ℕ → Option (List ℕ)
+kept_text ds side selector = last_text side selector ds
+
 abbrev pub or_made : (kept made : Option (List ℕ)) → Option (List ℕ)
 or_made (Some text) made = Some text
 or_made None made = made
 
--- where these definitions are kept
+-- the text that is kept, or else one that is made
 abbrev pub shown_text : View → List Definition → Side → List ℕ → Option (List ℕ)
-shown_text v ds side selector = or_made (last_text side selector ds) (made_text v side selector)
+shown_text v ds side selector = or_made (kept_text ds side selector) (made_text v side selector)
 
 -- where a source is asked for, and such texts are shown
 abbrev pub text_for : (Side → List ℕ → Option (List ℕ)) → Ask → Option (List ℕ)

@@ -4,7 +4,7 @@ ghost use Rattle.st_protocol.specs.Statuses.{Counts};
 ghost use Rattle.st_protocol.specs.declared.status.Status.TheVariants.{OutOfMemory};
 ghost use Rattle.st_session.specs.Answers.{browse_course};
 ghost use Rattle.st_session.specs.Browsing.{asked_text, TellsOrStarves};
-ghost use Rattle.st_session.specs.Sources.{last_text, shown_text};
+ghost use Rattle.st_session.specs.Sources.{kept_text, shown_text};
 ghost use Rattle.st_call.specs.Telling.{IsOfServing};
 ghost use Rattle.st_session.specs.Keeping.{in_a_store};
 ghost use Rattle.st_session.specs.Standing.{MayGoOn, Follows};
@@ -29,8 +29,7 @@ fn say_asked<H: Host, M: Memory>(
     changes: &Changes,
     ask: Ask<'_>,
 ) -> Result<(), Status>
-    ensures { let kept = λ side selector. last_text side selector changes.now.listed in
-        let text = asked_text (M.view m.now) kept (ask_of ask.entry) in
+    ensures { let text = asked_text (M.view m.now) (kept_text changes.now.listed) (ask_of ask.entry) in
         Tells H.Host.own text host.old host.new result }
 {
     match browse_line(m, changes, ask, host) {

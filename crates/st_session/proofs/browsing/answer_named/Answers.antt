@@ -1,15 +1,14 @@
 use Rattle.std.proofs.Common.{List, ℕ, refl, sym, ap, subst, ◌∙◌}
-use Rattle.std.specs.Prelude.{Option}
 use Rattle.st_model.specs.Show.{show}
 use Rattle.st_model.proofs.Showing.{show_is}
 use Rattle.st_chunk.specs.Definitions.{Definition}
-use Rattle.st_chunk.specs.Asks.{Side, Source, ask_of, side_of}
+use Rattle.st_chunk.specs.Asks.{Source, ask_of, side_of}
 use Rattle.st_recover.specs.Commits.{all_of}
 use Rattle.st_session.specs.Answers.{browse_course}
 use Rattle.st_session.specs.Browsing.{asked_text, memory_of, TellsOrStarves}
 use Rattle.st_session.specs.Keeping.{in_a_store}
 use Rattle.st_session.specs.Points.{alive}
-use Rattle.st_session.specs.Sources.{last_text, shown_text}
+use Rattle.st_session.specs.Sources.{kept_text, shown_text}
 use Rattle.st_session.specs.Standing.{shown_by}
 use Rattle.st_call.specs.Telling.{Tells}
 use Rattle.st_session.proofs.Lines.{look_is, unsourced}
@@ -19,9 +18,6 @@ use Rattle.st_session.proofs.Responding.{line_said}
 use Rattle.st_session.proofs.Sourced.{source_counts, source_served, source_starved, source_said}
 use Rattle.st_session.proofs.Starving.{never_starved}
 use Rattle.st_session.proofs.browsing.answer_named.Goals as goal
-
-abbrev kept_text : List Definition → Side → List ℕ → Option (List ℕ)
-kept_text ds side selector = last_text side selector ds
 
 pub returns-in-Until-clause-follows : goal.returns-in-Until-clause-follows
 returns-in-Until-clause-follows g c =
