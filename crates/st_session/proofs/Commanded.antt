@@ -348,7 +348,7 @@ module _ (name : List ℕ) (f : Files) (c : Commit) (opens : OpensAs name c f) w
   stored_is x o = one_stored name x (stored_of opens.slot c) f o opens.opens
 
   -- the changes of a commit aren't damaged
-  changes_whole : (x : Stored) (at : ℕ) → Opens name x f → RefusesChanges x.changes x.root (unmade.NotAStore (Changes at)) → ⊥
+  pub changes_whole : (x : Stored) (at : ℕ) → Opens name x f → RefusesChanges x.changes x.root (unmade.NotAStore (Changes at)) → ⊥
   changes_whole x at o why =
       let lists : Lists (entries (all_of c)) (length (entries c.before)) (all_of c) = lists_back (all_of c) (length (entries c.before)) opens.good (stands c) in
       none_wrong (entries (all_of c)) (stored_of opens.slot c).root at (all_of c) lists refl (subst (λ (s : Stored). RefusesChanges s.changes s.root (unmade.NotAStore (Changes at))) (stored_is x o) why)

@@ -34,3 +34,4 @@ pub mod Watches
 pub mod Seen
 pub mod SeenLines
 pub mod WholeLines
+pub mod OneOpening

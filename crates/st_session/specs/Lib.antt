@@ -26,5 +26,6 @@ pub mod StoreSessions
 pub mod Exports
 pub mod Condensings
 pub mod Joining
+pub mod OneOpening
 pub mod Calls
 pub mod Reports

@@ -10,6 +10,7 @@ ghost use Rattle.st_session.specs.declared.making.Origin.TheVariants.{Image as F
 ghost use Rattle.st_session.specs.Builds.{Builds, IsWrongKernel};
 ghost use Rattle.st_session.specs.Imports.{ReadsAs, IsWrongImage};
 ghost use Rattle.st_session.specs.Joining.{RestJoins, SessionJoins, ExportJoins, CondenseJoins, MakingJoins};
+ghost use Rattle.st_session.specs.OneOpening.{OneAnswer, OpensGives, RefusedIs, FollowedIs, StaysIs};
 ghost use Rattle.st_session.specs.Reports.{RunIsSaid};
 ghost use Rattle.st_session.specs.Sources.{shown_text};
 ghost use Rattle.st_session.specs.Traces.{TraceIsRun};
@@ -47,4 +48,14 @@ pub fn calls_join<H: Host, N: Host>()
         (ReadsAs over image) (IsWrongImage (IsTrue H.is_told) over image) }
     ensures build { (text : List ℕ) → MakingJoins H.Host.own N.Host.own FromKernel
         (Builds text) (IsWrongKernel (IsTrue H.is_told) text) }
+{}
+
+/// What the files of a name open as is one answer, a commit with what it comes to or a refusal: of any two answers, of what opens as a
+/// commit, and of what is said of a store that isn't opened, of one that a session goes over, and of one that is only read.
+pub fn one_opening<H: Host>()
+    ensures one { OneAnswer }
+    ensures gives { OpensGives }
+    ensures refused { RefusedIs H.Host.own }
+    ensures followed { FollowedIs H.Host.own }
+    ensures stays { StaysIs H.Host.own }
 {}

@@ -21,8 +21,8 @@ returns-then-same c =
     let same = subst (HasCode (method_view u) (names_view c.args.names.now) (parts_view c.args.parts.now)) c.if-same.true c.in_ok-same.ensures in
     one_same (names_view c.args.names.now) (parts_view c.args.parts.now) tree c.requires c.in_ok-text.text.items u c.in_ok-text.ensures back same
 
-pub returns : goal.returns
-returns c =
+pub returns-else-same : goal.returns-else-same
+returns-else-same c =
     let tree = method_view c.args.tree.now in
     let u = c.in-Some.back in
     let back = meant_as c.deref.result.now (printed tree) _ (Some u) (c.deref.ensures.value ∙ c.in_ok-text.ensures) c.in-Some.is c.in_ok-back.ensures in
