@@ -1,5 +1,5 @@
 -- Names that tell no text apart call variables alike, where each association has one name.
-use Rattle.std.proofs.Common.{◌≡◌, ◌≤◌, ◌⊎◌, inl, inr, ℕ, max, Bool, true, false, List, [], ◌∷◌, map, Option, Some, None, refl, sym, ap, ap₂, ◌∙◌, subst, arith}
+use Rattle.std.proofs.Common.{◌≡◌, ◌≤◌, ◌⊎◌, inl, inr, ℕ, suc, max, Bool, true, false, List, [], ◌∷◌, map, Option, Some, None, refl, sym, ap, ap₂, ◌∙◌, subst, arith}
 use Rattle.std.specs.Prelude.{is_some, option_map, find, bytes_eq, if◌then◌else◌, ◌&&◌, ◌==◌}
 use Rattle.std.proofs.lemmas.Slice.Eq.{bytes_eq-Decides}
 use Rattle.std.proofs.lemmas.Bool.Decides.{nat_tests}
@@ -52,11 +52,11 @@ is_found names text = by (find (λ s. bytes_eq s.text text) names.shared)
 
 marks_listed : (ss : List SharedName) (text : List ℕ) → Listed ss text → marks text ≤ most_marks (texts_of ss)
 marks_listed [] text h = absurd (none_listed text h)
-marks_listed (s ∷ ss) text h = by (listed_parts s ss text h)
+marks_listed (s ∷ ss) text h = by (λ k. marks_listed ss text k) (listed_parts s ss text h)
   where
-    by : (s.text ≡ text) ⊎ Listed ss text → marks text ≤ max (marks s.text) (most_marks (texts_of ss))
-    by (inl e) = let m = ap marks e in omega (arith, m)
-    by (inr k) = let m = marks_listed ss text k in omega (arith, m)
+    by : (Listed ss text → marks text ≤ most_marks (texts_of ss)) → (s.text ≡ text) ⊎ Listed ss text → marks text ≤ max (marks s.text) (most_marks (texts_of ss))
+    by others (inl e) = let m = ap marks e in omega (arith, m)
+    by others (inr k) = let m = others k in omega (arith, m)
 
 marks_below : (ss : List SharedName) (n : ℕ) → ((text : List ℕ) → Listed ss text → marks text ≤ n) → most_marks (texts_of ss) ≤ n
 marks_below [] n h = omega arith
@@ -76,15 +76,15 @@ module _ (is : List ℕ → Bool) where
   -- the one that does, where it is among them
   first_one : (ss : List SharedName) (text : List ℕ) → ((s : List ℕ) → is s ≡ true → s ≡ text) → is text ≡ true → Listed ss text → first_of (texts_of ss) ≡ text
   first_one [] text one e h = absurd (none_listed text h)
-  first_one (s ∷ ss) text one e h = by (is s.text) refl
+  first_one (s ∷ ss) text one e h = by (is s.text) refl (λ k. first_one ss text one e k)
     where
-      rest : is s.text ≡ false → (s.text ≡ text) ⊎ Listed ss text → first_of (texts_of ss) ≡ text
-      rest f (inl q) = let no : true ≡ false = sym e ∙ (ap is (sym q) ∙ f) in absurd cc
-      rest f (inr k) = first_one ss text one e k
+      rest : is s.text ≡ false → (Listed ss text → first_of (texts_of ss) ≡ text) → (s.text ≡ text) ⊎ Listed ss text → first_of (texts_of ss) ≡ text
+      rest f others (inl q) = let no : true ≡ false = sym e ∙ (ap is (sym q) ∙ f) in absurd cc
+      rest f others (inr k) = others k
 
-      by : (b : Bool) → is s.text ≡ b → (if b then s.text else first_of (texts_of ss)) ≡ text
-      by true f = one s.text f
-      by false f = rest f (listed_parts s ss text h)
+      by : (b : Bool) → is s.text ≡ b → (Listed ss text → first_of (texts_of ss) ≡ text) → (if b then s.text else first_of (texts_of ss)) ≡ text
+      by true f others = one s.text f
+      by false f others = rest f others (listed_parts s ss text h)
 
   -- none of them does
   first_none : (ss : List SharedName) → ((text : List ℕ) → Listed ss text → is text ≡ false) → first_of (texts_of ss) ≡ unused
@@ -102,8 +102,8 @@ module _ (is : List ℕ → Bool) where
 
       by : (b : Bool) → is s.text ≡ b → ((text : List ℕ) × (is text ≡ true) × Listed ss text) ⊎ ((text : List ℕ) → Listed ss text → is text ≡ false)
           → ((text : List ℕ) × (is text ≡ true) × Listed (s ∷ ss) text) ⊎ ((text : List ℕ) → Listed (s ∷ ss) text → is text ≡ false)
-      by true f x = inl (s.text, (f, first_listed s ss))
-      by false f (inl x) = inl (x.0, (x.1, more_listed s ss x.0 x.2))
+      by true f x = inl (s.text, f, first_listed s ss)
+      by false f (inl x) = inl (x.0, x.1, more_listed s ss x.0 x.2)
       by false f (inr h) = inr (λ text k. none_of f h text (listed_parts s ss text k))
 
 -- ALIKE
@@ -179,5 +179,5 @@ module _ (a b : NamesView) (alike : TellAlike a b) (one : HasOneName a) where
 
   pub calls_alike : (literals : List LiteralView) → calling_of a literals ≡ calling_of b literals
   calls_alike literals =
-      ap₂ (λ (fs : List (List ℕ)) (m : ℕ). record { fields = map usable_or fs; shared = map (literal_text a) literals; marks = 1 + max (most_marks fs) m }) alike.fields shared_marks
-      ∙ ap (λ (ts : List (List ℕ)). record { fields = map usable_or b.fields; shared = ts; marks = 1 + max (most_marks b.fields) (most_marks (texts_of b.shared)) }) (literals_same literals)
+      ap₂ (λ (fs : List (List ℕ)) (m : ℕ). record { fields = map usable_or fs; shared = map (literal_text a) literals; marks = suc (max (most_marks fs) m) }) alike.fields shared_marks
+      ∙ ap (λ (ts : List (List ℕ)). record { fields = map usable_or b.fields; shared = ts; marks = suc (max (most_marks b.fields) (most_marks (texts_of b.shared))) }) (literals_same literals)
