@@ -58,12 +58,19 @@ module _ (v : View) (at : Place) where
   unread : (cause : InstallFault) → Reads step itself v.objects (Ok (Err cause)) → names_at v at ≡ None
   unread cause h = at_answer (Some (Err cause)) (read_answer step itself v.objects (Err cause) h)
 
-  pub none_found : (cause : InstallFault) → (cause ≡ fault.OutOfMemory → ⊥) → AnswersFor vs step v.objects (Err cause) → names_at v at ≡ None
-  none_found fault.NoClass other h = unread fault.NoClass h
-  none_found fault.NoGlobals other h = unread fault.NoGlobals h
-  none_found (fault.NoRoom demand) other h = unread (fault.NoRoom demand) h
-  none_found fault.Shape other h = unread fault.Shape h
-  none_found fault.OutOfMemory other h = absurd (other refl)
+  abbrev pub IsAnswer : InstallFault → Type 0
+  IsAnswer fault.OutOfMemory = ⊥
+  IsAnswer cause = Unit {0}
+
+  none_by : (cause : InstallFault) → IsAnswer cause → AnswersFor vs step v.objects (Err cause) → names_at v at ≡ None
+  none_by fault.NoClass other h = unread fault.NoClass h
+  none_by fault.NoGlobals other h = unread fault.NoGlobals h
+  none_by (fault.NoRoom demand) other h = unread (fault.NoRoom demand) h
+  none_by fault.Shape other h = unread fault.Shape h
+  none_by fault.OutOfMemory other h = absurd other
+
+  pub none_found : (cause known : InstallFault) → cause ≡ known → IsAnswer known → AnswersFor vs step v.objects (Err cause) → names_at v at ≡ None
+  none_found cause known e other h = none_by known other (subst (λ (x : InstallFault). AnswersFor vs step v.objects (Err x)) e h)
 
 -- NAMES THAT TELL NO TEXT APART
 
