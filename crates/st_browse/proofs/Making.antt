@@ -3,8 +3,8 @@ use Rattle.std.proofs.Common.{◌≡◌, ℕ, List, Option, Some, None, Ok, Err,
 use Rattle.std.specs.Prelude.{option_map, option_and_then, Result}
 use Rattle.st_model.specs.Values.{Value}
 use Rattle.st_model.specs.Table.{Table, table}
-use Rattle.st_model.specs.Machine.{State, Step, Transition, Died, Went}
-use Rattle.st_model.specs.Calls.{Reads, itself, transition_of}
+use Rattle.st_model.specs.Machine.{Step}
+use Rattle.st_model.specs.Calls.{Reads, itself}
 use Rattle.st_model.specs.Deeds.{over_table}
 use Rattle.st_model.specs.View.{View}
 use Rattle.st_scan.specs.Views.{MethodView}
@@ -18,13 +18,13 @@ use Rattle.st_scope.specs.declared.fault.InstallFault.TheVariants as fault
 use Rattle.st_scope.specs.Alike.{SeesAlike}
 use Rattle.st_scope.specs.Calls.{names}
 use Rattle.st_scope.proofs.Alike.{code_alike}
-use Rattle.st_parts.specs.Keys.{AreNamesFor, AnswersFor, HasOneName, literals_in, mentioning, names_for}
+use Rattle.st_parts.specs.Keys.{AnswersFor, HasOneName, literals_in, mentioning, names_for}
 use Rattle.st_parts.specs.Parts.{Place, parts_at}
 use Rattle.st_parts.proofs.OneName.{one_name}
 use Rattle.st_parts.proofs.PartsAlike.{parts_alike}
 use Rattle.st_expression_stack.specs.Names.{name_in, calling_of}
 use Rattle.st_decompile.specs.Whole.{candidate}
-use Rattle.st_decompile.specs.Answers.{IsCandidate, IsSource, IsSourceOf, IsPrintedRead}
+use Rattle.st_decompile.specs.Answers.{IsPrintedRead}
 use Rattle.st_decompile.proofs.CallsAlike.{calls_alike}
 use Rattle.st_browse.specs.Display.{answer_in, answer_of}
 use Rattle.st_browse.specs.Decompiling.{names_of, names_at, IsTextOf, IsTextOfParts, IsTextUnder, IsTextAt}
@@ -58,12 +58,19 @@ module _ (v : View) (at : Place) where
   unread : (cause : InstallFault) → Reads step itself v.objects (Ok (Err cause)) → names_at v at ≡ None
   unread cause h = at_answer (Some (Err cause)) (read_answer step itself v.objects (Err cause) h)
 
-  pub none_found : (cause : InstallFault) → (cause ≡ fault.OutOfMemory → ⊥) → AnswersFor vs step v.objects (Err cause) → names_at v at ≡ None
-  none_found fault.NoClass other h = unread fault.NoClass h
-  none_found fault.NoGlobals other h = unread fault.NoGlobals h
-  none_found (fault.NoRoom demand) other h = unread (fault.NoRoom demand) h
-  none_found fault.Shape other h = unread fault.Shape h
-  none_found fault.OutOfMemory other h = absurd (other refl)
+  abbrev pub IsAnswer : InstallFault → Type 0
+  IsAnswer fault.OutOfMemory = ⊥
+  IsAnswer cause = Unit {0}
+
+  none_by : (cause : InstallFault) → IsAnswer cause → AnswersFor vs step v.objects (Err cause) → names_at v at ≡ None
+  none_by fault.NoClass other h = unread fault.NoClass h
+  none_by fault.NoGlobals other h = unread fault.NoGlobals h
+  none_by (fault.NoRoom demand) other h = unread (fault.NoRoom demand) h
+  none_by fault.Shape other h = unread fault.Shape h
+  none_by fault.OutOfMemory other h = absurd other
+
+  pub none_found : (cause known : InstallFault) → cause ≡ known → IsAnswer known → AnswersFor vs step v.objects (Err cause) → names_at v at ≡ None
+  none_found cause known e other h = none_by known other (subst (λ (x : InstallFault). AnswersFor vs step v.objects (Err x)) e h)
 
 -- NAMES THAT TELL NO TEXT APART
 

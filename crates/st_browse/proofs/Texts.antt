@@ -2,6 +2,7 @@
 use Rattle.std.proofs.Common.{◌≡◌, ◌∙◌, ℕ, Bool, List, [], Ok, Err, refl, ap, subst}
 use Rattle.std.specs.Prelude.{Option, Some, None, Result, IsErr, unwrap_or}
 use Rattle.st_host.specs.Telling.{Says}
+use Rattle.st_host.proofs.Telling.{OnlyNow, says_none, says_begun}
 use Rattle.st_host.specs.declared.host.Host.{Ghosts}
 use Rattle.st_model.specs.View.{View}
 use Rattle.st_chunk.specs.Asks.{Side, Ask, Object, Display, Classes, Methods, Source, Bytecodes, Senders, Until}
@@ -25,6 +26,10 @@ one_reply v ds (Until cycles side selector) a b x y = refl
 pub failed : {D E : Type 0} (host : Ghosts D) (answer : Option (List ℕ)) (old new : D) (result : Result Bool E) → IsErr result → Says host (unwrap_or answer []) old new → Answers host answer old new result
 failed host answer old new (Ok b) err says = cc
 failed host answer old new (Err e) err says = record { there = tt; all = tt; says = says }
+
+-- nothing was said
+pub unsaid : {D E : Type 0} (host : Ghosts D) (answer : Option (List ℕ)) (now : D) (e : E) → OnlyNow host now → Answers {E = E} host answer now now (Err e)
+unsaid host answer now e only = failed host answer now now (Err e) refl (says_begun (unwrap_or answer []) (says_none only) refl)
 
 -- what is shown is the text that is kept, or else one that is made
 module _ (v : View) (ds : List Definition) (side : Side) (selector : List ℕ) (kept : Option (List ℕ)) where

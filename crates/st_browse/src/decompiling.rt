@@ -29,7 +29,10 @@ fn names_of<M: Memory>(alloc: Global, m: &M, of: Compiled<'_>) -> Result<Option<
     match method_names(alloc, m, of.class, of.meta, of.method) {
         Ok(names) => Ok(Some(names)),
         Err(InstallFault::OutOfMemory) => Err(AllocError),
-        Err(_) => Ok(None),
+        Err(InstallFault::NoClass) => Ok(None),
+        Err(InstallFault::NoGlobals) => Ok(None),
+        Err(InstallFault::NoRoom { .. }) => Ok(None),
+        Err(InstallFault::Shape) => Ok(None),
     }
 }
 

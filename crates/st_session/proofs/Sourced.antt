@@ -1,6 +1,6 @@
 -- A text that is said, where there was memory for it.
-use Rattle.std.proofs.Common.{◌≡◌, ◌⊎◌, inl, inr, ℕ, List, refl, sym, subst, arith}
-use Rattle.std.specs.Prelude.{Result, Ok, Err, IfErr, IsErrOf}
+use Rattle.std.proofs.Common.{◌≡◌, inl, inr, ℕ, List, sym, subst, arith}
+use Rattle.std.specs.Prelude.{Result, Err, IfErr, IsErrOf}
 use Rattle.st_model.specs.View.{View}
 use Rattle.st_host.specs.declared.host.Host.{Ghosts}
 use Rattle.st_host.proofs.Telling.{OnlyNow}

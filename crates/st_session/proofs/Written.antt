@@ -1,5 +1,5 @@
 -- The text that a session makes of a method's code has that code, and there is one where some text has it.
-use Rattle.std.proofs.Common.{◌≡◌, ◌∙◌, ℕ, Bool, true, false, true≢false, List, Option, Some, None, Ok, Err, refl, sym, ap, subst}
+use Rattle.std.proofs.Common.{◌≡◌, ◌∙◌, ℕ, Bool, true, false, true≢false, List, Option, Some, None, Ok, Err, refl, sym, ap}
 use Rattle.std.specs.Prelude.{Result, option_and_then, if◌then◌else◌}
 use Rattle.st_model.specs.View.{View}
 use Rattle.st_scan.specs.declared.fault.Fault.{Fault as SyntaxFault}
@@ -9,10 +9,9 @@ use Rattle.st_emit.specs.Names.{NamesView}
 use Rattle.st_code.specs.declared.fault.Fault.{Fault as CodeFault}
 use Rattle.st_code.specs.Methods.{PartsView, code}
 use Rattle.st_parts.specs.Parts.{Place, parts_at}
-use Rattle.st_decompile.specs.Comparing.{same_parts}
 use Rattle.st_expression_stack.specs.Names.{calling_of, name_in}
 use Rattle.st_decompile.specs.Whole.{candidate}
-use Rattle.st_decompile.specs.Answers.{IsSource, IsSourceOf, IsPrintedRead}
+use Rattle.st_decompile.specs.Answers.{IsSource, IsSourceOf}
 use Rattle.st_decompile.proofs.Finding.{none_found, back_is}
 use Rattle.st_decompile.proofs.Sameness.{parts_are, parts_same}
 use Rattle.st_chunk.specs.Asks.{Side}

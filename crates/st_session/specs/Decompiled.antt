@@ -1,7 +1,7 @@
 -- The text that a session shows of a method of which no definition is kept: the one that is written of the tree that is read of its code,
 -- where what it means has this code. That there is one exactly where some text has the code is the law `made_texts_have_the_code`; who
 -- takes that law need not read how a tree is read.
-use Rattle.std.specs.Prelude.{ℕ, Bool, true, false, List, Option, Some, None, Result, Ok, Err, option_and_then, if◌then◌else◌}
+use Rattle.std.specs.Prelude.{ℕ, Bool, false, List, Option, Some, None, Result, Ok, Err, option_and_then, if◌then◌else◌}
 use Rattle.st_model.specs.View.{View}
 use Rattle.st_scan.specs.declared.fault.Fault.{Fault as SyntaxFault}
 use Rattle.st_scan.specs.Views.{MethodView}

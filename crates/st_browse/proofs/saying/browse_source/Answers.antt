@@ -1,4 +1,4 @@
-use Rattle.std.proofs.Common.{List, ℕ, sym, subst}
+use Rattle.std.proofs.Common.{sym, subst}
 use Rattle.st_chunk.specs.Asks.{Side, Source}
 use Rattle.st_browse.specs.declared.saying.SourceFault.{SourceFault}
 use Rattle.st_browse.specs.Asked.{Answers, reply}
