@@ -22,7 +22,9 @@ pub mod Responding
 pub mod Rows
 pub mod Saying
 pub mod Snapshots
+pub mod Sourced
 pub mod Sources
+pub mod Written
 pub mod Started
 pub mod Starving
 pub mod Stretches

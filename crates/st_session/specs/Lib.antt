@@ -1,9 +1,10 @@
 pub mod Pushing
 pub mod Runs
 pub mod Points
-pub mod Keeping
 pub mod FirstLines
+pub mod Decompiled
 pub mod Sources
+pub mod Keeping
 pub mod Browsing
 pub mod Asking
 pub mod Watching

@@ -2,12 +2,17 @@
 
 ghost use Rattle.std.specs.Prelude.{ℕ, List, IsTrue};
 ghost use Rattle.st_image.specs.declared.head.HeadValues.{HeadValues};
+ghost use Rattle.st_model.specs.View.{View};
+ghost use Rattle.st_chunk.specs.Asks.{Side};
+ghost use Rattle.st_chunk.specs.Definitions.{Definition};
+ghost use Rattle.st_browse.specs.Decompiling.{IsShown};
 ghost use Rattle.st_session.specs.declared.making.Origin.TheVariants.{Image as FromImage, Kernel as FromKernel};
 ghost use Rattle.st_session.specs.Builds.{Builds, IsWrongKernel};
 ghost use Rattle.st_session.specs.Imports.{ReadsAs, IsWrongImage};
 ghost use Rattle.st_session.specs.Joining.{RestJoins, SessionJoins, ExportJoins, CondenseJoins, MakingJoins};
 ghost use Rattle.st_session.specs.OneOpening.{OneAnswer, OpensGives, RefusedIs, FollowedIs, StaysIs};
 ghost use Rattle.st_session.specs.Reports.{RunIsSaid};
+ghost use Rattle.st_session.specs.Sources.{shown_text};
 ghost use Rattle.st_session.specs.Traces.{TraceIsRun};
 
 use st_host::Host;
@@ -22,6 +27,13 @@ pub fn run_is_said()
 /// lines say, in order, the contexts and the bytecodes of the run's cycles.
 pub fn trace_is_run()
     ensures { TraceIsRun }
+{}
+
+/// The text that a session shows of a method is that of its last definition, or else one that has the method's code, under the names that
+/// it sees; there is none exactly where no text has.
+pub fn made_texts_have_the_code()
+    ensures { (v : View) (ds : List Definition) (side : Side) (selector : List ℕ)
+        → IsShown v ds side selector (shown_text v ds side selector) }
 {}
 
 /// What a call leaves meets what the next call asks for as it begins: where it left the store at rest, and no stop came; and after a

@@ -35,5 +35,5 @@ pub use drilling::drill;
 pub use exporting::export;
 pub use extent::Extent;
 pub use importing::import;
-pub use laws::{calls_join, one_opening, run_is_said, trace_is_run};
+pub use laws::{calls_join, made_texts_have_the_code, one_opening, run_is_said, trace_is_run};
 pub use reading::serve;

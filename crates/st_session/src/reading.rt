@@ -267,7 +267,7 @@ pub(crate) fn status_of(answer: Result<(), Status>) -> Status
 
 /// Follows a script, line by line and group by group, over a store that was opened: over a machine that begins with its objects
 /// and registers, in an empty world. Answers the status in which that ends. A definition is in the store, synced, before it is said to be accepted, and a snapshot
-/// before its length is said. All memory but that of definitions is taken at the beginning.
+/// before its length is said. All memory but that of definitions and of lines `source` is taken at the beginning.
 pub fn serve<M: Memory, H: Host, S: Source>(
     alloc: Global,
     host: &mut H,
