@@ -333,6 +333,14 @@ fn answers_of(alloc: Global, case: Case) -> Result<AnswerList, AllocError> {
     Ok(answers)
 }
 
+/// How many deeds there are, if they aren't too many.
+fn length_of(deeds: &Option<Deeds>) -> Option<usize> {
+    match deeds {
+        Some(deeds) => Some(deeds.len()),
+        None => None,
+    }
+}
+
 /// How many deeds there are, by a method's code and by its tree.
 fn counted(
     rt: &impl Abort,
@@ -350,15 +358,14 @@ fn counted(
         Err(fault) => return Ok(fault),
     };
     let answers = answers_of(alloc, case)?;
-    let by_code = walked(alloc, &parts, &answers)?;
-    let by_tree = traced(alloc, &tree, names, &answers)?;
-    match (by_code, by_tree) {
-        (Some(walk), Some(trace)) if walk.len() == trace.len() => format!(in alloc;
-            "{}",
-            walk.len()
-        ),
-        (None, None) => format!(in alloc; "long"),
-        _ => format!(in alloc; "unlike"),
+    let by_code = length_of(&walked(alloc, &parts, &answers)?);
+    let by_tree = length_of(&traced(alloc, &tree, names, &answers)?);
+    if by_code != by_tree {
+        return format!(in alloc; "unlike");
+    }
+    match by_code {
+        Some(length) => format!(in alloc; "{length}"),
+        None => format!(in alloc; "long"),
     }
 }
 
