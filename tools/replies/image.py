@@ -98,7 +98,7 @@ class Image:
 def is_of_store(file):
     """Whether a file is one of a store's, over which nothing else is to be written."""
     path = pathlib.Path(file)
-    return path.suffix in (".roots", ".changes", ".a", ".b") and path.with_suffix(".roots").exists()
+    return path.suffix in (".roots", ".changes", ".changes2", ".a", ".b") and path.with_suffix(".roots").exists()
 
 
 def root_of(store):
@@ -118,4 +118,5 @@ def current_image(store):
 
 def changes_of(store):
     """The bytes of a store's changes file, up to the length that the chosen root says."""
-    return pathlib.Path(f"{store}.changes").read_bytes()[: root_of(store)[3]]
+    slot, *_, length = root_of(store)
+    return pathlib.Path(f"{store}.changes{'2' if slot > 1 else ''}").read_bytes()[:length]

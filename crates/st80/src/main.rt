@@ -1,6 +1,6 @@
 //! The program: `st80 once IMAGE N` reads an image file, runs N cycles of its machine, and says what it shows then;
 //! `st80 import IMAGE STORE` makes a store of an image; `st80 export STORE IMAGE` writes an image of what a store holds;
-//! `st80 clean STORE IMAGE` writes one of what can be reached there;
+//! `st80 clean STORE IMAGE` writes one of what can be reached there; `st80 condense STORE` drops definitions that later ones supersede;
 //! `st80 session STORE` opens a store, and follows a script from standard input over what it holds; `st80 build KERNEL STORE` makes
 //! a store of the image that a kernel text builds; `st80 drill N` runs a million cycles of an image that it builds from the number N.
 #![tactic(auto)]
@@ -74,7 +74,7 @@ fn words_of_call<R: Env + AllocGlobal>(rt: &R) -> Result<Vec<String>, Status> {
 }
 
 // Does what the words say, or says why nothing was begun.
-fn do_call<R: Files<File = File> + Print + AllocGlobal + Drop, S: Source>(
+fn do_call<R: Files<File = File> + Print + Drop, S: Source>(
     alloc: Global,
     words: Result<Vec<String>, Status>,
     host: &mut DirHost<R>,
@@ -84,8 +84,7 @@ fn do_call<R: Files<File = File> + Print + AllocGlobal + Drop, S: Source>(
     if let Some(Command::Export { store, image } | Command::Clean { store, image }) = read_command(
         words.as_slice(),
     ) {
-        host.keep_stores_from(store, image)
-            .map_err(|_no_memory| Status::OutOfMemory)?;
+        host.keep_stores_from(store, image);
     }
     Ok(exit_code(alloc, words.as_slice(), host, script))
 }

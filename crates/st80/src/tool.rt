@@ -10,7 +10,7 @@ use st_counted::CountedLoader;
 use st_host::{Host, Source};
 use st_lookup::CachedLoader;
 use st_protocol::Status;
-use st_session::{Extent, build, drill, export, import, once, session};
+use st_session::{Extent, build, condense, drill, export, import, once, session};
 use std::alloc::Global;
 use std::process::ExitCode;
 
@@ -21,7 +21,8 @@ type ProgramLoader = CachedLoader<CountedLoader>;
 ///
 /// `once IMAGE N` reads the image file IMAGE, runs N cycles of its machine, and says the run's end and what the machine shows
 /// then. `import IMAGE STORE` makes a store of an image, with the values of options in place of those of its head. `export STORE
-/// IMAGE` writes an image of what a store holds, and `clean STORE IMAGE` one of what can be reached there. `session STORE` opens a
+/// IMAGE` writes an image of what a store holds, and `clean STORE IMAGE` one of what can be reached there. `condense STORE` drops
+/// definitions of a store that later ones supersede. `session STORE` opens a
 /// store, and follows a script over what it holds, whose bytes are taken from the source. `build KERNEL STORE` makes a store of the
 /// image that a kernel text builds. `drill N` runs a million cycles of an image that is built in memory from the number N, which
 /// decides how large it is. No file is changed but the store's, and the image's by `export` and `clean`.
@@ -53,6 +54,7 @@ pub fn tool<H: Host, S: Source>(
         Some(Command::Clean { store, image }) => {
             export::<H, ProgramLoader>(alloc, host, Extent::Reachable, store, image)
         }
+        Some(Command::Condense { store }) => condense::<H, ProgramLoader>(alloc, host, store),
         Some(Command::Session { store }) => {
             session::<H, ProgramLoader, S>(alloc, host, script, store)
         }

@@ -12,6 +12,7 @@ use st_memory::Memory;
 use st_model::{Oop, Word};
 
 /// Whether a word is a pointer.
+#[inline(always)]
 fn is_pointer(w: Word, o: Oop) -> bool
     ensures { result ≡ true → word w ≡ value o }
 {
@@ -19,6 +20,7 @@ fn is_pointer(w: Word, o: Oop) -> bool
 }
 
 /// Whether the registers name what they named.
+#[inline(always)]
 fn names_same(r: &Registers, f: &Frame) -> bool
     ensures active { result ≡ true → word r.now.active ≡ value f.now.active }
     ensures home { result ≡ true → word r.now.home ≡ value f.now.home }
@@ -34,6 +36,7 @@ fn names_same(r: &Registers, f: &Frame) -> bool
 impl<'a, M: Memory> Near<'a, M> {
     /// Keeps the registers that a row leaves, all of which are there. Where they name what they named, that is held already;
     /// else they are held at their places, and what is known is looked at anew.
+    #[inline(always)]
     pub fn hold_again(&mut self, f: &mut Frame, r: &Registers)
         requires there { are_there table (M.view self.old.memory.now).objects (registers_in r.now) ≡ true }
         requires frame { IsFrame (M.view self.old.memory.now) f.old }

@@ -43,6 +43,7 @@ impl<'a, M: Memory> Near<'a, M> {
     }
 
     /// The pointer of the active or home context, where this is its word and it has field i.
+    #[inline(always)]
     pub(crate) fn find_context(&self, o: Word, i: u32) -> Option<Oop>
         ensures same { IfSome result (λ p. value p ≡ word o) }
         ensures has { IfSome result (λ p. Has (M.view self.now.memory.now).objects (value p) i 1) }
@@ -57,6 +58,7 @@ impl<'a, M: Memory> Near<'a, M> {
     }
 
     /// How many fields the active or home context has, where this is its word.
+    #[inline(always)]
     pub(crate) fn find_number(&self, o: Word) -> Option<u32>
         ensures number { IfSome result (λ n. HasNumber (M.view self.now.memory.now).objects (word o) n) }
         ensures small { IfSome result (λ n. n ≤ 65533) }
@@ -71,6 +73,7 @@ impl<'a, M: Memory> Near<'a, M> {
     }
 
     /// The pointer of the method, where this is its word and it has a bytecode of this number.
+    #[inline(always)]
     pub(crate) fn find_code(&self, method: Word, ip: i32) -> Option<Oop>
         ensures same { IfSome result (λ p. value p ≡ word method) }
         ensures code { IfSome result (λ p. IsCodeAt (M.view self.now.memory.now).objects (value p) ip) }
@@ -86,6 +89,7 @@ impl<'a, M: Memory> Near<'a, M> {
     }
 
     /// The pointer of the method, where this is its word and it has literal i.
+    #[inline(always)]
     pub(crate) fn find_literals(&self, method: Word, i: u32) -> Option<Oop>
         ensures same { IfSome result (λ p. value p ≡ word method) }
         ensures small { IfSome result (λ p. i < 64) }
@@ -99,6 +103,7 @@ impl<'a, M: Memory> Near<'a, M> {
     }
 
     /// Stores x in field i of an object that isn't near at hand. Nothing is known any more where it dies.
+    #[inline(never)]
     pub(crate) fn store_elsewhere(&mut self, o: Word, i: u32, x: Word) -> Result<(), Dead>
         ensures stores { Changes (store_field bounded_table (word o) i (word x)) itself
             (M.view self.old.memory.now).objects (M.view self.old.memory.now).head

@@ -24,6 +24,7 @@ impl<'a, M: Memory> Objects for Near<'a, M> {
         live_value(self.memory, v).is_some()
     }
 
+    #[inline(always)]
     #[tactic(auto, using(st_model::proofs::Runs::runs, crate::proofs::Direct::bounded), unfolding(st_model::specs::Steps::fetch_field))]
     fn fetch_field(&self, o: Word, i: u32) -> Result<Word, Dead> {
         match self.find_context(o, i) {
@@ -32,6 +33,7 @@ impl<'a, M: Memory> Objects for Near<'a, M> {
         }
     }
 
+    #[inline(always)]
     #[tactic(auto, using(st_model::proofs::Runs::runs, crate::proofs::Direct::bounded), unfolding(st_model::specs::Steps::count_fields))]
     fn count_fields(&self, o: Word) -> Result<u32, Dead> {
         match self.find_number(o) {
@@ -60,6 +62,7 @@ impl<'a, M: Memory> Objects for Near<'a, M> {
         self.memory.method_header(method)
     }
 
+    #[inline(always)]
     #[tactic(auto, using(st_model::proofs::Runs::runs, crate::proofs::Direct::bounded), unfolding(st_model::specs::Steps::literal))]
     fn literal(&self, method: Word, i: u32) -> Result<Word, Dead> {
         match self.find_literals(method, i) {
@@ -76,6 +79,7 @@ impl<'a, M: Memory> Objects for Near<'a, M> {
         self.memory.fetch_method_field(method, i)
     }
 
+    #[inline(always)]
     #[tactic(auto, using(st_model::proofs::Runs::runs, crate::proofs::Direct::bounded), unfolding(st_model::specs::Steps::byte_at))]
     fn byte_at(&self, method: Word, ip: i32) -> Result<u8, Dead> {
         match self.find_code(method, ip) {
@@ -104,6 +108,7 @@ impl<'a, M: Memory> Objects for Near<'a, M> {
         self.memory.free()
     }
 
+    #[inline(always)]
     #[tactic(auto, using(st_model::proofs::Runs::runs, crate::proofs::Direct::bounded), unfolding(st_model::specs::Steps::store_field))]
     fn store_field(&mut self, o: Word, i: u32, x: Word) -> Result<(), Dead> {
         let context = match self.find_context(o, i) {

@@ -10,5 +10,6 @@ pub mod Found
 pub mod Forms
 pub mod Sourcing
 pub mod Texts
+pub mod Making
 mod Rows
 mod DisplayRows

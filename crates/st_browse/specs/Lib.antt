@@ -13,3 +13,6 @@ pub mod Questions
 pub mod Entries
 pub mod Listing
 pub mod Founds
+pub mod Decompiling
+pub mod Placing
+pub mod SourceFaults

@@ -37,7 +37,7 @@ pub enum Ask {
 
 impl Side {
     /// The same, as a line has it.
-    fn lend(&self) -> Lent<'_>
+    pub(crate) fn lend(&self) -> Lent<'_>
         ensures { side_of result ≡ side_meant self.now }
     {
         Lent {

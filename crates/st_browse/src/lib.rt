@@ -8,6 +8,7 @@ mod choice;
 mod classes;
 mod codes;
 mod comparing;
+mod decompiling;
 mod dictionary;
 mod display;
 mod fields;
@@ -24,5 +25,5 @@ mod sought;
 mod source;
 
 pub use ask::{Ask, Side};
-pub use saying::{BrowseFault, browse, browse_line};
+pub use saying::{BrowseFault, SourceFault, browse, browse_line, browse_source, source_line};
 pub use sought::find_method;

@@ -1,6 +1,6 @@
 //! The lines of what was found.
 
-ghost use Rattle.std.specs.Prelude.{◌≡◌, ◌≤◌, ◌++◌, ℕ, List, Option, option_map, length, OnOk, IfErr};
+ghost use Rattle.std.specs.Prelude.{◌≡◌, ◌≤◌, ◌++◌, ℕ, List, Option, option_map, length, OnOk, IfErr, IsErrOf};
 ghost use Rattle.std.specs.List.{filter};
 ghost use Rattle.st_model.specs.Values.{value};
 ghost use Rattle.st_model.specs.View.{object_of};
@@ -8,20 +8,24 @@ ghost use Rattle.st_host.specs.Counts.{HasCause};
 ghost use Rattle.st_host.specs.Runs.{SaysAll};
 ghost use Rattle.st_host.specs.Telling.{Says};
 ghost use Rattle.st_call.specs.Saying.{Pushes};
-ghost use Rattle.st_chunk.specs.Asks.{ask_of};
+ghost use Rattle.st_chunk.specs.Asks.{Source, ask_of, side_of};
 ghost use Rattle.st_browse.specs.Naming.{in_order};
 ghost use Rattle.st_browse.specs.Classes.{is_class};
 ghost use Rattle.st_browse.specs.Listing.{lines_text, listed};
 ghost use Rattle.st_browse.specs.Replies.{bytecodes_text, count_text, senders_text};
 ghost use Rattle.st_browse.specs.Asked.{Answers, IsTextFor, reply};
-ghost use Rattle.st_browse.specs.Questions.{question};
+ghost use Rattle.st_browse.specs.Questions.{question, side_meant};
 ghost use Rattle.st_browse.specs.declared.saying.BrowseFault.TheVariants.{Say};
+ghost use Rattle.st_browse.specs.declared.saying.SourceFault.TheVariants.{OutOfMemory as NoMemory};
+ghost use Rattle.st_browse.specs.Decompiling.{IsMade, IsShown};
+ghost use Rattle.st_browse.specs.SourceFaults.{HasSourceCause};
 ghost use Rattle.st_browse.specs.Entries.{IsBody, IsLine, count_of, names_in};
 ghost use Rattle.st_browse.specs.Founds.{IsSought, sought_text};
 
-use crate::ask::Ask;
+use crate::ask::{Ask, Side};
 use crate::choice::Choice;
 use crate::codes::{Body, count_codes, push_codes};
+use crate::decompiling::decompiled;
 use crate::display::push_form;
 use crate::line::Line;
 use crate::listing::{count_listed, push_listed};
@@ -31,9 +35,10 @@ use crate::sought::{Sought, seek};
 use crate::source::push_source;
 use st_call::{Output, push_long_line, push_object};
 use st_changes::Changes;
-use st_chunk::Ask as Asked;
+use st_chunk::{Ask as Asked, Side as Lent};
 use st_host::{Host, SayFault};
 use st_memory::Memory;
+use std::alloc::{AllocError, Global};
 
 /// Adds how many names are chosen, and the line of each.
 fn push_names<H: Host, M: Memory>(
@@ -151,9 +156,30 @@ fn text_for<'a>(changes: &'a Changes, ask: Asked<'_>) -> Option<&'a [u8]>
     }
 }
 
+/// Says what an image answers to what is asked of it, with this text of a method where one is asked for, and whether what is asked for is
+/// there.
+fn answer<H: Host, M: Memory>(
+    m: &M,
+    ask: Asked<'_>,
+    text: Option<&[u8]>,
+    host: &mut H,
+) -> Result<bool, SayFault>
+    ensures answers { let v = M.view m.now in let text = option_map (λ t. t.now) text.entry in
+        Answers H.Host.own (reply v text (ask_of ask.entry)) host.old host.new result }
+    ensures cause { HasCause (H.say_faults host.old) (H.say_faults host.new) result }
+{
+    match seek(m, ask, text) {
+        Some(sought) => {
+            say_sought(m, sought, host)?;
+            Ok(true)
+        }
+        None => Ok(false),
+    }
+}
+
 /// Says what an image, whose definitions are kept in this list, answers to what a line asks of it, and whether what is asked for is
 /// there: where it is missing, nothing is said. After an error some first bytes of the answer were said, or none or all. It
-/// takes no memory, and reads no file.
+/// takes no memory, and reads no file; so of a method it knows the text of its last definition alone.
 pub fn browse_line<H: Host, M: Memory>(
     m: &M,
     changes: &Changes,
@@ -164,13 +190,7 @@ pub fn browse_line<H: Host, M: Memory>(
         → Answers H.Host.own (reply (M.view m.now) text (ask_of ask.entry)) host.old host.new result }
     ensures cause { HasCause (H.say_faults host.old) (H.say_faults host.new) result }
 {
-    match seek(m, ask, text_for(changes, ask)) {
-        Some(sought) => {
-            say_sought(m, sought, host)?;
-            Ok(true)
-        }
-        None => Ok(false),
-    }
+    answer(m, ask, text_for(changes, ask), host)
 }
 
 /// Why an answer wasn't said whole.
@@ -200,4 +220,97 @@ pub fn browse<M: Memory, H: Host>(
         Ok(found) => Ok(found),
         Err(SayFault) => Err(BrowseFault::Say),
     }
+}
+
+/// Why the text of a method isn't said.
+#[derive(Clone, Copy, Debug, PartialEq, Eq)]
+pub enum SourceFault {
+    /// The disk failed. As no file is read, it never does here.
+    Disk,
+    /// The output failed.
+    Say,
+    /// There was no memory. Nothing is said then.
+    OutOfMemory,
+}
+
+/// Says this text of a class's method, and whether it is there: where there is none, or class or method is missing, nothing is said.
+fn say_text<H: Host, M: Memory>(
+    m: &M,
+    side: Lent<'_>,
+    selector: &[u8],
+    text: Option<&[u8]>,
+    host: &mut H,
+) -> Result<bool, SourceFault>
+    ensures answers { let v = M.view m.now in let text = option_map (λ t. t.now) text.entry in
+        Answers H.Host.own (reply v text (Source (side_of side.entry) selector.now))
+        host.old host.new result }
+    ensures cause { HasSourceCause (H.say_faults host.old) (H.say_faults host.new) result }
+    ensures ample { IsErrOf result NoMemory → ⊥ }
+{
+    match answer(m, Asked::Source(side, selector), text, host) {
+        Ok(found) => Ok(found),
+        Err(SayFault) => Err(SourceFault::Say),
+    }
+}
+
+/// Says a text that is made of the code of a class's method, and whether there is one.
+fn say_made<H: Host, M: Memory>(
+    alloc: Global,
+    m: &M,
+    side: Lent<'_>,
+    selector: &[u8],
+    host: &mut H,
+) -> Result<bool, SourceFault>
+    ensures answers { let v = M.view m.now in let side = side_of side.entry in
+        (text : Option (List ℕ)) → IsMade v side selector.now text
+        → Answers H.Host.own (reply v text (Source side selector.now)) host.old host.new result }
+    ensures cause { HasSourceCause (H.say_faults host.old) (H.say_faults host.new) result }
+    ensures starved { IsErrOf result NoMemory → host.new ≡ host.old }
+{
+    match decompiled(alloc, m, side, selector) {
+        Ok(Some(text)) => say_text(m, side, selector, Some(&text), host),
+        Ok(None) => say_text(m, side, selector, None, host),
+        Err(AllocError) => Err(SourceFault::OutOfMemory),
+    }
+}
+
+/// Says the text of a class's method: that of its last definition in this list, or else one that has its code; and whether there is
+/// one: where there is none, or class or method is missing, nothing is said. After an error some first bytes of the answer were
+/// said, or none or all. It takes memory where a text has to be made, and reads no file.
+pub fn source_line<H: Host, M: Memory>(
+    alloc: Global,
+    m: &M,
+    changes: &Changes,
+    side: Lent<'_>,
+    selector: &[u8],
+    host: &mut H,
+) -> Result<bool, SourceFault>
+    ensures answers { let v = M.view m.now in let side = side_of side.entry in
+        (text : Option (List ℕ)) → IsShown v changes.now.listed side selector.now text
+        → Answers H.Host.own (reply v text (Source side selector.now)) host.old host.new result }
+    ensures cause { HasSourceCause (H.say_faults host.old) (H.say_faults host.new) result }
+    ensures starved { IsErrOf result NoMemory → host.new ≡ host.old }
+{
+    match changes.last_text(side.class, side.meta, selector) {
+        Some(text) => say_text(m, side, selector, Some(text), host),
+        None => say_made(alloc, m, side, selector, host),
+    }
+}
+
+/// The same, of a side that isn't lent.
+pub fn browse_source<M: Memory, H: Host>(
+    alloc: Global,
+    m: &M,
+    changes: &Changes,
+    side: &Side,
+    selector: &[u8],
+    host: &mut H,
+) -> Result<bool, SourceFault>
+    ensures answers { let v = M.view m.now in let side = side_meant side.now in
+        (text : Option (List ℕ)) → IsShown v changes.now.listed side selector.now text
+        → Answers H.Host.own (reply v text (Source side selector.now)) host.old host.new result }
+    ensures cause { HasSourceCause (H.say_faults host.old) (H.say_faults host.new) result }
+    ensures starved { IsErrOf result NoMemory → host.new ≡ host.old }
+{
+    source_line(alloc, m, changes, side.lend(), selector, host)
 }

@@ -9,6 +9,8 @@ ghost use Rattle.st_browse.specs.Replies.{methods_text, object_reply};
 ghost use Rattle.st_browse.specs.Asked.{bytecodes_in, class_of_side, method_in, method_of_side, reply, source_in};
 ghost use Rattle.st_browse.specs.Entries.{IsBody};
 ghost use Rattle.st_browse.specs.Founds.{IsSought, body_text, sought_text};
+ghost use Rattle.st_browse.specs.Decompiling.{method_place};
+ghost use Rattle.st_browse.specs.Placing.{IsCompiled, place_if};
 
 use crate::classes::{globals, is_class, on_side};
 use crate::codes::{Body, body_of};
@@ -19,6 +21,7 @@ use crate::places::first_named;
 use st_chunk::{Ask, Side};
 use st_memory::Memory;
 use st_model::Oop;
+use st_parts::Compiled;
 
 /// What is asked for, where it is in the image.
 #[derive(Clone, Copy)]
@@ -114,6 +117,27 @@ pub fn find_method<M: Memory>(m: &M, side: Side<'_>, selector: &[u8]) -> Option<
     let class = class_of_side(m, side)?;
     let body = method_of(m, class, selector)?;
     Some(body.method)
+}
+
+/// The method of a class for a selector, and where it stands.
+#[tactic(auto, unfolding(crate::specs::Decompiling::method_place))]
+pub fn find_compiled<'a, M: Memory>(
+    m: &M,
+    side: Side<'a>,
+    selector: &'a [u8],
+) -> Option<Compiled<'a>>
+    ensures place { place_if result ≡ method_place (M.view m.now) (side_of side.entry) selector.now }
+    ensures there { IfSome result (λ c. IsCompiled (M.view m.now).objects c) }
+{
+    let class = class_of_side(m, side)?;
+    let body = method_of(m, class, selector)?;
+    Some(Compiled {
+        class,
+        name: side.class,
+        meta: side.meta,
+        selector,
+        method: body.method,
+    })
 }
 
 /// Finds an object.

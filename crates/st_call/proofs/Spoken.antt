@@ -3,7 +3,7 @@ use Rattle.std.proofs.Common.{◌≡◌, [], ◌∷◌, refl}
 use Rattle.std.specs.Prelude.{codes, Some, None}
 use Rattle.st_image.specs.HeadValues.{no_values}
 use Rattle.st_call.specs.Arguments.{number_said}
-use Rattle.st_call.specs.Words.{command_of, Once, Import, Export, Clean}
+use Rattle.st_call.specs.Words.{command_of, Once, Import, Export, Clean, Condense}
 
 once_of_four : command_of (codes "once" ∷ codes "B" ∷ codes "0000000004" ∷ []) ≡ Some (Once (codes "B") 4)
 unfolding number_said
@@ -48,6 +48,9 @@ a_clean_image = refl
 no_option_of_clean : command_of (codes "clean" ∷ codes "S" ∷ codes "I" ∷ codes "--words=5" ∷ []) ≡ None
 unfolding number_said
 no_option_of_clean = refl
+
+a_store_to_condense : command_of (codes "condense" ∷ codes "--" ∷ codes "-S" ∷ []) ≡ Some (Condense (codes "-S"))
+a_store_to_condense = refl
 
 an_empty_operand : command_of (codes "session" ∷ [] ∷ []) ≡ None
 an_empty_operand = refl

@@ -6,7 +6,7 @@ use Rattle.st_call.specs.declared.arguments.Operands.TheVariants as operands
 use Rattle.st_call.specs.declared.words.Command as declared
 use Rattle.st_call.specs.declared.words.Command.TheVariants as variants
 use Rattle.st_call.specs.Arguments.{Arguments}
-use Rattle.st_call.specs.Words.{Command, Once, Import, Export, Clean, Session, Build, Drill}
+use Rattle.st_call.specs.Words.{Command, Once, Import, Export, Clean, Condense, Session, Build, Drill}
 
 abbrev pub operands_view : declared-operands.Operands → List (List ℕ)
 operands_view operands.Empty = []
@@ -21,6 +21,7 @@ command_view (variants.Once image cycles) = Once image.now cycles
 command_view (variants.Import image store over) = Import image.now store.now over
 command_view (variants.Export store image) = Export store.now image.now
 command_view (variants.Clean store image) = Clean store.now image.now
+command_view (variants.Condense store) = Condense store.now
 command_view (variants.Session store) = Session store.now
 command_view (variants.Build kernel store) = Build kernel.now store.now
 command_view (variants.Drill number) = Drill number

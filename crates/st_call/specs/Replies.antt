@@ -55,6 +55,10 @@ exported_text length = codes "exported" ++ (numbers_text (length ∷ []) ++ code
 abbrev pub cleaned_text : Demand → List ℕ
 cleaned_text d = codes "cleaned" ++ (numbers_text (d.entries ∷ d.words ∷ []) ++ codes "\n")
 
+-- of so many definitions so many are left
+abbrev pub condensed_text : ℕ → ℕ → List ℕ
+condensed_text before after = codes "condensed" ++ (numbers_text (before ∷ after ∷ []) ++ codes "\n")
+
 -- it is missing
 abbrev pub missing_text : List ℕ
 missing_text = codes "not found\n"

@@ -1,5 +1,5 @@
 -- The words of the program, without its name: once IMAGE N, import IMAGE STORE with options, export STORE IMAGE, clean STORE IMAGE,
--- session STORE, build KERNEL STORE, and drill N.
+-- condense STORE, session STORE, build KERNEL STORE, and drill N.
 use Rattle.std.specs.Prelude.{ℕ, Bool, ◌||◌, List, [], ◌∷◌, codes, Option, Some, None, is_some, option_map, option_and_then, if◌then◌else◌}
 use Rattle.st_image.specs.declared.head.HeadValues.{HeadValues}
 use Rattle.st_call.specs.Arguments.{Arguments, arguments_of, spells, number_said}
@@ -10,6 +10,7 @@ pub data Command : Type 0 where
   Import : (image store : List ℕ) → (over : HeadValues) → Command
   Export : (store image : List ℕ) → Command
   Clean : (store image : List ℕ) → Command
+  Condense : (store : List ℕ) → Command
   Session : (store : List ℕ) → Command
   Build : (kernel store : List ℕ) → Command
   Drill : (number : ℕ) → Command
@@ -30,6 +31,10 @@ export_of operands = None
 abbrev pub clean_of : List (List ℕ) → Option Command
 clean_of (store ∷ image ∷ []) = Some (Clean store image)
 clean_of operands = None
+
+abbrev pub condense_of : List (List ℕ) → Option Command
+condense_of (store ∷ []) = Some (Condense store)
+condense_of operands = None
 
 abbrev pub session_of : List (List ℕ) → Option Command
 session_of (store ∷ []) = Some (Session store)
@@ -55,6 +60,7 @@ command_named w a =
     if spells w (codes "once") then once_of a.operands else
     if spells w (codes "export") then export_of a.operands else
     if spells w (codes "clean") then clean_of a.operands else
+    if spells w (codes "condense") then condense_of a.operands else
     if spells w (codes "session") then session_of a.operands else
     if spells w (codes "build") then build_of a.operands else
     if spells w (codes "drill") then drill_of a.operands else None

@@ -18,6 +18,11 @@ pub enum Reply<'a> {
     Exported(u64),
     /// A clean image of so many objects and words was written.
     Cleaned(Demand),
+    /// Of so many definitions so many are left.
+    Condensed {
+        before: u32,
+        after: u32,
+    },
     /// The machine is dead of this cause; so many cycles of the line are finished.
     Died {
         finished: u32,
@@ -100,6 +105,9 @@ fn push_reply<H: Host>(out: &mut Output, host: &mut H, reply: Reply<'_>) -> Resu
         Reply::Exported(length) => push_long_line(out, host, b"exported", length),
         Reply::Cleaned(Demand { entries, words }) => {
             push_line(out, host, b"cleaned", &[entries, words])
+        }
+        Reply::Condensed { before, after } => {
+            push_line(out, host, b"condensed", &[before, after])
         }
         Reply::Died { finished, cause } => {
             push_line(out, host, b"dead", &[finished, u32::from(cause.number())])

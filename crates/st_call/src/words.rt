@@ -1,6 +1,6 @@
 ghost use Rattle.std.specs.Prelude.{◌≡◌, map, option_map};
 ghost use Rattle.std.specs.String.{string_bytes};
-ghost use Rattle.st_call.specs.Words.{once_of, import_of, export_of, clean_of, session_of, build_of, drill_of, has_values, command_named, command_of};
+ghost use Rattle.st_call.specs.Words.{once_of, import_of, export_of, clean_of, condense_of, session_of, build_of, drill_of, has_values, command_named, command_of};
 ghost use Rattle.st_call.specs.CommandViews.{operands_view, arguments_view, command_view};
 
 use crate::arguments::{Arguments, Operands, read_arguments, read_number};
@@ -29,6 +29,10 @@ pub enum Command<'a> {
     Clean {
         store: &'a str,
         image: &'a str,
+    },
+    /// The dropping of a store's superseded definitions.
+    Condense {
+        store: &'a str,
     },
     /// A session over a store.
     Session {
@@ -92,6 +96,16 @@ fn clean(operands: Operands<'_>) -> Option<Command<'_>>
 }
 
 /// The command of `STORE`.
+fn condense(operands: Operands<'_>) -> Option<Command<'_>>
+    ensures { option_map command_view result ≡ condense_of (operands_view operands.entry) }
+{
+    match operands {
+        Operands::One(store) => Some(Command::Condense { store }),
+        Operands::Empty | Operands::Two(_, _) => None,
+    }
+}
+
+/// The command of `STORE`.
 fn session(operands: Operands<'_>) -> Option<Command<'_>>
     ensures { option_map command_view result ≡ session_of (operands_view operands.entry) }
 {
@@ -150,6 +164,8 @@ fn command_named<'a>(name: &str, arguments: Arguments<'a>) -> Option<Command<'a>
         export(arguments.operands)
     } else if name == "clean" {
         clean(arguments.operands)
+    } else if name == "condense" {
+        condense(arguments.operands)
     } else if name == "session" {
         session(arguments.operands)
     } else if name == "build" {

@@ -1,2 +1,5 @@
+mod Answered
+mod Fields
 mod Rows
+mod SideBySide
 pub mod Written

@@ -4,13 +4,16 @@
 ghost use Rattle.std.specs.Prelude.{◌≡◌, ℕ, ◌+◌, ◌<◌, ◌≤◌, ◌/◌, length, replicate, take, drop, slice_index, slice_set, IfOk};
 ghost use Rattle.st_cells.specs.Words.{slid, with_run, byte_of, with_byte, with_bytes};
 
+mod region;
+
+use crate::region::Region;
 use std::alloc::{AllocError, Global};
 use std::marker::Model;
 
 /// A region of words, whose number never changes. Clauses see it as the list of its words.
-#[derive(Drop)]
 pub struct Cells {
-    words: Vec<u16>,
+    region: Region,
+    alloc: Global,
 }
 
 impl Model for Cells {
@@ -18,9 +21,16 @@ impl Model for Cells {
 
     ghost Value = { List ℕ };
 
-    ghost view = { λ c. c.words.items };
+    ghost view = { λ c. c.region.words };
 
-    ghost invariant = { λ c. length c.words.items < 2 ^ 32 };
+    ghost invariant = { λ c. length c.region.words < 2 ^ 32 };
+}
+
+impl Drop for Cells {
+    fn drop(self) {
+        let Cells { region, alloc } = self;
+        region.free(&alloc);
+    }
 }
 
 impl Cells {
@@ -28,8 +38,8 @@ impl Cells {
     pub fn with_len(alloc: Global, n: u32) -> Result<Cells, AllocError>
         ensures { IfOk result (λ c. c ≡ replicate n 0) }
     {
-        let words = vec![in alloc; 0u16; n as usize]?;
-        Ok(Cells { words })
+        let region = Region::zeros(&alloc, n as usize)?;
+        Ok(Cells { region, alloc })
     }
 
     /// The word at a place.
@@ -37,7 +47,7 @@ impl Cells {
         requires { i < length self.now }
         ensures { result ≡ slice_index self.now i }
     {
-        self.words[i as usize]
+        self.region.words()[i as usize]
     }
 
     /// Writes the word at a place.
@@ -45,7 +55,7 @@ impl Cells {
         requires { i < length self.old }
         ensures { self.new ≡ slice_set self.old i w }
     {
-        self.words[i as usize] = w;
+        self.region.words_mut()[i as usize] = w;
     }
 
     /// Reads the words from a place on, as many as there is room for.
@@ -54,7 +64,7 @@ impl Cells {
         ensures { into.new ≡ take (length into.old) (drop at self.now) }
     {
         let first = at as usize;
-        into.copy_from_slice(&self.words[first..first + into.len()]);
+        into.copy_from_slice(&self.region.words()[first..first + into.len()]);
     }
 
     /// Writes words from a place on.
@@ -63,7 +73,7 @@ impl Cells {
         ensures length { length self.new ≡ length self.old }
         ensures words { self.new ≡ with_run self.old at words.now }
     {
-        write_run(self.words.as_mut_slice(), at as usize, words);
+        write_run(self.region.words_mut(), at as usize, words);
     }
 
     /// Reads bytes from place `first` on, as many as there is room for. The words from `at` on have two each, the first one in
@@ -73,9 +83,10 @@ impl Cells {
         ensures { (k : ℕ) → k < length into.old
             → slice_index into.new k ≡ byte_of (slice_index self.now (at + (first + k) / 2)) (first + k) }
     {
+        let words = self.region.words();
         for k in 0..into.len() {
             let place = first as usize + k;
-            into[k] = byte_of(self.words[at as usize + place / 2], place);
+            into[k] = byte_of(words[at as usize + place / 2], place);
         }
     }
 
@@ -85,12 +96,7 @@ impl Cells {
         ensures length { length self.new ≡ length self.old }
         ensures words { self.new ≡ with_bytes self.old at first bytes.now }
     {
-        write_bytes(
-            self.words.as_mut_slice(),
-            at as usize,
-            first as usize,
-            bytes,
-        );
+        write_bytes(self.region.words_mut(), at as usize, first as usize, bytes);
     }
 
     /// Moves n words down, in rising order of places: those from `from` on come to `to`. All words outside of the n at
@@ -101,16 +107,19 @@ impl Cells {
         ensures length { length self.new ≡ length self.old }
         ensures words { (i : ℕ) → slice_index self.new i ≡ slid (slice_index self.old) from to n i }
     {
-        for k in 0..n {
-            self.words[(to + k) as usize] = self.words[(from + k) as usize];
-        }
+        slide(
+            self.region.words_mut(),
+            from as usize,
+            to as usize,
+            n as usize,
+        );
     }
 
     /// The number of words.
     pub fn len(&self) -> u32
         ensures { result ≡ length self.now }
     {
-        self.words.len() as u32
+        self.region.words().len() as u32
     }
 }
 
@@ -121,6 +130,18 @@ fn write_run(list: &mut [u16], at: usize, run: &[u16])
     ensures words { list.new ≡ with_run list.old at run.now }
 {
     list[at..at + run.len()].copy_from_slice(run);
+}
+
+/// Moves n words of a list down, in rising order of places.
+fn slide(list: &mut [u16], from: usize, to: usize, n: usize)
+    requires down { to ≤ from }
+    requires within { from + n ≤ length list.old }
+    ensures length { length list.new ≡ length list.old }
+    ensures words { (i : ℕ) → slice_index list.new i ≡ slid (slice_index list.old) from to n i }
+{
+    for k in 0..n {
+        list[to + k] = list[from + k];
+    }
 }
 
 /// The byte of a word for a place: the upper half for an even one.

@@ -1,5 +1,5 @@
 -- What bytes list, and where they are damaged, is determined.
-use Rattle.std.proofs.Common.{◌≡◌, ◌⊎◌, inl, inr, ℕ, ◌<◌, ◌≤◌, List, [], ◌∷◌, ◌++◌, length, drop, refl, sym, ap, ◌∙◌, subst, append_assoc, arith, codes}
+use Rattle.std.proofs.Common.{◌≡◌, ◌⊎◌, inl, inr, ℕ, List, [], ◌∷◌, ◌++◌, length, drop, refl, sym, ap, ◌∙◌, subst, append_assoc, arith, codes}
 use Rattle.std.specs.Prelude.{All}
 use Rattle.std.proofs.lemmas.List.{append-nil}
 use Rattle.st_chunk.specs.Texts.{mark, doubled}
@@ -9,7 +9,7 @@ use Rattle.st_chunk.proofs.Entries.{others}
 use Rattle.st_store.specs.declared.root.Root.{Root}
 use Rattle.st_changes.specs.Runs.{IsRun}
 use Rattle.st_changes.specs.Entries.{BeginsWith}
-use Rattle.st_changes.specs.Lists.{StandsAt, Lists, IsWrongEntry, IsWrongBase, IsDamaged, EndsShort}
+use Rattle.st_changes.specs.Lists.{StandsAt, Lists, IsWrongEntry, IsDamaged, EndsShort}
 use Rattle.st_changes.proofs.EntryTexts.{head_run, head_same, entry_head, entry_method, method_run, method_same}
 use Rattle.st_changes.proofs.ListTexts.{entries_more, all_more, stands_more}
 use Rattle.st_changes.proofs.Lasts.{entry_same}

@@ -36,22 +36,22 @@ begins_more n bytes more old new begins written =
     record { long = holds.there; is = sym (append-nil (take (n + length more) (bytes_of new))) ∙ holds.is }
 
 module _ {D : Type 0} (host : Ghosts D) (name : List ℕ) (c : Stored) (k : ℕ) (a b : D) (told : IsTrue host.is_told) (chosen : IsChosen host a name k c) (n : ℕ)
-    (reads : host.may_leave a (changes_file name) (host.files a (changes_file name))) (writes : Writes host (changes_file name) c.root.length n a b) where
-  above : WritesAbove host c.root.length (changes_file name) a b
-  above = write_above host (changes_file name) c.root.length c.root.length n a b (omega arith) (λ told. (chosen.firm.changes (host.files a (changes_file name)) reads).long) writes
+    (reads : host.may_leave a (changes_file name c.root.slot) (host.files a (changes_file name c.root.slot))) (writes : Writes host (changes_file name c.root.slot) c.root.length n a b) where
+  above : WritesAbove host c.root.length (changes_file name c.root.slot) a b
+  above = write_above host (changes_file name c.root.slot) c.root.length c.root.length n a b (omega arith) (λ told. (chosen.firm.changes (host.files a (changes_file name c.root.slot)) reads).long) writes
 
-  stays : (x : Option (List ℕ)) → Comes (KeepsBelow c.root.length) (host.may_leave a (changes_file name)) x → Begins c.root.length c.changes x
-  stays x step = came (host.may_leave a (changes_file name)) (KeepsBelow c.root.length) (Begins c.root.length c.changes) x
+  stays : (x : Option (List ℕ)) → Comes (KeepsBelow c.root.length) (host.may_leave a (changes_file name c.root.slot)) x → Begins c.root.length c.changes x
+  stays x step = came (host.may_leave a (changes_file name c.root.slot)) (KeepsBelow c.root.length) (Begins c.root.length c.changes) x
       (λ d could keeps. begins_kept c.root.length c.changes d x (chosen.firm.changes d could) keeps) step
 
   -- at each moment the store opens as before
-  opens_still : (f : Files) → ((m : List ℕ) → m ≢ changes_file name → host.may_leave a m (f m)) → Comes (KeepsBelow c.root.length) (host.may_leave a (changes_file name)) (f (changes_file name)) → Opens name c f
+  opens_still : (f : Files) → ((m : List ℕ) → m ≢ changes_file name c.root.slot → host.may_leave a m (f m)) → Comes (KeepsBelow c.root.length) (host.may_leave a (changes_file name c.root.slot)) (f (changes_file name c.root.slot)) → Opens name c f
   opens_still f others own = record {
     number = k;
-    chosen = chosen.roots (f (roots_file name)) (others (roots_file name) (λ e. changes_roots name (sym e)));
+    chosen = chosen.roots (f (roots_file name)) (others (roots_file name) (λ e. changes_roots name c.root.slot (sym e)));
     sound = chosen.firm.sound;
-    image = chosen.firm.image (f (image_file name c.root.slot)) (others (image_file name c.root.slot) (image_changes name c.root.slot));
-    changes = stays (f (changes_file name)) own;
+    image = chosen.firm.image (f (image_file name c.root.slot)) (others (image_file name c.root.slot) (image_changes name c.root.slot c.root.slot));
+    changes = stays (f (changes_file name c.root.slot)) own;
   }
 
   pub kept_on : IsChosen host b name k c
@@ -59,10 +59,10 @@ module _ {D : Type 0} (host : Ghosts D) (name : List ℕ) (c : Stored) (k : ℕ)
       let apart = above.run.others told in
       record {
         which = chosen.which;
-        roots = λ x can. chosen.roots x (apart.fewer (roots_file name) x (λ e. changes_roots name (sym e)) can);
+        roots = λ x can. chosen.roots x (apart.fewer (roots_file name) x (λ e. changes_roots name c.root.slot (sym e)) can);
         firm = record {
           sound = chosen.firm.sound;
-          image = λ x can. chosen.firm.image x (apart.fewer (image_file name c.root.slot) x (image_changes name c.root.slot) can);
+          image = λ x can. chosen.firm.image x (apart.fewer (image_file name c.root.slot) x (image_changes name c.root.slot c.root.slot) can);
           changes = λ x can. stays x (above.run.own told x can);
         };
       }
@@ -70,14 +70,14 @@ module _ {D : Type 0} (host : Ghosts D) (name : List ℕ) (c : Stored) (k : ℕ)
   rest_on : IsAtRest host (Opens name) c b
   rest_on =
       let apart = above.run.others told in
-      record { opens_as = λ f can. opens_still f (λ m other. apart.fewer m (f m) other (can m)) (above.run.own told (f (changes_file name)) (can (changes_file name))) }
+      record { opens_as = λ f can. opens_still f (λ m other. apart.fewer m (f m) other (can m)) (above.run.own told (f (changes_file name c.root.slot)) (can (changes_file name c.root.slot))) }
 
   pub behind_makes : {R E : Type 0} (result : Result R E) → Makes host (Opens name) c c a b result
   behind_makes result = record {
     rest = always result;
     either = λ f can. inl (rest_on.opens_as f can);
     quiet = above.run.quiet told;
-    moments = weaker host a b (λ f s. (s ≡ host.said a) × (Opens name c f ⊎ Opens name c f)) (Touched host (KeepsBelow c.root.length) (changes_file name) a) (above.run.moments told)
+    moments = weaker host a b (λ f s. (s ≡ host.said a) × (Opens name c f ⊎ Opens name c f)) (Touched host (KeepsBelow c.root.length) (changes_file name c.root.slot) a) (above.run.moments told)
         (λ f s so. (so.quiet, inl (opens_still f so.others so.own)));
   }
     where
@@ -86,14 +86,14 @@ module _ {D : Type 0} (host : Ghosts D) (name : List ℕ) (c : Stored) (k : ℕ)
       always (Rattle.std.specs.Prelude.Err e) = tt
 
   -- and once they are synced, the store with these bytes is firm
-  pub behind_firm : (bytes : List ℕ) → IsWritten c.root.length bytes (host.files a (changes_file name)) (host.files b (changes_file name))
-      → ((x : Option (List ℕ)) → host.may_leave b (changes_file name) x → x ≡ host.files b (changes_file name))
+  pub behind_firm : (bytes : List ℕ) → IsWritten c.root.length bytes (host.files a (changes_file name c.root.slot)) (host.files b (changes_file name c.root.slot))
+      → ((x : Option (List ℕ)) → host.may_leave b (changes_file name c.root.slot) x → x ≡ host.files b (changes_file name c.root.slot))
       → c.root.length + length bytes ≤ 2 ^ 30 → IsFirm host b name (grown c bytes)
   behind_firm bytes written synced fits = record {
     sound = record { slot = chosen.firm.sound.slot; base = omega (arith, chosen.firm.sound.base); limit = fits };
     image = kept_on.firm.image;
     changes = λ x can. subst (λ (y : Option (List ℕ)). Begins (c.root.length + length bytes) (c.changes ++ bytes) y) (sym (synced x can))
-        (begins_more c.root.length c.changes bytes (host.files a (changes_file name)) (host.files b (changes_file name)) (chosen.firm.changes (host.files a (changes_file name)) reads) written);
+        (begins_more c.root.length c.changes bytes (host.files a (changes_file name c.root.slot)) (host.files b (changes_file name c.root.slot)) (chosen.firm.changes (host.files a (changes_file name c.root.slot)) reads) written);
   }
 
 -- the same facts, by the name and the place that the code has

@@ -1,8 +1,7 @@
 -- One definition more, and what is found then.
-use Rattle.std.proofs.Common.{◌≡◌, ℕ, ◌+◌, ◌-◌, ◌<◌, ◌≤◌, Bool, true, false, true≢false, List, [], ◌∷◌, ◌++◌, length, get_or, refl, sym, ap, ◌∙◌, subst, append_assoc, arith, length-append, codes}
+use Rattle.std.proofs.Common.{◌≡◌, ℕ, ◌+◌, ◌≤◌, Bool, true, false, true≢false, List, [], ◌∷◌, ◌++◌, length, get_or, refl, sym, ap, ◌∙◌, subst, append_assoc, arith, length-append, codes}
 use Rattle.std.specs.Prelude.{◌&&◌, Option, Some, None, MatchOption, All, bytes_eq, unwrap_or, if◌then◌else◌}
 use Rattle.std.specs.Bool.{beq}
-use Rattle.std.specs.Option.{ForSome}
 use Rattle.std.specs.Cmp.{booleans_Decides}
 use Rattle.std.specs.Cmp.Lexicographic.{bytes_decides}
 use Rattle.std.proofs.lemmas.Bool.{and_parts}
@@ -18,7 +17,7 @@ use Rattle.st_changes.specs.IndexStates.{IndexState, HasName, found, updated}
 use Rattle.st_changes.specs.Last.{HasSelector, FindsSelector, IsOf, IsNowhere, IsLast, Answers, HasPlace, IsPrepared, IsReady, text_place, span_of}
 use Rattle.st_changes.proofs.ListTexts.{more_of, all_more}
 
-one_selector : (text s t : List ℕ) → HasSelector text s → HasSelector text t → s ≡ t
+pub one_selector : (text s t : List ℕ) → HasSelector text s → HasSelector text t → s ≡ t
 one_selector text s t x y = sym x.is ∙ ap (λ (v : MethodView). v.selector) (tree_determined text x.tree y.tree x.means y.means) ∙ y.is
 
 none_of : (P : Definition → Type 0) → All P []
@@ -39,7 +38,7 @@ entry_parts d =
     let l2 = length-append (doubled d.text) (codes "! !" ++ line_feed ∷ []) in
     omega (arith, l1, l2)
 
-span_at : (ds : List Definition) (d : Definition) (end : ℕ) → end ≡ length (entries ds) + length (entry d) → (span_of d end).at ≡ length (entries ds) + text_place d
+pub span_at : (ds : List Definition) (d : Definition) (end : ℕ) → end ≡ length (entries ds) + length (entry d) → (span_of d end).at ≡ length (entries ds) + text_place d
 span_at ds d end is = omega (arith, is, entry_parts d)
 
 -- ONE MORE

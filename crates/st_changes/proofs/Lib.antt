@@ -9,3 +9,7 @@ pub mod Determined
 pub mod Places
 pub mod Texts
 pub mod Names
+pub mod Superseding
+pub mod Extending
+pub mod OtherFile
+pub mod KeptLast

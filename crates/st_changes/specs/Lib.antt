@@ -6,3 +6,5 @@ pub mod Last
 pub mod Readying
 pub mod States
 pub mod IndexStates
+pub mod Condensing
+pub mod Writing

@@ -12,7 +12,7 @@ use Rattle.st_changes.specs.Entries.{BeginsWith}
 
 -- the bytes of the changes file up to the length of the store's root
 abbrev pub kept_changes : StoreState → Files → List ℕ
-kept_changes store f = take store.root.length (bytes_of (f (changes_file store.name)))
+kept_changes store f = take store.root.length (bytes_of (f (changes_file store.name store.root.slot)))
 
 -- the place is the first byte of one of these definitions' entries, or their end
 pub record StandsAt (ds : List Definition) (base : ℕ) : Type 0 where

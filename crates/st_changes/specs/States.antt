@@ -1,12 +1,13 @@
 -- The list of a changes file's definitions as contracts see it, and how a store grows by one.
-use Rattle.std.specs.Prelude.{◌≡◌, ℕ, ◌+◌, ◌-◌, ◌^◌, ◌<◌, ◌≤◌, List, ◌++◌, length, Option}
+use Rattle.std.specs.Prelude.{◌≡◌, ℕ, Bool, ◌+◌, ◌-◌, ◌^◌, ◌<◌, ◌≤◌, List, ◌++◌, length, Option}
 use Rattle.std.specs.Option.{ForSome}
 use Rattle.st_chunk.specs.Definitions.{Definition, entry, entries}
 use Rattle.st_store.specs.Stored.{Stored, StoreState}
 
--- the store's name, the definitions in order, and the entry that there is room for
+-- the store's name, whether it is the second changes file, the definitions in order, and the entry that there is room for
 pub record ChangesState : Type 0 where
   pub name : List ℕ
+  pub second : Bool
   pub listed : List Definition
   pub reserved : Option (List ℕ)
 

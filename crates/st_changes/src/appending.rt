@@ -1,5 +1,5 @@
 // Adding a definition to a changes file.
-ghost use Rattle.std.specs.Prelude.{◌≡◌, ◌≤◌, ◌<◌, ◌+◌, ◌-◌, ◌^◌, ◌++◌, ◌∷◌, [], Some, None, IsTrue, IfOk, OnOk, OnErr, length};
+ghost use Rattle.std.specs.Prelude.{◌≡◌, ◌≤◌, ◌<◌, ◌+◌, ◌-◌, ◌^◌, ◌++◌, ◌∷◌, [], Some, None, IsTrue, IfOk, OnOk, OnErr, nat_lt, length};
 ghost use Rattle.st_host.specs.Counts.{HasCause};
 ghost use Rattle.st_host.specs.Runs.{Changes as ChangesFile, ChangesBoth, Makes};
 ghost use Rattle.st_store.specs.Names.{roots_file, changes_file};
@@ -24,7 +24,7 @@ fn write_behind<H: Host>(host: &mut H, store: &Store, bytes: &[u8]) -> Result<()
     ensures firm { OnOk result ((c : Stored) → IsTrue H.is_told → IsKept H.Host.own host.old store.now c
         → c.root.length + length bytes.now ≤ 2 ^ 30
         → IsFirm H.Host.own host.new store.now.name (grown c bytes.now)) }
-    ensures changes { ChangesFile H.Host.own (changes_file store.now.name) host.old host.new }
+    ensures changes { ChangesFile H.Host.own (changes_file store.now.name store.now.root.slot) host.old host.new }
     ensures cause { HasCause (H.disk_faults host.old) (H.disk_faults host.new) result }
 {
     let root = store.root();
@@ -43,12 +43,14 @@ impl Changes {
     ) -> Result<Store, HostFault>
         requires good { IsDefinition (definition_of definition) }
         requires reserved { self.old.reserved ≡ Some (entry (definition_of definition)) }
+        requires file { self.old.second ≡ nat_lt 1 store.root.slot }
         requires place { store.root.length ≡ length (entries self.old.listed) }
         requires fits { FitsBehind self.old.listed (definition_of definition) }
         ensures store { IfOk result (λ next. next ≡ next_store store (entry (definition_of definition))) }
         ensures listed { OnOk result (self.new.listed ≡ self.old.listed ++ definition_of definition ∷ []) }
         ensures err { OnErr result (self.new.listed ≡ self.old.listed) }
         ensures named { self.new.name ≡ self.old.name }
+        ensures second { self.new.second ≡ self.old.second }
         ensures used { self.new.reserved ≡ None }
 
         // A stop at any moment leaves files that open as before or with this entry behind the changes.
@@ -63,7 +65,7 @@ impl Changes {
         ensures broken { OnErr result ((c : Stored) → IsTrue H.is_told → IsKept H.Host.own host.old store c
             → RestsUnlessGate H.Host.own (Opens store.name) store.name c host.new) }
 
-        ensures changes { ChangesBoth H.Host.own (changes_file store.name) (roots_file store.name)
+        ensures changes { ChangesBoth H.Host.own (changes_file store.name store.root.slot) (roots_file store.name)
             host.old host.new }
         ensures cause { HasCause (H.disk_faults host.old) (H.disk_faults host.new) result }
     {

@@ -21,6 +21,7 @@ pub(crate) struct Ready {
 #[derive(Drop)]
 pub struct Changes {
     pub(crate) name: String,
+    pub(crate) second: bool,
     pub(crate) listed: Vec<Definition>,
     pub(crate) index: Index,
     pub(crate) length: u64,
@@ -41,6 +42,7 @@ impl Model for Changes {
 
     ghost view = { λ c. record {
       name = string_bytes c.name;
+      second = c.second;
       listed = definitions_of c.listed.items;
       reserved = reserved_of c.ready;
     } };
@@ -113,6 +115,7 @@ impl Changes {
     pub fn reserve(&mut self, alloc: Global, definition: &Definition) -> Result<(), AllocError>
         requires { IsDefinition (definition_of definition.now) }
         ensures named { self.new.name ≡ self.old.name }
+        ensures second { self.new.second ≡ self.old.second }
         ensures listed { self.new.listed ≡ self.old.listed }
         ensures reserved { OnOk result (self.new.reserved ≡ Some (entry (definition_of definition.now))) }
         ensures err { OnErr result (self.new.reserved ≡ self.old.reserved) }

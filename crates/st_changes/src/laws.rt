@@ -1,6 +1,8 @@
 //! Laws of the definitions.
 
-ghost use Rattle.std.specs.Prelude.{◌≡◌, ◌++◌, ◌∷◌, [], ℕ, List, length, All};
+ghost use Rattle.st_changes.specs.Condensing.{Condenses};
+ghost use Rattle.st_changes.specs.Last.{IsLastText, IsNowhere};
+ghost use Rattle.std.specs.Prelude.{◌≡◌, ◌++◌, ◌∷◌, [], ℕ, List, Bool, length, All};
 ghost use Rattle.st_store.specs.declared.root.Root.{Root};
 ghost use Rattle.st_store.specs.declared.fault.StorePlace.TheVariants.{Changes};
 ghost use Rattle.st_store.specs.declared.fault.StoreFault.TheVariants.{NotAStore};
@@ -25,4 +27,13 @@ pub fn one_damage()
         → RefusesChanges bytes root (NotAStore (Changes other)) → at ≡ other }
     ensures none { (bytes : List ℕ) (root : Root) (at : ℕ) (ds : List Definition) → Lists bytes root.base ds
         → root.length ≡ length bytes → RefusesChanges bytes root (NotAStore (Changes at)) → ⊥ }
+{}
+
+/// Where a list is condensed, the text of the last definition of a class, a side and a selector is as before, and so is that there
+/// is none.
+pub fn condensing_keeps_last()
+    ensures last { (ds : List Definition) (base : ℕ) (z : Condenses ds base) (c : List ℕ) (m : Bool) (s t : List ℕ)
+        → IsLastText ds c m s t → IsLastText (z.kept ++ z.behind) c m s t }
+    ensures nowhere { (ds : List Definition) (base : ℕ) (z : Condenses ds base) (c : List ℕ) (m : Bool) (s : List ℕ)
+        → IsNowhere ds c m s → IsNowhere (z.kept ++ z.behind) c m s }
 {}

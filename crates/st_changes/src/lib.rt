@@ -4,6 +4,8 @@
 
 mod appending;
 mod changes;
+mod condense_fault;
+mod condensing;
 mod counting;
 mod definition;
 mod entry;
@@ -19,7 +21,9 @@ mod span;
 mod writing;
 
 pub use changes::Changes;
+pub use condense_fault::CondenseFault;
+pub use condensing::{Condensed, condense};
 pub use definition::Definition;
-pub use laws::{one_damage, one_list};
+pub use laws::{condensing_keeps_last, one_damage, one_list};
 pub use loading::load;
 pub use span::Span;

@@ -1,5 +1,5 @@
 // Reading a changes file.
-ghost use Rattle.std.specs.Prelude.{◌≡◌, All, IfOk, IfErr, OnOk, IsTrue, length, take, string_bytes};
+ghost use Rattle.std.specs.Prelude.{◌≡◌, All, IfOk, IfErr, OnOk, IsTrue, nat_lt, length, take, string_bytes};
 ghost use Rattle.st_host.specs.Files.{bytes_of};
 ghost use Rattle.st_host.specs.Runs.{ReadsAlike, OnlyReads, Changes as ChangesFile};
 ghost use Rattle.st_store.specs.Names.{changes_file};
@@ -56,6 +56,7 @@ fn damaged(at: u64) -> StoreFault
 /// Reads the changes file of a store up to the length that its root has, and lists the definitions that it keeps.
 pub fn load<H: Host>(alloc: Global, host: &mut H, store: &Store) -> Result<Changes, StoreFault>
     ensures named { IfOk result (λ changes. changes.name ≡ store.now.name) }
+    ensures second { IfOk result (λ changes. changes.second ≡ nat_lt 1 store.now.root.slot) }
     ensures good { IfOk result (λ changes. All IsDefinition changes.listed) }
     ensures stands { IfOk result (λ changes. StandsAt changes.listed store.now.root.base) }
     ensures listed { IfOk result (λ changes. IsTrue H.is_told
@@ -66,7 +67,7 @@ pub fn load<H: Host>(alloc: Global, host: &mut H, store: &Store) -> Result<Chang
     ensures kind { IfErr result IsOfLoading }
     ensures alike { OnOk result (ReadsAlike H.Host.own host.old host.new) }
     ensures reads { OnlyReads H.Host.own host.old host.new }
-    ensures only { ChangesFile H.Host.own (changes_file store.now.name) host.old host.new }
+    ensures only { ChangesFile H.Host.own (changes_file store.now.name store.now.root.slot) host.old host.new }
     ensures cause { FaultHasCause (H.disk_faults host.old) (H.disk_faults host.new) result }
 {
     let root = store.root();
@@ -75,6 +76,7 @@ pub fn load<H: Host>(alloc: Global, host: &mut H, store: &Store) -> Result<Chang
     match list(alloc, &bytes, root.base)? {
         Ok(listed) if end == root.length => Ok(Changes {
             name: owned(alloc, store.name())?,
+            second: root.slot > 1,
             index: index_all(alloc, &listed)?,
             listed,
             length: end,

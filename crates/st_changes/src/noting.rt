@@ -35,7 +35,7 @@ pub(crate) fn prepare(
 }
 
 /// The place of a definition's text in a changes file, where its entry ends at this place.
-fn text_span(definition: &Definition, end: u64) -> Span
+pub(crate) fn text_span(definition: &Definition, end: u64) -> Span
     requires good { IsDefinition (definition_of definition.now) }
     requires fits { length (entry (definition_of definition.now)) ≤ end }
     ensures { result ≡ span_of (definition_of definition.now) end }

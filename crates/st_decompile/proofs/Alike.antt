@@ -9,8 +9,9 @@ use Rattle.st_emit.specs.Steps.{size_of, is_short, long_send_size, long_if}
 use Rattle.st_emit.specs.Literals.{LiteralView}
 use Rattle.st_emit.specs.Resolving.{special_selectors, first_special, block_copy}
 use Rattle.st_resolved.specs.Instructions.{on_some, long_count, read_as}
-use Rattle.st_decompile.specs.Items.{Item, piece, cascade, again, answered, argument, over, back, statements_of}
-use Rattle.st_decompile.specs.Reading.{Acted, goes_on, on_piece, front, behind, passed, act, decided, makes_block, block_piece, choice_piece, run, region, sends}
+use Rattle.st_expression_stack.specs.Items.{Item, piece, cascade, again, answered, argument, over, back, statements_of, Acted, goes_on, on_piece}
+use Rattle.st_expression_stack.specs.Messages.{sends}
+use Rattle.st_decompile.specs.Reading.{front, behind, passed, act, decided, makes_block, block_piece, choice_piece, passes, run, region}
 
 -- SIZES
 
@@ -148,7 +149,7 @@ module _ (name_of : Place → List ℕ) (literals : List LiteralView) where
 
     decided_same : (on : Bool) (at d : ℕ) (ss : List Step) (items a : List Item) → decided name_of literals reg on at d (as_read ss) items a ≡ decided name_of literals reg on at d ss items a
     decided_same on at d ss items (over e ∷ a) =
-        ap (λ (o : Option (List Item)). on_some o (λ b. on_piece items (λ x rest. Some (record { skip = d + e; items = piece (choice_piece on x (statements_of a) (statements_of b)) ∷ rest }))))
+        ap (λ (o : Option (List Item)). on_some o (λ b. on_piece items (λ x rest. passes (d + e) (choice_piece on x (statements_of a) (statements_of b)) rest)))
         (ap (λ (l : List Step). reg (at + d) (front e l)) (behind_same ss d) ∙ reg_front (at + d) e (behind d ss))
     decided_same on at d ss items (back e ∷ a) = refl
     decided_same on at d ss items [] = refl
@@ -164,8 +165,8 @@ module _ (name_of : Place → List ℕ) (literals : List LiteralView) where
 
     block_same : (at : ℕ) (ss : List Step) (items : List Item) → makes_block name_of literals reg at (as_read ss) items ≡ makes_block name_of literals reg at ss items
     block_same at ss (piece n ∷ piece x ∷ rest) =
-        passed_same ss (λ d inside. on_some (reg (at + 2) (front d inside)) (λ made. Some (record { skip = 2 + d; items = piece (block_piece name_of literals reg x.start (statements_of made)) ∷ rest })))
-        (λ d inside. ap (λ (o : Option (List Item)). on_some o (λ made. Some (record { skip = 2 + d; items = piece (block_piece name_of literals reg x.start (statements_of made)) ∷ rest }))) (reg_front (at + 2) d inside))
+        passed_same ss (λ d inside. on_some (reg (at + 2) (front d inside)) (λ made. passes (2 + d) (block_piece name_of literals reg x.start (statements_of made)) rest))
+        (λ d inside. ap (λ (o : Option (List Item)). on_some o (λ made. passes (2 + d) (block_piece name_of literals reg x.start (statements_of made)) rest)) (reg_front (at + 2) d inside))
     block_same at ss [] = refl
     block_same at ss (piece n ∷ []) = refl
     block_same at ss (piece n ∷ cascade p ms ∷ rest) = refl

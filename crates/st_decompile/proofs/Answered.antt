@@ -35,7 +35,7 @@ module _ (name_of : Place → List ℕ) (names : NamesView) (words : AreWords na
 
   pub all_answered : (text : List ℕ) (t : MethodView) (p : PartsView) → AreNames name_of names p.literals → Means text t → code t names ≡ Ok p → IsAnswered p
   all_answered text t p are m h =
-      let r = all_read name_of names words t p are (means_formed text t m) h in
+      let r = all_read name_of names words t p are (means_formed text t m) (means_shallow text t m) h in
       let b = shallow_back r.tree r.well (omega (arith, r.shallow, means_shallow text t m)) in
       record {
         read = record { tree = r.tree; is = r.is; well = r.well; shallow = omega (arith, r.shallow, means_shallow text t m); same = r.same };

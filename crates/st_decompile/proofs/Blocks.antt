@@ -10,8 +10,8 @@ use Rattle.st_emit.specs.Nodes.{Node, Body, block}
 use Rattle.st_emit.specs.Emitting.{pop_arguments}
 use Rattle.st_emit.specs.Resolving.{Context, is_plain, count_node, expression_node, statements_body}
 use Rattle.st_emit.proofs.Forms.{inside_is}
-use Rattle.st_decompile.specs.Items.{no_arguments}
-use Rattle.st_decompile.specs.Choosing.{called}
+use Rattle.st_expression_stack.specs.Items.{no_arguments}
+use Rattle.st_expression_stack.specs.Choosing.{called}
 use Rattle.st_decompile.specs.Reading.{least_among}
 use Rattle.st_decompile.specs.Back.{places_from, body_least}
 use Rattle.st_decompile.specs.Calling.{renamed, AreNames, least_in, IsNext}

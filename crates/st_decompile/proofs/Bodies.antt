@@ -19,7 +19,7 @@ use Rattle.st_code.specs.Faults.{expression_fault, statements_fault}
 use Rattle.st_resolved.proofs.Grows.{Extends, extends_on, statements_grow}
 use Rattle.st_resolved.specs.Seen.{unnumbered}
 use Rattle.st_resolved.proofs.Unnumbered.{or_none}
-use Rattle.st_decompile.specs.Items.{no_arguments}
+use Rattle.st_expression_stack.specs.Items.{no_arguments}
 use Rattle.st_decompile.specs.Back.{tree_of, method_tree, method_least, is_self, without_self, least}
 use Rattle.st_decompile.specs.Calling.{AreNames, least_in}
 use Rattle.st_decompile.proofs.Same.{Same, before_next}

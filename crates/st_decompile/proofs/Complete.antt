@@ -4,15 +4,15 @@ use Rattle.std.proofs.lemmas.Bool.Decides.{nat_tests}
 use Rattle.std.specs.Prelude.{if◌then◌else◌, nat_lt, nat_le, is_some, Ok, slice_get}
 use Rattle.st_scan.specs.declared.token.Signed.{Signed}
 use Rattle.st_scan.specs.Views.{MethodView}
-use Rattle.st_emit.specs.Bounds.{most_literals, most_variables, small_room, large_room}
+use Rattle.st_emit.specs.Bounds.{most_literals, small_room}
 use Rattle.st_emit.specs.declared.step.Place.{Place}
 use Rattle.st_emit.specs.declared.step.Step.{Step}
 use Rattle.st_emit.specs.Names.{NamesView}
 use Rattle.st_emit.specs.Literals.{LiteralView, number, owner}
 use Rattle.st_emit.specs.Nodes.{Body}
-use Rattle.st_emit.specs.Steps.{all_bytes, all_reach, sends_super}
+use Rattle.st_emit.specs.Steps.{all_bytes, sends_super}
 use Rattle.st_emit.specs.Resolving.{names_in_statements}
-use Rattle.st_code.specs.declared.fault.Cause.TheVariants.{Literals, Temporaries, Depth, Jump}
+use Rattle.st_code.specs.declared.fault.Cause.TheVariants.{Literals}
 use Rattle.st_code.specs.declared.simple.Simple.{Simple}
 use Rattle.st_code.specs.declared.simple.Simple.TheVariants.{Itself, ItsField}
 use Rattle.st_code.specs.Faults.{method_fault}
@@ -27,15 +27,14 @@ use Rattle.st_resolved.proofs.Seen.{below_more}
 use Rattle.st_emit.specs.Selectors.{arity}
 use Rattle.st_resolved.specs.Right.{RightStatements}
 use Rattle.st_resolved.proofs.Wholes.{placed, fit}
-use Rattle.st_decompile.specs.Items.{Item, no_arguments, statements_of}
+use Rattle.st_expression_stack.specs.Items.{Item, no_arguments, most_high, statements_of}
 use Rattle.st_decompile.specs.Reading.{region}
-use Rattle.st_decompile.specs.Back.{method_least}
+use Rattle.st_decompile.specs.Back.{body_high, method_least}
 use Rattle.st_decompile.specs.Calling.{AreNames, least_in}
-use Rattle.st_decompile.specs.Whole.{size_in, variables_in, own_in, extension_in, primitive_by, primitive_in, most_deep, variables_called, method_of, candidate}
+use Rattle.st_decompile.specs.Whole.{size_in, variables_in, own_in, extension_in, primitive_by, primitive_in, variables_called, method_of, candidate}
 use Rattle.st_decompile.proofs.Pieces.{method_items, method_taken}
 use Rattle.st_decompile.proofs.Nodes.{method_read}
 use Rattle.st_decompile.proofs.Alike.{region_same}
-use Rattle.st_decompile.proofs.Depth.{method_few}
 use Rattle.st_decompile.proofs.Wholes.{tree_again, few, back, not_more, no_fault_if}
 use Rattle.st_decompile.proofs.Final.{same_code}
 
@@ -147,26 +146,19 @@ own_back variables own (suc count) least k b e z v h l =
     ap (λ (x : ℕ). own_in (if k == 6 then 0 else variables) x) l ∙ ap (λ (c : Bool). if c then (if k == 6 then 0 else variables) else own) other
 
 module _ (name_of : Place → List ℕ) (names : NamesView) (tree : MethodView) (are : AreNames name_of names (literals tree names)) (sound : fault tree names ≡ None)
-    (right : RightStatements tree.body) (counted : arity tree.selector ≡ length tree.arguments) where
+    (right : RightStatements tree.body) (counted : arity tree.selector ≡ length tree.arguments) (low : body_high (body tree names).part 0 ≤ most_high) where
   abbrev b : Body
   b = (body tree names).part
 
   faults : whole_fault tree names ≡ None
   faults = (or_none (method_fault names tree) (whole_fault tree names) sound).1
 
-  bounds : (primitive_fault tree.primitive ≡ None) × (length (literals tree names) ≤ 63) × (all_reach (steps tree names) ≡ true)
+  bounds : (primitive_fault tree.primitive ≡ None) × (length (literals tree names) ≤ 63)
   bounds =
       let f1 = (or_none (symbols_fault names.symbols) _ faults).1 in
       let f2 = or_none (primitive_fault tree.primitive) _ f1 in
       let f3 = or_none (fault_if (nat_lt most_literals (length (literals tree names))) Literals) _ f2.1 in
-      let f4 = or_none (fault_if (nat_lt most_variables (variables tree names)) Temporaries) _ f3.1 in
-      let f5 = or_none (fault_if (passes large_room (variables tree names) (depth tree names)) Depth) _ f4.1 in
-      let f6 = or_none (fault_if (not (all_reach (steps tree names))) Jump) _ f5.1 in
-      (f2.0, not_more most_literals (length (literals tree names)) (no_fault_if (nat_lt most_literals (length (literals tree names))) Literals f3.0), not_not (all_reach (steps tree names)) (no_fault_if (not (all_reach (steps tree names))) Jump f6.0))
-    where
-      not_not : (a : Bool) → not a ≡ false → a ≡ true
-      not_not true h = refl
-      not_not false h = absurd cc
+      (f2.0, not_more most_literals (length (literals tree names)) (no_fault_if (nat_lt most_literals (length (literals tree names))) Literals f3.0))
 
   abbrev own_count : ℕ
   own_count = own_variables tree names
@@ -179,11 +171,11 @@ module _ (name_of : Place → List ℕ) (names : NamesView) (tree : MethodView) 
   fits = fit names tree sound right
 
   -- what they are read as
-  read : on_some (steps_of (all_bytes (steps tree names))) (λ ss. region name_of (literals tree names) (suc most_deep) 0 ss) ≡ Some (method_items name_of b 0 [])
+  read : on_some (steps_of (all_bytes (steps tree names))) (λ ss. region name_of (literals tree names) (suc most_high) 0 ss) ≡ Some (method_items name_of b 0 [])
   read =
-      ap (λ (o : Option (List Step)). on_some o (λ ss. region name_of (literals tree names) (suc most_deep) 0 ss)) (steps_back (steps tree names) fits)
-      ∙ region_same name_of (literals tree names) (suc most_deep) 0 (steps tree names)
-      ∙ method_read name_of (literals tree names) b most_deep (placed names tree sound right) (method_few b bounds.2)
+      ap (λ (o : Option (List Step)). on_some o (λ ss. region name_of (literals tree names) (suc most_high) 0 ss)) (steps_back (steps tree names) fits)
+      ∙ region_same name_of (literals tree names) (suc most_high) 0 (steps tree names)
+      ∙ method_read name_of (literals tree names) b most_high (placed names tree sound right) (low, omega arith)
 
   -- HEADER
 
@@ -275,8 +267,8 @@ module _ (name_of : Place → List ℕ) (names : NamesView) (tree : MethodView) 
   pub candidate_is : candidate name_of (parts tree names) ≡ Some (tree_again name_of names tree are)
   candidate_is = split (steps_of (all_bytes (steps tree names))) read
     where
-      split : (o : Option (List Step)) → on_some o (λ ss. region name_of (literals tree names) (suc most_deep) 0 ss) ≡ Some (method_items name_of b 0 [])
-          → on_some o (λ ss. on_some (region name_of (literals tree names) (suc most_deep) 0 ss) (λ items. Some (method_of name_of (parts tree names) (statements_of items)))) ≡ Some (tree_again name_of names tree are)
+      split : (o : Option (List Step)) → on_some o (λ ss. region name_of (literals tree names) (suc most_high) 0 ss) ≡ Some (method_items name_of b 0 [])
+          → on_some o (λ ss. on_some (region name_of (literals tree names) (suc most_high) 0 ss) (λ items. Some (method_of name_of (parts tree names) (statements_of items)))) ≡ Some (tree_again name_of names tree are)
       split None h = absurd cc
       split (Some ss) h =
           ap (λ (o : Option (List Item)). on_some o (λ items. Some (method_of name_of (parts tree names) (statements_of items)))) h ∙ ap (λ (m : MethodView). Some m) method_read_is

@@ -16,7 +16,7 @@ use Rattle.st_code.specs.declared.fault.Cause.TheVariants.{Unknown, Store}
 use Rattle.st_code.specs.Faults.{fault_at, read_fault, store_fault, stored_fault}
 use Rattle.st_resolved.proofs.Grows.{Extends}
 use Rattle.st_resolved.specs.Seen.{unnumbered}
-use Rattle.st_decompile.specs.Choosing.{called}
+use Rattle.st_expression_stack.specs.Choosing.{called}
 use Rattle.st_decompile.specs.Back.{tree_of}
 use Rattle.st_decompile.specs.Calling.{AreNames}
 use Rattle.st_decompile.proofs.Same.{Same, same, same_assign}

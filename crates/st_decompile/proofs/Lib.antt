@@ -1,4 +1,17 @@
 mod Cuts
+mod Running
+mod Locating
+mod ReadTurns
+mod Starts
+mod Regioned
+mod RegionTurns
+pub mod Sameness
+mod StepTurns
+mod VariableTurns
+mod SelfTurns
+mod Assembled
+mod ActRows
+mod High
 mod Moves
 mod Pieces
 mod Regions
@@ -20,7 +33,6 @@ mod Alike
 mod Clean
 pub mod Final
 pub mod Complete
-mod Depth
 mod Words
 mod Usable
 mod Making
@@ -28,4 +40,6 @@ mod Nested
 mod Written
 mod ReadTrees
 pub mod Answered
-mod Decompiled
+pub mod Finding
+mod Tested
+pub mod CallsAlike

@@ -17,7 +17,7 @@ use Rattle.st_emit.specs.Resolving.{Context, behind, inside, names_in, names_in_
 use Rattle.st_grammar.specs.Formed.{IsSelector, HasMessage, ContentFormed, ElementsFormed, LiteralFormed, ReceiverFormed, StatementsFormed, MessagesFormed, ArgumentsFormed, count_of}
 use Rattle.st_resolved.proofs.Grows.{extends_same}
 use Rattle.st_resolved.proofs.Placing.{puts_small}
-use Rattle.st_decompile.specs.Choosing.{content_of, elements_of}
+use Rattle.st_expression_stack.specs.Choosing.{content_of, elements_of}
 use Rattle.st_decompile.specs.Formed.{Formed, BodyFormed, MessagesWell, NodesFormed}
 
 -- what is made has this property, whatever literals there are

@@ -8,8 +8,8 @@ use Rattle.st_emit.specs.Literals.{LiteralView}
 use Rattle.st_resolved.specs.Instructions.{on_some}
 use Rattle.st_resolved.proofs.Sizes.{size-append}
 use Rattle.st_decompile.proofs.Cuts.{not_none}
-use Rattle.st_decompile.specs.Items.{Item}
-use Rattle.st_decompile.specs.Reading.{Acted, goes_on, act, run, region}
+use Rattle.st_expression_stack.specs.Items.{Item, Acted, goes_on}
+use Rattle.st_decompile.specs.Reading.{act, run, region}
 
 module _ (name_of : Place → List ℕ) (literals : List LiteralView) where
   abbrev pub within : ℕ → ℕ → List Step → Option (List Item)

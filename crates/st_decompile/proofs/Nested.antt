@@ -1,5 +1,5 @@
--- The tree that is read nests no deeper than the tree that was compiled.
-use Rattle.std.proofs.Common.{◌≡◌, ℕ, ◌+◌, ◌≤◌, max, Bool, true, false, not, ◌&&◌, List, [], ◌∷◌, length, Option, Some, None, refl, sym, ap, ◌∙◌, subst, arith}
+-- The tree that is read nests no deeper than the tree that was compiled, and is no higher than brackets allow.
+use Rattle.std.proofs.Common.{◌≡◌, ℕ, suc, ◌+◌, ◌*◌, ◌≤◌, max, Bool, true, false, not, ◌&&◌, List, [], ◌∷◌, length, Option, Some, None, refl, sym, ap, ◌∙◌, subst, arith}
 use Rattle.std.proofs.lemmas.Slice.Eq.{bytes_eq-Decides}
 use Rattle.std.proofs.lemmas.Bool.{and_parts}
 use Rattle.std.specs.Prelude.{if◌then◌else◌, bytes_eq, codes, nat_lt}
@@ -23,10 +23,12 @@ use Rattle.st_print.specs.declared.rank.Rank.{Rank}
 use Rattle.st_print.specs.declared.rank.Rank.TheVariants.{Unary, Binary, Any}
 use Rattle.st_print.specs.Printed.{is_loose, is_word, rank_of, rank_of_message, rank_of_messages, receiver_rank}
 use Rattle.st_print.proofs.Nesting.{content_nesting, elements_nesting, wrapped_nesting, argument_rank, nesting, statements_nesting, messages_nesting, arguments_nesting}
+use Rattle.st_grammar.specs.Faults.{most}
 use Rattle.st_grammar.specs.Formed.{ReceiverFormed, StatementsFormed, MessagesFormed, ArgumentsFormed}
-use Rattle.st_decompile.specs.Items.{no_arguments}
-use Rattle.st_decompile.specs.Choosing.{content_of, elements_of, constant_tree, received, alone, one_sided_by, sides_by, choice_tree, loop_selector, with_block, with_blocks}
-use Rattle.st_decompile.specs.Back.{tree_of, body_tree, nodes_tree, messages_list, body_least, method_tree, without_self, is_self}
+use Rattle.st_expression_stack.specs.Items.{no_arguments, most_high}
+use Rattle.st_expression_stack.specs.Choosing.{content_of, elements_of, constant_tree, received, alone, one_sided_by, sides_by, choice_tree, loop_selector, with_block, with_blocks}
+use Rattle.st_decompile.specs.Back.{tree_of, body_tree, nodes_tree, messages_list, high, body_high, messages_high, nodes_high, body_least, method_tree, without_self, is_self}
+use Rattle.st_decompile.proofs.High.{messages_max}
 use Rattle.st_decompile.proofs.Making.{Makes, makes_then, makes_end, makes_sending}
 
 -- PARENTHESES
@@ -53,6 +55,66 @@ put_low w e f r h = subst (λ (x : Rank). wrapped_nesting (is_loose w x) (nestin
 
 put_plain : (w : Rank) (ss : StatementsView) → put w (views.block [] ss) ≡ statements_nesting ss + 1
 put_plain w ss = ap (λ (b : Bool). wrapped_nesting b (statements_nesting ss + 1)) (loose_unary w)
+
+-- HEIGHT
+
+-- how many arguments may stand in one another with no bracket between, where an expression of a rank is wanted
+abbrev loose : Rank → ℕ
+loose Unary = 0
+loose Binary = 1
+loose Any = 2
+
+loose_few : (w : Rank) → loose w ≤ 2
+loose_few Unary = omega arith
+loose_few Binary = omega arith
+loose_few Any = omega arith
+
+-- how many arguments and blocks may stand in one another
+abbrev room : ExpressionView → ℕ
+room e = 3 * nesting e + loose (rank_of e)
+
+put_room : (w : Rank) (e : ExpressionView) (h : ℕ) → h ≤ room e → h ≤ 3 * put w e + loose w
+put_room w e h i = by w (rank_of e) i
+  where
+    by : (w r : Rank) → h ≤ 3 * nesting e + loose r → h ≤ 3 * wrapped_nesting (is_loose w r) (nesting e) + loose w
+    by Unary Unary i = i
+    by Unary Binary i = omega (arith, i)
+    by Unary Any i = omega (arith, i)
+    by Binary Unary i = omega (arith, i)
+    by Binary Binary i = i
+    by Binary Any i = omega (arith, i)
+    by Any Unary i = omega (arith, i)
+    by Any Binary i = omega (arith, i)
+    by Any Any i = i
+
+-- in arguments
+abbrev arguments_room : Rank → ExpressionsView → ℕ
+arguments_room w views.no_expressions = 0
+arguments_room w (views.expression e es) = suc (3 * arguments_nesting w (views.expression e es) + loose w)
+
+arguments_few : (w : Rank) (es : ExpressionsView) → arguments_room w es ≤ suc (3 * arguments_nesting w es + loose w)
+arguments_few w views.no_expressions = omega arith
+arguments_few w (views.expression e es) = omega arith
+
+-- and in a message
+message_room : (s : List ℕ) (es : ExpressionsView) → arguments_room (argument_rank s) es ≤ 3 * arguments_nesting (argument_rank s) es + loose (rank_of_message s es)
+message_room s views.no_expressions = omega arith
+message_room s (views.expression e es) = by (is_word s)
+  where
+    by : (b : Bool) → suc (3 * arguments_nesting (if b then Binary else Unary) (views.expression e es) + loose (if b then Binary else Unary)) ≤ 3 * arguments_nesting (if b then Binary else Unary) (views.expression e es) + loose (if b then Any else Binary)
+    by true = omega arith
+    by false = omega arith
+
+receiver_few : (ms : MessagesView) → loose (receiver_rank ms) ≤ loose (rank_of_messages ms)
+receiver_few views.no_messages = omega arith
+receiver_few (views.message s views.no_expressions views.no_messages) = omega arith
+receiver_few (views.message s views.no_expressions (views.message s' es' ms)) = omega arith
+receiver_few (views.message s (views.expression e es) views.no_messages) = by (is_word s)
+  where
+    by : (b : Bool) → 1 ≤ loose (if b then Any else Binary)
+    by true = omega arith
+    by false = omega arith
+receiver_few (views.message s (views.expression e es) (views.message s' es' ms)) = omega arith
 
 -- FORMS
 
@@ -162,19 +224,23 @@ module _ (name_of : Place → List ℕ) where
     low : nesting (tree_of name_of n) ≤ nesting e
     rank : rank_of (tree_of name_of n) ≡ rank_of e
     inside : sides (body_of n) ≤ max (nesting e) 1
+    height : high n ≤ room e
+    within : suc (body_high (body_of n) 0) ≤ 3 * max (nesting e) 1
 
   record NodesNest (es : ExpressionsView) (ns : Nodes) : Type 0 where
     low : (w : Rank) → arguments_nesting w (nodes_tree name_of ns no_expressions) ≤ arguments_nesting w es
     ranks : (s : List ℕ) → rank_of_message s (nodes_tree name_of ns no_expressions) ≡ rank_of_message s es
     receives : (s : List ℕ) (a b : MessagesView) → receiver_rank (views.message s (nodes_tree name_of ns no_expressions) a) ≡ receiver_rank (views.message s es b)
+    height : (w : Rank) → nodes_high ns 0 ≤ arguments_room w es
 
   record MessagesNest (ms : MessagesView) (x : Messages) : Type 0 where
     low : messages_nesting (messages_list name_of x) ≤ messages_nesting ms
     receives : receiver_rank (messages_list name_of x) ≡ receiver_rank ms
     ranks : rank_of_messages (messages_list name_of x) ≡ rank_of_messages ms
+    height : messages_high 0 x ≤ 3 * messages_nesting ms + loose (rank_of_messages ms)
 
   abbrev BodyNests : StatementsView → Body → Type 0
-  BodyNests ss b = statements_nesting (body_tree name_of b no_statements) ≤ statements_nesting ss
+  BodyNests ss b = (statements_nesting (body_tree name_of b no_statements) ≤ statements_nesting ss) × (body_high b 0 ≤ 3 * statements_nesting ss + 2)
 
   abbrev TailNests : (e f : ExpressionView) → Tail → Type 0
   TailNests e f t = (n : Node) → Nests e n → Nests f (with_tail n t)
@@ -187,6 +253,7 @@ module _ (name_of : Place → List ℕ) where
     low = omega (arith, arguments_low s t.selector es ns e q);
     receives = q.receives t.selector no_messages no_messages ∙ ap (λ (u : List ℕ). receiver_rank (views.message u es no_messages)) e;
     ranks = q.ranks t.selector ∙ ap (λ (u : List ℕ). rank_of_message u es) e;
+    height = omega (arith, q.height (argument_rank s), message_room s es);
   }
 
   also_nests : (s : List ℕ) (es : ExpressionsView) (s' : List ℕ) (es' : ExpressionsView) (ms : MessagesView) (t : Sending) (ns : Nodes) (x : Messages) → t.selector ≡ s → NodesNest es ns → MessagesNest (views.message s' es' ms) x
@@ -195,8 +262,15 @@ module _ (name_of : Place → List ℕ) where
     low = omega (arith, arguments_low s t.selector es ns e q, h.low);
     receives = q.receives t.selector (messages_list name_of x) (views.message s' es' ms) ∙ ap (λ (u : List ℕ). receiver_rank (views.message u es (views.message s' es' ms))) e;
     ranks = cascade x;
+    height =
+        let several = loose_few (rank_of_messages (views.message s' es' ms)) in
+        omega (arith, messages_max x (max 0 (nodes_high ns 0)), q.height (argument_rank s), arguments_few (argument_rank s) es, word_few (is_word s), h.height, several);
   }
     where
+      word_few : (b : Bool) → loose (if b then Binary else Unary) ≤ 1
+      word_few true = omega arith
+      word_few false = omega arith
+
       cascade : (x : Messages) → rank_of_messages (messages_list name_of (nodes.also t ns x)) ≡ Any
       cascade (nodes.only u m) = refl
       cascade (nodes.also u m y) = refl
@@ -213,6 +287,8 @@ module _ (name_of : Place → List ℕ) where
         omega (arith, r, q.low);
     rank = q.ranks;
     inside = omega arith;
+    height = omega (arith, messages_max x (high n), put_room (receiver_rank ms) e (high n) h.height, receiver_few ms, q.height);
+    within = omega arith;
   }
 
   form_rank : (s : List ℕ) (a : ExpressionView) (es : ExpressionsView) → is_word s ≡ true → rank_of_message s (views.expression a es) ≡ Any
@@ -226,6 +302,8 @@ module _ (name_of : Place → List ℕ) where
         low = omega (arith, c.low, put_low Binary (tree_of name_of n) e h.rank h.low, q.inside, plain_deep a pa, wrapped_more (is_loose (argument_rank s) (rank_of a)) (nesting a));
         rank = c.rank ∙ sym (form_rank s a no_expressions w);
         inside = omega arith;
+        height = omega (arith, ap loose (form_rank s a no_expressions w), put_room Binary e (high n) h.height, q.within, plain_deep a pa, wrapped_more (is_loose (argument_rank s) (rank_of a)) (nesting a));
+        within = omega arith;
       }
 
   looped_nests : (kind : Loop) (e : ExpressionView) (s : List ℕ) (a : ExpressionView) (m : Node) → is_word s ≡ true → is_plain e ≡ true → is_plain a ≡ true → Nests a m
@@ -236,6 +314,8 @@ module _ (name_of : Place → List ℕ) where
         low = omega (arith, c.low, h.inside, plain_deep e pe, wrapped_more (is_loose Binary (rank_of e)) (nesting e), q.inside, plain_deep a pa, wrapped_more (is_loose (argument_rank s) (rank_of a)) (nesting a));
         rank = c.rank ∙ sym (form_rank s a no_expressions w);
         inside = omega arith;
+        height = omega (arith, ap loose (form_rank s a no_expressions w), h.within, plain_deep e pe, wrapped_more (is_loose Binary (rank_of e)) (nesting e), q.within, plain_deep a pa, wrapped_more (is_loose (argument_rank s) (rank_of a)) (nesting a));
+        within = omega arith;
       }
     where
       loop_word : (on : Bool) → is_word (loop_selector on) ≡ true
@@ -253,6 +333,8 @@ module _ (name_of : Place → List ℕ) where
         low = omega (arith, c.low, put_low Binary (tree_of name_of n) e h.rank h.low, q.inside, r.inside, plain_deep a pa, plain_deep b pb, wrapped_more (is_loose (argument_rank s) (rank_of a)) (nesting a), wrapped_more (is_loose (argument_rank s) (rank_of b)) (nesting b));
         rank = c.rank ∙ sym (form_rank s a (views.expression b no_expressions) w);
         inside = omega arith;
+        height = omega (arith, ap loose (form_rank s a (views.expression b no_expressions) w), put_room Binary e (high n) h.height, q.within, r.within, plain_deep a pa, plain_deep b pb, wrapped_more (is_loose (argument_rank s) (rank_of a)) (nesting a), wrapped_more (is_loose (argument_rank s) (rank_of b)) (nesting b));
+        within = omega arith;
       }
 
   false_nests : (e : ExpressionView) (s : List ℕ) (a b : ExpressionView) (m o : Node) → is_word s ≡ true → is_plain a ≡ true → is_plain b ≡ true → Nests a m → Nests b o → TailNests e (with_two e s a b) (nodes.chosen FalseFirst (body_of m) (body_of o))
@@ -262,27 +344,29 @@ module _ (name_of : Place → List ℕ) where
         low = omega (arith, c.low, put_low Binary (tree_of name_of n) e h.rank h.low, q.inside, r.inside, plain_deep a pa, plain_deep b pb, wrapped_more (is_loose (argument_rank s) (rank_of a)) (nesting a), wrapped_more (is_loose (argument_rank s) (rank_of b)) (nesting b));
         rank = c.rank ∙ sym (form_rank s a (views.expression b no_expressions) w);
         inside = omega arith;
+        height = omega (arith, ap loose (form_rank s a (views.expression b no_expressions) w), put_room Binary e (high n) h.height, q.within, r.within, plain_deep a pa, plain_deep b pb, wrapped_more (is_loose (argument_rank s) (rank_of a)) (nesting a), wrapped_more (is_loose (argument_rank s) (rank_of b)) (nesting b));
+        within = omega arith;
       }
 
   -- LEAVES
 
   leaf_nests : (e : ExpressionView) (k : Option Constant) (m : Naming Place) → rank_of e ≡ Unary → Makes (Nests e) (constant_or k m)
-  leaf_nests e (Some k) m r = record { by = λ ls. record { low = omega arith; rank = sym r; inside = omega arith } }
-  leaf_nests e None m r = record { by = λ ls. record { low = omega arith; rank = sym r; inside = omega arith } }
+  leaf_nests e (Some k) m r = record { by = λ ls. record { low = omega arith; rank = sym r; inside = omega arith; height = omega arith; within = omega arith } }
+  leaf_nests e None m r = record { by = λ ls. record { low = omega arith; rank = sym r; inside = omega arith; height = omega arith; within = omega arith } }
 
   content_nests : (w : ContentView) (e : ExpressionView) → content_nesting w ≡ nesting e → rank_of e ≡ Unary → Makes (Nests e) (content_node w)
   content_nests (views.number n) e h r = by_small (small_number n)
     where
       by_small : (k : Option ℕ) → Makes (Nests e) (small_or k n)
-      by_small (Some k) = record { by = λ ls. record { low = omega arith; rank = sym r; inside = omega arith } }
-      by_small None = record { by = λ ls. record { low = omega arith; rank = sym r; inside = omega arith } }
-  content_nests (views.character b) e h r = record { by = λ ls. record { low = omega arith; rank = sym r; inside = omega arith } }
-  content_nests (views.bytes b) e h r = record { by = λ ls. record { low = omega arith; rank = sym r; inside = omega arith } }
-  content_nests (views.symbol b) e h r = record { by = λ ls. record { low = omega arith; rank = sym r; inside = omega arith } }
-  content_nests (views.array es) e h r = record { by = λ ls. record { low = omega (arith, content_low (views.array es), h); rank = sym r; inside = omega arith } }
-  content_nests views.nil_object e h r = record { by = λ ls. record { low = omega arith; rank = sym r; inside = omega arith } }
-  content_nests views.false_object e h r = record { by = λ ls. record { low = omega arith; rank = sym r; inside = omega arith } }
-  content_nests views.true_object e h r = record { by = λ ls. record { low = omega arith; rank = sym r; inside = omega arith } }
+      by_small (Some k) = record { by = λ ls. record { low = omega arith; rank = sym r; inside = omega arith; height = omega arith; within = omega arith } }
+      by_small None = record { by = λ ls. record { low = omega arith; rank = sym r; inside = omega arith; height = omega arith; within = omega arith } }
+  content_nests (views.character b) e h r = record { by = λ ls. record { low = omega arith; rank = sym r; inside = omega arith; height = omega arith; within = omega arith } }
+  content_nests (views.bytes b) e h r = record { by = λ ls. record { low = omega arith; rank = sym r; inside = omega arith; height = omega arith; within = omega arith } }
+  content_nests (views.symbol b) e h r = record { by = λ ls. record { low = omega arith; rank = sym r; inside = omega arith; height = omega arith; within = omega arith } }
+  content_nests (views.array es) e h r = record { by = λ ls. record { low = omega (arith, content_low (views.array es), h); rank = sym r; inside = omega arith; height = omega arith; within = omega arith } }
+  content_nests views.nil_object e h r = record { by = λ ls. record { low = omega arith; rank = sym r; inside = omega arith; height = omega arith; within = omega arith } }
+  content_nests views.false_object e h r = record { by = λ ls. record { low = omega arith; rank = sym r; inside = omega arith; height = omega arith; within = omega arith } }
+  content_nests views.true_object e h r = record { by = λ ls. record { low = omega arith; rank = sym r; inside = omega arith; height = omega arith; within = omega arith } }
 
   -- TREES
 
@@ -290,16 +374,16 @@ module _ (name_of : Place → List ℕ) where
   tailed_nests e f m t h k = makes_then (Nests e) (Nests f) m (λ n. t >>= λ x. given (with_tail n x)) h (λ n p. makes_end (TailNests e f) (Nests f) t (with_tail n) k (λ x q. q n p))
 
   before_nests : (e : ExpressionView) (ss : StatementsView) (n : Node) (b : Body) → Nests e n → BodyNests ss b → BodyNests (views.statement false e ss) (before n b)
-  before_nests e ss n nodes.nothing h k = omega (arith, h.low)
-  before_nests e ss n (nodes.last m) h k = omega (arith, h.low, k)
-  before_nests e ss n (nodes.next m b) h k = omega (arith, h.low, k)
-  before_nests e ss n (nodes.returned m) h k = omega (arith, h.low, k)
+  before_nests e ss n nodes.nothing h k = (omega (arith, h.low), omega (arith, h.height, loose_few (rank_of e)))
+  before_nests e ss n (nodes.last m) h k = (omega (arith, h.low, k.0), omega (arith, h.height, loose_few (rank_of e), k.1))
+  before_nests e ss n (nodes.next m b) h k = (omega (arith, h.low, k.0), omega (arith, h.height, loose_few (rank_of e), k.1))
+  before_nests e ss n (nodes.returned m) h k = (omega (arith, h.low, k.0), omega (arith, h.height, loose_few (rank_of e), k.1))
 
   block_nests : (ns : List NameView) (ss : StatementsView) (first n : ℕ) (c : Node) (b : Body) → BodyNests ss b → Nests (views.block ns ss) (nodes.block first n c b)
-  block_nests ns ss first n c b h = record { low = omega (arith, h); rank = refl; inside = omega (arith, h) }
+  block_nests ns ss first n c b h = record { low = omega (arith, h.0); rank = refl; inside = omega (arith, h.0); height = omega (arith, h.1); within = omega (arith, h.1) }
 
   assign_nests : (target : NameView) (e : ExpressionView) (p : Place) → TailNests e (views.assign target e) (nodes.assigned p)
-  assign_nests target e p n h = record { low = h.low; rank = refl; inside = omega arith }
+  assign_nests target e p n h = record { low = h.low; rank = refl; inside = omega arith; height = omega (arith, h.height, loose_few (rank_of e)); within = omega arith }
 
   -- the nodes of arguments, one by one
   abbrev AllNest : ExpressionsView → List (Naming Node) → Type 0
@@ -309,13 +393,18 @@ module _ (name_of : Place → List ℕ) where
   AllNest (views.expression e es) (m ∷ ms) = Makes (Nests e) m × AllNest es ms
 
   nodes_nest : (es : ExpressionsView) (ms : List (Naming Node)) → AllNest es ms → Makes (NodesNest es) (all_nodes ms)
-  nodes_nest views.no_expressions [] h = record { by = λ ls. record { low = λ w. omega arith; ranks = λ s. refl; receives = λ s a b. refl } }
+  nodes_nest views.no_expressions [] h = record { by = λ ls. record { low = λ w. omega arith; ranks = λ s. refl; receives = λ s a b. refl; height = λ w. omega arith } }
   nodes_nest views.no_expressions (m ∷ ms) h = absurd h
   nodes_nest (views.expression e es) [] h = absurd h
   nodes_nest (views.expression e es) (m ∷ ms) h =
       makes_then (Nests e) (NodesNest (views.expression e es)) m (λ n. all_nodes ms >>= λ ns. given (nodes.node n ns)) h.0
       (λ n p. makes_end (NodesNest es) (NodesNest (views.expression e es)) (all_nodes ms) (nodes.node n) (nodes_nest es ms h.1)
-      (λ ns q. record { low = λ w. omega (arith, put_low w (tree_of name_of n) e p.rank p.low, q.low w); ranks = λ s. refl; receives = λ s a b. refl }))
+      (λ ns q. record {
+        low = λ w. omega (arith, put_low w (tree_of name_of n) e p.rank p.low, q.low w);
+        ranks = λ s. refl;
+        receives = λ s a b. refl;
+        height = λ w. omega (arith, put_room w e (high n) p.height, q.height w, arguments_few w es);
+      }))
 
   -- messages of a tree
   abbrev MessagesAll : MessagesView → List Message → Type 0
@@ -417,8 +506,8 @@ module _ (name_of : Place → List ℕ) where
         (plain_nests (is_super x) x (views.message s es (views.message s' es' ms)) (message_of s (nodes_of es (behind c (names_in x))) es) (messages_of (views.message s' es' ms) (behind (behind c (names_in x)) (names_in_all es))) (messages_all (views.message s es (views.message s' es' ms)) (behind c (names_in x)) f.2))
 
     statements_nest : (ss : StatementsView) (c : Context) → StatementsFormed ss → Makes (BodyNests ss) (statements_body ss c)
-    statements_nest views.no_statements c f = record { by = λ ls. omega arith }
-    statements_nest (views.statement true e ss) c f = makes_end (Nests e) (BodyNests (views.statement true e ss)) (expression_node e c) nodes.returned (expression_nests e c f.0) (λ n p. omega (arith, p.low))
+    statements_nest views.no_statements c f = record { by = λ ls. (omega arith, omega arith) }
+    statements_nest (views.statement true e ss) c f = makes_end (Nests e) (BodyNests (views.statement true e ss)) (expression_node e c) nodes.returned (expression_nests e c f.0) (λ n p. (omega (arith, p.low), omega (arith, p.height, loose_few (rank_of e))))
     statements_nest (views.statement false e ss) c f =
         makes_then (Nests e) (BodyNests (views.statement false e ss)) (expression_node e c) (λ n. statements_body ss (behind c (names_in e)) >>= λ b. given (before n b)) (expression_nests e c f.0)
         (λ n p. makes_end (BodyNests ss) (BodyNests (views.statement false e ss)) (statements_body ss (behind c (names_in e))) (before n) (statements_nest ss (behind c (names_in e)) f.3) (λ b q. before_nests e ss n b p q))
@@ -449,8 +538,12 @@ module _ (name_of : Place → List ℕ) where
   method_low (nodes.returned n) = omega arith
 
   method_nests : (ss : StatementsView) (b : Body) → BodyNests ss b → statements_nesting (without_self (method_tree name_of b no_statements)) ≤ statements_nesting ss
-  method_nests ss b h = omega (arith, without_low (method_tree name_of b no_statements), method_low b, h)
+  method_nests ss b h = omega (arith, without_low (method_tree name_of b no_statements), method_low b, h.0)
 
   -- the statements that are read of what statements are resolved to
   pub read_nests : (ss : StatementsView) (c : Context) (ls : List LiteralView) → StatementsFormed ss → statements_nesting (without_self (method_tree name_of (statements_body ss c ls).part no_statements)) ≤ statements_nesting ss
   read_nests ss c ls f = method_nests ss (statements_body ss c ls).part ((statements_nest ss c f).by ls)
+
+  -- and what they are resolved to is no higher than a text may have
+  pub body_few : (ss : StatementsView) (c : Context) (ls : List LiteralView) → StatementsFormed ss → statements_nesting ss ≤ most → body_high (statements_body ss c ls).part 0 ≤ most_high
+  body_few ss c ls f shallow = let h = ((statements_nest ss c f).by ls).1 in omega (arith, h, shallow)

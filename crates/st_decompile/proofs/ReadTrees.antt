@@ -7,6 +7,7 @@ use Rattle.st_emit.specs.Names.{NamesView}
 use Rattle.st_code.specs.declared.fault.Fault.{Fault}
 use Rattle.st_code.specs.Methods.{PartsView, code, parts, fault, parts_or, context, body, literals}
 use Rattle.st_scan.specs.Pieces.{is_name}
+use Rattle.st_grammar.specs.Faults.{most}
 use Rattle.st_grammar.specs.Formed.{IsSelector, IsWellFormed}
 use Rattle.st_resolved.proofs.Arity.{right_tree}
 use Rattle.st_decompile.specs.Calling.{AreNames}
@@ -16,7 +17,7 @@ use Rattle.st_decompile.proofs.Wholes.{tree_again, arguments_length}
 use Rattle.st_decompile.proofs.Complete.{candidate_is, candidate_code}
 use Rattle.st_print.proofs.Nesting.{statements_nesting}
 use Rattle.st_decompile.proofs.Making.{statements_make}
-use Rattle.st_decompile.proofs.Nested.{read_nests}
+use Rattle.st_decompile.proofs.Nested.{read_nests, body_few}
 use Rattle.st_decompile.proofs.Written.{names_written, statements_written}
 
 abbrev as_result : PartsView → Result PartsView Fault
@@ -42,27 +43,28 @@ module _ (name_of : Place → List ℕ) (names : NamesView) (words : AreWords na
   nests_again tree are well = read_nests name_of tree.body (context tree names) [] well.body
 
   -- what is read of these parts: a well formed tree with this code, that nests no deeper than so much
-  pub record IsRead (most : ℕ) (p : PartsView) : Type 0 where
+  pub record IsRead (deepest : ℕ) (p : PartsView) : Type 0 where
     pub tree : MethodView
     pub is : candidate name_of p ≡ Some tree
     pub well : IsWellFormed tree
-    pub shallow : statements_nesting tree.body ≤ most
+    pub shallow : statements_nesting tree.body ≤ deepest
     pub same : code tree names ≡ Ok p
 
-  -- of all parts that are the code of a well formed tree one is read
-  pub all_read : (tree : MethodView) (p : PartsView) → AreNames name_of names p.literals → IsWellFormed tree → code tree names ≡ Ok p → IsRead (statements_nesting tree.body) p
-  all_read tree p are well h = by_fault (fault tree names) refl h
+  -- of all parts that are the code of a well formed tree, which nests no deeper than a text may, one is read
+  pub all_read : (tree : MethodView) (p : PartsView) → AreNames name_of names p.literals → IsWellFormed tree → statements_nesting tree.body ≤ most → code tree names ≡ Ok p → IsRead (statements_nesting tree.body) p
+  all_read tree p are well shallow h = by_fault (fault tree names) refl h
     where
       by_parts : (q : PartsView) → q ≡ parts tree names → AreNames name_of names q.literals → fault tree names ≡ None → IsRead (statements_nesting tree.body) q
       by_parts q e a sound =
           let there : AreNames name_of names (literals tree names) = subst (λ (x : PartsView). AreNames name_of names x.literals) e a in
           let right = right_tree tree well in
+          let low = body_few name_of tree.body (context tree names) [] well.body shallow in
           subst (λ (x : PartsView). IsRead (statements_nesting tree.body) x) (sym e) (record {
             tree = tree_again name_of names tree there;
-            is = candidate_is name_of names tree there sound right.0 right.1;
+            is = candidate_is name_of names tree there sound right.0 right.1 low;
             well = well_again tree there well;
             shallow = nests_again tree there well;
-            same = candidate_code name_of names tree there sound right.0 right.1;
+            same = candidate_code name_of names tree there sound right.0 right.1 low;
           })
 
       of_ok : (a b : PartsView) → as_result a ≡ as_result b → b ≡ a

@@ -1,5 +1,5 @@
 -- How conditional forms, loops and blocks are read, given how what stands in them is.
-use Rattle.std.proofs.Common.{◌≡◌, ℕ, zero, suc, ◌+◌, ◌-◌, Bool, List, [], ◌∷◌, ◌++◌, Option, Some, refl, sym, ap, ◌∙◌, arith, append_assoc}
+use Rattle.std.proofs.Common.{◌≡◌, ℕ, zero, suc, ◌+◌, ◌-◌, ◌≤◌, Bool, List, [], ◌∷◌, ◌++◌, Option, Some, refl, sym, ap, ◌∙◌, arith, append_assoc}
 use Rattle.st_scan.specs.Views.{no_statements}
 use Rattle.st_emit.specs.declared.step.Constant.TheVariants.{Nil}
 use Rattle.st_emit.specs.declared.step.Place.{Place}
@@ -14,9 +14,10 @@ use Rattle.st_emit.specs.Emitting.{choice, repeat, pop_arguments, body_code}
 use Rattle.st_resolved.specs.Instructions.{on_some}
 use Rattle.st_resolved.proofs.Sizes.{size-append}
 use Rattle.st_decompile.proofs.Cuts.{front_is, behind_is}
-use Rattle.st_decompile.specs.Items.{Piece, Item, piece, cascade, again, answered, argument, over, back, no_arguments, Taken, statements_of}
-use Rattle.st_decompile.specs.Reading.{Acted, goes_on, on_piece, front, behind, decided, choice_piece, loop_piece, block_piece, statements_from, popped_into}
+use Rattle.st_expression_stack.specs.Items.{Piece, Item, piece, cascade, again, answered, argument, over, back, no_arguments, Taken, statements_of, Acted, goes_on, on_piece, statements_from, most_high}
+use Rattle.st_decompile.specs.Reading.{front, behind, decided, choice_piece, loop_piece, block_piece, popped_into, passes}
 use Rattle.st_decompile.proofs.Pieces.{body_items, body_taken, body_from, body_popped, IsBare, argument_items}
+use Rattle.st_decompile.proofs.High.{passes_is}
 use Rattle.st_decompile.proofs.Moves as moves
 
 module _ (name_of : Place → List ℕ) (literals : List LiteralView) where
@@ -55,12 +56,15 @@ module _ (name_of : Place → List ℕ) (literals : List LiteralView) where
     abbrev at_a : ℕ
     at_a = at + size_of (JumpIf on passing)
 
-    abbrev chosen_items : List Item
-    chosen_items = piece (choice_piece on x (statements_of sa) (statements_of sb)) ∷ items
+    abbrev chosen_piece : Piece
+    chosen_piece = choice_piece on x (statements_of sa) (statements_of sb)
 
-    pub choice_acts : Follows f at_a a [] sa → Follows f (at_a + passing) b [] sb → (rest : List Step)
+    abbrev chosen_items : List Item
+    chosen_items = piece chosen_piece ∷ items
+
+    pub choice_acts : chosen_piece.height ≤ most_high → Follows f at_a a [] sa → Follows f (at_a + passing) b [] sb → (rest : List Step)
         → acts (suc f) (JumpIf on passing) at ((a ++ end_jump ∷ b) ++ rest) (piece x ∷ items) ≡ Some (record { skip = passing + size b; items = chosen_items })
-    choice_acts p q rest =
+    choice_acts low p q rest =
         let whole = (a ++ end_jump ∷ b) ++ rest in
         let parts : whole ≡ (a ++ end_jump ∷ []) ++ (b ++ rest) = append_assoc a (end_jump ∷ b) rest ∙ sym (append_assoc a (end_jump ∷ []) (b ++ rest)) in
         let long : passing ≡ size (a ++ end_jump ∷ []) = omega (arith, size-append a (end_jump ∷ [])) in
@@ -69,12 +73,13 @@ module _ (name_of : Place → List ℕ) (literals : List LiteralView) where
         let second : front (size b) (behind passing whole) ≡ b = ap (front (size b)) (behind_of passing (a ++ end_jump ∷ []) (b ++ rest) whole long parts) ∙ front_is b rest in
         let other : within (suc f) (at_a + passing) (front (size b) (behind passing whole)) ≡ Some sb = ap (within (suc f) (at_a + passing)) second ∙ moves.region_is name_of literals f (at_a + passing) b sb q in
         ap (λ (o : Option (List Item)). on_some o (decided name_of literals (within (suc f)) on at_a passing whole (piece x ∷ items))) made
-        ∙ ap (λ (o : Option (List Item)). on_some o (λ t. on_piece (piece x ∷ items) (λ y rest'. Some (record { skip = passing + size b; items = piece (choice_piece on y (statements_of sa) (statements_of t)) ∷ rest' })))) other
+        ∙ ap (λ (o : Option (List Item)). on_some o (λ t. on_piece (piece x ∷ items) (λ y rest'. passes (passing + size b) (choice_piece on y (statements_of sa) (statements_of t)) rest'))) other
+        ∙ passes_is (passing + size b) chosen_piece items low
 
-    pub choice_follows : Follows f at_a a [] sa → Follows f (at_a + passing) b [] sb → Follows (suc f) at (choice on [] a b) (piece x ∷ items) chosen_items
-    choice_follows p q =
+    pub choice_follows : chosen_piece.height ≤ most_high → Follows f at_a a [] sa → Follows f (at_a + passing) b [] sb → Follows (suc f) at (choice on [] a b) (piece x ∷ items) chosen_items
+    choice_follows low p q =
         moves.passing_follows name_of literals (suc f) at (JumpIf on passing) (a ++ end_jump ∷ b) (piece x ∷ items) chosen_items (passing + size b)
-        (omega (arith, size-append a (end_jump ∷ b))) (choice_acts p q)
+        (omega (arith, size-append a (end_jump ∷ b))) (choice_acts low p q)
 
   -- LOOPS
 
@@ -98,8 +103,11 @@ module _ (name_of : Place → List ℕ) (literals : List LiteralView) where
     abbrev tail : List Step
     tail = body_code b ++ Pop ∷ turn ∷ PushConstant Nil ∷ []
 
+    abbrev looped_piece : Piece
+    looped_piece = loop_piece on at (body_taken name_of x no_statements no_arguments 0 items) (statements_of (body_items name_of b at_body []))
+
     abbrev loop_items : List Item
-    loop_items = piece (loop_piece on at (body_taken name_of x no_statements no_arguments items) (statements_of (body_items name_of b at_body []))) ∷ items
+    loop_items = piece looped_piece ∷ items
 
     loop_region : Follows f at_body (body_code b) [] (body_items name_of b at_body []) → within (suc f) at_body (body_code b ++ Pop ∷ turn ∷ []) ≡ Some (back turned ∷ body_items name_of b at_body [])
     loop_region p =
@@ -111,9 +119,9 @@ module _ (name_of : Place → List ℕ) (literals : List LiteralView) where
         (moves.one_follows name_of literals f behind_body Pop done done (λ ss. ap goes_on (body_popped name_of b at_body [])))
         (moves.one_follows name_of literals f (behind_body + 1) turn done (back turned ∷ done) (λ ss. refl))))
 
-    loop_acts : Follows f at_body (body_code b) [] (body_items name_of b at_body []) → (rest : List Step)
+    loop_acts : looped_piece.height ≤ most_high → Follows f at_body (body_code b) [] (body_items name_of b at_body []) → (rest : List Step)
         → acts (suc f) (JumpIf on leaving) at_leave (tail ++ rest) (body_items name_of x at items) ≡ Some (record { skip = leaving + 1; items = loop_items })
-    loop_acts p rest =
+    loop_acts low p rest =
         let whole = tail ++ rest in
         let ends = body_code b ++ Pop ∷ turn ∷ [] in
         let parts : whole ≡ ends ++ (PushConstant Nil ∷ rest) = append_assoc (body_code b) (Pop ∷ turn ∷ PushConstant Nil ∷ []) rest ∙ sym (append_assoc (body_code b) (Pop ∷ turn ∷ []) (PushConstant Nil ∷ rest)) in
@@ -124,15 +132,16 @@ module _ (name_of : Place → List ℕ) (literals : List LiteralView) where
         let stood = body_items name_of x at items in
         let a = statements_of (body_items name_of b at_body []) in
         ap (λ (o : Option (List Item)). on_some o (decided name_of literals (within (suc f)) on at_body leaving whole stood)) made
-        ∙ ap (λ (n : ℕ). on_some (statements_from n no_statements no_arguments stood) (λ t. Some (record { skip = leaving + 1; items = piece (loop_piece on n t a) ∷ t.below }))) top
-        ∙ ap (λ (o : Option Taken). on_some o (λ t. Some (record { skip = leaving + 1; items = piece (loop_piece on at t a) ∷ t.below }))) (body_from name_of x at no_statements no_arguments items)
+        ∙ ap (λ (n : ℕ). on_some (statements_from n no_statements no_arguments 0 stood) (λ t. passes (leaving + 1) (loop_piece on n t a) t.below)) top
+        ∙ ap (λ (o : Option Taken). on_some o (λ t. passes (leaving + 1) (loop_piece on at t a) t.below)) (body_from name_of x at no_statements no_arguments 0 items)
+        ∙ passes_is (leaving + 1) looped_piece items low
 
-    pub loop_follows : Follows (suc f) at (body_code x) items (body_items name_of x at items) → Follows f at_body (body_code b) [] (body_items name_of b at_body [])
+    pub loop_follows : looped_piece.height ≤ most_high → Follows (suc f) at (body_code x) items (body_items name_of x at items) → Follows f at_body (body_code b) [] (body_items name_of b at_body [])
         → Follows (suc f) at (repeat on (body_code x) (body_code b)) items loop_items
-    loop_follows q p =
+    loop_follows low q p =
         moves.then_follows name_of literals (suc f) at at_leave (body_code x) (JumpIf on leaving ∷ tail) items (body_items name_of x at items) loop_items refl q
         (moves.passing_follows name_of literals (suc f) at_leave (JumpIf on leaving) tail (body_items name_of x at items) loop_items (leaving + 1)
-        (omega (arith, size-append (body_code b) (Pop ∷ turn ∷ PushConstant Nil ∷ []))) (loop_acts p))
+        (omega (arith, size-append (body_code b) (Pop ∷ turn ∷ PushConstant Nil ∷ []))) (loop_acts low p))
 
   -- BLOCKS
 
@@ -155,16 +164,20 @@ module _ (name_of : Place → List ℕ) (literals : List LiteralView) where
       popped_bare (back d ∷ st) h = refl
 
   module _ (f at : ℕ) (inside : List Step) (made : List Item) (count_piece context : Piece) (items : List Item) where
+    abbrev made_piece : Piece
+    made_piece = block_piece name_of literals (within (suc f)) context.start (statements_of made)
+
     abbrev block_items : List Item
-    block_items = piece (block_piece name_of literals (within (suc f)) context.start (statements_of made)) ∷ items
+    block_items = piece made_piece ∷ items
 
     -- from the send of blockCopy: on
-    pub copy_follows : Follows f (at + 3) inside [] made → Follows (suc f) at (SendSpecial (first_special + block_copy) ∷ JumpPast (size inside) ∷ inside) (piece count_piece ∷ piece context ∷ items) block_items
-    copy_follows p =
+    pub copy_follows : made_piece.height ≤ most_high → Follows f (at + 3) inside [] made → Follows (suc f) at (SendSpecial (first_special + block_copy) ∷ JumpPast (size inside) ∷ inside) (piece count_piece ∷ piece context ∷ items) block_items
+    copy_follows low p =
         moves.passing_follows name_of literals (suc f) at (SendSpecial (first_special + block_copy)) (JumpPast (size inside) ∷ inside) (piece count_piece ∷ piece context ∷ items) block_items (2 + size inside)
         refl
         (λ rest.
         let there : at + 1 + 2 ≡ at + 3 = omega arith in
         let made' : within (suc f) (at + 1 + 2) (front (size inside) (inside ++ rest)) ≡ Some made =
         ap (within (suc f) (at + 1 + 2)) (front_is inside rest) ∙ ap (λ (n : ℕ). within (suc f) n inside) there ∙ moves.region_is name_of literals f (at + 3) inside made p in
-        ap (λ (o : Option (List Item)). on_some o (λ m. Some (record { skip = 2 + size inside; items = piece (block_piece name_of literals (within (suc f)) context.start (statements_of m)) ∷ items }))) made')
+        ap (λ (o : Option (List Item)). on_some o (λ m. passes (2 + size inside) (block_piece name_of literals (within (suc f)) context.start (statements_of m)) items)) made'
+        ∙ passes_is (2 + size inside) made_piece items low)

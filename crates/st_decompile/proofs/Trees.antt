@@ -16,8 +16,8 @@ use Rattle.st_code.specs.Faults.{expression_fault, statements_fault, messages_fa
 use Rattle.st_resolved.proofs.Grows.{Extends, extends_on, grows_place, grows_sends, grows_sending, grows_messages, grows_all, statements_grow, messages_grow, nodes_grow}
 use Rattle.st_resolved.specs.Seen.{unnumbered}
 use Rattle.st_resolved.proofs.Unnumbered.{or_none, unnumbered-append, more_names, read_alike, store_alike}
-use Rattle.st_decompile.specs.Items.{no_arguments}
-use Rattle.st_decompile.specs.Choosing.{received, plain_block, with_block, with_blocks}
+use Rattle.st_expression_stack.specs.Items.{no_arguments}
+use Rattle.st_expression_stack.specs.Choosing.{received, plain_block, with_block, with_blocks}
 use Rattle.st_decompile.specs.Back.{tree_of, body_tree, messages_list, nodes_least}
 use Rattle.st_decompile.specs.Calling.{AreNames, least_in, IsNext}
 use Rattle.st_decompile.proofs.Same.{SameBody, SameNodes, SameMessages, same_last, same_next, same_returned, same_nothing, same_node, same_only, same_also, IsSome, before_next, before_some}

@@ -20,7 +20,7 @@ use Rattle.st_emit.specs.declared.step.Place.TheVariants.{Field, Temporary, Lite
 use Rattle.st_emit.specs.Names.{NamesView, SharedName, Variable, field, shared, constant_named, field_from, if_named, field_named, shared_named, variable_named, or_else}
 use Rattle.st_emit.specs.Literals.{LiteralView, named}
 use Rattle.st_decompile.specs.Calling.{IsOutside, IsFieldName, IsSharedName, AreNames}
-use Rattle.st_decompile.specs.Names.{is_usable, unused, usable_or, usable_shared, usable, marks_from, marks, most_marks, texts_of, marks_of, marked, zeros, numeral, own_name, is_value, names_value, shared_text, literal_text, CallingView, calling_of, or_unused, name_in}
+use Rattle.st_expression_stack.specs.Names.{is_usable, unused, usable_or, usable_shared, usable, marks_from, marks, most_marks, texts_of, marks_of, marked, zeros, numeral, own_name, is_value, names_value, shared_text, literal_text, CallingView, calling_of, or_unused, name_in}
 use Rattle.st_decompile.proofs.Words.{Agree}
 use Rattle.st_decompile.proofs.ReadTrees.{AreWords}
 

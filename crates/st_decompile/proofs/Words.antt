@@ -23,7 +23,7 @@ use Rattle.st_code.specs.declared.simple.Simple.{Simple}
 use Rattle.st_code.specs.Faults.{fault_at, read_fault, store_fault, stored_fault, declare_fault, expression_fault, statements_fault, messages_fault, expressions_fault, method_fault}
 use Rattle.st_code.specs.Methods.{PartsView, simple, simple_flag, flag_of, count_of, room_bit, primitive_number, symbols_fault, primitive_fault, bounds_fault, last_of, body, steps, depth, variables, context, parts, parts_or, fault, whole_fault, code}
 use Rattle.st_resolved.proofs.Unnumbered.{or_none}
-use Rattle.st_decompile.specs.Names.{is_usable}
+use Rattle.st_expression_stack.specs.Names.{is_usable}
 
 -- names that agree on all that a text can use
 pub record Agree (a b : NamesView) : Type 0 where

@@ -1,9 +1,12 @@
-pub mod Items
-pub mod Choosing
 pub mod Reading
 pub mod Back
 pub mod Calling
 pub mod Whole
 pub mod Formed
-pub mod Names
+pub mod Located
+pub mod Read
+pub mod Decoded
+pub mod Methods
+pub mod Comparing
 pub mod Answers
+pub mod Alike

@@ -7,8 +7,8 @@ use Rattle.st_emit.specs.Literals.{LiteralView, number}
 use Rattle.st_code.specs.Methods.{PartsView}
 use Rattle.st_resolved.specs.Instructions.{on_some, steps_of}
 use Rattle.st_emit.specs.Selectors.{arity}
-use Rattle.st_decompile.specs.Items.{no_arguments, Taken, statements_of}
-use Rattle.st_decompile.specs.Choosing.{called}
+use Rattle.st_expression_stack.specs.Items.{no_arguments, most_high, Taken, statements_of}
+use Rattle.st_expression_stack.specs.Choosing.{called}
 use Rattle.st_decompile.specs.Reading.{region}
 use Rattle.st_decompile.specs.Back.{places_from, without_self}
 
@@ -43,10 +43,6 @@ primitive_in p = if flag_in p.header == 7 then primitive_by (extension_in p.lite
 
 -- METHODS
 
--- regions stand in one another no deeper than brackets, and each has bytes that a jump passes
-abbrev pub most_deep : ℕ
-most_deep = 1024
-
 module _ (name_of : Place → List ℕ) where
   abbrev pub variables_called : (first n : ℕ) → List NameView
   variables_called first n = map (λ p. called (name_of p)) (places_from first n [])
@@ -63,4 +59,4 @@ module _ (name_of : Place → List ℕ) where
       }
 
   abbrev pub candidate : PartsView → Option MethodView
-  candidate p = on_some (steps_of p.bytes) (λ ss. on_some (region name_of p.literals (suc most_deep) 0 ss) (λ items. Some (method_of p (statements_of items))))
+  candidate p = on_some (steps_of p.bytes) (λ ss. on_some (region name_of p.literals (suc most_high) 0 ss) (λ items. Some (method_of p (statements_of items))))

@@ -1,6 +1,15 @@
-//! The decompiler's laws: of the header, literals and bytes of a method a tree is read that has this code.
+//! The decompiler: from the header, literals and bytes of a method to a tree that has this code.
 #![tactic(auto)]
 
+mod comparing;
+mod decompiler;
+mod instruction;
 mod laws;
+mod located;
+mod reading;
+mod region;
+mod whole;
 
-pub use laws::code_is_read_back;
+pub use decompiler::{Decompiled, decompile};
+pub use laws::{code_is_read_back, names_call_alike};
+pub use reading::Reading;

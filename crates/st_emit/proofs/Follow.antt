@@ -26,7 +26,7 @@ use Rattle.st_emit.proofs.Adding.{then_part, IsSamePart}
 
 -- PLAIN BLOCKS
 
-plain_block : (e : ExpressionView) → is_plain e ≡ true → e ≡ block [] (statements_of e)
+pub plain_block : (e : ExpressionView) → is_plain e ≡ true → e ≡ block [] (statements_of e)
 plain_block (views.variable n) h = absurd cc
 plain_block (views.literal e) h = absurd cc
 plain_block (views.block [] body) h = refl
@@ -171,7 +171,7 @@ pub record IsLoop (e a : ExpressionView) (selector : List ℕ) (r : RepetitionVi
   pub receiver : e ≡ block [] r.condition
   pub argument : a ≡ block [] r.body
 
-loop_parts : (p q : Bool) (e a : ExpressionView) (selector : List ℕ) (r : RepetitionView) → is_plain e ≡ p → is_plain a ≡ q
+pub loop_parts : (p q : Bool) (e a : ExpressionView) (selector : List ℕ) (r : RepetitionView) → is_plain e ≡ p → is_plain a ≡ q
     → (if p then (if q then repeated_by (form_named selector) (statements_of e) (statements_of a) else None) else None) ≡ Some r → IsLoop e a selector r
 loop_parts false q e a selector r x y h = absurd cc
 loop_parts true false e a selector r x y h = absurd cc
@@ -180,7 +180,7 @@ loop_parts true true e a selector r x y h =
     record { form = f.0; receiver = plain_block e x ∙ ap (block []) f.1; argument = plain_block a y ∙ ap (block []) f.2 }
 
 -- the node of a loop
-loop_node : (selector : List ℕ) (r : RepetitionView) (c : Context) (ls : List LiteralView) → form_named selector ≡ Repeated r.kind
+pub loop_node : (selector : List ℕ) (r : RepetitionView) (c : Context) (ls : List LiteralView) → form_named selector ≡ Repeated r.kind
     → expression_node (views.send (block [] r.condition) (message selector (expression (block [] r.body) no_expressions) no_messages)) c ls
     ≡ (record {
       part = nodes.loop r.kind (statements_body r.condition c ls).part (statements_body r.body (behind c (names_in_statements r.condition)) (statements_body r.condition c ls).literals).part;

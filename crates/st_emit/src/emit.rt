@@ -73,7 +73,7 @@ pub fn literal(alloc: Global, draft: &mut Draft, what: &Content) -> Result<(), A
 }
 
 /// How a message is sent. One to super has no code of its own.
-fn by_selector(
+pub fn by_selector(
     alloc: Global,
     draft: &mut Draft,
     lookup: Lookup,

@@ -17,19 +17,20 @@ mod shape;
 mod step;
 mod value;
 
-pub use counting::sum;
+pub use counting::{names_in_statements, sum};
 pub use draft::Draft;
+pub use emit::{by_selector, place_of_name};
 pub use form::{By, Form, Lookup, Loop, OneSided, TwoSided};
 pub use frame::{Frame, NamePlaces, places_of};
 pub use laws::{sizes_of_bytes, special_arguments};
 pub use level::Level;
-pub use literal::{Literal, LiteralList};
+pub use literal::{Literal, LiteralList, literal_of, small_number};
 pub use literal_table::LiteralTable;
 pub use names::{
     Around, NamedOops, Names, TextList, Variable, constant_named, inner_scope, is_among,
     is_declared, variable_named,
 };
 pub use selector::{SPECIAL_SENDS, special_selector};
-pub use shape::{Choice, Repetition, Shape, Side};
+pub use shape::{Choice, Repetition, Shape, Side, first_repetition, only_message, shape_of};
 pub use step::{Constant, Place, Step, size_of};
-pub use value::method_body;
+pub use value::{lookup_behind, method_body, value as emit_value};

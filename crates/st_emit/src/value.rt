@@ -523,7 +523,7 @@ pub fn value(
 }
 
 /// Where the messages behind i links of this first part are looked up.
-fn lookup_behind(i: usize, first: &Expression) -> Lookup
+pub fn lookup_behind(i: usize, first: &Expression) -> Lookup
     ensures { is_above result ≡ (if i == 0 then is_super (expression_view first.now) else false) }
 {
     if i == 0 && is_super(first) {

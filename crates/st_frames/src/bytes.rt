@@ -8,6 +8,7 @@ use st_memory::Objects;
 use st_model::Dead;
 
 /// The byte at the instruction pointer, which moves on.
+#[inline(always)]
 pub fn next_byte<O: Objects>(m: &O, r: &mut Registers) -> Result<u8, Dead>
     ensures does { RowMoves O.Objects.own (next_byte O.names) itself m.now r.old result r.new }
 {

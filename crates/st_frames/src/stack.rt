@@ -9,6 +9,7 @@ use st_memory::Objects;
 use st_model::{Dead, Word};
 
 /// Puts x in a place of a context's stack: within its fields, and at most 16388.
+#[inline(always)]
 #[tactic(auto, using(crate::proofs::Doing::checks), unfolding(st_model::specs::Steps::put))]
 fn put<O: Objects>(m: &mut O, r: &Registers, context: Word, at: u32, x: Word) -> Result<(), Dead>
     requires room { 1 ≤ O.room m.old }
@@ -28,6 +29,7 @@ fn put<O: Objects>(m: &mut O, r: &Registers, context: Word, at: u32, x: Word) ->
 }
 
 /// Moves the top of the stack to a place of the active context.
+#[inline(always)]
 #[tactic(auto, unfolding(crate::specs::Rows::row_state, st_model::specs::Steps::set_sp))]
 pub fn set_stack_pointer<O: Objects>(m: &O, r: &mut Registers, sp: u32)
     requires low { 5 ≤ sp }
@@ -38,6 +40,7 @@ pub fn set_stack_pointer<O: Objects>(m: &O, r: &mut Registers, sp: u32)
 }
 
 /// Pushes x on the active context's stack.
+#[inline(always)]
 #[tactic(auto, using(crate::proofs::Doing::rows), unfolding(st_model::specs::Steps::push))]
 pub fn push<O: Objects>(m: &mut O, r: &mut Registers, x: Word) -> Result<(), Dead>
     requires room { 1 ≤ O.room m.old }
@@ -50,6 +53,7 @@ pub fn push<O: Objects>(m: &mut O, r: &mut Registers, x: Word) -> Result<(), Dea
 }
 
 /// The word at the top of the stack.
+#[inline(always)]
 #[tactic(auto, using(crate::proofs::Doing::checks), unfolding(st_model::specs::Steps::top))]
 pub fn top<O: Objects>(m: &O, r: &Registers) -> Result<Word, Dead>
     ensures does { RowReads O.Objects.own (top O.names) word m.now r.now result }
@@ -62,6 +66,7 @@ pub fn top<O: Objects>(m: &O, r: &Registers) -> Result<Word, Dead>
 }
 
 /// The word k words below the top of the stack.
+#[inline(always)]
 #[tactic(auto, using(crate::proofs::Doing::checks), unfolding(st_model::specs::Steps::under))]
 pub fn under<O: Objects>(m: &O, r: &Registers, k: u32) -> Result<Word, Dead>
     requires few { k < 32768 }
@@ -99,6 +104,7 @@ pub fn drop_words<O: Objects>(m: &O, r: &mut Registers, n: u32) -> Result<(), De
 }
 
 /// Pops the word at the top of the stack, which stays in its field.
+#[inline(always)]
 #[tactic(auto, using(crate::proofs::Doing::rows), unfolding(st_model::specs::Steps::pop))]
 pub fn pop<O: Objects>(m: &O, r: &mut Registers) -> Result<Word, Dead>
     ensures does { RowMoves O.Objects.own (pop O.names) word m.now r.old result r.new }

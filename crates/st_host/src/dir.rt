@@ -5,7 +5,6 @@ ghost use Rattle.st_host.specs.Untold.{untold, CountsOnce};
 
 use crate::guard::{Guard, Place, Refusal};
 use crate::host::{Host, HostFault, SayFault};
-use std::alloc::AllocError;
 use std::fs::{File, OpenOptions};
 use std::io::{self, ErrorKind, Read, Seek, SeekFrom, Write};
 use std::rt::Files;
@@ -15,7 +14,7 @@ use std::rt::Files;
 /// Each error raises its count, up to the last value of 64 bits. A roots file of a store, whose name ends with `.roots`, is locked
 /// from the first call that finds or makes it until the host is dropped, and calls fail as `refusal` tells.
 #[derive(Drop)]
-pub struct DirHost<R: Files<File = File> + Print + AllocGlobal + Drop> {
+pub struct DirHost<R: Files<File = File> + Print + Drop> {
     rt: R,
     guard: Guard,
     // A file was made in the current folder, or in another, whose name may not be on disk yet.
@@ -25,7 +24,7 @@ pub struct DirHost<R: Files<File = File> + Print + AllocGlobal + Drop> {
     say_faults: u64,
 }
 
-impl<R: Files<File = File> + Print + AllocGlobal + Drop> DirHost<R> {
+impl<R: Files<File = File> + Print + Drop> DirHost<R> {
     ghost use Rattle.st_host.specs.Untold.{KeepsCounts};
 
     /// A host over this runtime, of which no call has failed.
@@ -45,11 +44,11 @@ impl<R: Files<File = File> + Print + AllocGlobal + Drop> DirHost<R> {
 
     /// From now on each call on a file fails, where an image that is exported from this store would be written over a file of a
     /// store.
-    pub fn keep_stores_from(&mut self, store: &str, image: &str) -> Result<(), AllocError>
+    pub fn keep_stores_from(&mut self, store: &str, image: &str)
         ensures { KeepsCounts self.old.disk_faults self.old.say_faults
             self.new.disk_faults self.new.say_faults }
     {
-        self.guard.keep_stores_from(&self.rt, store, image)
+        self.guard.keep_stores_from(&self.rt, store, image);
     }
 
     /// Why calls on files fail that the files themselves would allow.
@@ -187,7 +186,7 @@ fn open_to_read<R: Files<File = File>>(rt: &R, name: &str) -> io::Result<Option<
     }
 }
 
-impl<R: Files<File = File> + Print + AllocGlobal + Drop> Host for DirHost<R> {
+impl<R: Files<File = File> + Print + Drop> Host for DirHost<R> {
     ghost is_told = { false };
 
     ghost files = { λ _ _. None };

@@ -1,5 +1,5 @@
 // That no store is lost by a mistake: one process at a time has its files, and none is written over that is there.
-use std::alloc::{AllocError, Global};
+use arrayvec::ArrayString;
 use std::fmt::{self, Display, Formatter};
 use std::fs::{self, File, Metadata, OpenOptions, TryLockError};
 use std::io::{self, Error, ErrorKind};
@@ -10,6 +10,12 @@ use std::rt::Files;
 const ROOTS: &str = ".roots";
 
 const OTHERS: [&str; 3] = [".changes", ".a", ".b"];
+
+/// The ending of the second changes file, which the making of a store leaves as it is.
+const SECOND: &str = ".changes2";
+
+/// The most bytes of a file's name; the system takes none of more.
+const LONGEST_NAME: usize = 4095;
 
 /// Why a call on a file failed that the file itself would allow.
 #[derive(Clone, Copy, Debug, PartialEq, Eq)]
@@ -114,15 +120,17 @@ impl Guard {
 
     /// Makes a roots file that was absent, and locks it. One that another process has made since is left alone, and so are files
     /// that would be the store's.
-    pub(crate) fn make_roots<R: Files<File = File> + AllocGlobal>(
+    pub(crate) fn make_roots<R: Files<File = File>>(
         &mut self,
         rt: &R,
         name: &str,
     ) -> io::Result<()> {
         let stem = name.strip_suffix(ROOTS).unwrap_or(name);
         for ending in OTHERS {
-            if fs::exists(rt, &*format!(in rt.alloc(); "{stem}{ending}")?)? {
-                return Err(self.refuse(Refusal::NoStore));
+            if let Some(other) = name_of(stem, ending) {
+                if fs::exists(rt, other.as_str())? {
+                    return Err(self.refuse(Refusal::NoStore));
+                }
             }
         }
         let file = OpenOptions::new()
@@ -151,16 +159,15 @@ impl Guard {
 
     /// Refuses all calls, where the image is one of the files of this store, by whatever name, or has the name of a file of
     /// another.
-    pub(crate) fn keep_stores_from<R: Files<File = File> + AllocGlobal>(
+    pub(crate) fn keep_stores_from<R: Files<File = File>>(
         &mut self,
         rt: &R,
         store: &str,
         image: &str,
-    ) -> Result<(), AllocError> {
-        if is_named_in_a_store(rt, image)? || is_file_of(rt, store, image)? {
+    ) {
+        if is_named_in_a_store(rt, image) || is_file_of(rt, store, image) {
             self.refusal = Some(Refusal::StoreFile);
         }
-        Ok(())
     }
 
     fn refuse(&mut self, refusal: Refusal) -> Error {
@@ -173,34 +180,39 @@ fn refused() -> Error {
     Error::from(ErrorKind::PermissionDenied)
 }
 
+// The name of a file of a store, none where no file can have it. It takes no memory, so no want of it looks like a fault of the disk.
+fn name_of(store: &str, ending: &str) -> Option<ArrayString<LONGEST_NAME>> {
+    let mut name = ArrayString::from(store).ok()?;
+    name.try_push_str(ending).ok()?;
+    Some(name)
+}
+
 // Whether a file has the name of one of the files of a store that is there.
-fn is_named_in_a_store<R: Files<File = File> + AllocGlobal>(
-    rt: &R,
-    name: &str,
-) -> Result<bool, AllocError> {
+fn is_named_in_a_store<R: Files<File = File>>(rt: &R, name: &str) -> bool {
     if name.ends_with(ROOTS) {
-        return Ok(is_there(rt, name));
+        return is_there(rt, name);
     }
-    for ending in OTHERS {
+    for ending in [OTHERS[0], OTHERS[1], OTHERS[2], SECOND] {
         if let Some(stem) = name.strip_suffix(ending) {
-            return Ok(is_there(rt, &format!(in rt.alloc(); "{stem}{ROOTS}")?));
+            return match name_of(stem, ROOTS) {
+                Some(roots) => is_there(rt, roots.as_str()),
+                None => false,
+            };
         }
     }
-    Ok(false)
+    false
 }
 
 // Whether a file that is there is one of the files of this store.
-fn is_file_of<R: Files<File = File> + AllocGlobal>(
-    rt: &R,
-    store: &str,
-    name: &str,
-) -> Result<bool, AllocError> {
-    for ending in [ROOTS, OTHERS[0], OTHERS[1], OTHERS[2]] {
-        if is_same_file(rt, name, &format!(in rt.alloc(); "{store}{ending}")?) {
-            return Ok(true);
+fn is_file_of<R: Files<File = File>>(rt: &R, store: &str, name: &str) -> bool {
+    for ending in [ROOTS, OTHERS[0], OTHERS[1], OTHERS[2], SECOND] {
+        if let Some(file) = name_of(store, ending) {
+            if is_same_file(rt, name, file.as_str()) {
+                return true;
+            }
         }
     }
-    Ok(false)
+    false
 }
 
 fn is_there<R: Files<File = File>>(rt: &R, name: &str) -> bool {

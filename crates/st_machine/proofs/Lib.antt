@@ -10,3 +10,4 @@ pub mod Once
 mod Prepares
 pub mod Done
 mod DeathRows
+mod SwitchRows

@@ -1,1 +1,3 @@
 pub mod Ready
+mod HostileRows
+mod ForgeRows

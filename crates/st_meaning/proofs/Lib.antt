@@ -22,3 +22,9 @@ pub mod RowsWalk
 pub mod RowsSend
 pub mod Walked
 pub mod Cycled
+pub mod Arenas
+pub mod Following
+pub mod Meant
+pub mod Shaped
+pub mod Sketching
+pub mod WholeTrace

@@ -10,3 +10,7 @@ pub mod Deeds
 pub mod Courses
 pub mod Taken
 pub mod Machines
+pub mod Arenas
+pub mod Traced
+pub mod Meant
+pub mod Sketches

@@ -4,7 +4,7 @@ ghost use Rattle.std.specs.Prelude.{◌≡◌, ◌∷◌, [], Some, None, IfOk, 
 ghost use Rattle.st_emit.specs.Selectors.{colons, arity, sends_now};
 ghost use Rattle.st_emit.specs.Views.{literal_view, literals_view};
 ghost use Rattle.st_emit.specs.Resolving.{special_selectors, first_special};
-ghost use Rattle.st_meaning.specs.Values.{literal_value, small_value};
+ghost use Rattle.st_meaning.specs.Values.{number_value, literal_value, small_value};
 ghost use Rattle.st_meaning.specs.Codes as codes;
 ghost use Rattle.st_meaning.specs.Walks.{selector_of, values_of};
 ghost use Rattle.st_meaning.specs.Courses.{stack_view, top_walked, IsTop, Does, held_of};
@@ -13,6 +13,7 @@ use crate::deed::{Value, ValueList, Variable};
 use crate::held::Held;
 use crate::message::sends;
 use st_emit::{Literal, Place, SPECIAL_SENDS, Step};
+use st_scan::Signed;
 use std::alloc::{AllocError, Global};
 
 /// The code by which a block is made.
@@ -44,7 +45,7 @@ pub enum Walked<'p> {
 }
 
 /// A number that a code pushes: from -1 to 2, by one more.
-fn small_value(n: usize) -> Value
+pub fn small_value(n: usize) -> Value
     ensures { result ≡ small_value n }
 {
     match n {
@@ -55,18 +56,31 @@ fn small_value(n: usize) -> Value
     }
 }
 
+/// The value of a number that is a literal at a place: a SmallInteger is itself.
+pub fn number_value(n: Signed, place: usize) -> Value
+    ensures { result ≡ number_value n place }
+{
+    if n.minus && n.size <= 16_384 {
+        Value::Number(0 - n.size as i16)
+    } else if !n.minus && n.size <= 16_383 {
+        Value::Number(n.size as i16)
+    } else {
+        Value::Literal(place)
+    }
+}
+
 /// The value of a literal at a place.
 fn literal_value(literal: &Literal, place: usize) -> Value
     ensures { result ≡ literal_value (literal_view literal.now) place }
 {
     match literal {
-        Literal::Number { minus, size } => if *minus && *size <= 16_384 {
-            Value::Number(0 - *size as i16)
-        } else if !*minus && *size <= 16_383 {
-            Value::Number(*size as i16)
-        } else {
-            Value::Literal(place)
-        },
+        Literal::Number { minus, size } => number_value(
+            Signed {
+                minus: *minus,
+                size: *size,
+            },
+            place,
+        ),
         _ => Value::Literal(place),
     }
 }

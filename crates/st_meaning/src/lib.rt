@@ -1,6 +1,7 @@
 //! What a method's source means, and what its code does: lists of deeds, which are the same.
 #![tactic(auto)]
 
+mod arena;
 mod code;
 mod course;
 mod deed;
@@ -8,12 +9,16 @@ mod fault;
 mod held;
 mod laws;
 mod message;
+mod method_trace;
+mod sketch;
 mod steps;
+mod tracing;
 mod walking;
 
 pub use deed::{Answer, AnswerList, Change, ChangeList, Deed, Deeds, Value, ValueList, Variable};
 pub use fault::MeaningFault;
 pub use laws::code_means;
+pub use method_trace::trace;
 pub use st_emit::{Constant, Place};
 pub use steps::step_walks;
 pub use walking::walk;

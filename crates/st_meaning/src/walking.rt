@@ -28,7 +28,7 @@ fn boolean(value: Value) -> Option<bool>
 }
 
 /// Whether a jump on this boolean jumps. Where a value is no boolean, that is the last deed.
-fn test(course: &mut Course<'_>, on: bool, value: Value) -> Result<Option<bool>, MeaningFault>
+pub fn test(course: &mut Course<'_>, on: bool, value: Value) -> Result<Option<bool>, MeaningFault>
     ensures jumps { IfOk result (Tests on value course.old course.new) }
     ensures long { IfErr result (IsLong (IsLongTest on value course.old)) }
     ensures held { course.new.held ≡ course.old.held }

@@ -10,6 +10,7 @@ use Rattle.st_host.proofs.Joining.{weaker, moments_join, all_join}
 use Rattle.st_host.proofs.Rising.{rose_second}
 use Rattle.st_host.proofs.Telling.{OnlyNow}
 use Rattle.st_host.proofs.Touching.{spares_join, spares_none}
+use Rattle.st_store.specs.Faults.{GateFails, RestsUnlessGate}
 use Rattle.st_protocol.specs.declared.status.Status.{Status}
 use Rattle.st_protocol.specs.declared.status.Status.TheVariants as status
 use Rattle.st_protocol.specs.Courses.{Deed, Reply, Keep, Course, Goes, Ends, deeds_of, said_of, commits_of, last_of, preceded, and_then, replies}
@@ -126,7 +127,7 @@ module _ {D : Type 0} (host : Ghosts D) {C : Type 0} (opens : C → Files → Ty
   rests_more : (c : C) (a b : List (Deed C)) (e : Status) (new : D) → Rests host opens c a e new → Rests host opens c (a ++ b) e new
   rests_more c a b e new h = rests_over c c a (a ++ b) e new
       (λ x. record { first = x.first; rest = x.rest ++ b; all = ap (λ t. t ++ b) x.all ∙ append_assoc x.first x.rest b; at = x.at })
-      (λ x. record { first = x.first; next = x.next; rest = x.rest ++ b; all = ap (λ t. t ++ b) x.all ∙ append_assoc x.first (Keep x.next ∷ x.rest) b; either = x.either })
+      (λ x. record { first = x.first; next = x.next; rest = x.rest ++ b; all = ap (λ t. t ++ b) x.all ∙ append_assoc x.first (Keep x.next ∷ x.rest) b; either = x.either; name = x.name; gate = x.gate })
       h
 
   rests_after : (c : C) (a b : List (Deed C)) (e : Status) (new : D) → Rests host opens (last_of c a) b e new → Rests host opens c (a ++ b) e new
@@ -138,6 +139,8 @@ module _ {D : Type 0} (host : Ghosts D) {C : Type 0} (opens : C → Files → Ty
         rest = x.rest;
         all = ap (λ t. a ++ t) x.all ∙ sym (append_assoc a x.first (Keep x.next ∷ x.rest));
         either = λ f can. ⊎_elim (λ o. inl (subst (λ d. opens d f) (sym (last_of_both c a x.first)) o)) (λ o. inr o) (x.either f can);
+        name = x.name;
+        gate = subst (λ d. GateFails host opens x.name d new) (sym (last_of_both c a x.first)) x.gate;
       })
       h
 
@@ -283,11 +286,15 @@ module _ {D : Type 0} (host : Ghosts D) {C : Type 0} (opens : C → Files → Ty
     spares = spares;
   }
 
-  pub makes_began : {R E : Type 0} (c d : C) (old new : D) (result : Result R E) → (IsTrue host.is_told → Makes host opens c d old new result) → Spares host spared old new → Began host opens spared c (Keep d ∷ []) status.DiskFault old new
-  makes_began c d old new result run spares = record {
+  pub makes_began : {R E : Type 0} (c d : C) (name : List ℕ) (old new : D) (result : Result R E) → (IsTrue host.is_told → Makes host opens c d old new result) → (IsTrue host.is_told → RestsUnlessGate host opens name c new) → Spares host spared old new
+      → Began host opens spared c (Keep d ∷ []) status.DiskFault old new
+  makes_began c d name old new result run broken spares = record {
     part = λ told. nothing_of (host.said old) [] (host.said new) (run told).quiet;
     between = λ told. first_none (Keep d ∷ []) (host.said old) (host.said new) (run told).quiet;
-    rests = λ told. inr (record { first = []; next = d; rest = []; all = refl; either = (run told).either });
+    rests = λ told. ⊎_elim
+        (λ at. inl (record { first = []; rest = Keep d ∷ []; all = refl; at = at }))
+        (λ gate. inr (record { first = []; next = d; rest = []; all = refl; either = (run told).either; name = name; gate = gate }))
+        (broken told);
     moments = λ told. makes_moments host opens c d old new (run told).moments;
     spares = spares;
   }
@@ -320,8 +327,9 @@ module _ {D : Type 0} (host : Ghosts D) {C : Type 0} (opens : C → Files → Ty
       let kept = makes_did host opens spared {E = E} c d old mid value makes spares in
       began_after host opens spared c (Keep d ∷ []) (Reply text ∷ []) status.SayFault old mid new kept (says_began host opens spared d text mid new kept.rest says)
 
-  pub unkept : (old new : D) (result : Result R E) → (IsTrue host.is_told → Makes host opens c d old new result) → Spares host spared old new → Began host opens spared c (Keep d ∷ Reply text ∷ []) status.DiskFault old new
-  unkept old new result makes spares = began_more host opens spared c (Keep d ∷ []) (Reply text ∷ []) status.DiskFault old new (makes_began host opens spared c d old new result makes spares)
+  pub unkept : (name : List ℕ) (old new : D) (result : Result R E) → (IsTrue host.is_told → Makes host opens c d old new result) → (IsTrue host.is_told → RestsUnlessGate host opens name c new) → Spares host spared old new
+      → Began host opens spared c (Keep d ∷ Reply text ∷ []) status.DiskFault old new
+  unkept name old new result makes broken spares = began_more host opens spared c (Keep d ∷ []) (Reply text ∷ []) status.DiskFault old new (makes_began host opens spared c d name old new result makes broken spares)
 
 -- COURSES
 

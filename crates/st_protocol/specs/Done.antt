@@ -4,6 +4,7 @@ use Rattle.st_host.specs.Files.{Files}
 use Rattle.st_host.specs.Stops.{SaidPart}
 use Rattle.st_host.specs.Runs.{LeavesOnly, SaysAll, Spares, IsAtRest}
 use Rattle.st_host.specs.declared.host.Host.{Ghosts}
+use Rattle.st_store.specs.Faults.{GateFails}
 use Rattle.st_protocol.specs.declared.status.Status.{Status}
 use Rattle.st_protocol.specs.declared.status.Status.TheVariants.{DiskFault, SayFault}
 use Rattle.st_protocol.specs.Courses.{Deed, Keep, said_of, last_of}
@@ -29,13 +30,15 @@ module _ {D : Type 0} (host : Ghosts D) {C : Type 0} (opens : C → Files → Ty
     pub all : ds ≡ first ++ rest
     pub at : IsAtRest host opens (last_of c first) new
 
-  -- a commit was being made: each such state opens as the one that stood before it, or as it
+  -- A commit was being made, and it was the gate that failed: each such state opens as the one that stood before it, or as it.
   pub record RestsWithin (c : C) (ds : List (Deed C)) (new : D) : Type 0 where
     pub first : List (Deed C)
     pub next : C
     pub rest : List (Deed C)
     pub all : ds ≡ first ++ Keep next ∷ rest
     pub either : (f : Files) → ((n : List ℕ) → host.may_leave new n (f n)) → opens (last_of c first) f ⊎ opens next f
+    pub name : List ℕ
+    pub gate : GateFails host opens name (last_of c first) new
 
   -- what stands after a fault: only one of the disk may come while a commit is made
   abbrev pub Rests : C → List (Deed C) → Status → D → Type 0

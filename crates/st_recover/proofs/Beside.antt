@@ -1,93 +1,87 @@
 -- What a stop leaves while an image is written beside the one that a store has.
-use Rattle.std.proofs.Common.{◌≡◌, ◌≢◌, inl, ℕ, zero, suc, ◌-◌, ◌≤◌, List, length, codes, get_or, Option, IsTrue, sym, subst, ap, ◌∙◌, arith}
-use Rattle.std.specs.Prelude.{◌⊎◌, Some, Result}
+use Rattle.std.proofs.Common.{◌≡◌, ◌≢◌, ℕ, zero, suc, ◌+◌, ◌%◌, ◌≤◌, List, length, codes, get_or, Option, IsTrue, refl, sym, subst, ap, ◌∙◌, arith}
+use Rattle.std.specs.Prelude.{Some, Result, nat_lt}
+use Rattle.std.proofs.lemmas.Bool.{lt-ltb}
 use Rattle.std.proofs.lemmas.List.{append-nil, append_cancel_left, take_all}
-use Rattle.st_host.specs.Files.{Files}
-use Rattle.st_host.specs.Runs.{Elsewhere, Changes, WritesAbove, IsSynced, IsAtRest, Makes}
+use Rattle.st_host.specs.Runs.{Changes, WritesAbove, IsSynced, Makes}
 use Rattle.st_host.specs.declared.host.Host.{Ghosts}
-use Rattle.st_host.proofs.Joining.{weaker, on_ok}
 use Rattle.st_host.proofs.Touching.{above_changes}
 use Rattle.st_chunk.specs.Definitions.{entries}
 use Rattle.st_store.specs.Names.{roots_file, changes_file, image_file}
-use Rattle.st_store.specs.Stored.{StoreState, Stored, Begins, Opens, IsFirm, IsChosen, IsKept}
+use Rattle.st_store.specs.Stored.{StoreState, Stored, Begins, Opens, IsFirm, IsKept}
+use Rattle.st_store.proofs.Beside.{beside_kept, beside_makes}
 use Rattle.st_store.proofs.Others.{image_roots, image_changes}
-use Rattle.st_recover.specs.Commits.{Commit, all_of, imaged, stored_of}
+use Rattle.st_recover.specs.Commits.{Commit, all_of, imaged, stored_of, other_image}
 
 letters_differ : codes ".a" ≢ codes ".b"
 letters_differ same = let e : 97 ≡ 98 = ap (λ (x : List ℕ). get_or x 1 0) same in absurd (omega (arith, e))
 
 -- the two image files have different names
-pub images_differ : (name : List ℕ) (slot : ℕ) → slot ≤ 1 → image_file name (1 - slot) ≢ image_file name slot
-images_differ name zero low same = letters_differ (sym (append_cancel_left name (codes ".b") (codes ".a") same))
-images_differ name (suc zero) low same = letters_differ (append_cancel_left name (codes ".a") (codes ".b") same)
-images_differ name (suc (suc n)) low same = absurd (omega (arith, low))
+pub images_differ : (name : List ℕ) (slot : ℕ) → image_file name (other_image slot) ≢ image_file name slot
+images_differ name zero same = letters_differ (sym (append_cancel_left name (codes ".b") (codes ".a") same))
+images_differ name (suc zero) same = letters_differ (append_cancel_left name (codes ".a") (codes ".b") same)
+images_differ name (suc (suc n)) same = images_differ name n same
 
--- while a file is changed that the store doesn't have, it stays
-module _ {D : Type 0} (host : Ghosts D) (name : List ℕ) (k : ℕ) (c : Stored) (a b : D) (told : IsTrue host.is_told) (chosen : IsChosen host a name k c)
-    (file : List ℕ) (roots : file ≢ roots_file name) (changes : file ≢ changes_file name) (image : file ≢ image_file name c.root.slot) (run : Changes host file a b) where
-  beside_kept : IsChosen host b name k c
-  beside_kept =
-      let apart = run.others told in
-      record {
-        which = chosen.which;
-        roots = λ x can. chosen.roots x (apart.fewer (roots_file name) x (λ e. roots (sym e)) can);
-        firm = record {
-          sound = chosen.firm.sound;
-          image = λ x can. chosen.firm.image x (apart.fewer (image_file name c.root.slot) x (λ e. image (sym e)) can);
-          changes = λ x can. chosen.firm.changes x (apart.fewer (changes_file name) x (λ e. changes (sym e)) can);
-        };
-      }
+-- with the other image file stands the same changes file
+pub same_changes : (name : List ℕ) (slot : ℕ) → changes_file name (other_image slot) ≡ changes_file name slot
+same_changes name zero = refl
+same_changes name (suc zero) = refl
+same_changes name (suc (suc n)) = refl
 
-  beside_opens : (f : Files) → ((n : List ℕ) → n ≢ file → host.may_leave a n (f n)) → Opens name c f
-  beside_opens f others = record {
-    number = k;
-    chosen = chosen.roots (f (roots_file name)) (others (roots_file name) (λ e. roots (sym e)));
-    sound = chosen.firm.sound;
-    image = chosen.firm.image (f (image_file name c.root.slot)) (others (image_file name c.root.slot) (λ e. image (sym e)));
-    changes = chosen.firm.changes (f (changes_file name)) (others (changes_file name) (λ e. changes (sym e)));
-  }
+pub same_pair : (slot : ℕ) → nat_lt 1 (other_image slot) ≡ nat_lt 1 slot
+same_pair zero = refl
+same_pair (suc zero) = refl
+same_pair (suc (suc n)) = lt-ltb 1 (suc (suc (other_image n))) (omega arith) ∙ sym (lt-ltb 1 (suc (suc n)) (omega arith))
 
-  beside_makes : {R E : Type 0} (result : Result R E) → Makes host (Opens name) c c a b result
-  beside_makes result =
-      let still : (f : Files) → ((n : List ℕ) → host.may_leave b n (f n)) → Opens name c f = λ f can. beside_opens f (λ n other. (run.others told).fewer n (f n) other (can n)) in
-      record {
-        rest = on_ok result (IsAtRest host (Opens name) c b) (record { opens_as = still });
-        either = λ f can. inl (still f can);
-        quiet = run.quiet told;
-        moments = weaker host a b (λ f s. (s ≡ host.said a) × (Opens name c f ⊎ Opens name c f)) (Elsewhere host file a) (run.moments told) (λ f s so. (so.0, inl (beside_opens f so.1)));
-      }
+one_of_four : (slot : ℕ) → slot ≤ 3 → other_image slot ≤ 3
+one_of_four zero low = omega arith
+one_of_four (suc zero) low = omega arith
+one_of_four (suc (suc zero)) low = omega arith
+one_of_four (suc (suc (suc zero))) low = omega arith
+one_of_four (suc (suc (suc (suc n)))) low = absurd (omega (arith, low))
+
+-- the lowest bit is turned
+pub turned_up : (slot : ℕ) → slot % 2 ≡ 0 → other_image slot ≡ slot + 1
+turned_up zero even = refl
+turned_up (suc zero) even = absurd (omega (arith, even))
+turned_up (suc (suc n)) even = let e = turned_up n (omega (arith, even)) in omega (arith, e)
+
+pub turned_down : (slot : ℕ) → slot % 2 ≢ 0 → other_image slot + 1 ≡ slot
+turned_down zero odd = absurd (odd refl)
+turned_down (suc zero) odd = refl
+turned_down (suc (suc n)) odd = let e = turned_down n (λ even. odd (omega (arith, even))) in omega (arith, e)
 
 pub whole : (image : List ℕ) → Begins (length image) image (Some image)
 whole image = record { long = omega arith; is = take_all (length image) image (omega arith) }
 
 -- an image is written to the file that the store doesn't have
 module _ {D : Type 0} (host : Ghosts D) (st : StoreState) (slot : ℕ) (c : Commit) (a b : D) (told : IsTrue host.is_told) (kept : IsKept host a st (stored_of slot c))
-    (file : List ℕ) (is : file ≡ image_file st.name (1 - slot)) (writes : WritesAbove host 0 file a b) where
+    (file : List ℕ) (is : file ≡ image_file st.name (other_image slot)) (writes : WritesAbove host 0 file a b) where
   other : List ℕ
-  other = image_file st.name (1 - slot)
+  other = image_file st.name (other_image slot)
 
-  run : Changes host (image_file st.name (1 - slot)) a b
+  run : Changes host (image_file st.name (other_image slot)) a b
   run = subst (λ (n : List ℕ). Changes host n a b) is (above_changes host file 0 a b writes)
 
   pub still_kept : IsKept host b st (stored_of slot c)
   still_kept = record {
     root = kept.root;
-    is = beside_kept host st.name st.chosen (stored_of slot c) a b told kept.is (image_file st.name (1 - slot)) (image_roots st.name (1 - slot)) (image_changes st.name (1 - slot))
-        (images_differ st.name slot kept.is.firm.sound.slot) run;
+    is = beside_kept host st.name st.chosen (stored_of slot c) a b told kept.is (image_file st.name (other_image slot)) (image_roots st.name (other_image slot)) (image_changes st.name (other_image slot) slot)
+        (images_differ st.name slot) run;
   }
 
   pub written_makes : {R E : Type 0} (result : Result R E) → Makes host (Opens st.name) (stored_of slot c) (stored_of slot c) a b result
-  written_makes result = beside_makes host st.name st.chosen (stored_of slot c) a b told kept.is (image_file st.name (1 - slot)) (image_roots st.name (1 - slot)) (image_changes st.name (1 - slot))
-      (images_differ st.name slot kept.is.firm.sound.slot) run result
+  written_makes result = beside_makes host st.name st.chosen (stored_of slot c) a b told kept.is (image_file st.name (other_image slot)) (image_roots st.name (other_image slot)) (image_changes st.name (other_image slot) slot)
+      (images_differ st.name slot) run result
 
   -- and once it is synced, the other slot is firm
-  pub image_firm : (image : List ℕ) → host.files b file ≡ Some image → IsSynced host file b → IsFirm host b st.name (stored_of (1 - slot) (imaged c image))
+  pub image_firm : (image : List ℕ) → host.files b file ≡ Some image → IsSynced host file b → IsFirm host b st.name (stored_of (other_image slot) (imaged c image))
   image_firm image reads synced =
       let same : entries (all_of (imaged c image)) ≡ entries (all_of c) = ap entries (append-nil (all_of c)) in
       let long : length (entries (all_of (imaged c image))) ≡ length (entries (all_of c)) = ap length same in
       let limit = still_kept.is.firm.sound.limit in
       record {
-        sound = record { slot = omega arith; base = omega (arith, long); limit = omega (arith, long, limit) };
+        sound = record { slot = one_of_four slot still_kept.is.firm.sound.slot; base = omega (arith, long); limit = omega (arith, long, limit) };
         image = λ x can. subst (λ (y : Option (List ℕ)). Begins (length image) image y) (sym (synced.is told x (subst (λ (n : List ℕ). host.may_leave b n x) (sym is) can) ∙ reads)) (whole image);
-        changes = λ x can. subst (λ (bytes : List ℕ). Begins (length bytes) bytes x) (sym same) (still_kept.is.firm.changes x can);
+        changes = λ x can. subst (λ (bytes : List ℕ). Begins (length bytes) bytes x) (sym same) (still_kept.is.firm.changes x (subst (λ (n : List ℕ). host.may_leave b n x) (same_changes st.name slot) can));
       }

@@ -14,7 +14,7 @@ use Rattle.st_changes.specs.States.{grown, next_store}
 use Rattle.st_changes.proofs.ListTexts.{entries_more}
 use Rattle.st_recover.specs.Archives.{ArchiveState, Holds, store_of}
 use Rattle.st_recover.specs.Images.{IsReadable}
-use Rattle.st_recover.specs.Commits.{Commit, OpensAs, all_of, accepted, imaged, root_of, stored_of}
+use Rattle.st_recover.specs.Commits.{Commit, OpensAs, all_of, accepted, imaged, root_of, stored_of, other_image}
 
 pub all_accepted : (c : Commit) (d : Definition) → all_of (accepted c d) ≡ all_of c ++ d ∷ []
 all_accepted c d = sym (append_assoc c.before c.definitions (d ∷ []))
@@ -35,8 +35,8 @@ pub next_accepted : (name : List ℕ) (chosen slot : ℕ) (c : Commit) (d : Defi
 next_accepted name chosen slot c d = λ i. record { name = name; chosen = 1 - chosen; root = (grown_accepted slot c d i).root }
 
 -- the root behind a snapshot
-pub root_imaged : (slot : ℕ) (c : Commit) (image : List ℕ) (at l m n : ℕ) → at ≡ 1 - slot → l ≡ length image → m ≡ length (entries (all_of c)) → n ≡ length (entries (all_of c))
-    → root_of (1 - slot) (imaged c image) ≡ record { slot = at; image_length = l; base = m; length = n }
+pub root_imaged : (slot : ℕ) (c : Commit) (image : List ℕ) (at l m n : ℕ) → at ≡ other_image slot → l ≡ length image → m ≡ length (entries (all_of c)) → n ≡ length (entries (all_of c))
+    → root_of (other_image slot) (imaged c image) ≡ record { slot = at; image_length = l; base = m; length = n }
 root_imaged slot c image at l m n at_is l_is m_is n_is =
     let long : length (entries (all_of (imaged c image))) ≡ n = ap (λ (ds : List Definition). length (entries ds)) (append-nil (all_of c)) ∙ sym n_is in
     λ i. record { slot = sym at_is i; image_length = sym l_is i; base = sym m_is i; length = long i }

@@ -12,7 +12,7 @@ use Rattle.st_recover.specs.Commits.{Commit, OpensAs, all_of, stored_of}
 use Rattle.st_recover.specs.Openings.{OpensAmong}
 
 -- the same definitions are cut in two at the same place where what stands before it is as long
-one_cut : (a b x y : List Definition) → a ++ x ≡ b ++ y → length (entries a) ≡ length (entries b) → (a ≡ b) × (x ≡ y)
+pub one_cut : (a b x y : List Definition) → a ++ x ≡ b ++ y → length (entries a) ≡ length (entries b) → (a ≡ b) × (x ≡ y)
 one_cut [] [] x y all long = (refl, all)
 one_cut [] (d ∷ b) x y all long = absurd (omega (arith, long, length-append (entry d) (entries b)))
 one_cut (d ∷ a) [] x y all long = absurd (omega (arith, long, length-append (entry d) (entries a)))

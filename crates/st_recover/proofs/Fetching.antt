@@ -24,8 +24,8 @@ module _ {D : Type 0} (host : Ghosts D) where
 
     pub changes_are : (m : D) → ReadsAlike host b m → kept_changes store (host.files m) ≡ c.changes
     changes_are m alike =
-        ap (λ (x : Option (List ℕ)). take store.root.length (bytes_of x)) (alike.same told (changes_file store.name))
-        ∙ subst (λ root. take root.length (bytes_of (host.files b (changes_file store.name))) ≡ c.changes) kept.root here_opens.changes.is
+        ap (λ (x : Option (List ℕ)). take store.root.length (bytes_of x)) (alike.same told (changes_file store.name store.root.slot))
+        ∙ subst (λ root. take root.length (bytes_of (host.files b (changes_file store.name root.slot))) ≡ c.changes) kept.root here_opens.changes.is
 
   -- reading leaves it so
   pub kept_on : (store : StoreState) (c : Stored) (b d : D) → IsTrue host.is_told → Narrows host b d → IsKept host b store c → IsKept host d store c
@@ -37,7 +37,7 @@ module _ {D : Type 0} (host : Ghosts D) where
       firm = record {
         sound = kept.is.firm.sound;
         image = λ x can. kept.is.firm.image x (narrows.fewer told (image_file store.name c.root.slot) x can);
-        changes = λ x can. kept.is.firm.changes x (narrows.fewer told (changes_file store.name) x can);
+        changes = λ x can. kept.is.firm.changes x (narrows.fewer told (changes_file store.name c.root.slot) x can);
       };
     };
   }
@@ -67,7 +67,7 @@ module _ {D : Type 0} (host : Ghosts D) where
       spares_join host (IsNoFileOf name) a b m first
       (changes_spare host (image_file other slot) (IsNoFileOf name) b m (λ n no e. no.image slot (e ∙ ap (λ x. image_file x slot) same)) changes)
 
-  pub spares_changes : (name other : List ℕ) (a m d : D) → other ≡ name → Spares host (IsNoFileOf name) a m → Changes host (changes_file other) m d → Spares host (IsNoFileOf name) a d
-  spares_changes name other a m d same first changes =
+  pub spares_changes : (name other : List ℕ) (slot : ℕ) (a m d : D) → other ≡ name → Spares host (IsNoFileOf name) a m → Changes host (changes_file other slot) m d → Spares host (IsNoFileOf name) a d
+  spares_changes name other slot a m d same first changes =
       spares_join host (IsNoFileOf name) a m d first
-      (changes_spare host (changes_file other) (IsNoFileOf name) m d (λ n no e. no.changes (e ∙ ap changes_file same)) changes)
+      (changes_spare host (changes_file other slot) (IsNoFileOf name) m d (λ n no e. no.changes slot (e ∙ ap (λ x. changes_file x slot) same)) changes)

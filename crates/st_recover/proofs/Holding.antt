@@ -1,6 +1,6 @@
 -- What an archive holds goes on as its store and its list do.
-use Rattle.std.proofs.Common.{◌≡◌, inl, ℕ, ◌-◌, List, [], ◌∷◌, ◌++◌, length, Option, IsTrue, sym, subst, ap, ◌∙◌, arith, length-append}
-use Rattle.std.specs.Prelude.{All, Some, Result, IsErr, unwrap_or}
+use Rattle.std.proofs.Common.{◌≡◌, inl, ℕ, ◌-◌, Bool, List, [], ◌∷◌, ◌++◌, length, Option, IsTrue, sym, subst, ap, ◌∙◌, arith, length-append}
+use Rattle.std.specs.Prelude.{All, Some, Result, IsErr, unwrap_or, nat_lt}
 use Rattle.std.proofs.lemmas.List.{append-nil}
 use Rattle.st_host.specs.Runs.{WritesAbove, IsSynced, Makes}
 use Rattle.st_host.specs.declared.host.Host.{Ghosts}
@@ -15,20 +15,26 @@ use Rattle.st_changes.specs.States.{grown, next_store}
 use Rattle.st_changes.proofs.ListTexts.{entries_more, all_more}
 use Rattle.st_recover.specs.Archives.{ArchiveState, IsStoreOf, store_of, Holds}
 use Rattle.st_recover.specs.Images.{IsReadable}
-use Rattle.st_recover.specs.Commits.{Commit, OpensAs, all_of, accepted, imaged, root_of, stored_of}
+use Rattle.st_recover.specs.Commits.{Commit, OpensAs, all_of, accepted, imaged, root_of, stored_of, other_image}
 use Rattle.st_recover.proofs.Commits.{all_accepted, grown_accepted, next_accepted, root_imaged, makes_commit, held_openable, broken_commit}
-use Rattle.st_recover.proofs.Beside.{still_kept, written_makes, image_firm}
+use Rattle.st_recover.proofs.Beside.{same_pair, still_kept, written_makes, image_firm}
 
 pub some_same : {x y : StoreState} → Some x ≡ Some y → x ≡ y
 some_same {x = x} e = ap (λ (o : Option StoreState). unwrap_or o x) e
 
 -- one entry more
-pub store_grown : (name same : List ℕ) (ds es : List Definition) (d : Definition) (st next : StoreState) → IsStoreOf name ds st → next ≡ next_store st (entry d) → same ≡ name → es ≡ ds ++ d ∷ [] → IsStoreOf same es next
-store_grown name same ds es d st next was is named listed =
+pub store_grown : (name same : List ℕ) (second still : Bool) (ds es : List Definition) (d : Definition) (st next : StoreState) → IsStoreOf name second ds st → next ≡ next_store st (entry d) → same ≡ name → still ≡ second → es ≡ ds ++ d ∷ [] → IsStoreOf same still es next
+store_grown name same second still ds es d st next was is named file listed =
     let long = ap (λ (s : StoreState). s.root.length) is in
     let more = ap (λ (fs : List Definition). length (entries fs)) listed in
     let last = ap length (entries_more ds d) ∙ length-append (entries ds) (entry d) in
-    record { named = ap (λ (s : StoreState). s.name) is ∙ was.named ∙ sym named; whole = omega (arith, long, more, last, was.whole) }
+    record { named = ap (λ (s : StoreState). s.name) is ∙ was.named ∙ sym named; file = file ∙ was.file ∙ sym (ap (λ (s : StoreState). nat_lt 1 s.root.slot) is); whole = omega (arith, long, more, last, was.whole) }
+
+-- another image
+pub store_imaged : (name : List ℕ) (second : Bool) (ds : List Definition) (st next : StoreState) → IsStoreOf name second ds st → next.name ≡ st.name → next.root.slot ≡ other_image st.root.slot
+    → next.root.length ≡ st.root.length → IsStoreOf name second ds next
+store_imaged name second ds st next was same slot long =
+    record { named = same ∙ was.named; file = was.file ∙ sym (ap (λ n. nat_lt 1 n) slot ∙ same_pair st.root.slot); whole = long ∙ was.whole }
 
 -- an archive holds a commit, and this is its store
 module _ {D : Type 0} (host : Ghosts D) (a : D) (old : ArchiveState) (st : StoreState) (c : Commit) (holds : Holds host a old c) (there : old.store ≡ Some st) where
@@ -80,13 +86,13 @@ module _ {D : Type 0} (host : Ghosts D) (a : D) (old : ArchiveState) (st : Store
   -- A SNAPSHOT
 
   -- the root that is committed, and the file that the image is written to, which can be read
-  module _ (b : D) (image file : List ℕ) (readable : IsReadable image) (root : Root) (at : ℕ) (at_is : at ≡ 1 - st.root.slot) (file_is : file ≡ image_file st.name at)
+  module _ (b : D) (image file : List ℕ) (readable : IsReadable image) (root : Root) (at : ℕ) (at_is : at ≡ other_image st.root.slot) (file_is : file ≡ image_file st.name at)
       (writes : WritesAbove host 0 file a b) where
     slot_is : st.root.slot ≡ holds.slot
     slot_is = ap (λ (s : StoreState). s.root.slot) store_is
 
-    file_at : file ≡ image_file st.name (1 - holds.slot)
-    file_at = file_is ∙ ap (image_file st.name) (at_is ∙ ap (λ n. 1 - n) slot_is)
+    file_at : file ≡ image_file st.name (other_image holds.slot)
+    file_at = file_is ∙ ap (image_file st.name) (at_is ∙ ap other_image slot_is)
 
     writing : {R E : Type 0} (result : Result R E) → IsTrue host.is_told → Makes host (Opens st.name) (stored_of holds.slot c) (stored_of holds.slot c) a b result
     writing result told = written_makes host st holds.slot c a b told (kept told) file file_at writes result
@@ -94,16 +100,16 @@ module _ {D : Type 0} (host : Ghosts D) (a : D) (old : ArchiveState) (st : Store
     still_good : All IsDefinition (all_of (imaged c image))
     still_good = subst (λ (ds : List Definition). All IsDefinition ds) (sym (append-nil (all_of c))) holds.good
 
-    as_commits : {R E : Type 0} (h : D) (result : Result R E) → Makes host (Opens st.name) (stored_of holds.slot c) (stored_of (1 - holds.slot) (imaged c image)) a h result
+    as_commits : {R E : Type 0} (h : D) (result : Result R E) → Makes host (Opens st.name) (stored_of holds.slot c) (stored_of (other_image holds.slot) (imaged c image)) a h result
         → Makes host (OpensAs old.name) c (imaged c image) a h result
-    as_commits {R = R} {E = E} h result makes = makes_commit old.name host holds.slot (1 - holds.slot) c (imaged c image) a h result (held_openable host a old c holds)
+    as_commits {R = R} {E = E} h result makes = makes_commit old.name host holds.slot (other_image holds.slot) c (imaged c image) a h result (held_openable host a old c holds)
         (record { readable = readable; good = still_good })
-        (subst (λ (n : List ℕ). Makes {R = R} {E = E} host (Opens n) (stored_of holds.slot c) (stored_of (1 - holds.slot) (imaged c image)) a h result) named makes)
+        (subst (λ (n : List ℕ). Makes {R = R} {E = E} host (Opens n) (stored_of holds.slot c) (stored_of (other_image holds.slot) (imaged c image)) a h result) named makes)
 
     -- the image wasn't written
     pub unwritten_makes : {R S E : Type 0} (first : Result R E) (result : Result S E) → IsErr result → IsTrue host.is_told → Makes host (OpensAs old.name) c (imaged c image) a b result
     unwritten_makes first result err told = as_commits b result
-        (makes_failed host (Opens st.name) (stored_of holds.slot c) (stored_of (1 - holds.slot) (imaged c image)) a b b first result err (writing first told))
+        (makes_failed host (Opens st.name) (stored_of holds.slot c) (stored_of (other_image holds.slot) (imaged c image)) a b b first result err (writing first told))
 
     pub unwritten_broken : {R E : Type 0} (first : Result R E) → IsTrue host.is_told → RestsUnlessGate host (OpensAs old.name) old.name c b
     unwritten_broken first told = broken_commit host old.name st.name holds.slot c b (held_openable host a old c holds) named
@@ -112,12 +118,12 @@ module _ {D : Type 0} (host : Ghosts D) (a : D) (old : ArchiveState) (st : Store
     -- it was, and then the root is committed
     module _ (reads : IsTrue host.is_told → host.files b file ≡ Some image) (synced : IsSynced host file b) (root_at : root.slot ≡ at) (long : root.image_length ≡ length image)
         (base : root.base ≡ st.root.length) (end : root.length ≡ st.root.length) where
-      root_is : root_of (1 - holds.slot) (imaged c image) ≡ root
+      root_is : root_of (other_image holds.slot) (imaged c image) ≡ root
       root_is =
           let n : st.root.length ≡ length (entries (all_of c)) = ap (λ (s : StoreState). s.root.length) store_is in
-          root_imaged holds.slot c image root.slot root.image_length root.base root.length (root_at ∙ at_is ∙ ap (λ k. 1 - k) slot_is) long (base ∙ n) (end ∙ n)
+          root_imaged holds.slot c image root.slot root.image_length root.base root.length (root_at ∙ at_is ∙ ap other_image slot_is) long (base ∙ n) (end ∙ n)
 
-      firm : IsTrue host.is_told → IsFirm host b st.name (stored_of (1 - holds.slot) (imaged c image))
+      firm : IsTrue host.is_told → IsFirm host b st.name (stored_of (other_image holds.slot) (imaged c image))
       firm told = image_firm host st holds.slot c a b told (kept told) file file_at writes image (reads told) synced
 
       pub snapshot_makes : {R S T E : Type 0} (e : D) (first : Result R E) (second : Result S E) (result : Result T E)
@@ -126,7 +132,7 @@ module _ {D : Type 0} (host : Ghosts D) (a : D) (old : ArchiveState) (st : Store
           → IsTrue host.is_told → Makes host (OpensAs old.name) c (imaged c image) a e result
       snapshot_makes e first second result makes onward told =
           let x = stored_of holds.slot c in
-          let y = stored_of (1 - holds.slot) (imaged c image) in
+          let y = stored_of (other_image holds.slot) (imaged c image) in
           as_commits e result (makes_then host (Opens st.name) x y a b e first result (writing first told)
           (onward x y (makes x y told (still_kept host st holds.slot c a b told (kept told) file file_at writes) (firm told) root_is)))
 
@@ -134,7 +140,7 @@ module _ {D : Type 0} (host : Ghosts D) (a : D) (old : ArchiveState) (st : Store
           → IsTrue host.is_told → RestsUnlessGate host (OpensAs old.name) old.name c e
       snapshot_broken e broken told =
           let x = stored_of holds.slot c in
-          let y = stored_of (1 - holds.slot) (imaged c image) in
+          let y = stored_of (other_image holds.slot) (imaged c image) in
           broken_commit host old.name st.name holds.slot c e (held_openable host a old c holds) named
           (broken x y told (still_kept host st holds.slot c a b told (kept told) file file_at writes) (firm told) root_is)
 
@@ -144,16 +150,16 @@ module _ {D : Type 0} (host : Ghosts D) (a : D) (old : ArchiveState) (st : Store
           → Holds host e new (imaged c image)
       snapshot_holds e new next same store listed is keeps =
           let all : all_of (imaged c image) ≡ all_of c = append-nil (all_of c) in
-          let next_is : next ≡ store_of new.name (1 - holds.chosen) (1 - holds.slot) (imaged c image) =
+          let next_is : next ≡ store_of new.name (1 - holds.chosen) (other_image holds.slot) (imaged c image) =
           is ∙ (λ i. record { name = (named ∙ sym same) i; chosen = 1 - (store_is i).chosen; root = sym root_is i }) in
           record {
             chosen = 1 - holds.chosen;
-            slot = 1 - holds.slot;
+            slot = other_image holds.slot;
             store = store ∙ ap Some next_is;
             listed = listed ∙ holds.listed ∙ sym all;
             good = still_good;
-            kept = λ told. subst (λ (s : StoreState). IsKept host e s (stored_of (1 - holds.slot) (imaged c image))) next_is
-                (keeps (stored_of holds.slot c) (stored_of (1 - holds.slot) (imaged c image)) told
+            kept = λ told. subst (λ (s : StoreState). IsKept host e s (stored_of (other_image holds.slot) (imaged c image))) next_is
+                (keeps (stored_of holds.slot c) (stored_of (other_image holds.slot) (imaged c image)) told
                 (still_kept host st holds.slot c a b told (kept told) file file_at writes) (firm told) root_is);
             readable = readable;
           }

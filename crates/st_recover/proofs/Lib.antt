@@ -11,3 +11,5 @@ pub mod Making
 pub mod Obeying
 pub mod Restoring
 pub mod Rests
+pub mod Condensing
+pub mod Gates

@@ -121,15 +121,15 @@ module _ {D : Type 0} (host : Ghosts D) (name image : List ℕ) (d e : D) (n : L
       → IsKept host e store (stored_of 0 (first_commit image))
   found_kept store kept = subst (λ (k : ℕ). IsKept host e store (first_stored k image)) long (kept image empty_as firm_as)
 
-  pub found_files : IsTrue host.is_told → host.files d (image_file name 0) ≡ Some image → ChangesBoth host (changes_file n) (roots_file n) d e
+  pub found_files : IsTrue host.is_told → host.files d (image_file name 0) ≡ Some image → ChangesBoth host (changes_file n 0) (roots_file n) d e
       → (Leaves host d (roots_file n) (λ file. bytes_of file ≡ []) → host.files e (roots_file n) ≡ Some (first_file (first_root l)))
-      → host.files e (changes_file n) ≡ Some [] → AreFirstFiles name image (host.files e)
+      → host.files e (changes_file n 0) ≡ Some [] → AreFirstFiles name image (host.files e)
   found_files told reads run roots changes = record {
     roots = subst (λ (x : List ℕ). host.files e (roots_file x) ≡ Some (first_file (first_root (length image)))) named
         (roots empty_as ∙ ap (λ k. Some (first_file (first_root k))) long);
     picture = subst (λ (x : List ℕ). host.files e (image_file x 0) ≡ Some image) named
-        (run.files told (image_file n 0) (image_changes n 0) (image_roots n 0) ∙ subst (λ (x : List ℕ). host.files d (image_file x 0) ≡ Some image) (sym named) reads);
-    changes = subst (λ (x : List ℕ). host.files e (changes_file x) ≡ Some []) named changes;
+        (run.files told (image_file n 0) (image_changes n 0 0) (image_roots n 0) ∙ subst (λ (x : List ℕ). host.files d (image_file x 0) ≡ Some image) (sym named) reads);
+    changes = subst (λ (x : List ℕ). host.files e (changes_file x 0) ≡ Some []) named changes;
   }
 
 pub found_store : (name image n : List ℕ) (l : ℕ) (store : StoreState) → n ≡ name → l ≡ length image → store ≡ record { name = n; chosen = 0; root = first_root l } → store ≡ store_of name 0 0 (first_commit image)
@@ -144,9 +144,9 @@ module _ {D : Type 0} (host : Ghosts D) (name : List ℕ) (a b d : D) where
   image_spared first second =
       spares_join host (IsNoFirstFile name) a b d (roots_spared first) (changes_spare host (image_file name 0) (IsNoFirstFile name) b d (λ n no. no.image) second)
 
-  pub found_spared : (e : D) (n : List ℕ) → n ≡ name → Changes host (roots_file name) a b → Changes host (image_file name 0) b d → ChangesBoth host (changes_file n) (roots_file n) d e
+  pub found_spared : (e : D) (n : List ℕ) → n ≡ name → Changes host (roots_file name) a b → Changes host (image_file name 0) b d → ChangesBoth host (changes_file n 0) (roots_file n) d e
       → Spares host (IsNoFirstFile name) a e
   found_spared e n named first second third =
       spares_join host (IsNoFirstFile name) a d e (image_spared first second)
-      (both_spare host (changes_file name) (roots_file name) (IsNoFirstFile name) d e (λ n no. no.changes) (λ n no. no.roots)
-      (subst (λ (x : List ℕ). ChangesBoth host (changes_file x) (roots_file x) d e) named third))
+      (both_spare host (changes_file name 0) (roots_file name) (IsNoFirstFile name) d e (λ n no. no.changes) (λ n no. no.roots)
+      (subst (λ (x : List ℕ). ChangesBoth host (changes_file x 0) (roots_file x) d e) named third))

@@ -7,6 +7,7 @@ use Rattle.st_host.specs.Runs.{Spares, IsAtRest, Makes}
 use Rattle.st_host.specs.declared.host.Host.{Ghosts}
 use Rattle.st_host.proofs.Telling.{OnlyNow}
 use Rattle.st_chunk.specs.Definitions.{Definition, entry, entries}
+use Rattle.st_store.specs.Faults.{RestsUnlessGate}
 use Rattle.st_protocol.specs.Obeying.{Obeys}
 use Rattle.st_protocol.specs.declared.status.Status.{Status}
 use Rattle.st_protocol.specs.declared.status.Status.TheVariants.{DiskFault, TooLarge, OutOfMemory}
@@ -37,9 +38,9 @@ module _ {D : Type 0} (host : Ghosts D) (opens : Commit → Files → Type 0) (s
       → Obeys host opens spared at (λ x. x) c (accepting c d) (Ok tt) a b
   accept_kept {E = E} a b value is holds makes spares = as_course a b true (Ok tt) is (holds, refl, makes_did host opens spared {E = E} c (accepted c d) a b value makes spares)
 
-  pub accept_failed : {R E : Type 0} (a b : D) (result : Result R E) → fits c d ≡ true → (IsTrue host.is_told → Makes host opens c (accepted c d) a b result) → Spares host spared a b
-      → Obeys host opens spared at (λ x. x) c (accepting c d) (Err DiskFault) a b
-  accept_failed a b result is makes spares = as_course a b true (Err DiskFault) is (tt, makes_began host opens spared c (accepted c d) a b result makes spares)
+  pub accept_failed : {R E : Type 0} (name : List ℕ) (a b : D) (result : Result R E) → fits c d ≡ true → (IsTrue host.is_told → Makes host opens c (accepted c d) a b result) → (IsTrue host.is_told → RestsUnlessGate host opens name c b)
+      → Spares host spared a b → Obeys host opens spared at (λ x. x) c (accepting c d) (Err DiskFault) a b
+  accept_failed name a b result is makes broken spares = as_course a b true (Err DiskFault) is (tt, makes_began host opens spared c (accepted c d) name a b result makes broken spares)
 
   pub accept_refused : (h : D) → OnlyNow host h → (IsTrue host.is_told → IsAtRest host opens c h) → fits c d ≡ false → Obeys host opens spared at (λ x. x) c (accepting c d) (Err TooLarge) h h
   accept_refused h only_now rest is = as_course h h false (Err TooLarge) is (obeys_end host opens spared at (λ x. x) c TooLarge only_now rest)

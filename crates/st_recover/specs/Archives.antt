@@ -1,5 +1,5 @@
 -- What a session keeps, as contracts see it.
-use Rattle.std.specs.Prelude.{◌≡◌, ℕ, List, length, Option, Some, IsTrue, All, ⊤}
+use Rattle.std.specs.Prelude.{◌≡◌, ℕ, Bool, nat_lt, List, length, Option, Some, IsTrue, All, ⊤}
 use Rattle.st_host.specs.declared.host.Host.{Ghosts}
 use Rattle.st_chunk.specs.Definitions.{Definition, IsDefinition, entries}
 use Rattle.st_store.specs.Stored.{StoreState, IsKept}
@@ -14,12 +14,13 @@ pub record ArchiveState : Type 0 where
   pub store : Option StoreState
   pub listed : List Definition
 
--- the store has this name, and its root the length of these definitions' entries
-pub record IsStoreOf (name : List ℕ) (listed : List Definition) (store : StoreState) : Type 0 where
+-- the store has this name, its root names the second changes file or the first, and it has the length of these definitions' entries
+pub record IsStoreOf (name : List ℕ) (second : Bool) (listed : List Definition) (store : StoreState) : Type 0 where
   pub named : store.name ≡ name
+  pub file : second ≡ nat_lt 1 store.root.slot
   pub whole : store.root.length ≡ length (entries listed)
 
--- a store of this name whose root names the commit, with its image in a slot
+-- a store of this name whose root names the commit, with its image and its changes in a slot
 abbrev pub store_of : List ℕ → ℕ → ℕ → Commit → StoreState
 store_of name chosen slot c = record { name = name; chosen = chosen; root = root_of slot c }
 

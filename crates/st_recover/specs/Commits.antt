@@ -1,5 +1,5 @@
 -- What a store holds, and how a session changes that: by one definition more, or by a snapshot.
-use Rattle.std.specs.Prelude.{ℕ, ◌+◌, ◌^◌, Bool, true, false, nat_le, List, [], ◌∷◌, ◌++◌, length, All}
+use Rattle.std.specs.Prelude.{ℕ, zero, suc, ◌+◌, ◌^◌, Bool, true, false, nat_le, List, [], ◌∷◌, ◌++◌, length, All}
 use Rattle.st_host.specs.Files.{Files}
 use Rattle.st_model.specs.Machine.{Head}
 use Rattle.st_model.specs.Table.{Table}
@@ -32,7 +32,13 @@ imaged c image = record { image = image; before = all_of c; definitions = [] }
 
 -- IN FILES
 
--- the root that names it, with its image in this slot
+-- the slot of the other image file and the same changes file
+abbrev pub other_image : ℕ → ℕ
+other_image zero = 1
+other_image (suc zero) = 0
+other_image (suc (suc slot)) = suc (suc (other_image slot))
+
+-- the root that names it, with its image and its changes in this slot
 abbrev pub root_of : ℕ → Commit → Root
 root_of slot c = record {
   slot = slot;
@@ -44,8 +50,8 @@ root_of slot c = record {
 abbrev pub stored_of : ℕ → Commit → Stored
 stored_of slot c = record { root = root_of slot c; image = c.image; changes = entries (all_of c) }
 
--- The store of this name opens from these files as this commit: its image is in one of the two slots, and can be read, and each
--- entry of its changes is one of a definition.
+-- The store of this name opens from these files as this commit: its image is in one of two files, and its changes are in one of two.
+-- The image can be read, and each entry of the changes is one of a definition.
 pub record OpensAs (name : List ℕ) (c : Commit) (f : Files) : Type 0 where
   pub slot : ℕ
   pub opens : Opens name (stored_of slot c) f

@@ -24,11 +24,11 @@ IsMade host name c old f = ((n : List ℕ) → host.may_leave old n (f n))
 -- the name is of none of the files that a new store has
 pub record IsNoFirstFile (name n : List ℕ) : Type 0 where
   pub roots : n ≢ roots_file name
-  pub changes : n ≢ changes_file name
+  pub changes : n ≢ changes_file name 0
   pub image : n ≢ image_file name 0
 
 -- the files of a new store, byte for byte
 pub record AreFirstFiles (name image : List ℕ) (f : Files) : Type 0 where
   pub roots : f (roots_file name) ≡ Some (first_file (first_root (length image)))
   pub picture : f (image_file name 0) ≡ Some image
-  pub changes : f (changes_file name) ≡ Some []
+  pub changes : f (changes_file name 0) ≡ Some []

@@ -5,3 +5,4 @@ pub mod Replays
 pub mod Openings
 pub mod Fetched
 pub mod Creating
+pub mod Condensed

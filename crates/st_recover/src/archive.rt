@@ -12,7 +12,7 @@ ghost use Rattle.st_protocol.specs.Obeying.{Obeys};
 ghost use Rattle.st_protocol.specs.declared.status.Status.TheVariants.{DiskFault};
 ghost use Rattle.st_protocol.specs.Statuses.{Counts};
 ghost use Rattle.st_recover.specs.Archives.{Holds, IsStoreOf, IsOfKeeping};
-ghost use Rattle.st_recover.specs.Commits.{Commit, OpensAs, accepting, imaged, image_in};
+ghost use Rattle.st_recover.specs.Commits.{Commit, OpensAs, accepting, imaged, image_in, other_image};
 
 use st_changes::{Changes, Definition as KeptDefinition};
 use st_chunk::Definition;
@@ -45,6 +45,13 @@ fn owned(alloc: Global, definition: &Definition<'_>) -> Result<KeptDefinition, A
     })
 }
 
+/// The slot of the other image file and the same changes file.
+fn other_image(slot: u64) -> u64
+    ensures { result ≡ other_image slot }
+{
+    if slot % 2 == 0 { slot + 1 } else { slot - 1 }
+}
+
 /// What a session keeps: a store, and the list of its definitions. After a fault of the disk the store is closed, and has
 /// to be opened again.
 #[derive(Drop)]
@@ -61,13 +68,13 @@ impl Model for Archive {
 
     ghost view = { λ a. record { name = a.changes.name; store = a.store; listed = a.changes.listed } };
 
-    ghost invariant = { λ a. ForSome a.store (IsStoreOf a.changes.name a.changes.listed) };
+    ghost invariant = { λ a. ForSome a.store (IsStoreOf a.changes.name a.changes.second a.changes.listed) };
 }
 
 impl Archive {
     /// A store and the list of its definitions.
     pub fn new(store: Store, changes: Changes) -> Archive
-        requires { IsStoreOf changes.name changes.listed store }
+        requires { IsStoreOf changes.name changes.second changes.listed store }
         ensures { result ≡ record { name = changes.name; store = Some store; listed = changes.listed } }
     {
         Archive {
@@ -129,9 +136,9 @@ impl Archive {
         Ok(())
     }
 
-    /// Keeps the image of a memory, and answers its length: it is written to the file that the store doesn't use, and the
-    /// store goes over to it whole, or not at all, and is closed after an error. No definition is to be replayed behind it. It
-    /// takes no memory. A machine can start from the memory, so that the image can be read.
+    /// Keeps the image of a memory, and answers its length: it is written to the image file that the store doesn't use, and the
+    /// store goes over to it, with the same changes file, whole, or not at all, and is closed after an error. No definition is to
+    /// be replayed behind it. It takes no memory. A machine can start from the memory, so that the image can be read.
     pub fn snapshot<M: Memory, H: Host>(&mut self, host: &mut H, m: &M) -> Result<u64, HostFault>
         requires open { IsSome self.old.store }
         requires starts { CanStart (M.view m.now) }
@@ -154,7 +161,7 @@ impl Archive {
             unreachable!()
         };
         let Root { slot, length, .. } = store.root();
-        let other = 1u64.saturating_sub(slot);
+        let other = other_image(slot);
         let image_length = write(m, host, store.image_name(other))?;
         let root = Root {
             slot: other,

@@ -1,9 +1,11 @@
 //! Laws of the definitions.
 
-ghost use Rattle.std.specs.Prelude.{◌≡◌, ℕ, List};
+ghost use Rattle.std.specs.Prelude.{◌≡◌, ℕ, Bool, List};
 ghost use Rattle.st_host.specs.Files.{Files};
 ghost use Rattle.st_protocol.specs.Installing.{Install};
-ghost use Rattle.st_recover.specs.Commits.{Commit, OpensAs};
+ghost use Rattle.st_changes.specs.Last.{IsNowhere, IsLastText};
+ghost use Rattle.st_recover.specs.Commits.{Commit, OpensAs, all_of};
+ghost use Rattle.st_recover.specs.Condensed.{IsCondensed, ReplaysAlike};
 ghost use Rattle.st_recover.specs.Openings.{OpeningKeeps, Reopens};
 ghost use Rattle.st_recover.specs.Replays.{Replayed};
 
@@ -24,4 +26,16 @@ pub fn opened_reopens()
 /// before opened: as the same commit where that was one.
 pub fn opening_keeps<H: Host>()
     ensures { OpeningKeeps H.Host.own }
+{}
+
+/// What is condensed opens as the same state, with as many definitions installed and lost, and the last text of each class, side and
+/// selector is the same, or there is none as before. It is determined.
+pub fn condensing_keeps()
+    ensures opens { (install : Install) (c d : Commit) (r : Replayed) → IsCondensed c d → Reopens install c r
+        → (q : Replayed) × Reopens install d q × ReplaysAlike r q }
+    ensures last { (c d : Commit) (class : List ℕ) (meta : Bool) (selector text : List ℕ) → IsCondensed c d
+        → IsLastText (all_of c) class meta selector text → IsLastText (all_of d) class meta selector text }
+    ensures nowhere { (c d : Commit) (class : List ℕ) (meta : Bool) (selector : List ℕ) → IsCondensed c d
+        → IsNowhere (all_of c) class meta selector → IsNowhere (all_of d) class meta selector }
+    ensures one { (c d e : Commit) → IsCondensed c d → IsCondensed c e → d ≡ e }
 {}

@@ -12,6 +12,6 @@ mod replay;
 pub use archive::Archive;
 pub use creating::create;
 pub use fault::OpenFault;
-pub use laws::{one_commit, opened_reopens, opening_keeps};
+pub use laws::{condensing_keeps, one_commit, opened_reopens, opening_keeps};
 pub use opened::{Lost, LostList, Opened};
 pub use reopening::reopen;

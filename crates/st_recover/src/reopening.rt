@@ -1,5 +1,5 @@
 // Opening a store again, with its definitions replayed.
-ghost use Rattle.std.specs.Prelude.{◌≡◌, ◌≤◌, ◌<◌, ◌^◌, ℕ, List, length, All, IsTrue, IfOk, IfErr, OnOk};
+ghost use Rattle.std.specs.Prelude.{◌≡◌, ◌≤◌, ◌<◌, ◌^◌, ℕ, List, length, All, IsTrue, nat_lt, IfOk, IfErr, OnOk};
 ghost use Rattle.st_host.specs.Files.{Files};
 ghost use Rattle.st_host.specs.Runs.{LeavesOnly, ReadsAlike, OnlyReads, Narrows, NarrowsBut, Changes as ChangesFile};
 ghost use Rattle.st_host.specs.Runs.{Spares, IsAtRest};
@@ -46,7 +46,6 @@ struct Fetched<M> {
 
 /// The bytes of a store's image, where they are at most 2^27.
 fn read_bytes<H: Host>(alloc: Global, host: &mut H, store: &Store) -> Result<Vec<u8>, OpenFault>
-    requires slot { store.now.root.slot ≤ 1 }
     ensures bytes { IfOk result (λ v. IsTrue H.is_told
         → v.items ≡ image_in store.now (H.files host.old)) }
     ensures short { IfOk result (λ v. length v.items ≤ longest_image) }
@@ -75,7 +74,6 @@ fn read_image<L: Loader, H: Host>(
     host: &mut H,
     store: &Store,
 ) -> Result<Loaded<L::Done>, OpenFault>
-    requires slot { store.now.root.slot ≤ 1 }
     ensures readable { IfOk result (λ _. IsTrue H.is_told
         → IsReadable (image_in store.now (H.files host.old))) }
     ensures start { let image = image_in store.now (H.files host.old) in
@@ -108,6 +106,7 @@ fn fetch<L: Loader, H: Host>(
 ) -> Result<Fetched<L::Done>, OpenFault>
     ensures named { IfOk result (λ p. p.store.name ≡ name.now) }
     ensures listed { IfOk result (λ p. p.changes.name ≡ name.now) }
+    ensures file { IfOk result (λ p. p.changes.second ≡ nat_lt 1 p.store.root.slot) }
     ensures whole { IfOk result (λ p. p.store.root.length ≡ length (entries p.changes.listed)) }
     ensures sound { IfOk result (λ p. IsSound p.store.root) }
     ensures good { IfOk result (λ p. All IsDefinition p.changes.listed) }
@@ -172,7 +171,11 @@ pub fn reopen<L: Loader, H: Host>(
         × IsReopenedAs H.Host.own installed L.Done.view name.now host.old host.new o c) }
     ensures named { IfOk result (λ o. o.store.name ≡ name.now) }
     ensures listed { IfOk result (λ o. o.changes.name ≡ name.now) }
+    ensures file { IfOk result (λ o. o.changes.second ≡ nat_lt 1 o.store.root.slot) }
     ensures whole { IfOk result (λ o. o.store.root.length ≡ length (entries o.changes.listed)) }
+    ensures sound { IfOk result (λ o. IsSound o.store.root) }
+    ensures good { IfOk result (λ o. All IsDefinition o.changes.listed) }
+    ensures stands { IfOk result (λ o. StandsAt o.changes.listed o.store.root.base) }
     ensures frame { IfOk result (λ o. IsFrame (L.Done.view o.loaded.memory) o.loaded.frame) }
     ensures quiet { IfOk result (λ o. (L.Done.view o.loaded.memory).held.devices ≡ no_devices) }
     ensures few { IfOk result (λ o. length o.lost.items < 2 ^ 32) }

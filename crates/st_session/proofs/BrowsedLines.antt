@@ -11,7 +11,7 @@ use Rattle.st_model.specs.Table.{Table, entry}
 use Rattle.st_model.specs.Text.{value_text, values_text, numbers_text, kind_text, colon_text, object_text, escaped, hexadecimal}
 use Rattle.st_model.specs.View.{View, object_of}
 use Rattle.st_model.specs.BitBlt.{Form}
-use Rattle.st_chunk.specs.Asks.{Ask, Object as AsksObject, Display, Classes, Methods, Source, Bytecodes, Senders, Until}
+use Rattle.st_chunk.specs.Asks.{Side, Ask, Object as AsksObject, Display, Classes, Methods, Source, Bytecodes, Senders, Until}
 use Rattle.st_browse.specs.Naming.{Named}
 use Rattle.st_browse.specs.Classes.{classes}
 use Rattle.st_browse.specs.Methods.{methods, has_method, method_named}
@@ -23,8 +23,6 @@ use Rattle.st_browse.specs.Asked.{class_of_side, bytecodes_of, bytecodes_in, sou
 use Rattle.st_protocol.specs.Acknowledged.{counts, IsLines}
 use Rattle.st_protocol.proofs.Lawful.{lines_both}
 use Rattle.st_install.proofs.Selectors.{IsInLine, both_in_line}
-use Rattle.st_chunk.specs.Definitions.{Definition}
-use Rattle.st_session.specs.Sources.{text_for}
 use Rattle.st_call.specs.Replies.{missing_text}
 use Rattle.st_session.specs.Browsing.{asked_text}
 use Rattle.st_session.proofs.WholeLines.{one_line, no_text, put, hexadecimal_in_line, ends, behind, decimal_in_line, value_in_line, values_in_line, numbers_in_line, numbers_lines, escaped_in_line}
@@ -194,15 +192,15 @@ senders_said t selector cs =
 
 -- WHAT IS ASKED FOR
 
-pub asked_lines : (v : View) (ds : List Definition) (ask : Ask) → IsLines 0 (asked_text v ds ask)
+pub asked_lines : (v : View) (source : Side → List ℕ → Option (List ℕ)) (ask : Ask) → IsLines 0 (asked_text v source ask)
 unfolding reply
-asked_lines v ds (AsksObject pointer) = object_said v.objects (value_of pointer)
-asked_lines v ds Display = display_said v
-asked_lines v ds Classes = classes_said v.objects v.head.globals
-asked_lines v ds (Methods side) = if_there (methods_text v.objects) (class_of_side v side) (methods_said v.objects)
-asked_lines v ds (Source side selector) =
-    let text = text_for ds (Source side selector) in
+asked_lines v source (AsksObject pointer) = object_said v.objects (value_of pointer)
+asked_lines v source Display = display_said v
+asked_lines v source Classes = classes_said v.objects v.head.globals
+asked_lines v source (Methods side) = if_there (methods_text v.objects) (class_of_side v side) (methods_said v.objects)
+asked_lines v source (Source side selector) =
+    let text = source side selector in
     then_there (source_in v.objects selector text) (class_of_side v side) (source_said v.objects selector text)
-asked_lines v ds (Bytecodes side selector) = then_there (bytecodes_in v.objects selector) (class_of_side v side) (bytecodes_said v.objects selector)
-asked_lines v ds (Senders selector) = senders_said v.objects selector (classes v.objects v.head.globals)
-asked_lines v ds (Until cycles side selector) = then_there (bytecodes_in v.objects selector) (class_of_side v side) (bytecodes_said v.objects selector)
+asked_lines v source (Bytecodes side selector) = then_there (bytecodes_in v.objects selector) (class_of_side v side) (bytecodes_said v.objects selector)
+asked_lines v source (Senders selector) = senders_said v.objects selector (classes v.objects v.head.globals)
+asked_lines v source (Until cycles side selector) = then_there (bytecodes_in v.objects selector) (class_of_side v side) (bytecodes_said v.objects selector)

@@ -8,11 +8,12 @@ use Rattle.st_protocol.specs.declared.status.Status.{Status}
 use Rattle.st_protocol.specs.declared.status.Status.TheVariants as status
 use Rattle.st_protocol.specs.Statuses.{StatusHasCause}
 use Rattle.st_call.specs.LastLines.{last_line, SaysLastLine}
-use Rattle.st_call.specs.Words.{Command, command_of, Once, Import, Export, Clean, Session, Build, Drill}
+use Rattle.st_call.specs.Words.{Command, command_of, Once, Import, Export, Clean, Condense, Session, Build, Drill}
 use Rattle.st_session.specs.Builds.{BuildEnds}
 use Rattle.st_session.specs.Calls.{CallEnds, OnlySays}
 use Rattle.st_session.specs.Commands.{OnceEnds}
 use Rattle.st_session.specs.Drills.{DrillEnds}
+use Rattle.st_session.specs.Condensings.{CondenseEnds}
 use Rattle.st_session.specs.Exports.{ExportEnds}
 use Rattle.st_session.specs.declared.extent.Extent.TheVariants.{Kept, Reachable}
 use Rattle.st_session.specs.Imports.{ImportEnds}
@@ -47,6 +48,7 @@ module _ {D : Type 0} (host : Ghosts D) (words : List (List ℕ)) (read reads : 
   CommandEnds (Import image store over) = ImportEnds host over (bytes_of (host.files old image)) store old new end
   CommandEnds (Export store image) = ExportEnds host Kept store image old new end
   CommandEnds (Clean store image) = ExportEnds host Reachable store image old new end
+  CommandEnds (Condense store) = CondenseEnds host store old new end
   CommandEnds (Session store) = SessionCommandEnds host store read reads script left old new end
   CommandEnds (Build kernel store) = BuildEnds host (bytes_of (host.files old kernel)) store old new end
   CommandEnds (Drill n) = DrillEnds host n old new end
@@ -59,6 +61,7 @@ module _ {D : Type 0} (host : Ghosts D) (words : List (List ℕ)) (read reads : 
     imports = λ image store over so. as_said (Import image store over) so;
     exports = λ store image so. as_said (Export store image) so;
     cleans = λ store image so. as_said (Clean store image) so;
+    condenses = λ store so. as_said (Condense store) so;
     session = λ store so. as_said (Session store) so;
     builds = λ kernel store so. as_said (Build kernel store) so;
     drills = λ n so. as_said (Drill n) so;
@@ -77,6 +80,7 @@ module _ {D : Type 0} (host : Ghosts D) (words : List (List ℕ)) (read reads : 
     imports = λ image store over so. absurd (no_command (command_of words) (Import image store over) so none);
     exports = λ store image so. absurd (no_command (command_of words) (Export store image) so none);
     cleans = λ store image so. absurd (no_command (command_of words) (Clean store image) so none);
+    condenses = λ store so. absurd (no_command (command_of words) (Condense store) so none);
     session = λ store so. absurd (no_command (command_of words) (Session store) so none);
     builds = λ kernel store so. absurd (no_command (command_of words) (Build kernel store) so none);
     drills = λ n so. absurd (no_command (command_of words) (Drill n) so none);

@@ -45,7 +45,7 @@ use Rattle.st_call.specs.LastLines.{last_line, SaysLastLine}
 use Rattle.st_session.specs.Commands.{opening_status}
 use Rattle.st_session.specs.Ends.{IsCalm, SessionEnds}
 use Rattle.st_call.specs.Telling.{IsOfServing}
-use Rattle.st_session.specs.Resting.{RestsBroken, RestsAcknowledged}
+use Rattle.st_session.specs.Resting.{GateFailed, RestsBroken, RestsAcknowledged}
 use Rattle.st_session.specs.StoreSessions.{course_over, IsOfSession, KeepsPromise}
 use Rattle.st_session.specs.Opening.{IsOpen, session_over, session_so_far_over}
 use Rattle.st_session.proofs.LastLines.{quiet_line}
@@ -122,8 +122,19 @@ module _ {D : Type 0} (host : Ghosts D) (name : List ℕ) where
       still : RestsAsOne host (OpensAs name) (c ∷ cs) new
       still = record { number = 0; commit = c; is_of = refl; at = still_at }
 
+  -- behind a last line the gate has failed as before
+  pub failed_said : (c : Commit) (text : List ℕ) (mid new : D) → IsTrue host.is_told → ReadsAndSays host text mid new → GateFailed host (OpensAs name) name c mid → GateFailed host (OpensAs name) name c new
+  failed_said c text mid new told line gate = record {
+    failed = gate.failed;
+    fails = gate.fails;
+    behind = record {
+      fewer = λ n x can. gate.behind.fewer n x ((line.stops told).fewer n x can);
+      more = λ n x could. (line.stops told).more n x (gate.behind.more n x could);
+    };
+  }
+
   -- behind a last line it is as broken as before
-  broken_said : (commits : List Commit) (text : List ℕ) (mid new : D) → IsTrue host.is_told → ReadsAndSays host text mid new → RestsBroken host (OpensAs name) commits mid → RestsBroken host (OpensAs name) commits new
+  broken_said : (commits : List Commit) (text : List ℕ) (mid new : D) → IsTrue host.is_told → ReadsAndSays host text mid new → RestsBroken host (OpensAs name) name commits mid → RestsBroken host (OpensAs name) name commits new
   broken_said commits text mid new told line (inl one) = inl (one_said host (OpensAs name) commits mid mid new text told line one)
   broken_said commits text mid new told line (inr two) = inr (record {
     number = two.number;
@@ -132,6 +143,7 @@ module _ {D : Type 0} (host : Ghosts D) (name : List ℕ) where
     is_of = two.is_of;
     follows = two.follows;
     either = λ f can. two.either f (λ n. (line.stops told).fewer n (f n) (can n));
+    gate = failed_said two.commit text mid new told line two.gate;
   })
 
   -- a last line behind a session; after a fault in saying there is none
@@ -166,7 +178,7 @@ module _ {D : Type 0} (host : Ghosts D) (name : List ℕ) where
 
   pub followed_promise : {X Y : Type 0} (c : Commit) (course : Course Commit X) (so_far : List ℕ → Course Commit Y) (script left : List ℕ) (e : Status) (old mid closed new : D) → IsAtRest host (OpensAs name) c old → ((n : List ℕ) → host.may_leave old n (host.files old n))
       → CountsNow host closed → LeavesOnly host old mid (λ f s. (s ≡ host.said old) × IsOpening host old name f) → host.said mid ≡ host.said old → IsTrue host.is_told
-      → SessionEnds host (OpensAs name) (IsNoFileOf name) c course so_far script left mid closed e → ReadsAndSays host (last_line e) closed new → KeepsPromise host name (c ∷ commits_of (deeds_of course)) old new e
+      → SessionEnds host (OpensAs name) (IsNoFileOf name) c name course so_far script left mid closed e → ReadsAndSays host (last_line e) closed new → KeepsPromise host name (c ∷ commits_of (deeds_of course)) old new e
   followed_promise c course so_far script left e old mid closed new rest reads now moments quiet told ends line =
       let commits = c ∷ commits_of (deeds_of course) in
       let first = weaker host old mid (Promised (OpensAs name) commits (host.said old)) (λ f s. (s ≡ host.said old) × IsOpening host old name f) moments
@@ -281,7 +293,7 @@ open_at view host install name old new o c at = record {
 
 module _ {D : Type 0} (host : Ghosts D) (c : Commit) (script left : List ℕ) (mid closed : D) (e : Status) where
   abbrev Ends_at : List ℕ → ℕ → List Loss → State Births → Type 0
-  Ends_at name count lost s = SessionEnds host (OpensAs name) (IsNoFileOf name) c (session_over count lost s c script) (session_so_far_over count lost s c) script left mid closed e
+  Ends_at name count lost s = SessionEnds host (OpensAs name) (IsNoFileOf name) c name (session_over count lost s c script) (session_so_far_over count lost s c) script left mid closed e
 
   pub ends_at : (n m : List ℕ) (count : ℕ) (lost : List Loss) (r : Replayed) → n ≡ m → count ≡ r.count → lost ≡ r.lost → Ends_at n count lost r.state → Ends_at m r.count r.lost r.state
   ends_at n m count lost r one two three h = subst (λ (x : List Loss). Ends_at m r.count x r.state) three (subst (λ (x : ℕ). Ends_at m x lost r.state) two (subst (λ (x : List ℕ). Ends_at x count lost r.state) one h))
@@ -336,7 +348,7 @@ module _ (name : List ℕ) (f : Files) (c : Commit) (opens : OpensAs name c f) w
   stored_is x o = one_stored name x (stored_of opens.slot c) f o opens.opens
 
   -- the changes of a commit aren't damaged
-  changes_whole : (x : Stored) (at : ℕ) → Opens name x f → RefusesChanges x.changes x.root (unmade.NotAStore (Changes at)) → ⊥
+  pub changes_whole : (x : Stored) (at : ℕ) → Opens name x f → RefusesChanges x.changes x.root (unmade.NotAStore (Changes at)) → ⊥
   changes_whole x at o why =
       let lists : Lists (entries (all_of c)) (length (entries c.before)) (all_of c) = lists_back (all_of c) (length (entries c.before)) opens.good (stands c) in
       none_wrong (entries (all_of c)) (stored_of opens.slot c).root at (all_of c) lists refl (subst (λ (s : Stored). RefusesChanges s.changes s.root (unmade.NotAStore (Changes at))) (stored_is x o) why)

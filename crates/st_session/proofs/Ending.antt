@@ -6,6 +6,7 @@ use Rattle.st_host.specs.Runs.{SaysAll, IsAtRest}
 use Rattle.st_host.specs.declared.host.Host.{Ghosts}
 use Rattle.st_protocol.specs.declared.status.Status.{Status}
 use Rattle.st_protocol.specs.declared.status.Status.TheVariants as status
+use Rattle.st_store.specs.Faults.{GateFails, RestsUnlessGate}
 use Rattle.st_protocol.specs.Acknowledged.{AcknowledgesEach}
 use Rattle.st_protocol.specs.Courses.{Deed, Reply, Keep, Course, Goes, Ends, deeds_of, said_of, commits_of, last_of, preceded, ended, IsEnd}
 use Rattle.st_protocol.specs.Done.{Did, RestsBetween, RestsWithin, Rests}
@@ -63,6 +64,10 @@ end_is : {C X : Type 0} (c : Course C X) (a b : Status) → IsEnd c a → IsEnd 
 end_is (Goes ds x) a b h k = absurd h
 end_is (Ends ds e) a b h k = h ∙ sym k
 
+-- a gate that failed is that of this store, or the store is at rest
+abbrev OwnGate : {D : Type 0} → Ghosts D → {C : Type 0} → (C → Files → Type 0) → List ℕ → Type 0
+OwnGate {D = D} host {C = C} opens name = IsTrue host.is_told → (other : List ℕ) (k : C) (new : D) → GateFails host opens other k new → RestsUnlessGate host opens name k new
+
 module _ {D : Type 0} (host : Ghosts D) {C : Type 0} (opens : C → Files → Type 0) (spared : List ℕ → Type 0) (c : C) where
   -- a line that was said, as a deed
   pub did_reply : (text : List ℕ) (old new : D) → Tells host text old new (Ok tt) → (IsTrue host.is_told → IsAtRest host opens c old) → Did host opens spared c (Reply text ∷ []) old new
@@ -92,26 +97,31 @@ module _ {D : Type 0} (host : Ghosts D) {C : Type 0} (opens : C → Files → Ty
         over (Ends ds e) (Ok u) ends h calm = absurd h
         over (Ends ds e) (Err d) ends h calm = ⊎_elim (λ f. absurd (calm f.0)) (λ k. (k.0, k.1.all)) h
 
-    -- after a fault of the disk it is at rest, or within a commit
-    broken_of : (ds : List (Deed C)) (new : D) → RestsBetween host opens c ds new ⊎ RestsWithin host opens c ds new → RestsBroken host opens (c ∷ commits_of ds) new
-    broken_of ds new (inl at) = inl (rests_as_one host opens c ds status.Done new not_broken at)
-    broken_of ds new (inr within) =
-        let number = both_are c within.first within.next within.rest in
-        inr (record {
-          number = number.0;
-          commit = last_of c within.first;
-          next = within.next;
-          is_of = ap (λ (x : List (Deed C)). slice_get (c ∷ commits_of x) number.0) within.all ∙ number.1;
-          follows = ap (λ (x : List (Deed C)). slice_get (c ∷ commits_of x) (suc number.0)) within.all ∙ number.2;
-          either = within.either;
-        })
+    module _ (name : List ℕ) (own : OwnGate host opens name) where
+      -- after a fault of the disk it is at rest, or the gate failed within a commit
+      broken_of : (ds : List (Deed C)) (new : D) → IsTrue host.is_told → RestsBetween host opens c ds new ⊎ RestsWithin host opens c ds new → RestsBroken host opens name (c ∷ commits_of ds) new
+      broken_of ds new tells (inl at) = inl (rests_as_one host opens c ds status.Done new not_broken at)
+      broken_of ds new tells (inr within) = ⊎_elim
+          (λ rest. inl (rests_as_one host opens c ds status.Done new not_broken (record { first = within.first; rest = Keep within.next ∷ within.rest; all = within.all; at = rest })))
+          (λ gate.
+          let number = both_are c within.first within.next within.rest in
+          inr (record {
+            number = number.0;
+            commit = last_of c within.first;
+            next = within.next;
+            is_of = ap (λ (x : List (Deed C)). slice_get (c ∷ commits_of x) number.0) within.all ∙ number.1;
+            follows = ap (λ (x : List (Deed C)). slice_get (c ∷ commits_of x) (suc number.0)) within.all ∙ number.2;
+            either = within.either;
+            gate = record { failed = new; fails = gate; behind = record { fewer = λ n c can. can; more = λ n c could. could } };
+          }))
+          (own tells within.name (last_of c within.first) new within.gate)
 
-    broken_at : (x : Course C X) (result : Result Unit Status) (old new : D) → status_in result ≡ status.DiskFault → IsTrue host.is_told → Obeys host opens spared at commit c x result old new
-        → RestsBroken host opens (c ∷ commits_of (deeds_of x)) new
-    broken_at x (Ok u) old new is tells h = absurd (not_broken is)
-    broken_at (Goes ds x) (Err e) old new is tells h = broken_of ds new (subst (λ (d : Status). Rests host opens c ds d new) is (h.1.rests tells))
-    broken_at (Ends ds d) (Err e) old new is tells h =
-        ⊎_elim (λ f. broken_of ds new (subst (λ (d : Status). Rests host opens c ds d new) is (f.1.rests tells))) (λ k. inl (rests_last host opens c ds new (k.1.rest tells))) h
+      broken_at : (x : Course C X) (result : Result Unit Status) (old new : D) → status_in result ≡ status.DiskFault → IsTrue host.is_told → Obeys host opens spared at commit c x result old new
+          → RestsBroken host opens name (c ∷ commits_of (deeds_of x)) new
+      broken_at x (Ok u) old new is tells h = absurd (not_broken is)
+      broken_at (Goes ds x) (Err e) old new is tells h = broken_of ds new tells (subst (λ (d : Status). Rests host opens c ds d new) is (h.1.rests tells))
+      broken_at (Ends ds d) (Err e) old new is tells h =
+          ⊎_elim (λ f. broken_of ds new tells (subst (λ (d : Status). Rests host opens c ds d new) is (f.1.rests tells))) (λ k. inl (rests_last host opens c ds new (k.1.rest tells))) h
 
     is_unread : (result : Result Unit Status) → status_in result ≡ status.ReadFault → IsErrOf result status.ReadFault
     is_unread (Ok u) e = cc
@@ -121,16 +131,16 @@ module _ {D : Type 0} (host : Ghosts D) {C : Type 0} (opens : C → Files → Ty
     is_starved (Ok u) e = cc
     is_starved (Err d) e = ap Err e
 
-    pub ends_of : (result : Result Unit Status) (old new : D) → IsEnded course → AcknowledgesEach (deeds_of course) → Obeys host opens spared at commit c course result old new
+    pub ends_of : (name : List ℕ) → OwnGate host opens name → (result : Result Unit Status) (old new : D) → IsEnded course → AcknowledgesEach (deeds_of course) → Obeys host opens spared at commit c course result old new
         → (IsErrOf result status.ReadFault → DidTold host opens spared c so_far script left old new)
-        → (IsErrOf result status.OutOfMemory → IsTrue host.is_told → RestsAcknowledged host opens (c ∷ commits_of (deeds_of course)) (host.said old) new) → SessionEnds host opens spared c course so_far script left old new (status_in result)
-    ends_of result old new ends law h told starved = record {
+        → (IsErrOf result status.OutOfMemory → IsTrue host.is_told → RestsAcknowledged host opens (c ∷ commits_of (deeds_of course)) (host.said old) new) → SessionEnds host opens spared c name course so_far script left old new (status_in result)
+    ends_of name own result old new ends law h told starved = record {
       whole = whole_of result old new ends h;
       part = λ tells. obeys_says host opens spared at commit c course result old new tells h;
       told = λ e. told (is_unread result e);
       lines = λ none tells. obeys_lines host opens spared at commit c course result old new law (λ e. none (ap status_in e)) tells h;
       starved = λ is. starved (is_starved result is);
-      broken = λ is tells. broken_at course result old new is tells h;
+      broken = λ is tells. broken_at name own course result old new is tells h;
       rests = λ none tells. obeys_rests host opens spared at commit c course result old new (λ e. none (ap status_in e)) tells h;
       moments = λ tells. obeys_promised host opens spared at commit c course result old new law tells h;
       spares = obeys_spares host opens spared at commit c course result old new h;
@@ -150,8 +160,8 @@ module _ {D : Type 0} (host : Ghosts D) {C : Type 0} (opens : C → Files → Ty
     complete_at reads status.TooLarge old new ends cause end calm = inl (end_is course status.TooLarge status.Done (ends (λ x. x)) end)
     complete_at reads status.OutOfMemory old new ends cause end calm = inr refl
 
-    pub complete_of : (reads : Type 0) (e : Status) (old new : D) → SessionEnds host opens spared c course so_far script left old new e → StatusHasCause host reads old new e → IsEnd course status.Done → IsCalm host reads old new → (e ≡ status.Done) ⊎ (e ≡ status.OutOfMemory)
-    complete_of reads e old new ends cause end calm = complete_at reads e old new (λ f. (ends.whole f).0) cause end calm
+    pub complete_of : (name : List ℕ) (reads : Type 0) (e : Status) (old new : D) → SessionEnds host opens spared c name course so_far script left old new e → StatusHasCause host reads old new e → IsEnd course status.Done → IsCalm host reads old new → (e ≡ status.Done) ⊎ (e ≡ status.OutOfMemory)
+    complete_of name reads e old new ends cause end calm = complete_at reads e old new (λ f. (ends.whole f).0) cause end calm
 
 pub cause_of : {D : Type 0} (host : Ghosts D) (reads : Type 0) (old new : D) (result : Result Unit Status) → EndHasCause host reads old new result → StatusHasCause host reads old new (status_in result)
 cause_of host reads old new (Ok u) h = tt

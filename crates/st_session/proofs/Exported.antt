@@ -48,7 +48,7 @@ died_export extent cause c (Died k) w = λ i. record { image = None; text = dead
 died_export extent cause c (Went u s) w = absurd w
 
 -- nothing more was said
-none_more : (before now : List ℕ) → SaidPart before [] now → now ≡ before
+pub none_more : (before now : List ℕ) → SaidPart before [] now → now ≡ before
 none_more before now part =
     let front = front_of before [] now part in
     front.1 ∙ ap (λ (t : List ℕ). before ++ t) (none_in front.0 (front.2).0 (front.2).1) ∙ append-nil before
@@ -185,7 +185,7 @@ done_or_full host old new (Err status.TooLarge) kind h calm = absurd kind
 
 module _ {D : Type 0} (host : Ghosts D) (store image : List ℕ) where
   -- a last line behind them
-  line_behind : (e : Status) (old closed new : D) → host.said closed ≡ host.said old → host.say_faults old ≤ host.say_faults closed → SaysLastLine host e closed new → SaysLastLine host e old new
+  pub line_behind : (e : Status) (old closed new : D) → host.said closed ≡ host.said old → host.say_faults old ≤ host.say_faults closed → SaysLastLine host e closed new → SaysLastLine host e old new
   line_behind e old closed new quiet low line = record {
     part = λ told. subst (λ (t : List ℕ). SaidPart t (last_line e) (host.said new)) quiet (line.part told);
     whole = λ calm told. line.whole (λ rose. calm (rose_second (host.say_faults old) (host.say_faults closed) (host.say_faults new) low rose)) told ∙ ap (λ (t : List ℕ). t ++ last_line e) quiet;
@@ -234,7 +234,7 @@ module _ {D : Type 0} (host : Ghosts D) (store image : List ℕ) where
       chosen = kept.is.roots (f (roots_file s.name)) (can (roots_file s.name) (λ e. apart.roots (sym e ∙ ap roots_file named)));
       sound = kept.is.firm.sound;
       image = kept.is.firm.image (f _) (can _ (λ e. apart.image slot (sym e ∙ ap (λ (n : List ℕ). image_file n slot) named)));
-      changes = kept.is.firm.changes (f _) (can _ (λ e. apart.changes (sym e ∙ ap changes_file named)));
+      changes = kept.is.firm.changes (f _) (can _ (λ e. apart.changes slot (sym e ∙ ap (λ (n : List ℕ). changes_file n slot) named)));
     };
     readable = opened.readable;
     good = opened.good;

@@ -21,7 +21,7 @@ module _ {D : Type 0} (host : Ghosts D) where
       firm = record {
         sound = h.is.firm.sound;
         image = λ c can. h.is.firm.image c (fewer (image_file st.name s.root.slot) c can);
-        changes = λ c can. h.is.firm.changes c (fewer (changes_file st.name) c can);
+        changes = λ c can. h.is.firm.changes c (fewer (changes_file st.name s.root.slot) c can);
       };
     };
   }

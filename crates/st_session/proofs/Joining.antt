@@ -1,5 +1,5 @@
 -- How one call joins the next.
-use Rattle.std.proofs.Common.{ℕ, List, length, IsTrue, refl, sym, subst}
+use Rattle.std.proofs.Common.{◌≡◌, ◌⊎◌, inl, inr, ℕ, List, length, IsTrue, refl, sym, subst}
 use Rattle.st_host.specs.Files.{Files}
 use Rattle.st_host.specs.Runs.{IsAtRest}
 use Rattle.st_host.specs.declared.host.Host.{Ghosts}
@@ -7,11 +7,13 @@ use Rattle.st_model.specs.Image.{image_head}
 use Rattle.st_image.proofs.Begun.{begun}
 use Rattle.st_install.specs.Defining.{installed}
 use Rattle.st_recover.specs.Commits.{Commit, OpensAs}
+use Rattle.st_recover.specs.Condensed.{IsCondensed}
 use Rattle.st_recover.specs.Replays.{replay}
 use Rattle.st_protocol.specs.declared.status.Status.{Status}
 use Rattle.st_session.specs.declared.making.Origin.{Origin}
+use Rattle.st_session.specs.Condensings.{IsWhole}
 use Rattle.st_session.specs.Makings.{Contents, commit_of}
-use Rattle.st_session.specs.Joining.{BeginsWith, MayBegin, RestJoins, SessionJoins, ExportJoins, MakingJoins}
+use Rattle.st_session.specs.Joining.{BeginsWith, MayBegin, RestJoins, SessionJoins, ExportJoins, CondenseJoins, MakingJoins}
 
 -- what some files open as can be begun with, where the store rests as it
 rest_begins : {E : Type 0} (after : Ghosts E) (name : List ℕ) (c : Commit) (f : Files) (h : E) → OpensAs name c f → IsAtRest after (OpensAs name) c h → MayBegin after name c h
@@ -40,6 +42,13 @@ module _ {D E : Type 0} (host : Ghosts D) (after : Ghosts E) where
 
   pub export_joins : ExportJoins host after
   export_joins name c old new stays f s left h begins = opened_begins after name c f h (stays.moments.each f s left) begins
+
+  pub condense_joins : CondenseJoins host after
+  condense_joins name c old new status moments f s left h begins = by (moments.each f s left)
+    where
+      by : IsWhole host name c old status f s → (d : Commit) × (IsCondensed c d ⊎ (d ≡ c)) × MayBegin after name d h
+      by (inl is) = (is.commit, inl is.condenses, opened_begins after name is.commit f h is.opens_as begins)
+      by (inr was) = (c, inr refl, opened_begins after name c f h was.0 begins)
 
   pub making_joins : (origin : Origin) (right : Contents → Type 0) (wrong : Status → Type 0) → MakingJoins host after origin right wrong
   making_joins origin right wrong name c old new moments is f s left said h begins =

@@ -151,8 +151,8 @@ module _ {C : Type 0} where
     until_lawful cycles s c None = said missing_text missing_lines
     until_lawful cycles s c (Some method) = watched_lawful (entry_seen method) (entry_lines method) cycles 0 s c
 
-    looks_lawful : (s : State Births) (c : C) (ask : Ask) → KeepsLaw (replies {C = C} (asked_text (memory_of (show s)) (keeping.listed c) ask) (alive s c))
-    looks_lawful s c ask = let m = memory_of (show s) in said (asked_text m (keeping.listed c) ask) (asked_lines m (keeping.listed c) ask)
+    looks_lawful : (s : State Births) (c : C) (ask : Ask) → KeepsLaw (replies {C = C} (asked_text (memory_of (show s)) (keeping.source (memory_of (show s)) c) ask) (alive s c))
+    looks_lawful s c ask = let m = memory_of (show s) in said (asked_text m (keeping.source m c) ask) (asked_lines m (keeping.source m c) ask)
 
     named_lawful : (s : State Births) (c : C) (ask : Ask) → KeepsLaw (named_course keeping s c ask)
     named_lawful s c (Until cycles side selector) = until_lawful cycles s c (method_of_side (memory_of (show s)) side selector)

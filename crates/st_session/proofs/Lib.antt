@@ -3,6 +3,7 @@ pub mod BrowsedLines
 pub mod Built
 pub mod Called
 pub mod Commanded
+pub mod Condensed
 pub mod Cycles
 pub mod Drilled
 pub mod Ending
@@ -21,7 +22,9 @@ pub mod Responding
 pub mod Rows
 pub mod Saying
 pub mod Snapshots
+pub mod Sourced
 pub mod Sources
+pub mod Written
 pub mod Started
 pub mod Starving
 pub mod Stretches
@@ -31,3 +34,4 @@ pub mod Watches
 pub mod Seen
 pub mod SeenLines
 pub mod WholeLines
+pub mod OneOpening

@@ -10,13 +10,14 @@ use Rattle.st_model.specs.Births.{Births, births}
 use Rattle.st_model.specs.Table.{Table}
 use Rattle.st_model.specs.Show.{Shows, show}
 use Rattle.st_model.specs.Text.{dead_text}
+use Rattle.st_model.specs.View.{View}
 use Rattle.st_host.specs.declared.host.Host.{Ghosts}
 use Rattle.st_host.specs.declared.host.SayFault.{SayFault}
 use Rattle.st_call.specs.Saying.{Pushes}
 use Rattle.st_machine.specs.Asked.{TakenAs}
 use Rattle.st_chunk.specs.declared.request.Request.{Request}
 use Rattle.st_chunk.specs.declared.request.Request.TheVariants as request
-use Rattle.st_chunk.specs.Asks.{Ask, ask_of}
+use Rattle.st_chunk.specs.Asks.{Side, Ask, ask_of}
 use Rattle.st_chunk.specs.declared.ask.Ask.{Ask as DeclaredAsk}
 use Rattle.st_chunk.specs.declared.ask.Ask.TheVariants as declared
 use Rattle.st_chunk.specs.Reading.{Place, Browsed, Defined, CutOff}
@@ -119,7 +120,7 @@ dead_is cause k r e w = refl
 
 -- what isn't to be run up to is looked at
 pub look_is : {C : Type 0} (keeping : Keeping C) (s : State Births) (k : C) (a : DeclaredAsk) → ((n : ℕ) (x : _) (y : _) → a ≡ declared.Until n x y → ⊥)
-    → named_course keeping s k (ask_of a) ≡ replies (asked_text (memory_of (show s)) (keeping.listed k) (ask_of a)) (alive s k)
+    → named_course keeping s k (ask_of a) ≡ replies (asked_text (memory_of (show s)) (keeping.source (memory_of (show s)) k) (ask_of a)) (alive s k)
 look_is keeping s k (declared.Object n) other = refl
 look_is keeping s k declared.Display other = refl
 look_is keeping s k declared.Classes other = refl
@@ -128,3 +129,14 @@ look_is keeping s k (declared.Source side selector) other = refl
 look_is keeping s k (declared.Bytecodes side selector) other = refl
 look_is keeping s k (declared.Senders selector) other = refl
 look_is keeping s k (declared.Until n side selector) other = absurd (other n side selector refl)
+
+-- but where a method's text is asked for, what is shown of one doesn't matter
+pub unsourced : (v : View) (f g : Side → List ℕ → Option (List ℕ)) (a : DeclaredAsk) → ((x : _) (y : _) → a ≡ declared.Source x y → ⊥) → asked_text v f (ask_of a) ≡ asked_text v g (ask_of a)
+unsourced v f g (declared.Object n) other = refl
+unsourced v f g declared.Display other = refl
+unsourced v f g declared.Classes other = refl
+unsourced v f g (declared.Methods side) other = refl
+unsourced v f g (declared.Source side selector) other = absurd (other side selector refl)
+unsourced v f g (declared.Bytecodes side selector) other = refl
+unsourced v f g (declared.Senders selector) other = refl
+unsourced v f g (declared.Until n side selector) other = refl

@@ -1,11 +1,11 @@
 -- What a session says of what it is asked to look at.
-use Rattle.std.proofs.Common.{◌≡◌, List, ℕ, [], Bool, true, false, refl, sym}
+use Rattle.std.proofs.Common.{◌≡◌, List, ℕ, [], Bool, true, false, refl, sym, arith}
 use Rattle.std.specs.Prelude.{Option, Some, None, is_some, unwrap_or, Result, Ok, Err}
 use Rattle.st_model.specs.View.{View}
 use Rattle.st_frames.specs.declared.world.World.{World}
 use Rattle.st_host.specs.declared.host.Host.{Ghosts}
 use Rattle.st_host.specs.declared.host.SayFault.{SayFault}
-use Rattle.st_host.specs.Counts.{HasCause}
+use Rattle.st_host.specs.Counts.{HasCause, Rose}
 use Rattle.st_host.specs.Runs.{SaysAll}
 use Rattle.st_host.specs.Telling.{Says}
 use Rattle.st_host.proofs.Telling.{says_begun}
@@ -32,6 +32,16 @@ memory_is v f w ready = λ i. record {
   head = v.head;
 }
 
+module _ {D : Type 0} (host : Ghosts D) where
+  failed : (text : List ℕ) (old new : D) → Says host text old new → Rose (host.say_faults old) (host.say_faults new) → Tells host text old new (Err status.SayFault)
+  failed text old new says rose = record {
+    all = tt;
+    says = says;
+    fault = refl;
+    counts = record { disk = omega (arith, says.disk_count); say = says.part.say; cause = rose };
+    served = tt;
+  }
+
 module _ {D : Type 0} (host : Ghosts D) (missing : List ℕ) where
   -- what is asked for is there, and was said
   pub there_said : (o : Option (List ℕ)) (old new : D) → is_some o ≡ true → SaysAll host (unwrap_or o []) old new → Says host (unwrap_or o []) old new → Tells host (unwrap_or o missing) old new (Ok tt)
@@ -49,3 +59,8 @@ module _ {D : Type 0} (host : Ghosts D) (missing : List ℕ) where
       → Tells host (unwrap_or o missing) old new (Err status.SayFault)
   fault_said None old new fault says cause = tells_part host missing old new fault (says_begun missing says refl) (record { later = cause.later; rose = cause.rose })
   fault_said (Some text) old new fault says cause = tells_part host text old new fault says (record { later = cause.later; rose = cause.rose })
+
+  -- the output failed
+  pub unsaid : (o : Option (List ℕ)) (old new : D) → Says host (unwrap_or o []) old new → Rose (host.say_faults old) (host.say_faults new) → Tells host (unwrap_or o missing) old new (Err status.SayFault)
+  unsaid None old new says rose = failed host missing old new (says_begun missing says refl) rose
+  unsaid (Some text) old new says rose = failed host text old new says rose

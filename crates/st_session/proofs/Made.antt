@@ -10,6 +10,8 @@ use Rattle.st_host.specs.declared.host.Host.{Ghosts}
 use Rattle.st_host.proofs.Joining.{weaker, moments_join}
 use Rattle.st_host.proofs.Rising.{rose_second}
 use Rattle.st_chunk.specs.Definitions.{IsDefinition}
+use Rattle.st_store.specs.Faults.{RestsUnlessLetters}
+use Rattle.st_store.specs.Founding.{IsCleared}
 use Rattle.st_store.specs.Names.{roots_file}
 use Rattle.st_store.specs.Roots.{HasLetters}
 use Rattle.st_store.specs.Stored.{StoreState, IsKept}
@@ -27,6 +29,7 @@ use Rattle.st_call.specs.LastLines.{last_line, SaysLastLine}
 use Rattle.st_call.specs.Refusals.{store_status}
 use Rattle.st_session.specs.Commands.{LeavesAlone}
 use Rattle.st_session.specs.Makings.{Contents, commit_of, made_text, IsThere, IsUnread, IsMadeOf, MakingHas, IsMaking, IsUnbegun, KeepsFiles, MakingEnds}
+use Rattle.st_session.specs.Resting.{LettersFailed}
 use Rattle.st_session.proofs.LastLines.{part_not_made, none_not_made}
 
 -- a store at rest opens as what it holds, where its image can be read
@@ -124,12 +127,16 @@ module _ {D : Type 0} (host : Ghosts D) (origin : Origin) (c : Contents) (store 
           fewer = λ told n x can. narrows.fewer told n x ((line.stops told).fewer n x can);
         }
 
-    pub failed_ends : (e : Status) (new : D) → e ≡ store_status fault → (fault ≡ unmade.Disk → Rose (host.disk_faults old) (host.disk_faults made))
+    pub failed_ends : (IsTrue host.is_told → RestsUnlessLetters host {C = Unit} (λ u f. IsCleared host store old f) store tt made) → (e : Status) (new : D) → e ≡ store_status fault → (fault ≡ unmade.Disk → Rose (host.disk_faults old) (host.disk_faults made))
         → ((fault ≡ unmade.Disk → ⊥) → Narrows host old made) → SaysLastLine host e made new → ReadsAndSays host (last_line e) made new → ReadsAlike host made new → host.disk_faults new ≡ host.disk_faults made → Ends new e
-    failed_ends e new is cause nothing says line alike disk = record {
+    failed_ends broken e new is cause nothing says line alike disk = record {
       has = failed_has e new is (line_behind host e old made new tries.quiet tries.say says);
       moments = λ told. moments_join host old made new At (WhileSaying (host.may_leave made) (host.said made) (last_line e)) (tried_moments told) (line.moments told)
           (λ f s w. made_from f s (tries.left f told w.0) (part_not_made origin c e (host.said old) s (subst (λ (t : List ℕ). SaidPart t (last_line e) s) (tries.quiet told) w.1)));
+      broken = λ fault told. ⊎_elim
+          (λ rest. inl (λ f can. rest.opens_as f (λ n. (line.stops told).fewer n (f n) (can n))))
+          (λ letters. inr (record { failed = made; fails = letters; behind = line.stops told }))
+          (broken told);
       unbegun = failed_unbegun e new is nothing line alike disk;
       alone = alone_with new (last_line e) alike line;
       complete = λ told x same none calm say. failed_whole e is cause told none (λ rose. calm (subst (Rose (host.disk_faults old)) (sym disk) rose));
@@ -161,6 +168,7 @@ module _ {D : Type 0} (host : Ghosts D) (origin : Origin) (c : Contents) (store 
     done_ends all = record {
       has = λ told. (c, is_made told, all.is told ∙ ap (λ (t : List ℕ). t ++ made_text origin c) (tries.quiet told));
       moments = done_moments;
+      broken = λ fault told. let e : status.Done ≡ status.DiskFault = fault in cc;
       unbegun = λ none. absurd none;
       alone = alone_with new (made_text origin c) says.alike says.part;
       complete = λ told x same none calm say. inl refl;
@@ -170,6 +178,7 @@ module _ {D : Type 0} (host : Ghosts D) (origin : Origin) (c : Contents) (store 
     unsaid_ends rose = record {
       has = λ told. (c, is_made told, subst (λ (t : List ℕ). SaidPart t (made_text origin c) (host.said new)) (tries.quiet told) (says.part.part told));
       moments = done_moments;
+      broken = λ fault told. let e : status.SayFault ≡ status.DiskFault = fault in cc;
       unbegun = λ none. absurd none;
       alone = alone_with new (made_text origin c) says.alike says.part;
       complete = λ told x same none calm say. absurd (say (subst (λ n. Rose n (host.say_faults new)) tries.say rose));
@@ -222,6 +231,7 @@ module _ {D : Type 0} (host : Ghosts D) (origin : Origin) (right : Contents → 
     moments = λ told. moments_join host old mid new (IsMaking host origin right wrong store old) (WhileSaying (host.may_leave mid) (host.said mid) (last_line e)) (read_moments told) (line.moments told)
         (λ f s w. untouched f s (λ n. (reads.stops told).fewer n (f n) (w.0 n))
         (λ c. part_not_made origin c e (host.said old) s (subst (λ (t : List ℕ). SaidPart t (last_line e) s) (reads.quiet told) w.1)));
+    broken = λ fault told. inl (λ f can. inl (λ n. (reads.stops told).fewer n (f n) ((line.stops told).fewer n (f n) (can n))));
     unbegun = λ none. record {
       alike = λ calm told n. alike.same told n ∙ (reads.alike (λ rose. calm (subst (Rose (host.disk_faults old)) (sym disk) rose))).same told n;
       fewer = λ told n x can. (reads.stops told).fewer n x ((line.stops told).fewer n x can);
@@ -248,6 +258,24 @@ module _ {D : Type 0} (host : Ghosts D) (origin : Origin) (right : Contents → 
 
     none_behind : IsTrue host.is_told → (IsThere host store old → ⊥) → IsThere host store mid → ⊥
     none_behind told none h = none (there_before told h)
+
+    cleared_before : IsTrue host.is_told → (f : Files) → IsCleared host store mid f → IsCleared host store old f
+    cleared_before told f (inl can) = inl (λ n. (reads.stops told).fewer n (f n) (can n))
+    cleared_before told f (inr none) = inr (none_before told none.0, none.1)
+
+    broken_behind : IsTrue host.is_told → ((f : Files) → ((n : List ℕ) → host.may_leave new n (f n)) → IsCleared host store mid f) ⊎ LettersFailed host {C = Unit} (λ u f. IsCleared host store mid f) store tt new
+        → ((f : Files) → ((n : List ℕ) → host.may_leave new n (f n)) → IsCleared host store old f) ⊎ LettersFailed host {C = Unit} (λ u f. IsCleared host store old f) store tt new
+    broken_behind told (inl rest) = inl (λ f can. cleared_before told f (rest f can))
+    broken_behind told (inr letters) = inr (record {
+      failed = letters.failed;
+      fails = record {
+        before = letters.fails.before;
+        rest = record { opens_as = λ f can. cleared_before told f (letters.fails.rest.opens_as f can) };
+        writes = letters.fails.writes;
+        fault = letters.fails.fault;
+      };
+      behind = letters.behind;
+    })
 
     made_behind : IsTrue host.is_told → (c : Contents) → IsMadeOf host origin read (λ e. ⊥) store c mid new → IsMadeOf host origin right wrong store c old new
     made_behind told c made = record { read = so told c made.read; none = none_before told made.none; files = made.files; rest = made.rest }
@@ -282,6 +310,7 @@ module _ {D : Type 0} (host : Ghosts D) (origin : Origin) (right : Contents → 
     read_ends e ends = record {
       has = has_behind e ends.has;
       moments = λ told. moments_join host old mid new (IsMaking host origin right wrong store old) (IsMaking host origin read (λ e. ⊥) store mid) (read_moments told) (ends.moments told) (while_made told);
+      broken = λ fault told. broken_behind told (ends.broken fault told);
       unbegun = λ none. let kept = ends.unbegun none in record {
         alike = λ calm told n. kept.alike (λ rose. calm (rose_second (host.disk_faults old) (host.disk_faults mid) (host.disk_faults new) reads.disk rose)) told n ∙ alike.same told n;
         fewer = λ told n x can. (reads.stops told).fewer n x (kept.fewer told n x can);

@@ -17,6 +17,7 @@ use Rattle.st_image.specs.Back.{CanStart}
 use Rattle.st_image.proofs.Saved.{saved_starts}
 use Rattle.st_machine.specs.declared.machine.Machine.{Machine}
 use Rattle.st_machine.specs.Asked.{SavedAs}
+use Rattle.st_store.specs.Faults.{RestsUnlessGate}
 use Rattle.st_store.specs.Names.{IsNoFileOf}
 use Rattle.st_protocol.specs.declared.status.Status.{Status}
 use Rattle.st_protocol.specs.declared.status.Status.TheVariants as status
@@ -54,9 +55,9 @@ module _ {D : Type 0} (host : Ghosts D) (opens : Commit → Files → Type 0) (s
       subst (λ (x : Status). Obeys host opens spared at (λ (d : Commit). d) c (imaging c image) (Err x) old new) (sym tells.fault)
       (tt, kept_unsaid host opens spared {R = R} {E = E} c (imaged c image) (snapshot_text (length image)) old mid new value makes spares tells.says)
 
-  pub image_unkept : (old new : D) (result : Result R E) → (IsTrue host.is_told → Makes host opens c (imaged c image) old new result) → Spares host spared old new
+  pub image_unkept : (name : List ℕ) (old new : D) (result : Result R E) → (IsTrue host.is_told → Makes host opens c (imaged c image) old new result) → (IsTrue host.is_told → RestsUnlessGate host opens name c new) → Spares host spared old new
       → Obeys host opens spared at (λ (d : Commit). d) c (imaging c image) (Err status.DiskFault) old new
-  image_unkept old new result makes spares = (tt, image_lost host opens spared c (imaged c image) (snapshot_text (length image)) old new result makes spares)
+  image_unkept name old new result makes broken spares = (tt, image_lost host opens spared c (imaged c image) (snapshot_text (length image)) name old new result makes broken spares)
 
 -- A SNAPSHOT
 

@@ -10,10 +10,14 @@ use Rattle.st_scan.specs.Views.{MethodView}
 use Rattle.st_chunk.specs.Definitions.{Definition}
 use Rattle.st_chunk.specs.Asks.{Side, Ask, Object, Display, Classes, Methods, Source, Bytecodes, Senders, Until}
 use Rattle.st_changes.specs.Last.{HasSelector, IsOf, IsNowhere, IsLastText}
+use Rattle.st_model.specs.View.{View}
 use Rattle.st_browse.specs.Asked.{IsTextFor}
+use Rattle.st_browse.specs.Decompiling.{IsKeptOrMade, IsShown}
+use Rattle.st_session.specs.Decompiled.{made_text}
+use Rattle.st_session.proofs.Written.{made_is}
 use Rattle.st_install.specs.Syntax.{IsSyntax, syntax}
 use Rattle.st_install.proofs.Syntaxes.{is, only}
-use Rattle.st_session.specs.Sources.{selector_of, is_named, is_of, or_earlier, last_text, text_for}
+use Rattle.st_session.specs.Sources.{selector_of, is_named, is_of, or_earlier, last_text, kept_text, or_made, shown_text, text_for}
 
 none_of : (P : Definition → Type 0) → All P []
 none_of P k x less = absurd (omega (arith, less))
@@ -71,7 +75,7 @@ module _ (side : Side) (selector : List ℕ) where
   last_is [] = none_of (λ x. IsOf side.class side.meta selector x → ⊥)
   last_is (d ∷ ds) = with_one d ds (last_text side selector ds) (is_of side selector d) refl (last_is ds)
 
-pub text_is : (ds : List Definition) (ask : Ask) → IsTextFor ds ask (text_for ds ask)
+pub text_is : (ds : List Definition) (ask : Ask) → IsTextFor ds ask (text_for (kept_text ds) ask)
 text_is ds (Object pointer) = tt
 text_is ds Display = tt
 text_is ds Classes = tt
@@ -80,3 +84,11 @@ text_is ds (Source side selector) = last_is side selector ds
 text_is ds (Bytecodes side selector) = tt
 text_is ds (Senders selector) = tt
 text_is ds (Until cycles side selector) = tt
+
+-- the text that is kept, or else one that is made of the code
+pub shown_is : (v : View) (ds : List Definition) (side : Side) (selector : List ℕ) → IsShown v ds side selector (shown_text v ds side selector)
+shown_is v ds side selector = record { kept = last_text side selector ds; is_kept = last_is side selector ds; is_shown = by (last_text side selector ds) }
+  where
+    by : (kept : Option (List ℕ)) → IsKeptOrMade v side selector kept (or_made kept (made_text v side selector))
+    by (Some text) = refl
+    by None = made_is v side selector

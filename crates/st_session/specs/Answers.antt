@@ -84,7 +84,7 @@ module _ {C : Type 0} where
     -- a line that names what it asks for, where the machine isn't dead
     abbrev pub named_course : State Births → C → Ask → Course C (Point C)
     named_course s c (Until cycles side selector) = until_course cycles s c (method_of_side (memory_of (show s)) side selector)
-    named_course s c ask = replies (asked_text (memory_of (show s)) (keeping.listed c) ask) (alive s c)
+    named_course s c ask = replies (asked_text (memory_of (show s)) (keeping.source (memory_of (show s)) c) ask) (alive s c)
 
     abbrev pub browse_course : Being → C → Ask → Course C (Point C)
     browse_course (Alive s) c ask = named_course s c ask

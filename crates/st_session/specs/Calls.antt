@@ -11,11 +11,12 @@ use Rattle.st_session.specs.Builds.{BuildEnds}
 use Rattle.st_session.specs.Drills.{DrillEnds}
 use Rattle.st_call.specs.LastLines.{SaysLastLine}
 use Rattle.st_session.specs.Commands.{OnceEnds}
+use Rattle.st_session.specs.Condensings.{CondenseEnds}
 use Rattle.st_session.specs.Exports.{ExportEnds}
 use Rattle.st_session.specs.declared.extent.Extent.TheVariants.{Kept, Reachable}
 use Rattle.st_session.specs.Imports.{ImportEnds}
 use Rattle.st_session.specs.StoreSessions.{SessionCommandEnds}
-use Rattle.st_call.specs.Words.{Command, command_of, Once, Import, Export, Clean, Session, Build, Drill}
+use Rattle.st_call.specs.Words.{Command, command_of, Once, Import, Export, Clean, Condense, Session, Build, Drill}
 
 -- a command that writes no file, or no command
 abbrev pub OnlySays : Option Command → Type 0
@@ -24,6 +25,7 @@ OnlySays (Some (Once image cycles)) = ⊤
 OnlySays (Some (Import image store over)) = ⊥
 OnlySays (Some (Export store image)) = ⊥
 OnlySays (Some (Clean store image)) = ⊥
+OnlySays (Some (Condense store)) = ⊥
 OnlySays (Some (Session store)) = ⊥
 OnlySays (Some (Build kernel store)) = ⊥
 OnlySays (Some (Drill number)) = ⊤
@@ -36,6 +38,7 @@ pub record CallEnds {D : Type 0} (host : Ghosts D) (words : List (List ℕ)) (re
   pub imports : (image store : List ℕ) (over : HeadValues) → command_of words ≡ Some (Import image store over) → ImportEnds host over (bytes_of (host.files old image)) store old new end
   pub exports : (store image : List ℕ) → command_of words ≡ Some (Export store image) → ExportEnds host Kept store image old new end
   pub cleans : (store image : List ℕ) → command_of words ≡ Some (Clean store image) → ExportEnds host Reachable store image old new end
+  pub condenses : (store : List ℕ) → command_of words ≡ Some (Condense store) → CondenseEnds host store old new end
   pub session : (store : List ℕ) → command_of words ≡ Some (Session store) → SessionCommandEnds host store read reads script left old new end
   pub builds : (kernel store : List ℕ) → command_of words ≡ Some (Build kernel store) → BuildEnds host (bytes_of (host.files old kernel)) store old new end
   pub drills : (n : ℕ) → command_of words ≡ Some (Drill n) → DrillEnds host n old new end

@@ -45,9 +45,9 @@ module _ {D : Type 0} (host : Ghosts D) where
       pub all : asked ≡ first ++ rest
       pub did : Did host opens spared c (deeds_of (course first)) old new
 
-    -- A session of this course, over a store that opens as commit c; `so_far` is its course after the first bytes of the script,
-    -- and `left` are the bytes that the source still has.
-    pub record SessionEnds {X Y : Type 0} (course : Course C X) (so_far : List ℕ → Course C Y) (script left : List ℕ) (old new : D) (status : Status) : Type 0 where
+    -- A session of this course, over the store of this name, which opens as commit c; `so_far` is its course after the first bytes of
+    -- the script, and `left` are the bytes that the source still has.
+    pub record SessionEnds {X Y : Type 0} (name : List ℕ) (course : Course C X) (so_far : List ℕ → Course C Y) (script left : List ℕ) (old new : D) (status : Status) : Type 0 where
       -- where no fault comes, the status is the session's, and all of its replies were said
       pub whole : (IsFault status → ⊥) → IsEnd course status × SaysAll host (said_of (deeds_of course)) old new
       -- whatever the status, no more was said than some first bytes of its replies
@@ -60,8 +60,8 @@ module _ {D : Type 0} (host : Ghosts D) where
       pub rests : (status ≡ DiskFault → ⊥) → IsTrue host.is_told → RestsAsOne host opens (c ∷ commits_of (deeds_of course)) new
       -- where there was no memory, as the one whose number is that of those acknowledged
       pub starved : status ≡ OutOfMemory → IsTrue host.is_told → RestsAcknowledged host opens (c ∷ commits_of (deeds_of course)) (host.said old) new
-      -- after a fault of the disk as one of them, or as one of two that follow each other
-      pub broken : status ≡ DiskFault → IsTrue host.is_told → RestsBroken host opens (c ∷ commits_of (deeds_of course)) new
+      -- after a fault of the disk as one of them, or, only where the gate failed, as one of two that follow each other
+      pub broken : status ≡ DiskFault → IsTrue host.is_told → RestsBroken host opens name (c ∷ commits_of (deeds_of course)) new
       -- at each moment the files open as the commit whose number is that of the commits acknowledged by then, or as the next
       pub moments : IsTrue host.is_told → LeavesOnly host old new (Promised opens (c ∷ commits_of (deeds_of course)) (host.said old))
       -- no other file was touched

@@ -1,5 +1,5 @@
 -- How one call joins the next: what a call leaves, after any stop, meets what the next one asks for.
-use Rattle.std.specs.Prelude.{◌≡◌, ◌++◌, ℕ, List, Option, IsTrue}
+use Rattle.std.specs.Prelude.{◌≡◌, ◌⊎◌, ◌++◌, ℕ, List, Option, IsTrue}
 use Rattle.st_host.specs.Files.{Files}
 use Rattle.st_host.specs.Runs.{LeavesOnly, IsAtRest}
 use Rattle.st_host.specs.declared.host.Host.{Ghosts}
@@ -7,9 +7,11 @@ use Rattle.st_protocol.specs.declared.status.Status.{Status}
 use Rattle.st_protocol.specs.Acknowledged.{Promised}
 use Rattle.st_install.specs.Defining.{installed}
 use Rattle.st_recover.specs.Commits.{Commit, OpensAs}
+use Rattle.st_recover.specs.Condensed.{IsCondensed}
 use Rattle.st_recover.specs.Openings.{Reopens}
 use Rattle.st_recover.specs.Replays.{Replayed}
 use Rattle.st_session.specs.declared.making.Origin.{Origin}
+use Rattle.st_session.specs.Condensings.{IsWhole}
 use Rattle.st_session.specs.Exports.{Stays}
 use Rattle.st_session.specs.Makings.{Contents, commit_of, made_text, IsMaking}
 use Rattle.st_session.specs.StoreSessions.{KeepsPromise}
@@ -41,6 +43,12 @@ module _ {D E : Type 0} (host : Ghosts D) (after : Ghosts E) where
   abbrev pub ExportJoins : Type 0
   ExportJoins = (name : List ℕ) (c : Commit) (old new : D) → Stays host name c old new
       → (f : Files) (s : List ℕ) → host.left_since new (host.moment old) f s → (h : E) → BeginsWith after h f → MayBegin after name c h
+
+  -- behind a condense that a stop ended, at any moment: with the commit condensed, or as it was
+  abbrev pub CondenseJoins : Type 0
+  CondenseJoins = (name : List ℕ) (c : Commit) (old new : D) (status : Status) → LeavesOnly host old new (IsWhole host name c old status)
+      → (f : Files) (s : List ℕ) → host.left_since new (host.moment old) f s → (h : E) → BeginsWith after h f
+      → (d : Commit) × (IsCondensed c d ⊎ (d ≡ c)) × MayBegin after name d h
 
   -- behind the making of a store of what is right, once it was said that it is made
   abbrev pub MakingJoins : Origin → (Contents → Type 0) → (Status → Type 0) → Type 0

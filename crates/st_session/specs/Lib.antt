@@ -1,9 +1,10 @@
 pub mod Pushing
 pub mod Runs
 pub mod Points
-pub mod Keeping
 pub mod FirstLines
+pub mod Decompiled
 pub mod Sources
+pub mod Keeping
 pub mod Browsing
 pub mod Asking
 pub mod Watching
@@ -23,6 +24,8 @@ pub mod Builds
 pub mod Drills
 pub mod StoreSessions
 pub mod Exports
+pub mod Condensings
 pub mod Joining
+pub mod OneOpening
 pub mod Calls
 pub mod Reports

@@ -12,7 +12,7 @@ use Rattle.st_model.specs.Text.{numbers_text}
 use Rattle.st_model.specs.View.{View}
 use Rattle.st_store.specs.Names.{roots_file}
 use Rattle.st_store.specs.Roots.{HasLetters}
-use Rattle.st_store.specs.Founding.{IsNoStore}
+use Rattle.st_store.specs.Founding.{IsNoStore, IsCleared}
 use Rattle.st_store.specs.declared.fault.StoreFault.TheVariants.{Exists}
 use Rattle.st_protocol.specs.declared.status.Status.{Status}
 use Rattle.st_protocol.specs.declared.status.Status.TheVariants.{Done, SayFault, DiskFault, Store, OutOfMemory}
@@ -22,6 +22,7 @@ use Rattle.st_session.specs.declared.making.Origin.{Origin}
 use Rattle.st_session.specs.declared.making.Origin.TheVariants.{Image, Kernel}
 use Rattle.st_call.specs.LastLines.{SaysLastLine}
 use Rattle.st_session.specs.Commands.{LeavesAlone}
+use Rattle.st_session.specs.Resting.{LettersFailed}
 
 -- What a store is made of: the objects of an image, under its head.
 pub record Contents : Type 0 where
@@ -104,6 +105,10 @@ module _ {D : Type 0} (host : Ghosts D) (origin : Origin) (right : Contents → 
   pub record MakingEnds (old new : D) (status : Status) : Type 0 where
     pub has : MakingHas old new status
     pub moments : IsTrue host.is_told → LeavesOnly host old new (IsMaking old)
+    -- after a fault of the disk a stop may leave what it could leave before, or files that are no store's, unless the letters failed
+    pub broken : status ≡ DiskFault → IsTrue host.is_told
+        → ((f : Files) → ((n : List ℕ) → host.may_leave new n (f n)) → IsCleared host store old f)
+        ⊎ LettersFailed host {C = Unit} (λ u f. IsCleared host store old f) store tt new
     -- what is refused, also for want of memory, was not begun
     pub unbegun : IsUnbegun status → KeepsFiles host old new
     -- files but the three that a new store has

@@ -2,26 +2,44 @@
 use Rattle.std.specs.Prelude.{◌≡◌, ◌⊎◌, ℕ, suc, List, ◌++◌, slice_get, Some}
 use Rattle.st_host.specs.Files.{Files}
 use Rattle.st_host.specs.Runs.{IsAtRest}
+use Rattle.st_host.specs.Stops.{SameStops}
 use Rattle.st_host.specs.declared.host.Host.{Ghosts}
+use Rattle.st_store.specs.Faults.{FailsAt}
 use Rattle.st_protocol.specs.Acknowledged.{acknowledged}
 use Rattle.st_protocol.specs.Done.{RestsAsOne}
 
-module _ {D : Type 0} (host : Ghosts D) {C : Type 0} (opens : C → Files → Type 0) (commits : List C) where
-  -- each state that a stop may leave opens as one of two commits, of which the second follows the first
-  pub record RestsAsEither (new : D) : Type 0 where
+module _ {D : Type 0} (host : Ghosts D) {C : Type 0} (opens : C → Files → Type 0) where
+  -- A write of n bytes at a place of the roots file failed, or its sync, where files opened as this, and behind that no file was
+  -- touched.
+  pub record HasFailed (at n : ℕ) (name : List ℕ) (c : C) (new : D) : Type 0 where
+    pub failed : D
+    pub fails : FailsAt host at n opens name c failed
+    pub behind : SameStops (host.may_leave failed) (host.may_leave new)
+
+  -- that of the gate, or of the eight letters
+  abbrev pub GateFailed : List ℕ → C → D → Type 0
+  GateFailed name c new = HasFailed 8 1 name c new
+
+  abbrev pub LettersFailed : List ℕ → C → D → Type 0
+  LettersFailed name c new = HasFailed 0 8 name c new
+
+  -- Each state that a stop may leave opens as one of two commits, of which the second follows the first: as the second was made the
+  -- gate failed.
+  pub record RestsAsEither (name : List ℕ) (commits : List C) (new : D) : Type 0 where
     pub number : ℕ
     pub commit : C
     pub next : C
     pub is_of : slice_get commits number ≡ Some commit
     pub follows : slice_get commits (suc number) ≡ Some next
     pub either : (f : Files) → ((n : List ℕ) → host.may_leave new n (f n)) → opens commit f ⊎ opens next f
+    pub gate : GateFailed name commit new
 
-  -- as one of the commits, or as one of two, as after a fault of the disk that came while the second was made
-  abbrev pub RestsBroken : D → Type 0
-  RestsBroken new = RestsAsOne host opens commits new ⊎ RestsAsEither new
+  -- as one of the commits, or, only where the gate failed as a commit was made, as that or as the one before it
+  abbrev pub RestsBroken : List ℕ → List C → D → Type 0
+  RestsBroken name commits new = RestsAsOne host opens commits new ⊎ RestsAsEither name commits new
 
   -- as the commit whose number is that of the commits acknowledged since this was said
-  pub record RestsAcknowledged (said : List ℕ) (new : D) : Type 0 where
+  pub record RestsAcknowledged (commits : List C) (said : List ℕ) (new : D) : Type 0 where
     pub words : List ℕ
     pub said_is : host.said new ≡ said ++ words
     pub commit : C

@@ -1,11 +1,13 @@
--- The text that a session shows of a method: that of its last definition among those that are kept.
+-- The text that a session shows of a method: that of its last definition among those that are kept, or else one that is made of its code.
 use Rattle.std.specs.Prelude.{ℕ, Bool, false, ◌&&◌, bytes_eq, List, [], ◌∷◌, Option, Some, None, Result, Ok, Err, if◌then◌else◌}
 use Rattle.std.specs.Bool.{beq}
+use Rattle.st_model.specs.View.{View}
 use Rattle.st_scan.specs.declared.fault.Fault.{Fault}
 use Rattle.st_scan.specs.Views.{MethodView}
 use Rattle.st_chunk.specs.Definitions.{Definition}
 use Rattle.st_chunk.specs.Asks.{Side, Ask, Source}
 use Rattle.st_install.specs.Syntax.{syntax}
+use Rattle.st_session.specs.Decompiled.{made_text}
 
 -- the selector of a method's tree, if there is one
 abbrev pub selector_of : Result MethodView Fault → Option (List ℕ)
@@ -30,7 +32,19 @@ abbrev pub last_text : Side → List ℕ → List Definition → Option (List �
 last_text side selector [] = None
 last_text side selector (d ∷ ds) = or_earlier (last_text side selector ds) (if is_of side selector d then Some d.text else None)
 
--- where a source is asked for
-abbrev pub text_for : List Definition → Ask → Option (List ℕ)
-text_for ds (Source side selector) = last_text side selector ds
-text_for ds ask = None
+-- where these definitions are kept
+abbrev pub kept_text : List Definition → Side → List ℕ → Option (List ℕ)
+kept_text ds side selector = last_text side selector ds
+
+abbrev pub or_made : (kept made : Option (List ℕ)) → Option (List ℕ)
+or_made (Some text) made = Some text
+or_made None made = made
+
+-- the text that is kept, or else one that is made
+abbrev pub shown_text : View → List Definition → Side → List ℕ → Option (List ℕ)
+shown_text v ds side selector = or_made (kept_text ds side selector) (made_text v side selector)
+
+-- where a source is asked for, and such texts are shown
+abbrev pub text_for : (Side → List ℕ → Option (List ℕ)) → Ask → Option (List ℕ)
+text_for source (Source side selector) = source side selector
+text_for source ask = None

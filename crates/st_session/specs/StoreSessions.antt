@@ -4,8 +4,9 @@ use Rattle.st_host.specs.Files.{Files}
 use Rattle.st_host.specs.Runs.{LeavesOnly, ReadsAndSays, NarrowsBut, Spares, IsAtRest}
 use Rattle.st_host.specs.Stops.{SaidPart}
 use Rattle.st_host.specs.declared.host.Host.{Ghosts}
+use Rattle.st_store.specs.Faults.{Settles}
 use Rattle.st_store.specs.Names.{roots_file, IsNoFileOf}
-use Rattle.st_store.specs.Stored.{Stored, Opens, IsOpening}
+use Rattle.st_store.specs.Stored.{Stored, Opens, IsOpening, IsReady}
 use Rattle.st_store.specs.declared.fault.StoreFault.TheVariants as store
 use Rattle.st_protocol.specs.declared.status.Status.{Status}
 use Rattle.st_protocol.specs.declared.status.Status.TheVariants.{Done, Usage, Image, DiskFault, Store, Kernel, OutOfMemory}
@@ -64,6 +65,11 @@ module _ {D : Type 0} (host : Ghosts D) (name : List ℕ) where
     pub elsewhere : LeavesOnly host old new (λ f s. (n : List ℕ) → n ≢ roots_file name → host.may_leave old n (f n))
     -- where the image or the changes are refused, each state that a stop may leave behind it opens as what was read
     pub rests : IsOfNamed fault → (c : Stored) → Opens name c (host.files old) → IsAtRest host (Opens name) c new
+    -- Where all that a root names which could be chosen is firm: no more than the first sync of the roots file was tried, or from that
+    -- sync on there is one answer. Behind the opening nothing is done but that the last line is said.
+    pub opened : D
+    pub settles : IsReady host old name → Settles host name old opened
+    pub behind : ReadsAndSays host (last_line status) opened new
     pub spares : Spares host (IsNoFileOf name) old new
 
   -- The store is opened as the commit that its files hold, and a session over this goes on, from where nothing was said yet. The
@@ -80,19 +86,19 @@ module _ {D : Type 0} (host : Ghosts D) (name : List ℕ) where
     pub meanwhile : LeavesOnly host old opened (λ f s. (s ≡ host.said old) × IsOpening host old name f)
     pub closed : D
     pub counts : NoCountFell host opened closed
-    pub ends : SessionEnds host (OpensAs name) (IsNoFileOf name) commit (course_over commit replayed script)
+    pub ends : SessionEnds host (OpensAs name) (IsNoFileOf name) commit name (course_over commit replayed script)
         (session_so_far_over replayed.count replayed.lost replayed.state commit) script left opened closed status
     -- behind the session nothing else is done
     pub line : SaysLastLine host status closed new
     pub behind : ReadsAndSays host (last_line status) closed new
 
   -- At each moment the files open as the commit whose number is that of the commits acknowledged by then, or as the next. Behind
-  -- it each state that a stop may leave opens as one of them, or, where a fault of the disk came, as one of two that follow each
-  -- other. Where there was no memory it opens as the one whose number is that of the commits acknowledged: nothing else is kept.
+  -- it each state that a stop may leave opens as one of them, or, only where a fault of the disk came as the gate was written or synced,
+  -- as one of two that follow each other. Where there was no memory it opens as the one whose number is that of the commits acknowledged: nothing else is kept.
   pub record KeepsPromise (commits : List Commit) (old new : D) (status : Status) : Type 0 where
     pub moments : LeavesOnly host old new (Promised (OpensAs name) commits (host.said old))
     pub rests : (status ≡ DiskFault → ⊥) → RestsAsOne host (OpensAs name) commits new
-    pub broken : status ≡ DiskFault → RestsBroken host (OpensAs name) commits new
+    pub broken : status ≡ DiskFault → RestsBroken host (OpensAs name) name commits new
     pub starved : status ≡ OutOfMemory → RestsAcknowledged host (OpensAs name) commits (host.said old) new
 
   -- How the command session ends, over the bytes of the script, of which the source still has `left`. `read` says that it tells

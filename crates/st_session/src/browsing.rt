@@ -1,24 +1,26 @@
 ghost use Rattle.std.specs.Prelude.{◌≡◌, IfErr, IsErrOf, None, OnOk};
-ghost use Rattle.st_chunk.specs.Asks.{ask_of};
+ghost use Rattle.st_chunk.specs.Asks.{Source, ask_of, side_of};
 ghost use Rattle.st_protocol.specs.Statuses.{Counts};
 ghost use Rattle.st_protocol.specs.declared.status.Status.TheVariants.{OutOfMemory};
 ghost use Rattle.st_session.specs.Answers.{browse_course};
-ghost use Rattle.st_session.specs.Browsing.{asked_text};
+ghost use Rattle.st_session.specs.Browsing.{asked_text, TellsOrStarves};
+ghost use Rattle.st_session.specs.Sources.{kept_text, shown_text};
 ghost use Rattle.st_call.specs.Telling.{IsOfServing};
 ghost use Rattle.st_session.specs.Keeping.{in_a_store};
 ghost use Rattle.st_session.specs.Standing.{MayGoOn, Follows};
 ghost use Rattle.st_call.specs.Telling.{Tells};
 
 use crate::debugging::run_until;
-use st_browse::browse_line;
+use st_browse::{SourceFault, browse_line, source_line};
 use st_call::{Reply, say_reply};
 use st_changes::Changes;
-use st_chunk::Ask;
+use st_chunk::{Ask, Side};
 use st_host::{Host, SayFault};
 use st_machine::Machine;
 use st_memory::Memory;
 use st_protocol::Status;
 use st_recover::Archive;
+use std::alloc::Global;
 
 /// Says what a memory shows of what is asked for, and these definitions of a method's text, or that it is missing.
 fn say_asked<H: Host, M: Memory>(
@@ -27,7 +29,7 @@ fn say_asked<H: Host, M: Memory>(
     changes: &Changes,
     ask: Ask<'_>,
 ) -> Result<(), Status>
-    ensures { let text = asked_text (M.view m.now) changes.now.listed (ask_of ask.entry) in
+    ensures { let text = asked_text (M.view m.now) (kept_text changes.now.listed) (ask_of ask.entry) in
         Tells H.Host.own text host.old host.new result }
 {
     match browse_line(m, changes, ask, host) {
@@ -37,8 +39,32 @@ fn say_asked<H: Host, M: Memory>(
     }
 }
 
+/// Says the text of a class's method: that of its last definition among these, or else one that is made of its code; or that there is
+/// none. Where there is no memory, nothing is said.
+fn say_source<H: Host, M: Memory>(
+    alloc: Global,
+    host: &mut H,
+    m: &M,
+    changes: &Changes,
+    side: Side<'_>,
+    selector: &[u8],
+) -> Result<(), Status>
+    ensures { let v = M.view m.now in let ask = Source (side_of side.entry) selector.now in
+        let text = asked_text v (shown_text v changes.now.listed) ask in
+        TellsOrStarves H.Host.own text host.old host.new result }
+{
+    match source_line(alloc, m, changes, side, selector, host) {
+        Ok(true) => Ok(()),
+        Ok(false) => say_reply(host, Reply::Missing),
+        Err(SourceFault::Disk) => Err(Status::DiskFault),
+        Err(SourceFault::Say) => Err(Status::SayFault),
+        Err(SourceFault::OutOfMemory) => Err(Status::OutOfMemory),
+    }
+}
+
 /// Answers a line that names what it asks for, where the machine isn't dead.
 fn answer_named<H: Host, M: Memory>(
+    alloc: Global,
     host: &mut H,
     machine: &mut Machine<M>,
     archive: &mut Archive,
@@ -53,18 +79,27 @@ fn answer_named<H: Host, M: Memory>(
         machine.old archive.old host.old result machine.new archive.new host.new }
     ensures counts { Counts H.Host.own ⊥ host.old host.new result }
     ensures served { IfErr result IsOfServing }
-    ensures ample { IsErrOf result OutOfMemory → ⊥ }
+    ensures starved { IsErrOf result OutOfMemory → host.new ≡ host.old }
 {
     match ask {
         Ask::Until(cycles, side, selector) => {
             run_until(host, machine, archive, cycles, side, selector)
         }
+        Ask::Source(side, selector) => say_source(
+            alloc,
+            host,
+            machine.memory(),
+            archive.changes(),
+            side,
+            selector,
+        ),
         _ => say_asked(host, machine.memory(), archive.changes(), ask),
     }
 }
 
 /// Answers a line that names what it asks for.
 pub(crate) fn answer_ask<H: Host, M: Memory>(
+    alloc: Global,
     host: &mut H,
     machine: &mut Machine<M>,
     archive: &mut Archive,
@@ -78,10 +113,10 @@ pub(crate) fn answer_ask<H: Host, M: Memory>(
         machine.old archive.old host.old result machine.new archive.new host.new }
     ensures counts { Counts H.Host.own ⊥ host.old host.new result }
     ensures served { IfErr result IsOfServing }
-    ensures ample { IsErrOf result OutOfMemory → ⊥ }
+    ensures starved { IsErrOf result OutOfMemory → host.new ≡ host.old }
 {
     match machine.death() {
         Some(cause) => say_reply(host, Reply::Died { finished: 0, cause }),
-        None => answer_named(host, machine, archive, ask),
+        None => answer_named(alloc, host, machine, archive, ask),
     }
 }

@@ -2,11 +2,17 @@
 
 ghost use Rattle.std.specs.Prelude.{ℕ, List, IsTrue};
 ghost use Rattle.st_image.specs.declared.head.HeadValues.{HeadValues};
+ghost use Rattle.st_model.specs.View.{View};
+ghost use Rattle.st_chunk.specs.Asks.{Side};
+ghost use Rattle.st_chunk.specs.Definitions.{Definition};
+ghost use Rattle.st_browse.specs.Decompiling.{IsShown};
 ghost use Rattle.st_session.specs.declared.making.Origin.TheVariants.{Image as FromImage, Kernel as FromKernel};
 ghost use Rattle.st_session.specs.Builds.{Builds, IsWrongKernel};
 ghost use Rattle.st_session.specs.Imports.{ReadsAs, IsWrongImage};
-ghost use Rattle.st_session.specs.Joining.{RestJoins, SessionJoins, ExportJoins, MakingJoins};
+ghost use Rattle.st_session.specs.Joining.{RestJoins, SessionJoins, ExportJoins, CondenseJoins, MakingJoins};
+ghost use Rattle.st_session.specs.OneOpening.{OneAnswer, OpensGives, RefusedIs, FollowedIs, StaysIs};
 ghost use Rattle.st_session.specs.Reports.{RunIsSaid};
+ghost use Rattle.st_session.specs.Sources.{shown_text};
 ghost use Rattle.st_session.specs.Traces.{TraceIsRun};
 
 use st_host::Host;
@@ -23,15 +29,33 @@ pub fn trace_is_run()
     ensures { TraceIsRun }
 {}
 
+/// The text that a session shows of a method is that of its last definition, or else one that has the method's code, under the names that
+/// it sees; there is none exactly where no text has.
+pub fn made_texts_have_the_code()
+    ensures { (v : View) (ds : List Definition) (side : Side) (selector : List ℕ)
+        → IsShown v ds side selector (shown_text v ds side selector) }
+{}
+
 /// What a call leaves meets what the next call asks for as it begins: where it left the store at rest, and no stop came; and after a
-/// stop at any moment of it, over whatever host: behind a session that kept its promise, behind an export, and behind the making of a
-/// store, once it was said that it is made.
+/// stop at any moment of it, over whatever host: behind a session that kept its promise, behind an export or a condense, and behind the
+/// making of a store, once it was said that it is made.
 pub fn calls_join<H: Host, N: Host>()
     ensures rest { RestJoins H.Host.own }
     ensures session { SessionJoins H.Host.own N.Host.own }
     ensures export { ExportJoins H.Host.own N.Host.own }
+    ensures condense { CondenseJoins H.Host.own N.Host.own }
     ensures import { (over : HeadValues) (image : List ℕ) → MakingJoins H.Host.own N.Host.own FromImage
         (ReadsAs over image) (IsWrongImage (IsTrue H.is_told) over image) }
     ensures build { (text : List ℕ) → MakingJoins H.Host.own N.Host.own FromKernel
         (Builds text) (IsWrongKernel (IsTrue H.is_told) text) }
+{}
+
+/// What the files of a name open as is one answer, a commit with what it comes to or a refusal: of any two answers, of what opens as a
+/// commit, and of what is said of a store that isn't opened, of one that a session goes over, and of one that is only read.
+pub fn one_opening<H: Host>()
+    ensures one { OneAnswer }
+    ensures gives { OpensGives }
+    ensures refused { RefusedIs H.Host.own }
+    ensures followed { FollowedIs H.Host.own }
+    ensures stays { StaysIs H.Host.own }
 {}

@@ -1,4 +1,4 @@
-ghost use Rattle.std.specs.Prelude.{◌≡◌, ◌⊎◌, ◌<◌, ◌^◌, length, IsTrue, IfErr, OnOk, IsErrOf};
+ghost use Rattle.std.specs.Prelude.{◌≡◌, ◌⊎◌, ◌<◌, ◌^◌, length, nat_lt, IsTrue, IfErr, OnOk, IsErrOf};
 ghost use Rattle.st_host.specs.Counts.{Rose};
 ghost use Rattle.st_model.specs.Machine.{State};
 ghost use Rattle.st_model.specs.Births.{Births};
@@ -267,7 +267,7 @@ pub(crate) fn status_of(answer: Result<(), Status>) -> Status
 
 /// Follows a script, line by line and group by group, over a store that was opened: over a machine that begins with its objects
 /// and registers, in an empty world. Answers the status in which that ends. A definition is in the store, synced, before it is said to be accepted, and a snapshot
-/// before its length is said. All memory but that of definitions is taken at the beginning.
+/// before its length is said. All memory but that of definitions and of lines `source` is taken at the beginning.
 pub fn serve<M: Memory, H: Host, S: Source>(
     alloc: Global,
     host: &mut H,
@@ -277,12 +277,13 @@ pub fn serve<M: Memory, H: Host, S: Source>(
     requires frame { IsFrame (M.view opened.loaded.memory) opened.loaded.frame }
     requires quiet { (M.view opened.loaded.memory).held.devices ≡ no_devices }
     requires named { opened.changes.name ≡ opened.store.name }
+    requires file { opened.changes.second ≡ nat_lt 1 opened.store.root.slot }
     requires whole { opened.store.root.length ≡ length (entries opened.changes.listed) }
     requires few { length opened.lost.items < 2 ^ 32 }
     ensures ends { IsTrue S.is_told → (c : Commit) (s : State Births)
         → IsOpen M.view H.Host.own host.old opened c s
         → SessionEnds H.Host.own (OpensAs opened.store.name) (IsNoFileOf opened.store.name) c
-        (session_over opened.replayed (losses_of opened.lost.items) s c (S.remaining script.old))
+        opened.store.name (session_over opened.replayed (losses_of opened.lost.items) s c (S.remaining script.old))
         (session_so_far_over opened.replayed (losses_of opened.lost.items) s c)
         (S.remaining script.old) (S.remaining script.new) host.old host.new result }
     ensures complete { IsTrue S.is_told → (c : Commit) (s : State Births)

@@ -140,7 +140,7 @@ fn answer_request<H: Host, M: Memory>(
     ensures starved { IsErrOf result OutOfMemory → host.new ≡ host.old }
 {
     match request {
-        Request::Browse => answer_ask(host, machine, archive, reader.ask()),
+        Request::Browse => answer_ask(alloc, host, machine, archive, reader.ask()),
         Request::Define => {
             answer_definition(alloc, host, machine, archive, &reader.definition())
         }

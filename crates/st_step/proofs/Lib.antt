@@ -3,3 +3,6 @@ pub mod Stepped
 pub mod Foreseeing
 pub mod Said
 pub mod Performed
+mod Failing
+mod Called
+mod Executes

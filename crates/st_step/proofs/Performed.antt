@@ -1,18 +1,19 @@
 -- How a selector is performed, by the number of arguments and by the condition on an Array.
-use Rattle.std.proofs.Common.{◌≡◌, ◌≢◌, ◌<◌, ◌≤◌, ◌+◌, ℕ, zero, suc, refl, arith}
+use Rattle.std.proofs.Common.{◌≡◌, ◌≢◌, ◌<◌, ◌≤◌, ◌+◌, ℕ, zero, suc, refl, arith, Option, None}
 use Rattle.std.specs.Prelude.{◌-◌}
 use Rattle.st_model.specs.declared.dead.Dead.{Dead}
 use Rattle.st_model.specs.declared.dead.Dead.TheVariants as dead
 use Rattle.st_model.specs.Values.{Value}
 use Rattle.st_model.specs.declared.page.PageObject.TheVariants.{ArrayClass}
 use Rattle.st_model.specs.Outcomes.{Outcome}
-use Rattle.st_model.specs.Machine.{ObjectMemory, State, Transition, Died, Went, answer, after, tried, ◌>>=◌, ◌>>◌}
+use Rattle.st_model.specs.Machine.{ObjectMemory, State, Transition, Died, Went, answer, after, ◌>>=◌, ◌>>◌}
 use Rattle.st_model.specs.Steps.{count_fields, get_active, get_sp, top, under}
 use Rattle.st_model.specs.Primitives.{check_class}
 use Rattle.st_model.specs.Sends.{Call}
 use Rattle.st_model.specs.Contexts.{activate}
 use Rattle.st_model.specs.Executing.{goes_on, spread_array, perform, primitive_perform, spreading, perform_with, primitive_perform_with, perform_or_activate}
 use Rattle.st_model.specs.Table.{Table}
+use Rattle.st_step.specs.Trying.{performs, performs_first, performs_selector, performs_spread, performs_with}
 use Rattle.st_model.proofs.Runs.{check-below, check-not_below, run-tried_went, run-tried_died}
 use Rattle.st_frames.proofs.Doing.{rows}
 
@@ -30,6 +31,19 @@ perform-more m c v (suc n) s d = let f : suc n - 1 ≡ n = omega arith in rw f r
 
 pub ruleset counts = (rows, perform-none, perform-more)
 
+-- the same of 83 that is tried
+pub performs-none : (m : ObjectMemory Table) (n : ℕ) (s : State Table) → n ≡ 0 → (performs_selector m n).run s ≡ Went None s
+unfolding performs_selector answer
+performs-none m zero s e = refl
+performs-none m (suc n) s e = cc
+
+pub performs-more : (m : ObjectMemory Table) (n : ℕ) (s : State Table) → n ≢ 0 → (performs_selector m n).run s ≡ (performs_first m (n - 1)).run s
+unfolding performs_selector
+performs-more m zero s d = absurd (d refl)
+performs-more m (suc n) s d = let f : suc n - 1 ≡ n = omega arith in rw f refl
+
+pub ruleset selectors = (rows, performs-none, performs-more)
+
 -- 84, whose condition holds, or fails
 module _ (m : ObjectMemory Table) (c : Call) (h v w b : Value) (s : State Table) (y : Transition (State Table) Outcome)
     (receiver : (under m 2).run s ≡ Went v s) (selector : (under m 1).run s ≡ Went w s) (array : (top m).run s ≡ Went b s) where
@@ -40,6 +54,17 @@ module _ (m : ObjectMemory Table) (c : Call) (h v w b : Value) (s : State Table)
   pub activates-for : (k : Dead) → (spreading m b).run s ≡ Died k → (goes_on (activate m c.method h c.arguments)).run s ≡ y → (primitive_perform_with m c h).run s ≡ y
   unfolding primitive_perform_with perform_with ◌>>=◌ after
   activates-for k e f = rw (receiver, selector, array, run-tried_died (spreading m b) s k e) f
+
+-- 84 that is tried
+module _ (m : ObjectMemory Table) (v w b : Value) (s : State Table)
+    (receiver : (under m 2).run s ≡ Went v s) (selector : (under m 1).run s ≡ Went w s) (array : (top m).run s ≡ Went b s) where
+  pub spread-performs : (z : Transition (State Table) (Option Outcome)) (n : ℕ) → (spreading m b).run s ≡ Went n s → (performs m v w n (spread_array m b n)).run s ≡ z → (performs_with m).run s ≡ z
+  unfolding performs_with performs_spread ◌>>=◌ after
+  spread-performs z n e k = rw (receiver, selector, array, run-tried_went (spreading m b) s s n e) k
+
+  pub spread-fails : (k : Dead) → (spreading m b).run s ≡ Died k → (performs_with m).run s ≡ Went None s
+  unfolding performs_with performs_spread ◌>>=◌ after answer
+  spread-fails k e = rw (receiver, selector, array, run-tried_died (spreading m b) s k e) refl
 
 -- the fields of an Array that the active context has room for, or hasn't
 module _ (m : ObjectMemory Table) (b c : Value) (n f sp : ℕ) (s : State Table) (class : (check_class m b ArrayClass).run s ≡ Went tt s) (count : (count_fields m b).run s ≡ Went n s)

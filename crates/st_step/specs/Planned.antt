@@ -33,6 +33,10 @@ Plans before x result = PlansOver apart before x result
 abbrev pub PlansBirths : State Table → Result Demand Dead → Type 0
 PlansBirths c result = (s : State Births) → Shows c s → PlansOver births (used births s.memory) ((step births).run s) result
 
+-- there is a word at the top of the stack
+abbrev pub HasTop : View → Frame → Type 0
+HasTop v f = (w : World) × (x : Value) × ((top bounded_table).run (shown v f w) ≡ Went x (shown v f w))
+
 -- the outcome names the word at the top of the stack, where there is one
 abbrev pub TopSaid : View → Frame → CodeOutcome → Type 0
 TopSaid v f o = (w : World) (x : Value) → (top bounded_table).run (shown v f w) ≡ Went x (shown v f w)

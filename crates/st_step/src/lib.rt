@@ -1,15 +1,22 @@
-//! The bytecodes (chapter 28): the rows of the book's table in code, over any objects, and two calls over a memory: one says
-//! what the next bytecode would take, and one does it.
+//! The bytecodes (chapter 28): the rows of the book's table in code, over any objects, and calls over a memory: one says what
+//! the next bytecode would take, one does it, and one does a primitive by its number.
 #![tactic(auto)]
 
+mod calling;
 mod execute;
 mod flags;
 mod jump;
+mod laws;
+mod numbers;
 mod perform;
 mod respond;
 mod returns;
 mod rows;
 mod send;
 mod stepping;
+mod tried;
 
+pub use calling::try_primitive;
+pub use laws::execution_tries_by_number;
 pub use stepping::{plan, step};
+pub use tried::Tried;

@@ -5,6 +5,7 @@ ghost use Rattle.st_model.specs.Deeds.{deed_of_end};
 ghost use Rattle.st_model.specs.Sends.{call_of};
 ghost use Rattle.st_model.specs.Executing.{takes, execute_found, drop_selector, spread_array, perform, primitive_perform, spreading, primitive_perform_with, perform_or_activate};
 ghost use Rattle.st_model.specs.Calls.{itself};
+ghost use Rattle.st_step.specs.Trying.{performs, performs_selector, performs_with, end_if_any, deed_if_any};
 ghost use Rattle.st_lookup.specs.Places.{found_word};
 ghost use Rattle.st_frames.specs.Rows.{RowReads, RowDoes, RowLeaves, Takes, send_changes, response_changes, execution_changes};
 
@@ -214,5 +215,100 @@ pub fn primitive_perform_with<O: Objects>(
     match spreading(m, r, array) {
         Ok(n) => perform_with_array(m, r, call, header, receiver, selector, array, n),
         Err(_) => activated(m, r, call, header),
+    }
+}
+
+/// The selector is performed with the n arguments above it; none says that its method doesn't take as many, so that the
+/// primitive fails.
+#[tactic(auto, using(st_frames::proofs::Doing::rows), unfolding(crate::specs::Trying::performs, crate::specs::Trying::perform_if_fits, crate::specs::Trying::succeeds))]
+fn performs_above<O: Objects>(
+    m: &mut O,
+    r: &mut Registers,
+    receiver: Word,
+    selector: Word,
+    n: u32,
+) -> Result<Option<StepEnd>, Dead>
+    requires few { n < 16384 }
+    requires room { execution_changes ≤ O.room m.old }
+    ensures does { RowLeaves O.Objects.own
+        (performs O.names (word receiver) (word selector) n (drop_selector O.names n))
+        end_if_any deed_if_any m.old r.old result m.new r.new }
+    ensures takes { Takes O.Objects.own execution_changes m.old m.new }
+{
+    let class = m.fetch_class(receiver)?;
+    let found = find_method(m, r, class, selector)?;
+    if !takes(m, r, n, found)? {
+        return Ok(None);
+    }
+    drop_selector(m, r, n)?;
+    let end = execute_found(m, r, class, selector, n, found)?;
+    Ok(Some(end))
+}
+
+/// Tries primitive 83, as the first of 83 and 84 in its bytecode.
+#[tactic(auto, using(crate::proofs::Performed::selectors), unfolding(crate::specs::Trying::performs_first))]
+pub fn performs_selector<O: Objects>(
+    m: &mut O,
+    r: &mut Registers,
+    arguments: u32,
+) -> Result<Option<StepEnd>, Dead>
+    requires few { arguments < 16384 }
+    requires room { execution_changes ≤ O.room m.old }
+    ensures does { RowLeaves O.Objects.own (performs_selector O.names arguments)
+        end_if_any deed_if_any m.old r.old result m.new r.new }
+    ensures takes { Takes O.Objects.own execution_changes m.old m.new }
+{
+    if arguments == 0 {
+        return Ok(None);
+    }
+    let n = arguments - 1;
+    let receiver = under(m, r, n + 1)?;
+    let selector = under(m, r, n)?;
+    performs_above(m, r, receiver, selector, n)
+}
+
+/// The selector is performed with the n fields of an Array, which stands above it; none says that its method doesn't take as
+/// many.
+#[tactic(auto, using(st_frames::proofs::Doing::rows), unfolding(crate::specs::Trying::performs, crate::specs::Trying::perform_if_fits, crate::specs::Trying::succeeds))]
+fn performs_fields<O: Objects>(
+    m: &mut O,
+    r: &mut Registers,
+    receiver: Word,
+    selector: Word,
+    array: Word,
+    n: u32,
+) -> Result<Option<StepEnd>, Dead>
+    requires size { n ≤ 65533 }
+    requires above { 7 ≤ r.old.sp }
+    requires room { execution_changes ≤ O.room m.old }
+    ensures does { RowLeaves O.Objects.own
+        (performs O.names (word receiver) (word selector) n (spread_array O.names (word array) n))
+        end_if_any deed_if_any m.old r.old result m.new r.new }
+    ensures takes { Takes O.Objects.own execution_changes m.old m.new }
+{
+    let class = m.fetch_class(receiver)?;
+    let found = find_method(m, r, class, selector)?;
+    if !takes(m, r, n, found)? {
+        return Ok(None);
+    }
+    spread_array(m, r, array, n)?;
+    let end = execute_found(m, r, class, selector, n, found)?;
+    Ok(Some(end))
+}
+
+/// Tries primitive 84, as the first of 83 and 84 in its bytecode.
+#[tactic(auto, using(st_frames::proofs::Doing::rows), unfolding(crate::specs::Trying::performs_with))]
+pub fn performs_with<O: Objects>(m: &mut O, r: &mut Registers) -> Result<Option<StepEnd>, Dead>
+    requires room { execution_changes ≤ O.room m.old }
+    ensures does { RowLeaves O.Objects.own (performs_with O.names)
+        end_if_any deed_if_any m.old r.old result m.new r.new }
+    ensures takes { Takes O.Objects.own execution_changes m.old m.new }
+{
+    let receiver = under(m, r, 2)?;
+    let selector = under(m, r, 1)?;
+    let array = top(m, r)?;
+    match spreading(m, r, array) {
+        Ok(n) => performs_fields(m, r, receiver, selector, array, n),
+        Err(_) => Ok(None),
     }
 }

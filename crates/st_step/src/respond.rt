@@ -26,42 +26,42 @@ use st_process::{try_input, try_process};
 use st_storage::{primitive_say, try_storage};
 
 /// Whether a primitive is one of 1 to 18, with the one argument of these.
-fn is_arithmetic(primitive: u32, arguments: u32) -> bool
+pub fn is_arithmetic(primitive: u32, arguments: u32) -> bool
     ensures { result ≡ (is_from 1 18 primitive && arguments == 1) }
 {
     1 <= primitive && primitive <= 18 && arguments == 1
 }
 
 /// Whether a primitive is one of 21 to 36, with the one argument of these.
-fn is_large(primitive: u32, arguments: u32) -> bool
+pub fn is_large(primitive: u32, arguments: u32) -> bool
     ensures { result ≡ (is_from 21 36 primitive && arguments == 1) }
 {
     21 <= primitive && primitive <= 36 && arguments == 1
 }
 
 /// Whether a primitive is one of those on objects.
-fn is_storage(primitive: u32) -> bool
+pub fn is_storage(primitive: u32) -> bool
     ensures { result ≡ is_storage primitive }
 {
     matches!(primitive, 60..=79 | 96 | 105 | 112 | 115)
 }
 
 /// Whether a primitive is one of those on blocks.
-fn is_block(primitive: u32) -> bool
+pub fn is_block(primitive: u32) -> bool
     ensures { result ≡ is_block primitive }
 {
     matches!(primitive, 80..=82)
 }
 
 /// Whether a primitive is one of those on processes.
-fn is_process(primitive: u32) -> bool
+pub fn is_process(primitive: u32) -> bool
     ensures { result ≡ is_process primitive }
 {
     matches!(primitive, 85..=88)
 }
 
 /// Whether a primitive is one of those on devices and clocks.
-fn is_input(primitive: u32) -> bool
+pub fn is_input(primitive: u32) -> bool
     ensures { result ≡ is_input primitive }
 {
     matches!(primitive, 90..=95 | 98..=102 | 116)
@@ -268,7 +268,7 @@ fn say_or_activate<O: Objects>(
 
 /// Something is asked for (primitives 97, 113 and 114), and the receiver stays as the answer.
 #[tactic(auto, using(st_frames::proofs::Doing::rows), unfolding(crate::specs::Responding::asks_for))]
-fn asks<O: Objects>(m: &mut O, r: &mut Registers, end: StepEnd) -> Result<StepEnd, Dead>
+pub fn asks<O: Objects>(m: &mut O, r: &mut Registers, end: StepEnd) -> Result<StepEnd, Dead>
     requires asked { deed_of_end end ≡ Nothing }
     requires room { 1 ≤ O.room m.old }
     ensures does { RowLeaves O.Objects.own (asks_for O.names (end_of end))

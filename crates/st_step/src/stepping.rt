@@ -7,7 +7,7 @@ ghost use Rattle.st_model.specs.Bytecodes.{step};
 ghost use Rattle.st_model.specs.Calls.{Does};
 ghost use Rattle.st_frames.specs.Shown.{IsFrame, IsReady, shown};
 ghost use Rattle.st_control.specs.Foreseen.{IsForeseen};
-ghost use Rattle.st_step.specs.Planned.{Plans, PlansBirths, TopSaid};
+ghost use Rattle.st_step.specs.Planned.{HasTop, Plans, PlansBirths, TopSaid};
 
 use crate::rows::step_row;
 use st_frames::{Frame, World, hold, load};
@@ -30,7 +30,7 @@ pub fn plan<M: Memory>(m: &M, f: &Frame, w: &World) -> Result<Demand, Dead>
 }
 
 /// What the end of a step leaves to be done.
-fn deed_of(end: StepEnd) -> Deed
+pub fn deed_of(end: StepEnd) -> Deed
     ensures { result ≡ deed_of_end end }
 {
     match end {
@@ -56,12 +56,13 @@ fn try_step<M: Memory>(m: &mut M, f: &mut Frame, w: &mut World) -> Result<StepEn
 /// What is to be said of the word at the top of the stack: the bytes of the object.
 fn say_top<M: Memory>(m: &M, f: &Frame) -> Outcome
     requires frame { IsFrame (M.view m.now) f.now }
+    requires top { HasTop (M.view m.now) f.now }
     ensures { TopSaid (M.view m.now) f.now result }
 {
-    match f.under(m, 0) {
-        Ok(said) => Outcome::Say(said),
-        Err(_) => Outcome::Went,
-    }
+    let Ok(said) = f.under(m, 0) else {
+        unreachable!()
+    };
+    Outcome::Say(said)
 }
 
 /// Does the next bytecode, once a plan has said what it takes and there is room for that.
@@ -78,6 +79,6 @@ pub fn step<M: Memory>(m: &mut M, f: &mut Frame, w: &mut World) -> Outcome
         Ok(StepEnd::Snapshot) => Outcome::Snapshot,
         Ok(StepEnd::Quit) => Outcome::Quit,
         Ok(StepEnd::Debugger) => Outcome::Debugger,
-        Err(_) => Outcome::Went,
+        Err(_) => unreachable!(),
     }
 }

@@ -19,7 +19,7 @@ one_letter file at other x y = ⊎_elim
     (cases_lt at other)
 
 -- where the file is whole, and the root that it chooses has a slot
-module _ (file : List ℕ) (k : ℕ) (root : Root) (chosen : Chooses k root (Some file)) (slot : root.slot ≤ 1) where
+module _ (file : List ℕ) (k : ℕ) (root : Root) (chosen : Chooses k root (Some file)) (slot : root.slot ≤ 3) where
   front_right : (at : ℕ) → IsWrongFront file at → ⊥
   front_right at (inl x) = letter_wrong file at x chosen.whole.letters
   front_right at (inr (inl x)) = absurd (omega (arith, x.short, chosen.whole.long))
@@ -56,15 +56,15 @@ one_number k root image changes at other (inr (inr x)) (inr (inr y)) = x.place �
 module _ (name : List ℕ) (f : Files) where
   -- the wrong number of a root is that of the one chosen root
   same_wrong : (k l : ℕ) (r s : Root) (at : ℕ) → Chooses k r (f (roots_file name)) → Chooses l s (f (roots_file name))
-      → IsWrongNumber l s (length (bytes_of (f (image_file name s.slot)))) (length (bytes_of (f (changes_file name)))) at
-      → IsWrongNumber k r (length (bytes_of (f (image_file name r.slot)))) (length (bytes_of (f (changes_file name)))) at
+      → IsWrongNumber l s (length (bytes_of (f (image_file name s.slot)))) (length (bytes_of (f (changes_file name s.slot)))) at
+      → IsWrongNumber k r (length (bytes_of (f (image_file name r.slot)))) (length (bytes_of (f (changes_file name r.slot)))) at
   same_wrong k l r s at x y wrong =
       let number : l ≡ k = sym y.gate ∙ x.gate in
       let root : s ≡ r = sym y.names ∙ ap (λ n. root_at (place n) (bytes_of (f (roots_file name)))) number ∙ x.names in
-      subst (λ (q : Root). IsWrongNumber k q (length (bytes_of (f (image_file name q.slot)))) (length (bytes_of (f (changes_file name)))) at) root
-      (subst (λ n. IsWrongNumber n s (length (bytes_of (f (image_file name s.slot)))) (length (bytes_of (f (changes_file name)))) at) number wrong)
+      subst (λ (q : Root). IsWrongNumber k q (length (bytes_of (f (image_file name q.slot)))) (length (bytes_of (f (changes_file name q.slot)))) at) root
+      (subst (λ n. IsWrongNumber n s (length (bytes_of (f (image_file name s.slot)))) (length (bytes_of (f (changes_file name s.slot)))) at) number wrong)
 
-  front_of : (file : Option (List ℕ)) (k : ℕ) (root : Root) (at : ℕ) → Chooses k root file → root.slot ≤ 1 → IsWrongRoots file at → ⊥
+  front_of : (file : Option (List ℕ)) (k : ℕ) (root : Root) (at : ℕ) → Chooses k root file → root.slot ≤ 3 → IsWrongRoots file at → ⊥
   front_of None k root at chosen slot wrong = absurd (omega (arith, chosen.whole.long))
   front_of (Some file) k root at chosen slot wrong = front_right file k root chosen slot at wrong.1
 
@@ -82,10 +82,10 @@ module _ (name : List ℕ) (f : Files) where
   none_opens at c opens (inl x) = front_of (f (roots_file name)) opens.number c.root at opens.chosen opens.sound.slot x
   none_opens at c opens (inr x) = by (same_wrong opens.number x.number c.root x.root at opens.chosen x.chosen x.wrong)
     where
-      by : IsWrongNumber opens.number c.root (length (bytes_of (f (image_file name c.root.slot)))) (length (bytes_of (f (changes_file name)))) at → ⊥
+      by : IsWrongNumber opens.number c.root (length (bytes_of (f (image_file name c.root.slot)))) (length (bytes_of (f (changes_file name c.root.slot)))) at → ⊥
       by (inl y) = absurd (omega (arith, y.above, opens.image.long))
       by (inr (inl y)) = absurd (omega (arith, y.above, opens.sound.base))
-      by (inr (inr y)) = above_length c.root (length (bytes_of (f (changes_file name)))) opens.changes.long opens.sound.limit y.above
+      by (inr (inr y)) = above_length c.root (length (bytes_of (f (changes_file name c.root.slot)))) opens.changes.long opens.sound.limit y.above
 
   pub opens_there : (c : Stored) → Opens name c f → f (roots_file name) ≡ None → ⊥
   opens_there c opens none = absurd (omega (arith, opens.chosen.whole.long, ap (λ (o : Option (List ℕ)). length (bytes_of o)) none))

@@ -124,20 +124,20 @@ whole_written root old mid (Some xs) blank body head = ap Some (same_number_list
 
 module _ {D R E : Type 0} (host : Ghosts D) (name : List ℕ) (a b : D) (result : Result R E) (told : IsTrue host.is_told) where
   -- while the changes file is emptied
-  pub cut_makes : Cuts host (changes_file name) 0 a b → Leaves host a (roots_file name) (λ x. bytes_of x ≡ []) → OnOk result (IsAtRest {C = Option Stored} host (OpensMaybe name) None b)
+  pub cut_makes : Cuts host (changes_file name 0) 0 a b → Leaves host a (roots_file name) (λ x. bytes_of x ≡ []) → OnOk result (IsAtRest {C = Option Stored} host (OpensMaybe name) None b)
       → Makes {C = Option Stored} host (OpensMaybe name) None None a b result
   cut_makes cuts empty after =
-      let other : roots_file name ≢ changes_file name = λ same. changes_roots name (sym same) in
+      let other : roots_file name ≢ changes_file name 0 = λ same. changes_roots name 0 (sym same) in
       record {
         rest = after;
         either = λ f can. inl (empty_none (f (roots_file name)) (empty (f (roots_file name)) ((cuts.run.others told).fewer (roots_file name) (f (roots_file name)) other (can (roots_file name)))));
         quiet = cuts.run.quiet told;
-        moments = weaker host a b _ (Touched host (TornByCut (host.files a (changes_file name)) 0) (changes_file name) a) (cuts.run.moments told)
+        moments = weaker host a b _ (Touched host (TornByCut (host.files a (changes_file name 0)) 0) (changes_file name 0) a) (cuts.run.moments told)
             (λ f s so. (so.quiet, inl (empty_none (f (roots_file name)) (empty (f (roots_file name)) (so.others (roots_file name) other)))));
       }
 
-  pub still_empty : Cuts host (changes_file name) 0 a b → Leaves host a (roots_file name) (λ x. bytes_of x ≡ []) → Leaves host b (roots_file name) (λ x. bytes_of x ≡ [])
-  still_empty cuts empty x can = empty x ((cuts.run.others told).fewer (roots_file name) x (λ same. changes_roots name (sym same)) can)
+  pub still_empty : Cuts host (changes_file name 0) 0 a b → Leaves host a (roots_file name) (λ x. bytes_of x ≡ []) → Leaves host b (roots_file name) (λ x. bytes_of x ≡ [])
+  still_empty cuts empty x can = empty x ((cuts.run.others told).fewer (roots_file name) x (λ same. changes_roots name 0 (sym same)) can)
 
   module _ (reads : host.may_leave a (roots_file name) (host.files a (roots_file name))) where
     pub blank_makes : Writes host (roots_file name) 0 1 a b → Leaves host a (roots_file name) (λ x. bytes_of x ≡ []) → OnOk result (IsAtRest {C = Option Stored} host (OpensMaybe name) None b)
@@ -165,11 +165,11 @@ module _ {D R E : Type 0} (host : Ghosts D) (name : List ℕ) (a b : D) (result 
         after
 
 -- what a new root names is firm where its image is
-pub first_firm : {D : Type 0} (host : Ghosts D) (name : List ℕ) (a m : D) (n : ℕ) (image : List ℕ) → IsTrue host.is_told → ChangesBoth host (changes_file name) (roots_file name) a m
+pub first_firm : {D : Type 0} (host : Ghosts D) (name : List ℕ) (a m : D) (n : ℕ) (image : List ℕ) → IsTrue host.is_told → ChangesBoth host (changes_file name 0) (roots_file name) a m
     → Leaves host a (image_file name 0) (Begins n image) → IsFirm host m name (first_stored n image)
 first_firm host name a m n image told changes firm = record {
   sound = record { slot = omega arith; base = omega arith; limit = lit≤ tt };
-  image = λ x can. firm x (changes.fewer told (image_file name 0) x (image_changes name 0) (image_roots name 0) can);
+  image = λ x can. firm x (changes.fewer told (image_file name 0) x (image_changes name 0 0) (image_roots name 0) can);
   changes = λ x can. record { long = omega arith; is = take_none (bytes_of x) };
 }
   where

@@ -64,5 +64,5 @@ module _ (file : List ℕ) (k : ℕ) (into : List ℕ) (long : length into ≡ 8
       inr (inr (record {
         whole = record { long = omega (arith, slot.whole.long, front_long); letters = λ i low. sym (same i (omega arith)) ∙ slot.whole.letters i low };
         place = slot.place ∙ ap place gate;
-        above = subst (λ (r : Root). 1 < r.slot) root slot.above;
+        above = subst (λ (r : Root). 3 < r.slot) root slot.above;
       }))

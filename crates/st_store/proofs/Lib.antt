@@ -1,5 +1,6 @@
 pub mod Bytes
 pub mod Others
+pub mod Beside
 pub mod Turning
 pub mod Fronts
 pub mod Causes

@@ -26,8 +26,8 @@ front_refuses name f (NotAStore (ChangesPlace at)) why = why
 front_refuses name f Disk why = tt
 front_refuses name f OutOfMemory why = tt
 
-pub numbers_refuse : (name : List ℕ) (f : Files) (k : ℕ) (root : Root) (e : StoreFault) → Chooses k root (f (roots_file name)) → root.slot ≤ 1
-    → RefusesNumbers k root (length (bytes_of (f (image_file name root.slot)))) (length (bytes_of (f (changes_file name)))) e → Refuses name f e
+pub numbers_refuse : (name : List ℕ) (f : Files) (k : ℕ) (root : Root) (e : StoreFault) → Chooses k root (f (roots_file name)) → root.slot ≤ 3
+    → RefusesNumbers k root (length (bytes_of (f (image_file name root.slot)))) (length (bytes_of (f (changes_file name root.slot)))) e → Refuses name f e
 numbers_refuse name f k root Missing chosen slot why = absurd why
 numbers_refuse name f k root Exists chosen slot why = why
 numbers_refuse name f k root (NotAStore (Roots at)) chosen slot why = inr (record { number = k; root = root; chosen = chosen; slot = slot; wrong = why })
@@ -39,8 +39,8 @@ pub stored_same : (name : List ℕ) (root : Root) (f g : Files) → ((n : List �
 stored_same name root f g same = λ i. stored_in name (λ n. same n i) root
 
 -- what is tested opens
-pub tested_opens : (name : List ℕ) (f : Files) (k : ℕ) (root : Root) → Chooses k root (f (roots_file name)) → root.slot ≤ 1
-    → Fit root (length (bytes_of (f (image_file name root.slot)))) (length (bytes_of (f (changes_file name)))) → Opens name (stored_in name f root) f
+pub tested_opens : (name : List ℕ) (f : Files) (k : ℕ) (root : Root) → Chooses k root (f (roots_file name)) → root.slot ≤ 3
+    → Fit root (length (bytes_of (f (image_file name root.slot)))) (length (bytes_of (f (changes_file name root.slot)))) → Opens name (stored_in name f root) f
 tested_opens name f k root chosen slot fit = record {
   number = k;
   chosen = chosen;
@@ -52,7 +52,7 @@ tested_opens name f k root chosen slot fit = record {
 module _ {D : Type 0} (host : Ghosts D) (name : List ℕ) where
   -- what opens is chosen, once a stop leaves just what is read
   pub looked : (m : D) (root : Root) (k : ℕ) → IsTrue host.is_told → k ≤ 1 → Chooses k root (host.files m (roots_file name)) → Opens name (stored_in name (host.files m) root) (host.files m)
-      → IsSynced host (roots_file name) m → IsSynced host (image_file name root.slot) m → IsSynced host (changes_file name) m
+      → IsSynced host (roots_file name) m → IsSynced host (image_file name root.slot) m → IsSynced host (changes_file name root.slot) m
       → IsChosen host m name k (stored_in name (host.files m) root)
   looked m root k told one chosen opens roots image changes =
       let c = stored_in name (host.files m) root in
@@ -67,14 +67,14 @@ module _ {D : Type 0} (host : Ghosts D) (name : List ℕ) where
       }
 
   -- the same by the names that the code has, and seen from where the opening began
-  pub looked_at : (a b m : D) (r im ch : List ℕ) (root : Root) (k : ℕ) → IsTrue host.is_told → r ≡ roots_file name → im ≡ image_file name root.slot → ch ≡ changes_file name
-      → k ≤ 1 → root.slot ≤ 1 → Chooses k root (host.files a r) → IsSynced host r b → ReadsAlike host a b → Narrows host b m → ReadsAlike host b m
+  pub looked_at : (a b m : D) (r im ch : List ℕ) (root : Root) (k : ℕ) → IsTrue host.is_told → r ≡ roots_file name → im ≡ image_file name root.slot → ch ≡ changes_file name root.slot
+      → k ≤ 1 → root.slot ≤ 3 → Chooses k root (host.files a r) → IsSynced host r b → ReadsAlike host a b → Narrows host b m → ReadsAlike host b m
       → Fit root (length (bytes_of (host.files b im))) (length (bytes_of (host.files b ch))) → IsSynced host im m → IsSynced host ch m
       → IsChosen host m name k (stored_in name (host.files a) root)
   looked_at a b m r im ch root k told is_roots is_image is_changes one slot chooses roots alike narrows still fit image changes =
       let roots_name = roots_file name in
       let image_name = image_file name root.slot in
-      let changes_name = changes_file name in
+      let changes_name = changes_file name root.slot in
       let whole = alike_join host a b m alike still in
       let chosen : Chooses k root (host.files m roots_name) =
       subst (λ (x : Option (List ℕ)). Chooses k root x) (sym (whole.same told roots_name)) (subst (λ (x : List ℕ). Chooses k root (host.files a x)) is_roots chooses) in
@@ -91,12 +91,12 @@ module _ {D : Type 0} (host : Ghosts D) (name : List ℕ) where
       (subst (λ (x : List ℕ). IsSynced host x m) is_changes changes))
 
   -- a number that is wrong for the files as the code names them
-  pub refused_at : (a b : D) (r im ch : List ℕ) (root : Root) (k : ℕ) (e : StoreFault) → IsTrue host.is_told → r ≡ roots_file name → im ≡ image_file name root.slot → ch ≡ changes_file name
-      → root.slot ≤ 1 → Chooses k root (host.files a r) → ReadsAlike host a b
+  pub refused_at : (a b : D) (r im ch : List ℕ) (root : Root) (k : ℕ) (e : StoreFault) → IsTrue host.is_told → r ≡ roots_file name → im ≡ image_file name root.slot → ch ≡ changes_file name root.slot
+      → root.slot ≤ 3 → Chooses k root (host.files a r) → ReadsAlike host a b
       → RefusesNumbers k root (length (bytes_of (host.files b im))) (length (bytes_of (host.files b ch))) e → Refuses name (host.files a) e
   refused_at a b r im ch root k e told is_roots is_image is_changes slot chooses alike why =
       let image_name = image_file name root.slot in
-      let changes_name = changes_file name in
+      let changes_name = changes_file name root.slot in
       let at_names : RefusesNumbers k root (length (bytes_of (host.files b image_name))) (length (bytes_of (host.files b changes_name))) e =
       subst (λ (x : List ℕ). RefusesNumbers k root (length (bytes_of (host.files b image_name))) (length (bytes_of (host.files b x))) e) is_changes
       (subst (λ (x : List ℕ). RefusesNumbers k root (length (bytes_of (host.files b x))) (length (bytes_of (host.files b ch))) e) is_image why) in
@@ -167,12 +167,12 @@ module _ {D : Type 0} (host : Ghosts D) (name : List ℕ) where
       }
 
   -- other files than the store's, while the roots file is looked at and what it names is synced
-  pub spared : (a b m : D) (r im ch : List ℕ) (slot : ℕ) → r ≡ roots_file name → im ≡ image_file name slot → ch ≡ changes_file name
+  pub spared : (a b m : D) (r im ch : List ℕ) (slot : ℕ) → r ≡ roots_file name → im ≡ image_file name slot → ch ≡ changes_file name slot
       → Changes host r a b → Spares host (λ n. (n ≢ im) × (n ≢ ch)) b m → Spares host (IsNoFileOf name) a m
   spared a b m r im ch slot is_roots is_image is_changes looked firm =
       spares_join host (IsNoFileOf name) a b m
       (changes_spare host r (IsNoFileOf name) a b (λ n no same. no.roots (same ∙ is_roots)) looked)
-      (spares_fewer host (λ n. (n ≢ im) × (n ≢ ch)) (IsNoFileOf name) b m (λ n no. (λ same. no.image slot (same ∙ is_image), λ same. no.changes (same ∙ is_changes))) firm)
+      (spares_fewer host (λ n. (n ≢ im) × (n ≢ ch)) (IsNoFileOf name) b m (λ n no. (λ same. no.image slot (same ∙ is_image), λ same. no.changes slot (same ∙ is_changes))) firm)
 
   -- and then the roots file is changed
   pub spared_on : (a m d : D) → Spares host (IsNoFileOf name) a m → Changes host (roots_file name) m d → Spares host (IsNoFileOf name) a d

@@ -99,14 +99,14 @@ module _ {D : Type 0} (host : Ghosts D) (name : List ℕ) where
     chosen = chooses;
     sound = firm.sound;
     image = firm.image (f (image_file name c.root.slot)) (others (image_file name c.root.slot) (image_roots name c.root.slot));
-    changes = firm.changes (f (changes_file name)) (others (changes_file name) (changes_roots name));
+    changes = firm.changes (f (changes_file name c.root.slot)) (others (changes_file name c.root.slot) (changes_roots name c.root.slot));
   }
 
   pub firm_on : (a b : D) (c : Stored) → IsFirm host a name c → ((n : List ℕ) (x : Option (List ℕ)) → n ≢ roots_file name → host.may_leave b n x → host.may_leave a n x) → IsFirm host b name c
   firm_on a b c firm fewer = record {
     sound = firm.sound;
     image = λ x can. firm.image x (fewer (image_file name c.root.slot) x (image_roots name c.root.slot) can);
-    changes = λ x can. firm.changes x (fewer (changes_file name) x (changes_roots name) can);
+    changes = λ x can. firm.changes x (fewer (changes_file name c.root.slot) x (changes_roots name c.root.slot) can);
   }
 
   -- in each state that a stop may leave a store that is at rest opens as it

@@ -21,11 +21,11 @@ pub record EndsEarly (file : List ℕ) (at : ℕ) : Type 0 where
   pub short : length file < 80
   pub end : at ≡ length file
 
--- the chosen root's slot is above 1
+-- the chosen root's slot is above 3
 pub record IsWrongSlot (file : List ℕ) (at : ℕ) : Type 0 where
   pub whole : IsWhole (Some file)
   pub place : at ≡ place (chosen_number file)
-  pub above : 1 < (root_at at file).slot
+  pub above : 3 < (root_at at file).slot
 
 -- the first wrong place that the roots file shows by itself
 abbrev pub IsWrongFront : List ℕ → ℕ → Type 0
@@ -69,8 +69,8 @@ pub record NamesTooMuch (name : List ℕ) (f : Files) (at : ℕ) : Type 0 where
   pub number : ℕ
   pub root : Root
   pub chosen : Chooses number root (f (roots_file name))
-  pub slot : root.slot ≤ 1
-  pub wrong : IsWrongNumber number root (length (bytes_of (f (image_file name root.slot)))) (length (bytes_of (f (changes_file name)))) at
+  pub slot : root.slot ≤ 3
+  pub wrong : IsWrongNumber number root (length (bytes_of (f (image_file name root.slot)))) (length (bytes_of (f (changes_file name root.slot)))) at
 
 -- why a roots file is no store's by itself
 abbrev pub RefusesFront : Option (List ℕ) → StoreFault → Type 0

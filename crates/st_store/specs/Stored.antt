@@ -22,12 +22,12 @@ abbrev pub stored_in : List ℕ → Files → Root → Stored
 stored_in name f root = record {
   root = root;
   image = take root.image_length (bytes_of (f (image_file name root.slot)));
-  changes = take root.length (bytes_of (f (changes_file name)));
+  changes = take root.length (bytes_of (f (changes_file name root.slot)));
 }
 
 -- a root's numbers are in their ranges
 pub record IsSound (root : Root) : Type 0 where
-  pub slot : root.slot ≤ 1
+  pub slot : root.slot ≤ 3
   pub base : root.base ≤ root.length
   pub limit : root.length ≤ 2 ^ 30
 
@@ -37,7 +37,7 @@ pub record Opens (name : List ℕ) (c : Stored) (f : Files) : Type 0 where
   pub chosen : Chooses number c.root (f (roots_file name))
   pub sound : IsSound c.root
   pub image : Begins c.root.image_length c.image (f (image_file name c.root.slot))
-  pub changes : Begins c.root.length c.changes (f (changes_file name))
+  pub changes : Begins c.root.length c.changes (f (changes_file name c.root.slot))
 
 -- an open store: its name, the number of the chosen root, and this root
 pub record StoreState : Type 0 where
@@ -54,7 +54,7 @@ module _ {D : Type 0} (host : Ghosts D) (h : D) where
   pub record IsFirm (name : List ℕ) (c : Stored) : Type 0 where
     pub sound : IsSound c.root
     pub image : Leaves (image_file name c.root.slot) (Begins c.root.image_length c.image)
-    pub changes : Leaves (changes_file name) (Begins c.root.length c.changes)
+    pub changes : Leaves (changes_file name c.root.slot) (Begins c.root.length c.changes)
 
   -- In every file that a stop may leave the letters stand and the gate chooses root number k, which is this, and what it
   -- names is firm.

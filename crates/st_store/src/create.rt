@@ -107,14 +107,14 @@ fn prepare<H: Host>(host: &mut H, names: &Names) -> Result<(), HostFault>
     ensures blank { OnOk result (let name = string_bytes names.now.name in IsTrue H.is_told
         → Leaves H.Host.own host.old (roots_file name) (λ file. bytes_of file ≡ [])
         → Leaves H.Host.own host.new (roots_file name) IsBlank) }
-    ensures emptied { OnOk result (let changes = changes_file (string_bytes names.now.name) in
+    ensures emptied { OnOk result (let changes = changes_file (string_bytes names.now.name) 0 in
         IsTrue H.is_told
         → H.files host.new changes ≡ Some []) }
     ensures changes { let name = string_bytes names.now.name in
-        ChangesBoth H.Host.own (changes_file name) (roots_file name) host.old host.new }
+        ChangesBoth H.Host.own (changes_file name 0) (roots_file name) host.old host.new }
     ensures cause { HasCause (H.disk_faults host.old) (H.disk_faults host.new) result }
 {
-    cut_synced(host, names.changes(), 0)?;
+    cut_synced(host, names.changes(0), 0)?;
     write_synced(host, names.roots(), 0, &[0])?;
     Ok(())
 }
@@ -177,9 +177,9 @@ pub fn found<H: Host>(
     ensures bytes { OnOk result (IsTrue H.is_told
         → Leaves H.Host.own host.old (roots_file new_store) (λ file. bytes_of file ≡ [])
         → H.files host.new (roots_file new_store) ≡ Some (first_file (first_root image_length))) }
-    ensures emptied { OnOk result (IsTrue H.is_told → H.files host.new (changes_file new_store) ≡ Some []) }
+    ensures emptied { OnOk result (IsTrue H.is_told → H.files host.new (changes_file new_store 0) ≡ Some []) }
 
-    ensures changes { ChangesBoth H.Host.own (changes_file new_store) (roots_file new_store)
+    ensures changes { ChangesBoth H.Host.own (changes_file new_store 0) (roots_file new_store)
         host.old host.new }
     ensures cause { HasCause (H.disk_faults host.old) (H.disk_faults host.new) result }
 {

@@ -33,7 +33,7 @@ pub(crate) fn find_wrong_letter(front: &[u8]) -> Option<u64>
 /// The root that the first 80 bytes choose, or the first wrong place.
 pub(crate) fn choose(front: &[u8]) -> Result<Chosen, u64>
     ensures number { IfOk result (λ chosen. chosen.number ≤ 1) }
-    ensures slot { IfOk result (λ chosen. chosen.root.slot ≤ 1) }
+    ensures slot { IfOk result (λ chosen. chosen.root.slot ≤ 3) }
     ensures chooses { IfOk result (λ chosen. Chooses chosen.number chosen.root (Some front.now)) }
     ensures wrong { IfErr result (λ at. IsWrongFront front.now at) }
 {
@@ -46,7 +46,7 @@ pub(crate) fn choose(front: &[u8]) -> Result<Chosen, u64>
     let number = u64::from(front[8] % 2);
     let at = 16 + 32 * number as usize;
     let root = read_root(front, at);
-    if root.slot > 1 {
+    if root.slot > 3 {
         return Err(at as u64);
     }
     Ok(Chosen { number, root })

@@ -11,10 +11,12 @@ pub(crate) struct Names {
     image_a: String,
     image_b: String,
     changes: String,
+    changes_2: String,
     pub ghost roots_is: { string_bytes roots ≡ roots_file (string_bytes name) },
     pub ghost image_a_is: { string_bytes image_a ≡ image_file (string_bytes name) 0 },
     pub ghost image_b_is: { string_bytes image_b ≡ image_file (string_bytes name) 1 },
-    pub ghost changes_is: { string_bytes changes ≡ changes_file (string_bytes name) },
+    pub ghost changes_is: { string_bytes changes ≡ changes_file (string_bytes name) 0 },
+    pub ghost changes_2_is: { string_bytes changes_2 ≡ changes_file (string_bytes name) 2 },
 }
 
 impl Names {
@@ -27,6 +29,7 @@ impl Names {
             image_a: joined(alloc, name, ".a")?,
             image_b: joined(alloc, name, ".b")?,
             changes: joined(alloc, name, ".changes")?,
+            changes_2: joined(alloc, name, ".changes2")?,
         })
     }
 
@@ -42,17 +45,19 @@ impl Names {
         self.roots.as_str()
     }
 
-    pub(crate) fn changes(&self) -> &str
-        ensures { result.now ≡ changes_file (string_bytes self.now.name) }
+    pub(crate) fn changes(&self, slot: u64) -> &str
+        ensures { result.now ≡ changes_file (string_bytes self.now.name) slot }
     {
-        self.changes.as_str()
+        match slot {
+            0 | 1 => self.changes.as_str(),
+            _ => self.changes_2.as_str(),
+        }
     }
 
     pub(crate) fn image(&self, slot: u64) -> &str
-        requires { slot ≤ 1 }
         ensures { result.now ≡ image_file (string_bytes self.now.name) slot }
     {
-        if slot == 0 {
+        if slot % 2 == 0 {
             self.image_a.as_str()
         } else {
             self.image_b.as_str()

@@ -28,7 +28,7 @@ fn damaged(at: u64) -> StoreFault
 /// Syncs the roots file, and reads the root that it chooses.
 fn look<H: Host>(host: &mut H, roots: &str) -> Result<Chosen, StoreFault>
     ensures number { IfOk result (λ r. r.number ≤ 1) }
-    ensures slot { IfOk result (λ r. r.root.slot ≤ 1) }
+    ensures slot { IfOk result (λ r. r.root.slot ≤ 3) }
     ensures chooses { IfOk result (λ r. IsTrue H.is_told
         → Chooses r.number r.root (H.files host.old roots.now)) }
     ensures refused { IfErr result (λ e. IsTrue H.is_told → RefusesFront (H.files host.old roots.now) e) }
@@ -146,7 +146,7 @@ pub fn open_store<H: Host>(alloc: Global, host: &mut H, name: &str) -> Result<St
     make_firm(
         host,
         names.image(chosen.root.slot),
-        names.changes(),
+        names.changes(chosen.root.slot),
         &chosen,
     )?;
     let Chosen { number, root } = chosen;

@@ -48,16 +48,22 @@ impl Store {
         self.names.name()
     }
 
-    /// The name of the changes file.
+    /// The name of the changes file that the chosen root names.
     pub fn changes_name(&self) -> &str
-        ensures { result.now ≡ changes_file self.now.name }
+        ensures { result.now ≡ changes_file self.now.name self.now.root.slot }
     {
-        self.names.changes()
+        self.names.changes(self.root.slot)
     }
 
-    /// The name of an image file, `.a` for slot 0 and `.b` for slot 1.
+    /// The name of the changes file of a slot.
+    pub fn changes_name_of(&self, slot: u64) -> &str
+        ensures { result.now ≡ changes_file self.now.name slot }
+    {
+        self.names.changes(slot)
+    }
+
+    /// The name of the image file of a slot, `.a` for an even one and `.b` for an odd one.
     pub fn image_name(&self, slot: u64) -> &str
-        requires { slot ≤ 1 }
         ensures { result.now ≡ image_file self.now.name slot }
     {
         self.names.image(slot)

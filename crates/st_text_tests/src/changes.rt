@@ -1,6 +1,6 @@
 //! The changes of a store over a host in memory: that calls succeed, which files are refused, and what a stop leaves.
 
-ghost use Rattle.std.specs.Prelude.{◌≡◌, IfOk, length};
+ghost use Rattle.std.specs.Prelude.{◌≡◌, IfOk, nat_lt, length};
 ghost use Rattle.st_chunk.specs.Definitions.{IsDefinition, entries};
 ghost use Rattle.st_changes.specs.Views.{definition_of};
 
@@ -39,7 +39,8 @@ fn host_of(alloc: Global, base: u8, changes: &[u8], length: u8) -> Result<MemHos
 
 /// The store of a host's files, and the list of its changes.
 fn opened(alloc: Global, host: &mut MemHost) -> Result<(Store, Changes), StoreFault>
-    ensures { IfOk result (λ r. r.0.root.length ≡ length (entries r.1.listed)) }
+    ensures place { IfOk result (λ r. r.0.root.length ≡ length (entries r.1.listed)) }
+    ensures file { IfOk result (λ r. r.1.second ≡ nat_lt 1 r.0.root.slot) }
 {
     let store = open_store(alloc, host, "s")?;
     let changes = load(alloc, host, &store)?;
@@ -123,7 +124,8 @@ fn keep(
     store: Store,
     changes: Changes,
 ) -> Result<(Store, Changes), StoreFault>
-    requires { store.root.length ≡ length (entries changes.listed) }
+    requires place { store.root.length ≡ length (entries changes.listed) }
+    requires file { changes.second ≡ nat_lt 1 store.root.slot }
 {
     let mut changes = changes;
     let definition = definition(alloc)?;

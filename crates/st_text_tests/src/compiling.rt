@@ -4,6 +4,7 @@ use crate::parsing::repeated;
 use st_code::{Literal, MethodParts, Names, compile};
 use st_model::Oop;
 use st_parse::parse;
+use st_scan::MethodTree;
 use std::alloc::{AllocError, Global};
 use std::collections::BTreeMap;
 use std::process::Abort;
@@ -23,6 +24,19 @@ pub fn names(alloc: Global) -> Result<Names, AllocError> {
     })
 }
 
+/// The tree of a text, or how its fault is told.
+pub fn parsed(
+    rt: &impl Abort,
+    alloc: Global,
+    text: &[u8],
+) -> Result<Result<MethodTree, String>, AllocError> {
+    assert!(rt; text.len() <= 65_536);
+    match parse(alloc, text) {
+        Ok(tree) => Ok(Ok(tree)),
+        Err(fault) => Ok(Err(format!(in alloc; "{fault}")?)),
+    }
+}
+
 /// What is compiled of a text, or how its fault is told.
 pub fn compiled(
     rt: &impl Abort,
@@ -30,10 +44,9 @@ pub fn compiled(
     text: &[u8],
     names: &Names,
 ) -> Result<Result<MethodParts, String>, AllocError> {
-    assert!(rt; text.len() <= 65_536);
-    let tree = match parse(alloc, text) {
+    let tree = match parsed(rt, alloc, text)? {
         Ok(tree) => tree,
-        Err(fault) => return Ok(Err(format!(in alloc; "{fault}")?)),
+        Err(fault) => return Ok(Err(fault)),
     };
     match compile(alloc, &tree, names) {
         Ok(parts) => Ok(Ok(parts)),

@@ -1,11 +1,13 @@
 //! What the code of texts does: the deeds of its walk.
 
-use crate::compiling::{compiled, names};
+use crate::compiling::{compiled, names, parsed};
 use crate::parsing::repeated;
 use st_code::{MethodParts, Names};
 use st_meaning::{
-    Answer, AnswerList, Change, Constant, Deed, Deeds, MeaningFault, Place, Value, Variable, walk,
+    Answer, AnswerList, Change, Constant, Deed, Deeds, MeaningFault, Place, Value, Variable, trace,
+    walk,
 };
+use st_scan::{Expression, Message, MethodTree, Name, Statement};
 use std::alloc::{AllocError, Global};
 use std::process::Abort;
 use std::test::Fail;
@@ -150,6 +152,41 @@ fn walked(
     }
 }
 
+/// The deeds of a trace, or none where it is too long.
+fn traced(
+    alloc: Global,
+    tree: &MethodTree,
+    names: &Names,
+    answers: &AnswerList,
+) -> Result<Option<Deeds>, AllocError> {
+    match trace(alloc, tree, names, answers) {
+        Ok(deeds) => Ok(Some(deeds)),
+        Err(MeaningFault::Long) => Ok(None),
+        Err(MeaningFault::OutOfMemory) => Err(AllocError),
+    }
+}
+
+/// What a text does by its tree, or why nothing is done.
+fn shown_trace(
+    rt: &impl Abort,
+    alloc: Global,
+    text: &[u8],
+    values: &[Value],
+    names: &Names,
+) -> Result<String, AllocError> {
+    let tree = match parsed(rt, alloc, text)? {
+        Ok(tree) => tree,
+        Err(fault) => return Ok(fault),
+    };
+    let answers = plain_answers(alloc, values)?;
+    let Some(deeds) = traced(alloc, &tree, names, &answers)? else {
+        return format!(in alloc; " long");
+    };
+    let mut shown = String::new(alloc);
+    add_deeds(&mut shown, alloc, &deeds)?;
+    Ok(shown)
+}
+
 /// What is done by a text's code, or why nothing is.
 fn shown(
     rt: &impl Abort,
@@ -247,6 +284,8 @@ fn code_does_what_its_text_says(rt: HostRuntime) -> Result<(), Fail> {
     for (text, values, expected) in ROWS {
         let found = shown(&rt, rt.alloc(), text, values, &names)?;
         assert_eq!(rt; found.as_str(), expected);
+        let meant = shown_trace(&rt, rt.alloc(), text, values, &names)?;
+        assert_eq!(rt; meant.as_str(), expected);
     }
     Ok(())
 }
@@ -282,7 +321,27 @@ struct Case {
     expected: &'static str,
 }
 
-/// How many deeds there are.
+/// The answers of a method's messages.
+fn answers_of(alloc: Global, case: Case) -> Result<AnswerList, AllocError> {
+    let change = Change {
+        variable: Place::Field(1),
+        value: TRUE,
+    };
+    let mut answers = Vec::new(alloc);
+    add_answers(&mut answers, alloc, case.changing, &[change])?;
+    add_answers(&mut answers, alloc, case.plain, &[])?;
+    Ok(answers)
+}
+
+/// How many deeds there are, if they aren't too many.
+fn length_of(deeds: &Option<Deeds>) -> Option<usize> {
+    match deeds {
+        Some(deeds) => Some(deeds.len()),
+        None => None,
+    }
+}
+
+/// How many deeds there are, by a method's code and by its tree.
 fn counted(
     rt: &impl Abort,
     alloc: Global,
@@ -294,15 +353,18 @@ fn counted(
         Ok(parts) => parts,
         Err(fault) => return Ok(fault),
     };
-    let change = Change {
-        variable: Place::Field(1),
-        value: TRUE,
+    let tree = match parsed(rt, alloc, &text)? {
+        Ok(tree) => tree,
+        Err(fault) => return Ok(fault),
     };
-    let mut answers = Vec::new(alloc);
-    add_answers(&mut answers, alloc, case.changing, &[change])?;
-    add_answers(&mut answers, alloc, case.plain, &[])?;
-    match walked(alloc, &parts, &answers)? {
-        Some(deeds) => format!(in alloc; "{}", deeds.len()),
+    let answers = answers_of(alloc, case)?;
+    let by_code = length_of(&walked(alloc, &parts, &answers)?);
+    let by_tree = length_of(&traced(alloc, &tree, names, &answers)?);
+    if by_code != by_tree {
+        return format!(in alloc; "unlike");
+    }
+    match by_code {
+        Some(length) => format!(in alloc; "{length}"),
         None => format!(in alloc; "long"),
     }
 }
@@ -395,5 +457,44 @@ fn code_ends_where_it_cannot_go_on(rt: HostRuntime) -> Result<(), Fail> {
         add_deeds(&mut found, rt.alloc(), &deeds)?;
         assert_eq!(rt; found.as_str(), expected);
     }
+    Ok(())
+}
+
+/// The tree of `foo ^x +`, where a message lacks its argument: no text means it.
+fn odd_tree(alloc: Global) -> Result<MethodTree, AllocError> {
+    let x = Expression::Variable(Name {
+        text: b"x".to_vec(alloc)?,
+        place: 1,
+    });
+    let plus = Message {
+        selector: b"+".to_vec(alloc)?,
+        arguments: Vec::new(alloc),
+    };
+    let value = Expression::Send {
+        receiver: Box::new(alloc, x)?,
+        messages: vec![in alloc; plus]?,
+    };
+    let statement = Statement {
+        returns: true,
+        value,
+    };
+    Ok(MethodTree {
+        selector: b"foo".to_vec(alloc)?,
+        arguments: Vec::new(alloc),
+        temporaries: Vec::new(alloc),
+        primitive: None,
+        body: vec![in alloc; statement]?,
+    })
+}
+
+#[test]
+fn trees_that_no_text_means_have_a_trace(rt: HostRuntime) -> Result<(), Fail> {
+    let names = names(rt.alloc())?;
+    let tree = odd_tree(rt.alloc())?;
+    let answers = plain_answers(rt.alloc(), &[TRUE])?;
+    let deeds = traced(rt.alloc(), &tree, &names, &answers)?.ok_or("too long")?;
+    let mut found = String::new(rt.alloc());
+    add_deeds(&mut found, rt.alloc(), &deeds)?;
+    assert_eq!(rt; found.as_str(), " f0' +. ^ true.");
     Ok(())
 }

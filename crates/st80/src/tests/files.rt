@@ -133,6 +133,37 @@ pub const STORE_G: Files<'static> = &[
     ("S.changes", &[]),
 ];
 
+/// A store of image G, whose changes are two definitions of one method before the base, and one more of another behind it.
+pub const STORE_C: Files<'static> = &[
+    (
+        "S.roots",
+        &[
+            (
+                0,
+                &[
+                    0x5354, 0x3830, 0x524f, 0x4f54, 0, 0, 0, 0, 0, 0, 0, 0, 0, 0, 0, 1168, 0, 0, 0,
+                    64, 0, 0, 0, 96,
+                ],
+            ),
+            (80, &[]),
+        ],
+    ),
+    ("S.a", IMAGE_G),
+    (
+        "S.changes",
+        &[(
+            0,
+            &[
+                0x2150, 0x6f69, 0x6e74, 0x206d, 0x6574, 0x686f, 0x6473, 0x466f, 0x723a, 0x2027,
+                0x6127, 0x210a, 0x7820, 0x5e78, 0x2120, 0x210a, 0x2150, 0x6f69, 0x6e74, 0x206d,
+                0x6574, 0x686f, 0x6473, 0x466f, 0x723a, 0x2027, 0x6127, 0x210a, 0x7820, 0x5e79,
+                0x2120, 0x210a, 0x2150, 0x6f69, 0x6e74, 0x206d, 0x6574, 0x686f, 0x6473, 0x466f,
+                0x723a, 0x2027, 0x6127, 0x210a, 0x7920, 0x5e79, 0x2120, 0x210a,
+            ],
+        )],
+    ),
+];
+
 fn push_words(bytes: &mut Vec<u8>, words: &[u16]) -> Result<(), AllocError> {
     for word in words {
         bytes.push((*word >> 8) as u8)?;

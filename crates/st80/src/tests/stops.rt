@@ -1,6 +1,6 @@
 //! The table of jobs: runs of the program that make, change or open a store, with each kind of trouble at each call of the host, from
 //! the first one on until a run meets none; and how the store opens behind each.
-use super::files::{Files, IMAGE_G, STORE_G, host_with};
+use super::files::{Files, IMAGE_G, STORE_C, STORE_G, host_with};
 use super::{MemHost, MemSource, Status, call};
 use st_host::Leave;
 use std::alloc::{AllocError, Global};
@@ -94,6 +94,16 @@ const CLEAN: Run<'static> = Run {
     script: "",
     said: "cleaned 35 131\n",
     openings: &[(&[], OLD), (&[], OLD)],
+};
+
+/// What opening installs stays as it is.
+const CONDENSE: Run<'static> = Run {
+    files: STORE_C,
+    text: ("T", ""),
+    words: &["condense", "S"],
+    script: "",
+    said: "condensed 3 2\n",
+    openings: &[(&[], ONE), (&[], ONE)],
 };
 
 /// No store: the roots file isn't there, or its first letter, or the second one, is wrong.
@@ -344,6 +354,11 @@ fn an_export_leaves_the_store(rt: HostRuntime) -> Result<(), Fail> {
 #[test]
 fn a_clean_leaves_the_store(rt: HostRuntime) -> Result<(), Fail> {
     check_troubles(&rt, &CLEAN)
+}
+
+#[test]
+fn a_condense_leaves_what_opening_installs(rt: HostRuntime) -> Result<(), Fail> {
+    check_troubles(&rt, &CONDENSE)
 }
 
 #[test]

@@ -1,4 +1,4 @@
-use Rattle.std.proofs.Common.{◌≡◌, ◌+◌, length, drop}
+use Rattle.std.proofs.Common.{◌≡◌, ◌+◌, drop}
 use Rattle.st_cells.specs.Words.{with_bytes}
 use Rattle.st_cells.proofs.write_bytes.Given as goal
 

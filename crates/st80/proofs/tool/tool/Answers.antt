@@ -4,7 +4,7 @@ use Rattle.std.specs.String.{string_bytes}
 use Rattle.st_host.specs.Counts.{Rose}
 use Rattle.st_call.specs.declared.words.Command as declared
 use Rattle.st_call.specs.CommandViews.{command_view}
-use Rattle.st_call.specs.Words.{Once, Import, Export, Clean, Session, Build, Drill}
+use Rattle.st_call.specs.Words.{Once, Import, Export, Clean, Condense, Session, Build, Drill}
 use Rattle.st_session.proofs.Called.{caused_by_none, command_ends, usage_ends}
 use Rattle.st80.proofs.tool.tool.Goals as goal
 
@@ -58,6 +58,19 @@ returns-in-Some-Clean g c =
     record {
       ends = command_ends host (map string_bytes c.args.words.now) _ reads (g.S.Source.remaining script) (g.S.Source.remaining script) old new c.export-in-Some-Clean.result (Clean arm.store.now arm.image.now)
           (sym arm.ensures ∙ ap (λ (x : declared.Command). Some (command_view x)) arm.field-0-is) c.export-in-Some-Clean.ensures.ends (caused_by_none host reads old new c.export-in-Some-Clean.result c.export-in-Some-Clean.ensures.cause) (λ only. absurd only);
+    }
+
+pub returns-in-Some-Condense : goal.returns-in-Some-Condense
+returns-in-Some-Condense g c =
+    let arm = c.in-Some-Condense in
+    let host = g.H.Host in
+    let old = c.args.host.now in
+    let new = c.condense.new.host in
+    let script = c.args.script.now in
+    let reads = Rose (g.S.Source.read_faults script) (g.S.Source.read_faults script) in
+    record {
+      ends = command_ends host (map string_bytes c.args.words.now) _ reads (g.S.Source.remaining script) (g.S.Source.remaining script) old new c.condense.result (Condense arm.store.now)
+          (sym arm.ensures ∙ ap (λ (x : declared.Command). Some (command_view x)) arm.field-0-is) c.condense.ensures.ends (caused_by_none host reads old new c.condense.result c.condense.ensures.cause) (λ only. absurd only);
     }
 
 pub returns-in-Some-Build : goal.returns-in-Some-Build

@@ -1,35 +1,13 @@
-use Rattle.std.proofs.Common.{List, [], ℕ, refl, sym, ap, subst, ◌∙◌, append-nil}
-use Rattle.std.specs.Prelude.{Option, Ok, true, false, option_map, unwrap_or}
+use Rattle.std.proofs.Common.{List, ℕ, sym, subst}
+use Rattle.std.specs.Prelude.{Option, option_map}
 use Rattle.st_host.specs.declared.host.SayFault.{SayFault}
-use Rattle.st_host.specs.Telling.{Says}
-use Rattle.st_host.proofs.Telling.{says_none}
 use Rattle.st_chunk.specs.Asks.{ask_of}
-use Rattle.st_browse.specs.Asked.{Answers, reply}
-use Rattle.st_browse.specs.Founds.{sought_text}
-use Rattle.st_browse.proofs.Texts.{one_reply, failed}
+use Rattle.st_browse.specs.Asked.{Answers}
+use Rattle.st_browse.proofs.Texts.{one_reply}
 use Rattle.st_browse.proofs.saying.browse_line.Goals as goal
 
-pub returns-in_err-say_sought-in-Some-clause-answers : goal.returns-in_err-say_sought-in-Some-clause-answers
-returns-in_err-say_sought-in-Some-clause-answers g c text is =
+pub returns-clause-answers : goal.returns-clause-answers
+returns-clause-answers g c text is =
     let v = g.M.Memory.view c.args.m.now in
-    let answer = one_reply v c.args.changes.now.listed (ask_of c.args.ask) text (option_map (λ t. t.now) c.text_for.result) is c.text_for.ensures
-    ∙ (sym c.seek.ensures.sought ∙ ap (option_map (sought_text v.objects)) c.in-Some.is) in
-    failed g.H.Host (reply v text (ask_of c.args.ask)) c.args.host.now c.say_sought.new.host _ c.from_residual.ensures.0
-    (subst (λ (r : Option (List ℕ)). Says g.H.Host (unwrap_or r []) c.args.host.now c.say_sought.new.host) (sym answer) c.in_err-say_sought-in-Some.ensures.says)
-
-pub returns-in_ok-say_sought-in-Some-clause-answers : goal.returns-in_ok-say_sought-in-Some-clause-answers
-returns-in_ok-say_sought-in-Some-clause-answers g c text is =
-    let v = g.M.Memory.view c.args.m.now in
-    let answer = one_reply v c.args.changes.now.listed (ask_of c.args.ask) text (option_map (λ t. t.now) c.text_for.result) is c.text_for.ensures
-    ∙ (sym c.seek.ensures.sought ∙ ap (option_map (sought_text v.objects)) c.in-Some.is) in
-    subst (λ (r : Option (List ℕ)). Answers {E = SayFault} g.H.Host r c.args.host.now c.say_sought.new.host (Ok true)) (sym answer) (record { there = refl; all = c.in_ok-say_sought-in-Some.ensures.all; says = c.in_ok-say_sought-in-Some.ensures.says })
-
-pub returns-in-None-clause-answers : goal.returns-in-None-clause-answers
-returns-in-None-clause-answers g c text is =
-    let v = g.M.Memory.view c.args.m.now in
-    let host = g.H.Host in
-    let now = c.args.host.now in
-    let answer = one_reply v c.args.changes.now.listed (ask_of c.args.ask) text (option_map (λ t. t.now) c.text_for.result) is c.text_for.ensures
-    ∙ (sym c.seek.ensures.sought ∙ ap (option_map (sought_text v.objects)) c.in-None.is) in
-    subst (λ (r : Option (List ℕ)). Answers {E = SayFault} host r now now (Ok false)) (sym answer)
-    (record { there = refl; all = record { is = λ told. sym (append-nil (host.said now)) }; says = says_none (g.met.H.Host.only_now now) })
+    let same = one_reply v c.args.changes.now.listed (ask_of c.args.ask) text (option_map (λ t. t.now) c.text_for.result) is c.text_for.ensures in
+    subst (λ (r : Option (List ℕ)). Answers {E = SayFault} g.H.Host r c.args.host.now c.answer.new.host c.answer.result) (sym same) c.answer.ensures.answers

@@ -1,4 +1,4 @@
-use Rattle.st_decompile.proofs.Decompiled.{found}
+use Rattle.st_decompile.proofs.Finding.{found}
 use Rattle.st_decompile.proofs.laws.code_is_read_back.Goals as goal
 
 pub returns : goal.returns

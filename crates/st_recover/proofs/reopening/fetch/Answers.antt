@@ -25,6 +25,7 @@ returns-in_err-store g c =
     rw (p.1, p.2) (record {
       named = tt;
       listed = tt;
+      file = tt;
       whole = tt;
       sound = tt;
       good = tt;
@@ -64,6 +65,7 @@ returns-in_err-loaded g c =
     rw (p.1, p.2) (record {
       named = tt;
       listed = tt;
+      file = tt;
       whole = tt;
       sound = tt;
       good = tt;
@@ -107,6 +109,7 @@ returns-in_err-changes g c =
     rw (p.1, p.2) (record {
       named = tt;
       listed = tt;
+      file = tt;
       whole = tt;
       sound = tt;
       good = tt;
@@ -121,7 +124,7 @@ returns-in_err-changes g c =
       moments = λ told. seen told d told (opened.moments told) narrows;
       settles = λ told ready. inr (settled_more H name a b told d (c.in_ok-store.ensures.settled told ready) narrows);
       only = but_reading H name a b d opened.only narrows;
-      spares = spares_changes H name store.name a m d c.in_ok-store.ensures.named spared c.load.ensures.only;
+      spares = spares_changes H name store.name store.root.slot a m d c.in_ok-store.ensures.named spared c.load.ensures.only;
       cause = cause_behind H a m d (by_store fault) (omega (arith, opened.only.disk, c.read_image.ensures.reads.disk)) (store_cause H m d fault failed.cause);
     })
 
@@ -148,6 +151,7 @@ returns g c =
     record {
       named = c.in_ok-store.ensures.named;
       listed = load.named ∙ c.in_ok-store.ensures.named;
+      file = load.second;
       whole = load.whole;
       sound = c.in_ok-store.ensures.sound;
       good = load.good;
@@ -168,6 +172,6 @@ returns g c =
       moments = λ told. seen told d told (opened.moments told) narrows;
       settles = λ told ready. inr (settled_more H name a b told d (c.in_ok-store.ensures.settled told ready) narrows);
       only = but_reading H name a b d opened.only narrows;
-      spares = spares_changes H name store.name a m d c.in_ok-store.ensures.named spared c.load.ensures.only;
+      spares = spares_changes H name store.name store.root.slot a m d c.in_ok-store.ensures.named spared c.load.ensures.only;
       cause = tt;
     }

@@ -20,5 +20,5 @@ returns-in-Some-clause-follows g c =
     dead_answers g.M.Memory.view g.H.Host m a old m a new (λ being k. browse_course in_a_store being k (ask_of c.args.ask)) c.say_reply.result cause dies
     (λ k holds. line_said g.M.Memory.view g.H.Host m a k (dead_text 0 cause) (gone cause k) old new c.say_reply.result c.say_reply.ensures holds dies refl)
 
-pub returns-in-Some-clause-ample : goal.returns-in-Some-clause-ample
-returns-in-Some-clause-ample g c = λ none. never_starved c.say_reply.result c.say_reply.ensures.fault none
+pub returns-in-Some-clause-starved : goal.returns-in-Some-clause-starved
+returns-in-Some-clause-starved g c = λ none. never_starved c.say_reply.result c.say_reply.ensures.fault none

@@ -110,6 +110,9 @@ returns-in-Err-clause-ends g c =
         moments = refused_moments host name e old mid new (opened.moments told) (opened.leaves told) (opened.only.quiet told) told line.reads;
         elsewhere = refused_elsewhere host name _ old mid new opened.only told line.reads;
         rests = λ named k o. rests_line host name k _ mid new told line.reads (opened.rests told named k o);
+        opened = mid;
+        settles = opened.settles told;
+        behind = line.reads;
         spares = spares_line host name _ old mid new opened.spares line.alike line.reads;
       });
       promise = λ told read k rest r reopens.

@@ -84,6 +84,9 @@ returns-in-Err-clause-ends g c =
         moments = refused_moments host store e old mid new (opened.moments told) (opened.leaves told) (opened.only.quiet told) told line.reads;
         elsewhere = refused_elsewhere host store _ old mid new opened.only told line.reads;
         rests = λ named k o. rests_line host store k _ mid new told line.reads (opened.rests told named k o);
+        opened = mid;
+        settles = opened.settles told;
+        behind = line.reads;
         spares = spares_line host store _ old mid new opened.spares line.alike line.reads;
       });
       stays = λ told apart k rest. refused_stays host store image k _ old mid new rest (λ n. g.met.H.Host.read_counts old n told) (opened.moments told) (opened.leaves told) told line.reads;

@@ -59,4 +59,4 @@ returns-clause-ends g c =
       disk = new.cause.later;
     } in
     let line = c.refuse.ensures in
-    failed_ends g.H.Host c.args.origin (contents_in v) store old made tries c.in-Err.fault new.kind new.refused c.store_status-status.result c.refuse.new.host c.store_status-status.ensures (λ same. new.cause.rose (ap Err same)) new.writes_nothing line.line line.reads line.alike line.disk
+    failed_ends g.H.Host c.args.origin (contents_in v) store old made tries c.in-Err.fault new.kind new.refused new.broken c.store_status-status.result c.refuse.new.host c.store_status-status.ensures (λ same. new.cause.rose (ap Err same)) new.writes_nothing line.line line.reads line.alike line.disk

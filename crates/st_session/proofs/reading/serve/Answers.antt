@@ -17,6 +17,7 @@ use Rattle.st_install.specs.Defining.{installed}
 use Rattle.st_recover.specs.Archives.{ArchiveState, Holds}
 use Rattle.st_recover.specs.Commits.{Commit, OpensAs}
 use Rattle.st_recover.specs.Replays.{Loss, losses_of}
+use Rattle.st_recover.proofs.Gates.{own_gate}
 use Rattle.st_call.specs.Telling.{IsOfServing}
 use Rattle.st_session.specs.Ends.{SessionEnds, status_in}
 use Rattle.st_session.specs.Keeping.{in_a_store}
@@ -33,7 +34,7 @@ use Rattle.st_session.proofs.reading.serve.Goals as goal
 -- the same end in other words
 module _ {D : Type 0} (host : Ghosts D) (k : Commit) (s : State Births) (replayed : ℕ) (script left : List ℕ) (old new : D) where
   abbrev Ends_so : List ℕ → List Loss → Status → Type 0
-  Ends_so name lost e = SessionEnds host (OpensAs name) (IsNoFileOf name) k (session_over replayed lost s k script) (session_so_far_over replayed lost s k) script left old new e
+  Ends_so name lost e = SessionEnds host (OpensAs name) (IsNoFileOf name) k name (session_over replayed lost s k script) (session_so_far_over replayed lost s k) script left old new e
 
   ends_so : (n m : List ℕ) (l o : List Loss) (e f : Status) → n ≡ m → l ≡ o → e ≡ f → Ends_so n l e → Ends_so m o f
   ends_so n m l o e f one two three h = subst (λ (x : Status). Ends_so m o x) three (subst (λ (x : List Loss). Ends_so m x e) two (subst (λ (x : List ℕ). Ends_so x l e) one h))
@@ -53,7 +54,8 @@ returns-in-Err-clause-ends g c = λ told k s o.
     let lost = losses_of opened.lost.items in
     let course = session_over opened.replayed lost s k script in
     let a : ArchiveState = record { name = name; store = Some opened.store; listed = opened.changes.listed } in
-    ends_of g.H.Host (OpensAs name) (IsNoFileOf name) k (λ (x : Point Commit). Unit {0}) (λ (x : Point Commit). x.kept) course (session_so_far_over opened.replayed lost s k) script script (Err status.OutOfMemory) h h
+    ends_of g.H.Host (OpensAs name) (IsNoFileOf name) k (λ (x : Point Commit). Unit {0}) (λ (x : Point Commit). x.kept) course (session_so_far_over opened.replayed lost s k) script script name
+    (λ tells other x new gate. own_gate g.H.Host name other x new tells (λ y n. g.met.H.Host.read_counts y n tells) gate) (Err status.OutOfMemory) h h
     (session_ends in_a_store installed opened.replayed lost (alive s k) script) (session_law opened.replayed lost (alive s k) script)
     (obeys_fault g.H.Host (OpensAs name) (IsNoFileOf name) (λ (x : Point Commit). Unit {0}) (λ (x : Point Commit). x.kept) k course status.OutOfMemory h tt (g.met.H.Host.only_now h) (holds_rest g.H.Host a k o.holds))
     (λ fault. cc)
@@ -79,7 +81,8 @@ returns-clause-ends g c = λ told k s o.
     let on = IsAt view g.H.Host c.open.new.machine c.open.new.archive new in
     let named : a.name ≡ opened.store.name = ap (λ (x : ArchiveState). x.name) c.new-archive.ensures ∙ c.requires.named in
     ends_so g.H.Host k s opened.replayed script left h new a.name opened.store.name lost (losses_of opened.lost.items) (status_in c.open.result) c.status_of.result named (ap losses_of c.deref.ensures.value) (sym c.status_of.ensures)
-    (ends_of g.H.Host (OpensAs a.name) (IsNoFileOf a.name) k on (λ (x : Point Commit). x.kept) (session_over opened.replayed lost s k script) (session_so_far_over opened.replayed lost s k) script left c.open.result h new
+    (ends_of g.H.Host (OpensAs a.name) (IsNoFileOf a.name) k on (λ (x : Point Commit). x.kept) (session_over opened.replayed lost s k script) (session_so_far_over opened.replayed lost s k) script left a.name
+    (λ tells other x new gate. own_gate g.H.Host a.name other x new tells (λ y n. g.met.H.Host.read_counts y n tells) gate) c.open.result h new
     (session_ends in_a_store installed opened.replayed lost p script) (session_law opened.replayed lost p script) (c.open.ensures.follows told p at) (λ fault. c.open.ensures.told fault told p at)
     (λ none tells. ⊎_elim (λ same. none_acknowledged g.H.Host a.name p opened.replayed lost script h new same (holds_rest g.H.Host a k holds) tells)
     (λ some. some_acknowledged g.H.Host a.name p opened.replayed lost script h new (some p at) tells) (c.open.ensures.starved none told)))
@@ -95,7 +98,7 @@ returns-clause-complete g c = λ told k s o end calm.
     let name = opened.store.name in
     let script = g.S.Source.remaining c.args.script.now in
     let lost = losses_of opened.lost.items in
-    complete_of g.H.Host (OpensAs name) (IsNoFileOf name) k (λ (x : Point Commit). Unit {0}) (λ (x : Point Commit). x.kept) (session_over opened.replayed lost s k script) (session_so_far_over opened.replayed lost s k) script (g.S.Source.remaining c.open.new.script) (Rose (g.S.Source.read_faults c.args.script.now) (g.S.Source.read_faults c.open.new.script)) c.status_of.result c.args.host.now c.open.new.host
+    complete_of g.H.Host (OpensAs name) (IsNoFileOf name) k (λ (x : Point Commit). Unit {0}) (λ (x : Point Commit). x.kept) (session_over opened.replayed lost s k script) (session_so_far_over opened.replayed lost s k) script (g.S.Source.remaining c.open.new.script) name (Rose (g.S.Source.read_faults c.args.script.now) (g.S.Source.read_faults c.open.new.script)) c.status_of.result c.args.host.now c.open.new.host
     (returns-clause-ends g c told k s o) (returns-clause-cause g c) end calm
 
 pub returns-clause-kind : goal.returns-clause-kind

@@ -25,8 +25,8 @@ returns-in-Err-clause-obeys g c = λ k holds.
     let v = g.M.Memory.view c.args.m.now in
     let image = image_with v.objects v.head in
     let name = c.args.archive.now.name in
-    image_unkept g.H.Host (OpensAs name) (IsNoFileOf name) (Holds g.H.Host c.snapshot.new.host c.snapshot.new.self) k image c.args.host.now c.snapshot.new.host _
-    (λ told. c.in-Err.ensures.makes k told holds) c.in-Err.ensures.spares
+    image_unkept g.H.Host (OpensAs name) (IsNoFileOf name) (Holds g.H.Host c.snapshot.new.host c.snapshot.new.self) k image name c.args.host.now c.snapshot.new.host _
+    (λ told. c.in-Err.ensures.makes k told holds) (λ told. c.in-Err.ensures.broken k told holds) c.in-Err.ensures.spares
 
 pub returns-in-Ok-clause-ample : goal.returns-in-Ok-clause-ample
 returns-in-Ok-clause-ample g c = λ none. never_starved c.say_reply.result c.say_reply.ensures.fault none

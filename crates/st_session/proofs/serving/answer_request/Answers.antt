@@ -31,7 +31,7 @@ returns-in_default-clause-follows g c = λ p at.
     (sym (asked_line place c.args.request c.in_default.not-Browse c.in_default.not-Define)) (called.ensures.follows p at)
 
 pub returns-in-Browse-clause-starved : goal.returns-in-Browse-clause-starved
-returns-in-Browse-clause-starved g c = λ none. absurd (c.answer_ask.ensures.ample none)
+returns-in-Browse-clause-starved g c = λ none. c.answer_ask.ensures.starved none
 
 pub returns-in_default-clause-starved : goal.returns-in_default-clause-starved
 returns-in_default-clause-starved g c = λ none. absurd (c.answer_line.ensures.ample none)

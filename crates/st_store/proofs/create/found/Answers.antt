@@ -78,19 +78,19 @@ returns-clause-kept g c image told empty firm =
 
 pub returns-in_err-prepare-clause-changes : goal.returns-in_err-prepare-clause-changes
 returns-in_err-prepare-clause-changes g c =
-    subst (λ (y : List ℕ). ChangesBoth g.H.Host (changes_file y) (roots_file y) c.args.host.now c.prepare.new.host) c.new_store.view_is c.prepare.ensures.changes
+    subst (λ (y : List ℕ). ChangesBoth g.H.Host (changes_file y 0) (roots_file y) c.args.host.now c.prepare.new.host) c.new_store.view_is c.prepare.ensures.changes
 
 pub returns-in_err-inscribe-clause-changes : goal.returns-in_err-inscribe-clause-changes
 returns-in_err-inscribe-clause-changes g c =
     let n = string_bytes c.new_store.inside.names.name in
-    subst (λ (y : List ℕ). ChangesBoth g.H.Host (changes_file y) (roots_file y) c.args.host.now c.inscribe.new.host) c.new_store.view_is
-    (both_more g.H.Host (changes_file n) (roots_file n) c.args.host.now c.prepare.new.host c.inscribe.new.host c.prepare.ensures.changes c.inscribe.ensures.changes)
+    subst (λ (y : List ℕ). ChangesBoth g.H.Host (changes_file y 0) (roots_file y) c.args.host.now c.inscribe.new.host) c.new_store.view_is
+    (both_more g.H.Host (changes_file n 0) (roots_file n) c.args.host.now c.prepare.new.host c.inscribe.new.host c.prepare.ensures.changes c.inscribe.ensures.changes)
 
 pub returns-clause-changes : goal.returns-clause-changes
 returns-clause-changes g c =
     let n = string_bytes c.new_store.inside.names.name in
-    subst (λ (y : List ℕ). ChangesBoth g.H.Host (changes_file y) (roots_file y) c.args.host.now c.inscribe.new.host) c.new_store.view_is
-    (both_more g.H.Host (changes_file n) (roots_file n) c.args.host.now c.prepare.new.host c.inscribe.new.host c.prepare.ensures.changes c.inscribe.ensures.changes)
+    subst (λ (y : List ℕ). ChangesBoth g.H.Host (changes_file y 0) (roots_file y) c.args.host.now c.inscribe.new.host) c.new_store.view_is
+    (both_more g.H.Host (changes_file n 0) (roots_file n) c.args.host.now c.prepare.new.host c.inscribe.new.host c.prepare.ensures.changes c.inscribe.ensures.changes)
 
 pub returns-clause-bytes : goal.returns-clause-bytes
 returns-clause-bytes g c told empty =
@@ -105,8 +105,8 @@ pub returns-clause-emptied : goal.returns-clause-emptied
 returns-clause-emptied g c told =
     let H = g.H.Host in
     let n = string_bytes c.new_store.inside.names.name in
-    subst (λ (y : List ℕ). H.files c.inscribe.new.host (changes_file y) ≡ Some []) c.new_store.view_is
-    ((c.inscribe.ensures.changes.others told).files (changes_file n) (changes_roots n) ∙ c.in_ok-prepare.ensures.emptied told)
+    subst (λ (y : List ℕ). H.files c.inscribe.new.host (changes_file y 0) ≡ Some []) c.new_store.view_is
+    ((c.inscribe.ensures.changes.others told).files (changes_file n 0) (changes_roots n 0) ∙ c.in_ok-prepare.ensures.emptied told)
 
 pub returns-in_err-prepare-clause-broken : goal.returns-in_err-prepare-clause-broken
 returns-in_err-prepare-clause-broken g c = when_err c.from_residual.result _ (λ told empty.

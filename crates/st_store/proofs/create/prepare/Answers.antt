@@ -17,7 +17,7 @@ returns-in_err-cut_synced-clause-makes g c told empty =
     let a = c.args.host.now in
     let b = c.cut_synced.new.host in
     let name = string_bytes c.args.names.now.name in
-    cut_makes H name a b _ told (cuts_as H c.changes.result.now (changes_file name) 0 a b c.changes.ensures c.cut_synced.ensures.cuts) empty
+    cut_makes H name a b _ told (cuts_as H c.changes.result.now (changes_file name 0) 0 a b c.changes.ensures c.cut_synced.ensures.cuts) empty
     (on_err _ _ c.from_residual.ensures.0)
 
 pub returns-clause-blank : goal.returns-clause-blank
@@ -27,7 +27,7 @@ returns-clause-blank g c told empty =
     let b = c.cut_synced.new.host in
     let d = c.write_synced.new.host in
     let name = string_bytes c.args.names.now.name in
-    let cuts = cuts_as H c.changes.result.now (changes_file name) 0 a b c.changes.ensures c.cut_synced.ensures.cuts in
+    let cuts = cuts_as H c.changes.result.now (changes_file name 0) 0 a b c.changes.ensures c.cut_synced.ensures.cuts in
     let still = still_empty H name a b c.cut_synced.result told cuts empty in
     let reads = g.met.H.Host.read_counts b (roots_file name) told in
     let written = written_as H name c.roots.result.now 0 (0 ∷ []) (0 ∷ []) b d c.roots.ensures refl (c.in_ok-write_synced.ensures.written told) in
@@ -41,7 +41,7 @@ returns-clause-makes g c told empty =
     let b = c.cut_synced.new.host in
     let d = c.write_synced.new.host in
     let name = string_bytes c.args.names.now.name in
-    let cuts = cuts_as H c.changes.result.now (changes_file name) 0 a b c.changes.ensures c.cut_synced.ensures.cuts in
+    let cuts = cuts_as H c.changes.result.now (changes_file name 0) 0 a b c.changes.ensures c.cut_synced.ensures.cuts in
     let writes = writes_as H name c.roots.result.now 0 1 1 b d c.roots.ensures refl c.write_synced.ensures.writes in
     let blank = returns-clause-blank g c told empty in
     let still = still_empty H name a b c.cut_synced.result told cuts empty in
@@ -57,7 +57,7 @@ returns-in_err-write_synced-clause-makes g c told empty =
     let b = c.cut_synced.new.host in
     let d = c.write_synced.new.host in
     let name = string_bytes c.args.names.now.name in
-    let cuts = cuts_as H c.changes.result.now (changes_file name) 0 a b c.changes.ensures c.cut_synced.ensures.cuts in
+    let cuts = cuts_as H c.changes.result.now (changes_file name 0) 0 a b c.changes.ensures c.cut_synced.ensures.cuts in
     let writes = writes_as H name c.roots.result.now 0 1 1 b d c.roots.ensures refl c.write_synced.ensures.writes in
     let still = still_empty H name a b c.cut_synced.result told cuts empty in
     let reads = g.met.H.Host.read_counts b (roots_file name) told in
@@ -71,7 +71,7 @@ returns-in_err-cut_synced-clause-changes g c =
     let a = c.args.host.now in
     let b = c.cut_synced.new.host in
     let name = string_bytes c.args.names.now.name in
-    both_begun H (changes_file name) (roots_file name) a b (cut_changes H (changes_file name) 0 a b (cuts_as H c.changes.result.now (changes_file name) 0 a b c.changes.ensures c.cut_synced.ensures.cuts))
+    both_begun H (changes_file name 0) (roots_file name) a b (cut_changes H (changes_file name 0) 0 a b (cuts_as H c.changes.result.now (changes_file name 0) 0 a b c.changes.ensures c.cut_synced.ensures.cuts))
 
 pub returns-in_err-write_synced-clause-changes : goal.returns-in_err-write_synced-clause-changes
 returns-in_err-write_synced-clause-changes g c =
@@ -80,9 +80,9 @@ returns-in_err-write_synced-clause-changes g c =
     let b = c.cut_synced.new.host in
     let d = c.write_synced.new.host in
     let name = string_bytes c.args.names.now.name in
-    let cuts = cuts_as H c.changes.result.now (changes_file name) 0 a b c.changes.ensures c.cut_synced.ensures.cuts in
+    let cuts = cuts_as H c.changes.result.now (changes_file name 0) 0 a b c.changes.ensures c.cut_synced.ensures.cuts in
     let writes = writes_as H name c.roots.result.now 0 1 1 b d c.roots.ensures refl c.write_synced.ensures.writes in
-    both_join H (changes_file name) (roots_file name) a b d (cut_changes H (changes_file name) 0 a b cuts) (write_changes H (roots_file name) 0 1 b d writes)
+    both_join H (changes_file name 0) (roots_file name) a b d (cut_changes H (changes_file name 0) 0 a b cuts) (write_changes H (roots_file name) 0 1 b d writes)
 
 pub returns-clause-changes : goal.returns-clause-changes
 returns-clause-changes g c =
@@ -91,9 +91,9 @@ returns-clause-changes g c =
     let b = c.cut_synced.new.host in
     let d = c.write_synced.new.host in
     let name = string_bytes c.args.names.now.name in
-    let cuts = cuts_as H c.changes.result.now (changes_file name) 0 a b c.changes.ensures c.cut_synced.ensures.cuts in
+    let cuts = cuts_as H c.changes.result.now (changes_file name 0) 0 a b c.changes.ensures c.cut_synced.ensures.cuts in
     let writes = writes_as H name c.roots.result.now 0 1 1 b d c.roots.ensures refl c.write_synced.ensures.writes in
-    both_join H (changes_file name) (roots_file name) a b d (cut_changes H (changes_file name) 0 a b cuts) (write_changes H (roots_file name) 0 1 b d writes)
+    both_join H (changes_file name 0) (roots_file name) a b d (cut_changes H (changes_file name 0) 0 a b cuts) (write_changes H (roots_file name) 0 1 b d writes)
 
 pub returns-clause-emptied : goal.returns-clause-emptied
 returns-clause-emptied g c told =
@@ -104,4 +104,4 @@ returns-clause-emptied g c told =
     let name = string_bytes c.args.names.now.name in
     let writes = writes_as H name c.roots.result.now 0 1 1 b d c.roots.ensures refl c.write_synced.ensures.writes in
     let cut = subst (λ (x : List ℕ). IsCut 0 (H.files a x) (H.files b x)) c.changes.ensures (c.in_ok-cut_synced.ensures.cut told) in
-    (writes.run.others told).files (changes_file name) (changes_roots name) ∙ cut_empty (H.files a (changes_file name)) (H.files b (changes_file name)) cut
+    (writes.run.others told).files (changes_file name 0) (changes_roots name 0) ∙ cut_empty (H.files a (changes_file name 0)) (H.files b (changes_file name 0)) cut

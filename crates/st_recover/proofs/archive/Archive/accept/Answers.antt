@@ -1,7 +1,7 @@
-use Rattle.std.proofs.Common.{◌≡◌, ℕ, List, [], ◌∷◌, ◌++◌, refl, sym, subst, ap, ◌∙◌, true≢false}
+use Rattle.std.proofs.Common.{◌≡◌, ℕ, List, [], ◌∷◌, ◌++◌, length, refl, sym, subst, ap, ◌∙◌, true≢false}
 use Rattle.std.specs.Prelude.{Ok, Err}
 use Rattle.st_host.specs.Runs.{ChangesBoth}
-use Rattle.st_chunk.specs.Definitions.{Definition, IsDefinition}
+use Rattle.st_chunk.specs.Definitions.{Definition, IsDefinition, entries}
 use Rattle.st_chunk.specs.ScriptDefinitions.{definition_of}
 use Rattle.st_store.specs.Names.{changes_file, roots_file, IsNoFileOf}
 use Rattle.st_store.specs.Stored.{StoreState}
@@ -55,11 +55,13 @@ returns-in_default-append-clause-obeys g c x holds =
     let there = ap (λ (s : ArchiveState). s.store) (sym c.self.view_is) ∙ sym c.take.ensures.value ∙ c.in-Some.is in
     let fits = it_fits x kept c.self.inside.changes.listed listed (c.fits.ensures.0 c.if-not-fits.false) in
     let name_is = named H a old st x holds there in
-    let both = subst (λ (n : List ℕ). ChangesBoth H (changes_file n) (roots_file n) a b) name_is c.append.ensures.changes in
-    let spares = both_spare H (changes_file old.name) (roots_file old.name) (IsNoFileOf old.name) a b (λ n no. no.changes) (λ n no. no.roots) both in
+    let slot = st.root.slot in
+    let both = subst (λ (n : List ℕ). ChangesBoth H (changes_file n slot) (roots_file n) a b) name_is c.append.ensures.changes in
+    let spares = both_spare H (changes_file old.name slot) (roots_file old.name) (IsNoFileOf old.name) a b (λ n no. no.changes slot) (λ n no. no.roots) both in
     let makes = accept_makes H a old st x holds there kept b c.append.result (subst IsDefinition (sym is) c.requires.good) (λ y told keeps. c.append.ensures.makes y told keeps) in
     obeys_as H (OpensAs old.name) (IsNoFileOf old.name) _ (λ d. d) x (accepting x kept) (accepting x (definition_of c.args.definition.now)) (Err DiskFault) a b (ap (accepting x) is)
-    (accept_failed H (OpensAs old.name) (IsNoFileOf old.name) _ x kept a b c.append.result fits makes spares)
+    (accept_failed H (OpensAs old.name) (IsNoFileOf old.name) _ x kept old.name a b c.append.result fits makes
+    (accept_broken H a old st x holds there b (λ y told keeps. c.in_default-append.ensures.broken y told keeps)) spares)
 
 pub returns-in_default-append-clause-broken : goal.returns-in_default-append-clause-broken
 returns-in_default-append-clause-broken g c disk x told holds =
@@ -71,11 +73,11 @@ pub invariant_of-self-2 : goal.invariant_of-self-2
 invariant_of-self-2 g c =
     let kept = kept_definition c.in-Ok.definition in
     let inside = c.self.inside.changes in
-    let was : IsStoreOf inside.name inside.listed c.in-Some.store = c.self.invariant c.in-Some.store (sym c.take.ensures.value ∙ c.in-Some.is) in
+    let was : IsStoreOf inside.name inside.second inside.listed c.in-Some.store = c.self.invariant c.in-Some.store (sym c.take.ensures.value ∙ c.in-Some.is) in
     let more : c.append.new.self.listed ≡ inside.listed ++ kept ∷ [] = c.in-Ok-append.ensures.listed ∙ ap (λ (ds : List Definition). ds ++ kept ∷ []) c.reserve.ensures.listed in
-    let next = store_grown inside.name c.append.new.self.name inside.listed c.append.new.self.listed kept c.in-Some.store c.in-Ok-append.store was c.in-Ok-append.ensures.store
-    (c.append.ensures.named ∙ c.reserve.ensures.named) more in
-    λ y e. subst (λ (s : StoreState). IsStoreOf c.append.new.self.name c.append.new.self.listed s) (some_same e) next
+    let next = store_grown inside.name c.append.new.self.name inside.second c.append.new.self.second inside.listed c.append.new.self.listed kept c.in-Some.store c.in-Ok-append.store was c.in-Ok-append.ensures.store
+    (c.append.ensures.named ∙ c.reserve.ensures.named) (c.append.ensures.second ∙ c.reserve.ensures.second) more in
+    λ y e. subst (λ (s : StoreState). IsStoreOf c.append.new.self.name c.append.new.self.second c.append.new.self.listed s) (some_same e) next
 
 pub returns-clause-obeys : goal.returns-clause-obeys
 returns-clause-obeys g c x holds =
@@ -90,8 +92,9 @@ returns-clause-obeys g c x holds =
     let there = ap (λ (s : ArchiveState). s.store) (sym c.self.view_is) ∙ sym c.take.ensures.value ∙ c.in-Some.is in
     let fits = it_fits x kept c.self.inside.changes.listed listed (c.fits.ensures.0 c.if-not-fits.false) in
     let name_is = named H a old st x holds there in
-    let both = subst (λ (n : List ℕ). ChangesBoth H (changes_file n) (roots_file n) a b) name_is c.append.ensures.changes in
-    let spares = both_spare H (changes_file old.name) (roots_file old.name) (IsNoFileOf old.name) a b (λ n no. no.changes) (λ n no. no.roots) both in
+    let slot = st.root.slot in
+    let both = subst (λ (n : List ℕ). ChangesBoth H (changes_file n slot) (roots_file n) a b) name_is c.append.ensures.changes in
+    let spares = both_spare H (changes_file old.name slot) (roots_file old.name) (IsNoFileOf old.name) a b (λ n no. no.changes slot) (λ n no. no.roots) both in
     let good = subst IsDefinition (sym is) c.requires.good in
     let makes = accept_makes H a old st x holds there kept b (Ok c.in-Ok-append.store) good (λ y told keeps. c.in-Ok-append.ensures.makes y told keeps) in
     let more = c.in-Ok-append.ensures.listed ∙ ap (λ (ds : List Definition). ds ++ kept ∷ []) (c.reserve.ensures.listed ∙ ap (λ (s : ArchiveState). s.listed) c.self.view_is) in
@@ -99,3 +102,18 @@ returns-clause-obeys g c x holds =
     c.in-Ok-append.ensures.store (λ y told keeps. c.in-Ok-append.ensures.kept y told keeps) in
     obeys_as H (OpensAs old.name) (IsNoFileOf old.name) _ (λ d. d) x (accepting x kept) (accepting x (definition_of c.args.definition.now)) (Ok tt) a b (ap (accepting x) is)
     (accept_kept H (OpensAs old.name) (IsNoFileOf old.name) _ x kept a b c.in-Ok-append.store fits held makes spares)
+
+pub invariant_of-self : goal.invariant_of-self
+invariant_of-self g c x is =
+    let was = c.self.invariant x is in
+    let reserved = c.reserve.ensures in
+    record {
+      named = was.named ∙ sym reserved.named;
+      file = reserved.second ∙ was.file;
+      whole = was.whole ∙ ap (λ (ds : List Definition). length (entries ds)) (sym reserved.listed);
+    }
+
+pub append-requires-clause-place : goal.append-requires-clause-place
+append-requires-clause-place g c =
+    let was = c.self.invariant c.in-Some.store (sym c.take.ensures.value ∙ c.in-Some.is) in
+    was.whole ∙ ap (λ (ds : List Definition). length (entries ds)) (sym c.reserve.ensures.listed)

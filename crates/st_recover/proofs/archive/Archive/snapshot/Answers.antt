@@ -1,12 +1,14 @@
-use Rattle.std.proofs.Common.{◌≡◌, ◌-◌, length, Some, refl, sym, ap, ◌∙◌}
+use Rattle.std.proofs.Common.{◌≡◌, List, ℕ, length, Some, refl, sym, ap, ◌∙◌, subst}
 use Rattle.std.specs.Prelude.{Ok}
 use Rattle.st_host.proofs.Joining.{makes_of}
-use Rattle.st_store.specs.Stored.{Opens}
+use Rattle.st_host.proofs.Touching.{above_changes, changes_spare, spares_join}
+use Rattle.st_store.specs.Names.{roots_file, image_file, IsNoFileOf}
+use Rattle.st_store.specs.Stored.{StoreState, Opens}
 use Rattle.st_store.specs.declared.root.Root.{Root}
-use Rattle.st_recover.specs.Archives.{ArchiveState}
-use Rattle.st_recover.specs.Commits.{image_with}
+use Rattle.st_recover.specs.Archives.{ArchiveState, IsStoreOf}
+use Rattle.st_recover.specs.Commits.{image_with, other_image}
 use Rattle.st_recover.proofs.Images.{image_is, image_readable}
-use Rattle.st_recover.proofs.Holding.{unwritten_makes, unwritten_broken, snapshot_makes, snapshot_broken, snapshot_holds}
+use Rattle.st_recover.proofs.Holding.{some_same, store_imaged, unwritten_makes, unwritten_broken, snapshot_makes, snapshot_broken, snapshot_holds}
 use Rattle.st_store.proofs.Settling.{when_err}
 use Rattle.st_recover.proofs.archive.Archive.snapshot.Goals as goal
 
@@ -20,8 +22,8 @@ returns-in_err-image_length-clause-makes g c x told holds =
     let old = c.args.self.now in
     let st = c.in-Some.store in
     let there = ap (λ (s : ArchiveState). s.store) (sym c.self.view_is) ∙ sym c.take.ensures.value ∙ c.in-Some.is in
-    let at = c.saturating_sub-other.result in
-    let at_is : at ≡ 1 - st.root.slot = c.saturating_sub-other.ensures ∙ ap (λ (r : Root). 1 - r.slot) c.root-slot.ensures in
+    let at = c.other_image-other.result in
+    let at_is : at ≡ other_image st.root.slot = c.other_image-other.ensures ∙ ap (λ (r : Root). other_image r.slot) c.root-slot.ensures in
     let file = c.image_name.result.now in
     unwritten_makes H a old st x holds there b image file (image_readable v (g.met.M.Memory.whole c.args.m.now) c.requires.starts) st.root at at_is c.image_name.ensures c.write.ensures.writes c.write.result c.from_residual.result c.from_residual.ensures.0 told
 
@@ -35,8 +37,8 @@ returns-in_err-commit-clause-makes g c x told holds =
     let old = c.args.self.now in
     let st = c.in-Some.store in
     let there = ap (λ (s : ArchiveState). s.store) (sym c.self.view_is) ∙ sym c.take.ensures.value ∙ c.in-Some.is in
-    let at = c.saturating_sub-other.result in
-    let at_is : at ≡ 1 - st.root.slot = c.saturating_sub-other.ensures ∙ ap (λ (r : Root). 1 - r.slot) c.root-slot.ensures in
+    let at = c.other_image-other.result in
+    let at_is : at ≡ other_image st.root.slot = c.other_image-other.ensures ∙ ap (λ (r : Root). other_image r.slot) c.root-slot.ensures in
     let file = c.image_name.result.now in
     let l = c.in_ok-image_length.image_length in
     let n = c.root-slot.result.length in
@@ -63,8 +65,8 @@ returns-clause-makes g c x told holds =
     let old = c.args.self.now in
     let st = c.in-Some.store in
     let there = ap (λ (s : ArchiveState). s.store) (sym c.self.view_is) ∙ sym c.take.ensures.value ∙ c.in-Some.is in
-    let at = c.saturating_sub-other.result in
-    let at_is : at ≡ 1 - st.root.slot = c.saturating_sub-other.ensures ∙ ap (λ (r : Root). 1 - r.slot) c.root-slot.ensures in
+    let at = c.other_image-other.result in
+    let at_is : at ≡ other_image st.root.slot = c.other_image-other.ensures ∙ ap (λ (r : Root). other_image r.slot) c.root-slot.ensures in
     let file = c.image_name.result.now in
     let l = c.in_ok-image_length.image_length in
     let n = c.root-slot.result.length in
@@ -86,8 +88,8 @@ returns-clause-holds g c x holds =
     let old = c.args.self.now in
     let st = c.in-Some.store in
     let there = ap (λ (s : ArchiveState). s.store) (sym c.self.view_is) ∙ sym c.take.ensures.value ∙ c.in-Some.is in
-    let at = c.saturating_sub-other.result in
-    let at_is : at ≡ 1 - st.root.slot = c.saturating_sub-other.ensures ∙ ap (λ (r : Root). 1 - r.slot) c.root-slot.ensures in
+    let at = c.other_image-other.result in
+    let at_is : at ≡ other_image st.root.slot = c.other_image-other.ensures ∙ ap (λ (r : Root). other_image r.slot) c.root-slot.ensures in
     let file = c.image_name.result.now in
     let l = c.in_ok-image_length.image_length in
     let n = c.root-slot.result.length in
@@ -109,8 +111,8 @@ returns-in_err-image_length-clause-broken g c = when_err c.from_residual.result 
     let old = c.args.self.now in
     let st = c.in-Some.store in
     let there = ap (λ (s : ArchiveState). s.store) (sym c.self.view_is) ∙ sym c.take.ensures.value ∙ c.in-Some.is in
-    let at = c.saturating_sub-other.result in
-    let at_is : at ≡ 1 - st.root.slot = c.saturating_sub-other.ensures ∙ ap (λ (r : Root). 1 - r.slot) c.root-slot.ensures in
+    let at = c.other_image-other.result in
+    let at_is : at ≡ other_image st.root.slot = c.other_image-other.ensures ∙ ap (λ (r : Root). other_image r.slot) c.root-slot.ensures in
     let file = c.image_name.result.now in
     unwritten_broken H a old st x holds there b image file (image_readable v (g.met.M.Memory.whole c.args.m.now) c.requires.starts) st.root at at_is c.image_name.ensures c.write.ensures.writes c.write.result told)
 
@@ -124,8 +126,8 @@ returns-in_err-commit-clause-broken g c = when_err c.from_residual-in_err-commit
     let old = c.args.self.now in
     let st = c.in-Some.store in
     let there = ap (λ (s : ArchiveState). s.store) (sym c.self.view_is) ∙ sym c.take.ensures.value ∙ c.in-Some.is in
-    let at = c.saturating_sub-other.result in
-    let at_is : at ≡ 1 - st.root.slot = c.saturating_sub-other.ensures ∙ ap (λ (r : Root). 1 - r.slot) c.root-slot.ensures in
+    let at = c.other_image-other.result in
+    let at_is : at ≡ other_image st.root.slot = c.other_image-other.ensures ∙ ap (λ (r : Root). other_image r.slot) c.root-slot.ensures in
     let file = c.image_name.result.now in
     let l = c.in_ok-image_length.image_length in
     let n = c.root-slot.result.length in
@@ -134,3 +136,62 @@ returns-in_err-commit-clause-broken g c = when_err c.from_residual-in_err-commit
     let n_is = ap (λ (r : Root). r.length) c.root-slot.ensures in
     snapshot_broken H a old st x holds there b image file (image_readable v (g.met.M.Memory.whole c.args.m.now) c.requires.starts) root at at_is c.image_name.ensures c.write.ensures.writes (λ told. c.in_ok-image_length.ensures.file told ∙ ap Some (image_is v)) c.in_ok-image_length.ensures.synced refl long n_is n_is
     c.commit.new.host (λ y z told kept firm is. c.in_err-commit.ensures.broken y z told kept firm is) told)
+
+pub invariant_of-self-2 : goal.invariant_of-self-2
+invariant_of-self-2 g c =
+    let inside = c.self.inside.changes in
+    let st = c.in-Some.store in
+    let was : IsStoreOf inside.name inside.second inside.listed st = c.self.invariant st (sym c.take.ensures.value ∙ c.in-Some.is) in
+    let is = c.in_ok-commit.ensures.store in
+    let next = store_imaged inside.name inside.second inside.listed st c.in_ok-commit.field-0 was (ap (λ (s : StoreState). s.name) is)
+    (ap (λ (s : StoreState). s.root.slot) is ∙ c.other_image-other.ensures ∙ ap (λ (r : Root). other_image r.slot) c.root-slot.ensures)
+    (ap (λ (s : StoreState). s.root.length) is ∙ ap (λ (r : Root). r.length) c.root-slot.ensures) in
+    λ y e. subst (λ (s : StoreState). IsStoreOf inside.name inside.second inside.listed s) (some_same e) next
+
+pub returns-in_err-image_length-clause-spares : goal.returns-in_err-image_length-clause-spares
+returns-in_err-image_length-clause-spares g c =
+    let H = g.H.Host in
+    let a = c.args.host.now in
+    let b = c.write.new.host in
+    let old = c.args.self.now in
+    let inside = c.self.inside.changes in
+    let st = c.in-Some.store in
+    let was : IsStoreOf inside.name inside.second inside.listed st = c.self.invariant st (sym c.take.ensures.value ∙ c.in-Some.is) in
+    let named : st.name ≡ old.name = was.named ∙ ap (λ (s : ArchiveState). s.name) c.self.view_is in
+    let at = c.other_image-other.result in
+    let file = c.image_name.result.now in
+    changes_spare H file (IsNoFileOf old.name) a b (λ n no e. no.image at (e ∙ c.image_name.ensures ∙ ap (λ (x : List ℕ). image_file x at) named)) (above_changes H file 0 a b c.write.ensures.writes)
+
+pub returns-in_err-commit-clause-spares : goal.returns-in_err-commit-clause-spares
+returns-in_err-commit-clause-spares g c =
+    let H = g.H.Host in
+    let a = c.args.host.now in
+    let b = c.write.new.host in
+    let e = c.commit.new.host in
+    let old = c.args.self.now in
+    let inside = c.self.inside.changes in
+    let st = c.in-Some.store in
+    let was : IsStoreOf inside.name inside.second inside.listed st = c.self.invariant st (sym c.take.ensures.value ∙ c.in-Some.is) in
+    let named : st.name ≡ old.name = was.named ∙ ap (λ (s : ArchiveState). s.name) c.self.view_is in
+    let at = c.other_image-other.result in
+    let file = c.image_name.result.now in
+    spares_join H (IsNoFileOf old.name) a b e
+    (changes_spare H file (IsNoFileOf old.name) a b (λ n no is. no.image at (is ∙ c.image_name.ensures ∙ ap (λ (x : List ℕ). image_file x at) named)) (above_changes H file 0 a b c.write.ensures.writes))
+    (changes_spare H (roots_file st.name) (IsNoFileOf old.name) b e (λ n no is. no.roots (is ∙ ap roots_file named)) c.commit.ensures.changes)
+
+pub returns-clause-spares : goal.returns-clause-spares
+returns-clause-spares g c =
+    let H = g.H.Host in
+    let a = c.args.host.now in
+    let b = c.write.new.host in
+    let e = c.commit.new.host in
+    let old = c.args.self.now in
+    let inside = c.self.inside.changes in
+    let st = c.in-Some.store in
+    let was : IsStoreOf inside.name inside.second inside.listed st = c.self.invariant st (sym c.take.ensures.value ∙ c.in-Some.is) in
+    let named : st.name ≡ old.name = was.named ∙ ap (λ (s : ArchiveState). s.name) c.self.view_is in
+    let at = c.other_image-other.result in
+    let file = c.image_name.result.now in
+    spares_join H (IsNoFileOf old.name) a b e
+    (changes_spare H file (IsNoFileOf old.name) a b (λ n no is. no.image at (is ∙ c.image_name.ensures ∙ ap (λ (x : List ℕ). image_file x at) named)) (above_changes H file 0 a b c.write.ensures.writes))
+    (changes_spare H (roots_file st.name) (IsNoFileOf old.name) b e (λ n no is. no.roots (is ∙ ap roots_file named)) c.commit.ensures.changes)

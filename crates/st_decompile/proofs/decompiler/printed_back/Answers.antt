@@ -1,0 +1,30 @@
+use Rattle.std.proofs.Common.{◌≡◌, true, false, Some, None, ◌∙◌, subst, rules}
+use Rattle.st_scan.specs.Views.{method_view}
+use Rattle.st_emit.specs.NameViews.{names_view}
+use Rattle.st_code.specs.MethodDrafts.{parts_view}
+use Rattle.st_print.specs.Printed.{printed}
+use Rattle.st_decompile.specs.Answers.{HasCode}
+use Rattle.st_decompile.proofs.Tested.{meant_as, none_meant, none_same, one_same}
+use Rattle.st_decompile.proofs.decompiler.printed_back.Goals as goal
+
+pub returns-in_default : goal.returns-in_default
+returns-in_default c =
+    let tree = method_view c.args.tree.now in
+    let back = meant_as c.deref.result.now (printed tree) _ None (c.deref.ensures.value ∙ c.in_ok-text.ensures) c.in_default.is c.in_ok-back.ensures in
+    none_meant (names_view c.args.names.now) (parts_view c.args.parts.now) tree c.requires back
+
+pub returns-then-same : goal.returns-then-same
+returns-then-same c =
+    let tree = method_view c.args.tree.now in
+    let u = c.in-Some.back in
+    let back = meant_as c.deref.result.now (printed tree) _ (Some u) (c.deref.ensures.value ∙ c.in_ok-text.ensures) c.in-Some.is c.in_ok-back.ensures in
+    let same = subst (HasCode (method_view u) (names_view c.args.names.now) (parts_view c.args.parts.now)) c.if-same.true c.in_ok-same.ensures in
+    one_same (names_view c.args.names.now) (parts_view c.args.parts.now) tree c.requires c.in_ok-text.text.items u c.in_ok-text.ensures back same
+
+pub returns-else-same : goal.returns-else-same
+returns-else-same c =
+    let tree = method_view c.args.tree.now in
+    let u = c.in-Some.back in
+    let back = meant_as c.deref.result.now (printed tree) _ (Some u) (c.deref.ensures.value ∙ c.in_ok-text.ensures) c.in-Some.is c.in_ok-back.ensures in
+    let same = subst (HasCode (method_view u) (names_view c.args.names.now) (parts_view c.args.parts.now)) c.if-same.false c.in_ok-same.ensures in
+    none_same (names_view c.args.names.now) (parts_view c.args.parts.now) tree c.requires u back same

@@ -1,0 +1,7 @@
+pub mod Items
+pub mod Choosing
+pub mod Messages
+pub mod Names
+pub mod Called
+pub mod Stacks
+pub mod Sent

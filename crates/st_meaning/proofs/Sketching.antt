@@ -1,0 +1,290 @@
+-- Nodes of an arena, from what was made of their parts.
+use Rattle.std.proofs.Common.{◌≡◌, ℕ, ◌+◌, ◌<◌, Bool, true, false, List, [], ◌∷◌, ◌++◌, length, get_or, drop, Some, None, refl, sym, ap, ◌∙◌, subst, arith, append_assoc, append-nil}
+use Rattle.std.proofs.lemmas.List.{drop_more}
+use Rattle.std.specs.Prelude.{slice_get, Result, Ok, Err, IfOk}
+use Rattle.std.specs.Global.{Vec}
+use Rattle.st_scan.specs.declared.tree.Message.{Message as Sent}
+use Rattle.st_scan.specs.declared.tree.Statement.{Statement}
+use Rattle.st_scan.specs.declared.chain.Link.{Link}
+use Rattle.st_scan.specs.Views.{ExpressionView, expression_view, expressions_view, messages_view, statements_view, message, statement, no_messages, is_super}
+use Rattle.st_scan.specs.Chains.{LinkView, sent as sent_link, with_link, link_view}
+use Rattle.st_emit.specs.declared.draft.Draft.{Draft}
+use Rattle.st_emit.specs.declared.names.Around.{Around}
+use Rattle.st_emit.specs.declared.form.By.{By}
+use Rattle.st_emit.specs.declared.form.TwoSided.{TwoSided}
+use Rattle.st_emit.specs.declared.form.TwoSided.TheVariants.{TrueFirst, FalseFirst}
+use Rattle.st_emit.specs.Literals.{LiteralView, Naming, Named, given, ◌>>=◌}
+use Rattle.st_emit.specs.Views.{literals_view}
+use Rattle.st_emit.specs.Drafts.{Resolves}
+use Rattle.st_emit.specs.Nodes.{Node, Tail, chosen, sent, Messages, also, Nodes, none, Sending, returned, with_tail}
+use Rattle.st_emit.specs.Resolving.{Message as Resolved, behind, before, by_selector, sending, message_nodes, no_message, tailed, names_in, names_in_all, names_in_statements, expression_node, messages_of, statements_body, plain_tail}
+use Rattle.st_emit.specs.Shapes.{ShapeView, two_sided, shape_of, repetition_of, IsCascade, IsOnly}
+use Rattle.st_emit.specs.Around.{context, at_number, message_of, link_tail}
+use Rattle.st_emit.specs.Emits.{after}
+use Rattle.st_emit.proofs.Follow.{node_behind}
+use Rattle.st_emit.proofs.NodeKinds.{tail_kind}
+use Rattle.st_meaning.specs.declared.arena.Statements.{Statements}
+use Rattle.st_meaning.specs.declared.arena.Message.{Message}
+use Rattle.st_meaning.specs.declared.arena.Start.{Start}
+use Rattle.st_meaning.specs.declared.arena.Act.{Act}
+use Rattle.st_meaning.specs.declared.arena.Act.TheVariants.{Send, Two}
+use Rattle.st_meaning.specs.declared.arena.Node.{Node as Made}
+use Rattle.st_meaning.specs.declared.sketch.Sketch.{Sketch}
+use Rattle.st_meaning.specs.Traces.{value_of, messages_value}
+use Rattle.st_meaning.specs.Meanings.{most}
+use Rattle.st_meaning.specs.Arenas.{Meaning, runs_of, node_run}
+use Rattle.st_meaning.specs.Meant.{IsNode, IsChain, IsAct, IsArguments, IsMessage, IsMessages, IsBody}
+use Rattle.st_meaning.specs.Sketches.{literals_of, runs_in, Extends, Builds, message_named, messages_named, node_naming, arguments_naming, message_naming, cascade_naming, messages_naming, sent_naming, link_naming, body_naming, two_naming}
+use Rattle.st_meaning.proofs.Arenas.{get_front, get_last, runs_push, many_runs}
+use Rattle.st_meaning.proofs.Meant.{chain_more, arguments_none, message_is, messages_made, messages_none, messages_one, sends_are, two_is}
+use Rattle.st_meaning.proofs.Shaped.{shape_tail, shape_same, cascade_same}
+
+-- MESSAGES IN A ROW
+
+-- messages in a row are a first one and others
+messages_same : (above : Bool) (m : Resolved) (ms : List Resolved) (ls : List LiteralView) → (message_named above m >>= λ p. messages_named above ms >>= λ ps. given (messages_made p ps)) ls ≡ message_nodes above m ms ls
+messages_same above m [] ls = refl
+messages_same above m (o ∷ os) ls =
+    let p = message_named above m ls in
+    ap (λ (w : Named Messages). record { part = also p.part.0 p.part.1 w.part; literals = w.literals }) (messages_same above o os p.literals)
+
+-- SKETCHES
+
+extends_same : (a : List Meaning) → Extends a a
+extends_same a i m h = h
+
+extends_then : (a b c : List Meaning) → Extends a b → Extends b c → Extends a c
+extends_then a b c h k i m e = k i m (h i m e)
+
+-- what was made behind what was made
+pub builds_then : {A B C : Type 0} (m : Naming A) (f : A → Naming B) (k : A → B → C) (IsA : List Meaning → A → Type 0) (IsB : List Meaning → B → Type 0) (IsC : List Meaning → C → Type 0) (old mid new : Sketch)
+    → Builds m IsA old mid → Builds (f (m (literals_of old)).part) IsB mid new
+    → ((ms : List Meaning) (x : A) (ls : List LiteralView) → IsA ms x → IsB ms (f x ls).part → IsC ms (k x (f x ls).part))
+    → Builds (m >>= λ x. f x >>= λ y. given (k x y)) IsC old new
+builds_then m f k IsA IsB IsC old mid new a b both =
+    let x = (m (literals_of old)).part in
+    record {
+      literals = b.literals ∙ ap (λ (ls : List LiteralView). (f x ls).literals) a.literals;
+      extends = extends_then (runs_in old) (runs_in mid) (runs_in new) a.extends b.extends;
+      part = λ ms e.
+          both ms x (m (literals_of old)).literals (a.part ms (extends_then (runs_in mid) (runs_in new) ms b.extends e))
+          (subst (λ (ls : List LiteralView). IsB ms (f x ls).part) a.literals (b.part ms e));
+    }
+
+-- the same, by another name
+pub builds_as : {A : Type 0} (m m' : Naming A) (Is Is' : List Meaning → A → Type 0) (old new : Sketch) → m (literals_of old) ≡ m' (literals_of old) → ((ms : List Meaning) (x : A) → Is ms x → Is' ms x) → Builds m Is old new → Builds m' Is' old new
+builds_as m m' Is Is' old new e k b = record {
+  literals = b.literals ∙ ap (λ (x : Named _). x.literals) e;
+  extends = b.extends;
+  part = λ ms h. k ms (m' (literals_of old)).part (subst (λ (x : Named _). Is ms x.part) e (b.part ms h));
+}
+
+-- a part made of one
+pub builds_map : {A B : Type 0} (m : Naming A) (k : A → B) (IsA : List Meaning → A → Type 0) (IsB : List Meaning → B → Type 0) (old new : Sketch) → Builds m IsA old new → ((ms : List Meaning) (x : A) → IsA ms x → IsB ms (k x)) → Builds (m >>= λ x. given (k x)) IsB old new
+builds_map m k IsA IsB old new b h = record { literals = b.literals; extends = b.extends; part = λ ms e. h ms (m (literals_of old)).part (b.part ms e) }
+
+-- what names a literal or a variable makes no node
+pub builds_resolved : {A B : Type 0} (m : Naming A) (k : A → B) (Is : List Meaning → B → Type 0) (old new : Sketch) (x : A) → Resolves m old.draft new.draft x → new.nodes.items ≡ old.nodes.items → ((ms : List Meaning) → Is ms (k x)) → Builds (m >>= λ y. given (k y)) Is old new
+builds_resolved m k Is old new x r same h = record {
+  literals = r.literals;
+  extends = λ i q e. subst (λ (xs : List Made). slice_get (runs_of most xs) i ≡ Some q) (sym same) e;
+  part = λ ms e. subst (λ y. Is ms (k y)) r.part (h ms);
+}
+
+-- what is there without a name
+pub builds_given : {A : Type 0} (m : Naming A) (Is : List Meaning → A → Type 0) (s : Sketch) (x : A) → m ≡ given x → ((ms : List Meaning) → Is ms x) → Builds m Is s s
+builds_given m Is s x e h = record {
+  literals = sym (ap (λ (q : Naming _). (q (literals_of s)).literals) e);
+  extends = extends_same (runs_in s);
+  part = λ ms k. subst (λ (q : Naming _). Is ms (q (literals_of s)).part) (sym e) (h ms);
+}
+
+-- one node more
+pub builds_put : (m : Naming Node) (old mid new : Sketch) (x : Made) (i : ℕ) → Builds m (IsChain x.start x.acts.items) old mid
+    → i ≡ length mid.nodes.items → new.nodes.items ≡ mid.nodes.items ++ x ∷ [] → new.draft ≡ mid.draft → Builds m (IsNode i) old new
+builds_put m old mid new x i b place put same =
+    let here : Meaning = λ n. node_run most (runs_in mid) n x in
+    let grown : runs_in new ≡ runs_in mid ++ here ∷ [] = ap (runs_of most) put ∙ runs_push most mid.nodes.items x in
+    let extends : Extends (runs_in mid) (runs_in new) = λ j q e. subst (λ (ms : List Meaning). slice_get ms j ≡ Some q) (sym grown) (get_front (runs_in mid) (here ∷ []) j q e) in
+    let is : here ≡ value_of most (m (literals_of old)).part = λ j n. b.part (runs_in mid) (extends_same (runs_in mid)) n j in
+    let at : slice_get (runs_in new) i ≡ Some here = ap (λ (ms : List Meaning). slice_get ms i) grown ∙ get_last (runs_in mid) here i (omega (arith, place, many_runs most [] mid.nodes.items)) in
+    record {
+      literals = ap (λ (d : Draft). literals_view d.literals.items) same ∙ b.literals;
+      extends = extends_then (runs_in old) (runs_in mid) (runs_in new) b.extends extends;
+      part = λ ms e. e i (value_of most (m (literals_of old)).part) (at ∙ ap (λ (q : Meaning). Some q) is);
+    }
+
+-- MESSAGES AND FORMS
+
+-- arguments, and then how the message is sent
+pub message_built : (above : Bool) (a : Around) (m : Sent) (made : Message) (by : By) (old mid new : Sketch)
+    → Builds (arguments_naming a m.arguments.items) (IsArguments made.arguments.items) old mid → Resolves (by_selector above m.selector.items) mid.draft new.draft by → new.nodes.items ≡ mid.nodes.items
+    → made.selector.items ≡ m.selector.items → Builds (message_naming above a m) (IsMessage above made) old new
+message_built above a m made by old mid new b r same text =
+    let s : By → Sending = λ y. record { selector = m.selector.items; by = y } in
+    builds_then (arguments_naming a m.arguments.items) (λ ns. sending above m.selector.items) (λ ns s. (s, ns)) (IsArguments made.arguments.items) (λ ms (s : Sending). made.selector.items ≡ s.selector) (IsMessage above made) old mid new
+    b (builds_resolved (by_selector above m.selector.items) s (λ ms (s : Sending). made.selector.items ≡ s.selector) mid new by r same (λ ms. text))
+    (λ ms ns ls h e. message_is above made ms (sending above m.selector.items ls).part ns e h)
+
+pub sends_built : (above : Bool) (m : Resolved) (ms : List Resolved) (list : Vec Message) (old new : Sketch)
+    → Builds (messages_named above (m ∷ ms)) (IsMessages above list.items) old new → Builds (message_nodes above m ms >>= λ x. given (sent above x)) (IsAct (Send above list)) old new
+sends_built above m ms list old new b =
+    let p = message_named above m (literals_of old) in
+    let ps = messages_named above ms p.literals in
+    let same = messages_same above m ms (literals_of old) in
+    record {
+      literals = b.literals ∙ ap (λ (w : Named Messages). w.literals) same;
+      extends = b.extends;
+      part = λ q e n v. sends_are above list.items q p.part ps.part (b.part q e) n v ∙ ap (λ (w : Named Messages). messages_value most w.part above v n) same;
+    }
+
+-- one message
+pub plain_built : (a : Around) (m : Sent) (one : Message) (list : Vec Message) (old new : Sketch) → list.items ≡ one ∷ []
+    → Builds (message_naming false a m) (IsMessage false one) old new → Builds (plain_tail false (message_of (context a) m.selector.items (expressions_view m.arguments.items)) []) (IsAct (Send false list)) old new
+plain_built a m one list old new alone b =
+    let r = message_of (context a) m.selector.items (expressions_view m.arguments.items) in
+    let row = builds_map (message_naming false a m) (λ p. p ∷ []) (IsMessage false one) (IsMessages false (one ∷ [])) old new b (λ ms p h. messages_one false one [] ms p [] h (messages_none false ms)) in
+    sends_built false r [] list old new (subst (λ (l : List Message). Builds (messages_named false (r ∷ [])) (IsMessages false l) old new) (sym alone) row)
+
+-- a message does what its shape says
+pub shaped_built : {Is : List Meaning → Tail → Type 0} (a : Around) (m : Sent) (s : ShapeView) (old new : Sketch) → s ≡ shape_of m.selector.items (expressions_view m.arguments.items)
+    → Builds (shape_tail (context a) s (plain_tail false (message_of (context a) m.selector.items (expressions_view m.arguments.items)) [])) Is old new → Builds (sent_naming a m) Is old new
+shaped_built {Is} a m s old new is b =
+    let es = expressions_view m.arguments.items in
+    let otherwise = plain_tail false (message_of (context a) m.selector.items es) [] in
+    let whole = ap (λ (x : ShapeView). shape_tail (context a) x otherwise) is ∙ shape_same m.selector.items es (context a) in
+    subst (λ (q : Naming Tail). Builds q Is old new) whole b
+
+pub two_built : {Is : List Meaning → Tail → Type 0} (side : TwoSided) (a : Around) (x y : List Statement) (otherwise : Naming Tail) (old new : Sketch)
+    → Builds (two_naming side a (at_number (a.next + names_in_statements (statements_view x)) a) x y) Is old new → Builds (shape_tail (context a) (two_sided side (statements_view x) (statements_view y)) otherwise) Is old new
+two_built TrueFirst a x y otherwise old new b = b
+two_built FalseFirst a x y otherwise old new b = b
+
+-- two blocks, in the order of their code
+pub true_first : (side : TwoSided) (a d : Around) (x y : List Statement) (s t : Statements) (old mid new : Sketch) → side ≡ TrueFirst → Builds (body_naming a x) (IsBody s) old mid → Builds (body_naming d y) (IsBody t) mid new
+    → Builds (two_naming side a d x y) (IsAct (Two side s t)) old new
+true_first side a d x y s t old mid new is b c =
+    subst (λ (q : TwoSided). Builds (two_naming q a d x y) (IsAct (Two q s t)) old new) (sym is)
+    (builds_then (body_naming a x) (λ p. body_naming d y) (λ p q. chosen TrueFirst p q) (IsBody s) (IsBody t) (IsAct (Two TrueFirst s t)) old mid new b c (λ ms p ls h k. two_is TrueFirst s t ms p (body_naming d y ls).part h k))
+
+pub false_first : (side : TwoSided) (a d : Around) (x y : List Statement) (s t : Statements) (old mid new : Sketch) → side ≡ FalseFirst → Builds (body_naming d y) (IsBody t) old mid → Builds (body_naming a x) (IsBody s) mid new
+    → Builds (two_naming side a d x y) (IsAct (Two side s t)) old new
+false_first side a d x y s t old mid new is b c =
+    subst (λ (q : TwoSided). Builds (two_naming q a d x y) (IsAct (Two q s t)) old new) (sym is)
+    (builds_then (body_naming d y) (λ p. body_naming a x) (λ p q. chosen FalseFirst q p) (IsBody t) (IsBody s) (IsAct (Two FalseFirst s t)) old mid new b c (λ ms p ls h k. two_is FalseFirst s t ms (body_naming a x ls).part p k h))
+
+-- no messages: no tree of a text has them
+pub empty_built : (above : Bool) (a : Around) (messages : List Sent) (one : Message) (list : Vec Message) (by : By) (old new : Sketch) → length messages ≡ 0 → list.items ≡ one ∷ [] → one.selector.items ≡ [] → one.arguments.items ≡ []
+    → Resolves (by_selector above []) old.draft new.draft by → new.nodes.items ≡ old.nodes.items → Builds (messages_naming above a messages) (IsAct (Send above list)) old new
+empty_built above a (m ∷ ms) one list by old new none_left alone text many r same = absurd (omega (arith, none_left))
+empty_built above a [] one list by old new none_left alone text many r same =
+    let pair : By → List (Sending × Nodes) = λ y. (record { selector = []; by = y }, none) ∷ [] in
+    let one_is = λ (ms : List Meaning) (s : Sending) (e : one.selector.items ≡ s.selector). messages_one above one [] ms (s, none) [] (message_is above one ms s none e (subst (λ (is : List ℕ). IsArguments is ms none) (sym many) (arguments_none ms))) (messages_none above ms) in
+    let row : Builds (messages_named above (no_message ∷ [])) (IsMessages above (one ∷ [])) old new =
+    builds_resolved (by_selector above []) pair (IsMessages above (one ∷ [])) old new by r same (λ ms. one_is ms (record { selector = []; by = by }) text) in
+    sends_built above no_message [] list old new (subst (λ (l : List Message). Builds (messages_named above (no_message ∷ [])) (IsMessages above l) old new) (sym alone) row)
+
+-- a cascade, or messages to super
+pub cascade_built : (above : Bool) (a : Around) (messages : List Sent) (list : Vec Message) (old new : Sketch) → 0 < length messages → IsCascade above (messages_view messages)
+    → Builds (cascade_naming above a messages) (IsMessages above list.items) old new → Builds (messages_naming above a messages) (IsAct (Send above list)) old new
+cascade_built above a [] list old new some is b = absurd (omega (arith, some))
+cascade_built above a (m ∷ ms) list old new some is b =
+    let first = message_of (context a) m.selector.items (expressions_view m.arguments.items) in
+    let others = messages_of (messages_view ms) (behind (context a) (names_in_all (expressions_view m.arguments.items))) in
+    subst (λ (q : Naming Tail). Builds q (IsAct (Send above list)) old new) (cascade_same above (messages_view (m ∷ ms)) (context a) is) (sends_built above first others list old new b)
+
+-- the one message of a link
+pub only_built : {Is : List Meaning → Tail → Type 0} (above : Bool) (a : Around) (l : Link) (messages : List Sent) (m : Sent) (old new : Sketch) → link_view l ≡ sent_link (messages_view messages)
+    → IsOnly above (messages_view messages) m.selector.items (expressions_view m.arguments.items) → Builds (sent_naming a m) Is old new → Builds (link_naming above a l) Is old new
+only_built {Is} above a l messages m old new link only b =
+    let whole = λ (x : LinkView) (t : Bool). Builds (link_tail t x (context a)) Is old new in
+    subst (λ (x : LinkView). whole x above) (ap sent_link (sym only.view) ∙ sym link)
+    (subst (λ (t : Bool). whole (sent_link (message m.selector.items (expressions_view m.arguments.items) no_messages)) t) (sym only.not_above) b)
+
+-- one link more behind an expression that is no loop with it
+pub link_built : (a : Around) (e : ExpressionView) (l : LinkView) (s : Start) (acts : List Act) (act : Act) (old mid new : Sketch) → repetition_of e l ≡ None
+    → Builds (expression_node e (context a)) (IsChain s acts) old mid → Builds (link_tail (is_super e) l (behind (context a) (names_in e))) (IsAct act) mid new
+    → Builds (expression_node (with_link l e) (context a)) (IsChain s (acts ++ act ∷ [])) old new
+link_built a e l s acts act old mid new no_loop b k =
+    let t = link_tail (is_super e) l (behind (context a) (names_in e)) in
+    builds_as (tailed (expression_node e (context a)) t) (expression_node (with_link l e) (context a)) (IsChain s (acts ++ act ∷ [])) (IsChain s (acts ++ act ∷ [])) old new
+    (sym (node_behind l e (context a) (literals_of old) no_loop)) (λ ms x h. h)
+    (builds_then (expression_node e (context a)) (λ x. t) (λ x y. with_tail x y) (IsChain s acts) (IsAct act) (IsChain s (acts ++ act ∷ [])) old mid new b k
+    (λ ms x ls h j. chain_more l s acts act ms x (t ls).part (tail_kind (is_super e) l (behind (context a) (names_in e)) ls) h j))
+
+-- STATEMENTS
+
+pub statement_kept : (a : Around) (s : Statement) (rest : List Statement) → s.returns ≡ false
+    → body_naming a (s ∷ rest) ≡ (node_naming a s.value >>= λ x. body_naming (at_number (after a s.value) a) rest >>= λ b. given (before x b))
+statement_kept a s rest h = ap (λ (r : Bool). statements_body (statement r (expression_view s.value) (statements_view rest)) (context a)) h
+
+pub statement_returned : (a : Around) (s : Statement) (rest : List Statement) → s.returns ≡ true → body_naming a (s ∷ rest) ≡ (node_naming a s.value >>= λ x. given (returned x))
+statement_returned a s rest h = ap (λ (r : Bool). statements_body (statement r (expression_view s.value) (statements_view rest)) (context a)) h
+
+pub kept_names : (s : Statement) (rest : List Statement) → s.returns ≡ false → names_in_statements (statements_view (s ∷ rest)) ≡ names_in (expression_view s.value) + names_in_statements (statements_view rest)
+kept_names s rest h = ap (λ (r : Bool). names_in_statements (statement r (expression_view s.value) (statements_view rest))) h
+
+pub last_names : (s : Statement) (rest : List Statement) → s.returns ≡ true → names_in_statements (statements_view (s ∷ rest)) ≡ names_in (expression_view s.value)
+last_names s rest h = ap (λ (r : Bool). names_in_statements (statement r (expression_view s.value) (statements_view rest))) h
+
+-- RESULTS
+
+pub ok_weaker : {A E : Type 0} (P Q : A → Type 0) (r : Result A E) → ((x : A) → P x → Q x) → IfOk r P → IfOk r Q
+ok_weaker P Q (Ok x) f h = f x h
+ok_weaker P Q (Err e) f h = tt
+
+-- LISTS OF PARTS
+
+-- what is left to be made gives what the whole gives, behind what was made
+pub record GoesOn {X A : Type 0} (rest whole : Naming A) (Is : List X → List Meaning → A → Type 0) (made : List X) (old now : Sketch) : Type 0 where
+  pub literals : (rest (literals_of now)).literals ≡ (whole (literals_of old)).literals
+  pub extends : Extends (runs_in old) (runs_in now)
+  pub part : (ms : List Meaning) → Extends (runs_in now) ms → (more : List X) → Is more ms (rest (literals_of now)).part → Is (made ++ more) ms (whole (literals_of old)).part
+
+pub goes_first : {X A : Type 0} (whole : Naming A) (Is : List X → List Meaning → A → Type 0) (old : Sketch) → GoesOn whole whole Is [] old old
+goes_first whole Is old = record { literals = refl; extends = extends_same (runs_in old); part = λ ms e more h. h }
+
+pub goes_turn : {X A B : Type 0} (m : Naming B) (f : Naming A) (k : B → A → A) (rest whole : Naming A) (IsB : X → List Meaning → B → Type 0) (Is : List X → List Meaning → A → Type 0) (made made' : List X) (x : X) (old now new : Sketch)
+    → GoesOn rest whole Is made old now → rest ≡ (m >>= λ y. f >>= λ z. given (k y z)) → Builds m (IsB x) now new → made' ≡ made ++ x ∷ []
+    → ((ms : List Meaning) (y : B) (z : A) (more : List X) → IsB x ms y → Is more ms z → Is (x ∷ more) ms (k y z))
+    → GoesOn f whole Is made' old new
+goes_turn m f k rest whole IsB Is made made' x old now new g same b more_made step =
+    let y = m (literals_of now) in
+    let at : rest (literals_of now) ≡ record { part = k y.part (f y.literals).part; literals = (f y.literals).literals } = ap (λ (q : Naming _). q (literals_of now)) same in
+    record {
+      literals = ap (λ (ls : List LiteralView). (f ls).literals) b.literals ∙ sym (ap (λ (q : Named _). q.literals) at) ∙ g.literals;
+      extends = extends_then (runs_in old) (runs_in now) (runs_in new) g.extends b.extends;
+      part = λ ms e more h.
+          let z = subst (λ (ls : List LiteralView). Is more ms (f ls).part) b.literals h in
+          let on = step ms y.part (f y.literals).part more (b.part ms e) z in
+          let whole_is = g.part ms (extends_then (runs_in now) (runs_in new) ms b.extends e) (x ∷ more) (subst (λ (q : Named _). Is (x ∷ more) ms q.part) (sym at) on) in
+          subst (λ (xs : List _). Is xs ms (whole (literals_of old)).part) (sym (append_assoc made (x ∷ []) more) ∙ ap (λ (xs : List _). xs ++ more) (sym more_made)) whole_is;
+    }
+
+-- nothing is left
+pub goes_done : {X A : Type 0} (z : A) (rest whole : Naming A) (Is : List X → List Meaning → A → Type 0) (made : List X) (old now : Sketch) → GoesOn rest whole Is made old now → rest ≡ given z → ((ms : List Meaning) → Is [] ms z) → Builds whole (Is made) old now
+goes_done z rest whole Is made old now g same h = record {
+  literals = sym (ap (λ (q : Naming _). (q (literals_of now)).literals) same) ∙ g.literals;
+  extends = g.extends;
+  part = λ ms e.
+      subst (λ (xs : List _). Is xs ms (whole (literals_of old)).part) (append-nil made)
+      (g.part ms e [] (subst (λ (q : Naming _). Is [] ms (q (literals_of now)).part) (sym same) (h ms)));
+}
+
+-- what is left is one part
+pub goes_last : {X A B : Type 0} (m : Naming B) (k : B → A) (rest whole : Naming A) (IsB : X → List Meaning → B → Type 0) (Is : List X → List Meaning → A → Type 0) (made made' : List X) (x : X) (old now new : Sketch)
+    → GoesOn rest whole Is made old now → rest ≡ (m >>= λ y. given (k y)) → Builds m (IsB x) now new → made' ≡ made ++ x ∷ [] → ((ms : List Meaning) (y : B) → IsB x ms y → Is (x ∷ []) ms (k y))
+    → Builds whole (Is made') old new
+goes_last m k rest whole IsB Is made made' x old now new g same b more_made step =
+    let y = m (literals_of now) in
+    let at : rest (literals_of now) ≡ record { part = k y.part; literals = y.literals } = ap (λ (q : Naming _). q (literals_of now)) same in
+    record {
+      literals = b.literals ∙ sym (ap (λ (q : Named _). q.literals) at) ∙ g.literals;
+      extends = extends_then (runs_in old) (runs_in now) (runs_in new) g.extends b.extends;
+      part = λ ms e.
+          let whole_is = g.part ms (extends_then (runs_in now) (runs_in new) ms b.extends e) (x ∷ []) (subst (λ (q : Named _). Is (x ∷ []) ms q.part) (sym at) (step ms y.part (b.part ms e))) in
+          subst (λ (xs : List _). Is xs ms (whole (literals_of old)).part) (sym more_made) whole_is;
+    }
+
+pub drop_item : {X : Type 0} (xs : List X) (k : ℕ) (x : X) → k < length xs → x ≡ get_or xs k x → drop k xs ≡ x ∷ drop (k + 1) xs
+drop_item xs k x within is = drop_more xs k x within ∙ ap (λ (y : _). y ∷ drop (k + 1) xs) (sym is)

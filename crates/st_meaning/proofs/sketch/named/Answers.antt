@@ -1,0 +1,20 @@
+use Rattle.std.proofs.Common.{◌≡◌, Option, Some, refl, ap}
+use Rattle.st_scan.specs.Views.{name_view}
+use Rattle.st_emit.specs.declared.step.Constant.{Constant as Name}
+use Rattle.st_emit.specs.Names.{constant_named}
+use Rattle.st_emit.specs.Nodes.{constant}
+use Rattle.st_emit.specs.Resolving.{constant_or, place_of_name, name_node}
+use Rattle.st_emit.specs.Around.{context}
+use Rattle.st_meaning.specs.declared.deed.Value.TheVariants.{Constant}
+use Rattle.st_meaning.specs.declared.arena.Start.TheVariants.{Known}
+use Rattle.st_meaning.specs.Meant.{IsStart}
+use Rattle.st_meaning.proofs.Sketching.{builds_given}
+use Rattle.st_meaning.proofs.sketch.named.Goals as goal
+
+pub returns-in-Some : goal.returns-in-Some
+returns-in-Some c =
+    let k = c.in-Some.constant in
+    let e : constant_named c.args.name.now.text.items ≡ Some k = cc in
+    let place = place_of_name (context c.args.around) (name_view c.args.name.now) in
+    builds_given (name_node (context c.args.around) (name_view c.args.name.now)) (IsStart (Known (Constant k))) c.args.sketch.now (constant k)
+    (ap (λ (o : Option Name). constant_or o place) e) (λ ms n. refl)

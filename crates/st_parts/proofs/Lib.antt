@@ -1,0 +1,12 @@
+mod KeysIn
+pub mod OneName
+pub mod PartsAlike
+mod PartsRead
+mod Taking
+mod Sizes
+mod Ends
+mod Turns
+mod ReadSingly
+mod Contenting
+mod Sending
+mod Owning

@@ -1,0 +1,113 @@
+use Rattle.std.proofs.Common.{◌≡◌, ◌⊎◌, ℕ, List, IsTrue, inl, inr, refl, sym, subst, arith}
+use Rattle.st_host.specs.Counts.{Rose}
+use Rattle.st_host.proofs.Touching.{spares_join}
+use Rattle.st_store.specs.Names.{IsNoFileOf}
+use Rattle.st_protocol.specs.declared.status.Status.{Status}
+use Rattle.st_protocol.specs.declared.status.Status.TheVariants as status
+use Rattle.st_protocol.specs.Statuses.{StatusHasCause}
+use Rattle.st_recover.proofs.Determined.{same_commit}
+use Rattle.st_call.specs.LastLines.{last_line, SaysLastLine}
+use Rattle.st_host.specs.Runs.{ReadsAndSays, Spares}
+use Rattle.st_session.specs.Ends.{status_in}
+use Rattle.st_session.specs.Exports.{IsOfExport}
+use Rattle.st_session.specs.Condensings.{DoesCondense, CondenseEnds}
+use Rattle.st_session.proofs.Commanded.{cause_between, opening_cause, refused_line, refused_moments, refused_elsewhere, rests_line, spares_line, refused_whole}
+use Rattle.st_session.proofs.Condensed.{condense_has, condensing_whole, refused_whole_moments}
+use Rattle.st_session.proofs.Exported.{caused_in, done_or_full, kind_in, kind_unopened, names_said}
+use Rattle.st_session.proofs.condensing.condense.Goals as goal
+
+pub returns-in-Ok-clause-cause : goal.returns-in-Ok-clause-cause
+returns-in-Ok-clause-cause g c =
+    let host = g.H.Host in
+    let opened = c.in-Ok.ensures in
+    let did = c.condense_store.ensures in
+    let line = c.refuse.ensures in
+    let r = c.condense_store.result in
+    let old = c.args.host.now in
+    let mid = c.reopen.new.host in
+    let closed = c.condense_store.new.host in
+    let new = c.refuse.new.host in
+    subst (StatusHasCause host ⊥ old new) (sym c.status_of-status.ensures)
+    (cause_between host ⊥ old mid closed new (status_in r) opened.only.disk opened.only.say did.counts.say line.reads.say line.disk (caused_in host mid closed r did.counts.cause))
+
+pub returns-in-Ok-clause-ends : goal.returns-in-Ok-clause-ends
+returns-in-Ok-clause-ends g c =
+    let host = g.H.Host in
+    let store = c.args.store.now in
+    let o = c.in-Ok.opened in
+    let opened = c.in-Ok.ensures in
+    let did = c.condense_store.ensures in
+    let line = c.refuse.ensures in
+    let r = c.condense_store.result in
+    let old = c.args.host.now in
+    let mid = c.reopen.new.host in
+    let closed = c.condense_store.new.host in
+    let new = c.refuse.new.host in
+    let is = c.status_of-status.ensures in
+    let said = subst (λ (x : Status). SaysLastLine host x closed new) is line.line in
+    let reads = subst (λ (x : Status). ReadsAndSays host (last_line x) closed new) is line.reads in
+    let cause = subst (StatusHasCause host ⊥ old new) is (returns-in-Ok-clause-cause g c) in
+    let does : (told : IsTrue host.is_told) → DoesCondense host store (opened.opened told).0 mid closed r = λ told.
+    let at = (opened.opened told).1 in
+    subst (λ n. DoesCondense host n (opened.opened told).0 mid closed r) opened.named (did.does (opened.opened told).0 told (record { listed_is = at.listed; kept = at.kept; readable = at.opens.readable })) in
+    subst (λ (x : Status). CondenseEnds host store old new x) (sym is) (record {
+      over = λ told. inr (record {
+        commit = (opened.opened told).0;
+        opens = (opened.opened told).1.opens;
+        has = condense_has host store (opened.opened told).0 r old mid closed new told did.kind (does told).has (opened.only.quiet told) (omega (arith, opened.only.say, did.counts.say)) reads said;
+      });
+      whole = λ told k rest.
+          let at = (opened.opened told).1 in
+          let here : (n : List ℕ) → host.may_leave old n (host.files old n) = λ n. g.met.H.Host.read_counts old n told in
+          let same = same_commit store (opened.opened told).0 k (host.files old) at.opens (rest.opens_as (host.files old) here) in
+          condensing_whole host store (opened.opened told).0 k (status_in r) old mid closed new told same rest here (opened.moments told) (opened.only.quiet told) (does told).moments
+          (λ f can. g.met.H.Host.counts_now closed (host.moment mid) f (host.said closed) told (does told).moments.later (can, refl)) reads;
+      complete = λ told k q whole calm. done_or_full host old new r did.kind cause calm;
+      kind = kind_in (IsTrue host.is_told) store (host.files old) r did.kind;
+      spares = names_said host store store (IsNoFileOf store) _ old closed new
+          (spares_join host (IsNoFileOf store) old mid closed opened.spares (subst (λ n. Spares host (IsNoFileOf n) mid closed) opened.named did.spares))
+          line.alike line.reads;
+    })
+
+pub returns-in-Err-clause-ends : goal.returns-in-Err-clause-ends
+returns-in-Err-clause-ends g c =
+    let host = g.H.Host in
+    let store = c.args.store.now in
+    let opened = c.in-Err.ensures in
+    let fault = c.in-Err.fault in
+    let line = c.refuse-in-Err.ensures in
+    let e = c.opening_status-status.result in
+    let old = c.args.host.now in
+    let mid = c.reopen.new.host in
+    let new = c.refuse-in-Err.new.host in
+    let is = c.opening_status-status.ensures in
+    let moments = λ (told : IsTrue host.is_told). refused_moments host store e old mid new (opened.moments told) (opened.leaves told) (opened.only.quiet told) told line.reads in
+    record {
+      over = λ told. inl (record {
+        fault = fault;
+        is = is;
+        why = opened.refused told;
+        line = refused_line host store e old mid new (λ told. opened.only.quiet told) opened.only.say line.line;
+        moments = moments told;
+        elsewhere = refused_elsewhere host store _ old mid new opened.only told line.reads;
+        rests = λ named k o. rests_line host store k _ mid new told line.reads (opened.rests told named k o);
+        opened = mid;
+        settles = opened.settles told;
+        behind = line.reads;
+        spares = spares_line host store _ old mid new opened.spares line.alike line.reads;
+      });
+      whole = λ told k rest. refused_whole_moments host store k e old new rest (λ n. g.met.H.Host.read_counts old n told) (moments told);
+      complete = λ told k q whole calm.
+          subst (λ (x : Status). (x ≡ status.Done) ⊎ (x ≡ status.OutOfMemory)) (sym is)
+          (refused_whole store (host.files old) k whole.opens host old mid q fault whole.reopens opened.kind (opened.refused told) opened.cause (λ rose. calm.disk (subst (Rose (host.disk_faults old)) (sym line.disk) rose)));
+      kind = subst (IsOfExport (IsTrue host.is_told) store (host.files old)) (sym is) (kind_unopened (IsTrue host.is_told) store (host.files old) fault opened.kind opened.refused);
+      spares = names_said host store store (IsNoFileOf store) _ old mid new opened.spares line.alike line.reads;
+    }
+
+pub returns-in-Err-clause-cause : goal.returns-in-Err-clause-cause
+returns-in-Err-clause-cause g c =
+    let host = g.H.Host in
+    let opened = c.in-Err.ensures in
+    let line = c.refuse-in-Err.ensures in
+    subst (StatusHasCause host ⊥ c.args.host.now c.refuse-in-Err.new.host) (sym c.opening_status-status.ensures)
+    (opening_cause host ⊥ c.args.host.now c.reopen.new.host c.refuse-in-Err.new.host c.in-Err.fault opened.kind opened.cause line.disk)

@@ -1,0 +1,73 @@
+//! The command `condense`.
+
+ghost use Rattle.std.specs.Prelude.{◌≡◌, ◌≤◌, ◌^◌, length, nat_lt, All, IsTrue, IfErr};
+ghost use Rattle.st_host.specs.Runs.{Spares};
+ghost use Rattle.st_chunk.specs.Definitions.{IsDefinition, entries};
+ghost use Rattle.st_store.specs.Names.{IsNoFileOf};
+ghost use Rattle.st_changes.specs.Lists.{StandsAt};
+ghost use Rattle.st_protocol.specs.Statuses.{Counts, StatusHasCause};
+ghost use Rattle.st_recover.specs.Commits.{Commit};
+ghost use Rattle.st_session.specs.Condensings.{IsKeptAs, DoesCondense, CondenseEnds};
+ghost use Rattle.st_session.specs.Exports.{IsOfExporting};
+
+use crate::opening_refusal::opening_status;
+use crate::reading::status_of;
+use st_call::{Reply, refuse, say_reply};
+use st_changes::{Changes, CondenseFault};
+use st_host::Host;
+use st_memory::Loader;
+use st_protocol::Status;
+use st_recover::reopen;
+use st_store::Store;
+use std::alloc::Global;
+
+/// Drops the definitions of a store that later ones supersede, and says how many there were and are.
+fn condense_store<H: Host>(
+    alloc: Global,
+    host: &mut H,
+    store: Store,
+    changes: &Changes,
+) -> Result<(), Status>
+    requires good { All IsDefinition changes.now.listed }
+    requires file { changes.now.second ≡ nat_lt 1 store.root.slot }
+    requires place { store.root.length ≡ length (entries changes.now.listed) }
+    requires limit { store.root.length ≤ 2 ^ 30 }
+    requires stands { StandsAt changes.now.listed store.root.base }
+    ensures does { (c : Commit) → IsTrue H.is_told → IsKeptAs H.Host.own host.old store changes.now.listed c
+        → DoesCondense H.Host.own store.name c host.old host.new result }
+    ensures counts { Counts H.Host.own ⊥ host.old host.new result }
+    ensures kind { IfErr result IsOfExporting }
+    ensures spares { Spares H.Host.own (IsNoFileOf store.name) host.old host.new }
+{
+    match st_changes::condense(alloc, host, store, changes) {
+        Ok(condensed) => say_reply(
+            host,
+            Reply::Condensed {
+                before: condensed.before,
+                after: condensed.after,
+            },
+        ),
+        Err(CondenseFault::Disk) => Err(Status::DiskFault),
+        Err(CondenseFault::OutOfMemory) => Err(Status::OutOfMemory),
+    }
+}
+
+/// The command `condense`: opens a store, drops each definition before its last snapshot that a later one supersedes, whole or not at
+/// all, and says how many definitions there were and are. Nothing is saved or run, and what the store opens as stays the same.
+pub fn condense<H: Host, L: Loader>(alloc: Global, host: &mut H, store: &str) -> Status
+    ensures ends { CondenseEnds H.Host.own store.now host.old host.new result }
+    ensures cause { StatusHasCause H.Host.own ⊥ host.old host.new result }
+{
+    match reopen::<L, H>(alloc, host, store) {
+        Ok(opened) => {
+            let status = status_of(condense_store(alloc, host, opened.store, &opened.changes));
+            refuse(host, status);
+            status
+        }
+        Err(fault) => {
+            let status = opening_status(fault);
+            refuse(host, status);
+            status
+        }
+    }
+}

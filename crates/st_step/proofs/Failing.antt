@@ -1,0 +1,406 @@
+-- A primitive that failed, when it was called by its number, has changed nothing.
+use Rattle.std.proofs.Common.{◌≡◌, ℕ, zero, suc, ◌+◌, Bool, true, false, Option, Some, None, refl, sym, ◌∙◌}
+use Rattle.std.specs.Prelude.{if◌then◌else◌, ℤ}
+use Rattle.st_model.specs.declared.dead.Dead.{Dead}
+use Rattle.st_model.specs.Values.{Value, Small, Ref}
+use Rattle.st_model.specs.Objects.{Object}
+use Rattle.st_model.specs.declared.page.PageObject.{PageObject}
+use Rattle.st_model.specs.Outcomes.{Outcome}
+use Rattle.st_model.specs.Machine.{ObjectMemory, State, Transition, Died, Went, Step, answer, die, after, or_left, tried, ◌>>=◌, ◌>>◌}
+use Rattle.st_model.specs.Table.{Table}
+use Rattle.st_model.specs.Steps.{get_active, get_sp, of_page, found, object_named, object, check, or_die, class_of, fetch_field, count_fields, top, under, look_at_words}
+use Rattle.st_model.specs.Methods.{method_header, literal_from_last, extension_arguments, arguments_by_extension, arguments_by, method_arguments}
+use Rattle.st_model.specs.Lookup.{half_word, checked_method, method_at, place_says, look_at_place, look_at_places, search_from, search_dictionary, or_above, method_in_class, look_in_class, unless_nil, end_at_nil, find_within, find}
+use Rattle.st_model.specs.Primitives.{succeed, primitive, taking, check_class}
+use Rattle.st_model.specs.Arithmetic.{arithmetic, large_arithmetic, shift_large}
+use Rattle.st_model.specs.BitBlt.{primitive_copy_bits}
+use Rattle.st_model.specs.Storage.{primitive_at, primitive_at_put, primitive_size, primitive_string_at, primitive_string_at_put, primitive_next, primitive_next_put, primitive_at_end, primitive_object_at, primitive_object_at_put, primitive_new, primitive_new_with, primitive_become, primitive_instance_variable_at, primitive_instance_variable_at_put, primitive_as_oop, primitive_as_object, primitive_some_instance, primitive_next_instance, primitive_new_method, primitive_replace, primitive_core_left, primitive_oops_left, primitive_say, storage}
+use Rattle.st_model.specs.Blocks.{primitive_block_copy, value_with_words, value_if_any, start_of, primitive_value, passing, value_with_fields, value_with_if_any, primitive_value_with, blocks, Passing}
+use Rattle.st_model.specs.Processes.{primitive_signal, primitive_wait, primitive_resume, primitive_suspend, processes}
+use Rattle.st_model.specs.Input.{primitive_mouse_point, primitive_move_mouse, primitive_link_cursor, primitive_input_semaphore, primitive_sample_interval, primitive_input_word, primitive_second_clock, primitive_millisecond_clock, primitive_timer, primitive_be_cursor, primitive_be_display, primitive_low_space, input}
+use Rattle.st_model.specs.Executing.{takes, spreading}
+use Rattle.st_step.specs.Trying.{went_if, if_done, succeeds, said_if, says, perform_if_fits, performs, performs_first, performs_selector, performs_spread, performs_with, last_number, number_on_objects, number_behind, number_that_responds, by_number, tried_number}
+
+-- a step that only reads
+record Reads {A : Type 0} (n : Step Table A) : Type 0 where
+  still : (s t : State Table) (a : A) → n.run s ≡ Went a t → t ≡ s
+
+-- one that answers so has changed nothing
+record Stays {A : Type 0} (n : Step Table A) (x : A) : Type 0 where
+  still : (s t : State Table) → n.run s ≡ Went x t → t ≡ s
+
+-- one that never answers so
+record Never {A : Type 0} (n : Step Table A) (x : A) : Type 0 where
+  none : (s t : State Table) → n.run s ≡ Went x t → ⊥
+
+-- ONE STEP AFTER ANOTHER
+
+read_answer : {A : Type 0} (a : A) → Reads (answer a)
+unfolding answer
+read_answer a = record { still = λ s t b e. cc }
+
+read_die : {A : Type 0} (k : Dead) → Reads (die {A = A} k)
+unfolding die
+read_die k = record { still = λ s t b e. cc }
+
+module _ {A B : Type 0} (n : Step Table A) (f : A → Step Table B) where
+  read_after : (x : Transition (State Table) A) (s t : State Table) (b : B) → ((a : A) (u : State Table) → x ≡ Went a u → u ≡ s) → ((a : A) → Reads (f a)) → after x (λ a u. (f a).run u) ≡ Went b t → t ≡ s
+  unfolding after
+  read_after (Died k) s t b h g e = cc
+  read_after (Went a u) s t b h g e = (g a).still u t b e ∙ h a u refl
+
+  read_then : Reads n → ((a : A) → Reads (f a)) → Reads (n >>= f)
+  unfolding ◌>>=◌
+  read_then h g = record { still = λ s t b e. read_after (n.run s) s t b (λ a u q. h.still s u a q) g e }
+
+  stay_after : (x : Transition (State Table) A) (s t : State Table) (b : B) → ((a : A) (u : State Table) → x ≡ Went a u → u ≡ s) → ((a : A) → Stays (f a) b) → after x (λ a u. (f a).run u) ≡ Went b t → t ≡ s
+  unfolding after
+  stay_after (Died k) s t b h g e = cc
+  stay_after (Went a u) s t b h g e = (g a).still u t e ∙ h a u refl
+
+  stay_then : (b : B) → Reads n → ((a : A) → Stays (f a) b) → Stays (n >>= f) b
+  unfolding ◌>>=◌
+  stay_then b h g = record { still = λ s t e. stay_after (n.run s) s t b (λ a u q. h.still s u a q) g e }
+
+  never_after : (x : Transition (State Table) A) (t : State Table) (b : B) → ((a : A) → Never (f a) b) → after x (λ a u. (f a).run u) ≡ Went b t → ⊥
+  unfolding after
+  never_after (Died k) t b g e = cc
+  never_after (Went a u) t b g e = (g a).none u t e
+
+  never_then : (b : B) → ((a : A) → Never (f a) b) → Never (n >>= f) b
+  unfolding ◌>>=◌
+  never_then b g = record { none = λ s t e. never_after (n.run s) t b g e }
+
+read_next : {A B : Type 0} (n : Step Table A) (p : Step Table B) → Reads n → Reads p → Reads (n >> p)
+unfolding ◌>>◌
+read_next n p h g = read_then n (λ a. p) h (λ a. g)
+
+never_next : {A B : Type 0} (n : Step Table A) (p : Step Table B) (b : B) → Never p b → Never (n >> p) b
+unfolding ◌>>◌
+never_next n p b g = never_then n (λ a. p) b (λ a. g)
+
+read_if : {A : Type 0} (b : Bool) (n p : Step Table A) → Reads n → Reads p → Reads (if b then n else p)
+read_if true n p h g = h
+read_if false n p h g = g
+
+stay_if : {A : Type 0} (b : Bool) (n p : Step Table A) (x : A) → Stays n x → Stays p x → Stays (if b then n else p) x
+stay_if true n p x h g = h
+stay_if false n p x h g = g
+
+stay_read : {A : Type 0} (n : Step Table A) (x : A) → Reads n → Stays n x
+stay_read n x h = record { still = λ s t e. h.still s t x e }
+
+stay_never : {A : Type 0} (n : Step Table A) (x : A) → Never n x → Stays n x
+stay_never n x h = record { still = λ s t e. absurd (h.none s t e) }
+
+-- a step that is tried, and then fails where it would die
+module _ {A B : Type 0} (n : Step Table A) (f : Option A → Step Table B) (b : B) (none : Stays (f None) b) (some : (a : A) → Never (f (Some a)) b) where
+  tried_after : (x : Transition (State Table) A) (s t : State Table) → after (or_left s x) (λ a u. (f a).run u) ≡ Went b t → t ≡ s
+  unfolding after
+  tried_after (Died k) s t e = none.still s t e
+  tried_after (Went a u) s t e = absurd ((some a).none u t e)
+
+  tried_stays : Stays (tried n >>= f) b
+  unfolding tried ◌>>=◌
+  tried_stays = record { still = λ s t e. tried_after (n.run s) s t e }
+
+-- WHAT IS READ
+
+ruleset reading = (read_answer, read_die, read_then, read_next, read_if)
+
+read_check : (k : Dead) (b : Bool) → Reads (check k b)
+unfolding check
+read_check k true = read_answer tt
+read_check k false = read_die k
+
+read_or_die : {A : Type 0} (k : Dead) (x : Option A) → Reads (or_die k x)
+unfolding or_die
+read_or_die k None = read_die k
+read_or_die k (Some a) = read_answer a
+
+read_active : Reads get_active
+unfolding get_active
+read_active = record { still = λ s t a e. cc }
+
+read_sp : Reads get_sp
+unfolding get_sp
+read_sp = record { still = λ s t a e. cc }
+
+module _ (m : ObjectMemory Table) where
+  read_page : (q : PageObject) → Reads (of_page m q)
+  unfolding of_page
+  read_page q = record { still = λ s t a e. cc }
+
+  found_read : (x : Option Object) (s t : State Table) (o : Object) → (found x).run s ≡ Went o t → t ≡ s
+  unfolding found answer die
+  found_read None s t o e = cc
+  found_read (Some a) s t o e = cc
+
+  read_named : (n : ℕ) → Reads (object_named m n)
+  unfolding object_named
+  read_named n = record { still = λ s t o e. found_read (m.read s.memory n) s t o e }
+
+  read_object : (v : Value) → Reads (object m v)
+  unfolding object
+  read_object (Small n) = read_die _
+  read_object (Ref n) = read_named n
+
+  read_half : (v : Value) → Reads (half_word m v)
+  unfolding half_word
+  read_half (Small n) = read_answer n
+  read_half (Ref n) = record { still = λ s t a e. cc }
+
+  ruleset bases = (reading, read_check, read_or_die, read_active, read_sp, read_page, read_named, read_object, read_half)
+
+  read_class : (v : Value) → Reads (class_of m v)
+  unfolding class_of
+  read_class (Small n) = read_page _
+  read_class (Ref n) = search bases depth 12 fits 4000
+
+  read_field : (v : Value) (i : ℕ) → Reads (fetch_field m v i)
+  unfolding fetch_field
+  read_field v i = search bases depth 12 fits 4000
+
+  read_top : Reads (top m)
+  unfolding top
+  read_top = search (bases, read_field) depth 12 fits 4000
+
+  read_under : (k : ℕ) → Reads (under m k)
+  unfolding under
+  read_under k = search (bases, read_field) depth 12 fits 4000
+
+  read_words : (n : ℕ) → Reads (look_at_words m n)
+  unfolding look_at_words
+  read_words n = search (bases, read_top, read_under) depth 12 fits 4000
+
+  read_header : (v : Value) → Reads (method_header m v)
+  unfolding method_header
+  read_header v = search bases depth 12 fits 4000
+
+  read_extension : (v : Value) → Reads (extension_arguments v)
+  unfolding extension_arguments
+  read_extension (Small n) = read_answer _
+  read_extension (Ref n) = read_die _
+
+  read_arguments : (v : Value) → Reads (method_arguments m v)
+  unfolding method_arguments arguments_by arguments_by_extension literal_from_last
+  read_arguments v = search (bases, read_header, read_extension) depth 24 fits 4000
+
+  read_takes : (n : ℕ) (a : Option Value) → Reads (takes m n a)
+  unfolding takes
+  read_takes n None = read_answer true
+  read_takes n (Some v) = search (bases, read_arguments) depth 12 fits 4000
+
+  -- the search for a method
+
+  read_method : (d : Value) (k : ℕ) → Reads (method_at m d k)
+  unfolding method_at checked_method fetch_field
+  read_method d k = search (bases, read_header) depth 24 fits 4000
+
+  read_says : (d : Value) (k : ℕ) (a b : Bool) (n : Step Table (Option Value)) → Reads n → Reads (place_says m d k a b n)
+  unfolding place_says
+  read_says d k true b n h = read_method d k
+  read_says d k false true n h = read_answer None
+  read_says d k false false n h = h
+
+  read_place : (d x : Value) (k : ℕ) (n : Step Table (Option Value)) → Reads n → Reads (look_at_place m d x k n)
+  unfolding look_at_place
+  read_place d x k n h = read_then _ _ (read_field d (2 + k)) (λ s. read_then _ _ (read_page _) (λ nil. read_says d k _ _ n h))
+
+  read_places : (d x : Value) (k left : ℕ) (n : Step Table (Option Value)) → Reads n → Reads (look_at_places m d x k left n)
+  unfolding look_at_places
+  read_places d x k zero n h = h
+  read_places d x k (suc left) n h = read_place d x k _ (read_places d x (suc k) left n h)
+
+  read_dictionary : (d x : Value) (places : ℕ) → Reads (search_dictionary m d x places)
+  unfolding search_dictionary search_from
+  read_dictionary d x places = search (bases, read_places) depth 12 fits 4000
+
+  read_above : (c : Value) (a : Option Value) (f : Value → Step Table (Option Value)) → ((v : Value) → Reads (f v)) → Reads (or_above m c a f)
+  unfolding or_above fetch_field
+  read_above c None f h = search (bases, h) depth 16 fits 4000
+  read_above c (Some v) f h = read_answer _
+
+  read_in_class : (c x : Value) (f : Value → Step Table (Option Value)) → ((v : Value) → Reads (f v)) → Reads (look_in_class m c x f)
+  unfolding look_in_class method_in_class count_fields fetch_field
+  read_in_class c x f h = search (bases, read_dictionary, read_above, h) depth 32 fits 4000
+
+  read_unless : (b : Bool) (n : Step Table (Option Value)) → Reads n → Reads (unless_nil b n)
+  unfolding unless_nil
+  read_unless true n h = read_answer None
+  read_unless false n h = h
+
+  read_nil : (c : Value) (n : Step Table (Option Value)) → Reads n → Reads (end_at_nil m c n)
+  unfolding end_at_nil
+  read_nil c n h = read_then _ _ (read_page _) (λ nil. read_unless _ n h)
+
+  read_within : (x : Value) (left : ℕ) (c : Value) → Reads (find_within m x left c)
+  unfolding find_within
+  read_within x zero c = read_nil c _ (read_die _)
+  read_within x (suc left) c = read_nil c _ (read_in_class c x _ (read_within x left))
+
+  read_find : (c x : Value) → Reads (find m c x)
+  unfolding find
+  read_find c x = read_within x 32767 c
+
+  -- PRIMITIVES THAT FAIL
+
+  failed_stays : Stays (answer {H = Table} false) false
+  failed_stays = stay_read _ _ (read_answer false)
+
+  true_never : Never (answer {H = Table} true) false
+  unfolding answer
+  true_never = record { none = λ s t e. cc }
+
+  succeed_never : {A : Type 0} (n : ℕ) (f : A → Step Table Value) (a : A) → Never (succeed m n f (Some a)) false
+  unfolding succeed
+  succeed_never n f a = never_then _ _ _ (λ v. never_next _ _ _ true_never)
+
+  none_stays : {A : Type 0} (n : ℕ) (f : A → Step Table Value) → Stays (succeed m n f None) false
+  unfolding succeed
+  none_stays n f = failed_stays
+
+  primitive_stays : {A : Type 0} (n : ℕ) (c : Step Table A) (f : A → Step Table Value) → Stays (primitive m n c f) false
+  unfolding primitive
+  primitive_stays n c f = tried_stays c (succeed m n f) false (none_stays n f) (succeed_never n f)
+
+  taking_stays : (n arguments : ℕ) (p : Step Table Bool) → Stays p false → Stays (taking n arguments p) false
+  unfolding taking
+  taking_stays n arguments p h = stay_if _ _ _ _ h failed_stays
+
+  ruleset fails = (stay_then, stay_if, primitive_stays, taking_stays, failed_stays, read_top, read_under)
+
+  arithmetic_stays : (k : ℕ) → Stays (arithmetic m k) false
+  unfolding arithmetic
+  arithmetic_stays k = primitive_stays _ _ _
+
+  large_stays : (k : ℕ) → Stays (large_arithmetic m k) false
+  unfolding large_arithmetic
+  large_stays k = primitive_stays _ _ _
+
+  shift_stays : Stays (shift_large m) false
+  unfolding shift_large
+  shift_stays = primitive_stays _ _ _
+
+  storage_stays : (k n : ℕ) → Stays (storage m k n) false
+  unfolding storage primitive_copy_bits primitive_at primitive_at_put primitive_size primitive_string_at primitive_string_at_put primitive_next primitive_next_put primitive_at_end primitive_object_at primitive_object_at_put primitive_new primitive_new_with primitive_become primitive_instance_variable_at primitive_instance_variable_at_put primitive_as_oop primitive_as_object primitive_some_instance primitive_next_instance primitive_new_method primitive_replace primitive_core_left primitive_oops_left
+  storage_stays k n = search fails depth 48 fits 8000
+
+  processes_stays : (k n : ℕ) → Stays (processes m k n) false
+  unfolding processes primitive_signal primitive_wait primitive_resume primitive_suspend
+  processes_stays k n = search fails depth 24 fits 4000
+
+  input_stays : (k n : ℕ) → Stays (input m k n) false
+  unfolding input primitive_mouse_point primitive_move_mouse primitive_link_cursor primitive_input_semaphore primitive_sample_interval primitive_input_word primitive_second_clock primitive_millisecond_clock primitive_timer primitive_be_cursor primitive_be_display primitive_low_space
+  input_stays k n = search fails depth 32 fits 8000
+
+  value_never : (block : Value) (n : ℕ) (first : ℤ) → Never (value_if_any m block n (Some first)) false
+  unfolding value_if_any value_with_words
+  value_never block n first = never_then _ _ _ (λ c. never_then _ _ _ (λ sp. never_next _ _ _ (never_next _ _ _ (never_next _ _ _ true_never))))
+
+  value_none : (block : Value) (n : ℕ) → Stays (value_if_any m block n None) false
+  unfolding value_if_any
+  value_none block n = failed_stays
+
+  value_stays : (n : ℕ) → Stays (primitive_value m n) false
+  unfolding primitive_value
+  value_stays n = stay_then _ _ _ (read_under n) (λ r. tried_stays (start_of m r n) (value_if_any m r n) false (value_none r n) (value_never r n))
+
+  fields_never : (block array : Value) (p : Passing) → Never (value_with_if_any m block array (Some p)) false
+  unfolding value_with_if_any value_with_fields
+  fields_never block array p = never_next _ _ _ (never_next _ _ _ (never_next _ _ _ true_never))
+
+  fields_none : (block array : Value) → Stays (value_with_if_any m block array None) false
+  unfolding value_with_if_any
+  fields_none block array = failed_stays
+
+  value_with_stays : Stays (primitive_value_with m) false
+  unfolding primitive_value_with
+  value_with_stays = stay_then _ _ _ (read_under 1) (λ r. stay_then _ _ _ read_top (λ a. tried_stays (passing m r a) (value_with_if_any m r a) false (fields_none r a) (fields_never r a)))
+
+  blocks_stays : (k n : ℕ) → Stays (blocks m k n) false
+  unfolding blocks primitive_block_copy
+  blocks_stays k n = search (fails, value_stays, value_with_stays) depth 24 fits 4000
+
+  -- CALLED BY ITS NUMBER
+
+  some_never : {A : Type 0} (a : A) → Never (answer {H = Table} (Some a)) None
+  unfolding answer
+  some_never a = record { none = λ s t e. cc }
+
+  succeeds_never : (n : Step Table Outcome) → Never (succeeds n) None
+  unfolding succeeds
+  succeeds_never n = never_then _ _ _ some_never
+
+  succeeds_stays : (n : Step Table Outcome) → Stays (succeeds n) None
+  succeeds_stays n = stay_never _ _ (succeeds_never n)
+
+  none_read : Stays (answer {H = Table} {A = Option Outcome} None) None
+  none_read = stay_read _ _ (read_answer None)
+
+  went_after : (s t : State Table) (x : Transition (State Table) Bool) → ((u : State Table) → x ≡ Went false u → u ≡ s) → after x (λ b u. (answer (went_if b)).run u) ≡ Went None t → t ≡ s
+  unfolding after answer
+  went_after s t (Died k) h e = cc
+  went_after s t (Went true u) h e = cc
+  went_after s t (Went false u) h e = let q : u ≡ t = cc in sym q ∙ h u refl
+
+  if_done_stays : (p : Step Table Bool) → Stays p false → Stays (if_done p) None
+  unfolding if_done ◌>>=◌
+  if_done_stays p h = record { still = λ s t e. went_after s t (p.run s) (λ u q. h.still s u q) e }
+
+  say_stays : (r : Value) → Stays (primitive_say m r) false
+  unfolding primitive_say
+  say_stays r = primitive_stays _ _ _
+
+  said_after : (r : Value) (s t : State Table) (x : Transition (State Table) Bool) → ((u : State Table) → x ≡ Went false u → u ≡ s) → after x (λ b u. (answer (said_if r b)).run u) ≡ Went None t → t ≡ s
+  unfolding after answer
+  said_after r s t (Died k) h e = cc
+  said_after r s t (Went true u) h e = cc
+  said_after r s t (Went false u) h e = let q : u ≡ t = cc in sym q ∙ h u refl
+
+  said_stays : (r : Value) → Stays (primitive_say m r >>= (λ b. answer (said_if r b))) None
+  unfolding ◌>>=◌
+  said_stays r = record { still = λ s t e. said_after r s t ((primitive_say m r).run s) (λ u q. (say_stays r).still s u q) e }
+
+  says_stays : Stays (says m) None
+  unfolding says
+  says_stays = stay_then _ _ _ read_top said_stays
+
+  performs_if_stays : (class selector : Value) (n : ℕ) (p : Step Table Unit) (found : Option Value) (fits : Bool) → Stays (perform_if_fits m class selector n p found fits) None
+  unfolding perform_if_fits
+  performs_if_stays class selector n p found true = stay_never _ _ (never_next _ _ _ (succeeds_never _))
+  performs_if_stays class selector n p found false = none_read
+
+  performs_stays : (r a : Value) (n : ℕ) (p : Step Table Unit) → Stays (performs m r a n p) None
+  unfolding performs
+  performs_stays r a n p = stay_then _ _ _ (read_class r) (λ class. stay_then _ _ _ (read_find class a) (λ found. stay_then _ _ _ (read_takes n found) (λ fits. performs_if_stays class a n p found fits)))
+
+  selector_stays : (n : ℕ) → Stays (performs_selector m n) None
+  unfolding performs_selector performs_first
+  selector_stays zero = none_read
+  selector_stays (suc n) = stay_then _ _ _ (read_under (n + 1)) (λ r. stay_then _ _ _ (read_under n) (λ a. performs_stays r a n _))
+
+  spread_after : (r a b : Value) (s t : State Table) (x : Transition (State Table) ℕ) → ((n : ℕ) (u : State Table) → x ≡ Went n u → u ≡ s) → after (or_left s x) (λ n u. (performs_spread m r a b n).run u) ≡ Went None t → t ≡ s
+  unfolding after performs_spread
+  spread_after r a b s t (Died k) h e = none_read.still s t e
+  spread_after r a b s t (Went n u) h e = (performs_stays r a n _).still u t e ∙ h n u refl
+
+  read_spreading : (b : Value) → Reads (spreading m b)
+  unfolding spreading check_class count_fields
+  read_spreading b = search (bases, read_class) depth 32 fits 4000
+
+  spread_stays : (r a b : Value) → Stays (tried (spreading m b) >>= (λ n. performs_spread m r a b n)) None
+  unfolding tried ◌>>=◌
+  spread_stays r a b = record { still = λ s t e. spread_after r a b s t ((spreading m b).run s) (λ n u q. (read_spreading b).still s u n q) e }
+
+  with_stays : Stays (performs_with m) None
+  unfolding performs_with
+  with_stays = stay_then _ _ _ (read_under 2) (λ r. stay_then _ _ _ (read_under 1) (λ a. stay_then _ _ _ read_top (λ b. spread_stays r a b)))
+
+  number_stays : (k n : ℕ) → Stays (by_number m k n) None
+  unfolding by_number number_that_responds number_behind number_on_objects last_number
+  number_stays k n = search (stay_if, if_done_stays, succeeds_stays, none_read, says_stays, selector_stays, with_stays, arithmetic_stays, large_stays, shift_stays, storage_stays, blocks_stays, processes_stays, input_stays) depth 32 fits 8000
+
+  pub failed_still : (k n : ℕ) (s t : State Table) → (tried_number m k n).run s ≡ Went None t → t ≡ s
+  unfolding tried_number ◌>>◌
+  failed_still k n s t e = (stay_then (look_at_words m n) (λ u. by_number m k n) None (read_words n) (λ u. number_stays k n)).still s t e

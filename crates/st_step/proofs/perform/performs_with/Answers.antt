@@ -1,0 +1,15 @@
+use Rattle.std.proofs.Common.{refl}
+use Rattle.st_step.proofs.Performed.{spread-performs, spread-fails}
+use Rattle.st_step.proofs.perform.performs_with.Goals as goal
+
+pub returns-in-Ok-clause-does : goal.returns-in-Ok-clause-does
+returns-in-Ok-clause-does g c = record {
+  does = spread-performs _ _ _ _ _ c.in_ok-receiver.ensures.does c.in_ok-selector.ensures.does c.in_ok-array.ensures.does _ _ c.in-Ok.ensures.does c.performs_fields.ensures.does.does;
+  world = c.performs_fields.ensures.does.world;
+}
+
+pub returns-in-Err-clause-does : goal.returns-in-Err-clause-does
+returns-in-Err-clause-does g c = record {
+  does = spread-fails _ _ _ _ _ c.in_ok-receiver.ensures.does c.in_ok-selector.ensures.does c.in_ok-array.ensures.does _ c.in-Err.ensures.does;
+  world = refl;
+}

@@ -1,0 +1,82 @@
+ghost use Rattle.std.specs.Prelude.{◌≡◌, true, false, IfOk, IfErr};
+ghost use Rattle.st_model.specs.declared.dead.Dead.TheVariants.{Kind};
+ghost use Rattle.st_model.specs.Steps.{are_there};
+ghost use Rattle.st_model.specs.Table.{table, bounded_table};
+ghost use Rattle.st_model.specs.Calls.{Does};
+ghost use Rattle.st_frames.specs.Rows.{registers_in};
+ghost use Rattle.st_frames.specs.Shown.{IsReady, shown};
+ghost use Rattle.st_step.specs.Trying.{try_primitive, is_said_there, end_if_any, outcome_of_trial, IsStill};
+
+use crate::numbers::tried_number;
+use crate::stepping::deed_of;
+use crate::tried::Tried;
+use st_frames::{Frame, Registers, World, hold, load};
+use st_input::carry_out;
+use st_memory::{Memory, live_value};
+use st_model::{Dead, Outcome, StepEnd};
+
+/// Whether the registers name what is there.
+fn are_there<M: Memory>(m: &M, r: &Registers) -> bool
+    ensures { result ≡ are_there table (M.view m.now).objects (registers_in r.now) }
+{
+    live_value(m, r.active).is_some()
+        && live_value(m, r.home).is_some()
+        && live_value(m, r.method).is_some()
+        && live_value(m, r.receiver).is_some()
+}
+
+/// What is to be said of the end of a primitive that was tried. An error where what is to be said isn't there.
+fn trial_of<M: Memory>(m: &M, ended: Option<StepEnd>) -> Result<Tried, Dead>
+    ensures same { IfOk result (λ t. outcome_of_trial t ≡ end_if_any ended) }
+    ensures there { IfOk result (λ t. is_said_there table (M.view m.now).objects (end_if_any ended) ≡ true) }
+    ensures gone { IfErr result (λ k. is_said_there table (M.view m.now).objects (end_if_any ended) ≡ false) }
+    ensures cause { IfErr result (λ k. k ≡ Kind) }
+{
+    match ended {
+        None => Ok(Tried::Failed),
+        Some(StepEnd::Went(_)) => Ok(Tried::Done),
+        Some(StepEnd::Snapshot) => Ok(Tried::Outcome(Outcome::Snapshot)),
+        Some(StepEnd::Quit) => Ok(Tried::Outcome(Outcome::Quit)),
+        Some(StepEnd::Debugger) => Ok(Tried::Outcome(Outcome::Debugger)),
+        Some(StepEnd::Says(said)) => match live_value(m, said) {
+            Some(said) => Ok(Tried::Outcome(Outcome::Say(said))),
+            None => Err(Dead::Kind),
+        },
+    }
+}
+
+/// Calls the primitive of a number with so many arguments, as a bytecode does whose method has it: receiver and arguments
+/// stand at the top of the stack. 83 and 84 are the first of the two. Dead, with nothing promised of what was changed,
+/// where one of these words lies below the stack or the definition dies else. Where there is no room for an object that it
+/// makes, nil stands for that, so a caller asks for room before.
+pub fn try_primitive<M: Memory>(
+    m: &mut M,
+    f: &mut Frame,
+    w: &mut World,
+    n: u8,
+    args: u32,
+) -> Result<Tried, Dead>
+    requires ready { IsReady (M.view m.old) f.old w.old }
+    ensures does { Does (try_primitive bounded_table n args) outcome_of_trial
+        (shown (M.view m.old) f.old w.old) result (shown (M.view m.new) f.new w.new) }
+    ensures still { IsStill (M.view m.old) f.old w.old result (M.view m.new) f.new w.new }
+    ensures ready { IfOk result (λ t. IsReady (M.view m.new) f.new w.new) }
+{
+    if args > 16383 {
+        return Err(Dead::Sp);
+    }
+    let mut r = load(m, f, w);
+    let ended = tried_number(m, &mut r, u32::from(n), args)?;
+    if !are_there(m, &r) {
+        return Err(Dead::Kind);
+    }
+    let tried = trial_of(m, ended)?;
+    match ended {
+        None => Ok(tried),
+        Some(end) => {
+            *f = hold(m, &r);
+            carry_out(m, w, deed_of(end));
+            Ok(tried)
+        }
+    }
+}
