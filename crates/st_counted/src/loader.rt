@@ -3,6 +3,7 @@ ghost use Rattle.st_model.specs.Loading.{IsLoading};
 ghost use Rattle.st_model.specs.Props.{IsLoading-prop};
 ghost use Rattle.st_counted.specs.Counted.{counted_view, numbers_of, HasRoom};
 ghost use Rattle.st_counted.specs.Counts.{count_at};
+ghost use Rattle.st_counted.specs.Links.{IsListed};
 
 use crate::contents::{Contents, Head};
 use crate::memory::CountedMemory;
@@ -17,6 +18,7 @@ pub struct CountedLoader {
     pub ghost loading: { IsLoading (counted_view contents) } by { IsLoading-prop (counted_view contents) },
     pub ghost room: { HasRoom contents },
     ghost uncounted: { (k : ℕ) → count_at (numbers_of contents) k ≡ None },
+    ghost listed: { IsListed contents.objects contents.counts },
 }
 
 impl Loader for CountedLoader {

@@ -2,6 +2,7 @@ ghost use Rattle.std.specs.Prelude.{◌≡◌};
 ghost use Rattle.st_model.specs.View.{IsWhole, SettlesTo};
 ghost use Rattle.st_model.specs.Props.{IsWhole-prop};
 ghost use Rattle.st_counted.specs.Counted.{counted_view, HasRoom, AllCounted};
+ghost use Rattle.st_counted.specs.Links.{IsListed};
 
 use crate::contents::Contents;
 use st_memory::Memory;
@@ -14,6 +15,7 @@ pub struct CountedMemory {
     pub ghost whole: { IsWhole (counted_view contents) } by { IsWhole-prop (counted_view contents) },
     pub ghost room: { HasRoom contents },
     pub ghost counted: { AllCounted contents },
+    pub ghost listed: { IsListed contents.objects contents.counts },
 }
 
 impl CountedMemory {
@@ -22,6 +24,7 @@ impl CountedMemory {
         requires whole { IsWhole (counted_view contents) }
         requires room { HasRoom contents }
         requires counted { AllCounted contents }
+        requires listed { IsListed contents.objects contents.counts }
         ensures { result.contents ≡ contents }
     {
         CountedMemory { contents }

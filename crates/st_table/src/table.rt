@@ -1,5 +1,5 @@
 ghost use Rattle.std.specs.Prelude.{◌≡◌, ℕ, ◌+◌, ◌≤◌, ◌↔◌, Some, None, replicate, slice_set, IfOk, IfSome, IfNone, IsTrue};
-ghost use Rattle.st_table.specs.Entries.{place, entry_of, HasEntry, IsFree, IsLeastFree};
+ghost use Rattle.st_table.specs.Entries.{place, entry_of, with_next, with_before, HasEntry, IsFree, IsLeastFree};
 ghost use Rattle.st_model.specs.declared.oop.Oop.{Oop as Pointer};
 
 use crate::entry::Entry;
@@ -80,6 +80,26 @@ impl Table {
         ensures { self.new ≡ slice_set self.old (place o) (Some e) }
     {
         self.entries[(o.0 / 2) as usize] = Some(e);
+    }
+
+    /// Has another follow what a pointer names, in the list that it is in.
+    pub fn set_next(&mut self, o: Oop, next: Oop)
+        requires { HasEntry self.old o }
+        ensures { self.new ≡ slice_set self.old (place o) (with_next (entry_of self.old o) next) }
+    {
+        let k = (o.0 / 2) as usize;
+        let entry = self.entries[k].unwrap();
+        self.entries[k] = Some(Entry { next, ..entry });
+    }
+
+    /// Has another stand before it there.
+    pub fn set_before(&mut self, o: Oop, before: Oop)
+        requires { HasEntry self.old o }
+        ensures { self.new ≡ slice_set self.old (place o) (with_before (entry_of self.old o) before) }
+    {
+        let k = (o.0 / 2) as usize;
+        let entry = self.entries[k].unwrap();
+        self.entries[k] = Some(Entry { before, ..entry });
     }
 
     /// Takes the entry of a pointer away.
