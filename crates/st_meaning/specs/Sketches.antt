@@ -20,10 +20,11 @@ use Rattle.st_emit.specs.Emits.{chained}
 use Rattle.st_code.specs.Methods.{body}
 use Rattle.st_meaning.specs.declared.arena.Statements.{Statements}
 use Rattle.st_meaning.specs.declared.arena.Message.{Message}
+use Rattle.st_meaning.specs.declared.arena.Act.{Act}
 use Rattle.st_meaning.specs.declared.sketch.Sketch.{Sketch}
 use Rattle.st_meaning.specs.Meanings.{most}
 use Rattle.st_meaning.specs.Arenas.{Meaning, runs_of}
-use Rattle.st_meaning.specs.Meant.{IsMessage, IsMessages, IsBody}
+use Rattle.st_meaning.specs.Meant.{IsAct, IsMessage, IsMessages, IsBody}
 
 -- WHAT IS MADE
 
@@ -89,6 +90,9 @@ MakesMessages above a ms old new made = Builds (cascade_naming above a ms) (IsMe
 
 abbrev pub messages_naming : (above : Bool) → Around → List Sent → Naming Tail
 messages_naming above a ms = link_tail above (sent_link (messages_view ms)) (context a)
+
+abbrev pub MakesSends : (above : Bool) → Around → List Sent → (old new : Sketch) → Act → Type 0
+MakesSends above a ms old new act = Builds (messages_naming above a ms) (IsAct act) old new
 
 abbrev pub sent_naming : Around → Sent → Naming Tail
 sent_naming a m = link_tail false (sent_link (message m.selector.items (expressions_view m.arguments.items) no_messages)) (context a)

@@ -11,8 +11,8 @@ ghost use Rattle.st_emit.specs.Nodes.{is_above};
 ghost use Rattle.st_emit.specs.Resolving.{name_node, content_node, number_node};
 ghost use Rattle.st_emit.specs.Shapes.{IsCascade};
 ghost use Rattle.st_meaning.specs.Meant.{IsNode, IsStart, IsAct, IsArguments, IsBody};
-ghost use Rattle.st_meaning.specs.Sketches.{Builds, MakesMessage, MakesMessages, literals_of, node_naming, chain_naming};
-ghost use Rattle.st_meaning.specs.Sketches.{begun_naming, arguments_naming, messages_naming, sent_naming, two_naming};
+ghost use Rattle.st_meaning.specs.Sketches.{Builds, MakesMessage, MakesMessages, MakesSends, literals_of, node_naming};
+ghost use Rattle.st_meaning.specs.Sketches.{chain_naming, begun_naming, arguments_naming, sent_naming, two_naming};
 ghost use Rattle.st_meaning.specs.Sketches.{link_naming, body_naming, loop_naming};
 
 use crate::arena::{Act, Arena, Message, MessageList, Node, NodePlaces, Start, Statements};
@@ -283,7 +283,7 @@ fn sends(
 ) -> Result<(Act, usize), AllocError>
     requires { IsCascade (is_above lookup) (messages_view messages.now) }
     ensures built { IfOk result (λ r.
-        Builds (messages_naming (is_above lookup) around.entry messages.now) (IsAct r.0) sketch.old sketch.new) }
+        MakesSends (is_above lookup) around.entry messages.now sketch.old sketch.new r.0) }
     ensures next { IfOk result (λ r. r.1 ≡ after_messages around.entry messages.now) }
 {
     let above = is_above(lookup);
@@ -421,14 +421,17 @@ fn follow<'t>(
     ensures next { IfOk result (λ r. r.1 ≡ after_chain around.entry first.now links.now) }
 {
     let (start, mut next, taken) = beginning(alloc, sketch, around, first, links)?;
-    let mut acts = Vec::new(alloc);
+    let mut node = Node {
+        start,
+        acts: Vec::new(alloc),
+    };
     for i in taken..links.len() {
         let lookup = lookup_behind(i, first);
         let (act, behind) = linked(alloc, sketch, Around { next, ..around }, lookup, links[i])?;
-        acts.push(act)?;
+        node.acts.push(act)?;
         next = behind;
     }
-    let place = sketch.put(Node { start, acts })?;
+    let place = sketch.put(node)?;
     Ok((place, next))
 }
 

@@ -1,4 +1,4 @@
-use Rattle.std.proofs.Common.{◌≡◌, ap, ◌∙◌}
+use Rattle.std.proofs.Common.{ap, ◌∙◌}
 use Rattle.st_scan.specs.Views.{method_view, statements_view}
 use Rattle.st_emit.specs.declared.names.Around.{Around}
 use Rattle.st_emit.specs.NameViews.{names_view, scope_view}

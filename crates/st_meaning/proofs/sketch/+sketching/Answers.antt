@@ -1,4 +1,4 @@
-use Rattle.std.proofs.Common.{◌≡◌, ℕ, ◌+◌, ◌<◌, ◌≤◌, ◌==◌, Bool, true, false, List, [], ◌∷◌, IfOk, length, take, drop, get_or, Some, refl, sym, ap, ◌∙◌, subst, arith, add-one}
+use Rattle.std.proofs.Common.{◌≡◌, ℕ, ◌+◌, ◌<◌, ◌≤◌, ◌==◌, Bool, true, false, List, [], ◌∷◌, ◌++◌, IfOk, length, take, drop, get_or, Some, refl, sym, ap, ◌∙◌, subst, arith, add-one}
 use Rattle.std.proofs.lemmas.Bool.Decides.{nat_tests}
 use Rattle.std.proofs.lemmas.List.{at_drop_all, take_all}
 use Rattle.st_scan.specs.declared.tree.Expression.{Expression, size-Expression}
@@ -270,7 +270,7 @@ follow-loop-i-init t c =
     let naming = begun_naming c.args.around c.args.first.now c.args.links.now c.in_ok-start.taken in
     let begun = builds_as naming naming (IsStart c.in_ok-start.start) (IsChain c.in_ok-start.start []) c.args.sketch.now c.beginning.new.sketch refl (λ ms x h. chain_none c.in_ok-start.start ms x h) c.in_ok-start.ensures.built in
     record {
-      built = subst (λ (acts : List Act). Builds naming (IsChain c.in_ok-start.start acts) c.args.sketch.now c.beginning.new.sketch) (sym c.new-acts.ensures.items) begun;
+      built = subst (λ (acts : List Act). Builds naming (IsChain c.in_ok-start.start acts) c.args.sketch.now c.beginning.new.sketch) (sym c.new.ensures.items) begun;
       next = c.in_ok-start.ensures.next;
     }
 
@@ -294,16 +294,16 @@ follow-loop-i-preserved t c =
     let above : is_above c.lookup_behind-lookup.result ≡ is_super so_far = c.lookup_behind-lookup.ensures ∙ super_at i start links (omega arith) in
     let at : c.loop-i.next ≡ c.args.around.next + names_in so_far = kept.next in
     let link_at = λ (b : Bool) (n : ℕ). Builds (link_tail b (link_view link) (record around { next = n })) (IsAct act) c.loop-i.sketch c.linked.new.sketch in
-    let one = subst (λ (b : Bool). link_at b (c.args.around.next + names_in so_far)) above (subst (λ (n : ℕ). link_at (is_above c.lookup_behind-lookup.result) n) at c.in_ok-act.ensures.built) in
+    let one = subst (λ (b : Bool). link_at b (c.args.around.next + names_in so_far)) {x = is_above c.lookup_behind-lookup.result} above (subst (λ (n : ℕ). link_at (is_above c.lookup_behind-lookup.result) n) {x = c.loop-i.next} at c.in_ok-act.ensures.built) in
     let no_loop = ap (λ (l : Link). repetition_of so_far (link_view l)) c.index-links-i.is ∙ no_loop_at i start links link c.loop-i-test.true (λ zero. c.in_ok-start.ensures.no_loop (omega arith)) in
-    let two = link_built c.args.around so_far (link_view link) c.loop-i.start-1 c.loop-i.acts.items act c.args.sketch.now c.loop-i.sketch c.linked.new.sketch no_loop kept.built one in
+    let two = link_built c.args.around so_far (link_view link) c.loop-i.node.start c.loop-i.node.acts.items act c.args.sketch.now c.loop-i.sketch c.linked.new.sketch no_loop kept.built one in
     let longer : with_link (link_view link) so_far ≡ linked start (links_view (take (i + 1) links)) =
     ap (λ (l : Link). with_link (link_view l) so_far) c.index-links-i.is ∙ sym (linked_take start links i link c.loop-i-test.true) ∙ ap (λ (j : ℕ). linked start (links_view (take j links))) (sym (add-one i)) in
     let named : c.in_ok-act.behind ≡ c.args.around.next + names_in (with_link (link_view link) so_far) = omega (arith, names_behind (link_view link) so_far, at, c.in_ok-act.ensures.next) in
-    let put = subst (λ (acts : List Act). Builds (expression_node (with_link (link_view link) so_far) around) (IsChain c.loop-i.start-1 acts) c.args.sketch.now c.linked.new.sketch) (sym c.in_ok-push.ensures.items) two in
+    let put = subst (λ (acts : List Act). Builds (expression_node (with_link (link_view link) so_far) around) (IsChain c.loop-i.node.start acts) c.args.sketch.now c.linked.new.sketch) {x = c.loop-i.node.acts.items ++ act ∷ []} (sym {b = c.loop-i.node.acts.items ++ act ∷ []} c.in_ok-push.ensures.items) two in
     record {
-      built = subst (λ (x : ExpressionView). Builds (expression_node x around) (IsChain c.loop-i.start-1 c.push.new.self.items) c.args.sketch.now c.linked.new.sketch) longer put;
-      next = subst (λ (x : ExpressionView). c.in_ok-act.behind ≡ c.args.around.next + names_in x) longer named;
+      built = subst (λ (x : ExpressionView). Builds (expression_node x around) (IsChain c.loop-i.node.start c.push.new.self.items) c.args.sketch.now c.linked.new.sketch) {x = with_link (link_view link) so_far} longer put;
+      next = subst (λ (x : ExpressionView). c.in_ok-act.behind ≡ c.args.around.next + names_in x) {x = with_link (link_view link) so_far} longer named;
     }
 
 pub follow-returns-clause-built : goal.follow-returns-clause-built
@@ -311,8 +311,8 @@ follow-returns-clause-built t c =
     let links : List Link = c.args.links.now in
     let all : length links ≤ c.loop-i.i = omega arith in
     let whole : take c.loop-i.i links ≡ links = take_all c.loop-i.i links all in
-    let built = subst (λ (ls : List Link). Builds (chain_naming c.args.around c.args.first.now ls) (IsChain c.loop-i.start-1 c.loop-i.acts.items) c.args.sketch.now c.loop-i.sketch) whole c.loop-i.invariant.built in
-    builds_put (chain_naming c.args.around c.args.first.now links) c.args.sketch.now c.loop-i.sketch c.put.new.self (record { start = c.loop-i.start-1; acts = c.loop-i.acts }) c.in_ok-place.place built c.in_ok-place.ensures.place c.in_ok-place.ensures.nodes c.put.ensures.draft
+    let built = subst (λ (ls : List Link). Builds (chain_naming c.args.around c.args.first.now ls) (IsChain c.loop-i.node.start c.loop-i.node.acts.items) c.args.sketch.now c.loop-i.sketch) whole c.loop-i.invariant.built in
+    builds_put (chain_naming c.args.around c.args.first.now links) c.args.sketch.now c.loop-i.sketch c.put.new.self c.loop-i.node c.in_ok-place.place built c.in_ok-place.ensures.place c.in_ok-place.ensures.nodes c.put.ensures.draft
 
 pub value-follow-requires : goal.value-follow-requires
 value-follow-requires t c =

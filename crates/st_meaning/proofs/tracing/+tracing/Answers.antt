@@ -6,7 +6,7 @@ use Rattle.st_meaning.specs.declared.arena.Start.{Start}
 use Rattle.st_meaning.specs.declared.arena.Act.{Act}
 use Rattle.st_meaning.specs.declared.arena.Message.{Message}
 use Rattle.st_meaning.specs.declared.tracing.TurnEnd.{TurnEnd}
-use Rattle.st_meaning.specs.Runs.{went, long, answer_to, assign_to, make_block}
+use Rattle.st_meaning.specs.Runs.{long, answer_to, assign_to, make_block}
 use Rattle.st_meaning.specs.Meanings.{most}
 use Rattle.st_meaning.specs.Courses.{going_view, stack_view, IsLongTest}
 use Rattle.st_meaning.specs.Arenas.{act_run, message_run, runs_of}
