@@ -36,7 +36,8 @@ pub mod Opened
 mod Rows
 mod SendRows
 mod ArithmeticRows
-pub mod StorageRows
+mod StorageRows
+mod ForgeRows
 mod LargeRows
 mod StorageBounds
 mod BitBltRows
