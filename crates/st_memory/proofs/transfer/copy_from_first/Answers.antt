@@ -3,8 +3,9 @@ use Rattle.std.proofs.lemmas.Bool.{false≢true}
 use Rattle.st_model.specs.Values.{value}
 use Rattle.st_model.specs.Objects.{is_pointers}
 use Rattle.st_model.specs.View.{with_fields, fields_from, object_of}
-use Rattle.st_memory.proofs.Copying.{no_method, live_after, count_after, kind_after, first_more}
+use Rattle.st_memory.proofs.Copying.{live_after, count_after, kind_after, first_more}
 use Rattle.st_memory.proofs.transfer.copy_from_first.Goals as goal
+use Rattle.st_model.proofs.KindTests.{no_method}
 
 pub loop-done-init : goal.loop-done-init
 unfolding with_fields fields_from
