@@ -13,6 +13,7 @@ loop-left-init g c = record {
   objects = none_yet (g.M.Memory.view c.args.m.now).objects (value c.args.source) (value c.args.target) (c.args.from + c.args.n) (c.args.to + c.args.n) c.args.n;
   held = refl;
   head = refl;
+  places = λ v p s. s;
 }
 
 pub overflow_add-from : goal.overflow_add-from
@@ -62,6 +63,7 @@ loop-left-preserved g c =
           c.pointer-x.ensures.field c.set_pointer.ensures.objects;
       held = c.set_pointer.ensures.held ∙ c.loop-left.invariant.held;
       head = c.set_pointer.ensures.head ∙ c.loop-left.invariant.head;
+      places = λ v p s. c.set_pointer.ensures.places v p (c.loop-left.invariant.places v p s);
     }
 
 pub returns-clause-objects : goal.returns-clause-objects
