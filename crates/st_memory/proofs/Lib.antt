@@ -20,5 +20,5 @@ pub mod Stretches
 mod Swapping
 pub mod Unbounded
 pub mod Units
-mod Wide
+pub mod Wide
 pub mod Writing
