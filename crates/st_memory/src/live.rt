@@ -144,11 +144,12 @@ impl<M: Memory> Objects for M {
         if count < 6 {
             return None;
         }
+        let place = self.place(object);
         Some(ContextFields {
-            instruction_pointer: Word::from(self.pointer(object, 1)),
-            stack_pointer: Word::from(self.pointer(object, 2)),
-            method: Word::from(self.pointer(object, 3)),
-            receiver: Word::from(self.pointer(object, 5)),
+            instruction_pointer: Word::from(self.placed_pointer(object, place, 1)),
+            stack_pointer: Word::from(self.placed_pointer(object, place, 2)),
+            method: Word::from(self.placed_pointer(object, place, 3)),
+            receiver: Word::from(self.placed_pointer(object, place, 5)),
             count,
         })
     }
