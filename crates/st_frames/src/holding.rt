@@ -8,9 +8,10 @@ ghost use Rattle.st_model.specs.View.{IsKnown};
 ghost use Rattle.st_frames.specs.Rows.{registers_in, fetched_in};
 ghost use Rattle.st_frames.specs.Shown.{IsFrame, IsFrameOf, StaysFrame, FetchesFrame, registers_of};
 
-use crate::context::{are_there, read_registers, read_scheduled_context};
+use crate::context::read_scheduled_context;
 use crate::fetched::Fetched;
 use crate::frame::Frame;
+use crate::reading::read_registers;
 use crate::registers::Registers;
 use crate::world::World;
 use st_memory::Memory;
@@ -111,9 +112,6 @@ fn fetch_word<M: Memory>(m: &mut M, context: Word) -> Result<Frame, Dead>
     ensures err { OnErr result ((M.view m.new).held ≡ (M.view m.old).held) }
 {
     let new = read_registers(m, context)?;
-    if !are_there(m, &new) {
-        return Err(Dead::Kind);
-    }
     Ok(hold_fetched(m, &new))
 }
 
