@@ -1,6 +1,6 @@
-mod Dropping
+pub mod Dropping
 mod Finishing
-mod Referring
+pub mod Referring
 mod Rooting
 mod Sizes
 mod Storing

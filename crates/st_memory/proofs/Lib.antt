@@ -19,5 +19,5 @@ pub mod Stretches
 mod Swapping
 pub mod Unbounded
 pub mod Units
-mod Wide
+pub mod Wide
 pub mod Writing

@@ -12,6 +12,7 @@ mod made;
 mod memory;
 mod notes;
 mod objects;
+mod stores;
 mod transfer;
 
 pub use body::{count_fields, count_units, unit_at};
@@ -21,3 +22,4 @@ pub use live::live_value;
 pub use loader::Loader;
 pub use memory::Memory;
 pub use objects::Objects;
+pub use stores::{store_live_field, transfer_live_fields};
