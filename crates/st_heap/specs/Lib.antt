@@ -3,6 +3,7 @@ pub mod Heaps
 pub mod Links
 pub mod Forms
 pub mod Fresh
+pub mod Places
 pub mod Stored
 pub mod Stores
 pub mod Tables

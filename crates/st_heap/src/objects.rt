@@ -25,6 +25,7 @@ pub struct Objects {
 
 impl Objects {
     ghost use Rattle.st_heap.specs.Tables.{objects_of, room_of};
+    ghost use Rattle.st_heap.specs.Places.{SamePlaces, SameOtherPlaces, Stands};
     ghost use Rattle.st_heap.specs.Links.{next_of, before_of, SameLinks, SameOtherLinks, WithNext, WithBefore};
 
     /// No objects, and room for so many words.
@@ -107,6 +108,54 @@ impl Objects {
         Oop(self.store.word(o, 2 + at))
     }
 
+    /// The place at which an object's block stands.
+    pub fn place_of(&self, o: Oop) -> u32
+        requires { is_live (objects_of self.now) (value o) ≡ true }
+        ensures { Stands self.now (value o) result }
+    {
+        self.store.place_of(o)
+    }
+
+    /// Field `at` of an object whose block stands at a place.
+    pub fn placed_field(&self, o: Oop, stand: u32, at: u32) -> Oop
+        requires live { is_live (objects_of self.now) (value o) ≡ true }
+        requires place { Stands self.now (value o) stand }
+        requires range { at < length (object_of (objects_of self.now) (value o)).fields }
+        ensures { slice_get (object_of (objects_of self.now) (value o)).fields at ≡ Some (value result) }
+    {
+        Oop(self.store.placed_word(o, stand, 2 + at))
+    }
+
+    /// Byte `at` of an object of kind Bytes or Method whose block stands at a place; of a Method, whose header and literals count,
+    /// from the first bytecode on.
+    pub fn placed_byte(&self, o: Oop, stand: u32, at: u32) -> u16
+        requires live { is_live (objects_of self.now) (value o) ≡ true }
+        requires place { Stands self.now (value o) stand }
+        requires kind { is_words (object_of (objects_of self.now) (value o)).kind ≡ false }
+        requires above { first_unit (object_of (objects_of self.now) (value o)) ≤ at }
+        requires range { let object = object_of (objects_of self.now) (value o) in
+            at < first_unit object + length object.units }
+        ensures { let object = object_of (objects_of self.now) (value o) in
+            slice_get object.units (at - first_unit object) ≡ Some result }
+    {
+        let word = self.store.placed_word(o, stand, 2 + at / 2);
+        if at % 2 == 0 { word / 256 } else { word % 256 }
+    }
+
+    /// Stores v in field `at` of an object whose block stands at a place; in a Method's header only what counts the same literals.
+    pub fn set_placed_field(&mut self, o: Oop, stand: u32, at: u32, v: Oop)
+        requires live { is_live (objects_of self.old) (value o) ≡ true }
+        requires place { Stands self.old (value o) stand }
+        requires range { at < length (object_of (objects_of self.old) (value o)).fields }
+        requires header { IsHeader (object_of (objects_of self.old) (value o)) at (value v) }
+        ensures objects { objects_of self.new ≡ with_stored (objects_of self.old) (value o) at (value v) }
+        ensures room { room_of self.new ≡ room_of self.old }
+        ensures links { SameLinks self.old.store self.new.store }
+        ensures places { SamePlaces self.old.store self.new.store }
+    {
+        self.store.set_placed_word(o, stand, 2 + at, v.0);
+    }
+
     /// Word `at` of an object of kind Words.
     pub fn word(&self, o: Oop, at: u32) -> u16
         requires live { is_live (objects_of self.now) (value o) ≡ true }
@@ -139,6 +188,7 @@ impl Objects {
         ensures objects { objects_of self.new ≡ with_stored (objects_of self.old) (value o) at (value v) }
         ensures room { room_of self.new ≡ room_of self.old }
         ensures links { SameLinks self.old.store self.new.store }
+        ensures places { SamePlaces self.old.store self.new.store }
     {
         self.store.set_word(o, 2 + at, v.0);
     }
@@ -245,6 +295,7 @@ impl Objects {
         requires { is_live (objects_of self.old) (value o) ≡ true }
         ensures objects { objects_of self.new ≡ slice_set (objects_of self.old) (place o) None }
         ensures room { room_of self.new ≡ room_of self.old }
+        ensures places { SameOtherPlaces self.old.store self.new.store (place o) }
         ensures links { SameOtherLinks self.old.store self.new.store (place o) }
     {
         let words = u32::from(self.store.word(o, 0));
@@ -273,6 +324,7 @@ impl Objects {
         ensures objects { objects_of self.new ≡ objects_of self.old }
         ensures room { room_of self.new ≡ room_of self.old }
         ensures links { WithNext self.old.store self.new.store (place o) (place next) }
+        ensures places { SamePlaces self.old.store self.new.store }
     {
         self.store.set_next(o, next);
     }
@@ -283,6 +335,7 @@ impl Objects {
         ensures objects { objects_of self.new ≡ objects_of self.old }
         ensures room { room_of self.new ≡ room_of self.old }
         ensures links { WithBefore self.old.store self.new.store (place o) (place before) }
+        ensures places { SamePlaces self.old.store self.new.store }
     {
         self.store.set_before(o, before);
     }

@@ -29,6 +29,7 @@ pub struct Store {
 
 impl Store {
     ghost use Rattle.st_heap.specs.Stores.{stored_of, capacity_of};
+    ghost use Rattle.st_heap.specs.Places.{place_at, SamePlaces, SameOtherPlaces};
     ghost use Rattle.st_heap.specs.Links.{next_of, before_of, SameLinks, SameOtherLinks, WithNext, WithBefore};
 
     /// Nothing stored, and so many words for it.
@@ -71,6 +72,38 @@ impl Store {
         self.table.entry(o).odd
     }
 
+    /// The place of its block.
+    pub fn place_of(&self, o: Oop) -> u32
+        requires { HasStored (stored_of self.now) o }
+        ensures { place_at self.now (place o) ≡ Some result }
+    {
+        self.table.entry(o).at
+    }
+
+    /// Word i of its block, which stands at a place.
+    pub fn placed_word(&self, _o: Oop, at: u32, i: u32) -> u16
+        requires there { HasStored (stored_of self.now) _o }
+        requires place { place_at self.now (place _o) ≡ Some at }
+        requires range { i < length (stored (stored_of self.now) (place _o)).cells }
+        ensures { result ≡ slice_index (stored (stored_of self.now) (place _o)).cells i }
+    {
+        self.heap.word(at + i)
+    }
+
+    /// Writes word i of its block, which stands at a place.
+    pub fn set_placed_word(&mut self, _o: Oop, at: u32, i: u32, w: u16)
+        requires there { HasStored (stored_of self.old) _o }
+        requires place { place_at self.old (place _o) ≡ Some at }
+        requires range { i < length (stored (stored_of self.old) (place _o)).cells }
+        ensures stored { let all = stored_of self.old in
+            stored_of self.new ≡ slice_set all (place _o) (Some (with_cell (stored all (place _o)) i w)) }
+        ensures capacity { capacity_of self.new ≡ capacity_of self.old }
+        ensures links { SameLinks self.old self.new }
+        ensures places { SamePlaces self.old self.new }
+    {
+        self.heap.set_word(at + i, w);
+    }
+
     /// Word i of its block.
     pub fn word(&self, o: Oop, i: u32) -> u16
         requires there { HasStored (stored_of self.now) o }
@@ -88,6 +121,7 @@ impl Store {
         ensures stored { let all = stored_of self.old in
             stored_of self.new ≡ slice_set all (place o) (Some (with_cell (stored all (place o)) i w)) }
         ensures capacity { capacity_of self.new ≡ capacity_of self.old }
+        ensures places { SamePlaces self.old self.new }
         ensures links { SameLinks self.old self.new }
     {
         let at = self.table.entry(o).at;
@@ -175,6 +209,7 @@ impl Store {
         requires size { n ≡ length (stored (stored_of self.old) (place o)).cells }
         ensures stored { stored_of self.new ≡ slice_set (stored_of self.old) (place o) None }
         ensures capacity { capacity_of self.new ≡ capacity_of self.old }
+        ensures places { SameOtherPlaces self.old self.new (place o) }
         ensures links { SameOtherLinks self.old self.new (place o) }
     {
         let at = self.table.entry(o).at;
@@ -239,6 +274,7 @@ impl Store {
         ensures stored { stored_of self.new ≡ stored_of self.old }
         ensures capacity { capacity_of self.new ≡ capacity_of self.old }
         ensures links { WithNext self.old self.new (place o) (place next) }
+        ensures places { SamePlaces self.old self.new }
     {
         self.table.set_next(o, next);
     }
@@ -249,6 +285,7 @@ impl Store {
         ensures stored { stored_of self.new ≡ stored_of self.old }
         ensures capacity { capacity_of self.new ≡ capacity_of self.old }
         ensures links { WithBefore self.old self.new (place o) (place before) }
+        ensures places { SamePlaces self.old self.new }
     {
         self.table.set_before(o, before);
     }

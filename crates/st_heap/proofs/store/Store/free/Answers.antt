@@ -4,6 +4,7 @@ use Rattle.st_table.specs.declared.entry.Entry.{Entry}
 use Rattle.st_heap.specs.Blocks.{block_at, given_back, with_owner}
 use Rattle.st_heap.specs.Heaps.{words_of, blocks_of}
 use Rattle.st_heap.proofs.Laying.{entered_owner}
+use Rattle.st_heap.proofs.Placed.{places_without}
 use Rattle.st_heap.proofs.Taking.{tied_given}
 use Rattle.st_heap.specs.Stored.{Stored, stored_at, stored_all, total, one_stored, stored_words, used_of}
 use Rattle.st_heap.proofs.Storing.{length_entry, stored_entry, slot_entry, lengths_all, set_all, same_all}
@@ -91,3 +92,6 @@ returns-clause-links c =
     let k = c.args.o.0 / 2 in
     let now = λ (j : ℕ) (ne : j ≢ k). ap (λ (es : List (Option Entry)). get_or es j None) c.free_entry.ensures ∙ get_or-set_other s.table k j None None ne in
     record { next = λ j ne. ap next_in (now j ne); before = λ j ne. ap before_in (now j ne) }
+
+pub returns-clause-places : goal.returns-clause-places
+returns-clause-places c = λ k other. places_without c.args.self.now.table c.free_entry.new.self (c.args.o.0 / 2) k c.free_entry.ensures other

@@ -8,6 +8,7 @@ use Rattle.st_heap.specs.Stored.{stored_all, used_of}
 use Rattle.st_heap.specs.Links.{next_in, before_in}
 use Rattle.st_heap.proofs.Linking.{stored_before, tied_before, before_here, next_beside, set_alike, stored_entered, entered_inside}
 use Rattle.st_heap.proofs.Tying.{tied_of, are_tied}
+use Rattle.st_heap.proofs.Placed.{places_before}
 use Rattle.st_heap.proofs.store.Store.set_before.Goals as goal
 
 pub set_before-requires : goal.set_before-requires
@@ -49,3 +50,6 @@ returns-clause-links c =
       others = λ j ne. ap (λ (es : List (Option Entry)). before_in (get_or es j None)) is ∙ ap before_in (get_or-set_other s.table k j x None ne);
       next = λ j. ap (λ (es : List (Option Entry)). next_in (get_or es j None)) is ∙ set_alike next_in s.table k x (next_beside (get_or s.table k None) c.args.before) j;
     }
+
+pub returns-clause-places : goal.returns-clause-places
+returns-clause-places c = places_before c.args.self.now.table c.set_before.new.self (c.args.o.0 / 2) c.args.before c.set_before.ensures

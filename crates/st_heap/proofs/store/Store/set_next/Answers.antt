@@ -8,6 +8,7 @@ use Rattle.st_heap.specs.Stored.{stored_all, used_of}
 use Rattle.st_heap.specs.Links.{next_in, before_in}
 use Rattle.st_heap.proofs.Linking.{stored_next, tied_next, next_here, before_beside, set_alike, stored_entered, entered_inside}
 use Rattle.st_heap.proofs.Tying.{tied_of, are_tied}
+use Rattle.st_heap.proofs.Placed.{places_next}
 use Rattle.st_heap.proofs.store.Store.set_next.Goals as goal
 
 pub set_next-requires : goal.set_next-requires
@@ -49,3 +50,6 @@ returns-clause-links c =
       others = λ j ne. ap (λ (es : List (Option Entry)). next_in (get_or es j None)) is ∙ ap next_in (get_or-set_other s.table k j x None ne);
       before = λ j. ap (λ (es : List (Option Entry)). before_in (get_or es j None)) is ∙ set_alike before_in s.table k x (before_beside (get_or s.table k None) c.args.next) j;
     }
+
+pub returns-clause-places : goal.returns-clause-places
+returns-clause-places c = places_next c.args.self.now.table c.set_next.new.self (c.args.o.0 / 2) c.args.next c.set_next.ensures
