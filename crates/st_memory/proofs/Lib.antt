@@ -1,3 +1,4 @@
+mod AtOneLook
 mod Bearing
 pub mod Behind
 pub mod Bodies

@@ -8,6 +8,7 @@ ghost use Rattle.st_model.specs.Calls.{Reads, Changes, itself};
 ghost use Rattle.st_model.specs.View.{IsKnown, Has, Lacks, is_live, object_of};
 
 use crate::body::{count_fields, first_unit};
+use crate::context_fields::ContextFields;
 use crate::made::Made;
 use crate::memory::Memory;
 use crate::objects::Objects;
@@ -127,6 +128,30 @@ impl<M: Memory> Objects for M {
         } else {
             Err(Dead::Kind)
         }
+    }
+
+    #[inline(always)]
+    #[tactic(auto, using(st_model::proofs::Runs::runs, crate::proofs::Wide::bounded), unfolding(st_model::specs::Steps::fetch_field, st_model::specs::Steps::count_fields))]
+    fn context_fields(&self, context: Word) -> Option<ContextFields> {
+        let object = match live_object(self, context) {
+            Ok(object) => object,
+            Err(_) => return None,
+        };
+        if !self.kind(object).is_pointers() {
+            return None;
+        }
+        let count = self.size(object);
+        if count < 6 {
+            return None;
+        }
+        let place = self.place(object);
+        Some(ContextFields {
+            instruction_pointer: Word::from(self.placed_pointer(object, place, 1)),
+            stack_pointer: Word::from(self.placed_pointer(object, place, 2)),
+            method: Word::from(self.placed_pointer(object, place, 3)),
+            receiver: Word::from(self.placed_pointer(object, place, 5)),
+            count,
+        })
     }
 
     #[tactic(auto, using(st_model::proofs::Runs::runs, crate::proofs::Wide::bounded, crate::proofs::Wide::classes))]

@@ -30,6 +30,7 @@ pub mod Making
 mod ImageRows
 mod OperationRows
 mod DecodedRows
+mod CodeTable
 mod IntegerRows
 mod Floors
 pub mod Opened
