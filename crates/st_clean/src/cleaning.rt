@@ -1,12 +1,11 @@
 ghost use Rattle.std.specs.Prelude.{◌≡◌, IsTrue, IfOk, OnOk, Err};
 ghost use Rattle.st_host.specs.Runs.{WritesAbove, IsSynced};
-ghost use Rattle.st_clean.specs.declared.fault.CleanFault.TheVariants.{OutOfMemory};
+ghost use Rattle.st_host.specs.declared.file_fault.FileFault.TheVariants.{OutOfMemory};
 ghost use Rattle.st_clean.specs.Cleaning.{HasWritten, CleanHasCause};
 
-use crate::fault::CleanFault;
 use crate::filling::restricted;
 use crate::needed::reach;
-use st_host::Host;
+use st_host::{FileFault, Host};
 use st_memory::{Loader, Memory};
 use st_model::Demand;
 use st_writer::write;
@@ -21,7 +20,7 @@ pub fn clean<M: Memory, L: Loader, H: Host>(
     m: &M,
     host: &mut H,
     name: &str,
-) -> Result<Demand, CleanFault>
+) -> Result<Demand, FileFault>
     ensures file { let v = M.view m.now in
         IfOk result (HasWritten v.objects v.head (IsTrue H.is_told) (H.files host.new name.now)) }
     ensures synced { OnOk result (IsSynced H.Host.own name.now host.new) }
