@@ -16,3 +16,6 @@ mod Nothing
 mod InBlocks
 pub mod ZeroList
 mod Linked
+mod Listing
+mod Moved
+mod Below
