@@ -201,6 +201,9 @@ pub struct Condensed {
     pub after: u32,
 }
 
+/// Why a store isn't condensed.
+pub type CondenseFault = FileFault;
+
 /// Writes the other changes file without the definitions before the base that later ones supersede, and goes over to it: whole,
 /// or not at all. After an error the store is opened again.
 pub fn condense<H: Host>(
@@ -208,7 +211,7 @@ pub fn condense<H: Host>(
     host: &mut H,
     store: Store,
     changes: &Changes,
-) -> Result<Condensed, FileFault>
+) -> Result<Condensed, CondenseFault>
     requires good { All IsDefinition changes.now.listed }
     requires file { changes.now.second ≡ nat_lt 1 store.root.slot }
     requires place { store.root.length ≡ length (entries changes.now.listed) }

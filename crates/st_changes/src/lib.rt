@@ -20,7 +20,7 @@ mod span;
 mod writing;
 
 pub use changes::Changes;
-pub use condensing::{Condensed, condense};
+pub use condensing::{CondenseFault, Condensed, condense};
 pub use definition::Definition;
 pub use laws::{condensing_keeps_last, one_damage, one_list};
 pub use loading::load;

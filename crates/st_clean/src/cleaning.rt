@@ -11,6 +11,9 @@ use st_model::Demand;
 use st_writer::write;
 use std::alloc::Global;
 
+/// Why an image that is cleaned isn't written.
+pub type CleanFault = FileFault;
+
 /// Writes to a file the image of what a memory's image needs: the objects that can be reached from the root page and the tables of
 /// names, under the same pointers and the same head. The file is cut to that text and synced. Answers how many objects and words
 /// were written. It takes a second memory, of the same capacities, for the time of the call; where there is none nothing is done.
@@ -20,7 +23,7 @@ pub fn clean<M: Memory, L: Loader, H: Host>(
     m: &M,
     host: &mut H,
     name: &str,
-) -> Result<Demand, FileFault>
+) -> Result<Demand, CleanFault>
     ensures file { let v = M.view m.now in
         IfOk result (HasWritten v.objects v.head (IsTrue H.is_told) (H.files host.new name.now)) }
     ensures synced { OnOk result (IsSynced H.Host.own name.now host.new) }

@@ -10,6 +10,6 @@ mod marks;
 mod needed;
 mod state;
 
-pub use cleaning::clean;
+pub use cleaning::{CleanFault, clean};
 pub use laws::{clean_image_is_read, one_reach, reach_is_least};
 pub use needed::reach;
