@@ -13,7 +13,7 @@ use crate::fetched::Fetched;
 use crate::frame::Frame;
 use crate::registers::Registers;
 use crate::world::World;
-use st_memory::{Memory, live_value};
+use st_memory::Memory;
 use st_model::{Dead, Oop, RootPlace, Word};
 
 /// The registers, as the row of a bytecode works on them.
@@ -34,19 +34,18 @@ pub fn load<'a, M: Memory>(m: &M, f: &Frame, w: &'a World) -> Registers<'a>
 }
 
 /// The pointer of a word that is there.
-#[tactic(auto)]
-fn pointer<M: Memory>(m: &M, w: Word) -> Oop
-    requires { is_there table (M.view m.now).objects (word w) ≡ true }
+#[inline(always)]
+#[tactic(auto, using(crate::proofs::There::pointers))]
+fn pointer<M: Memory>(_m: &M, w: Word) -> Oop
+    requires { is_there table (M.view _m.now).objects (word w) ≡ true }
     ensures same { value result ≡ word w }
-    ensures known { IsKnown (M.view m.now).objects (value result) }
+    ensures known { IsKnown (M.view _m.now).objects (value result) }
 {
-    match live_value(m, w) {
-        Some(o) => o,
-        None => Oop::NIL,
-    }
+    Oop(w.0 as u16)
 }
 
 /// Holds the registers at their places.
+#[inline(always)]
 fn hold_frame<M: Memory>(m: &mut M, f: &Frame)
     requires { IsFrameOf (M.view m.old).objects f.now }
     ensures objects { (M.view m.new).objects ≡ (M.view m.old).objects }
