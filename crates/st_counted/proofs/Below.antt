@@ -1,7 +1,7 @@
 -- The places below a number whose count is 0, as they come into the list one after the other.
 use Rattle.std.proofs.Common.{◌≡◌, ◌≢◌, ℕ, ◌+◌, ◌<◌, ◌≤◌, Bool, true, false, cond, List, Option, length, refl, sym, ap, ◌∙◌, is_some, inl, inr, arith}
 use Rattle.std.specs.Prelude.{◌==◌, ◌&&◌, nat_lt}
-use Rattle.std.proofs.lemmas.Bool.{cases_lt}
+use Rattle.std.proofs.lemmas.Bool.{cases_lt, and_parts, and_right}
 use Rattle.std.proofs.lemmas.Bool.Decides.{nat_tests}
 use Rattle.st_model.specs.Table.{Table, entry}
 use Rattle.st_heap.specs.declared.store.Store.{Store}
@@ -23,14 +23,6 @@ lt_true a b h = grind (arith, nat_tests)
 lt_false : (a b : ℕ) → b ≤ a → nat_lt a b ≡ false
 lt_false a b h = grind (arith, nat_tests)
 
-and_false : (b : Bool) → (b && false) ≡ false
-and_false true = refl
-and_false false = refl
-
-second : (a b : Bool) → (a && b) ≡ true → b ≡ true
-second true b h = h
-second false b h = cc
-
 step_other : (o k : ℕ) → k ≢ o → nat_lt o (k + 1) ≡ nat_lt o k
 step_other o k ne = elim (cases_lt o k) [
   | inl l ↦ lt_true o (k + 1) (omega (arith, l)) ∙ sym (lt_true o k l)
@@ -49,7 +41,7 @@ below_used cs k o used = by_case (k == o) refl
     by_case : (t : Bool) → (k == o) ≡ t → unused_below cs (k + 1) o ≡ unused_below cs k o
     by_case true q =
         let out : is_unused cs o ≡ false = ap (is_unused cs) (sym (same_test k o q)) ∙ used in
-        ap (λ b. nat_lt o (k + 1) && b) out ∙ and_false (nat_lt o (k + 1)) ∙ sym (ap (λ b. nat_lt o k && b) out ∙ and_false (nat_lt o k))
+        and_right (nat_lt o (k + 1)) (is_unused cs o) out ∙ sym (and_right (nat_lt o k) (is_unused cs o) out)
     by_case false q = ap (λ b. b && is_unused cs o) (step_other o k (other_test k o q))
 
 below_more : (cs : List (Option ℕ)) (k o : ℕ) → is_unused cs k ≡ true → unused_below cs (k + 1) o ≡ with_member k (unused_below cs k) o
@@ -84,4 +76,4 @@ listed_all s first cs n long h = holds_alike s first (unused_below cs n) (is_unu
 -- what is first in it stands somewhere
 pub below_end : (o : Objects) (t : Table) (f : ℕ → ℕ) (cs : List (Option ℕ)) (first k : ℕ) → objects_of o ≡ t → IsTallied t f cs → Holds o.store first (unused_below cs k) → IsEnd o first
 below_end o t f cs first k is tally h = λ ne.
-    ap (λ (u : Table). is_some (entry u first)) is ∙ (no_reference t f cs first tally (second (nat_lt first k) (is_unused cs first) (first_passes o.store first (unused_below cs k) h ne))).0
+    ap (λ (u : Table). is_some (entry u first)) is ∙ (no_reference t f cs first tally (and_parts (nat_lt first k) (is_unused cs first) (first_passes o.store first (unused_below cs k) h ne)).1).0
