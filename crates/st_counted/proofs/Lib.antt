@@ -1,6 +1,6 @@
-mod Dropping
+pub mod Dropping
 mod Finishing
-mod Referring
+pub mod Referring
 mod Rooting
 mod Sizes
 mod Storing
@@ -16,3 +16,6 @@ mod Nothing
 mod InBlocks
 pub mod ZeroList
 mod Linked
+mod Listing
+mod Moved
+mod Below

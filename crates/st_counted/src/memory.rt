@@ -2,6 +2,7 @@ ghost use Rattle.std.specs.Prelude.{◌≡◌};
 ghost use Rattle.st_model.specs.View.{IsWhole, SettlesTo};
 ghost use Rattle.st_model.specs.Props.{IsWhole-prop};
 ghost use Rattle.st_counted.specs.Counted.{counted_view, HasRoom, AllCounted};
+ghost use Rattle.st_counted.specs.Links.{IsListed};
 
 use crate::contents::Contents;
 use st_memory::Memory;
@@ -14,6 +15,7 @@ pub struct CountedMemory {
     pub ghost whole: { IsWhole (counted_view contents) } by { IsWhole-prop (counted_view contents) },
     pub ghost room: { HasRoom contents },
     pub ghost counted: { AllCounted contents },
+    pub ghost listed: { IsListed contents.objects contents.counts },
 }
 
 impl CountedMemory {
@@ -22,6 +24,7 @@ impl CountedMemory {
         requires whole { IsWhole (counted_view contents) }
         requires room { HasRoom contents }
         requires counted { AllCounted contents }
+        requires listed { IsListed contents.objects contents.counts }
         ensures { result.contents ≡ contents }
     {
         CountedMemory { contents }
@@ -32,7 +35,7 @@ impl CountedMemory {
     fn drop_unused(&mut self)
         ensures { SettlesTo (counted_view self.old.contents) (counted_view self.new.contents) }
     {
-        while let Some(k) = self.contents.counts.first_unused() {
+        while let Some(k) = self.contents.first_unused() {
             self.contents.drop_object(k);
         }
     }
@@ -120,7 +123,7 @@ impl Memory for CountedMemory {
 
     #[inline(always)]
     fn settle(&mut self) {
-        match self.contents.counts.first_unused() {
+        match self.contents.first_unused() {
             Some(_) => self.drop_unused(),
             None => {}
         }

@@ -9,6 +9,7 @@ pub mod Stretches
 pub mod Forming
 pub mod Fresh
 mod StoredLaying
+pub mod Linking
 pub mod Living
 pub mod Changing
 pub mod Placing

@@ -1,5 +1,6 @@
 pub mod Blocks
 pub mod Heaps
+pub mod Links
 pub mod Forms
 pub mod Fresh
 pub mod Stored

@@ -15,6 +15,8 @@ use Rattle.st_meaning.specs.Values.{DeedView, variable_of}
 use Rattle.st_meaning.specs.Values as views
 use Rattle.st_meaning.specs.Runs.{Going, Outcome, went, over, long, stuck, unfinished, Run, gives, then_go, ◌>>=◌, did, ends, assign_to, make_block, return_value, be_unsure, jump_back, decide}
 use Rattle.st_meaning.specs.Traces.{nil, sided, chosen, goes_on, turns, value_of, body_value, messages_value, nodes_values}
+use Rattle.std.proofs.lemmas.Bool.{and_from, or_left}
+use Rattle.st_scan.proofs.Classes.{or_second}
 
 -- WHAT EACH VALUE IS
 
@@ -118,18 +120,6 @@ abbrev mutual
   NodesFew none = Unit {0}
   NodesFew (node n ns) = Few n × (goes n ≡ true → NodesFew ns)
 
-and_true : (a b : Bool) → a ≡ true → b ≡ true → (a && b) ≡ true
-and_true true b e f = f
-and_true false b e f = absurd cc
-
-or_first : (a b : Bool) → a ≡ true → (a || b) ≡ true
-or_first true b e = refl
-or_first false b e = absurd cc
-
-or_second : (a b : Bool) → b ≡ true → (a || b) ≡ true
-or_second true b e = refl
-or_second false b e = e
-
 -- a block's count always gives a value
 pub count_goes : (n : Node) → IsCount n → goes n ≡ true
 count_goes (small k) c = refl
@@ -206,16 +196,16 @@ module _ (most : ℕ) (literals : List LiteralView) where
     lives (block f i c b) n g p = onward (goes c ≡ true) (make_block most g) (count_goes c p.1)
     lives (send above r ms) n g p =
         onward_then (goes r ≡ true) ((goes r && messages_go ms) ≡ true) (value_of most r n g) (λ v. messages_value most ms above v n) (lives r n g p.0)
-        (λ v g1 h. onward_more (messages_go ms ≡ true) ((goes r && messages_go ms) ≡ true) (messages_value most ms above v n g1) (messages_live ms above v n g1 p.1) (and_true (goes r) (messages_go ms) h))
+        (λ v g1 h. onward_more (messages_go ms ≡ true) ((goes r && messages_go ms) ≡ true) (messages_value most ms above v n g1) (messages_live ms above v n g1 p.1) (and_from (goes r) (messages_go ms) h))
     lives (one_sided side x a) n g p =
         onward_then (goes x ≡ true) (goes x ≡ true) (value_of most x n g) (λ v. sided most side v (body_value most a n)) (lives x n g p.0) (λ v g1 h. onward (goes x ≡ true) (sided most side v (body_value most a n) g1) h)
     lives (two_sided side x a b) n g p =
         onward_then (goes x ≡ true) ((goes x && (body_goes a || body_goes b)) ≡ true) (value_of most x n g) (λ v. chosen most side v (body_value most a n) (body_value most b n)) (lives x n g p.0)
         (λ v g1 h. onward_more ((body_goes a || body_goes b) ≡ true) ((goes x && (body_goes a || body_goes b)) ≡ true) (chosen most side v (body_value most a n) (body_value most b n) g1)
         (chosen_onward ((body_goes a || body_goes b) ≡ true) side v (body_value most a n) (body_value most b n) g1
-        (onward_more (body_goes a ≡ true) ((body_goes a || body_goes b) ≡ true) (body_value most a n g1) (body_lives a n g1 p.1) (or_first (body_goes a) (body_goes b)))
+        (onward_more (body_goes a ≡ true) ((body_goes a || body_goes b) ≡ true) (body_value most a n g1) (body_lives a n g1 p.1) (or_left (body_goes a) (body_goes b)))
         (onward_more (body_goes b ≡ true) ((body_goes a || body_goes b) ≡ true) (body_value most b n g1) (body_lives b n g1 p.2) (or_second (body_goes a) (body_goes b))))
-        (and_true (goes x) (body_goes a || body_goes b) h))
+        (and_from (goes x) (body_goes a || body_goes b) h))
     lives (loop kind x a) n g p = turns_onward (body_goes x ≡ true) n kind (body_value most x n) (body_value most a n) g (λ h. body_lives x n h p.0)
 
     pub body_lives : (b : Body) (n : ℕ) (g : Going) → BodyPlaced literals b → Onward (body_goes b ≡ true) (body_value most b n g)
@@ -223,7 +213,7 @@ module _ (most : ℕ) (literals : List LiteralView) where
     body_lives (last x) n g p = lives x n g p
     body_lives (next x b) n g p =
         onward_then (goes x ≡ true) ((goes x && body_goes b) ≡ true) (value_of most x n g) (λ v. body_value most b n) (lives x n g p.0)
-        (λ v g1 h. onward_more (body_goes b ≡ true) ((goes x && body_goes b) ≡ true) (body_value most b n g1) (body_lives b n g1 p.1) (and_true (goes x) (body_goes b) h))
+        (λ v g1 h. onward_more (body_goes b ≡ true) ((goes x && body_goes b) ≡ true) (body_value most b n g1) (body_lives b n g1 p.1) (and_from (goes x) (body_goes b) h))
     body_lives (returned x) n g p =
         onward_then (Unit {0}) (false ≡ true) (value_of most x n g) (λ v. return_value most v) (onward (Unit {0}) (value_of most x n g) tt) (λ v g1 h. return_onward Value (false ≡ true) v g1)
 
@@ -233,10 +223,10 @@ module _ (most : ℕ) (literals : List LiteralView) where
     messages_live (also s ns ms) above r n g p =
         onward_then (nodes_go ns ≡ true) ((nodes_go ns && messages_go ms) ≡ true) _ (λ v. messages_value most ms above r n)
         (onward_then (nodes_go ns ≡ true) (nodes_go ns ≡ true) (nodes_values most ns [] n g) _ (nodes_live ns [] n g p.0) (λ vs g1 h. onward (nodes_go ns ≡ true) _ h))
-        (λ v g1 h. onward_more (messages_go ms ≡ true) ((nodes_go ns && messages_go ms) ≡ true) (messages_value most ms above r n g1) (messages_live ms above r n g1 p.2) (and_true (nodes_go ns) (messages_go ms) h))
+        (λ v g1 h. onward_more (messages_go ms ≡ true) ((nodes_go ns && messages_go ms) ≡ true) (messages_value most ms above r n g1) (messages_live ms above r n g1 p.2) (and_from (nodes_go ns) (messages_go ms) h))
 
     pub nodes_live : (ns : Nodes) (vs : List Value) (n : ℕ) (g : Going) → NodesPlaced literals ns → Onward (nodes_go ns ≡ true) (nodes_values most ns vs n g)
     nodes_live none vs n g p = refl
     nodes_live (node x xs) vs n g p =
         onward_then (goes x ≡ true) ((goes x && nodes_go xs) ≡ true) (value_of most x n g) (λ v. nodes_values most xs (v ∷ vs) n) (lives x n g p.0)
-        (λ v g1 h. onward_more (nodes_go xs ≡ true) ((goes x && nodes_go xs) ≡ true) (nodes_values most xs (v ∷ vs) n g1) (nodes_live xs (v ∷ vs) n g1 p.1) (and_true (goes x) (nodes_go xs) h))
+        (λ v g1 h. onward_more (nodes_go xs ≡ true) ((goes x && nodes_go xs) ≡ true) (nodes_values most xs (v ∷ vs) n g1) (nodes_live xs (v ∷ vs) n g1 p.1) (and_from (goes x) (nodes_go xs) h))

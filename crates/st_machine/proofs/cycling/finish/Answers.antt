@@ -2,7 +2,7 @@ use Rattle.std.proofs.Common.{ap, ◌∙◌}
 use Rattle.st_model.specs.Table.{table}
 use Rattle.st_model.specs.Cycles.{warned}
 use Rattle.st_machine.proofs.Done.{ready_after}
-use Rattle.st_machine.proofs.Settled.{settled_same}
+use Rattle.st_frames.proofs.Settled.{settled_same}
 use Rattle.st_machine.proofs.Foreseeing.{warned_same, frame_stays}
 use Rattle.st_machine.proofs.cycling.finish.Goals as goal
 

@@ -7,7 +7,7 @@ use Rattle.st_at_once.specs.AtOnce.{IsDoneBut}
 use Rattle.st_machine.specs.Cycling.{GoesCalmly, warns}
 use Rattle.st_machine.proofs.Calm.{unwarned}
 use Rattle.st_machine.proofs.Foreseeing.{dies_at_once, goes_by}
-use Rattle.st_machine.proofs.Settled.{settled_same}
+use Rattle.st_frames.proofs.Settled.{settled_same}
 use Rattle.st_machine.proofs.stretch.do_calmly.Goals as goal
 
 pub returns-in_err-step_from-clause-step : goal.returns-in_err-step_from-clause-step

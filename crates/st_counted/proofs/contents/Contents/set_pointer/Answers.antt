@@ -1,10 +1,12 @@
-use Rattle.std.proofs.Common.{◌/◌, [], arith}
+use Rattle.std.proofs.Common.{◌/◌, [], ap, sym, ◌∙◌, subst, is_some, arith}
 use Rattle.st_model.specs.Values.{value}
+use Rattle.st_model.specs.Table.{Table, entry}
 use Rattle.st_counted.specs.Contents.{counts_of}
 use Rattle.st_heap.specs.Tables.{objects_of}
-use Rattle.st_counted.specs.References.{all_roots, references}
+use Rattle.st_counted.specs.References.{all_roots, references, IsCounted}
 use Rattle.st_counted.specs.Counted.{counted_view, numbers_of}
 use Rattle.st_counted.proofs.Tallying.{known_counted, hand_counted, hand_some}
+use Rattle.st_counted.proofs.Listing.{relinked, live_with}
 use Rattle.st_counted.proofs.Rooting.{counted_few}
 use Rattle.st_counted.proofs.Storing.{stored, lowered_to}
 use Rattle.st_counted.proofs.contents.Contents.set_pointer.Goals as goal
@@ -24,18 +26,33 @@ lower-requires-clause-counted c small =
     let v = counted_view c.args.self.now in
     hand_counted (objects_of c.set_field.new.self) (all_roots v) [] (counts_of c.raise.new.counts) c.field-old.result.0
     (stored v (numbers_of c.args.self.now) (counts_of c.raise.new.counts) (objects_of c.set_field.new.self) (value c.args.o) c.args.at (value c.args.v) (value c.field-old.result)
-    c.requires.counted c.requires.known c.requires.live c.field-old.ensures c.raise.ensures c.set_field.ensures.objects) small
+    c.requires.counted c.requires.known c.requires.live c.field-old.ensures c.raise.ensures.counts c.set_field.ensures.objects) small
 
 pub lower-requires-clause-some : goal.lower-requires-clause-some
 lower-requires-clause-some c small =
     let v = counted_view c.args.self.now in
     hand_some (objects_of c.set_field.new.self) (all_roots v) [] (counts_of c.raise.new.counts) c.field-old.result.0
     (stored v (numbers_of c.args.self.now) (counts_of c.raise.new.counts) (objects_of c.set_field.new.self) (value c.args.o) c.args.at (value c.args.v) (value c.field-old.result)
-    c.requires.counted c.requires.known c.requires.live c.field-old.ensures c.raise.ensures c.set_field.ensures.objects) small
+    c.requires.counted c.requires.known c.requires.live c.field-old.ensures c.raise.ensures.counts c.set_field.ensures.objects) small
 
 pub returns-clause-counted : goal.returns-clause-counted
 returns-clause-counted c =
     let v = counted_view c.args.self.now in
-    lowered_to (objects_of c.set_field.new.self) (all_roots v) [] (counts_of c.raise.new.counts) (counts_of c.lower.new.counts) (value c.field-old.result)
+    subst (λ (t : Table). IsCounted t (all_roots v) [] (counts_of c.lower.new.counts)) (sym (c.lower.ensures.objects ∙ c.raise.ensures.objects))
+    (lowered_to (objects_of c.set_field.new.self) (all_roots v) [] (counts_of c.raise.new.counts) (counts_of c.lower.new.counts) (value c.field-old.result)
     (stored v (numbers_of c.args.self.now) (counts_of c.raise.new.counts) (objects_of c.set_field.new.self) (value c.args.o) c.args.at (value c.args.v) (value c.field-old.result)
-    c.requires.counted c.requires.known c.requires.live c.field-old.ensures c.raise.ensures c.set_field.ensures.objects) c.lower.ensures
+    c.requires.counted c.requires.known c.requires.live c.field-old.ensures c.raise.ensures.counts c.set_field.ensures.objects) c.lower.ensures.counts)
+
+-- the links stay where a field is stored
+pub raise-requires-clause-listed : goal.raise-requires-clause-listed
+raise-requires-clause-listed c =
+    let m = c.args.self.now in
+    let e = c.set_field.ensures in
+    relinked m.objects c.set_field.new.self m.counts c.requires.listed e.links
+    (λ k counted. ap (λ (t : Table). is_some (entry t k)) e.objects ∙ live_with (objects_of m.objects) (value c.args.o) c.args.at (value c.args.v) k ∙ c.requires.listed.stored k counted)
+
+pub returns-clause-objects : goal.returns-clause-objects
+returns-clause-objects c = c.lower.ensures.objects ∙ c.raise.ensures.objects ∙ c.set_field.ensures.objects
+
+pub returns-clause-room : goal.returns-clause-room
+returns-clause-room c = λ h. c.lower.ensures.room ∙ c.raise.ensures.room ∙ c.set_field.ensures.room ∙ h

@@ -31,6 +31,7 @@ invariant_of-self c =
           (ap (λ (h : Head). head_of h.capacity h.globals h.symbols) e.head);
       room = e.room m.room;
       counted = e.counted;
+      listed = e.listed;
     }
 
 pub loop-k-init : goal.loop-k-init

@@ -15,4 +15,5 @@ invariant_of-self c =
       whole = whole_held v w c.args.place (value c.args.o) m.whole c.requires.known c.hold.ensures.objects c.hold.ensures.held (ap (λ (h : Head). head_of h.capacity h.globals h.symbols) c.hold.ensures.head);
       room = c.hold.ensures.room m.room;
       counted = c.hold.ensures.counted;
+      listed = c.hold.ensures.listed;
     }

@@ -17,4 +17,5 @@ invariant_of-self c =
       whole = whole_stored v w (value c.args.o) c.args.at (value c.args.v) m.whole c.requires.live c.requires.known c.requires.header (IsWord-value_of c.args.v.0 word) c.set_pointer.ensures.objects c.set_pointer.ensures.held (ap (λ (h : Head). head_of h.capacity h.globals h.symbols) c.set_pointer.ensures.head);
       room = c.set_pointer.ensures.room m.room;
       counted = c.set_pointer.ensures.counted;
+      listed = c.set_pointer.ensures.listed;
     }

@@ -11,10 +11,10 @@ use Rattle.st_model.specs.Table.{Table, table, settled_table}
 use Rattle.st_model.specs.Settled.{AnyRefTo, IsRefTo, IsRoot, held_root, page_root, IsSettled, settled_set, reclaim}
 use Rattle.st_model.specs.View.{View, SettlesTo, view_roots}
 use Rattle.st_model.proofs.SettledIs.{settled_is, settled_once}
-use Rattle.st_simulation.proofs.Reclaimed.{table_finite_in}
 use Rattle.st_model.proofs.Roots.{any_either, any_left, any_right, any_replicate, settled_alike}
 use Rattle.st_frames.specs.declared.frame.Frame.{Frame}
 use Rattle.st_frames.specs.Shown.{shown, registers_of, filled, IsReady}
+use Rattle.st_model.proofs.Reclaiming.{table_finite}
 
 -- what a memory holds for devices is what they name, or nil
 
@@ -78,6 +78,6 @@ settled_same u v f w ready r =
     let roots = roots_of (shown u f w) in
     let mine = settled_shown u f w r.set ready r.is_settled in
     let set : settled_set table u.objects roots ≡ r.set =
-    fun_ext (settled_once table u.objects roots (settled_set table u.objects roots) r.set (settled_is table u.objects roots (table_finite_in u.objects)) mine) in
+    fun_ext (settled_once table u.objects roots (settled_set table u.objects roots) r.set (settled_is table u.objects roots (table_finite u.objects)) mine) in
     let objects : settled_table u.objects (settled_set table u.objects roots) ≡ v.objects = ap (settled_table u.objects) set ∙ sym r.objects in
     λ i. record { memory = objects i; registers = registers_of f; world = w; head = sym r.head i }
