@@ -12,7 +12,7 @@ use Rattle.st_model.specs.Deeds.{changed_by, counts_literals, header_stored, lit
 use Rattle.st_input.proofs.Done.{gone_stays, left_stays, field_becomes, field_past, and_false}
 use Rattle.st_model.proofs.SettledIs.{bool_cases}
 
-if_same : (b : Bool) (o : Object) → (if b then o else o) ≡ o
+pub if_same : (b : Bool) (o : Object) → (if b then o else o) ≡ o
 if_same true o = refl
 if_same false o = refl
 

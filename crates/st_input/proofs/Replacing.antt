@@ -15,6 +15,7 @@ use Rattle.st_input.proofs.Done.{gone_stays, left_stays}
 use Rattle.st_model.proofs.KindTests.{text_fields, text_pointers}
 use Rattle.st_model.proofs.SettledIs.{bool_cases}
 use Rattle.st_memory.proofs.Stretches.{nothing_laid}
+use Rattle.st_input.proofs.Headers.{if_same}
 
 -- lists
 
@@ -111,10 +112,6 @@ none_from t (Ref k) i n h = none_at i n (entry t k) h
 
 stays_if : (i : ℕ) (bs : List ℕ) (o : Object) → is_bytes o.kind ≡ false → bytes_replaced i bs o ≡ o
 stays_if i bs o k = rw k refl
-
-if_same : (b : Bool) (o : Object) → (if b then o else o) ≡ o
-if_same true o = refl
-if_same false o = refl
 
 -- of what isn't of kind Bytes nothing becomes of another
 pub no_target : (t : Table) (v : Value) (i : ℕ) (bs : List ℕ) → (is_live t v ≡ true → is_bytes (object_of t v).kind ≡ false) → t ≡ changed_by (bytes_replaced i bs) t v

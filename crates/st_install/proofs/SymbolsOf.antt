@@ -36,7 +36,7 @@ use Rattle.st_install.specs.Readies.{part_of, parts_of, object_of, objects_of, s
 use Rattle.st_install.specs.Told.{named_of}
 use Rattle.st_install.specs.Naming.{nil, all_fields, AreFields, IsNamed, Becomes, with_named, in_field, grown_with, in_array, with_made, Names, TellsFields, TellsNaming, TellsNames, naming}
 use Rattle.st_install.proofs.Singles.{noted, symbol_noted}
-use Rattle.st_install.proofs.Growth.{parts_of_nil}
+use Rattle.st_install.proofs.Growth.{parts_of_nil, array_class}
 use Rattle.st_emit.proofs.NamePlaces.{same_text, decides}
 
 -- NOTING
@@ -136,10 +136,6 @@ becomes_stored old new k p a b c d e s h = record {
 size_fits : (n : ℕ) → n + 1 ≤ max 16 (2 * n)
 size_fits zero = omega arith
 size_fits (suc n) = omega arith
-
-array_class : value (record { 0 = 16 }) ≡ Ref (place_of ArrayClass)
-unfolding value_of
-array_class = refl
 
 grown_parts : (xs : List CodePart) (p : CodePart) (size : ℕ) → size ≡ grown_size (length xs) → parts_of (take size (xs ++ p ∷ []) ++ replicate (size - length (xs ++ p ∷ [])) (part.There (record { 0 = 2 }))) ≡ grown_with (part_of p) (parts_of xs)
 grown_parts xs p size e =

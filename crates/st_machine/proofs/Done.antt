@@ -217,7 +217,7 @@ quiet_parts true true c e = (refl, refl)
 quiet_parts true false c e = cc
 quiet_parts false b c e = cc
 
-no_signals : (xs : List Value) → (length xs == 0) ≡ true → length xs ≡ 0
+pub no_signals : (xs : List Value) → (length xs == 0) ≡ true → length xs ≡ 0
 no_signals [] e = refl
 no_signals (x ∷ xs) e = grind (arith, nat_tests, e)
 
