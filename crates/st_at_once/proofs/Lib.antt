@@ -11,6 +11,7 @@ pub mod AlikeRows
 pub mod Linked
 pub mod OverMemory
 mod Keeping
+mod Placed
 mod Direct
 mod Settled
 pub mod Fixed
