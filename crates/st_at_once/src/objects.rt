@@ -3,7 +3,7 @@ ghost use Rattle.st_model.specs.Table.{bounded_table};
 
 use crate::known::Known;
 use crate::near::Near;
-use st_memory::{Memory, Objects, live_value};
+use st_memory::{ContextFields, Memory, Objects, live_value};
 use st_model::{Dead, Demand, Kind, Word};
 
 impl<'a, M: Memory> Objects for Near<'a, M> {
@@ -40,6 +40,11 @@ impl<'a, M: Memory> Objects for Near<'a, M> {
             Some(number) => Ok(number),
             None => self.memory.count_fields(o),
         }
+    }
+
+    #[inline(always)]
+    fn context_fields(&self, context: Word) -> Option<ContextFields> {
+        self.memory.context_fields(context)
     }
 
     fn fetch_class(&self, o: Word) -> Result<Word, Dead> {

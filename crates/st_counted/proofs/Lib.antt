@@ -13,6 +13,7 @@ pub mod Beginning
 mod Holding
 pub mod Instances
 mod Nothing
+mod Placed
 mod InBlocks
 pub mod ZeroList
 mod Linked

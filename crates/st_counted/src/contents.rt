@@ -4,6 +4,7 @@ ghost use Rattle.st_model.specs.Formed.{IsHeader, IsMakeable, fresh};
 ghost use Rattle.st_model.specs.Table.{first_free, placed};
 ghost use Rattle.st_model.specs.View.{empty_view, head_of, fits, IsWhole, IsPlace, IsKnown, is_live, object_of, with_held, with_stored, demand_of};
 ghost use Rattle.st_table.specs.Entries.{place as place_at};
+ghost use Rattle.st_heap.specs.Places.{SamePlaces, SameOtherPlaces, Stands};
 ghost use Rattle.st_counted.specs.Counts.{count_at, is_counted, number_at, is_unused, raised};
 ghost use Rattle.st_heap.specs.Tables.{objects_of, room_of};
 ghost use Rattle.st_counted.specs.Links.{IsListed};
@@ -80,9 +81,34 @@ impl Contents {
         ensures counted { AllCounted self.new }
         ensures listed { IsListed self.new.objects self.new.counts }
         ensures room { HasRoom self.old → HasRoom self.new }
+        ensures places { SamePlaces self.old.objects.store self.new.objects.store }
     {
-        let old = self.objects.field(o, at);
-        self.objects.set_field(o, at, v);
+        let stand = self.objects.place_of(o);
+        self.set_placed_pointer(o, stand, at, v);
+    }
+
+    /// Stores v in field `at` of an object whose block stands at a place; in a Method's header only what counts the same literals.
+    #[inline(always)]
+    pub fn set_placed_pointer(&mut self, o: Oop, stand: u32, at: u32, v: Oop)
+        requires whole { IsWhole (counted_view self.old) }
+        requires counted { AllCounted self.old }
+        requires listed { IsListed self.old.objects self.old.counts }
+        requires live { is_live (counted_view self.old).objects (value o) ≡ true }
+        requires place { Stands self.old.objects (value o) stand }
+        requires range { at < length (object_of (counted_view self.old).objects (value o)).fields }
+        requires known { IsKnown (counted_view self.old).objects (value v) }
+        requires header { IsHeader (object_of (counted_view self.old).objects (value o)) at (value v) }
+        ensures objects { (counted_view self.new).objects
+            ≡ with_stored (counted_view self.old).objects (value o) at (value v) }
+        ensures held { (counted_view self.new).held ≡ (counted_view self.old).held }
+        ensures head { self.new.head ≡ self.old.head }
+        ensures counted { AllCounted self.new }
+        ensures listed { IsListed self.new.objects self.new.counts }
+        ensures room { HasRoom self.old → HasRoom self.new }
+        ensures places { SamePlaces self.old.objects.store self.new.objects.store }
+    {
+        let old = self.objects.placed_field(o, stand, at);
+        self.objects.set_placed_field(o, stand, at, v);
         raise(&mut self.counts, &mut self.objects, v, 1);
         lower(&mut self.counts, &mut self.objects, old);
     }
@@ -101,6 +127,7 @@ impl Contents {
         ensures counted { AllCounted self.new }
         ensures listed { IsListed self.new.objects self.new.counts }
         ensures room { HasRoom self.old → HasRoom self.new }
+        ensures places { SamePlaces self.old.objects.store self.new.objects.store }
     {
         let old = self.roots.held(place);
         if old == o {
@@ -150,6 +177,7 @@ impl Contents {
         ensures counted { AllCounted self.new }
         ensures listed { IsListed self.new.objects self.new.counts }
         ensures room { HasRoom self.old → HasRoom self.new }
+        ensures places { SameOtherPlaces self.old.objects.store self.new.objects.store k }
     {
         let o = pointer_of(k);
         self.counts.leave(&mut self.objects, k);
@@ -171,6 +199,7 @@ impl Contents {
             IsCounted (slice_set v.objects (place_at o) None) (all_roots v) [] (numbers_of self.new) }
         ensures listed { IsListed self.new.objects self.new.counts }
         ensures rest { SameButLinks self.old self.new }
+        ensures places { SamePlaces self.old.objects.store self.new.objects.store }
     {
         let mut nils = 0;
         for i in 0..self.objects.count_fields(o) {

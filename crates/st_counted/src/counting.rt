@@ -2,6 +2,7 @@ ghost use Rattle.std.specs.Prelude.{◌≡◌, ◌≢◌, ◌<◌, ◌+◌, ◌*
 ghost use Rattle.st_model.specs.Values.{value, is_small};
 ghost use Rattle.st_table.specs.Entries.{place};
 ghost use Rattle.st_counted.specs.Counts.{is_counted, number_at};
+ghost use Rattle.st_heap.specs.Places.{SamePlaces};
 ghost use Rattle.st_heap.specs.Tables.{objects_of, room_of};
 ghost use Rattle.st_counted.specs.Links.{IsListed};
 ghost use Rattle.st_counted.specs.Contents.{counts_of};
@@ -41,6 +42,7 @@ pub fn raise(counts: &mut Counts, objects: &mut Objects, v: Oop, by: u32)
     ensures listed { IsListed objects.new counts.new }
     ensures objects { objects_of objects.new ≡ objects_of objects.old }
     ensures room { room_of objects.new ≡ room_of objects.old }
+    ensures places { SamePlaces objects.old.store objects.new.store }
     ensures counts { counts_of counts.new ≡ raised_by (counts_of counts.old) (value v) by }
 {
     if !v.is_small() {
@@ -57,6 +59,7 @@ pub fn lower(counts: &mut Counts, objects: &mut Objects, v: Oop)
     ensures listed { IsListed objects.new counts.new }
     ensures objects { objects_of objects.new ≡ objects_of objects.old }
     ensures room { room_of objects.new ≡ room_of objects.old }
+    ensures places { SamePlaces objects.old.store objects.new.store }
     ensures counts { counts_of counts.new ≡ lowered_by (counts_of counts.old) (value v) }
 {
     if !v.is_small() {

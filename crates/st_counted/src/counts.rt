@@ -1,6 +1,7 @@
 ghost use Rattle.std.specs.Prelude.{◌≡◌, ◌≢◌, ◌<◌, ◌≤◌, ◌+◌, ℕ, Bool, length, replicate, true, false, Some, None, is_some, slice_set, IfOk};
 ghost use Rattle.st_model.specs.Table.{entry};
 ghost use Rattle.st_table.specs.Entries.{place};
+ghost use Rattle.st_heap.specs.Places.{SamePlaces};
 ghost use Rattle.st_heap.specs.Tables.{objects_of, room_of};
 ghost use Rattle.st_counted.specs.Counts.{count_at, is_counted, number_at, is_unused, raised, lowered};
 
@@ -108,6 +109,7 @@ impl Counts {
         ensures listed { IsListed objects.new self.new }
         ensures objects { objects_of objects.new ≡ objects_of objects.old }
         ensures room { room_of objects.new ≡ room_of objects.old }
+        ensures places { SamePlaces objects.old.store objects.new.store }
         ensures counts { counts_of self.new ≡ slice_set (counts_of self.old) k None }
     {
         self.counts[k] = None;
@@ -124,6 +126,7 @@ impl Counts {
         ensures listed { IsListed objects.new self.new }
         ensures objects { objects_of objects.new ≡ objects_of objects.old }
         ensures room { room_of objects.new ≡ room_of objects.old }
+        ensures places { SamePlaces objects.old.store objects.new.store }
         ensures counts { counts_of self.new ≡ raised (counts_of self.old) k by }
     {
         let count = self.count(k);
@@ -143,6 +146,7 @@ impl Counts {
         ensures listed { IsListed objects.new self.new }
         ensures objects { objects_of objects.new ≡ objects_of objects.old }
         ensures room { room_of objects.new ≡ room_of objects.old }
+        ensures places { SamePlaces objects.old.store objects.new.store }
         ensures counts { counts_of self.new ≡ lowered (counts_of self.old) k by }
     {
         let count = self.count(k) - by;

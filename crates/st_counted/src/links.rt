@@ -4,6 +4,7 @@ ghost use Rattle.st_model.specs.Table.{entry};
 ghost use Rattle.st_model.specs.View.{is_live};
 ghost use Rattle.st_table.specs.Entries.{place};
 ghost use Rattle.st_heap.specs.Links.{next_of, before_of};
+ghost use Rattle.st_heap.specs.Places.{SamePlaces};
 ghost use Rattle.st_heap.specs.Tables.{objects_of, room_of};
 ghost use Rattle.st_counted.specs.Links.{Holds, IsEnd, with_member, without_member};
 
@@ -18,6 +19,7 @@ pub fn link(objects: &mut Objects, first: Oop, o: Oop) -> Oop
     ensures head { result ≡ o }
     ensures objects { objects_of objects.new ≡ objects_of objects.old }
     ensures room { room_of objects.new ≡ room_of objects.old }
+    ensures places { SamePlaces objects.old.store objects.new.store }
     ensures holds { (p : ℕ → Bool) → Holds objects.old.store (place first) p → p (place o) ≡ false
         → Holds objects.new.store (place o) (with_member (place o) p) }
 {
@@ -35,6 +37,7 @@ pub fn unlink(objects: &mut Objects, first: Oop, o: Oop) -> Oop
     requires before { IsEnd objects.old (before_of objects.old.store (place o)) }
     ensures objects { objects_of objects.new ≡ objects_of objects.old }
     ensures room { room_of objects.new ≡ room_of objects.old }
+    ensures places { SamePlaces objects.old.store objects.new.store }
     ensures holds { (p : ℕ → Bool) → Holds objects.old.store (place first) p → p (place o) ≡ true
         → Holds objects.new.store (place result) (without_member (place o) p) }
 {
@@ -50,6 +53,7 @@ fn follow(objects: &mut Objects, first: Oop, from: Oop, to: Oop) -> Oop
     ensures head { result ≡ (if place from == 0 then to else first) }
     ensures objects { objects_of objects.new ≡ objects_of objects.old }
     ensures room { room_of objects.new ≡ room_of objects.old }
+    ensures places { SamePlaces objects.old.store objects.new.store }
     ensures here { place from ≢ 0 → next_of objects.new.store (place from) ≡ place to }
     ensures others { (k : ℕ) → k ≢ place from → next_of objects.new.store k ≡ next_of objects.old.store k }
     ensures before { (k : ℕ) → before_of objects.new.store k ≡ before_of objects.old.store k }
@@ -66,6 +70,7 @@ fn precede(objects: &mut Objects, at: Oop, to: Oop)
     requires { IsEnd objects.old (place at) }
     ensures objects { objects_of objects.new ≡ objects_of objects.old }
     ensures room { room_of objects.new ≡ room_of objects.old }
+    ensures places { SamePlaces objects.old.store objects.new.store }
     ensures here { place at ≢ 0 → before_of objects.new.store (place at) ≡ place to }
     ensures others { (k : ℕ) → k ≢ place at → before_of objects.new.store k ≡ before_of objects.old.store k }
     ensures next { (k : ℕ) → next_of objects.new.store k ≡ next_of objects.old.store k }

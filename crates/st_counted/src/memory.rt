@@ -1,6 +1,8 @@
 ghost use Rattle.std.specs.Prelude.{◌≡◌};
 ghost use Rattle.st_model.specs.View.{IsWhole, SettlesTo};
 ghost use Rattle.st_model.specs.Props.{IsWhole-prop};
+ghost use Rattle.st_memory.specs.Places.{KeepsPlacesIn};
+ghost use Rattle.st_heap.specs.Places.{Stands};
 ghost use Rattle.st_counted.specs.Counted.{counted_view, HasRoom, AllCounted};
 ghost use Rattle.st_counted.specs.Links.{IsListed};
 
@@ -33,7 +35,9 @@ impl CountedMemory {
     /// Takes away one object after the other to which nothing refers.
     #[inline(never)]
     fn drop_unused(&mut self)
-        ensures { SettlesTo (counted_view self.old.contents) (counted_view self.new.contents) }
+        ensures settles { SettlesTo (counted_view self.old.contents) (counted_view self.new.contents) }
+        ensures places { KeepsPlacesIn (counted_view self.new.contents).objects
+            (Stands self.old.contents.objects) (Stands self.new.contents.objects) }
     {
         while let Some(k) = self.contents.first_unused() {
             self.contents.drop_object(k);
@@ -43,6 +47,8 @@ impl CountedMemory {
 
 impl Memory for CountedMemory {
     ghost view = { λ m. counted_view m.contents };
+
+    ghost stands = { λ m. Stands m.contents.objects };
 
     fn live(&self, o: Oop) -> bool {
         self.contents.objects.live(o)
@@ -158,6 +164,25 @@ impl Memory for CountedMemory {
 
     fn symbols(&self) -> Oop {
         self.contents.head.symbols
+    }
+
+    fn place(&self, o: Oop) -> u32 {
+        self.contents.objects.place_of(o)
+    }
+
+    #[inline(always)]
+    fn placed_pointer(&self, o: Oop, place: u32, at: u32) -> Oop {
+        self.contents.objects.placed_field(o, place, at)
+    }
+
+    #[inline(always)]
+    fn placed_byte(&self, o: Oop, place: u32, at: u32) -> u8 {
+        self.contents.objects.placed_byte(o, place, at) as u8
+    }
+
+    #[inline(always)]
+    fn set_placed_pointer(&mut self, o: Oop, place: u32, at: u32, v: Oop) {
+        self.contents.set_placed_pointer(o, place, at, v);
     }
 
     ghost whole = { λ m. m.whole };

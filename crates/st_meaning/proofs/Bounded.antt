@@ -9,6 +9,7 @@ use Rattle.st_emit.specs.Literals.{LiteralView}
 use Rattle.st_resolved.specs.declared.reading.Found.{Found}
 use Rattle.st_resolved.specs.Instructions.{instruction}
 use Rattle.st_resolved.proofs.Decoding.{found_some}
+use Rattle.st_meaning.specs.declared.deed.Variable.{Variable}
 use Rattle.st_meaning.specs.declared.deed.Value.{Value}
 use Rattle.st_meaning.specs.declared.deed.Value.TheVariants as values
 use Rattle.st_meaning.specs.Values.{DeedView, AnswerView}
@@ -101,7 +102,7 @@ module _ (most : ℕ) where
       by_test false e = h e
 
   -- what is done is over, where whatever comes next is: further on with as many jumps back, and anywhere with one more
-  done_all : (w : Walked Value) (f : Next) (at : ℕ) (g : Going)
+  done_all : (w : Walked Variable Value) (f : Next) (at : ℕ) (g : Going)
       → ((to : ℕ) (s : List Value) (h : Going) → at ≤ to → h.backs ≡ g.backs → IsDone (f to s h))
       → ((to : ℕ) (s : List Value) → (g.backs == most) ≡ false → IsDone (f to s (record g { backs = g.backs + 1 })))
       → IsDone (done most w f at g)

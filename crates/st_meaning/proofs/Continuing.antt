@@ -2,10 +2,10 @@
 use Rattle.std.proofs.Common.{◌≡◌, ℕ, ◌+◌, ◌-◌, ◌==◌, Bool, true, false, not, List, ◌∷◌, length, drop, Option, Some, None, refl, sym, ap, ◌∙◌, subst}
 use Rattle.std.specs.Prelude.{Result, Ok, Err, IfOk, IfErr, if◌then◌else◌}
 use Rattle.st_emit.specs.declared.step.Constant.TheVariants.{Receiver, True, False, Nil, Context}
-use Rattle.st_emit.specs.declared.step.Place.{Place}
 use Rattle.st_resolved.specs.declared.reading.Found.{Found}
 use Rattle.st_resolved.specs.Instructions.{instruction}
 use Rattle.st_code.specs.Methods.{PartsView}
+use Rattle.st_meaning.specs.declared.deed.Variable.{Variable}
 use Rattle.st_meaning.specs.declared.deed.Value.{Value}
 use Rattle.st_meaning.specs.declared.deed.Value.TheVariants as values
 use Rattle.st_meaning.specs.declared.course.Course.{Course}
@@ -120,10 +120,10 @@ went_on at s c f = refl
 pub stuck_there : (at : ℕ) (s : List Value) (c : Course) → Continues (becomes walked.Stuck at s c) s c None
 stuck_there at s c f = refl
 
-pub stored_on : (p : Place) (v : Value) (at : ℕ) (s : List Value) (c d : Course) → assign_to most p v (going_view c) ≡ went v (going_view d) → Continues (becomes (walked.Stored p v) at s c) s d (Some at)
+pub stored_on : (p : Variable) (v : Value) (at : ℕ) (s : List Value) (c d : Course) → assign_to most p v (going_view c) ≡ went v (going_view d) → Continues (becomes (walked.Stored p v) at s c) s d (Some at)
 stored_on p v at s c d e f = ap (λ (o : Outcome Value). then_go o (λ w. f at (stack_view s))) e
 
-pub stored_long : (p : Place) (v : Value) (at : ℕ) (s : List Value) (c : Course) → assign_to most p v (going_view c) ≡ long → IsTooLong (becomes (walked.Stored p v) at s c)
+pub stored_long : (p : Variable) (v : Value) (at : ℕ) (s : List Value) (c : Course) → assign_to most p v (going_view c) ≡ long → IsTooLong (becomes (walked.Stored p v) at s c)
 stored_long p v at s c e f = ap (λ (o : Outcome Value). then_go o (λ w. f at (stack_view s))) e
 
 -- with its answer, or at the end of the answers
@@ -175,7 +175,7 @@ becomes_so : (p : PartsView) (at : ℕ) (s t : List Value) (c : Course) (o : Opt
 becomes_so p at s t c o x w to e is n k f =
     ap (λ (y : Option Found). act_found most p.literals y f at (stack_view s) (going_view c)) (sym e ∙ is)
     ∙ ap (λ (m : ℕ). done most (walk_code (values_of p.literals (held_of c.held)) x.step (stack_view s)) f m (going_view c)) (sym n)
-    ∙ ap (λ (y : codes.Walked Value). done most y f to (going_view c)) (sym k)
+    ∙ ap (λ (y : codes.Walked Variable Value). done most y f to (going_view c)) (sym k)
 
 goes_along : (m m' : Next → Outcome Value) (t : List Value) (d : Course) (r : Option ℕ) → ((f : Next) → m f ≡ m' f) → Continues m' t d r → Continues m t d r
 goes_along m m' t d (Some n) e h = λ f. e f ∙ h f

@@ -3,8 +3,6 @@ use Rattle.std.proofs.Common.{◌≡◌, ℕ, zero, suc, ◌+◌, ◌<◌, ◌�
 use Rattle.std.proofs.lemmas.Bool.Decides.{nat_tests}
 use Rattle.std.specs.Prelude.{if◌then◌else◌}
 use Rattle.st_emit.specs.declared.step.Constant.TheVariants.{Receiver, True, False, Nil, Context}
-use Rattle.st_emit.specs.declared.step.Place.{Place}
-use Rattle.st_emit.specs.declared.step.Place.TheVariants.{Temporary}
 use Rattle.st_emit.specs.declared.form.OneSided.{OneSided}
 use Rattle.st_emit.specs.declared.form.OneSided.TheVariants.{IfTrue, IfFalse, And, Or}
 use Rattle.st_emit.specs.declared.form.TwoSided.{TwoSided}
@@ -13,9 +11,11 @@ use Rattle.st_emit.specs.declared.form.Loop.{Loop}
 use Rattle.st_emit.specs.declared.form.Loop.TheVariants.{WhileTrue, WhileFalse}
 use Rattle.st_emit.specs.Nodes as nodes
 use Rattle.st_emit.specs.Nodes.{Node, Body, Messages, Nodes}
+use Rattle.st_meaning.specs.declared.deed.Variable.{Variable}
+use Rattle.st_meaning.specs.declared.deed.Variable.TheVariants.{Temporary}
 use Rattle.st_meaning.specs.declared.deed.Value.{Value}
 use Rattle.st_meaning.specs.declared.deed.Value.TheVariants as values
-use Rattle.st_meaning.specs.Values.{AnswerView, DeedView, literal_value, small_value}
+use Rattle.st_meaning.specs.Values.{AnswerView, DeedView, literal_value, small_value, variable_of}
 use Rattle.st_meaning.specs.Values as views
 use Rattle.st_meaning.specs.Runs.{Going, Outcome, went, over, long, stuck, unfinished, Run, gives, then_go, ◌>>=◌, did, ends, take_answer, assign_to, answer_to, make_block, return_value, be_unsure, jump_back, decide}
 use Rattle.st_meaning.specs.Traces.{nil, sided, chosen, goes_on, turns, value_of, body_value, messages_value, nodes_values, method_value}
@@ -74,7 +74,7 @@ module _ (most : ℕ) where
   unfolding be_unsure
   good_unsure n v = good_did n (views.unsure v) ends (good_ends n)
 
-  good_assign : (n : ℕ) (p : Place) (v : Value) → Good n (assign_to most p v)
+  good_assign : (n : ℕ) (p : Variable) (v : Value) → Good n (assign_to most p v)
   unfolding assign_to
   good_assign n p v = good_did n (views.assigned p v) _ (record { at = λ g l e. (omega arith, l) })
 
@@ -144,7 +144,7 @@ module _ (most : ℕ) where
     good_value (nodes.small k) n = good_gives n _
     good_value (nodes.literal x place) n = good_gives n (literal_value x place)
     good_value (nodes.variable p) n = record { at = λ g l e. (omega arith, l) }
-    good_value (nodes.assign p x) n = good_then n (value_of most x n) (λ v. assign_to most p v) (good_value x n) (λ v. good_assign n p v)
+    good_value (nodes.assign p x) n = good_then n (value_of most x n) (λ v. assign_to most (variable_of p) v) (good_value x n) (λ v. good_assign n (variable_of p) v)
     good_value (nodes.block f i c b) n = good_block n
     good_value (nodes.send above r ms) n = good_then n (value_of most r n) (λ v. messages_value most ms above v n) (good_value r n) (λ v. good_messages ms above v n)
     good_value (nodes.one_sided side x a) n = good_then n (value_of most x n) (λ v. sided most side v (body_value most a n)) (good_value x n) (λ v. good_sided n side v (body_value most a n) (good_body a n))

@@ -27,9 +27,10 @@ use Rattle.st_emit.specs.Emitting.{used, stored, send_step, choice, repeat, code
 use Rattle.st_resolved.specs.Placed.{IsCount, Placed, BodyPlaced, MessagesPlaced, NodesPlaced, IsFound, IsVariable}
 use Rattle.st_resolved.specs.Instructions.{read_as, long_count}
 use Rattle.st_resolved.proofs.Sizes.{size-append}
+use Rattle.st_meaning.specs.declared.deed.Variable.{Variable}
 use Rattle.st_meaning.specs.declared.deed.Value.{Value}
 use Rattle.st_meaning.specs.declared.deed.Value.TheVariants as values
-use Rattle.st_meaning.specs.Values.{assigned, unsure, returned as has_returned, literal_value, small_value}
+use Rattle.st_meaning.specs.Values.{assigned, unsure, returned as has_returned, literal_value, small_value, variable_of}
 use Rattle.st_meaning.specs.Runs.{Going, Outcome, went, over, long, stuck, unfinished, Run, gives, then_go, ◌>>=◌, did, ends, changed, assign_to, answer_to, make_block, return_value, be_unsure, jump_back, decide, in_order, in_order_before}
 use Rattle.st_meaning.specs.Runs as runs
 use Rattle.st_meaning.specs.Traces.{nil, sided, turns, goes_on, value_of, body_value, messages_value, nodes_values}
@@ -186,7 +187,7 @@ module _ (most : ℕ) (literals : List LiteralView) (bytes : List ℕ) where
   -- SENDS
 
   -- the arguments and the receiver of a message, as they stand on the stack
-  message_on : (vs acc : List Value) (r : Value) (s : List Value) (f : Value → List Value → List Value → codes.Walked Value) → codes.on_message (length vs) acc (vs ++ r ∷ s) f ≡ f r (in_order_before vs acc) s
+  message_on : (vs acc : List Value) (r : Value) (s : List Value) (f : Value → List Value → List Value → codes.Walked Variable Value) → codes.on_message (length vs) acc (vs ++ r ∷ s) f ≡ f r (in_order_before vs acc) s
   message_on [] acc r s f = refl
   message_on (v ∷ vs) acc r s f = message_on vs (v ∷ acc) r s f
 
@@ -220,8 +221,8 @@ module _ (most : ℕ) (literals : List LiteralView) (bytes : List ℕ) where
   sends true text (Special j) n at vs r s g xs len few p has k = absurd p.0
   sends false text (Special code) n at vs r s g xs len few p has k =
       let no : code == first_special + block_copy ≡ false = ne_eqb code (first_special + block_copy) p.0.other in
-      let copies : codes.Walked Value = codes.on_message 1 [] (vs ++ r ∷ s) (λ q arguments rest. codes.copied rest) in
-      let plain : Option (List ℕ) → codes.Walked Value = λ o. codes.on_some o (λ t. codes.sends false (arity t) t (vs ++ r ∷ s)) in
+      let copies : codes.Walked Variable Value = codes.on_message 1 [] (vs ++ r ∷ s) (λ q arguments rest. codes.copied rest) in
+      let plain : Option (List ℕ) → codes.Walked Variable Value = λ o. codes.on_some o (λ t. codes.sends false (arity t) t (vs ++ r ∷ s)) in
       act_at at (SendSpecial code) (vs ++ r ∷ s) g xs has k
       ∙ ap (λ (b : Bool). done most (if b then copies else plain (slice_get special_selectors (code - first_special))) (go k) (at + 1) g) no
       ∙ ap (λ (o : Option (List ℕ)). done most (plain o) (go k) (at + 1) g) p.0.is
@@ -260,14 +261,14 @@ module _ (most : ℕ) (literals : List LiteralView) (bytes : List ℕ) where
 
   -- VARIABLES AND LITERALS
 
-  reads : (p : Place) → IsVariable p → (f : Next) (at : ℕ) (s : List Value) (g : Going) → act most literals (Push p) f at s g ≡ f at (g.held p ∷ s) g
+  reads : (p : Place) → IsVariable p → (f : Next) (at : ℕ) (s : List Value) (g : Going) → act most literals (Push p) f at s g ≡ f at (g.held (variable_of p) ∷ s) g
   reads (Field n) v f at s g = refl
   reads (Temporary n) v f at s g = refl
   reads (Shared n) v f at s g = refl
   reads (Literal n) v f at s g = absurd v
 
   -- an assignment gives the value that was assigned
-  stored_same : (p : Place) (v : Value) (s : List Value) (k at : ℕ) (g : Going) → then_go (assign_to most p v g) (λ w. go k at (v ∷ s)) ≡ then_go (assign_to most p v g) (λ w. go k at (w ∷ s))
+  stored_same : (p : Variable) (v : Value) (s : List Value) (k at : ℕ) (g : Going) → then_go (assign_to most p v g) (λ w. go k at (v ∷ s)) ≡ then_go (assign_to most p v g) (λ w. go k at (w ∷ s))
   unfolding assign_to did
   stored_same p v s k at g = by_test (length g.deeds == most)
     where
@@ -279,9 +280,9 @@ module _ (most : ℕ) (literals : List LiteralView) (bytes : List ℕ) where
   literal_pushed : (x : LiteralView) (place : ℕ) (f : Next) (at : ℕ) (s : List Value) (g : Going) → slice_get literals place ≡ Some x → act most literals (Push (Literal place)) f at s g ≡ f at (literal_value x place ∷ s) g
   literal_pushed x place f at s g p = ap (λ (o : Option LiteralView). done most (codes.on_some (option_map (λ l. literal_value l place) o) (λ y. codes.went (y ∷ s))) f at g) p
 
-  pub stores : (u : Use) (p : Place) (at : ℕ) (v : Value) (s : List Value) (g : Going) (xs : List Step) → Stand at (stored u p ∷ xs) → Leads at (v ∷ s) g (at + size_of (stored u p)) (left_by u s) (assign_to most p v g)
-  stores for_value p at v s g xs has = leads.act_leads most literals bytes at _ (v ∷ s) g (λ w. w ∷ s) (assign_to most p v g) (λ k. act_at at (Store p) (v ∷ s) g xs has k ∙ stored_same p v s k (at + size_of (Store p)) g)
-  stores for_effect p at v s g xs has = leads.act_leads most literals bytes at _ (v ∷ s) g (λ w. s) (assign_to most p v g) (act_at at (PopStore p) (v ∷ s) g xs has)
+  pub stores : (u : Use) (p : Place) (at : ℕ) (v : Value) (s : List Value) (g : Going) (xs : List Step) → Stand at (stored u p ∷ xs) → Leads at (v ∷ s) g (at + size_of (stored u p)) (left_by u s) (assign_to most (variable_of p) v g)
+  stores for_value p at v s g xs has = leads.act_leads most literals bytes at _ (v ∷ s) g (λ w. w ∷ s) (assign_to most (variable_of p) v g) (λ k. act_at at (Store p) (v ∷ s) g xs has k ∙ stored_same (variable_of p) v s k (at + size_of (Store p)) g)
+  stores for_effect p at v s g xs has = leads.act_leads most literals bytes at _ (v ∷ s) g (λ w. s) (assign_to most (variable_of p) v g) (act_at at (PopStore p) (v ∷ s) g xs has)
 
   -- BLOCKS
 
@@ -498,12 +499,12 @@ module _ (most : ℕ) (literals : List LiteralView) (bytes : List ℕ) where
         used_leads u at (Push (Literal place) ∷ []) s g (went (literal_value x place) g) has
         (λ h. pushes at (Push (Literal place)) [] s g (literal_value x place) h (λ j. literal_pushed x place (go j) (at + size_of (Push (Literal place))) s g p))
     node_leads (variable q) u m at s g p few has =
-        used_leads u at (Push q ∷ []) s g (went (g.held q) g) has (λ h. pushes at (Push q) [] s g (g.held q) h (λ j. reads q p (go j) (at + size_of (Push q)) s g))
+        used_leads u at (Push q ∷ []) s g (went (g.held (variable_of q)) g) has (λ h. pushes at (Push q) [] s g (g.held (variable_of q)) h (λ j. reads q p (go j) (at + size_of (Push q)) s g))
     node_leads (assign q x) u m at s g p few has =
         let c = code_of for_value x in
         let e : at + size c + size_of (stored u q) ≡ at + size (c ++ stored u q ∷ []) = omega (arith, size-append c (stored u q ∷ [])) in
         at_end _ _ _ s g (left_by u s) (value_of most (assign q x) m g) e
-        (then_leads at (at + size c) _ s g (λ v. v ∷ s) (left_by u s) (value_of most x m g) (λ v. assign_to most q v) (node_leads x for_value m at s g p few (front at c _ has))
+        (then_leads at (at + size c) _ s g (λ v. v ∷ s) (left_by u s) (value_of most x m g) (λ v. assign_to most (variable_of q) v) (node_leads x for_value m at s g p few (front at c _ has))
         (λ v g'. stores u q (at + size c) v s g' [] (back at c _ has)))
     node_leads (block f i x b) u m at s g p few has =
         used_leads u at (block_code (code_of for_value x) (pop_arguments f i ++ (body_code b ++ block_end (returns b)))) s g (make_block most g) has

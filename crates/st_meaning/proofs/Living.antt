@@ -11,7 +11,7 @@ use Rattle.st_emit.specs.Nodes.{Node, constant, small, literal, variable, assign
 use Rattle.st_resolved.specs.Placed.{IsCount, Placed, BodyPlaced, MessagesPlaced, NodesPlaced}
 use Rattle.st_meaning.specs.declared.deed.Value.{Value}
 use Rattle.st_meaning.specs.declared.deed.Value.TheVariants as values
-use Rattle.st_meaning.specs.Values.{DeedView}
+use Rattle.st_meaning.specs.Values.{DeedView, variable_of}
 use Rattle.st_meaning.specs.Values as views
 use Rattle.st_meaning.specs.Runs.{Going, Outcome, went, over, long, stuck, unfinished, Run, gives, then_go, ◌>>=◌, did, ends, assign_to, make_block, return_value, be_unsure, jump_back, decide}
 use Rattle.st_meaning.specs.Traces.{nil, sided, chosen, goes_on, turns, value_of, body_value, messages_value, nodes_values}
@@ -192,7 +192,7 @@ module _ (most : ℕ) (literals : List LiteralView) where
     lives (small k) n g p = refl
     lives (literal l place) n g p = refl
     lives (variable q) n g p = refl
-    lives (assign q x) n g p = onward_then (goes x ≡ true) (goes x ≡ true) (value_of most x n g) (λ v. assign_to most q v) (lives x n g p) (λ v g1 h. onward (goes x ≡ true) (assign_to most q v g1) h)
+    lives (assign q x) n g p = onward_then (goes x ≡ true) (goes x ≡ true) (value_of most x n g) (λ v. assign_to most (variable_of q) v) (lives x n g p) (λ v g1 h. onward (goes x ≡ true) (assign_to most (variable_of q) v g1) h)
     lives (block f i c b) n g p = onward (goes c ≡ true) (make_block most g) (count_goes c p.1)
     lives (send above r ms) n g p =
         onward_then (goes r ≡ true) ((goes r && messages_go ms) ≡ true) (value_of most r n g) (λ v. messages_value most ms above v n) (lives r n g p.0)

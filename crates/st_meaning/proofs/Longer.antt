@@ -6,6 +6,7 @@ use Rattle.st_emit.specs.declared.step.Constant.TheVariants.{Receiver, True, Fal
 use Rattle.st_emit.specs.Literals.{LiteralView}
 use Rattle.st_resolved.specs.declared.reading.Found.{Found}
 use Rattle.st_resolved.specs.Instructions.{instruction}
+use Rattle.st_meaning.specs.declared.deed.Variable.{Variable}
 use Rattle.st_meaning.specs.declared.deed.Value.{Value}
 use Rattle.st_meaning.specs.declared.deed.Value.TheVariants as values
 use Rattle.st_meaning.specs.Runs.{Going, Outcome, went, over, long, stuck, unfinished, Run, then_go, ◌>>=◌, answer_to, make_block, assign_to, jump_back, decide}
@@ -71,7 +72,7 @@ module _ (most : ℕ) (literals : List LiteralView) where
       by_test true e = e
       by_test false e = h (record g { backs = g.backs + 1 }) p i e
 
-  done_extends : (w : Walked Value) (f f' : Next) (at : ℕ) → NextExtends f f' → Extends (done most w f at) (done most w f' at)
+  done_extends : (w : Walked Variable Value) (f f' : Next) (at : ℕ) → NextExtends f f' → Extends (done most w f at) (done most w f' at)
   done_extends (codes.went s) f f' at h = h at s
   done_extends (codes.stored q v s) f f' at h = then_extends (assign_to most q v) (λ w. f at s) (λ w. f' at s) (λ w. h at s)
   done_extends (codes.sent r text arguments above s) f f' at h = then_extends (answer_to most r text arguments above) (λ v. f at (v ∷ s)) (λ v. f' at (v ∷ s)) (λ v. h at (v ∷ s))

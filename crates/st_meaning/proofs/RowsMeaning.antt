@@ -5,9 +5,9 @@ use Rattle.st_scan.specs.declared.token.Signed.{Signed}
 use Rattle.st_scan.specs.Views.{NameView, ContentView, ExpressionView, MethodView}
 use Rattle.st_scan.specs.Views as v
 use Rattle.st_emit.specs.declared.step.Constant.TheVariants.{Receiver, True, False}
-use Rattle.st_emit.specs.declared.step.Place.TheVariants.{Field, Temporary}
 use Rattle.st_emit.specs.Names.{NamesView}
 use Rattle.st_code.specs.Methods.{body, parts}
+use Rattle.st_meaning.specs.declared.deed.Variable.TheVariants.{Field, Temporary}
 use Rattle.st_meaning.specs.declared.deed.Value.{Value}
 use Rattle.st_meaning.specs.declared.deed.Value.TheVariants.{Number, Constant, First, Block}
 use Rattle.st_meaning.specs.Values.{AnswerView, sent, assigned, made, returned, unsure}

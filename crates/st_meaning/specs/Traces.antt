@@ -11,7 +11,7 @@ use Rattle.st_emit.specs.Nodes.{Node, Body, nothing, last, next, returned, Messa
 use Rattle.st_emit.specs.Nodes as nodes
 use Rattle.st_meaning.specs.declared.deed.Value.{Value}
 use Rattle.st_meaning.specs.declared.deed.Value.TheVariants.{Constant}
-use Rattle.st_meaning.specs.Values.{literal_value, small_value}
+use Rattle.st_meaning.specs.Values.{literal_value, small_value, variable_of}
 use Rattle.st_meaning.specs.Runs.{Run, went, unfinished, gives, ◌>>=◌, assign_to, answer_to, make_block, return_value, jump_back, decide, in_order}
 
 abbrev pub nil : Value
@@ -45,8 +45,8 @@ module _ (most : ℕ) where
     value_of (nodes.constant k) n = gives (Constant k)
     value_of (nodes.small k) n = gives (small_value k)
     value_of (nodes.literal x place) n = gives (literal_value x place)
-    value_of (nodes.variable p) n = λ g. went (g.held p) g
-    value_of (nodes.assign p x) n = value_of x n >>= λ v. assign_to most p v
+    value_of (nodes.variable p) n = λ g. went (g.held (variable_of p)) g
+    value_of (nodes.assign p x) n = value_of x n >>= λ v. assign_to most (variable_of p) v
     value_of (nodes.block first arguments c body) n = make_block most
     value_of (nodes.send above r ms) n = value_of r n >>= λ v. messages_value ms above v n
     value_of (nodes.one_sided side x a) n = value_of x n >>= λ v. sided side v (body_value a n)

@@ -1,11 +1,18 @@
 //! Values, deeds and answers, as both a trace and a walk have them.
 
-use st_emit::{Constant, Place};
+use st_emit::Constant;
 use st_scan::Text;
 
-/// A variable by its number: an argument or a temporary, a variable of the receiver, or what an association among the
-/// literals holds.
-pub type Variable = Place;
+/// A variable by its number.
+#[derive(Clone, Copy)]
+pub enum Variable {
+    /// An argument or a temporary of the method, or an argument of a block, in the order of the text.
+    Temporary(u8),
+    /// A variable of the receiver.
+    Field(u8),
+    /// What the association at a place of the literals holds.
+    Shared(u8),
+}
 
 /// What is known of a value.
 #[derive(Clone, Copy)]
@@ -17,9 +24,9 @@ pub enum Value {
     /// What a variable held at the start.
     First(Variable),
     /// The literal at a place.
-    Literal(usize),
+    Literal(u8),
     /// A block, the first one made being 0.
-    Block(usize),
+    Block(u32),
     /// An answer, by a number of the caller's.
     Answer(u32),
 }
@@ -63,9 +70,9 @@ pub enum Deed {
         variable: Variable,
         value: Value,
     },
-    /// A block is made.
+    /// A block is made, the first one being 0.
     Block {
-        number: usize,
+        number: u32,
     },
     /// A value is returned, from the method or from a block.
     Return {

@@ -10,6 +10,7 @@ mod held;
 mod laws;
 mod message;
 mod method_trace;
+mod short;
 mod sketch;
 mod steps;
 mod tracing;
@@ -19,6 +20,6 @@ pub use deed::{Answer, AnswerList, Change, ChangeList, Deed, Deeds, Value, Value
 pub use fault::MeaningFault;
 pub use laws::code_means;
 pub use method_trace::trace;
-pub use st_emit::{Constant, Place};
+pub use st_emit::Constant;
 pub use steps::step_walks;
 pub use walking::walk;

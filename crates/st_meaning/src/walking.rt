@@ -5,7 +5,7 @@ ghost use Rattle.st_code.specs.MethodDrafts.{parts_view};
 ghost use Rattle.st_meaning.specs.Deeds.{answers_view, deeds_view, Lists, IsFault};
 ghost use Rattle.st_meaning.specs.Meanings.{most, Walk};
 ghost use Rattle.st_meaning.specs.Courses.{boolean, Tests, IsLongTest, IsBehind, Continues, IsTooLong};
-ghost use Rattle.st_meaning.specs.Courses.{becomes, advances, Jumps, IsLongJump, IsLong, IsTable};
+ghost use Rattle.st_meaning.specs.Courses.{becomes, advances, Jumps, IsLongJump, IsLong, IsSound};
 
 use crate::code::{Walked, arity, walk_code};
 use crate::course::{Course, MOST};
@@ -29,9 +29,10 @@ fn boolean(value: Value) -> Option<bool>
 
 /// Whether a jump on this boolean jumps. Where a value is no boolean, that is the last deed.
 pub fn test(course: &mut Course<'_>, on: bool, value: Value) -> Result<Option<bool>, MeaningFault>
+    requires { IsSound course.old }
     ensures jumps { IfOk result (Tests on value course.old course.new) }
     ensures long { IfErr result (IsLong (IsLongTest on value course.old)) }
-    ensures held { course.new.held ≡ course.old.held }
+    ensures sound { IsSound course.new }
 {
     let Some(holds) = boolean(value) else {
         course.did(Deed::Unsure { value })?;
@@ -66,9 +67,10 @@ fn jump_on(
     distance: usize,
     at: usize,
 ) -> Result<Option<usize>, MeaningFault>
+    requires { IsSound course.old }
     ensures goes { IfOk result (Jumps on value distance at course.old course.new) }
     ensures long { IfErr result (IsLong (IsLongJump on value distance at course.old)) }
-    ensures held { course.new.held ≡ course.old.held }
+    ensures sound { IsSound course.new }
 {
     let Some(jumps) = test(course, on, value)? else {
         return Ok(None);
@@ -88,11 +90,11 @@ fn done(
     walked: Walked<'_>,
     at: usize,
 ) -> Result<Option<usize>, MeaningFault>
-    requires { IsTable course.old.held }
+    requires { IsSound course.old }
     ensures goes { IfOk result (Continues (becomes walked.entry at stack.old.items course.old)
         stack.new.items course.new) }
     ensures long { IfErr result (IsLong (IsTooLong (becomes walked.entry at stack.old.items course.old))) }
-    ensures table { IsTable course.new.held }
+    ensures sound { IsSound course.new }
 {
     match walked {
         Walked::Went => Ok(Some(at)),
@@ -135,12 +137,12 @@ fn advance(
     parts: &MethodParts,
     at: usize,
 ) -> Result<Option<usize>, MeaningFault>
-    requires { IsTable course.old.held }
+    requires { IsSound course.old }
     ensures goes { IfOk result (Continues (advances (parts_view parts.now) at stack.old.items course.old)
         stack.new.items course.new) }
     ensures long { IfErr result (IsLong (IsTooLong
         (advances (parts_view parts.now) at stack.old.items course.old))) }
-    ensures table { IsTable course.new.held }
+    ensures sound { IsSound course.new }
 {
     if at >= parts.bytes.len() {
         return Ok(None);

@@ -19,3 +19,6 @@ returns-clause-holds c = λ p h out.
     (λ ne. g.others k (λ q. ne (sym q)) ∙ f.here)
     (λ z ne other. g.others z other ∙ f.others z ne ∙ e.before z)
     g.here)
+
+pub returns-clause-places : goal.returns-clause-places
+returns-clause-places c = λ k. c.precede.ensures.places k ∙ c.set_before.ensures.places k ∙ c.set_next.ensures.places k

@@ -38,3 +38,6 @@ returns-clause-holds c = λ p h is_in.
     (λ ne. ap (next_of u) (sym eb) ∙ f.here (λ q. ne (sym eb ∙ q)) ∙ en)
     (λ z ne. f.before z ∙ e.others z (λ q. ne (q ∙ en)))
     (λ ne. f.before (next_of s k) ∙ ap (before_of t) (sym en) ∙ e.here (λ q. ne (sym en ∙ q)) ∙ eb)))
+
+pub returns-clause-places : goal.returns-clause-places
+returns-clause-places c = λ k. c.follow.ensures.places k ∙ c.precede.ensures.places k

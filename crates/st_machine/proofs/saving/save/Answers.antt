@@ -23,4 +23,4 @@ returns-clause-saves g c s h =
     let f = c.store_process.new.f in
     let w = c.store_process.new.w in
     saved v c.args.f.now c.args.w.now (g.met.M.Memory.whole c.args.m.now) c.requires.ready s h (shown u f w) (shown k f w) c.in_ok-store_process.ensures.does
-    (settled_same u k f w c.in_ok-store_process.ensures.ready c.settle.ensures)
+    (settled_same u k f w c.in_ok-store_process.ensures.ready c.settle.ensures.settles)

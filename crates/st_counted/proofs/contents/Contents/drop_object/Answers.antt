@@ -113,3 +113,9 @@ pub returns-clause-room : goal.returns-clause-room
 returns-clause-room c = λ h.
     let rest = c.lower_fields.ensures.rest in
     c.remove.ensures.room ∙ rest.room ∙ c.lower.ensures.room ∙ c.leave.ensures.room ∙ h ∙ sym (ap (λ (y : Head). y.capacity.words) rest.head)
+
+pub returns-clause-places : goal.returns-clause-places
+returns-clause-places c = λ k other.
+    let two = c.pointer_of-o.ensures in
+    let half : c.pointer_of-o.result.0 / 2 ≡ c.args.k = omega (arith, two) in
+    c.remove.ensures.places k (λ q. other (q ∙ half)) ∙ c.lower_fields.ensures.places k ∙ c.lower.ensures.places k ∙ c.leave.ensures.places k

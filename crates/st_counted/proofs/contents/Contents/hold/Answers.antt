@@ -69,3 +69,6 @@ returns-clause-objects c = c.lower.ensures.objects ∙ c.raise.ensures.objects
 
 pub returns-clause-room : goal.returns-clause-room
 returns-clause-room c = λ h. c.lower.ensures.room ∙ c.raise.ensures.room ∙ h
+
+pub returns-clause-places : goal.returns-clause-places
+returns-clause-places c = λ k. c.lower.ensures.places k ∙ c.raise.ensures.places k

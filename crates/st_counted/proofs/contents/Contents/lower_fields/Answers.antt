@@ -6,6 +6,7 @@ use Rattle.st_model.specs.Table.{Table}
 use Rattle.st_model.specs.View.{is_live, object_of}
 use Rattle.st_table.specs.Entries.{place}
 use Rattle.st_counted.specs.Contents.{counts_of}
+use Rattle.st_heap.specs.Places.{SamePlaces}
 use Rattle.st_heap.specs.Tables.{objects_of}
 use Rattle.st_counted.specs.declared.contents.Contents.{Contents}
 use Rattle.st_counted.specs.References.{all_roots, IsCounted}
@@ -54,7 +55,7 @@ lower-requires-clause-some c small =
     (next_first m c.loop-i.self t (value c.args.o) (all_roots v) c.loop-i.nils c.loop-i.i (value c.field-v.result) i.rest (omega (arith, count)) c.field-v.ensures i.counted) small
 
 pub loop-i-init : goal.loop-i-init
-loop-i-init c = record { counted = c.requires.counted; few = omega arith; listed = c.requires.listed; rest = record { objects = refl; room = refl; roots = refl; head = refl } }
+loop-i-init c = record { counted = c.requires.counted; few = omega arith; listed = c.requires.listed; rest = record { objects = refl; room = refl; roots = refl; head = refl }; places = λ k. refl }
 
 pub loop-i-preserved : goal.loop-i-preserved
 loop-i-preserved c =
@@ -76,6 +77,7 @@ loop-i-preserved c =
             few = omega (arith, w.nils-is, i.few);
             listed = subst (λ (l : Contents). IsListed l.objects l.counts) (sym w.self-is) i.listed;
             rest = subst (λ (l : Contents). SameButLinks m l) (sym w.self-is) i.rest;
+            places = subst (λ (l : Contents). SamePlaces m.objects.store l.objects.store) (sym w.self-is) i.places;
           }
       | else-v w ↦
           let less = lowered_to t (all_roots v) (replicate c.loop-i.nils nil ++ left) (numbers_of c.loop-i.self) (counts_of w.lower.new.counts) (value c.field-v.result) first w.lower.ensures.counts in
@@ -85,6 +87,7 @@ loop-i-preserved c =
             few = omega (arith, w.nils-is, i.few);
             listed = subst (λ (l : Contents). IsListed l.objects l.counts) (sym w.self-is) w.lower.ensures.listed;
             rest = subst (λ (l : Contents). SameButLinks m l) (sym w.self-is) (record { objects = w.lower.ensures.objects ∙ i.rest.objects; room = w.lower.ensures.room ∙ i.rest.room; roots = i.rest.roots; head = i.rest.head });
+            places = subst (λ (l : Contents). SamePlaces m.objects.store l.objects.store) (sym w.self-is) (λ k. w.lower.ensures.places k ∙ i.places k);
           }
     ]
 
@@ -144,3 +147,6 @@ returns-else-nils-gt0-clause-counted c =
     moved m c.loop-i.self (place c.args.o) [] (numbers_of c.loop-i.self) i.rest
     (subst (λ n. IsCounted t (all_roots v) (replicate n nil ++ []) (numbers_of c.loop-i.self)) none
     (all_met t (all_roots v) _ c.loop-i.nils c.loop-i.i fields (omega (arith, count)) i.counted))
+
+pub returns-then-nils-gt0-clause-places : goal.returns-then-nils-gt0-clause-places
+returns-then-nils-gt0-clause-places c = λ k. c.lower-then-nils-gt0.ensures.places k ∙ c.loop-i.invariant.places k

@@ -4,6 +4,7 @@ use Rattle.st_model.specs.Values.{value}
 use Rattle.st_model.specs.Objects.{nil}
 use Rattle.st_model.specs.View.{object_of}
 use Rattle.st_table.specs.Entries.{place}
+use Rattle.st_heap.specs.Places.{SamePlaces}
 use Rattle.st_counted.specs.References.{all_roots, IsCounted}
 use Rattle.st_counted.specs.Counted.{counted_view, numbers_of, SameButLinks}
 use Rattle.st_counted.specs.Links.{IsListed}
@@ -16,4 +17,5 @@ invariant-loop-i l = record {
   few : l.nils ≤ l.i;
   listed : IsListed l.self.objects l.self.counts;
   rest : SameButLinks l.initial.self l.self;
+  places : SamePlaces l.initial.self.objects.store l.self.objects.store;
 }

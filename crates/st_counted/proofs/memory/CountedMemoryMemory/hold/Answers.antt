@@ -4,6 +4,7 @@ use Rattle.st_counted.specs.declared.contents.Head.{Head}
 use Rattle.st_model.specs.Values.{value}
 use Rattle.st_model.proofs.WholeLemmas.{whole_held}
 use Rattle.st_counted.specs.Counted.{counted_view}
+use Rattle.st_counted.proofs.Placed.{all_stand}
 use Rattle.st_counted.proofs.memory.CountedMemoryMemory.hold.Goals as goal
 
 pub invariant_of-self : goal.invariant_of-self
@@ -17,3 +18,6 @@ invariant_of-self c =
       counted = c.hold.ensures.counted;
       listed = c.hold.ensures.listed;
     }
+
+pub returns-clause-places : goal.returns-clause-places
+returns-clause-places c = all_stand c.args.self.now.contents.objects c.hold.new.self.objects c.hold.ensures.places

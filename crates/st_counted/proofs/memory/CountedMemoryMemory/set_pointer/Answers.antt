@@ -5,6 +5,7 @@ use Rattle.st_model.specs.Values.{value}
 use Rattle.st_model.proofs.Pointers.{IsWord-value_of}
 use Rattle.st_model.proofs.WholeLemmas.{whole_stored}
 use Rattle.st_counted.specs.Counted.{counted_view}
+use Rattle.st_counted.proofs.Placed.{all_stand}
 use Rattle.st_counted.proofs.memory.CountedMemoryMemory.set_pointer.Goals as goal
 
 pub invariant_of-self : goal.invariant_of-self
@@ -19,3 +20,6 @@ invariant_of-self c =
       counted = c.set_pointer.ensures.counted;
       listed = c.set_pointer.ensures.listed;
     }
+
+pub returns-clause-places : goal.returns-clause-places
+returns-clause-places c = all_stand c.args.self.now.contents.objects c.set_pointer.new.self.objects c.set_pointer.ensures.places

@@ -1,8 +1,8 @@
 use Rattle.std.proofs.Common.{◌+◌, List, drop, sym, ap, ◌∙◌, arith}
 use Rattle.std.specs.Prelude.{pos}
 use Rattle.std.proofs.lemmas.List.{at_drop_more, at_drop_all}
-use Rattle.st_emit.specs.declared.step.Place.{Place}
-use Rattle.st_emit.specs.declared.step.Place.TheVariants.{Field}
+use Rattle.st_meaning.specs.declared.deed.Variable.{Variable}
+use Rattle.st_meaning.specs.declared.deed.Variable.TheVariants.{Temporary}
 use Rattle.st_meaning.specs.declared.deed.Value.{Value}
 use Rattle.st_meaning.specs.declared.deed.Value.TheVariants.{Number}
 use Rattle.st_meaning.specs.declared.deed.Change.{Change}
@@ -11,7 +11,7 @@ use Rattle.st_meaning.specs.Courses.{held_of}
 use Rattle.st_meaning.proofs.held.Held.change_all.Goals as goal
 
 abbrev none : Change
-none = record { variable = Field 0; value = Number (pos 0) }
+none = record { variable = Temporary 0; value = Number (pos 0) }
 
 pub loop-change-preserved : goal.loop-change-preserved
 loop-change-preserved c =
@@ -19,7 +19,7 @@ loop-change-preserved c =
     let i = c.loop-change.change-index in
     let next = at_drop_more (λ (cs : List Change). all_changed cs (held_of c.loop-change.self)) changes i none (omega (arith, c.loop-change-test.true)) in
     record {
-      held = ap (λ (held : Place → Value). all_changed (drop (i + 1) changes) held) c.change.ensures.held ∙ sym next ∙ c.loop-change.invariant.held;
+      held = ap (λ (held : Variable → Value). all_changed (drop (i + 1) changes) held) c.change.ensures.held ∙ sym next ∙ c.loop-change.invariant.held;
       table = c.change.ensures.table;
     }
 
