@@ -1,7 +1,6 @@
 -- Where a walk goes on behind what an instruction does, and where it is over.
-use Rattle.std.proofs.Common.{◌≡◌, ℕ, ◌+◌, ◌-◌, ◌==◌, Bool, true, false, not, List, ◌∷◌, length, drop, Option, Some, None, refl, sym, ap, ◌∙◌, subst}
+use Rattle.std.proofs.Common.{◌≡◌, ℕ, zero, suc, ◌+◌, ◌-◌, ◌==◌, Bool, true, false, not, List, ◌∷◌, length, drop, Option, Some, None, refl, sym, ap, ◌∙◌, subst}
 use Rattle.std.specs.Prelude.{Result, Ok, Err, IfOk, IfErr, if◌then◌else◌}
-use Rattle.st_emit.specs.declared.step.Constant.TheVariants.{Receiver, True, False, Nil, Context}
 use Rattle.st_resolved.specs.declared.reading.Found.{Found}
 use Rattle.st_resolved.specs.Instructions.{instruction}
 use Rattle.st_code.specs.Methods.{PartsView}
@@ -26,12 +25,11 @@ use Rattle.st_meaning.proofs.Coursing.{few_deeds, full_deeds, return_on, return_
 -- BOOLEANS
 
 by_true : (on : Bool) (v : Value) → boolean v ≡ Some true → (jump go : Run Value) (g : Going) → on_boolean most on v jump go g ≡ (if on then jump else go) g
-by_true true (values.Constant True) e jump go g = refl
-by_true false (values.Constant True) e jump go g = refl
-by_true on (values.Constant False) e jump go g = absurd cc
-by_true on (values.Constant Receiver) e jump go g = absurd cc
-by_true on (values.Constant Nil) e jump go g = absurd cc
-by_true on (values.Constant Context) e jump go g = absurd cc
+by_true true (values.Constant (suc zero)) e jump go g = refl
+by_true false (values.Constant (suc zero)) e jump go g = refl
+by_true on (values.Constant (suc (suc zero))) e jump go g = absurd cc
+by_true on (values.Constant zero) e jump go g = absurd cc
+by_true on (values.Constant (suc (suc (suc i)))) e jump go g = absurd cc
 by_true on (values.Number z) e jump go g = absurd cc
 by_true on (values.First q) e jump go g = absurd cc
 by_true on (values.Literal i) e jump go g = absurd cc
@@ -39,12 +37,11 @@ by_true on (values.Block i) e jump go g = absurd cc
 by_true on (values.Answer i) e jump go g = absurd cc
 
 by_false : (on : Bool) (v : Value) → boolean v ≡ Some false → (jump go : Run Value) (g : Going) → on_boolean most on v jump go g ≡ (if not on then jump else go) g
-by_false true (values.Constant False) e jump go g = refl
-by_false false (values.Constant False) e jump go g = refl
-by_false on (values.Constant True) e jump go g = absurd cc
-by_false on (values.Constant Receiver) e jump go g = absurd cc
-by_false on (values.Constant Nil) e jump go g = absurd cc
-by_false on (values.Constant Context) e jump go g = absurd cc
+by_false true (values.Constant (suc (suc zero))) e jump go g = refl
+by_false false (values.Constant (suc (suc zero))) e jump go g = refl
+by_false on (values.Constant (suc zero)) e jump go g = absurd cc
+by_false on (values.Constant zero) e jump go g = absurd cc
+by_false on (values.Constant (suc (suc (suc i)))) e jump go g = absurd cc
 by_false on (values.Number z) e jump go g = absurd cc
 by_false on (values.First q) e jump go g = absurd cc
 by_false on (values.Literal i) e jump go g = absurd cc
@@ -52,11 +49,10 @@ by_false on (values.Block i) e jump go g = absurd cc
 by_false on (values.Answer i) e jump go g = absurd cc
 
 decide_none : (v : Value) → boolean v ≡ None → (a b : Run Value) (g : Going) → decide most v a b g ≡ be_unsure most v g
-decide_none (values.Constant True) e a b g = absurd cc
-decide_none (values.Constant False) e a b g = absurd cc
-decide_none (values.Constant Receiver) e a b g = refl
-decide_none (values.Constant Nil) e a b g = refl
-decide_none (values.Constant Context) e a b g = refl
+decide_none (values.Constant (suc zero)) e a b g = absurd cc
+decide_none (values.Constant (suc (suc zero))) e a b g = absurd cc
+decide_none (values.Constant zero) e a b g = refl
+decide_none (values.Constant (suc (suc (suc i)))) e a b g = refl
 decide_none (values.Number z) e a b g = refl
 decide_none (values.First q) e a b g = refl
 decide_none (values.Literal i) e a b g = refl

@@ -1,7 +1,6 @@
 -- A run goes on behind a node only where the node's code goes on.
 use Rattle.std.proofs.Common.{◌≡◌, ℕ, zero, suc, ◌+◌, ◌<◌, ◌==◌, Bool, true, false, ◌&&◌, ◌||◌, List, [], ◌∷◌, ◌++◌, length, refl}
 use Rattle.std.specs.Prelude.{if◌then◌else◌}
-use Rattle.st_emit.specs.declared.step.Constant.TheVariants.{Receiver, True, False, Nil, Context}
 use Rattle.st_emit.specs.declared.form.TwoSided.{TwoSided}
 use Rattle.st_emit.specs.declared.form.TwoSided.TheVariants.{TrueFirst, FalseFirst}
 use Rattle.st_emit.specs.declared.form.Loop.{Loop}
@@ -159,11 +158,10 @@ module _ (most : ℕ) (literals : List LiteralView) where
       by_test false = k (record g { backs = g.backs + 1 })
 
   decide_onward : {A : Type 0} (P : Type 0) (v : Value) (a b : Run A) (g : Going) → Onward P (a g) → Onward P (b g) → Onward P (decide most v a b g)
-  decide_onward P (values.Constant True) a b g h k = h
-  decide_onward P (values.Constant False) a b g h k = k
-  decide_onward P (values.Constant Receiver) a b g h k = unsure_onward _ P (values.Constant Receiver) g
-  decide_onward P (values.Constant Nil) a b g h k = unsure_onward _ P (values.Constant Nil) g
-  decide_onward P (values.Constant Context) a b g h k = unsure_onward _ P (values.Constant Context) g
+  decide_onward P (values.Constant (suc zero)) a b g h k = h
+  decide_onward P (values.Constant (suc (suc zero))) a b g h k = k
+  decide_onward P (values.Constant zero) a b g h k = unsure_onward _ P (values.Constant zero) g
+  decide_onward P (values.Constant (suc (suc (suc i)))) a b g h k = unsure_onward _ P (values.Constant (suc (suc (suc i)))) g
   decide_onward P (values.Number z) a b g h k = unsure_onward _ P (values.Number z) g
   decide_onward P (values.First q) a b g h k = unsure_onward _ P (values.First q) g
   decide_onward P (values.Literal i) a b g h k = unsure_onward _ P (values.Literal i) g

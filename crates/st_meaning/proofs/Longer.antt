@@ -2,7 +2,6 @@
 use Rattle.std.proofs.Common.{◌≡◌, ℕ, zero, suc, ◌+◌, ◌-◌, ◌≤◌, ◌==◌, Bool, true, false, List, ◌∷◌, drop, Option, Some, None, sym, ◌∙◌, subst, ⊎_elim, arith}
 use Rattle.std.specs.Prelude.{if◌then◌else◌}
 use Rattle.std.proofs.lemmas.Bool.{cases_lt}
-use Rattle.st_emit.specs.declared.step.Constant.TheVariants.{Receiver, True, False, Nil, Context}
 use Rattle.st_emit.specs.Literals.{LiteralView}
 use Rattle.st_resolved.specs.declared.reading.Found.{Found}
 use Rattle.st_resolved.specs.Instructions.{instruction}
@@ -49,11 +48,10 @@ then_extends m k k' h g p i e = by_outcome (m g) e
 
 module _ (most : ℕ) (literals : List LiteralView) where
   decide_extends : (v : Value) (a b a' b' : Run Value) → Extends a a' → Extends b b' → Extends (decide most v a b) (decide most v a' b')
-  decide_extends (values.Constant True) a b a' b' h j g p i e = h g p i e
-  decide_extends (values.Constant False) a b a' b' h j g p i e = j g p i e
-  decide_extends (values.Constant Receiver) a b a' b' h j g p i e = e
-  decide_extends (values.Constant Nil) a b a' b' h j g p i e = e
-  decide_extends (values.Constant Context) a b a' b' h j g p i e = e
+  decide_extends (values.Constant (suc zero)) a b a' b' h j g p i e = h g p i e
+  decide_extends (values.Constant (suc (suc zero))) a b a' b' h j g p i e = j g p i e
+  decide_extends (values.Constant zero) a b a' b' h j g p i e = e
+  decide_extends (values.Constant (suc (suc (suc n)))) a b a' b' h j g p i e = e
   decide_extends (values.Number z) a b a' b' h j g p i e = e
   decide_extends (values.First q) a b a' b' h j g p i e = e
   decide_extends (values.Literal n) a b a' b' h j g p i e = e

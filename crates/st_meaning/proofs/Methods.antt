@@ -9,9 +9,10 @@ use Rattle.st_emit.specs.Steps.{size, size_of}
 use Rattle.st_emit.specs.Nodes.{Body, nothing, last, next, returned, returns}
 use Rattle.st_emit.specs.Emitting.{for_value, for_effect, code_of, body_code, block_end, method_code, pop_arguments}
 use Rattle.st_resolved.specs.Placed.{BodyPlaced}
+use Rattle.st_meaning.specs.Values.{constant_value}
 use Rattle.st_meaning.specs.declared.deed.Variable.TheVariants.{Temporary}
 use Rattle.st_meaning.specs.declared.deed.Value.{Value}
-use Rattle.st_meaning.specs.declared.deed.Value.TheVariants.{Constant, First}
+use Rattle.st_meaning.specs.declared.deed.Value.TheVariants.{First}
 use Rattle.st_meaning.specs.Runs.{Going, Outcome, went, over, long, stuck, unfinished, then_go, ◌>>=◌, return_value, assign_to}
 use Rattle.st_meaning.specs.Traces.{value_of, body_value, method_value}
 use Rattle.st_meaning.specs.Walks.{walk}
@@ -33,7 +34,7 @@ module _ (most : ℕ) (literals : List LiteralView) (bytes : List ℕ) where
   method_leads nothing m at end g st p few has = constant_returns most literals bytes Receiver at end [] g st has
   method_leads (last n) m at end g st p few has =
       let c = code_of for_effect n in
-      then_leads most literals bytes at (at + size c) end [] g (λ (v : Value). []) st (value_of most n m g) (λ v. return_value most (Constant Receiver))
+      then_leads most literals bytes at (at + size c) end [] g (λ (v : Value). []) st (value_of most n m g) (λ v. return_value most (constant_value Receiver))
       (node_leads most literals bytes n for_effect m at [] g p few (front most literals bytes at c _ has))
       (λ v g'. constant_returns most literals bytes Receiver (at + size c) end [] g' st (back most literals bytes at c _ has))
   method_leads (next n b) m at end g st p few has =

@@ -15,7 +15,7 @@ use Rattle.st_emit.specs.declared.names.Around.{Around}
 use Rattle.st_emit.specs.declared.step.Step.{Step}
 use Rattle.st_emit.specs.declared.step.Step.TheVariants.{Jump, JumpBack, JumpPast}
 use Rattle.st_emit.specs.Names.{NamesView, Scope, Declared, Variable, temporary, field, shared, declared_as, own_variable, variable_named, or_else, if_named, field_from, field_named, shared_named}
-use Rattle.st_emit.specs.Literals.{LiteralView, named, Naming, named_literal}
+use Rattle.st_emit.specs.Literals.{LiteralView, named, named_literal}
 use Rattle.st_emit.specs.Steps.{is_short}
 use Rattle.st_emit.specs.Resolving.{place_named, by_selector, by_literal, special_code}
 use Rattle.st_emit.specs.NameViews.{names_view, scope_view}

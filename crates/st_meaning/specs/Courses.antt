@@ -1,6 +1,5 @@
 -- What the code of a walk holds, as definitions see it.
-use Rattle.std.specs.Prelude.{◌≡◌, ◌≢◌, ◌≤◌, ℕ, ◌+◌, List, [], ◌∷◌, ◌++◌, length, reverse, drop, slice_get, Option, Some, None, Bool, true, false, if◌then◌else◌}
-use Rattle.st_emit.specs.declared.step.Constant.TheVariants.{True, False}
+use Rattle.std.specs.Prelude.{◌≡◌, ◌≢◌, ◌≤◌, ℕ, zero, suc, ◌+◌, List, [], ◌∷◌, ◌++◌, length, reverse, drop, slice_get, Option, Some, None, Bool, true, false, if◌then◌else◌}
 use Rattle.st_meaning.specs.declared.deed.Variable.{Variable}
 use Rattle.st_meaning.specs.declared.deed.Variable.TheVariants.{Field, Temporary, Shared}
 use Rattle.st_emit.specs.declared.step.Step.{Step}
@@ -111,10 +110,10 @@ top_walked top.Doubled s = codes.on_top s (λ x rest. codes.went (x ∷ s))
 top_walked top.Returned s = codes.on_top s (λ x rest. codes.returned x)
 top_walked (top.Tested on d) s = codes.on_top s (λ x rest. codes.tested on x d rest)
 
--- a boolean; every other value is none
+-- true or false, by their numbers; every other value is none
 abbrev pub boolean : Value → Option Bool
-boolean (Constant True) = Some true
-boolean (Constant False) = Some false
+boolean (Constant (suc zero)) = Some true
+boolean (Constant (suc (suc zero))) = Some false
 boolean v = None
 
 -- an instruction whose places have 8 bits

@@ -8,10 +8,10 @@ use Rattle.st_emit.specs.Selectors.{arity}
 use Rattle.st_emit.specs.Nodes.{Body}
 use Rattle.st_code.specs.Methods.{PartsView, body}
 use Rattle.st_meaning.specs.declared.deed.Value.{Value}
-use Rattle.st_meaning.specs.declared.deed.Value.TheVariants.{Constant, First}
+use Rattle.st_meaning.specs.declared.deed.Value.TheVariants.{First}
 use Rattle.st_meaning.specs.declared.deed.Variable.{Variable}
 use Rattle.st_meaning.specs.declared.deed.Variable.TheVariants.{Temporary}
-use Rattle.st_meaning.specs.Values.{AnswerView}
+use Rattle.st_meaning.specs.Values.{AnswerView, constant_value}
 use Rattle.st_meaning.specs.Runs.{Going, Outcome, went, over, long, stuck, unfinished}
 use Rattle.st_meaning.specs.Traces.{method_value}
 use Rattle.st_meaning.specs.Walks.{walk}
@@ -22,7 +22,7 @@ most = 1000000
 
 -- arguments, fields and shared variables hold what they held at the start; other temporaries start as nil
 abbrev pub start_of : (arguments : ℕ) → Variable → Value
-start_of arguments (Temporary n) = if nat_lt n arguments then First (Temporary n) else Constant Nil
+start_of arguments (Temporary n) = if nat_lt n arguments then First (Temporary n) else constant_value Nil
 start_of arguments p = First p
 
 abbrev pub before_all : (start : Variable → Value) → List AnswerView → Going

@@ -1,20 +1,21 @@
 -- Values and deeds, as both a trace and a walk have them.
 use Rattle.std.specs.Prelude.{ℕ, zero, suc, ℤ, pos, ◌-ℤ◌, ◌==◌, ◌<◌, nat_le, Bool, false, List, if◌then◌else◌}
 use Rattle.st_scan.specs.declared.token.Signed.{Signed}
+use Rattle.st_emit.specs.declared.step.Constant.{Constant as Pseudo}
+use Rattle.st_emit.specs.declared.step.Constant.TheVariants.{Receiver, True, False, Nil, Context}
 use Rattle.st_emit.specs.declared.step.Place.{Place}
 use Rattle.st_emit.specs.declared.step.Place.TheVariants as place
 use Rattle.st_emit.specs.Literals.{LiteralView}
 use Rattle.st_emit.specs.Literals as literals
 use Rattle.st_meaning.specs.declared.deed.Value.{Value}
-use Rattle.st_meaning.specs.declared.deed.Value.TheVariants.{Number, Literal}
+use Rattle.st_meaning.specs.declared.deed.Value.TheVariants.{Number, Constant, Literal}
 use Rattle.st_meaning.specs.declared.deed.Variable.{Variable}
 use Rattle.st_meaning.specs.declared.deed.Variable.TheVariants.{Field, Temporary, Shared}
-use Rattle.st_meaning.specs.declared.deed.Change.{Change}
 
 -- what a message answers, and which variables have other values then; of two for one variable the later counts
 pub record AnswerView : Type 0 where
   pub value : Value
-  pub changes : List Change
+  pub changes : List (Variable × Value)
 
 -- one thing that a method does: a message, an assignment, a block that is made, a return, or a value that is no boolean
 -- where one has to be
@@ -39,6 +40,14 @@ number_value n place = if is_small n then Number (signed_value n) else Literal p
 abbrev pub literal_value : LiteralView → ℕ → Value
 literal_value (literals.number n) place = number_value n place
 literal_value _ place = Literal place
+
+-- self, true, false, nil and thisContext, counted from 0
+abbrev pub constant_value : Pseudo → Value
+constant_value Receiver = Constant 0
+constant_value True = Constant 1
+constant_value False = Constant 2
+constant_value Nil = Constant 3
+constant_value Context = Constant 4
 
 -- -1, 0, 1 and 2, by one more
 abbrev pub small_value : ℕ → Value

@@ -5,9 +5,8 @@ use Rattle.st_emit.specs.Literals.{LiteralView, symbol}
 use Rattle.st_resolved.specs.declared.reading.Found.{Found}
 use Rattle.st_resolved.specs.Instructions.{instruction}
 use Rattle.st_meaning.specs.declared.deed.Value.{Value}
-use Rattle.st_meaning.specs.declared.deed.Value.TheVariants.{Constant}
 use Rattle.st_meaning.specs.declared.deed.Variable.{Variable}
-use Rattle.st_meaning.specs.Values.{literal_value, small_value, variable_of}
+use Rattle.st_meaning.specs.Values.{constant_value, literal_value, small_value, variable_of}
 use Rattle.st_meaning.specs.Runs.{Going, stuck, unfinished, Run, ◌>>=◌, assign_to, answer_to, make_block, return_value, jump_back, decide}
 use Rattle.st_meaning.specs.Codes.{Values, Walked, walk_code}
 use Rattle.st_meaning.specs.Codes as codes
@@ -27,7 +26,7 @@ selector_of l = None
 -- what a walk has
 abbrev pub values_of : List LiteralView → (Variable → Value) → Values Variable Value
 values_of literals held = record {
-  constant = λ k. Constant k;
+  constant = constant_value;
   small = small_value;
   literal = λ n. option_map (λ l. literal_value l n) (slice_get literals n);
   variable = λ p. held (variable_of p);

@@ -4,16 +4,16 @@ ghost use Rattle.std.specs.Prelude.{◌≡◌, ◌∷◌, [], Some, None, IfOk, 
 ghost use Rattle.st_emit.specs.Selectors.{colons, arity, sends_now};
 ghost use Rattle.st_emit.specs.Views.{literal_view, literals_view};
 ghost use Rattle.st_emit.specs.Resolving.{special_selectors, first_special};
-ghost use Rattle.st_meaning.specs.Values.{number_value, literal_value, small_value};
+ghost use Rattle.st_meaning.specs.Values.{constant_value, number_value, literal_value, small_value};
 ghost use Rattle.st_meaning.specs.Codes as codes;
 ghost use Rattle.st_meaning.specs.Walks.{selector_of, values_of};
 ghost use Rattle.st_meaning.specs.Courses.{stack_view, top_walked, IsTop, Does, NamesShort, held_of};
 
-use crate::deed::{Value, ValueList, Variable};
+use crate::deed::{CONTEXT, FALSE, NIL, RECEIVER, TRUE, Value, ValueList, Variable};
 use crate::held::Held;
 use crate::message::sends;
 use crate::short::{byte_of, variable_of};
-use st_emit::{Literal, Place, SPECIAL_SENDS, Step};
+use st_emit::{Constant, Literal, Place, SPECIAL_SENDS, Step};
 use st_scan::Signed;
 use std::alloc::{AllocError, Global};
 
@@ -43,6 +43,19 @@ pub enum Walked<'p> {
     Tested(bool, Value, usize),
     /// The code can't go on.
     Stuck,
+}
+
+/// The value that a pseudo variable is.
+pub fn constant_value(constant: Constant) -> Value
+    ensures { result ≡ constant_value constant }
+{
+    match constant {
+        Constant::Receiver => RECEIVER,
+        Constant::True => TRUE,
+        Constant::False => FALSE,
+        Constant::Nil => NIL,
+        Constant::Context => CONTEXT,
+    }
 }
 
 /// A number that a code pushes: from -1 to 2, by one more.
@@ -289,7 +302,7 @@ pub fn walk_code<'p>(
     match step {
         Step::Push(Place::Literal(n)) => pushes_literal(stack, literals, byte_of(n)),
         Step::Push(place) => pushed(stack, held.value(variable_of(place))),
-        Step::PushConstant(constant) => pushed(stack, Value::Constant(constant)),
+        Step::PushConstant(constant) => pushed(stack, constant_value(constant)),
         Step::PushNumber(n) => pushed(stack, small_value(n)),
         Step::Store(place) => on_top(stack, Top::Stored(variable_of(place))),
         Step::PopStore(place) => on_top(stack, Top::Popped(variable_of(place))),
@@ -320,7 +333,7 @@ pub fn walk_code<'p>(
             )
         }
         Step::SendSpecial(code) => sends_special(alloc, stack, code),
-        Step::ReturnConstant(constant) => Ok(Walked::Returned(Value::Constant(constant))),
+        Step::ReturnConstant(constant) => Ok(Walked::Returned(constant_value(constant))),
         Step::ReturnTop | Step::ReturnBlock => on_top(stack, Top::Returned),
         Step::Jump(distance) | Step::JumpPast(distance) => Ok(Walked::Ahead(distance)),
         Step::JumpBack(distance) => Ok(Walked::Back(distance)),

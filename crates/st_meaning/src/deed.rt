@@ -1,6 +1,5 @@
 //! Values, deeds and answers, as both a trace and a walk have them.
 
-use st_emit::Constant;
 use st_scan::Text;
 
 /// A variable by its number.
@@ -19,8 +18,8 @@ pub enum Variable {
 pub enum Value {
     /// A number from -16384 to 16383.
     Number(i16),
-    /// self, true, false, nil or thisContext.
-    Constant(Constant),
+    /// self, true, false, nil or thisContext, counted from 0.
+    Constant(u8),
     /// What a variable held at the start.
     First(Variable),
     /// The literal at a place.
@@ -31,15 +30,23 @@ pub enum Value {
     Answer(u32),
 }
 
-/// A variable that has another value after a message.
-#[derive(Clone, Copy)]
-pub struct Change {
-    pub variable: Variable,
-    pub value: Value,
-}
+/// self.
+pub const RECEIVER: Value = Value::Constant(0);
 
-/// Changes of variables; of two for one variable the later counts.
-pub type ChangeList = Vec<Change>;
+/// true.
+pub const TRUE: Value = Value::Constant(1);
+
+/// false.
+pub const FALSE: Value = Value::Constant(2);
+
+/// nil.
+pub const NIL: Value = Value::Constant(3);
+
+/// thisContext.
+pub const CONTEXT: Value = Value::Constant(4);
+
+/// Variables that have other values after a message, with these; of two for one variable the later counts.
+pub type ChangeList = Vec<(Variable, Value)>;
 
 /// What a message answers, and which variables have other values then. No code names a variable from 64 on, so what is
 /// said of such a one is no matter.

@@ -5,8 +5,7 @@ ghost use Rattle.st_meaning.specs.Runs.{changed, all_changed};
 ghost use Rattle.st_meaning.specs.Meanings.{start_of};
 ghost use Rattle.st_meaning.specs.Courses.{known, held_of, IsTable, IsPut};
 
-use crate::deed::{Change, Value, Variable};
-use st_emit::Constant;
+use crate::deed::{NIL, Value, Variable};
 use std::alloc::{AllocError, Global};
 
 /// How many variables of a kind code can name.
@@ -29,7 +28,7 @@ fn start_of(arguments: usize, variable: Variable) -> Value
         Variable::Temporary(n) => if (n as usize) < arguments {
             Value::First(variable)
         } else {
-            Value::Constant(Constant::Nil)
+            NIL
         },
         Variable::Field(_) | Variable::Shared(_) => Value::First(variable),
     }
@@ -99,13 +98,13 @@ impl Held {
     }
 
     /// Makes changes, one behind the other.
-    pub fn change_all(&mut self, changes: &[Change])
+    pub fn change_all(&mut self, changes: &[(Variable, Value)])
         requires { IsTable self.old }
         ensures held { held_of self.new ≡ all_changed changes.now (held_of self.old) }
         ensures table { IsTable self.new }
     {
         for change in changes {
-            self.change(change.variable, change.value);
+            self.change(change.0, change.1);
         }
     }
 }

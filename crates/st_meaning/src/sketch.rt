@@ -16,7 +16,7 @@ ghost use Rattle.st_meaning.specs.Sketches.{chain_naming, begun_naming, argument
 ghost use Rattle.st_meaning.specs.Sketches.{link_naming, body_naming, loop_naming};
 
 use crate::arena::{Act, Arena, Message, MessageList, Node, NodePlaces, Start, Statements};
-use crate::code::{number_value, small_value};
+use crate::code::{constant_value, number_value, small_value};
 use crate::deed::Value;
 use crate::short::{byte_of, variable_of};
 use st_emit::{
@@ -65,7 +65,7 @@ fn named(sketch: &mut Sketch, around: Around<'_>, name: &Name) -> Result<Start, 
         sketch.old sketch.new) }
 {
     match constant_named(&name.text) {
-        Some(constant) => Ok(Start::Known(Value::Constant(constant))),
+        Some(constant) => Ok(Start::Known(constant_value(constant))),
         None => {
             let place = place_of_name(&mut sketch.draft, around, name)?;
             Ok(Start::Held(variable_of(place)))

@@ -10,14 +10,11 @@ ghost use Rattle.st_meaning.specs.Traced.{sided_in, chosen_in, body_in, nodes_in
 
 use crate::arena::{Act, Message, Node, Start, Statements};
 use crate::course::Course;
-use crate::deed::{Deed, Value, ValueList};
+use crate::deed::{Deed, FALSE, NIL, RECEIVER, TRUE, Value, ValueList};
 use crate::fault::MeaningFault;
 use crate::walking::test;
-use st_emit::{Constant, Loop, OneSided, TwoSided};
+use st_emit::{Loop, OneSided, TwoSided};
 use std::alloc::Global;
-
-/// What stands where nothing has a value.
-const NIL: Value = Value::Constant(Constant::Nil);
 
 /// How a turn of a loop ends: another one follows, the loop is left, or the method is at its end.
 enum TurnEnd {
@@ -27,14 +24,14 @@ enum TurnEnd {
 }
 
 /// The boolean on which the block of a form is passed, and what is its value then.
-fn passed(side: OneSided) -> (bool, Constant)
+fn passed(side: OneSided) -> (bool, Value)
     ensures { IsPassed side result.0 result.1 }
 {
     match side {
-        OneSided::IfTrue => (false, Constant::Nil),
-        OneSided::IfFalse => (true, Constant::Nil),
-        OneSided::And => (false, Constant::False),
-        OneSided::Or => (true, Constant::True),
+        OneSided::IfTrue => (false, NIL),
+        OneSided::IfFalse => (true, NIL),
+        OneSided::And => (false, FALSE),
+        OneSided::Or => (true, TRUE),
     }
 }
 
@@ -260,7 +257,7 @@ fn one_sided(
     let (on, other) = passed(side);
     match test(course, on, value)? {
         Some(passes) => if passes {
-            Ok(Some(Value::Constant(other)))
+            Ok(Some(other))
         } else {
             body(alloc, course, before, inside, bound)
         },
@@ -446,9 +443,7 @@ pub fn method(
         Some(value) => if inside.returns {
             course.did(Deed::Return { value })
         } else {
-            course.did(Deed::Return {
-                value: Value::Constant(Constant::Receiver),
-            })
+            course.did(Deed::Return { value: RECEIVER })
         },
         None => Ok(()),
     }

@@ -2,6 +2,7 @@
 
 ghost use Rattle.std.specs.Prelude.{◌≡◌, ◌+◌, ◌*◌, IfOk, IfErr};
 ghost use Rattle.st_code.specs.MethodDrafts.{parts_view};
+ghost use Rattle.st_meaning.specs.declared.deed.Value.TheVariants.{Constant};
 ghost use Rattle.st_meaning.specs.Deeds.{answers_view, deeds_view, Lists, IsFault};
 ghost use Rattle.st_meaning.specs.Meanings.{most, Walk};
 ghost use Rattle.st_meaning.specs.Courses.{boolean, Tests, IsLongTest, IsBehind, Continues, IsTooLong};
@@ -12,18 +13,32 @@ use crate::course::{Course, MOST};
 use crate::deed::{AnswerList, Deed, Deeds, Value, ValueList};
 use crate::fault::MeaningFault;
 use st_code::MethodParts;
-use st_emit::{Constant, sum};
+use st_emit::sum;
 use st_resolved::instruction;
 use std::alloc::{AllocError, Global};
+
+/// The boolean that a pseudo variable is, by its number.
+fn boolean_of(n: u8) -> Option<bool>
+    ensures { result ≡ boolean (Constant n) }
+{
+    match n {
+        1 => Some(true),
+        2 => Some(false),
+        _ => None,
+    }
+}
 
 /// The boolean that a value is.
 fn boolean(value: Value) -> Option<bool>
     ensures { result ≡ boolean value }
 {
     match value {
-        Value::Constant(Constant::True) => Some(true),
-        Value::Constant(Constant::False) => Some(false),
-        _ => None,
+        Value::Constant(n) => boolean_of(n),
+        Value::Number(_) => None,
+        Value::First(_) => None,
+        Value::Literal(_) => None,
+        Value::Block(_) => None,
+        Value::Answer(_) => None,
     }
 }
 

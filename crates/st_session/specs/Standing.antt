@@ -1,5 +1,5 @@
 -- That a machine stands at a point.
-use Rattle.std.specs.Prelude.{◌≡◌, Option, Some, None, IsSome, Result, ℕ, List}
+use Rattle.std.specs.Prelude.{◌≡◌, Option, Some, None, IsSome, Result, IfErr, IsErrOf, OnOk, ℕ, List}
 use Rattle.st_host.specs.declared.host.Host.{Ghosts}
 use Rattle.st_model.specs.declared.dead.Dead.{Dead}
 use Rattle.st_model.specs.Machine.{State}
@@ -12,7 +12,10 @@ use Rattle.st_chunk.specs.Scripts.{Asked}
 use Rattle.st_store.specs.Names.{IsNoFileOf}
 use Rattle.st_protocol.specs.declared.status.Status.{Status}
 use Rattle.st_protocol.specs.Courses.{Course}
+use Rattle.st_protocol.specs.declared.status.Status.TheVariants.{OutOfMemory}
 use Rattle.st_protocol.specs.Obeying.{Obeys}
+use Rattle.st_protocol.specs.Statuses.{Counts}
+use Rattle.st_call.specs.Telling.{IsOfServing}
 use Rattle.st_recover.specs.Archives.{ArchiveState, Holds}
 use Rattle.st_recover.specs.Commits.{Commit, OpensAs}
 use Rattle.st_session.specs.Ends.{DidTold, DidSome}
@@ -51,6 +54,18 @@ module _ {M : Type 0} (view : M → View) where
     abbrev pub Follows : (Point Commit → Course Commit (Point Commit)) → Machine M → ArchiveState → D → Result Unit Status → Machine M → ArchiveState → D → Type 0
     Follows course m a old result n b new = (p : Point Commit) → IsAt m a old p
         → Obeys host (OpensAs a.name) (IsNoFileOf a.name) (IsAt n b new) (λ q. q.kept) p.kept (course p) result old new
+
+    -- What a call does that answers what is asked for: it follows the course, and where it goes on the session can go on. Where there
+    -- was no memory this stands; a call that takes none never says so.
+    pub record Serves (course : Point Commit → Course Commit (Point Commit)) (stands : Type 0) (m : Machine M) (a : ArchiveState) (old : D) (result : Result Unit Status) (n : Machine M) (b : ArchiveState) (new : D) : Type 0 where
+      pub go_on : OnOk result (MayGoOn n b)
+      pub named : b.name ≡ a.name
+      pub follows : Follows course m a old result n b new
+      -- no count of a fault fell, and a fault has its cause
+      pub counts : Counts host ⊥ old new result
+      -- it ends by a status that a session may end by
+      pub served : IfErr result IsOfServing
+      pub starved : IsErrOf result OutOfMemory → stands
 
     -- From wherever they stand, the deeds were done that the bytes of the script before those that are left tell.
     abbrev pub FollowsTold : (Point Commit → List ℕ → Course Commit (Point Commit)) → List ℕ → List ℕ → Machine M → ArchiveState → D → D → Type 0

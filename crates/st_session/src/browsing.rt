@@ -1,13 +1,10 @@
-ghost use Rattle.std.specs.Prelude.{◌≡◌, IfErr, IsErrOf, None, OnOk};
+ghost use Rattle.std.specs.Prelude.{◌≡◌, None};
 ghost use Rattle.st_chunk.specs.Asks.{Source, ask_of, side_of};
-ghost use Rattle.st_protocol.specs.Statuses.{Counts};
-ghost use Rattle.st_protocol.specs.declared.status.Status.TheVariants.{OutOfMemory};
 ghost use Rattle.st_session.specs.Answers.{browse_course};
 ghost use Rattle.st_session.specs.Browsing.{asked_text, TellsOrStarves};
 ghost use Rattle.st_session.specs.Sources.{kept_text, shown_text};
-ghost use Rattle.st_call.specs.Telling.{IsOfServing};
 ghost use Rattle.st_session.specs.Keeping.{in_a_store};
-ghost use Rattle.st_session.specs.Standing.{MayGoOn, Follows};
+ghost use Rattle.st_session.specs.Standing.{MayGoOn, Serves};
 ghost use Rattle.st_call.specs.Telling.{Tells};
 
 use crate::debugging::run_until;
@@ -63,7 +60,7 @@ fn say_source<H: Host, M: Memory>(
 }
 
 /// Answers a line that names what it asks for, where the machine isn't dead.
-fn answer_named<H: Host, M: Memory>(
+pub(crate) fn answer_named<H: Host, M: Memory>(
     alloc: Global,
     host: &mut H,
     machine: &mut Machine<M>,
@@ -72,14 +69,9 @@ fn answer_named<H: Host, M: Memory>(
 ) -> Result<(), Status>
     requires go_on { MayGoOn M.view machine.old archive.old }
     requires alive { machine.old.death ≡ None }
-    ensures go_on { OnOk result (MayGoOn M.view machine.new archive.new) }
-    ensures named { archive.new.name ≡ archive.old.name }
-    ensures follows { Follows M.view H.Host.own
-        (λ p. browse_course in_a_store p.being p.kept (ask_of ask.entry))
+    ensures { Serves M.view H.Host.own
+        (λ p. browse_course in_a_store p.being p.kept (ask_of ask.entry)) (host.new ≡ host.old)
         machine.old archive.old host.old result machine.new archive.new host.new }
-    ensures counts { Counts H.Host.own ⊥ host.old host.new result }
-    ensures served { IfErr result IsOfServing }
-    ensures starved { IsErrOf result OutOfMemory → host.new ≡ host.old }
 {
     match ask {
         Ask::Until(cycles, side, selector) => {
@@ -94,29 +86,5 @@ fn answer_named<H: Host, M: Memory>(
             selector,
         ),
         _ => say_asked(host, machine.memory(), archive.changes(), ask),
-    }
-}
-
-/// Answers a line that names what it asks for.
-pub(crate) fn answer_ask<H: Host, M: Memory>(
-    alloc: Global,
-    host: &mut H,
-    machine: &mut Machine<M>,
-    archive: &mut Archive,
-    ask: Ask<'_>,
-) -> Result<(), Status>
-    requires go_on { MayGoOn M.view machine.old archive.old }
-    ensures go_on { OnOk result (MayGoOn M.view machine.new archive.new) }
-    ensures named { archive.new.name ≡ archive.old.name }
-    ensures follows { Follows M.view H.Host.own
-        (λ p. browse_course in_a_store p.being p.kept (ask_of ask.entry))
-        machine.old archive.old host.old result machine.new archive.new host.new }
-    ensures counts { Counts H.Host.own ⊥ host.old host.new result }
-    ensures served { IfErr result IsOfServing }
-    ensures starved { IsErrOf result OutOfMemory → host.new ≡ host.old }
-{
-    match machine.death() {
-        Some(cause) => say_reply(host, Reply::Died { finished: 0, cause }),
-        None => answer_named(alloc, host, machine, archive, ask),
     }
 }

@@ -1,17 +1,15 @@
 // Lines of a debugger.
-ghost use Rattle.std.specs.Prelude.{◌≡◌, IfErr, IsErrOf, None, OnOk};
+ghost use Rattle.std.specs.Prelude.{◌≡◌, None};
 ghost use Rattle.st_model.specs.Show.{show};
 ghost use Rattle.st_model.specs.Values.{value};
 ghost use Rattle.st_browse.specs.Asked.{method_of_side};
 ghost use Rattle.st_chunk.specs.Asks.{side_of};
-ghost use Rattle.st_protocol.specs.Statuses.{Counts};
-ghost use Rattle.st_protocol.specs.declared.status.Status.TheVariants.{OutOfMemory};
 ghost use Rattle.st_debug.specs.Stack.{stack_text};
-ghost use Rattle.st_call.specs.Telling.{IsOfServing, Tells};
+ghost use Rattle.st_call.specs.Telling.{Tells};
 ghost use Rattle.st_session.specs.Answers.{going_on, until_course};
 ghost use Rattle.st_session.specs.Browsing.{memory_of};
 ghost use Rattle.st_session.specs.Keeping.{in_a_store};
-ghost use Rattle.st_session.specs.Standing.{MayGoOn, Follows};
+ghost use Rattle.st_session.specs.Standing.{MayGoOn, Serves};
 
 use crate::saving::run;
 use crate::watch::Watch;
@@ -37,15 +35,10 @@ pub(crate) fn run_until<H: Host, M: Memory>(
 ) -> Result<(), Status>
     requires go_on { MayGoOn M.view machine.old archive.old }
     requires alive { machine.old.death ≡ None }
-    ensures go_on { OnOk result (MayGoOn M.view machine.new archive.new) }
-    ensures named { archive.new.name ≡ archive.old.name }
-    ensures follows { Follows M.view H.Host.own
+    ensures { Serves M.view H.Host.own
         (λ p. going_on in_a_store (λ s c. until_course in_a_store cycles s c
-        (method_of_side (memory_of (show s)) (side_of side.entry) selector.now)) p.being p.kept)
+        (method_of_side (memory_of (show s)) (side_of side.entry) selector.now)) p.being p.kept) ⊥
         machine.old archive.old host.old result machine.new archive.new host.new }
-    ensures counts { Counts H.Host.own ⊥ host.old host.new result }
-    ensures served { IfErr result IsOfServing }
-    ensures ample { IsErrOf result OutOfMemory → ⊥ }
 {
     match find_method(machine.memory(), side, selector) {
         Some(method) => run(host, machine, archive, Watch::Entry(method), cycles),

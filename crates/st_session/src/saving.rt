@@ -14,7 +14,7 @@ ghost use Rattle.st_recover.specs.Commits.{Commit, OpensAs, image_with};
 ghost use Rattle.st_session.specs.Answers.{watched_course, going_on};
 ghost use Rattle.st_call.specs.Telling.{IsOfServing};
 ghost use Rattle.st_session.specs.Keeping.{in_a_store, imaging};
-ghost use Rattle.st_session.specs.Standing.{MayRun, MayGoOn, Follows, shown_by};
+ghost use Rattle.st_session.specs.Standing.{MayRun, MayGoOn, Serves, shown_by};
 ghost use Rattle.st_session.specs.Stretches.{SaysStretch, went};
 ghost use Rattle.st_session.specs.Watched.{watched_stretch};
 ghost use Rattle.st_session.specs.Watching.{look_of};
@@ -58,14 +58,9 @@ pub(crate) fn snapshot<H: Host, M: Memory>(
 ) -> Result<(), Status>
     requires go_on { MayGoOn M.view machine.old archive.old }
     requires alive { machine.old.death ≡ None }
-    ensures go_on { OnOk result (MayGoOn M.view machine.new archive.new) }
-    ensures named { archive.new.name ≡ archive.old.name }
-    ensures follows { Follows M.view H.Host.own
-        (λ p. going_on in_a_store (in_a_store.snapshot finished) p.being p.kept)
+    ensures { Serves M.view H.Host.own
+        (λ p. going_on in_a_store (in_a_store.snapshot finished) p.being p.kept) ⊥
         machine.old archive.old host.old result machine.new archive.new host.new }
-    ensures counts { Counts H.Host.own ⊥ host.old host.new result }
-    ensures served { IfErr result IsOfServing }
-    ensures ample { IsErrOf result OutOfMemory → ⊥ }
 {
     match machine.save() {
         Ok(()) => keep_image(host, machine.memory(), archive),
@@ -115,14 +110,9 @@ pub(crate) fn run<H: Host, M: Memory>(
 ) -> Result<(), Status>
     requires go_on { MayGoOn M.view machine.old archive.old }
     requires alive { machine.old.death ≡ None }
-    ensures go_on { OnOk result (MayGoOn M.view machine.new archive.new) }
-    ensures named { archive.new.name ≡ archive.old.name }
-    ensures follows { Follows M.view H.Host.own
-        (λ p. going_on in_a_store (watched_course in_a_store (look_of watch) 0 cycles) p.being p.kept)
+    ensures { Serves M.view H.Host.own
+        (λ p. going_on in_a_store (watched_course in_a_store (look_of watch) 0 cycles) p.being p.kept) ⊥
         machine.old archive.old host.old result machine.new archive.new host.new }
-    ensures counts { Counts H.Host.own ⊥ host.old host.new result }
-    ensures served { IfErr result IsOfServing }
-    ensures ample { IsErrOf result OutOfMemory → ⊥ }
 {
     let mut finished = 0;
     'stretches: loop {

@@ -4,20 +4,21 @@ use crate::compiling::{compiled, names, parsed};
 use crate::parsing::repeated;
 use st_code::{MethodParts, Names, compile};
 use st_meaning::{
-    Answer, AnswerList, Change, Constant, Deed, Deeds, MeaningFault, Value, Variable, trace, walk,
+    Answer, AnswerList, Deed, Deeds, FALSE, MeaningFault, NIL, TRUE, Value, Variable, trace, walk,
 };
 use st_scan::{Expression, Message, MethodTree, Name, Statement};
 use std::alloc::{AllocError, Global};
 use std::process::Abort;
 use std::test::Fail;
 
-fn constant_word(constant: Constant) -> &'static str {
-    match constant {
-        Constant::Receiver => "self",
-        Constant::True => "true",
-        Constant::False => "false",
-        Constant::Nil => "nil",
-        Constant::Context => "thisContext",
+/// A pseudo variable by its number.
+fn constant_word(n: u8) -> &'static str {
+    match n {
+        0 => "self",
+        1 => "true",
+        2 => "false",
+        3 => "nil",
+        _ => "thisContext",
     }
 }
 
@@ -34,7 +35,7 @@ fn variable_word(alloc: Global, variable: Variable) -> Result<String, AllocError
 fn value_word(alloc: Global, value: Value) -> Result<String, AllocError> {
     match value {
         Value::Number(n) => format!(in alloc; "{n}"),
-        Value::Constant(constant) => format!(in alloc; "{}", constant_word(constant)),
+        Value::Constant(n) => format!(in alloc; "{}", constant_word(n)),
         Value::First(variable) => {
             let word = variable_word(alloc, variable)?;
             format!(in alloc; "{word}'")
@@ -212,12 +213,6 @@ fn shown(
     Ok(shown)
 }
 
-const TRUE: Value = Value::Constant(Constant::True);
-
-const FALSE: Value = Value::Constant(Constant::False);
-
-const NIL: Value = Value::Constant(Constant::Nil);
-
 /// Texts, what their messages answer, and what is done.
 const ROWS: [(&[u8], &[Value], &str); 16] = [
     (
@@ -299,7 +294,7 @@ fn add_answers(
     answers: &mut AnswerList,
     alloc: Global,
     count: usize,
-    changes: &[Change],
+    changes: &[(Variable, Value)],
 ) -> Result<(), AllocError> {
     for _ in 0..count {
         answers.push(Answer {
@@ -327,10 +322,7 @@ struct Case {
 
 /// The answers of a method's messages.
 fn answers_of(alloc: Global, case: Case) -> Result<AnswerList, AllocError> {
-    let change = Change {
-        variable: Variable::Field(1),
-        value: TRUE,
-    };
+    let change = (Variable::Field(1), TRUE);
     let mut answers = Vec::new(alloc);
     add_answers(&mut answers, alloc, case.changing, &[change])?;
     add_answers(&mut answers, alloc, case.plain, &[])?;

@@ -5,8 +5,9 @@ use Rattle.st_emit.specs.Names.{constant_named}
 use Rattle.st_emit.specs.Nodes.{constant}
 use Rattle.st_emit.specs.Resolving.{constant_or, place_of_name, name_node}
 use Rattle.st_emit.specs.Around.{context}
-use Rattle.st_meaning.specs.declared.deed.Value.TheVariants.{Constant}
+use Rattle.st_meaning.specs.declared.deed.Value.{Value}
 use Rattle.st_meaning.specs.declared.arena.Start.TheVariants.{Known}
+use Rattle.st_meaning.specs.Runs.{gives}
 use Rattle.st_meaning.specs.Meant.{IsStart}
 use Rattle.st_meaning.proofs.Sketching.{builds_given, named_built}
 use Rattle.st_meaning.proofs.sketch.named.Goals as goal
@@ -16,8 +17,8 @@ returns-in-Some c =
     let k = c.in-Some.constant in
     let e : constant_named c.args.name.now.text.items ≡ Some k = cc in
     let place = place_of_name (context c.args.around) (name_view c.args.name.now) in
-    builds_given (name_node (context c.args.around) (name_view c.args.name.now)) (IsStart (Known (Constant k))) c.args.sketch.now (constant k)
-    (ap (λ (o : Option Name). constant_or o place) e) (λ ms n. refl)
+    builds_given (name_node (context c.args.around) (name_view c.args.name.now)) (IsStart (Known c.constant_value.result)) c.args.sketch.now (constant k)
+    (ap (λ (o : Option Name). constant_or o place) e) (λ ms n. ap (λ (v : Value). gives v) c.constant_value.ensures)
 
 pub returns-in_ok-place-in-None : goal.returns-in_ok-place-in-None
 returns-in_ok-place-in-None c =

@@ -1,9 +1,11 @@
 use Rattle.std.proofs.Common.{◌≡◌, ◌≤◌, ◌<◌, ⊎_elim, ℕ, List, [], ◌++◌, ◌∙◌, take, length, refl, sym, ap, subst, arith, append-nil, append_assoc, length-append, Ok, Err}
+use Rattle.std.specs.Prelude.{Result}
 use Rattle.std.proofs.lemmas.List.{length-take-le}
 use Rattle.st_host.proofs.Rising.{rose_second}
 use Rattle.st_chunk.specs.Reading.{line_from}
 use Rattle.st_chunk.specs.Scripts.{Asked, told_from, read_through, asked_at_end}
 use Rattle.st_store.specs.Names.{IsNoFileOf}
+use Rattle.st_protocol.specs.declared.status.Status.{Status}
 use Rattle.st_protocol.specs.declared.status.Status.TheVariants as status
 use Rattle.st_protocol.specs.Courses.{ended}
 use Rattle.st_protocol.proofs.Joins.{obeys_did, counts_behind, counts_wider, no_read}
@@ -84,7 +86,7 @@ returns-then-count-eq0 g c =
     let new = c.finish.new in
     let on = IsAt view g.H.Host new.machine new.archive new.host in
     let r = read_through (line_from 1) far.0 in
-    let result = c.finish.result in
+    let result : Result Unit Status = Err c.finish.result in
     record {
       follows = λ told p at.
           let none : g.S.Source.remaining c.pieces.script ≡ [] = ⊎_elim (λ z. absurd (omega (arith, z, inv.size))) (λ e. e) (c.in-Ok.ensures.end told c.if-count-eq0.true) in
@@ -93,7 +95,7 @@ returns-then-count-eq0 g c =
           (λ q there. subst (λ x. GoesAs view g.H.Host name new.machine new.archive c.pieces.host new.host q.kept x result) (sym (rest_none in_a_store installed r c.pieces.left q))
           (subst (λ x. GoesAs view g.H.Host name new.machine new.archive c.pieces.host new.host q.kept (ended (follows in_a_store installed q (asked_at_end x)) status.Done) result) far.3
           (named_so view g.H.Host c.pieces.archive.name name new.machine new.archive c.pieces.host new.host q.kept (ended (follows in_a_store installed q (asked_at_end c.pieces.reader)) status.Done) result inv.named (c.finish.ensures.follows q there)))));
-      told = λ fault told p at. absurd (no_read g.H.Host c.pieces.host new.host result c.finish.ensures.counts fault);
+      told = λ fault told p at. absurd (no_read g.H.Host c.pieces.host new.host result c.finish.ensures.counts (ap Err fault));
       counts = counts_wider g.H.Host _ c.args.host.now new.host result (counts_behind g.H.Host ⊥ c.args.host.now c.pieces.host new.host result inv.disk inv.say c.finish.ensures.counts);
       served = c.finish.ensures.served;
       starved = λ none told p at.
@@ -102,7 +104,7 @@ returns-then-count-eq0 g c =
           some_then in_a_store installed g.H.Host (OpensAs name) (IsNoFileOf name) here p (told_from (line_from 1) far.0) (asked_at_end r) [] (asked_in (g.S.Source.remaining c.args.script.now)) c.args.host.now c.pieces.host new.host
           (ap asked_in script ∙ (asked_whole far.0 (let sum = far.2 in omega (arith, sum)) ∙ sym (append-nil (told_from (line_from 1) far.0 ++ asked_at_end r)))) (far.4 p at)
           (λ q there. subst (λ x. SomeAnswered in_a_store installed g.H.Host (OpensAs name) (IsNoFileOf name) q (asked_at_end x) c.pieces.host new.host) far.3
-          (subst (λ n. SomeAnswered in_a_store installed g.H.Host (OpensAs n) (IsNoFileOf n) q (asked_at_end c.pieces.reader) c.pieces.host new.host) inv.named (c.finish.ensures.starved none q there)));
+          (subst (λ n. SomeAnswered in_a_store installed g.H.Host (OpensAs n) (IsNoFileOf n) q (asked_at_end c.pieces.reader) c.pieces.host new.host) inv.named (c.finish.ensures.starved (ap Err none) q there)));
     }
 
 -- MORE BYTES CAME THAN MAY
@@ -117,7 +119,7 @@ returns-then-count-left g c =
     let new = c.feed_last.new in
     let on = IsAt view g.H.Host new.machine new.archive new.host in
     let r = read_through (line_from 1) far.0 in
-    let result = c.feed_last.result in
+    let result : Result Unit Status = Err c.feed_last.result in
     let bytes = take c.in-Ok.count c.take.new.into in
     let rest = g.S.Source.remaining c.take.new.self in
     let last = take c.pieces.left bytes in
@@ -131,7 +133,7 @@ returns-then-count-left g c =
           (λ q there. subst (λ x. GoesAs view g.H.Host name new.machine new.archive c.pieces.host new.host q.kept x result) (sym (rest_over in_a_store installed r c.pieces.left q bytes rest more))
           (subst (λ x. GoesAs view g.H.Host name new.machine new.archive c.pieces.host new.host q.kept (ended (follows in_a_store installed q (told_from x last)) status.TooLarge) result) far.3
           (named_so view g.H.Host c.pieces.archive.name name new.machine new.archive c.pieces.host new.host q.kept (ended (follows in_a_store installed q (told_from c.pieces.reader last)) status.TooLarge) result inv.named (c.feed_last.ensures.follows q there)))));
-      told = λ fault told p at. absurd (no_read g.H.Host c.pieces.host new.host result c.feed_last.ensures.counts fault);
+      told = λ fault told p at. absurd (no_read g.H.Host c.pieces.host new.host result c.feed_last.ensures.counts (ap Err fault));
       counts = counts_wider g.H.Host _ c.args.host.now new.host result (counts_behind g.H.Host ⊥ c.args.host.now c.pieces.host new.host result inv.disk inv.say c.feed_last.ensures.counts);
       served = c.feed_last.ensures.served;
       starved = λ none told p at.
@@ -139,7 +141,7 @@ returns-then-count-left g c =
           some_then in_a_store installed g.H.Host (OpensAs name) (IsNoFileOf name) here p (told_from (line_from 1) far.0) (told_from r last) [] (asked_in (g.S.Source.remaining c.args.script.now)) c.args.host.now c.pieces.host new.host
           (ap asked_in script ∙ (asked_over far.0 bytes rest c.pieces.left far.2 more ∙ sym (append-nil (told_from (line_from 1) far.0 ++ told_from r last)))) (far.4 p at)
           (λ q there. subst (λ x. SomeAnswered in_a_store installed g.H.Host (OpensAs name) (IsNoFileOf name) q (told_from x last) c.pieces.host new.host) far.3
-          (subst (λ n. SomeAnswered in_a_store installed g.H.Host (OpensAs n) (IsNoFileOf n) q (told_from c.pieces.reader last) c.pieces.host new.host) inv.named (c.feed_last.ensures.starved none q there)));
+          (subst (λ n. SomeAnswered in_a_store installed g.H.Host (OpensAs n) (IsNoFileOf n) q (told_from c.pieces.reader last) c.pieces.host new.host) inv.named (c.feed_last.ensures.starved (ap Err none) q there)));
     }
 
 -- A PIECE
@@ -166,10 +168,10 @@ returns-in-Err-feed_all g c =
           (rest_then in_a_store installed g.H.Host (OpensAs name) (IsNoFileOf name) here on (line_from 1) longest c.pieces.left p far.0 (bytes ++ rest) (Err e) c.args.host.now c.pieces.host new.host far.2 (far.4 p at)
           (λ q there. rest_err in_a_store installed g.H.Host (OpensAs name) (IsNoFileOf name) on on r c.pieces.left q bytes rest e c.pieces.host new.host few
           (subst (λ x. GoesAs view g.H.Host name new.machine new.archive c.pieces.host new.host q.kept (follow in_a_store installed q (told_from x bytes)) (Err e)) far.3
-          (named_so view g.H.Host c.pieces.archive.name name new.machine new.archive c.pieces.host new.host q.kept (follow in_a_store installed q (told_from c.pieces.reader bytes)) (Err e) inv.named (c.in-Err-feed_all.ensures.follows q there)))));
-      told = λ fault told p at. absurd (no_read g.H.Host c.pieces.host new.host (Err e) c.in-Err-feed_all.ensures.counts fault);
-      counts = counts_wider g.H.Host _ c.args.host.now new.host (Err e) (counts_behind g.H.Host ⊥ c.args.host.now c.pieces.host new.host (Err e) inv.disk inv.say c.in-Err-feed_all.ensures.counts);
-      served = c.in-Err-feed_all.ensures.served;
+          (named_so view g.H.Host c.pieces.archive.name name new.machine new.archive c.pieces.host new.host q.kept (follow in_a_store installed q (told_from c.pieces.reader bytes)) (Err e) inv.named (c.in-Err-feed_all.ensures.serves.follows q there)))));
+      told = λ fault told p at. absurd (no_read g.H.Host c.pieces.host new.host (Err e) c.in-Err-feed_all.ensures.serves.counts (ap Err fault));
+      counts = counts_wider g.H.Host _ c.args.host.now new.host (Err e) (counts_behind g.H.Host ⊥ c.args.host.now c.pieces.host new.host (Err e) inv.disk inv.say c.in-Err-feed_all.ensures.serves.counts);
+      served = c.in-Err-feed_all.ensures.serves.served;
       starved = λ none told p at.
           let script : g.S.Source.remaining c.args.script.now ≡ (far.0 ++ bytes) ++ rest = far.1 told ∙ (ap (λ (x : List ℕ). far.0 ++ x) (c.in-Ok.ensures.takes told) ∙ sym (append_assoc far.0 bytes rest)) in
           let both = length-append far.0 bytes in
@@ -177,7 +179,7 @@ returns-in-Err-feed_all g c =
           some_then in_a_store installed g.H.Host (OpensAs name) (IsNoFileOf name) here p (told_from (line_from 1) far.0) (told_from r bytes) behind.0 (asked_in (g.S.Source.remaining c.args.script.now)) c.args.host.now c.pieces.host new.host
           (ap asked_in script ∙ (behind.1 ∙ ap (λ (l : List Asked). l ++ behind.0) (told_both (line_from 1) far.0 bytes))) (far.4 p at)
           (λ q there. subst (λ x. SomeAnswered in_a_store installed g.H.Host (OpensAs name) (IsNoFileOf name) q (told_from x bytes) c.pieces.host new.host) far.3
-          (subst (λ n. SomeAnswered in_a_store installed g.H.Host (OpensAs n) (IsNoFileOf n) q (told_from c.pieces.reader bytes) c.pieces.host new.host) inv.named (c.in-Err-feed_all.ensures.starved none q there)));
+          (subst (λ n. SomeAnswered in_a_store installed g.H.Host (OpensAs n) (IsNoFileOf n) q (told_from c.pieces.reader bytes) c.pieces.host new.host) inv.named (c.in-Err-feed_all.ensures.serves.starved (ap Err none) q there)));
     }
 
 pub pieces-preserved : goal.pieces-preserved
@@ -196,10 +198,10 @@ pieces-preserved g c =
     let few : c.in-Ok.count ≤ c.pieces.left = c.if-count-left.false in
     record {
       size = c.take.auto.into ∙ inv.size;
-      go_on = c.in-Ok-feed_all.ensures.go_on;
-      named = c.feed_all.ensures.named ∙ inv.named;
-      disk = omega (arith, inv.disk, c.in-Ok-feed_all.ensures.counts.disk);
-      say = omega (arith, inv.say, c.in-Ok-feed_all.ensures.counts.say);
+      go_on = c.in-Ok-feed_all.ensures.serves.go_on;
+      named = c.feed_all.ensures.serves.named ∙ inv.named;
+      disk = omega (arith, inv.disk, c.in-Ok-feed_all.ensures.serves.counts.disk);
+      say = omega (arith, inv.say, c.in-Ok-feed_all.ensures.serves.counts.say);
       reads = omega (arith, inv.reads, c.in-Ok.ensures.cause.later);
       far = (
         far.0 ++ bytes,
@@ -208,6 +210,6 @@ pieces-preserved g c =
         c.in-Ok-feed_all.ensures.reader ∙ (ap (λ x. read_through x bytes) far.3 ∙ sym (read_both (line_from 1) far.0 bytes)),
         λ p at. told_more in_a_store installed g.H.Host (OpensAs name) (IsNoFileOf name) here on (line_from 1) p far.0 bytes (Ok tt) c.args.host.now c.pieces.host new.host (far.4 p at)
             (λ q there. subst (λ x. GoesAs view g.H.Host name new.machine new.archive c.pieces.host new.host q.kept (follow in_a_store installed q (told_from x bytes)) (Ok tt)) far.3
-            (named_so view g.H.Host c.pieces.archive.name name new.machine new.archive c.pieces.host new.host q.kept (follow in_a_store installed q (told_from c.pieces.reader bytes)) (Ok tt) inv.named (c.in-Ok-feed_all.ensures.follows q there))),
+            (named_so view g.H.Host c.pieces.archive.name name new.machine new.archive c.pieces.host new.host q.kept (follow in_a_store installed q (told_from c.pieces.reader bytes)) (Ok tt) inv.named (c.in-Ok-feed_all.ensures.serves.follows q there))),
       );
     }
