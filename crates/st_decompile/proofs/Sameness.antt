@@ -25,12 +25,6 @@ bytes_same t = (bytes_eq-Decides t t).1 refl
 number_same : (n : ℕ) → (n == n) ≡ true
 number_same n = grind (arith, nat_tests)
 
-    by_signs : (a b : Bool) → m.minus ≡ a → n.minus ≡ b → ((if a then b else not b) && m.size == n.size) ≡ true → m ≡ n
-    by_signs true true x y h = ap₂ make (x ∙ sym y) (eqb-true m.size n.size h)
-    by_signs false false x y h = ap₂ make (x ∙ sym y) (eqb-true m.size n.size h)
-    by_signs true false x y h = absurd cc
-    by_signs false true x y h = absurd cc
-
 signed_same : (n : Signed) → signed_eq n n ≡ true
 signed_same n = ap₂ (λ (a b : Bool). a && b) (by_sign n.minus) (number_same n.size)
   where
