@@ -20,3 +20,4 @@ mod Linked
 mod Listing
 mod Moved
 mod Below
+mod Slots

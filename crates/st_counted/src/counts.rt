@@ -4,6 +4,7 @@ ghost use Rattle.st_table.specs.Entries.{place};
 ghost use Rattle.st_heap.specs.Places.{SamePlaces};
 ghost use Rattle.st_heap.specs.Tables.{objects_of, room_of};
 ghost use Rattle.st_counted.specs.Counts.{count_at, is_counted, number_at, is_unused, raised, lowered};
+ghost use Rattle.st_counted.specs.Slots.{counts_in, no_count};
 
 use crate::counting::pointer_of;
 use crate::links::{link, unlink};
@@ -11,16 +12,24 @@ use st_heap::Objects;
 use st_model::Oop;
 use std::alloc::{AllocError, Global};
 
+/// What is kept of a place: a number, which is its count where it is counted. So a count is read and changed without a look at
+/// whether there is one.
+#[derive(Clone, Copy)]
+struct Slot {
+    number: u32,
+    counted: bool,
+}
+
 /// The counts of places below 32768, and the list of those whose count is 0. Clauses see them as a list (`counts_of`),
 /// which has None where a place is not counted. Place 0 never is.
 #[derive(Drop)]
 pub struct Counts {
     /// The count of each place.
-    counts: Vec<Option<u32>>,
+    counts: Vec<Slot>,
     /// The first object whose count is 0, or 0. The others follow it through their entries.
     pub first: Oop,
-    pub ghost places: { length counts.items ≡ 32768 },
-    pub ghost none_first: { count_at counts.items 0 ≡ None },
+    pub ghost places: { length (counts_in counts.items) ≡ 32768 },
+    pub ghost none_first: { count_at (counts_in counts.items) 0 ≡ None },
 }
 
 impl Counts {
@@ -43,7 +52,7 @@ impl Counts {
         requires { is_counted (counts_of self.now) k ≡ true }
         ensures { result ≡ number_at (counts_of self.now) k }
     {
-        self.counts[k].unwrap()
+        self.counts[k].number
     }
 
     /// Counts a place from now on, from 0, and leaves the list.
@@ -53,7 +62,10 @@ impl Counts {
         requires absent { is_counted (counts_of self.old) k ≡ false }
         ensures { counts_of self.new ≡ slice_set (counts_of self.old) k (Some 0) }
     {
-        self.counts[k] = Some(0);
+        self.counts[k] = Slot {
+            number: 0,
+            counted: true,
+        };
     }
 
     /// Counts an object from now on, to which nothing refers.
@@ -67,7 +79,10 @@ impl Counts {
         ensures room { room_of objects.new ≡ room_of objects.old }
         ensures counts { counts_of self.new ≡ slice_set (counts_of self.old) k (Some 0) }
     {
-        self.counts[k] = Some(0);
+        self.counts[k] = Slot {
+            number: 0,
+            counted: true,
+        };
         self.first = link(objects, self.first, pointer_of(k));
     }
 
@@ -77,7 +92,8 @@ impl Counts {
         requires room { number_at (counts_of self.old) k + by < 4294967296 }
         ensures { counts_of self.new ≡ raised (counts_of self.old) k by }
     {
-        self.counts[k] = Some(self.count(k) + by);
+        let count = self.count(k);
+        set_count(&mut self.counts, k, count + by);
     }
 
     /// Whether a place is counted and nothing refers to it.
@@ -85,7 +101,8 @@ impl Counts {
         requires { k < 32768 }
         ensures { result ≡ is_unused (counts_of self.now) k }
     {
-        self.counts[k] == Some(0)
+        let slot = self.counts[k];
+        slot.counted && slot.number == 0
     }
 
     /// Puts an object that is not in the list at its head.
@@ -112,7 +129,7 @@ impl Counts {
         ensures places { SamePlaces objects.old.store objects.new.store }
         ensures counts { counts_of self.new ≡ slice_set (counts_of self.old) k None }
     {
-        self.counts[k] = None;
+        self.counts[k].counted = false;
         self.first = unlink(objects, self.first, pointer_of(k));
     }
 
@@ -130,7 +147,7 @@ impl Counts {
         ensures counts { counts_of self.new ≡ raised (counts_of self.old) k by }
     {
         let count = self.count(k);
-        self.counts[k] = Some(count + by);
+        set_count(&mut self.counts, k, count + by);
         if count == 0 {
             self.first = unlink(objects, self.first, pointer_of(k));
         }
@@ -150,16 +167,29 @@ impl Counts {
         ensures counts { counts_of self.new ≡ lowered (counts_of self.old) k by }
     {
         let count = self.count(k) - by;
-        self.counts[k] = Some(count);
+        set_count(&mut self.counts, k, count);
         if count == 0 {
             self.first = link(objects, self.first, pointer_of(k));
         }
     }
 }
 
-/// No count at each of n places.
-fn no_counts(alloc: Global, n: usize) -> Result<Vec<Option<u32>>, AllocError>
-    ensures { IfOk result (λ v. v.items ≡ replicate n None) }
+/// Sets the count of a place that is counted, where it stands.
+#[inline(always)]
+fn set_count(counts: &mut Vec<Slot>, k: usize, count: u32)
+    requires { is_counted (counts_in counts.old.items) k ≡ true }
+    ensures { counts_in counts.new.items ≡ slice_set (counts_in counts.old.items) k (Some count) }
 {
-    vec![in alloc; None; n]
+    counts[k].number = count;
+}
+
+/// Slots of n places, none of which is counted.
+fn no_counts(alloc: Global, n: usize) -> Result<Vec<Slot>, AllocError>
+    ensures { IfOk result (λ v. v.items ≡ replicate n no_count) }
+{
+    let slot = Slot {
+        number: 0,
+        counted: false,
+    };
+    vec![in alloc; slot; n]
 }
