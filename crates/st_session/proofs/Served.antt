@@ -1,16 +1,16 @@
 -- What a call does that answers what is asked for, by what the call in it does.
-use Rattle.std.proofs.Common.{refl, subst, arith}
+use Rattle.std.proofs.Common.{◌≡◌, refl, subst, arith}
 use Rattle.std.specs.Prelude.{Result, Ok, Err, IsErrOf, OnOk, ℕ, List}
 use Rattle.st_model.specs.View.{View}
 use Rattle.st_host.specs.declared.host.Host.{Ghosts}
-use Rattle.st_machine.specs.declared.machine.Machine.{Machine}
 use Rattle.st_protocol.specs.declared.status.Status.{Status}
 use Rattle.st_protocol.specs.declared.status.Status.TheVariants as status
 use Rattle.st_protocol.specs.Courses.{Course}
 use Rattle.st_protocol.specs.Statuses.{StatusHasCause}
-use Rattle.st_recover.specs.Archives.{ArchiveState, IsOfKeeping}
+use Rattle.st_recover.specs.Archives.{IsOfKeeping}
 use Rattle.st_recover.specs.Commits.{Commit}
 use Rattle.st_call.specs.Telling.{IsOfServing, Tells}
+use Rattle.st_session.specs.declared.kept.Kept.{Kept}
 use Rattle.st_session.specs.Points.{Point}
 use Rattle.st_session.specs.Standing.{MayGoOn, Follows, Serves}
 use Rattle.st_session.proofs.Saying.{when_ok}
@@ -43,9 +43,9 @@ IsAmple (Err e) = Unit {0}
 pub ample : {A : Type 0} (r : Result Unit Status) → IsAmple r → IsErrOf r status.OutOfMemory → A
 ample r h none = absurd (subst IsAmple none h)
 
-module _ {M D : Type 0} {view : M → View} {host : Ghosts D} {A : Type 0} {course : Point Commit → Course Commit (Point Commit)} {m : Machine M} {a : ArchiveState} {old : D} where
+module _ {M D : Type 0} {view : M → View} {host : Ghosts D} {A : Type 0} {course : Point Commit → Course Commit (Point Commit)} {s : Kept M} {old : D} where
   -- what a call does, told by another course
-  pub served_as : {B : Type 0} {n : Machine M} {b : ArchiveState} {new : D} {result : Result Unit Status} {other : Point Commit → Course Commit (Point Commit)} → Serves view host course A m a old result n b new → (A → B) → Follows view host other m a old result n b new → Serves view host other B m a old result n b new
+  pub served_as : {B : Type 0} {t : Kept M} {new : D} {result : Result Unit Status} {other : Point Commit → Course Commit (Point Commit)} → Serves view host course A s old result t new → (A → B) → Follows view host other s old result t new → Serves view host other B s old result t new
   served_as h stands follows = record {
     go_on = h.go_on;
     named = h.named;
@@ -56,10 +56,10 @@ module _ {M D : Type 0} {view : M → View} {host : Ghosts D} {A : Type 0} {cour
   }
 
   -- a line that is said; the machine may have changed, and the archive stays
-  pub served_said : {n : Machine M} {new : D} {result : Result Unit Status} {text : List ℕ} → MayGoOn view n a → Tells host text old new result → Follows view host course m a old result n a new → Serves view host course A m a old result n a new
-  served_said {result = result} on tells follows = record {
+  pub served_said : {t : Kept M} {new : D} {result : Result Unit Status} {text : List ℕ} → MayGoOn view t → t.archive.name ≡ s.archive.name → Tells host text old new result → Follows view host course s old result t new → Serves view host course A s old result t new
+  served_said {result = result} on named tells follows = record {
     go_on = when_ok result on;
-    named = refl;
+    named = named;
     follows = follows;
     counts = tells.counts;
     served = tells.served;
@@ -67,7 +67,7 @@ module _ {M D : Type 0} {view : M → View} {host : Ghosts D} {A : Type 0} {cour
   }
 
   -- the session ends by what is asked for
-  pub served_end : {e : Status} → StatusHasCause host ⊥ old old e → IsOfServing e → (IsErrOf {T = Unit} (Err e) status.OutOfMemory → A) → Follows view host course m a old (Err e) m a old → Serves view host course A m a old (Err e) m a old
+  pub served_end : {e : Status} → StatusHasCause host ⊥ old old e → IsOfServing e → (IsErrOf {T = Unit} (Err e) status.OutOfMemory → A) → Follows view host course s old (Err e) s old → Serves view host course A s old (Err e) s old
   served_end cause serves stands follows = record {
     go_on = tt;
     named = refl;
@@ -78,7 +78,7 @@ module _ {M D : Type 0} {view : M → View} {host : Ghosts D} {A : Type 0} {cour
   }
 
   -- nothing is done
-  pub served_none : MayGoOn view m a → Follows view host course m a old (Ok tt) m a old → Serves view host course A m a old (Ok tt) m a old
+  pub served_none : MayGoOn view s → Follows view host course s old (Ok tt) s old → Serves view host course A s old (Ok tt) s old
   served_none on follows = record {
     go_on = on;
     named = refl;

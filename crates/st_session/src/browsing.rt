@@ -8,15 +8,14 @@ ghost use Rattle.st_session.specs.Standing.{MayGoOn, Serves};
 ghost use Rattle.st_call.specs.Telling.{Tells};
 
 use crate::debugging::run_until;
+use crate::kept::Kept;
 use st_browse::{SourceFault, browse_line, source_line};
 use st_call::{Reply, say_reply};
 use st_changes::Changes;
 use st_chunk::{Ask, Side};
 use st_host::{Host, SayFault};
-use st_machine::Machine;
 use st_memory::Memory;
 use st_protocol::Status;
-use st_recover::Archive;
 use std::alloc::Global;
 
 /// Says what a memory shows of what is asked for, and these definitions of a method's text, or that it is missing.
@@ -63,28 +62,25 @@ fn say_source<H: Host, M: Memory>(
 pub(crate) fn answer_named<H: Host, M: Memory>(
     alloc: Global,
     host: &mut H,
-    machine: &mut Machine<M>,
-    archive: &mut Archive,
+    kept: &mut Kept<M>,
     ask: Ask<'_>,
 ) -> Result<(), Status>
-    requires go_on { MayGoOn M.view machine.old archive.old }
-    requires alive { machine.old.death ≡ None }
+    requires go_on { MayGoOn M.view kept.old }
+    requires alive { kept.old.machine.death ≡ None }
     ensures { Serves M.view H.Host.own
         (λ p. browse_course in_a_store p.being p.kept (ask_of ask.entry)) (host.new ≡ host.old)
-        machine.old archive.old host.old result machine.new archive.new host.new }
+        kept.old host.old result kept.new host.new }
 {
     match ask {
-        Ask::Until(cycles, side, selector) => {
-            run_until(host, machine, archive, cycles, side, selector)
-        }
+        Ask::Until(cycles, side, selector) => { run_until(host, kept, cycles, side, selector) }
         Ask::Source(side, selector) => say_source(
             alloc,
             host,
-            machine.memory(),
-            archive.changes(),
+            kept.machine.memory(),
+            kept.archive.changes(),
             side,
             selector,
         ),
-        _ => say_asked(host, machine.memory(), archive.changes(), ask),
+        _ => say_asked(host, kept.machine.memory(), kept.archive.changes(), ask),
     }
 }

@@ -11,6 +11,7 @@ ghost use Rattle.st_session.specs.Browsing.{memory_of};
 ghost use Rattle.st_session.specs.Keeping.{in_a_store};
 ghost use Rattle.st_session.specs.Standing.{MayGoOn, Serves};
 
+use crate::kept::Kept;
 use crate::saving::run;
 use crate::watch::Watch;
 use st_browse::find_method;
@@ -21,27 +22,25 @@ use st_host::{Host, SayFault};
 use st_machine::Machine;
 use st_memory::Memory;
 use st_protocol::Status;
-use st_recover::Archive;
 
 /// Runs so many cycles, or up to the first bytecode of a class's method for a selector, from the second cycle on; or says that there is
 /// no such method, which is sought once, before the first cycle.
 pub(crate) fn run_until<H: Host, M: Memory>(
     host: &mut H,
-    machine: &mut Machine<M>,
-    archive: &mut Archive,
+    kept: &mut Kept<M>,
     cycles: u32,
     side: Side<'_>,
     selector: &[u8],
 ) -> Result<(), Status>
-    requires go_on { MayGoOn M.view machine.old archive.old }
-    requires alive { machine.old.death ≡ None }
+    requires go_on { MayGoOn M.view kept.old }
+    requires alive { kept.old.machine.death ≡ None }
     ensures { Serves M.view H.Host.own
         (λ p. going_on in_a_store (λ s c. until_course in_a_store cycles s c
         (method_of_side (memory_of (show s)) (side_of side.entry) selector.now)) p.being p.kept) ⊥
-        machine.old archive.old host.old result machine.new archive.new host.new }
+        kept.old host.old result kept.new host.new }
 {
-    match find_method(machine.memory(), side, selector) {
-        Some(method) => run(host, machine, archive, Watch::Entry(method), cycles),
+    match find_method(kept.machine.memory(), side, selector) {
+        Some(method) => run(host, kept, Watch::Entry(method), cycles),
         None => say_reply(host, Reply::Missing),
     }
 }

@@ -13,37 +13,35 @@ ghost use Rattle.st_session.specs.Standing.{MayGoOn, Serves};
 
 use crate::answering::{answer_dead, answer_living};
 use crate::browsing::answer_named;
+use crate::kept::Kept;
 use st_call::{Reply, say_reply};
 use st_chunk::{Definition, Reader, Request};
 use st_host::Host;
 use st_install::{Prepared, Unprepared, carry_out, prepare};
-use st_machine::Machine;
 use st_memory::Memory;
 use st_protocol::Status;
-use st_recover::Archive;
 use std::alloc::Global;
 
 /// Keeps a definition that is prepared, and then installs and acknowledges it.
 fn accept<H: Host, M: Memory>(
     alloc: Global,
     host: &mut H,
-    machine: &mut Machine<M>,
-    archive: &mut Archive,
+    kept: &mut Kept<M>,
     definition: &Definition<'_>,
     prepared: Prepared,
 ) -> Result<(), Status>
     requires good { IsDefinition (definition_of definition.now) }
-    requires prepared { IsPrepared (M.view machine.old.memory) (definition_of definition.now) prepared }
-    requires go_on { MayGoOn M.view machine.old archive.old }
-    requires alive { machine.old.death ≡ None }
+    requires prepared { IsPrepared (M.view kept.old.machine.memory) (definition_of definition.now) prepared }
+    requires go_on { MayGoOn M.view kept.old }
+    requires alive { kept.old.machine.death ≡ None }
     ensures { Serves M.view H.Host.own
         (λ p. definition_course in_a_store installed p.being p.kept (definition_of definition.now))
         (host.new ≡ host.old)
-        machine.old archive.old host.old result machine.new archive.new host.new }
+        kept.old host.old result kept.new host.new }
 {
-    match archive.accept(alloc, host, definition) {
+    match kept.archive.accept(alloc, host, definition) {
         Ok(()) => {
-            let selector = carry_out(machine.memory_mut(), prepared);
+            let selector = carry_out(kept.machine.memory_mut(), prepared);
             let reply = Reply::Accepted {
                 class: definition.class,
                 meta: definition.meta,
@@ -59,20 +57,19 @@ fn accept<H: Host, M: Memory>(
 fn define<H: Host, M: Memory>(
     alloc: Global,
     host: &mut H,
-    machine: &mut Machine<M>,
-    archive: &mut Archive,
+    kept: &mut Kept<M>,
     definition: &Definition<'_>,
 ) -> Result<(), Status>
     requires good { IsDefinition (definition_of definition.now) }
-    requires go_on { MayGoOn M.view machine.old archive.old }
-    requires alive { machine.old.death ≡ None }
+    requires go_on { MayGoOn M.view kept.old }
+    requires alive { kept.old.machine.death ≡ None }
     ensures { Serves M.view H.Host.own
         (λ p. definition_course in_a_store installed p.being p.kept (definition_of definition.now))
         (host.new ≡ host.old)
-        machine.old archive.old host.old result machine.new archive.new host.new }
+        kept.old host.old result kept.new host.new }
 {
-    let unprepared = match prepare(alloc, machine.memory(), definition) {
-        Ok(prepared) => return accept(alloc, host, machine, archive, definition, prepared),
+    let unprepared = match prepare(alloc, kept.machine.memory(), definition) {
+        Ok(prepared) => return accept(alloc, host, kept, definition, prepared),
         Err(unprepared) => unprepared,
     };
     match unprepared {
@@ -85,24 +82,23 @@ fn define<H: Host, M: Memory>(
 fn answer_request<H: Host, M: Memory>(
     alloc: Global,
     host: &mut H,
-    machine: &mut Machine<M>,
-    archive: &mut Archive,
+    kept: &mut Kept<M>,
     reader: &Reader,
     request: Request,
 ) -> Result<(), Status>
     requires browsed { request ≡ Browsing → IsBrowsed reader.now.place }
     requires defined { request ≡ Defining → IsDefined reader.now.place }
     requires range { IsInRange request }
-    requires go_on { MayGoOn M.view machine.old archive.old }
-    requires alive { machine.old.death ≡ None }
+    requires go_on { MayGoOn M.view kept.old }
+    requires alive { kept.old.machine.death ≡ None }
     ensures { Serves M.view H.Host.own
         (λ p. answer in_a_store installed p (asked_at reader.now.place request)) (host.new ≡ host.old)
-        machine.old archive.old host.old result machine.new archive.new host.new }
+        kept.old host.old result kept.new host.new }
 {
     match request {
-        Request::Browse => answer_named(alloc, host, machine, archive, reader.ask()),
-        Request::Define => define(alloc, host, machine, archive, &reader.definition()),
-        _ => answer_living(host, machine, archive, request),
+        Request::Browse => answer_named(alloc, host, kept, reader.ask()),
+        Request::Define => define(alloc, host, kept, &reader.definition()),
+        _ => answer_living(host, kept, request),
     }
 }
 
@@ -110,23 +106,22 @@ fn answer_request<H: Host, M: Memory>(
 pub(crate) fn answer_told<H: Host, M: Memory>(
     alloc: Global,
     host: &mut H,
-    machine: &mut Machine<M>,
-    archive: &mut Archive,
+    kept: &mut Kept<M>,
     reader: &Reader,
     request: Option<Request>,
 ) -> Result<(), Status>
     requires browsed { request ≡ Some Browsing → IsBrowsed reader.now.place }
     requires defined { request ≡ Some Defining → IsDefined reader.now.place }
     requires range { IfSome request IsInRange }
-    requires go_on { MayGoOn M.view machine.old archive.old }
+    requires go_on { MayGoOn M.view kept.old }
     ensures { Serves M.view H.Host.own
         (λ p. follow in_a_store installed p (asked_by (reader.now, request))) (host.new ≡ host.old)
-        machine.old archive.old host.old result machine.new archive.new host.new }
+        kept.old host.old result kept.new host.new }
 {
     match request {
-        Some(request) => match machine.death() {
-            Some(cause) => answer_dead(host, machine, archive, cause, request),
-            None => answer_request(alloc, host, machine, archive, reader, request),
+        Some(request) => match kept.machine.death() {
+            Some(cause) => answer_dead(host, kept, cause, request),
+            None => answer_request(alloc, host, kept, reader, request),
         },
         None => Ok(()),
     }

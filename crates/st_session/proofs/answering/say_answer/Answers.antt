@@ -18,8 +18,8 @@ some_commit = record { image = []; before = []; definitions = [] }
 pub returns-in-Ok : goal.returns-in-Ok
 returns-in-Ok g c =
     let view = g.M.Memory.view in
-    let m = c.args.machine.now in
-    let a = c.args.archive.now in
+    let m = c.args.kept.now.machine in
+    let a = c.args.kept.now.archive in
     let n = c.push_answer.new.machine in
     let some = shown_births view m (g.met.M.Memory.whole m.memory) (c.requires.go_on.may_run c.requires.alive) in
     let follows = living_answers view g.H.Host m a c.args.host.now n a c.finish.new.host (λ being k. line_course in_a_store being k c.args.request) c.finish.result c.requires.alive
@@ -36,8 +36,8 @@ returns-in-Ok g c =
 pub returns-in-Err : goal.returns-in-Err
 returns-in-Err g c =
     let view = g.M.Memory.view in
-    let m = c.args.machine.now in
-    let a = c.args.archive.now in
+    let m = c.args.kept.now.machine in
+    let a = c.args.kept.now.archive in
     let n = c.push_answer.new.machine in
     let some = shown_births view m (g.met.M.Memory.whole m.memory) (c.requires.go_on.may_run c.requires.alive) in
     let follows = living_answers view g.H.Host m a c.args.host.now n a c.push_answer.new.host (λ being k. line_course in_a_store being k c.args.request) _ c.requires.alive

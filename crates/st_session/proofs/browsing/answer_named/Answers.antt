@@ -23,14 +23,14 @@ use Rattle.st_session.proofs.browsing.answer_named.Goals as goal
 pub returns-in-Until : goal.returns-in-Until
 returns-in-Until g c =
     let called = c.run_until in
-    served_as called.ensures (λ none. absurd none) (living_answers g.M.Memory.view g.H.Host c.args.machine.now c.args.archive.now c.args.host.now called.new.machine called.new.archive called.new.host (λ being k. browse_course in_a_store being k (ask_of c.args.ask)) called.result c.requires.alive
+    served_as called.ensures (λ none. absurd none) (living_answers g.M.Memory.view g.H.Host c.args.kept.now.machine c.args.kept.now.archive c.args.host.now called.new.kept.machine called.new.kept.archive called.new.host (λ being k. browse_course in_a_store being k (ask_of c.args.ask)) called.result c.requires.alive
     (λ s k shows holds. rw c.in-Until.is (called.ensures.follows (alive s k) (record { stands = (c.requires.alive, shows); holds = holds }))))
 
 pub returns-in-Source : goal.returns-in-Source
 returns-in-Source g c =
     let view = g.M.Memory.view in
-    let m = c.args.machine.now in
-    let a = c.args.archive.now in
+    let m = c.args.kept.now.machine in
+    let a = c.args.kept.now.archive in
     let ask = Source (side_of c.in-Source.side) c.in-Source.selector.now in
     let lives = c.requires.alive in
     let old = c.args.host.now in
@@ -58,14 +58,14 @@ returns-in-Source g c =
 pub returns-in_default : goal.returns-in_default
 returns-in_default g c =
     let view = g.M.Memory.view in
-    let m = c.args.machine.now in
-    let a = c.args.archive.now in
+    let m = c.args.kept.now.machine in
+    let a = c.args.kept.now.archive in
     let ask = ask_of c.args.ask in
     let lives = c.requires.alive in
     let old = c.args.host.now in
     let new = c.say_asked.new.host in
     let result = c.say_asked.result in
-    served_said c.requires.go_on c.say_asked.ensures (living_answers view g.H.Host m a old m a new (λ being k. browse_course in_a_store being k ask) result lives
+    served_said c.requires.go_on refl c.say_asked.ensures (living_answers view g.H.Host m a old m a new (λ being k. browse_course in_a_store being k ask) result lives
     (λ s k shows holds.
     let ready = memory_is (view m.memory) m.frame m.world (c.requires.go_on.may_run lives) in
     let same = ap view c.memory-in_default.ensures ∙ (ready ∙ ap memory_of (sym (show_is (shown_by view m) s shows (g.met.M.Memory.whole m.memory).places))) in

@@ -10,6 +10,6 @@ use Rattle.st_session.proofs.reading.end.Goals as goal
 pub returns-clause-serves : goal.returns-clause-serves
 returns-clause-serves g c =
     let called = c.answer_told in
-    served_as called.ensures (λ none. none) (λ p at. subst (λ x. GoesAs g.M.Memory.view g.H.Host c.args.archive.now.name called.new.machine called.new.archive c.args.host.now called.new.host p.kept x called.result)
+    served_as called.ensures (λ none. none) (λ p at. subst (λ x. GoesAs g.M.Memory.view g.H.Host c.args.kept.now.archive.name called.new.kept.machine called.new.kept.archive c.args.host.now called.new.host p.kept x called.result)
     (λ i. follow in_a_store installed p (asked_by (c.finish-request.ensures.read i, c.finish-request.ensures.told i)))
     (called.ensures.follows p at))

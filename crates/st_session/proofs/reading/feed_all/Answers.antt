@@ -24,13 +24,13 @@ loop-byte-init g c = record {
   reader = refl;
   disk = omega arith;
   say = omega arith;
-  follows = λ p at. stays_now g.M.Memory.view g.H.Host c.args.machine.now c.args.archive.now p.kept p c.args.host.now (g.met.H.Host.only_now c.args.host.now) at.holds at.stands refl;
+  follows = λ p at. stays_now g.M.Memory.view g.H.Host c.args.kept.now.machine c.args.kept.now.archive p.kept p c.args.host.now (g.met.H.Host.only_now c.args.host.now) at.holds at.stands refl;
 }
 
 pub loop-byte-preserved : goal.loop-byte-preserved
 loop-byte-preserved g c =
     let view = g.M.Memory.view in
-    let name = c.args.archive.now.name in
+    let name = c.args.kept.now.archive.name in
     let bytes = c.args.bytes.now in
     let i = c.loop-byte.byte-index in
     let r = c.args.reader.now in
@@ -45,17 +45,17 @@ loop-byte-preserved g c =
       disk = omega (arith, inv.disk, c.feed.ensures.serves.counts.disk);
       say = omega (arith, inv.say, c.feed.ensures.serves.counts.say);
       follows = λ p at.
-          subst (λ t. GoesAs view g.H.Host name new.machine new.archive c.args.host.now new.host p.kept (follow in_a_store installed p (told_from r t)) (Ok tt)) (sym (take_more bytes i 0 l))
-          (byte_more in_a_store installed g.H.Host (OpensAs name) (IsNoFileOf name) (IsAt view g.H.Host c.loop-byte.machine c.loop-byte.archive c.loop-byte.host) (IsAt view g.H.Host new.machine new.archive new.host) r p (take i bytes) b (Ok tt) c.args.host.now c.loop-byte.host new.host
+          subst (λ t. GoesAs view g.H.Host name new.kept.machine new.kept.archive c.args.host.now new.host p.kept (follow in_a_store installed p (told_from r t)) (Ok tt)) (sym (take_more bytes i 0 l))
+          (byte_more in_a_store installed g.H.Host (OpensAs name) (IsNoFileOf name) (IsAt view g.H.Host c.loop-byte.kept.machine c.loop-byte.kept.archive c.loop-byte.host) (IsAt view g.H.Host new.kept.machine new.kept.archive new.host) r p (take i bytes) b (Ok tt) c.args.host.now c.loop-byte.host new.host
           (inv.follows p at)
-          (λ q there. subst (λ x. GoesAs view g.H.Host name new.machine new.archive c.loop-byte.host new.host q.kept (follow in_a_store installed q (asked_by (read x b))) (Ok tt)) inv.reader
-          (named_so view g.H.Host c.loop-byte.archive.name name new.machine new.archive c.loop-byte.host new.host q.kept (follow in_a_store installed q (asked_by (read c.loop-byte.reader b))) (Ok tt) inv.named (c.in-Ok.ensures.serves.follows q there))));
+          (λ q there. subst (λ x. GoesAs view g.H.Host name new.kept.machine new.kept.archive c.loop-byte.host new.host q.kept (follow in_a_store installed q (asked_by (read x b))) (Ok tt)) inv.reader
+          (named_so view g.H.Host c.loop-byte.kept.archive.name name new.kept.machine new.kept.archive c.loop-byte.host new.host q.kept (follow in_a_store installed q (asked_by (read c.loop-byte.reader b))) (Ok tt) inv.named (c.in-Ok.ensures.serves.follows q there))));
     }
 
 pub returns-in-Err-clause-serves : goal.returns-in-Err-clause-serves
 returns-in-Err-clause-serves g c =
     let view = g.M.Memory.view in
-    let name = c.args.archive.now.name in
+    let name = c.args.kept.now.archive.name in
     let bytes = c.args.bytes.now in
     let i = c.loop-byte.byte-index in
     let r = c.args.reader.now in
@@ -64,15 +64,15 @@ returns-in-Err-clause-serves g c =
     let inv = c.loop-byte.invariant in
     let new = c.feed.new in
     let e = c.in-Err.status in
-    let on = IsAt view g.H.Host new.machine new.archive new.host in
+    let on = IsAt view g.H.Host new.kept.machine new.kept.archive new.host in
     let all : (take i bytes ++ b ∷ []) ++ drop (i + 1) bytes ≡ bytes = ap (λ (f : List ℕ). f ++ drop (i + 1) bytes) (sym (take_more bytes i 0 l)) ∙ take-append-drop (i + 1) bytes in
-    let follows = λ (p : Point Commit) (at : IsAt view g.H.Host c.args.machine.now c.args.archive.now c.args.host.now p).
-    subst (λ t. GoesAs view g.H.Host name new.machine new.archive c.args.host.now new.host p.kept (follow in_a_store installed p (told_from r t)) (Err e)) all
+    let follows = λ (p : Point Commit) (at : IsAt view g.H.Host c.args.kept.now.machine c.args.kept.now.archive c.args.host.now p).
+    subst (λ t. GoesAs view g.H.Host name new.kept.machine new.kept.archive c.args.host.now new.host p.kept (follow in_a_store installed p (told_from r t)) (Err e)) all
     (told_err in_a_store installed g.H.Host (OpensAs name) (IsNoFileOf name) on on r p (take i bytes ++ b ∷ []) (drop (i + 1) bytes) e c.args.host.now new.host
-    (byte_more in_a_store installed g.H.Host (OpensAs name) (IsNoFileOf name) (IsAt view g.H.Host c.loop-byte.machine c.loop-byte.archive c.loop-byte.host) on r p (take i bytes) b (Err e) c.args.host.now c.loop-byte.host new.host
+    (byte_more in_a_store installed g.H.Host (OpensAs name) (IsNoFileOf name) (IsAt view g.H.Host c.loop-byte.kept.machine c.loop-byte.kept.archive c.loop-byte.host) on r p (take i bytes) b (Err e) c.args.host.now c.loop-byte.host new.host
     (inv.follows p at)
-    (λ q there. subst (λ x. GoesAs view g.H.Host name new.machine new.archive c.loop-byte.host new.host q.kept (follow in_a_store installed q (asked_by (read x b))) (Err e)) inv.reader
-    (named_so view g.H.Host c.loop-byte.archive.name name new.machine new.archive c.loop-byte.host new.host q.kept (follow in_a_store installed q (asked_by (read c.loop-byte.reader b))) (Err e) inv.named (c.in-Err.ensures.serves.follows q there))))) in
+    (λ q there. subst (λ x. GoesAs view g.H.Host name new.kept.machine new.kept.archive c.loop-byte.host new.host q.kept (follow in_a_store installed q (asked_by (read x b))) (Err e)) inv.reader
+    (named_so view g.H.Host c.loop-byte.kept.archive.name name new.kept.machine new.kept.archive c.loop-byte.host new.host q.kept (follow in_a_store installed q (asked_by (read c.loop-byte.reader b))) (Err e) inv.named (c.in-Err.ensures.serves.follows q there))))) in
     let split : told_from r bytes ≡ told_from r (take i bytes) ++ told_from (read_through r (take i bytes)) (drop i bytes) =
     ap (told_from r) (sym (take-append-drop i bytes)) ∙ told_both r (take i bytes) (drop i bytes) in
     record {
@@ -83,7 +83,7 @@ returns-in-Err-clause-serves g c =
       served = c.in-Err.ensures.serves.served;
       -- the byte did nothing, behind those before it
       starved = λ none p at.
-          some_all in_a_store installed g.H.Host (OpensAs name) (IsNoFileOf name) (IsAt view g.H.Host c.loop-byte.machine c.loop-byte.archive c.loop-byte.host) p (told_from r (take i bytes)) _ (told_from r bytes) c.args.host.now c.loop-byte.host new.host
+          some_all in_a_store installed g.H.Host (OpensAs name) (IsNoFileOf name) (IsAt view g.H.Host c.loop-byte.kept.machine c.loop-byte.kept.archive c.loop-byte.host) p (told_from r (take i bytes)) _ (told_from r bytes) c.args.host.now c.loop-byte.host new.host
           (c.in-Err.ensures.serves.starved none) split (inv.follows p at);
     }
 
@@ -96,7 +96,7 @@ returns-clause-serves g c =
       go_on = inv.go_on;
       named = inv.named;
       follows = λ p at.
-          subst (λ (t : List ℕ). GoesAs g.M.Memory.view g.H.Host c.args.archive.now.name c.loop-byte.machine c.loop-byte.archive c.args.host.now c.loop-byte.host p.kept (follow in_a_store installed p (told_from c.args.reader.now t)) (Ok tt)) all (inv.follows p at);
+          subst (λ (t : List ℕ). GoesAs g.M.Memory.view g.H.Host c.args.kept.now.archive.name c.loop-byte.kept.machine c.loop-byte.kept.archive c.args.host.now c.loop-byte.host p.kept (follow in_a_store installed p (told_from c.args.reader.now t)) (Ok tt)) all (inv.follows p at);
       counts = record { disk = inv.disk; say = inv.say; cause = tt };
       served = tt;
       starved = ample (Ok tt) tt;

@@ -14,16 +14,16 @@ use Rattle.st_session.proofs.reading.feed_last.Goals as goal
 pub returns-in-Ok : goal.returns-in-Ok
 returns-in-Ok g c =
     let view = g.M.Memory.view in
-    let name = c.args.archive.now.name in
+    let name = c.args.kept.now.archive.name in
     let new = c.feed_all.new in
-    let on = IsAt view g.H.Host new.machine new.archive new.host in
+    let on = IsAt view g.H.Host new.kept.machine new.kept.archive new.host in
     let fed = c.in-Ok.ensures.serves in
     record {
       go_on = tt;
       named = c.feed_all.ensures.serves.named;
       follows = λ p at.
           ends_then in_a_store installed g.H.Host (OpensAs name) (IsNoFileOf name) on on p.kept (follows in_a_store installed p (told_from c.args.reader.now c.args.bytes.now)) status.TooLarge c.args.host.now new.host (g.met.H.Host.only_now new.host)
-          (λ q so. at_rest view g.H.Host name new.machine new.archive new.host q c.feed_all.ensures.serves.named so) (fed.follows p at);
+          (λ q so. at_rest view g.H.Host name new.kept.machine new.kept.archive new.host q c.feed_all.ensures.serves.named so) (fed.follows p at);
       counts = record { disk = fed.counts.disk; say = fed.counts.say; cause = tt };
       served = tt;
       starved = ample (Err status.TooLarge) tt;
@@ -32,9 +32,9 @@ returns-in-Ok g c =
 pub returns-in-Err : goal.returns-in-Err
 returns-in-Err g c =
     let view = g.M.Memory.view in
-    let name = c.args.archive.now.name in
+    let name = c.args.kept.now.archive.name in
     let new = c.feed_all.new in
-    let on = IsAt view g.H.Host new.machine new.archive new.host in
+    let on = IsAt view g.H.Host new.kept.machine new.kept.archive new.host in
     let fed = c.in-Err.ensures.serves in
     record {
       go_on = tt;

@@ -20,18 +20,18 @@ use Rattle.st_session.proofs.reading.finish.Goals as goal
 pub returns-in-Ok-end : goal.returns-in-Ok-end
 returns-in-Ok-end g c =
     let view = g.M.Memory.view in
-    let name = c.args.archive.now.name in
+    let name = c.args.kept.now.archive.name in
     let one = c.end.new in
     let two = c.end-in-Ok.new in
     let r = c.args.reader.now in
-    let here = IsAt view g.H.Host one.machine one.archive one.host in
-    let there = IsAt view g.H.Host two.machine two.archive two.host in
-    let obeys = λ (p : Point Commit) (at : IsAt view g.H.Host c.args.machine.now c.args.archive.now c.args.host.now p).
+    let here = IsAt view g.H.Host one.kept.machine one.kept.archive one.host in
+    let there = IsAt view g.H.Host two.kept.machine two.kept.archive two.host in
+    let obeys = λ (p : Point Commit) (at : IsAt view g.H.Host c.args.kept.now.machine c.args.kept.now.archive c.args.host.now p).
     end_then in_a_store installed g.H.Host (OpensAs name) (IsNoFileOf name) here there r p (Err status.Done) c.args.host.now one.host two.host (c.in-Ok.ensures.serves.follows p at)
     (λ q stands. ends_then in_a_store installed g.H.Host (OpensAs name) (IsNoFileOf name) there there q.kept (follows in_a_store installed q (asked_by (end_read (end_read r).0))) status.Done one.host two.host (g.met.H.Host.only_now two.host)
-    (λ o so. at_rest view g.H.Host name two.machine two.archive two.host o (c.end-in-Ok.ensures.serves.named ∙ c.end.ensures.serves.named) so)
-    (subst (λ x. GoesAs view g.H.Host name two.machine two.archive one.host two.host q.kept (follow in_a_store installed q (asked_by (end_read x))) (Ok tt)) c.in-Ok.ensures.reader
-    (named_so view g.H.Host one.archive.name name two.machine two.archive one.host two.host q.kept (follow in_a_store installed q (asked_by (end_read one.reader))) (Ok tt) c.end.ensures.serves.named (c.in-Ok-end.ensures.serves.follows q stands)))) in
+    (λ o so. at_rest view g.H.Host name two.kept.machine two.kept.archive two.host o (c.end-in-Ok.ensures.serves.named ∙ c.end.ensures.serves.named) so)
+    (subst (λ x. GoesAs view g.H.Host name two.kept.machine two.kept.archive one.host two.host q.kept (follow in_a_store installed q (asked_by (end_read x))) (Ok tt)) c.in-Ok.ensures.reader
+    (named_so view g.H.Host one.kept.archive.name name two.kept.machine two.kept.archive one.host two.host q.kept (follow in_a_store installed q (asked_by (end_read one.reader))) (Ok tt) c.end.ensures.serves.named (c.in-Ok-end.ensures.serves.follows q stands)))) in
     record {
       go_on = tt;
       named = c.end-in-Ok.ensures.serves.named ∙ c.end.ensures.serves.named;
@@ -48,18 +48,18 @@ returns-in-Ok-end g c =
 pub returns-in-Err-end : goal.returns-in-Err-end
 returns-in-Err-end g c =
     let view = g.M.Memory.view in
-    let name = c.args.archive.now.name in
+    let name = c.args.kept.now.archive.name in
     let one = c.end.new in
     let two = c.end-in-Ok.new in
     let r = c.args.reader.now in
     let e = c.in-Err-end.status in
-    let here = IsAt view g.H.Host one.machine one.archive one.host in
-    let there = IsAt view g.H.Host two.machine two.archive two.host in
-    let obeys = λ (p : Point Commit) (at : IsAt view g.H.Host c.args.machine.now c.args.archive.now c.args.host.now p).
+    let here = IsAt view g.H.Host one.kept.machine one.kept.archive one.host in
+    let there = IsAt view g.H.Host two.kept.machine two.kept.archive two.host in
+    let obeys = λ (p : Point Commit) (at : IsAt view g.H.Host c.args.kept.now.machine c.args.kept.now.archive c.args.host.now p).
     end_then in_a_store installed g.H.Host (OpensAs name) (IsNoFileOf name) here there r p (Err e) c.args.host.now one.host two.host (c.in-Ok.ensures.serves.follows p at)
     (λ q stands. ends_err in_a_store installed g.H.Host (OpensAs name) (IsNoFileOf name) there there q.kept (follows in_a_store installed q (asked_by (end_read (end_read r).0))) status.Done e one.host two.host
-    (subst (λ x. GoesAs view g.H.Host name two.machine two.archive one.host two.host q.kept (follow in_a_store installed q (asked_by (end_read x))) (Err e)) c.in-Ok.ensures.reader
-    (named_so view g.H.Host one.archive.name name two.machine two.archive one.host two.host q.kept (follow in_a_store installed q (asked_by (end_read one.reader))) (Err e) c.end.ensures.serves.named (c.in-Err-end.ensures.serves.follows q stands)))) in
+    (subst (λ x. GoesAs view g.H.Host name two.kept.machine two.kept.archive one.host two.host q.kept (follow in_a_store installed q (asked_by (end_read x))) (Err e)) c.in-Ok.ensures.reader
+    (named_so view g.H.Host one.kept.archive.name name two.kept.machine two.kept.archive one.host two.host q.kept (follow in_a_store installed q (asked_by (end_read one.reader))) (Err e) c.end.ensures.serves.named (c.in-Err-end.ensures.serves.follows q stands)))) in
     record {
       go_on = tt;
       named = c.end-in-Ok.ensures.serves.named ∙ c.end.ensures.serves.named;
@@ -75,12 +75,12 @@ returns-in-Err-end g c =
 pub returns-in-Err : goal.returns-in-Err
 returns-in-Err g c =
     let view = g.M.Memory.view in
-    let a = c.args.archive.now in
+    let a = c.args.kept.now.archive in
     let h = c.args.host.now in
-    let name = c.args.archive.now.name in
+    let name = c.args.kept.now.archive.name in
     let one = c.end.new in
-    let here = IsAt view g.H.Host one.machine one.archive one.host in
-    let obeys = λ (p : Point Commit) (at : IsAt view g.H.Host c.args.machine.now c.args.archive.now c.args.host.now p).
+    let here = IsAt view g.H.Host one.kept.machine one.kept.archive one.host in
+    let obeys = λ (p : Point Commit) (at : IsAt view g.H.Host c.args.kept.now.machine c.args.kept.now.archive c.args.host.now p).
     end_err in_a_store installed g.H.Host (OpensAs name) (IsNoFileOf name) here here c.args.reader.now p c.in-Err.status c.args.host.now one.host (c.in-Err.ensures.serves.follows p at) in
     record {
       go_on = tt;
@@ -90,6 +90,6 @@ returns-in-Err g c =
       served = c.in-Err.ensures.serves.served;
       -- the first did nothing
       starved = λ none p at.
-          some_all in_a_store installed g.H.Host (OpensAs a.name) (IsNoFileOf a.name) (IsAt view g.H.Host c.args.machine.now a h) p [] _ (asked_at_end c.args.reader.now) h h one.host
-          (c.in-Err.ensures.serves.starved none) refl (stays_now view g.H.Host c.args.machine.now a p.kept p h (g.met.H.Host.only_now h) at.holds at.stands refl);
+          some_all in_a_store installed g.H.Host (OpensAs a.name) (IsNoFileOf a.name) (IsAt view g.H.Host c.args.kept.now.machine a h) p [] _ (asked_at_end c.args.reader.now) h h one.host
+          (c.in-Err.ensures.serves.starved none) refl (stays_now view g.H.Host c.args.kept.now.machine a p.kept p h (g.met.H.Host.only_now h) at.holds at.stands refl);
     }

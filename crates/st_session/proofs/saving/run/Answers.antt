@@ -31,7 +31,7 @@ stretches-init g c = record {
   few = omega arith;
   disk = omega arith;
   say = omega arith;
-  ran = λ s k shows holds. ran_none g.M.Memory.view g.H.Host (look_of c.args.watch) c.args.cycles s k c.args.machine.now c.args.archive.now c.args.host.now (g.met.H.Host.only_now c.args.host.now) shows holds;
+  ran = λ s k shows holds. ran_none g.M.Memory.view g.H.Host (look_of c.args.watch) c.args.cycles s k c.args.kept.now.machine c.args.kept.now.archive c.args.host.now (g.met.H.Host.only_now c.args.host.now) shows holds;
 }
 
 -- THE RUN'S END
@@ -43,7 +43,7 @@ returns-in-Ok-None g c =
     let inv = c.stretches.invariant in
     let m1 = c.say_stretch.new.machine in
     let mid = c.say_stretch.new.host in
-    let follows = living_answers view g.H.Host c.args.machine.now c.args.archive.now c.args.host.now m1 c.stretches.archive mid (λ being. going_on in_a_store (watched_course in_a_store (look_of c.args.watch) 0 n) being) (Ok tt) c.requires.alive
+    let follows = living_answers view g.H.Host c.args.kept.now.machine c.args.kept.now.archive c.args.host.now m1 c.stretches.kept.archive mid (λ being. going_on in_a_store (watched_course in_a_store (look_of c.args.watch) 0 n) being) (Ok tt) c.requires.alive
     (λ s k shows holds.
     let far = inv.ran s k shows holds in
     run_over view g.H.Host (look_of c.args.watch) far inv.few (sym inv.named) m1 mid (g.met.H.Host.only_now mid)
@@ -65,10 +65,10 @@ returns-in-Err g c =
     let inv = c.stretches.invariant in
     let m1 = c.say_stretch.new.machine in
     let mid = c.say_stretch.new.host in
-    let follows = living_answers view g.H.Host c.args.machine.now c.args.archive.now c.args.host.now m1 c.stretches.archive mid (λ being. going_on in_a_store (watched_course in_a_store (look_of c.args.watch) 0 c.args.cycles) being) (Err c.in-Err.status) c.requires.alive
+    let follows = living_answers view g.H.Host c.args.kept.now.machine c.args.kept.now.archive c.args.host.now m1 c.stretches.kept.archive mid (λ being. going_on in_a_store (watched_course in_a_store (look_of c.args.watch) 0 c.args.cycles) being) (Err c.in-Err.status) c.requires.alive
     (λ s k shows holds.
     let far = inv.ran s k shows holds in
-    run_unsaid view g.H.Host (look_of c.args.watch) far inv.few (sym inv.named) m1 mid m1 c.stretches.archive c.in-Err.status (c.in-Err.ensures.says far.state far.shows)) in
+    run_unsaid view g.H.Host (look_of c.args.watch) far inv.few (sym inv.named) m1 mid m1 c.stretches.kept.archive c.in-Err.status (c.in-Err.ensures.says far.state far.shows)) in
     record {
       go_on = tt;
       named = inv.named;
@@ -87,12 +87,12 @@ returns-in-Err-snapshot g c =
     let inv = c.stretches.invariant in
     let m1 = c.say_stretch.new.machine in
     let mid = c.say_stretch.new.host in
-    let m2 = c.snapshot.new.machine in
-    let b = c.snapshot.new.archive in
+    let m2 = c.snapshot.new.kept.machine in
+    let b = c.snapshot.new.kept.archive in
     let new = c.snapshot.new.host in
     let j = c.in-Ok-Some.asked in
     let first = c.in-Ok-Some.ensures.counts in
-    let follows = living_answers view g.H.Host c.args.machine.now c.args.archive.now c.args.host.now m2 b new (λ being. going_on in_a_store (watched_course in_a_store (look_of c.args.watch) 0 n) being) (Err c.in-Err-snapshot.status) c.requires.alive
+    let follows = living_answers view g.H.Host c.args.kept.now.machine c.args.kept.now.archive c.args.host.now m2 b new (λ being. going_on in_a_store (watched_course in_a_store (look_of c.args.watch) 0 n) being) (Err c.in-Err-snapshot.status) c.requires.alive
     (λ s k shows holds.
     let far = inv.ran s k shows holds in
     let said = subst (λ (x : Option ℕ). SaysStretch g.H.Host m1.death (shown_by view m1) (watched_stretch (look_of c.args.watch) c.stretches.finished (n - c.stretches.finished) far.state) c.stretches.host mid (Ok x)) c.in-Ok-Some.field-0-is (c.in-Ok-Some.ensures.says far.state far.shows) in
@@ -117,13 +117,13 @@ returns-then-is_some g c =
     let inv = c.stretches.invariant in
     let m1 = c.say_stretch.new.machine in
     let mid = c.say_stretch.new.host in
-    let m2 = c.snapshot.new.machine in
-    let b = c.snapshot.new.archive in
+    let m2 = c.snapshot.new.kept.machine in
+    let b = c.snapshot.new.kept.archive in
     let new = c.snapshot.new.host in
     let j = c.in-Ok-Some.asked in
     let died = some_of c.death.result (sym c.is_some.ensures ∙ c.if-is_some.true) in
     let first = c.in-Ok-Some.ensures.counts in
-    let follows = living_answers view g.H.Host c.args.machine.now c.args.archive.now c.args.host.now m2 b new (λ being. going_on in_a_store (watched_course in_a_store (look_of c.args.watch) 0 n) being) (Ok tt) c.requires.alive
+    let follows = living_answers view g.H.Host c.args.kept.now.machine c.args.kept.now.archive c.args.host.now m2 b new (λ being. going_on in_a_store (watched_course in_a_store (look_of c.args.watch) 0 n) being) (Ok tt) c.requires.alive
     (λ s k shows holds.
     let far = inv.ran s k shows holds in
     let said = subst (λ (x : Option ℕ). SaysStretch g.H.Host m1.death (shown_by view m1) (watched_stretch (look_of c.args.watch) c.stretches.finished (n - c.stretches.finished) far.state) c.stretches.host mid (Ok x)) c.in-Ok-Some.field-0-is (c.in-Ok-Some.ensures.says far.state far.shows) in
@@ -147,8 +147,8 @@ stretches-preserved g c =
     let inv = c.stretches.invariant in
     let m1 = c.say_stretch.new.machine in
     let mid = c.say_stretch.new.host in
-    let m2 = c.snapshot.new.machine in
-    let b = c.snapshot.new.archive in
+    let m2 = c.snapshot.new.kept.machine in
+    let b = c.snapshot.new.kept.archive in
     let new = c.snapshot.new.host in
     let j = c.in-Ok-Some.asked in
     let is = c.in-Ok-Some.field-0-is in

@@ -19,7 +19,7 @@ use Rattle.st_session.proofs.saving.snapshot.Goals as goal
 pub keep_image-requires-clause-starts : goal.keep_image-requires-clause-starts
 keep_image-requires-clause-starts g c =
     let view = g.M.Memory.view in
-    let m = c.args.machine.now in
+    let m = c.args.kept.now.machine in
     let some = shown_births view m (g.met.M.Memory.whole m.memory) (c.requires.go_on.may_run c.requires.alive) in
     subst (λ x. CanStart (view x)) (sym c.memory.ensures)
     (saved_can_start view c.save.new.self some.0 (save births some.0) refl (c.in-Ok.ensures.saves c.requires.alive some.0 some.1))
@@ -27,8 +27,8 @@ keep_image-requires-clause-starts g c =
 pub returns-in-Ok : goal.returns-in-Ok
 returns-in-Ok g c =
     let view = g.M.Memory.view in
-    let m = c.args.machine.now in
-    let a = c.args.archive.now in
+    let m = c.args.kept.now.machine in
+    let a = c.args.kept.now.archive in
     let n = c.save.new.self in
     let new = c.keep_image.new.host in
     let b = c.keep_image.new.archive in
@@ -51,12 +51,12 @@ returns-in-Ok g c =
 pub returns-in-Err : goal.returns-in-Err
 returns-in-Err g c =
     let view = g.M.Memory.view in
-    let m = c.args.machine.now in
-    let a = c.args.archive.now in
+    let m = c.args.kept.now.machine in
+    let a = c.args.kept.now.archive in
     let n = c.save.new.self in
     let new = c.say_reply.new.host in
     let result = c.say_reply.result in
     let dies = c.save.ensures.death c.requires.alive ∙ ap death_by c.in-Err.is in
-    served_said (record { may_run = c.save.ensures.ready; is_open = c.requires.go_on.is_open }) c.say_reply.ensures
+    served_said (record { may_run = c.save.ensures.ready; is_open = c.requires.go_on.is_open }) refl c.say_reply.ensures
     (living_answers view g.H.Host m a c.args.host.now n a new (λ being. going_on in_a_store (in_a_store.snapshot c.args.finished) being) result c.requires.alive
     (λ s k shows holds. saved_died view g.H.Host a.name n a c.args.host.now new k c.args.finished c.in-Err.cause (save births s) result (c.in-Err.ensures.saves c.requires.alive s shows) dies refl holds c.say_reply.ensures))

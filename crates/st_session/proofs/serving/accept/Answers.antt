@@ -19,8 +19,8 @@ use Rattle.st_session.proofs.serving.accept.Goals as goal
 pub returns-in-Ok : goal.returns-in-Ok
 returns-in-Ok g c =
     let view = g.M.Memory.view in
-    let m = c.args.machine.now in
-    let a = c.args.archive.now in
+    let m = c.args.kept.now.machine in
+    let a = c.args.kept.now.archive in
     let d = definition_of c.args.definition.now in
     let n = record m { memory = c.carry_out-selector.new.m } in
     let b = c.accept.new.self in
@@ -44,8 +44,8 @@ returns-in-Ok g c =
 pub returns-in-Err : goal.returns-in-Err
 returns-in-Err g c =
     let view = g.M.Memory.view in
-    let m = c.args.machine.now in
-    let a = c.args.archive.now in
+    let m = c.args.kept.now.machine in
+    let a = c.args.kept.now.archive in
     let d = definition_of c.args.definition.now in
     let b = c.accept.new.self in
     let follows = living_answers view g.H.Host m a c.args.host.now m b c.accept.new.host (λ being k. definition_course in_a_store installed being k d) _ c.requires.alive

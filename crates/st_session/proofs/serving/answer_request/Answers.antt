@@ -13,7 +13,7 @@ pub returns-in-Browse : goal.returns-in-Browse
 returns-in-Browse g c =
     let place = c.args.reader.now.place in
     let called = c.answer_named in
-    served_as called.ensures (λ none. none) (λ p at. rw c.in-Browse.is (subst (λ x. GoesAs g.M.Memory.view g.H.Host c.args.archive.now.name called.new.machine called.new.archive c.args.host.now called.new.host p.kept (answer in_a_store installed p x) called.result)
+    served_as called.ensures (λ none. none) (λ p at. rw c.in-Browse.is (subst (λ x. GoesAs g.M.Memory.view g.H.Host c.args.kept.now.archive.name called.new.kept.machine called.new.kept.archive c.args.host.now called.new.host p.kept (answer in_a_store installed p x) called.result)
     (sym (asked_look place (ask_of c.ask.result) (c.requires.browsed c.in-Browse.is) c.ask.ensures)) (called.ensures.follows p at)))
 
 pub returns-in-Define : goal.returns-in-Define
@@ -21,12 +21,12 @@ returns-in-Define g c =
     let place = c.args.reader.now.place in
     let d = definition_of c.definition.result in
     let called = c.define in
-    served_as called.ensures (λ none. none) (λ p at. rw c.in-Define.is (subst (λ x. GoesAs g.M.Memory.view g.H.Host c.args.archive.now.name called.new.machine called.new.archive c.args.host.now called.new.host p.kept (answer in_a_store installed p x) called.result)
+    served_as called.ensures (λ none. none) (λ p at. rw c.in-Define.is (subst (λ x. GoesAs g.M.Memory.view g.H.Host c.args.kept.now.archive.name called.new.kept.machine called.new.kept.archive c.args.host.now called.new.host p.kept (answer in_a_store installed p x) called.result)
     (sym (asked_definition place d (c.requires.defined c.in-Define.is) c.definition.ensures.is)) (called.ensures.follows p at)))
 
 pub returns-in_default : goal.returns-in_default
 returns-in_default g c =
     let place = c.args.reader.now.place in
     let called = c.answer_living in
-    served_as called.ensures (λ none. absurd none) (λ p at. subst (λ x. GoesAs g.M.Memory.view g.H.Host c.args.archive.now.name called.new.machine called.new.archive c.args.host.now called.new.host p.kept (answer in_a_store installed p x) called.result)
+    served_as called.ensures (λ none. absurd none) (λ p at. subst (λ x. GoesAs g.M.Memory.view g.H.Host c.args.kept.now.archive.name called.new.kept.machine called.new.kept.archive c.args.host.now called.new.host p.kept (answer in_a_store installed p x) called.result)
     (sym (asked_line place c.args.request c.in_default.not-Browse c.in_default.not-Define)) (called.ensures.follows p at))

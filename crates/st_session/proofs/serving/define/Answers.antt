@@ -15,12 +15,12 @@ use Rattle.st_session.proofs.serving.define.Goals as goal
 pub returns-in-Refused : goal.returns-in-Refused
 returns-in-Refused g c =
     let view = g.M.Memory.view in
-    let m = c.args.machine.now in
-    let a = c.args.archive.now in
+    let m = c.args.kept.now.machine in
+    let a = c.args.kept.now.archive in
     let d = definition_of c.args.definition.now in
     let why = c.in-Refused.why in
     let new = c.say_reply.new.host in
-    served_said c.requires.go_on c.say_reply.ensures (living_answers view g.H.Host m a c.args.host.now m a new (λ being k. definition_course in_a_store installed being k d) c.say_reply.result c.requires.alive
+    served_said c.requires.go_on refl c.say_reply.ensures (living_answers view g.H.Host m a c.args.host.now m a new (λ being k. definition_course in_a_store installed being k d) c.say_reply.result c.requires.alive
     (λ s k shows holds.
     let refuses = subst (λ u. PreparesAs (view m.memory) d (Err u)) c.in-Refused.is (subst (λ x. PreparesAs (view x) d (Err c.in-Err.unprepared)) c.memory.ensures c.in-Err.ensures) in
     refused_said view g.H.Host m a s k d (installed d s) why c.args.host.now new c.say_reply.result (refuses (shown_by view m) s (record { objects = refl; head = refl }) shows) c.requires.alive shows holds c.say_reply.ensures))
@@ -28,8 +28,8 @@ returns-in-Refused g c =
 pub returns-in-OutOfMemory : goal.returns-in-OutOfMemory
 returns-in-OutOfMemory g c =
     let view = g.M.Memory.view in
-    let m = c.args.machine.now in
-    let a = c.args.archive.now in
+    let m = c.args.kept.now.machine in
+    let a = c.args.kept.now.archive in
     let d = definition_of c.args.definition.now in
     let h = c.args.host.now in
     served_end tt tt (λ none. refl) (living_answers view g.H.Host m a h m a h (λ being k. definition_course in_a_store installed being k d) (Err status.OutOfMemory) c.requires.alive
