@@ -1,5 +1,6 @@
 pub mod Staying
 pub mod AtOnce
+pub mod InContext
 pub mod Alike
 pub mod AlikeProcesses
 pub mod Entered

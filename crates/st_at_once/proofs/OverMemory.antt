@@ -27,7 +27,7 @@ use Rattle.st_frames.specs.Rows.{row_state, registers_in}
 use Rattle.st_frames.specs.Shown.{shown, registers_of, IsReady, StaysFrame}
 use Rattle.st_control.specs.Foreseen.{IsForeseen}
 use Rattle.st_at_once.specs.declared.ending.RowEnd.{RowEnd}
-use Rattle.st_at_once.specs.declared.ending.RowEnd.TheVariants.{ToForesee, Done, Leaves}
+use Rattle.st_at_once.specs.declared.ending.RowEnd.TheVariants.{ToForesee, Stays, Done, Leaves}
 use Rattle.st_at_once.specs.AtOnce.{was_done, deed_left, GoesOn, IsDoneBut, step_at_once}
 use Rattle.st_at_once.proofs.AtOnce.{As, step-as}
 use Rattle.st_at_once.proofs.Messages.{header_stays}
@@ -113,11 +113,13 @@ quick_ready u v f g w ready stays = record { frame = stays.frame; devices = stay
 -- a bytecode that was done, but for what it leaves
 pub done_but : (c d : State Table) (left : Deed) (end : RowEnd) → was_done end ≡ true → GoesOn c (with_deed (deed_left left end) d) → IsDoneBut c left (Ok end) d
 done_but c d left ToForesee b h = cc
+done_but c d left Stays b h = h
 done_but c d left Done b h = h
 done_but c d left Leaves b h = h
 
 -- a bytecode that wasn't
 pub undone : (c d : State Table) (left : Deed) (end : RowEnd) → was_done end ≡ false → d ≡ c → IsDoneBut c left (Ok end) d
 undone c d left ToForesee b h = h
+undone c d left Stays b h = cc
 undone c d left Done b h = cc
 undone c d left Leaves b h = cc
